@@ -1,0 +1,13 @@
+pub mod Cutting
+pub mod Options
+pub mod Elements
+pub mod Lending
+pub mod Checking
+pub mod Places
+pub mod Numbers
+pub mod Frames
+pub mod RoundTrip
+pub mod Along
+pub mod Joining
+pub mod Counts
+pub mod Depths

@@ -1,0 +1,132 @@
+-- Where a field of a name stands.
+use Rattle.std.proofs.Common.{◌≡◌, ℕ, zero, suc, ◌+◌, ◌<◌, List, [], ◌∷◌, ◌++◌, length, get_or, set, Bool, true, false, Option, Some, None, option_map, string_bytes, refl, sym, ap, subst, ◌∙◌, arith, inl, inr, ◌⊎◌}
+use Rattle.std.specs.Prelude.{remove, slice_get, ◌==◌, ◌↔◌, IsTrue}
+use Rattle.std.proofs.lemmas.Bool.{eqb-true}
+use Rattle.std.specs.List.{ItemBy}
+use Rattle.std.proofs.lemmas.Option.{slice_get_past, slice_get-get_or}
+use Rattle.std.specs.Str.{bytes_eq}
+use Rattle.mg_bson.specs.Tree.{field, no_fields, item, no_items}
+use Rattle.mg_bson.specs.View.{tree, fields_of, items_of, place}
+use Rattle.mg_bson.specs.Find.{get, put, without, fields_length, with_item, with_field, items_length, item_at}
+use Rattle.mg_bson.proofs.Options.{map_some}
+use Rattle.mg_bson.specs.declared.tree.Bson.{Bson}
+use Rattle.mg_bson.specs.declared.tree.Field.{Field}
+
+pub items_of-push : (ts : List Bson) (t : Bson) → items_of (ts ++ t ∷ []) ≡ with_item (items_of ts) (tree t)
+items_of-push [] t = refl
+items_of-push (u ∷ ts) t = ap (item (tree u)) (items_of-push ts t)
+
+pub length-fields_of : (fs : List Field) → length fs ≡ fields_length (fields_of fs)
+length-fields_of [] = refl
+length-fields_of (f ∷ fs) = ap suc (length-fields_of fs)
+
+map_plus : (i : ℕ) (o : Option ℕ) → option_map (λ j. i + j) (option_map suc o) ≡ option_map (λ j. (i + 1) + j) o
+map_plus i (Some j) = ap Some (omega arith)
+map_plus i None = refl
+
+map_none : (o : Option ℕ) → o ≡ option_map (λ j. 0 + j) o
+map_none (Some j) = ap Some (omega arith)
+map_none None = refl
+
+pub place_starts : (k : List ℕ) (fs : List Field) → option_map (λ j. 0 + j) (place k fs) ≡ place k fs
+place_starts k fs = sym (map_none (place k fs))
+
+pub place_passes : (k : List ℕ) (f : Field) (fs : List Field) (i : ℕ) → bytes_eq (string_bytes f.name) k ≡ false → option_map (λ j. i + j) (place k (f ∷ fs)) ≡ option_map (λ j. (i + 1) + j) (place k fs)
+place_passes k f fs i e = rw e (map_plus i (place k fs))
+
+pub place_found : (k : List ℕ) (f : Field) (fs : List Field) (i : ℕ) → bytes_eq (string_bytes f.name) k ≡ true → option_map (λ j. i + j) (place k (f ∷ fs)) ≡ Some i
+place_found k f fs i e = rw e (ap Some (omega arith))
+
+both : (b : Bool) → (b ≡ true) ⊎ (b ≡ false)
+both true = inl refl
+both false = inr refl
+
+-- the field of the name, and what the document is with another in its place or without it
+pub record Stands (k : List ℕ) (fs : List Field) (i : ℕ) : Type 0 where
+  pub within : i < length fs
+  pub found : (d : Field) → get k (fields_of fs) ≡ Some (tree (get_or fs i d).value)
+  pub replaced : (d g : Field) → string_bytes g.name ≡ string_bytes (get_or fs i d).name → put k (tree g.value) (fields_of fs) ≡ fields_of (set fs i g)
+  pub removed : without k (fields_of fs) ≡ fields_of (remove fs i)
+
+stands_here : (k : List ℕ) (f : Field) (fs : List Field) → bytes_eq (string_bytes f.name) k ≡ true → Stands k (f ∷ fs) 0
+stands_here k f fs yes' = record {
+  within = omega arith;
+  found = λ d. rw yes' refl;
+  replaced = λ d g same. rw (yes', same) refl;
+  removed = rw yes' refl;
+}
+
+stands_later : (k : List ℕ) (f : Field) (fs : List Field) (i : ℕ) → bytes_eq (string_bytes f.name) k ≡ false → Stands k fs i → Stands k (f ∷ fs) (suc i)
+stands_later k f fs i no' s = record {
+  within = omega (arith, s.within);
+  found = λ d. rw no' (s.found d);
+  replaced = λ d g same. rw no' (ap (field (string_bytes f.name) (tree f.value)) (s.replaced d g same));
+  removed = rw no' (ap (field (string_bytes f.name) (tree f.value)) s.removed);
+}
+
+pub place_some : (k : List ℕ) (fs : List Field) (i : ℕ) → place k fs ≡ Some i → Stands k fs i
+place_some k [] i e = absurd cc
+place_some k (f ∷ fs) i e = elim (both (bytes_eq (string_bytes f.name) k)) [
+  | inl yes' ↦
+      let here : Some 0 ≡ Some i = sym (rw yes' refl) ∙ e in
+      let at0 : 0 ≡ i = cc in
+      subst (Stands k (f ∷ fs)) at0 (stands_here k f fs yes')
+  | inr no' ↦
+      let later : option_map (λ j. suc j) (place k fs) ≡ Some i = sym (rw no' refl) ∙ e in
+      let m = map_some (place k fs) (λ j. suc j) i later in
+      subst (Stands k (f ∷ fs)) m.2 (stands_later k f fs m.0 no' (place_some k fs m.0 m.1))
+]
+
+pub record StandsNowhere (k : List ℕ) (fs : List Field) : Type 0 where
+  pub missing : get k (fields_of fs) ≡ None
+  pub added : (g : Field) → string_bytes g.name ≡ k → put k (tree g.value) (fields_of fs) ≡ fields_of (fs ++ g ∷ [])
+  pub kept : without k (fields_of fs) ≡ fields_of fs
+
+nowhere_yet : (k : List ℕ) (f : Field) (fs : List Field) → bytes_eq (string_bytes f.name) k ≡ false → StandsNowhere k fs → StandsNowhere k (f ∷ fs)
+nowhere_yet k f fs no' s = record {
+  missing = rw no' s.missing;
+  added = λ g h. rw no' (ap (field (string_bytes f.name) (tree f.value)) (s.added g h));
+  kept = rw no' (ap (field (string_bytes f.name) (tree f.value)) s.kept);
+}
+
+map_nothing : (o : Option ℕ) → option_map (λ j. suc j) o ≡ None → o ≡ None
+map_nothing (Some j) e = absurd cc
+map_nothing None e = refl
+
+pub place_none : (k : List ℕ) (fs : List Field) → place k fs ≡ None → StandsNowhere k fs
+place_none k [] e = record { missing = refl; added = λ g h. rw h refl; kept = refl }
+place_none k (f ∷ fs) e = elim (both (bytes_eq (string_bytes f.name) k)) [
+  | inl yes' ↦
+      let here : Some 0 ≡ None = sym (rw yes' refl) ∙ e in
+      absurd cc
+  | inr no' ↦
+      let later : option_map (λ j. suc j) (place k fs) ≡ None = sym (rw no' refl) ∙ e in
+      nowhere_yet k f fs no' (place_none k fs (map_nothing (place k fs) later))
+]
+
+pub fields_of-push : (fs : List Field) (f : Field) → fields_of (fs ++ f ∷ []) ≡ with_field (fields_of fs) (string_bytes f.name) (tree f.value)
+fields_of-push [] f = refl
+fields_of-push (g ∷ fs) f = ap (field (string_bytes g.name) (tree g.value)) (fields_of-push fs f)
+
+pub length-items_of : (ts : List Bson) → length ts ≡ items_length (items_of ts)
+length-items_of [] = refl
+length-items_of (t ∷ ts) = ap suc (length-items_of ts)
+
+pub item_at-items_of : (ts : List Bson) (i : ℕ) → option_map tree (slice_get ts i) ≡ item_at i (items_of ts)
+item_at-items_of [] i = refl
+item_at-items_of (t ∷ ts) zero = refl
+item_at-items_of (t ∷ ts) (suc i) = item_at-items_of ts i
+
+-- only the empty list is the empty document, or the empty array
+pub empty_fields : (fs : List Field) → IsTrue (length fs == 0) ↔ (fields_of fs ≡ no_fields)
+empty_fields [] = (λ _. refl, λ _. refl)
+empty_fields (f ∷ fs) = (λ e. absurd (omega (arith, eqb-true (length (f ∷ fs)) 0 e)), λ e. absurd cc)
+
+pub empty_items : (ts : List Bson) → IsTrue (length ts == 0) ↔ (items_of ts ≡ no_items)
+empty_items [] = (λ _. refl, λ _. refl)
+empty_items (t ∷ ts) = (λ e. absurd (omega (arith, eqb-true (length (t ∷ ts)) 0 e)), λ e. absurd cc)
+
+-- what is lent of a slice at an index
+pub item_got : {R : Type 0} (now : R → Bson) (ts : List Bson) (i : ℕ) (r : Option R) → ItemBy now ts i i r → option_map (λ v. tree (now v)) r ≡ item_at i (items_of ts)
+item_got now ts i (Some x) h = ap (λ t. Some (tree t)) h.1 ∙ ap (option_map tree) (sym (slice_get-get_or ts i (now x) h.3.0)) ∙ item_at-items_of ts i
+item_got now ts i None h = ap (option_map tree) (sym (slice_get_past ts i h.3)) ∙ item_at-items_of ts i

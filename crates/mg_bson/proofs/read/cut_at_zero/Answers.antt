@@ -1,0 +1,14 @@
+use Rattle.std.proofs.Common.{◌≡◌, ◌+◌, ◌-◌, length, take, drop, sym, arith, add-one, length-drop}
+use Rattle.std.proofs.lemmas.List.{take_all}
+use Rattle.mg_bson.proofs.Cutting.{cut_here, cut_nowhere}
+use Rattle.mg_bson.proofs.read.cut_at_zero.Goals as goal
+
+pub returns-then-byte-eq0 : goal.returns-then-byte-eq0
+returns-then-byte-eq0 c =
+    let bs = c.args.bytes.now in
+    let i = c.loop-i.i in
+    let all : take (length bs - (i + 1)) (drop (i + 1) bs) ≡ drop (i + 1) bs = take_all (length bs - (i + 1)) (drop (i + 1) bs) (omega (arith, length-drop (i + 1) bs)) in
+    rw (all, add-one) (sym (cut_here bs i c.loop-i.invariant (omega arith) c.if-byte-eq0.true))
+
+pub returns : goal.returns
+returns c = sym (cut_nowhere c.args.bytes.now (λ k h. c.loop-i.invariant k (omega arith)))

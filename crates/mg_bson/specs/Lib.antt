@@ -1,0 +1,15 @@
+pub mod Tree
+pub mod Coded
+pub mod View
+pub mod Falls
+pub mod Kind
+pub mod Bytes
+pub mod Reading
+pub mod ReadView
+pub mod Raw
+pub mod Find
+pub mod Writable
+pub mod Writing
+pub mod Same
+pub mod Literal
+pub mod RawView

@@ -1,0 +1,81 @@
+//! Whether bytes are a document.
+ghost use Rattle.std.specs.Prelude.{◌≡◌, is_some};
+ghost use Rattle.mg_bson.specs.Reading.{fields_at, value_at, binary_at, doc_at};
+
+use crate::kind::Kind;
+use crate::read::{body_of, pointer_of, regex_of, scope_of, split_element, text_of, u32_at};
+
+// Whether the bytes are a document of at most so many levels. A recursion of 100 levels needs no
+// memory but the stack.
+#[cycle(check)]
+pub(crate) fn is_document(bytes: &[u8], levels: u32) -> bool
+    ensures { result ≡ is_some (doc_at levels bytes.now) }
+{
+    if levels == 0 {
+        return false;
+    }
+    match body_of(bytes) {
+        None => false,
+        Some(body) => are_fields(body, levels - 1),
+    }
+}
+
+// Whether the bytes are elements, inside which there are at most so many levels.
+#[cycle(check)]
+fn are_fields(bytes: &[u8], levels: u32) -> bool
+    ensures { result ≡ is_some (fields_at (doc_at levels) bytes.now) }
+{
+    let mut rest = bytes;
+    while !rest.is_empty() {
+        match split_element(rest) {
+            None => return false,
+            Some(element) => {
+                if !is_value(element.kind, element.value, levels) {
+                    return false;
+                }
+                rest = element.rest;
+            }
+        }
+    }
+    true
+}
+
+// Whether the bytes are one value of the kind.
+#[cycle(check)]
+fn is_value(kind: Kind, bytes: &[u8], levels: u32) -> bool
+    ensures { result ≡ is_some (value_at (doc_at levels) kind bytes.now) }
+{
+    match kind {
+        Kind::Double => bytes.len() == 8,
+        Kind::String => text_of(bytes).is_some(),
+        Kind::Document => is_document(bytes, levels),
+        Kind::Array => is_document(bytes, levels),
+        Kind::Binary => is_binary(bytes),
+        Kind::Undefined => bytes.is_empty(),
+        Kind::ObjectId => bytes.len() == 12,
+        Kind::Boolean => matches!(bytes, [0] | [1]),
+        Kind::DateTime => bytes.len() == 8,
+        Kind::Null => bytes.is_empty(),
+        Kind::Regex => regex_of(bytes).is_some(),
+        Kind::DbPointer => pointer_of(bytes).is_some(),
+        Kind::Code => text_of(bytes).is_some(),
+        Kind::Symbol => text_of(bytes).is_some(),
+        Kind::CodeWithScope => match scope_of(bytes) {
+            None => false,
+            Some((_, scope)) => is_document(scope, levels),
+        },
+        Kind::Int32 => bytes.len() == 4,
+        Kind::Timestamp => bytes.len() == 8,
+        Kind::Int64 => bytes.len() == 8,
+        Kind::Decimal128 => bytes.len() == 16,
+        Kind::MinKey => bytes.is_empty(),
+        Kind::MaxKey => bytes.is_empty(),
+    }
+}
+
+#[tactic(auto, unfolding(crate::specs::Reading::binary_at))]
+fn is_binary(bytes: &[u8]) -> bool
+    ensures { result ≡ is_some (binary_at bytes.now) }
+{
+    bytes.len() >= 5 && u32_at(bytes) as usize + 5 == bytes.len()
+}

@@ -1,0 +1,572 @@
+//! Documents as bytes that were checked once, and what is lent of them.
+ghost use Rattle.std.specs.Prelude.{◌≡◌, ◌↔◌, IsTrue, IfOk, IfErr, MatchOption, MatchResult, None, option_map};
+ghost use Rattle.std.specs.Cmp.{partial_equiv_from_equiv};
+ghost use Rattle.std.specs.Cmp.Lexicographic.{nat_list_eq_equiv};
+ghost use Rattle.std.specs.Str.{bytes_eq};
+ghost use Rattle.mg_bson.specs.Tree.{no_fields, field, no_items, item};
+ghost use Rattle.mg_bson.specs.Find.{get, as_document, as_array, as_int32, as_int64, as_string, as_binary, as_boolean, as_timestamp, as_double, as_object_id, as_date_time, is_null, items_length};
+ghost use Rattle.mg_bson.specs.Raw.{IsDocument, IsValue, fields, fields_left, items, items_left, spelled};
+ghost use Rattle.mg_bson.specs.ReadView.{spelling};
+ghost use Rattle.mg_bson.specs.View.{tree};
+ghost use Rattle.mg_bson.specs.RawView.{value};
+ghost use Rattle.mg_bson.specs.Reading.{doc, doc_at, value_at};
+ghost use Rattle.mg_bson.specs.declared.error.BsonError.TheVariants.{Malformed, OutOfMemory};
+
+use crate::check::is_document;
+use crate::decode::read_value;
+use crate::error::BsonError;
+use crate::kind::Kind;
+use crate::limits::MAX_LEVELS;
+use crate::object_id::ObjectId;
+use crate::read::{
+    Element, array_8, array_12, array_16, binary_of, body_of, boolean_of, i32_at, i64_at,
+    pointer_of, regex_of, scope_of, split_element, text_of, u32_at,
+};
+use crate::tree::{Bson, DateTime, Timestamp};
+use std::alloc::{AllocError, Global};
+use std::marker::Model;
+
+/// The bytes of a document, all levels of which were checked. In a contract it is those bytes, and
+/// `fields` is what they spell.
+#[derive(Debug, Drop)]
+pub struct RawDocumentBuf {
+    bytes: Vec<u8>,
+}
+
+impl Model for RawDocumentBuf {
+    ghost use Rattle.std.specs.Prelude.{List, ℕ};
+    ghost use Rattle.mg_bson.specs.Raw.{IsDocument};
+
+    ghost Value = { List ℕ };
+
+    ghost view = { λ r. r.bytes.items };
+
+    ghost invariant = { λ r. IsDocument r.bytes.items };
+}
+
+/// A document that is lent from checked bytes. In a contract it is its bytes, and `fields` is what
+/// they spell.
+#[derive(Debug, Drop)]
+pub struct RawDocument<'a> {
+    bytes: &'a [u8],
+}
+
+impl<'a> Model for RawDocument<'a> {
+    ghost use Rattle.std.specs.Prelude.{List, ℕ};
+    ghost use Rattle.mg_bson.specs.Raw.{IsDocument};
+
+    ghost Value = { List ℕ };
+
+    ghost view = { λ r. r.bytes.now };
+
+    ghost invariant = { λ r. IsDocument r.bytes.now };
+}
+
+/// The elements of a lent document that are left, in order. In a contract it is their bytes, and
+/// `fields_left` is what they spell.
+#[derive(Drop)]
+pub struct RawIter<'a> {
+    rest: &'a [u8],
+}
+
+impl<'a> Model for RawIter<'a> {
+    ghost use Rattle.std.specs.Prelude.{List, ℕ};
+    ghost use Rattle.mg_bson.specs.Raw.{AreFields};
+
+    ghost Value = { List ℕ };
+
+    ghost view = { λ r. r.rest.now };
+
+    ghost invariant = { λ r. AreFields r.rest.now };
+}
+
+/// A value that is lent from checked bytes: one variant for each variant of
+/// [`Bson`](crate::Bson). In a contract `value` is the tree that it stands for.
+#[derive(Debug, Drop)]
+pub enum RawValue<'a> {
+    /// A floating point number, as its eight bytes.
+    Double([u8; 8]),
+    /// A text in UTF-8.
+    String(&'a str),
+    /// A document inside the document.
+    Document(RawDocument<'a>),
+    /// A list of values.
+    Array(RawArray<'a>),
+    /// The subtype, and the bytes.
+    Binary(u8, &'a [u8]),
+    /// The undefined value, of an old form.
+    Undefined,
+    /// The id of a document.
+    ObjectId(ObjectId),
+    /// True or false.
+    Boolean(bool),
+    /// A time in milliseconds.
+    DateTime(DateTime),
+    /// The null value.
+    Null,
+    /// A regular expression, and its options.
+    Regex(&'a str, &'a str),
+    /// The namespace and the id of another document, of an old form.
+    DbPointer(&'a str, ObjectId),
+    /// JavaScript code.
+    Code(&'a str),
+    /// A symbol, of an old form.
+    Symbol(&'a str),
+    /// JavaScript code with its variables, of an old form.
+    CodeWithScope(&'a str, RawDocument<'a>),
+    /// A whole number of 32 bits.
+    Int32(i32),
+    /// A time of the server's log of operations.
+    Timestamp(Timestamp),
+    /// A whole number of 64 bits.
+    Int64(i64),
+    /// A decimal floating point number, as its 16 bytes.
+    Decimal128([u8; 16]),
+    /// The value below all others.
+    MinKey,
+    /// The value above all others.
+    MaxKey,
+}
+
+/// An array that is lent from checked bytes: a document whose names are not looked at. In a
+/// contract it is its bytes, and `items` is what they spell.
+#[derive(Debug, Drop)]
+pub struct RawArray<'a> {
+    bytes: &'a [u8],
+}
+
+impl<'a> Model for RawArray<'a> {
+    ghost use Rattle.std.specs.Prelude.{List, ℕ};
+    ghost use Rattle.mg_bson.specs.Raw.{IsDocument};
+
+    ghost Value = { List ℕ };
+
+    ghost view = { λ r. r.bytes.now };
+
+    ghost invariant = { λ r. IsDocument r.bytes.now };
+}
+
+/// The values of a lent array that are left, in order. In a contract it is the bytes of their
+/// elements, and `items_left` is what they spell.
+#[derive(Drop)]
+pub struct RawItems<'a> {
+    left: RawIter<'a>,
+}
+
+impl<'a> Model for RawItems<'a> {
+    ghost use Rattle.std.specs.Prelude.{List, ℕ};
+
+    ghost Value = { List ℕ };
+
+    ghost view = { λ r. r.left };
+}
+
+impl<'a> RawArray<'a> {
+    /// Goes through the values in order.
+    pub fn iter(&self) -> RawItems<'a>
+        ensures { items_left result ≡ items self.now }
+    {
+        let document = RawDocument { bytes: self.bytes };
+        RawItems {
+            left: document.iter(),
+        }
+    }
+
+    /// Whether there is no value.
+    pub fn is_empty(&self) -> bool
+        ensures { IsTrue result ↔ (items self.now ≡ no_items) }
+    {
+        self.iter().next().is_none()
+    }
+
+    /// How many values there are. Each of them is passed over.
+    pub fn len(&self) -> usize
+        ensures { result ≡ items_length (items self.now) }
+    {
+        // No array has more values than bytes, so the count fits.
+        let _bytes = self.bytes;
+        let mut count = 0;
+        let mut left = self.iter();
+        while let Some(_) = left.next() {
+            count += 1;
+        }
+        count
+    }
+}
+
+impl<'a> RawItems<'a> {
+    /// The next value, if one is left.
+    pub fn next(&mut self) -> Option<RawValue<'a>>
+        ensures { MatchOption result (items_left self.old ≡ no_items)
+            (λ v. items_left self.old ≡ item (value v) (items_left self.new)) }
+    {
+        match self.left.next() {
+            Some((_, value)) => Some(value),
+            None => None,
+        }
+    }
+}
+
+impl RawDocumentBuf {
+    /// Checks that the bytes are one document, at all its levels, and keeps them. They are
+    /// malformed exactly where they are none, or have more than
+    /// [`MAX_LEVELS`](crate::MAX_LEVELS) levels. It takes no memory but the bytes.
+    pub fn from_bytes(bytes: Vec<u8>) -> Result<RawDocumentBuf, BsonError>
+        ensures { MatchResult result
+            (λ r. (r ≡ bytes.items) × IsDocument bytes.items)
+            (λ e. (e ≡ Malformed) × (doc bytes.items ≡ None)) }
+    {
+        if is_document(&bytes, MAX_LEVELS) {
+            Ok(RawDocumentBuf { bytes })
+        } else {
+            Err(BsonError::Malformed)
+        }
+    }
+
+    // The bytes, which the caller knows to be a document.
+    pub(crate) fn checked(bytes: Vec<u8>) -> RawDocumentBuf
+        requires { IsDocument bytes.items }
+        ensures { result ≡ bytes.items }
+    {
+        RawDocumentBuf { bytes }
+    }
+
+    /// Lends the document.
+    pub fn as_raw(&self) -> RawDocument<'_>
+        ensures { result ≡ self.now }
+    {
+        RawDocument { bytes: &self.bytes }
+    }
+
+    /// Lends the bytes.
+    pub fn as_bytes(&self) -> &[u8]
+        ensures { result.now ≡ self.now }
+    {
+        &self.bytes
+    }
+
+    /// The bytes, without a copy.
+    pub fn into_bytes(self) -> Vec<u8>
+        ensures bytes { result.items ≡ self }
+        ensures document { IsDocument result.items }
+    {
+        self.bytes
+    }
+}
+
+impl Clone for RawDocumentBuf {
+    ghost is_clone = { λ v w. w ≡ v };
+
+    fn clone(&self) -> Result<RawDocumentBuf, AllocError> {
+        let bytes = self.bytes.clone()?;
+        Ok(RawDocumentBuf { bytes })
+    }
+}
+
+impl PartialEq for RawDocumentBuf {
+    ghost eq = { bytes_eq };
+
+    ghost laws = { partial_equiv_from_equiv nat_list_eq_equiv };
+
+    fn eq(&self, other: &RawDocumentBuf) -> bool {
+        self.bytes == other.bytes
+    }
+}
+
+impl Eq for RawDocumentBuf {
+    ghost laws = { nat_list_eq_equiv };
+}
+
+impl<'a> RawDocument<'a> {
+    /// Lends the bytes of the document, those of its length and its end included.
+    pub fn as_bytes(&self) -> &'a [u8]
+        ensures bytes { result.now ≡ self.now }
+        ensures document { IsDocument self.now }
+    {
+        self.bytes
+    }
+
+    /// A copy that owns its bytes. Only memory can fail.
+    pub fn to_buf(&self, alloc: Global) -> Result<RawDocumentBuf, BsonError>
+        ensures ok { IfOk result (λ r. r ≡ self.now) }
+        ensures err { IfErr result (λ e. e ≡ OutOfMemory) }
+    {
+        let bytes = Vec::from_slice(alloc, self.bytes)?;
+        Ok(RawDocumentBuf { bytes })
+    }
+
+    /// Goes through the names and values in order.
+    pub fn iter(&self) -> RawIter<'a>
+        ensures { fields_left result ≡ fields self.now }
+    {
+        match body_of(self.bytes) {
+            Some(rest) => RawIter { rest },
+            None => RawIter { rest: &[] },
+        }
+    }
+
+    /// The first value of the name. Values of other names are passed over unread.
+    pub fn get(&self, name: &str) -> Option<RawValue<'a>>
+        ensures { option_map value result ≡ get name.now (fields self.now) }
+    {
+        let mut left = self.iter();
+        while let Some(element) = left.next_element() {
+            if element.name == name {
+                return open(element.kind, element.value);
+            }
+        }
+        None
+    }
+}
+
+impl<'a> RawIter<'a> {
+    // The next element, whose value is not opened.
+    fn next_element(&mut self) -> Option<Element<'a>>
+        ensures { MatchOption result (fields_left self.old ≡ no_fields)
+            (λ e. IsValue (spelling e) × (fields_left self.old ≡ field e.name.now (spelled (spelling e)) (fields_left self.new))) }
+    {
+        let element = split_element(self.rest)?;
+        self.rest = element.rest;
+        Some(element)
+    }
+
+    /// The next name and value, if one is left.
+    pub fn next(&mut self) -> Option<(&'a str, RawValue<'a>)>
+        ensures { MatchOption result (fields_left self.old ≡ no_fields)
+            (λ r. fields_left self.old ≡ field r.0.now (value r.1) (fields_left self.new)) }
+    {
+        let element = self.next_element()?;
+        let value = open(element.kind, element.value)?;
+        Some((element.name, value))
+    }
+}
+
+// The value of the kind that the bytes spell.
+fn open(kind: Kind, bytes: &[u8]) -> Option<RawValue<'_>>
+    requires { IsValue (record { kind = kind; bytes = bytes.now }) }
+    ensures { option_map value result ≡ value_at (doc_at 99) kind bytes.now }
+{
+    match kind {
+        Kind::Double => {
+            if bytes.len() != 8 {
+                return None;
+            }
+            Some(RawValue::Double(array_8(bytes)))
+        }
+        Kind::String => { Some(RawValue::String(text_of(bytes)?)) }
+        Kind::Document => { Some(RawValue::Document(RawDocument { bytes })) }
+        Kind::Array => { Some(RawValue::Array(RawArray { bytes })) }
+        Kind::Binary => {
+            let (subtype, bytes) = binary_of(bytes)?;
+            Some(RawValue::Binary(subtype, bytes))
+        }
+        Kind::Undefined => {
+            if !bytes.is_empty() {
+                return None;
+            }
+            Some(RawValue::Undefined)
+        }
+        Kind::ObjectId => {
+            if bytes.len() != 12 {
+                return None;
+            }
+            Some(RawValue::ObjectId(ObjectId(array_12(bytes))))
+        }
+        Kind::Boolean => { Some(RawValue::Boolean(boolean_of(bytes)?)) }
+        Kind::DateTime => {
+            if bytes.len() != 8 {
+                return None;
+            }
+            Some(RawValue::DateTime(DateTime {
+                millis: i64_at(bytes),
+            }))
+        }
+        Kind::Null => {
+            if !bytes.is_empty() {
+                return None;
+            }
+            Some(RawValue::Null)
+        }
+        Kind::Regex => {
+            let (pattern, options) = regex_of(bytes)?;
+            Some(RawValue::Regex(pattern, options))
+        }
+        Kind::DbPointer => {
+            let (namespace, id) = pointer_of(bytes)?;
+            Some(RawValue::DbPointer(namespace, ObjectId(array_12(id))))
+        }
+        Kind::Code => { Some(RawValue::Code(text_of(bytes)?)) }
+        Kind::Symbol => { Some(RawValue::Symbol(text_of(bytes)?)) }
+        Kind::CodeWithScope => {
+            let (code, scope) = scope_of(bytes)?;
+            Some(RawValue::CodeWithScope(code, RawDocument { bytes: scope }))
+        }
+        Kind::Int32 => {
+            if bytes.len() != 4 {
+                return None;
+            }
+            Some(RawValue::Int32(i32_at(bytes)))
+        }
+        Kind::Timestamp => {
+            if bytes.len() != 8 {
+                return None;
+            }
+            let time = u32_at(&bytes[4..]);
+            Some(RawValue::Timestamp(Timestamp {
+                time,
+                increment: u32_at(bytes),
+            }))
+        }
+        Kind::Int64 => {
+            if bytes.len() != 8 {
+                return None;
+            }
+            Some(RawValue::Int64(i64_at(bytes)))
+        }
+        Kind::Decimal128 => {
+            if bytes.len() != 16 {
+                return None;
+            }
+            Some(RawValue::Decimal128(array_16(bytes)))
+        }
+        Kind::MinKey => {
+            if !bytes.is_empty() {
+                return None;
+            }
+            Some(RawValue::MinKey)
+        }
+        Kind::MaxKey => {
+            if !bytes.is_empty() {
+                return None;
+            }
+            Some(RawValue::MaxKey)
+        }
+    }
+}
+
+impl<'a> RawValue<'a> {
+    /// The text of a string, and nothing of another kind.
+    pub fn as_str(&self) -> Option<&'a str>
+        ensures { option_map (λ s. s.now) result ≡ as_string (value self.now) }
+    {
+        match self {
+            RawValue::String(text) => Some(text),
+            _ => None,
+        }
+    }
+
+    /// The number of 32 bits, and nothing of another kind.
+    pub fn as_i32(&self) -> Option<i32>
+        ensures { result ≡ as_int32 (value self.now) }
+    {
+        match self {
+            RawValue::Int32(n) => Some(*n),
+            _ => None,
+        }
+    }
+
+    /// The number of 64 bits, and nothing of another kind.
+    pub fn as_i64(&self) -> Option<i64>
+        ensures { result ≡ as_int64 (value self.now) }
+    {
+        match self {
+            RawValue::Int64(n) => Some(*n),
+            _ => None,
+        }
+    }
+
+    /// The truth value, and nothing of another kind.
+    pub fn as_bool(&self) -> Option<bool>
+        ensures { result ≡ as_boolean (value self.now) }
+    {
+        match self {
+            RawValue::Boolean(b) => Some(*b),
+            _ => None,
+        }
+    }
+
+    /// The time of the log of operations, and nothing of another kind.
+    pub fn as_timestamp(&self) -> Option<Timestamp>
+        ensures { option_map (λ t. (t.time, t.increment)) result ≡ as_timestamp (value self.now) }
+    {
+        match self {
+            RawValue::Timestamp(t) => Some(*t),
+            _ => None,
+        }
+    }
+
+    /// The subtype and the bytes, and nothing of another kind.
+    pub fn as_binary(&self) -> Option<(u8, &'a [u8])>
+        ensures { option_map (λ p. (p.0, p.1.now)) result ≡ as_binary (value self.now) }
+    {
+        match self {
+            RawValue::Binary(subtype, bytes) => Some((*subtype, bytes)),
+            _ => None,
+        }
+    }
+
+    /// The document inside, and nothing of another kind.
+    pub fn as_document(&self) -> Option<RawDocument<'a>>
+        ensures { option_map fields result ≡ as_document (value self.now) }
+    {
+        match self {
+            RawValue::Document(d) => Some(RawDocument { bytes: d.bytes }),
+            _ => None,
+        }
+    }
+
+    /// The list of values, and nothing of another kind.
+    pub fn as_array(&self) -> Option<RawArray<'a>>
+        ensures { option_map items result ≡ as_array (value self.now) }
+    {
+        match self {
+            RawValue::Array(a) => Some(RawArray { bytes: a.bytes }),
+            _ => None,
+        }
+    }
+
+    /// The eight bytes of a floating point number, and nothing of another kind.
+    pub fn as_double(&self) -> Option<[u8; 8]>
+        ensures { result ≡ as_double (value self.now) }
+    {
+        match self {
+            RawValue::Double(v) => Some(*v),
+            _ => None,
+        }
+    }
+
+    /// The id, and nothing of another kind.
+    pub fn as_object_id(&self) -> Option<ObjectId>
+        ensures { option_map (λ id. id.0) result ≡ as_object_id (value self.now) }
+    {
+        match self {
+            RawValue::ObjectId(id) => Some(*id),
+            _ => None,
+        }
+    }
+
+    /// The time in milliseconds, and nothing of another kind.
+    pub fn as_date_time(&self) -> Option<DateTime>
+        ensures { option_map (λ t. t.millis) result ≡ as_date_time (value self.now) }
+    {
+        match self {
+            RawValue::DateTime(t) => Some(*t),
+            _ => None,
+        }
+    }
+
+    /// Whether the value is null.
+    pub fn is_null(&self) -> bool
+        ensures { result ≡ is_null (value self.now) }
+    {
+        matches!(self, RawValue::Null)
+    }
+
+    /// A copy that owns its parts. Only memory can fail.
+    pub fn to_value(&self, alloc: Global) -> Result<Bson, BsonError>
+        ensures ok { IfOk result (λ v. tree v ≡ value self.now) }
+        ensures err { IfErr result (λ e. e ≡ OutOfMemory) }
+    {
+        read_value(alloc, self)
+    }
+}

@@ -1,0 +1,290 @@
+//! Bytes, taken apart one level at a time. Nothing is known of them beforehand.
+ghost use Rattle.std.specs.Prelude.{◌≡◌, ◌≤◌, ◌<◌, ◌==◌, length, option_map, is_some, IfSome};
+ghost use Rattle.mg_bson.specs.Reading.{le32_at, le64_at, cut, utf8_of, ahead, two_texts, extent, element_at, body_at, text_at, boolean_at, binary_at, regex_at, pointer_at, text_and_rest, scope_parts};
+ghost use Rattle.std.specs.Int.{w32, w64, cast_signed};
+ghost use Rattle.mg_bson.specs.Tree.{boolean, binary, regex, db_pointer};
+ghost use Rattle.mg_bson.specs.ReadView.{element_view};
+
+use crate::kind::Kind;
+use std::str;
+
+// An element, and the bytes behind it.
+#[derive(Drop)]
+pub(crate) struct Element<'a> {
+    pub(crate) kind: Kind,
+    pub(crate) name: &'a str,
+    pub(crate) value: &'a [u8],
+    pub(crate) rest: &'a [u8],
+}
+
+#[tactic(auto, unfolding(crate::specs::Reading::le32_at))]
+pub(crate) fn u32_at(bytes: &[u8]) -> u32
+    requires { 4 ≤ length bytes.now }
+    ensures { result ≡ le32_at bytes.now }
+{
+    u32::from_le_bytes([bytes[0], bytes[1], bytes[2], bytes[3]])
+}
+
+#[tactic(auto, unfolding(crate::specs::Reading::le64_at))]
+pub(crate) fn u64_at(bytes: &[u8]) -> u64
+    requires { 8 ≤ length bytes.now }
+    ensures { result ≡ le64_at bytes.now }
+{
+    u64::from_le_bytes([
+        bytes[0], bytes[1], bytes[2], bytes[3], bytes[4], bytes[5], bytes[6], bytes[7],
+    ])
+}
+
+pub(crate) fn i32_at(bytes: &[u8]) -> i32
+    requires { 4 ≤ length bytes.now }
+    ensures { result ≡ cast_signed w32 (le32_at bytes.now) }
+{
+    u32_at(bytes).cast_signed()
+}
+
+pub(crate) fn i64_at(bytes: &[u8]) -> i64
+    requires { 8 ≤ length bytes.now }
+    ensures { result ≡ cast_signed w64 (le64_at bytes.now) }
+{
+    u64_at(bytes).cast_signed()
+}
+
+// The bytes before the first 0, and those behind it.
+fn cut_at_zero(bytes: &[u8]) -> Option<(&[u8], &[u8])>
+    ensures { option_map (λ p. (p.0.now, p.1.now)) result ≡ cut bytes.now }
+{
+    for (i, byte) in bytes.iter().enumerate() {
+        if *byte == 0 {
+            return Some((&bytes[..i], &bytes[i + 1..]));
+        }
+    }
+    None
+}
+
+fn checked_text(bytes: &[u8]) -> Option<&str>
+    ensures { option_map (λ s. s.now) result ≡ utf8_of bytes.now }
+{
+    match str::from_utf8(bytes) {
+        Ok(text) => Some(text),
+        Err(_) => None,
+    }
+}
+
+// The number in front, and some more: how long a value is that its length begins.
+#[tactic(auto, unfolding(crate::specs::Reading::ahead))]
+fn number_ahead(more: usize, bytes: &[u8]) -> Option<usize>
+    requires { more < 1000 }
+    ensures { result ≡ ahead more bytes.now }
+{
+    if bytes.len() < 4 {
+        return None;
+    }
+    Some(u32_at(bytes) as usize + more)
+}
+
+// How long two texts are, each ended by a 0.
+#[tactic(auto, unfolding(crate::specs::Reading::two_texts))]
+fn two_texts_of(bytes: &[u8]) -> Option<usize>
+    ensures { result ≡ two_texts bytes.now }
+{
+    let (first, behind) = cut_at_zero(bytes)?;
+    let (second, _) = cut_at_zero(behind)?;
+    Some(first.len() + second.len() + 2)
+}
+
+// How many bytes a value of the kind takes.
+fn extent_of(kind: Kind, bytes: &[u8]) -> Option<usize>
+    ensures { result ≡ extent kind bytes.now }
+{
+    match kind {
+        Kind::Double => Some(8),
+        Kind::String => number_ahead(4, bytes),
+        Kind::Document => number_ahead(0, bytes),
+        Kind::Array => number_ahead(0, bytes),
+        Kind::Binary => number_ahead(5, bytes),
+        Kind::Undefined => Some(0),
+        Kind::ObjectId => Some(12),
+        Kind::Boolean => Some(1),
+        Kind::DateTime => Some(8),
+        Kind::Null => Some(0),
+        Kind::Regex => two_texts_of(bytes),
+        Kind::DbPointer => number_ahead(16, bytes),
+        Kind::Code => number_ahead(4, bytes),
+        Kind::Symbol => number_ahead(4, bytes),
+        Kind::CodeWithScope => number_ahead(0, bytes),
+        Kind::Int32 => Some(4),
+        Kind::Timestamp => Some(8),
+        Kind::Int64 => Some(8),
+        Kind::Decimal128 => Some(16),
+        Kind::MinKey => Some(0),
+        Kind::MaxKey => Some(0),
+    }
+}
+
+// The element in front, whose value is not read yet.
+#[tactic(auto, unfolding(crate::specs::Reading::element_at))]
+pub(crate) fn split_element(bytes: &[u8]) -> Option<Element<'_>>
+    ensures { option_map element_view result ≡ element_at bytes.now }
+{
+    let (byte, behind) = match bytes {
+        [] => return None,
+        [byte, behind @ ..] => (*byte, behind),
+    };
+    let kind = Kind::from_byte(byte)?;
+    let (name, after) = cut_at_zero(behind)?;
+    let name = checked_text(name)?;
+    let len = extent_of(kind, after)?;
+    if after.len() < len {
+        return None;
+    }
+    let (value, rest) = after.split_at(len);
+    Some(Element {
+        kind,
+        name,
+        value,
+        rest,
+    })
+}
+
+// The elements of a document, between its length and its last byte.
+#[tactic(auto, unfolding(crate::specs::Reading::body_at))]
+pub(crate) fn body_of(bytes: &[u8]) -> Option<&[u8]>
+    ensures { option_map (λ b. b.now) result ≡ body_at bytes.now }
+{
+    let len = bytes.len();
+    if len < 5 {
+        return None;
+    }
+    if len >= 0x8000_0000 {
+        return None;
+    }
+    if u32_at(bytes) as usize != len {
+        return None;
+    }
+    if bytes[len - 1] != 0 {
+        return None;
+    }
+    Some(&bytes[4..len - 1])
+}
+
+#[tactic(auto, unfolding(crate::specs::Reading::text_at))]
+pub(crate) fn text_of(bytes: &[u8]) -> Option<&str>
+    ensures { option_map (λ s. s.now) result ≡ text_at bytes.now }
+{
+    let len = bytes.len();
+    if len < 5 {
+        return None;
+    }
+    if u32_at(bytes) as usize + 4 != len {
+        return None;
+    }
+    if bytes[len - 1] != 0 {
+        return None;
+    }
+    checked_text(&bytes[4..len - 1])
+}
+
+pub(crate) fn boolean_of(bytes: &[u8]) -> Option<bool>
+    ensures { option_map boolean result ≡ boolean_at bytes.now }
+{
+    match bytes {
+        [0] => Some(false),
+        [1] => Some(true),
+        _ => None,
+    }
+}
+
+#[tactic(auto, unfolding(crate::specs::Reading::binary_at))]
+pub(crate) fn binary_of(bytes: &[u8]) -> Option<(u8, &[u8])>
+    ensures { option_map (λ p. binary p.0 p.1.now) result ≡ binary_at bytes.now }
+{
+    if bytes.len() < 5 {
+        return None;
+    }
+    if u32_at(bytes) as usize + 5 != bytes.len() {
+        return None;
+    }
+    let (head, rest) = bytes.split_at(5);
+    Some((head[4], rest))
+}
+
+#[tactic(auto, unfolding(crate::specs::Reading::regex_at))]
+pub(crate) fn regex_of(bytes: &[u8]) -> Option<(&str, &str)>
+    ensures { option_map (λ p. regex p.0.now p.1.now) result ≡ regex_at bytes.now }
+{
+    let (pattern, behind) = cut_at_zero(bytes)?;
+    let pattern = checked_text(pattern)?;
+    let (options, rest) = cut_at_zero(behind)?;
+    let options = checked_text(options)?;
+    if !rest.is_empty() {
+        return None;
+    }
+    Some((pattern, options))
+}
+
+#[tactic(auto, unfolding(crate::specs::Reading::pointer_at))]
+pub(crate) fn pointer_of(bytes: &[u8]) -> Option<(&str, &[u8])>
+    ensures read { option_map (λ p. db_pointer p.0.now p.1.now) result ≡ pointer_at bytes.now }
+    ensures id { IfSome result (λ p. length p.1.now ≡ 12) }
+{
+    if bytes.len() < 12 {
+        return None;
+    }
+    let (front, id) = bytes.split_at(bytes.len() - 12);
+    let namespace = text_of(front)?;
+    Some((namespace, id))
+}
+
+#[tactic(auto, unfolding(crate::specs::Reading::text_and_rest))]
+fn text_and_rest_of(bytes: &[u8]) -> Option<(&str, &[u8])>
+    ensures { option_map (λ p. (p.0.now, p.1.now)) result ≡ text_and_rest bytes.now }
+{
+    let len = number_ahead(4, bytes)?;
+    if bytes.len() < len {
+        return None;
+    }
+    let (front, rest) = bytes.split_at(len);
+    let text = text_of(front)?;
+    Some((text, rest))
+}
+
+// The code, and the bytes of its scope.
+#[tactic(auto, unfolding(crate::specs::Reading::scope_parts))]
+pub(crate) fn scope_of(bytes: &[u8]) -> Option<(&str, &[u8])>
+    ensures { option_map (λ p. (p.0.now, p.1.now)) result ≡ scope_parts bytes.now }
+{
+    if bytes.len() < 4 {
+        return None;
+    }
+    if u32_at(bytes) as usize != bytes.len() {
+        return None;
+    }
+    text_and_rest_of(&bytes[4..])
+}
+
+pub(crate) fn array_8(bytes: &[u8]) -> [u8; 8]
+    requires { length bytes.now ≡ 8 }
+    ensures { result ≡ bytes.now }
+{
+    let mut array = [0; 8];
+    array.copy_from_slice(bytes);
+    array
+}
+
+pub(crate) fn array_12(bytes: &[u8]) -> [u8; 12]
+    requires { length bytes.now ≡ 12 }
+    ensures { result ≡ bytes.now }
+{
+    let mut array = [0; 12];
+    array.copy_from_slice(bytes);
+    array
+}
+
+pub(crate) fn array_16(bytes: &[u8]) -> [u8; 16]
+    requires { length bytes.now ≡ 16 }
+    ensures { result ≡ bytes.now }
+{
+    let mut array = [0; 16];
+    array.copy_from_slice(bytes);
+    array
+}
