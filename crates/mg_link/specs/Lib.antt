@@ -1,0 +1,12 @@
+pub mod Causes
+pub mod Ends
+pub mod Memory
+pub mod Labels
+pub mod Errors
+pub mod ErrorText
+pub mod Codes
+pub mod Resumable
+pub mod Ids
+pub mod Namespace
+pub mod Log
+pub mod LogView
