@@ -1,0 +1,104 @@
+-- When the program ends with which status, and what it writes then.
+use Rattle.std.specs.Prelude.{◌≡◌, ◌⊎◌, ℕ, ◌<◌, List, [], ◌∷◌, length, Bool, true, false, Option, Some, None, Ok, Err, codes}
+use Rattle.std.specs.Str.{bytes_eq}
+use Rattle.std.specs.Io.KnownBytes.{Consumes, Appends}
+use Rattle.mg_link.specs.Causes.{Rose}
+use Rattle.mg_link.specs.Ends.{ReadWhole, TookFront, longest}
+use Rattle.mg_jobs.specs.Plan.{Plan, plan}
+use Rattle.mg_jobs.specs.Script.{script_of, missing}
+use Rattle.mg_jobs.specs.Text.{text_of}
+use Rattle.mg_jobs.specs.declared.fault.Place.{Place}
+use Rattle.mg_jobs.specs.declared.outcome.Run.{Run}
+use Rattle.mg_jobs.specs.declared.program.Ending.{Ending}
+use Rattle.mg_jobs.specs.declared.program.Ending.TheVariants as endings
+
+-- the words are just `run`
+abbrev pub is_run : List (List ℕ) → Bool
+is_run [] = false
+is_run (w ∷ []) = bytes_eq w (codes "run")
+is_run (w ∷ v ∷ ws) = false
+
+-- ---- what was read
+
+-- the input was read to its end, and is no script; its first fault stands at the place
+abbrev pub ReadNoScript : Option (List ℕ) → Option (List ℕ) → Place → Type 0
+ReadNoScript old new p = (bytes : List ℕ) × ReadWhole old new bytes × (script_of bytes ≡ Err p)
+
+-- more bytes came than a script may have
+abbrev pub ReadTooMuch : Option (List ℕ) → Option (List ℕ) → Type 0
+ReadTooMuch old new = (bytes : List ℕ) × Consumes old new bytes × (longest < length bytes)
+
+-- the input was read to its end, and is the script
+abbrev pub ReadScript : Option (List ℕ) → Option (List ℕ) → Plan → Type 0
+ReadScript old new script = (bytes : List ℕ) × ReadWhole old new bytes × (script_of bytes ≡ Ok script)
+
+-- each number of the order names a job
+abbrev pub HasJobs : Plan → Type 0
+HasJobs script = missing script ≡ None
+
+-- this is the first number of the order that names no job
+abbrev pub LacksJob : Plan → ℕ → Type 0
+LacksJob script n = missing script ≡ Some n
+
+-- the input was read to its end, and is a script whose order has a number that names no job
+abbrev pub ReadMissing : Option (List ℕ) → Option (List ℕ) → ℕ → Type 0
+ReadMissing old new n = (script : Plan) × ReadScript old new script × LacksJob script n
+
+-- the input is no script that can be run
+abbrev pub ReadUnfit : Option (List ℕ) → Option (List ℕ) → Type 0
+ReadUnfit old new = ((p : Place) × ReadNoScript old new p) ⊎ (ReadTooMuch old new ⊎ ((n : ℕ) × ReadMissing old new n))
+
+-- ---- what came of the words and the input
+
+-- the run is of the script that was read, over one link
+pub record Ran (old new : Option (List ℕ)) (run : Run) : Type 0 where
+  pub script : ReadScript old new (plan run.script)
+  pub jobs : HasJobs (plan run.script)
+  pub log : length run.logs.items ≡ 1
+  pub turns : length run.turns.items ≡ 1
+
+-- when it comes to each
+abbrev pub Caused : List (List ℕ) → Option (List ℕ) → Option (List ℕ) → ℕ → ℕ → Ending → Type 0
+Caused words old new before now endings.Usage = is_run words ≡ false
+Caused words old new before now endings.ReadFault = (is_run words ≡ true) × Rose before now
+Caused words old new before now endings.TooLong = (is_run words ≡ true) × ReadTooMuch old new
+Caused words old new before now (endings.BadScript p) = (is_run words ≡ true) × ReadNoScript old new p
+Caused words old new before now (endings.NoSuchJob n) = (is_run words ≡ true) × ReadMissing old new n
+Caused words old new before now endings.OutOfMemory = is_run words ≡ true
+Caused words old new before now (endings.Unprinted run) = (is_run words ≡ true) × Ran old new run
+Caused words old new before now (endings.Done run) = (is_run words ≡ true) × Ran old new run
+
+abbrev pub status_of : Ending → ℕ
+status_of endings.Usage = 1
+status_of endings.ReadFault = 2
+status_of endings.TooLong = 3
+status_of (endings.BadScript p) = 3
+status_of (endings.NoSuchJob n) = 3
+status_of endings.OutOfMemory = 6
+status_of (endings.Unprinted run) = 6
+status_of (endings.Done run) = 0
+
+abbrev pub ending_text : Ending → List ℕ
+ending_text endings.Usage = codes "usage: jobs run | jobs share | jobs grow N\n"
+ending_text endings.ReadFault = codes "read fault\n"
+ending_text endings.TooLong = codes "bad script: not built\n"
+ending_text (endings.BadScript p) = codes "bad script: not built\n"
+ending_text (endings.NoSuchJob n) = codes "bad script: not built\n"
+ending_text endings.OutOfMemory = codes "out of memory\n"
+ending_text (endings.Unprinted run) = codes "out of memory\n"
+ending_text (endings.Done run) = text_of run
+
+-- the run that was played to its end
+abbrev pub run_of : Ending → Option Run
+run_of endings.Usage = None
+run_of endings.ReadFault = None
+run_of endings.TooLong = None
+run_of (endings.BadScript p) = None
+run_of (endings.NoSuchJob n) = None
+run_of endings.OutOfMemory = None
+run_of (endings.Unprinted run) = Some run
+run_of (endings.Done run) = Some run
+
+-- a status was told by its text, whole; or the sink failed, and a front of the text was taken
+abbrev pub Told : ℕ → List ℕ → ℕ → Option (List ℕ) → Option (List ℕ) → ℕ → ℕ → Type 0
+Told meant text status old new before now = ((status ≡ meant) × Appends old new text) ⊎ ((status ≡ 4) × Rose before now × TookFront old new text)

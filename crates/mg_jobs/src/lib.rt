@@ -1,0 +1,25 @@
+//! Jobs over a store, from the script to the printed text.
+#![tactic(auto)]
+
+mod fault;
+mod insert;
+mod json;
+mod outcome;
+mod parse;
+mod print;
+mod program;
+mod run;
+mod script;
+mod value;
+
+pub use fault::{Place, ScriptError};
+pub use json::json_text;
+pub use mg_link::{MemSink, MemSource, ReadFailed, Sink, Source, StdSink, StdSource, WriteFailed};
+pub use outcome::{Answer, Ended, Outcome, Played, Run, Turned};
+pub use parse::parse_script;
+pub use program::{Ending, Finished, run_program};
+pub use run::run_jobs;
+pub use script::{Job, Script, Start};
+
+#[cfg(test)]
+mod tests;

@@ -1,0 +1,53 @@
+//! What a script asks for.
+use mg_bson::{DateTime, Document};
+use mg_change::ResumeToken;
+use mg_link::{Namespace, OperationTarget};
+
+/// One thing to do against the server, a call at a time.
+#[derive(Drop)]
+pub enum Job {
+    /// Inserts documents in one call.
+    Insert {
+        /// The collection that they go into.
+        ns: Namespace,
+        /// The documents, at least one.
+        docs: Vec<Document>,
+    },
+    /// Opens a change stream, asks it for events, and closes it.
+    Follow {
+        /// What is watched.
+        target: OperationTarget,
+        /// How many calls ask for an event.
+        calls: u32,
+        /// Where the stream begins.
+        start: Start,
+        /// The filter that events have to match, where there is one.
+        filter: Option<Document>,
+        /// The greatest number of events in a batch, where it is given.
+        batch: Option<u32>,
+    },
+}
+
+/// Where a change stream begins.
+#[derive(Drop)]
+pub enum Start {
+    /// At the server's present end.
+    Nowhere,
+    /// Behind the event of this token.
+    ResumeAfter(ResumeToken),
+}
+
+/// A script, read whole.
+#[derive(Drop)]
+pub struct Script {
+    /// The jobs, numbered from 0.
+    pub jobs: Vec<Job>,
+    /// The numbers of the jobs that get a turn, in order.
+    pub order: Vec<u32>,
+    /// The wire version of the link.
+    pub wire: i32,
+    /// The first bytes of each id that is drawn.
+    pub ids: [u8; 3],
+    /// The time that new records get.
+    pub moment: DateTime,
+}

@@ -1,0 +1,223 @@
+use super::*;
+use mg_bson::{
+    Array, Binary, Bson, BsonError, CodeWithScope, DateTime, DbPointer, Document, ObjectId, Regex,
+    Timestamp,
+};
+use std::alloc::{AllocError, Global};
+use std::test::Fail;
+
+// ---- the top call
+
+/// The status and the text of a run over ends in memory, where these reads and writes fail and a call moves 3 bytes.
+fn status_and_text(
+    alloc: Global,
+    words: &[&str],
+    input: &str,
+    reads: &[u64],
+    writes: &[u64],
+) -> Result<(u8, String), AllocError> {
+    let mut owned = Vec::new(alloc);
+    for word in words {
+        owned.push(String::from_str(alloc, *word)?)?;
+    }
+    let input = Vec::from_slice(alloc, input.as_bytes())?;
+    let mut source = MemSource::new(input, 3, Vec::from_slice(alloc, reads)?);
+    let mut sink = MemSink::new(alloc, 3, Vec::from_slice(alloc, writes)?);
+    let finished = run_program(alloc, owned.as_slice(), &mut source, &mut sink);
+    let text = match std::str::from_utf8(sink.bytes()) {
+        Ok(text) => String::from_str(alloc, text)?,
+        Err(_) => String::new(alloc),
+    };
+    Ok((finished.status, text))
+}
+
+const FOLLOW_TWO_INSERTS: &str =
+    "{\"jobs\":[{\"calls\":3,\"job\":\"follow\",\"on\":\"app.c\"},{\"docs\":[{\"x\":1},{\"x\":2}],\"job\":\"insert\",\"ns\":\"app.c\"}],\"order\":[0,1,0,0,0]}";
+
+const FOLLOWED: &str = "job 0 follow opened
+job 0 call 0 nothing
+job 0 call 1 event {\"_id\":{\"_data\":\"0000000000000001\"},\"clusterTime\":{\"$timestamp\":{\"i\":1,\"t\":1}},\"documentKey\":{\"_id\":{\"$oid\":\"000000000000000000000000\"}},\"fullDocument\":{\"_id\":{\"$oid\":\"000000000000000000000000\"},\"x\":1},\"ns\":{\"coll\":\"c\",\"db\":\"app\"},\"operationType\":\"insert\"}
+job 0 call 2 event {\"_id\":{\"_data\":\"0000000000000002\"},\"clusterTime\":{\"$timestamp\":{\"i\":1,\"t\":2}},\"documentKey\":{\"_id\":{\"$oid\":\"000000000000000000000001\"}},\"fullDocument\":{\"_id\":{\"$oid\":\"000000000000000000000001\"},\"x\":2},\"ns\":{\"coll\":\"c\",\"db\":\"app\"},\"operationType\":\"insert\"}
+job 0 token {\"_data\":\"0000000000000002\"} alive yes
+job 0 follow done
+job 1 insert ok 2
+open none
+commands 4
+";
+
+const NO_TURNS: &str =
+    "{\"jobs\":[{\"calls\":3,\"job\":\"follow\",\"on\":\"app.c\"},{\"docs\":[{\"x\":1},{\"x\":2}],\"job\":\"insert\",\"ns\":\"app.c\"}],\"order\":[]}";
+
+const UNTURNED: &str = "job 0 follow unopened
+job 1 insert unfinished
+open none
+commands 0
+";
+
+const NO_JOBS: &str = "{\"jobs\":[],\"order\":[]}";
+
+#[test]
+fn statuses(rt: HostRuntime) -> Result<(), Fail> {
+    let usage = "usage: jobs run | jobs share | jobs grow N\n";
+    let not_built = "bad script: not built\n";
+    let rows: [(&[&str], &str, &[u64], &[u64], u8, &str); 11] = [
+        (&["run"], FOLLOW_TWO_INSERTS, &[], &[], 0, FOLLOWED),
+        (&["run"], NO_TURNS, &[], &[], 0, UNTURNED),
+        (&["run"], NO_JOBS, &[], &[], 0, "open none\ncommands 0\n"),
+        (&[], NO_JOBS, &[], &[], 1, usage),
+        (&["run", "run"], NO_JOBS, &[], &[], 1, usage),
+        (&["run"], NO_JOBS, &[0], &[], 2, "read fault\n"),
+        (&["run"], "[", &[], &[], 3, not_built),
+        (&["run"], "{}", &[], &[], 3, not_built),
+        (
+            &["run"],
+            "{\"jobs\":[],\"order\":[0]}",
+            &[],
+            &[],
+            3,
+            not_built,
+        ),
+        (&["run"], NO_TURNS, &[], &[1], 4, "job"),
+        (&[], "", &[], &[0], 4, ""),
+    ];
+    for (words, input, reads, writes, status, text) in rows {
+        let found = status_and_text(rt.alloc(), words, input, reads, writes)?;
+        assert_eq!(rt; found.0, status, "{input}");
+        assert_eq!(rt; found.1.as_str(), text);
+    }
+    Ok(())
+}
+
+// ---- values as JSON
+
+/// Whether the value prints as the text.
+fn prints(alloc: Global, value: &Bson, text: &str) -> bool {
+    match json_text(alloc, value) {
+        Ok(found) => found.as_str() == text,
+        Err(_) => false,
+    }
+}
+
+const ID: ObjectId = ObjectId([0, 1, 2, 3, 4, 5, 6, 7, 8, 9, 10, 255]);
+
+#[test]
+fn plain_values_as_json(rt: HostRuntime) -> Result<(), Fail> {
+    let date = DateTime { millis: -1 };
+    let timestamp = Timestamp {
+        time: 1,
+        increment: 4_294_967_295,
+    };
+    let rows = [
+        (
+            Bson::Double([0, 0, 0, 0, 0, 0, 240, 63]),
+            "{\"$double\":\"000000000000f03f\"}",
+        ),
+        (Bson::Undefined, "{\"$undefined\":true}"),
+        (
+            Bson::ObjectId(ID),
+            "{\"$oid\":\"000102030405060708090aff\"}",
+        ),
+        (Bson::Boolean(false), "false"),
+        (Bson::DateTime(date), "{\"$date\":-1}"),
+        (Bson::Null, "null"),
+        (Bson::Int32(-7), "-7"),
+        (
+            Bson::Timestamp(timestamp),
+            "{\"$timestamp\":{\"i\":4294967295,\"t\":1}}",
+        ),
+        (
+            Bson::Int64(i64::MIN),
+            "{\"$int64\":\"-9223372036854775808\"}",
+        ),
+        (
+            Bson::Decimal128([16; 16]),
+            "{\"$decimal\":\"10101010101010101010101010101010\"}",
+        ),
+        (Bson::MinKey, "{\"$minKey\":true}"),
+        (Bson::MaxKey, "{\"$maxKey\":true}"),
+    ];
+    for (value, text) in &rows {
+        assert!(rt; prints(rt.alloc(), value, *text), "{text}");
+    }
+    Ok(())
+}
+
+fn text(alloc: Global, text: &str) -> Result<String, AllocError> {
+    String::from_str(alloc, text)
+}
+
+#[test]
+fn texts_and_bytes_as_json(rt: HostRuntime) -> Result<(), Fail> {
+    let alloc = rt.alloc();
+    let regex = Regex {
+        pattern: text(alloc, "^a")?,
+        options: text(alloc, "i")?,
+    };
+    let pointer = DbPointer {
+        namespace: text(alloc, "app.c")?,
+        id: ID,
+    };
+    let bytes = Binary {
+        subtype: 0,
+        bytes: Vec::from_slice(alloc, &[10, 255])?,
+    };
+    let other = Binary {
+        subtype: 5,
+        bytes: Vec::from_slice(alloc, &[10, 255])?,
+    };
+    let rows = [
+        (Bson::String(text(alloc, "a\"\n")?), "\"a\\\"\\n\""),
+        (Bson::Binary(bytes), "{\"$bytes\":\"0aff\"}"),
+        (
+            Bson::Binary(other),
+            "{\"$binary\":{\"bytes\":\"0aff\",\"subtype\":5}}",
+        ),
+        (
+            Bson::Regex(regex),
+            "{\"$regex\":{\"options\":\"i\",\"pattern\":\"^a\"}}",
+        ),
+        (
+            Bson::DbPointer(pointer),
+            "{\"$dbPointer\":{\"id\":\"000102030405060708090aff\",\"ref\":\"app.c\"}}",
+        ),
+        (Bson::Code(text(alloc, "f()")?), "{\"$code\":\"f()\"}"),
+        (Bson::Symbol(text(alloc, "s")?), "{\"$symbol\":\"s\"}"),
+    ];
+    for (value, text) in &rows {
+        assert!(rt; prints(alloc, value, *text), "{text}");
+    }
+    Ok(())
+}
+
+/// The fields `b`, `a` and `a` again, with the numbers 1, 2 and 3.
+fn three_fields(alloc: Global) -> Result<Document, BsonError> {
+    let mut document = Document::new(alloc);
+    document.append("b", Bson::Int32(1))?;
+    document.append("a", Bson::Int32(2))?;
+    document.append("a", Bson::Int32(3))?;
+    Ok(document)
+}
+
+#[test]
+fn nested_values_as_json(rt: HostRuntime) -> Result<(), Fail> {
+    let alloc = rt.alloc();
+    let mut array = Array::new(alloc);
+    array.push(Bson::Null)?;
+    array.push(Bson::Document(three_fields(alloc)?))?;
+    let code = CodeWithScope {
+        code: text(alloc, "f()")?,
+        scope: three_fields(alloc)?,
+    };
+    let rows = [
+        (Bson::Document(three_fields(alloc)?), "{\"a\":3,\"b\":1}"),
+        (Bson::Array(array), "[null,{\"a\":3,\"b\":1}]"),
+        (
+            Bson::CodeWithScope(code),
+            "{\"$codeScope\":{\"code\":\"f()\",\"scope\":{\"a\":3,\"b\":1}}}",
+        ),
+    ];
+    for (value, text) in &rows {
+        assert!(rt; prints(alloc, value, *text), "{text}");
+    }
+    Ok(())
+}
