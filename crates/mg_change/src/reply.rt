@@ -1,7 +1,7 @@
 //! The replies to the commands of a change stream.
 use crate::token::ResumeToken;
 use mg_bson::{RawArray, RawDocument, RawDocumentBuf, RawValue};
-use mg_link::{CommandError, Error, ErrorKind, Labels, Malformed, Namespace};
+use mg_link::{Error, ErrorKind, Labels, Malformed, Namespace, Verdict, refusal, verdict_of};
 use std::alloc::Global;
 
 /// A cursor that a server holds, and a batch of it.
@@ -23,63 +23,13 @@ fn malformed<T>(what: Malformed) -> Result<T, Error> {
     })
 }
 
-/// Whether `ok` counts as 1, or none where it is no number.
-fn is_ok(reply: &RawDocument<'_>) -> Option<bool> {
-    match reply.get("ok") {
-        Some(RawValue::Int32(n)) => Some(n == 1),
-        Some(RawValue::Int64(n)) => Some(n == 1),
-        Some(RawValue::Double(bytes)) => Some(bytes == [0, 0, 0, 0, 0, 0, 0xf0, 0x3f]),
-        _ => None,
-    }
-}
-
-fn text_at(alloc: Global, reply: &RawDocument<'_>, name: &str) -> Result<String, Error> {
-    let text = match reply.get(name) {
-        Some(RawValue::String(text)) => text,
-        _ => "",
-    };
-    Ok(String::from_str(alloc, text)?)
-}
-
-fn labels_of(alloc: Global, reply: &RawDocument<'_>) -> Result<Labels, Error> {
-    let mut words = Vec::new(alloc);
-    if let Some(RawValue::Array(array)) = reply.get("errorLabels") {
-        let mut left = array.iter();
-        while let Some(item) = left.next() {
-            if let RawValue::String(word) = item {
-                words.push(String::from_str(alloc, word)?)?;
-            }
-        }
-    }
-    Ok(Labels::from_vec(words))
-}
-
-/// The error of a reply that refuses.
-fn refusal(alloc: Global, reply: &RawDocument<'_>, wire: i32) -> Result<Error, Error> {
-    let code = match reply.get("code") {
-        Some(RawValue::Int32(code)) => code,
-        _ => 0,
-    };
-    let code_name = text_at(alloc, reply, "codeName")?;
-    let message = text_at(alloc, reply, "errmsg")?;
-    let labels = labels_of(alloc, reply)?;
-    Ok(Error {
-        kind: ErrorKind::Command(CommandError {
-            code,
-            code_name,
-            message,
-        }),
-        labels,
-        wire_version: Some(wire),
-    })
-}
-
-/// Hands a refusal on as its error: a reply whose `ok` is a number other than 1, over a link of this wire version.
+/// Hands a refusal on as its error: a reply whose `ok` is a number other than 1, over a link of this wire version. A reply
+/// with no such number is malformed.
 pub fn check_reply(alloc: Global, reply: &RawDocument<'_>, wire: i32) -> Result<(), Error> {
-    match is_ok(reply) {
-        Some(true) => Ok(()),
-        Some(false) => Err(refusal(alloc, reply, wire)?),
-        None => malformed(Malformed::NoOk),
+    match verdict_of(reply) {
+        Verdict::Success => Ok(()),
+        Verdict::Refusal => Err(refusal(alloc, reply, wire)?),
+        Verdict::NoOk => malformed(Malformed::NoOk),
     }
 }
 

@@ -279,7 +279,7 @@ fn is_spoken_for(code: i32, labels: &Labels, wire_version: Option<i32>) -> bool
 }
 
 // An error of this kind that no reply was the cause of.
-fn plain(kind: ErrorKind) -> Error
+pub(crate) fn plain(kind: ErrorKind) -> Error
     ensures { result ≡ plain kind }
 {
     Error {

@@ -1,9 +1,72 @@
 //! What holds of the definitions.
-ghost use Rattle.std.specs.Prelude.{◌≡◌, ◌+◌, ◌<◌, ◌^◌, ℕ, List};
+ghost use Rattle.std.specs.Prelude.{◌≡◌, ◌+◌, ◌<◌, ◌≤◌, ◌^◌, ◌++◌, ℕ, suc, ℤ, pos, Bool, List, length};
+ghost use Rattle.mg_bson.specs.Raw.{fields};
+ghost use Rattle.mg_link.specs.History.{IsLegal, Step, opening, state_of};
 ghost use Rattle.mg_link.specs.Ids.{counted_id};
+ghost use Rattle.mg_link.specs.Kept.{IsAllowed, IsByRules, IsStoreState, Kept, given_of, is_started, made_of, state_of_kept, steps_of};
+ghost use Rattle.mg_link.specs.Log.{Call, see, waiting};
+ghost use Rattle.mg_link.specs.Rules.{answer_of, refusal};
+ghost use Rattle.mg_link.specs.Standing.{Stands, history_before};
+ghost use Rattle.mg_link.specs.State.{Entry, Start, State, Watch, events_between};
 
 /// Any 2^64 ids that a counter gives in a row differ.
 pub fn counted_ids_differ()
     ensures { (prefix : List ℕ) (first i j : ℕ) → i < 2 ^ 64 → j < 2 ^ 64
         → counted_id prefix (first + i) ≡ counted_id prefix (first + j) → i ≡ j }
+{}
+
+/// Later steps add entries, and move none.
+pub fn entries_grow()
+    ensures { (before later : List Step) → (more : List Entry) × ((state_of (before ++ later)).changes ≡ (state_of before).changes ++ more) }
+{}
+
+/// What a watch is to see of more entries begins with what it is to see of fewer.
+pub fn view_grows()
+    ensures { (w : Watch) (entries more : List Entry) (from : ℕ) → from ≤ length entries
+        → events_between w (entries ++ more) from (length (entries ++ more))
+        ≡ events_between w entries from (length entries) ++ events_between w more 0 (length more) }
+{}
+
+/// A watch opened at the same place in every longer history.
+pub fn opening_stays()
+    ensures { (before later : List Step) (position : ℕ) (start : Start) → position < length before
+        → opening (before ++ later) position start ≡ opening before position start }
+{}
+
+/// Where a log stands in a legal history, each front of the log stands in a legal front of the history: in what came
+/// before the first step of the calls that are left out.
+pub fn front_stands()
+    ensures { (calls later : List Call) (history : List Step) → IsLegal history → Stands (calls ++ later) history
+        → IsLegal (history_before later history) × Stands calls (history_before later history) }
+{}
+
+/// A log stands where it stood, also with less seen.
+pub fn unseen_stands()
+    ensures { (calls : List Call) (history : List Step) (place : ℕ) → Stands calls history → Stands (see place waiting calls) history }
+{}
+
+/// What the store in memory answers by its rules is a reply that a server may give. `s` is a state of a store that gave
+/// `given` ids to cursors, and `started` says whether it took a step before. The step adds what the store's history has
+/// it add, and fewer than 2^64 entries stand behind it. Then the store is in such a state again.
+pub fn rules_are_allowed()
+    ensures { (s : State) (given : ℕ) (started : Bool) (kept : Kept) → IsStoreState s given started
+        → length s.changes + length (made_of s given started kept).entries < 2 ^ 64
+        → fields kept.reply ≡ (answer_of s (pos (suc given)) (fields kept.command)).reply
+        → IsAllowed s given started kept }
+{}
+
+/// So is any refusal, also where the rules would answer otherwise.
+pub fn refusal_is_allowed()
+    ensures { (s : State) (given : ℕ) (started : Bool) (kept : Kept) (code : ℤ) (labels : List (List ℕ))
+        → IsStoreState s given started
+        → length s.changes + length (made_of s given started kept).entries < 2 ^ 64
+        → fields kept.reply ≡ refusal code labels
+        → IsAllowed s given started kept }
+{}
+
+/// What a store kept of its steps is a legal history where each reply is that of the rules or a refusal that somebody
+/// chose, and the store ends in a state of a store. Fewer than 2^64 entries stand at the end.
+pub fn kept_is_legal()
+    ensures { (kept : List Kept) → IsByRules kept → length (state_of_kept kept).changes < 2 ^ 64
+        → IsLegal (steps_of kept) × IsStoreState (state_of_kept kept) (given_of kept) (is_started kept) }
 {}

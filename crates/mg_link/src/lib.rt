@@ -1,35 +1,49 @@
-//! The way to a server and what comes back: the ends of a program, errors, ids, and the log of a link.
+//! The way to a server and what comes back: links and their logs, commands that are tried again, errors, ids, and the
+//! ends of a program. Its definitions say what a server holds, may reply and shows.
 #![tactic(auto)]
 
+mod action;
+mod attempt;
 mod codes;
 mod ends;
 mod error;
 mod error_text;
+mod exec;
 mod history;
 mod id_source;
 mod labels;
 pub mod laws;
+mod link;
 mod log;
 mod memory;
 mod namespace;
 mod reading;
+mod reply;
+mod script_link;
 mod std_ends;
 mod writing;
 
+pub use action::{Action, Step};
 pub use ends::{ReadFailed, Sink, Source, WriteFailed};
 pub use error::{
     BadArgument, CommandError, Error, ErrorKind, GridFsErrorKind, GridFsFileIdentifier,
     IndexedFailure, Malformed, Mismatch, OutOfMemory, WriteFailure,
 };
+pub use exec::{Exec, Retry};
 pub use history::{HistoryStep, Receipt};
 pub use id_source::{CountedIds, IdSource};
 pub use labels::Labels;
+pub use link::{Link, LinkError, Polled, Ticket};
 pub use log::{Log, LoggedCall, Seen};
 pub use memory::{MemSink, MemSource};
 pub use namespace::{Namespace, OperationTarget};
 pub use reading::{InputError, read_all};
+pub use reply::{Verdict, code_of, refusal, verdict_of};
+pub use script_link::{ScriptLink, Scripted, ScriptedSeen};
 pub use std_ends::{StdSink, StdSource};
 pub use writing::write_all;
 
+#[cfg(test)]
+mod exec_tests;
 #[cfg(test)]
 mod tests;

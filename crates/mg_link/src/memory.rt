@@ -19,13 +19,13 @@ pub struct MemSource {
 
 impl MemSource {
     ghost use Rattle.std.specs.Prelude.{◌≡◌, ◌<◌};
-    ghost use Rattle.mg_link.specs.Memory.{source_left};
+    ghost use Rattle.mg_link.specs.Memory.{source_faults, source_left};
 
     /// A source that gives at most `piece` bytes a call, and fails the calls of these numbers, from 0.
     pub fn new(bytes: Vec<u8>, piece: u32, failing: Vec<u64>) -> MemSource
         requires { 0 < piece }
         ensures left { source_left result ≡ bytes.items }
-        ensures faults { result.faults ≡ 0 }
+        ensures faults { source_faults result ≡ 0 }
     {
         MemSource {
             bytes,
@@ -40,11 +40,11 @@ impl MemSource {
 
 impl Source for MemSource {
     ghost use Rattle.std.specs.Prelude.{Some};
-    ghost use Rattle.mg_link.specs.Memory.{source_left};
+    ghost use Rattle.mg_link.specs.Memory.{source_faults, source_left};
 
     ghost left = { λ s. Some (source_left s) };
 
-    ghost faults = { λ s. s.faults };
+    ghost faults = { source_faults };
 
     fn read(&mut self, buf: &mut [u8]) -> Result<usize, ReadFailed> {
         let call = self.calls;
@@ -74,13 +74,13 @@ pub struct MemSink {
 
 impl MemSink {
     ghost use Rattle.std.specs.Prelude.{◌≡◌, ◌<◌, []};
-    ghost use Rattle.mg_link.specs.Memory.{sink_taken};
+    ghost use Rattle.mg_link.specs.Memory.{sink_faults, sink_taken};
 
     /// An empty sink that takes at most `piece` bytes a call, and fails the calls of these numbers, from 0.
     pub fn new(alloc: Global, piece: u32, failing: Vec<u64>) -> MemSink
         requires { 0 < piece }
         ensures taken { sink_taken result ≡ [] }
-        ensures faults { result.faults ≡ 0 }
+        ensures faults { sink_faults result ≡ 0 }
     {
         MemSink {
             bytes: Vec::new(alloc),
@@ -108,11 +108,11 @@ impl MemSink {
 
 impl Sink for MemSink {
     ghost use Rattle.std.specs.Prelude.{Some};
-    ghost use Rattle.mg_link.specs.Memory.{sink_taken};
+    ghost use Rattle.mg_link.specs.Memory.{sink_faults, sink_taken};
 
     ghost taken = { λ s. Some (sink_taken s) };
 
-    ghost faults = { λ s. s.faults };
+    ghost faults = { sink_faults };
 
     fn write(&mut self, bytes: &[u8]) -> Result<usize, WriteFailed> {
         let call = self.calls;

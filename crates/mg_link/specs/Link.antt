@@ -1,0 +1,100 @@
+-- What the calls of a link do to its tickets and its log.
+use Rattle.std.specs.Prelude.{◌≡◌, ◌≢◌, ◌≤◌, ◌++◌, ◌∷◌, ℕ, ℤ, Option, Some, None, List, [], length, slice_get, IsSome, Result, Ok, Err}
+use Rattle.mg_link.specs.declared.link.LinkError.{LinkError}
+use Rattle.mg_link.specs.declared.link.LinkError.TheVariants as error
+use Rattle.mg_link.specs.declared.link.Polled.{Polled}
+use Rattle.mg_link.specs.declared.link.Polled.TheVariants as polled
+use Rattle.mg_link.specs.declared.link.Ticket.{Ticket}
+use Rattle.mg_link.specs.Causes.{Rose}
+use Rattle.mg_link.specs.Log.{Sight, waiting, reply, fault, memory, Call, see}
+
+-- the tickets that are out, each with the place of its call in the log
+abbrev pub Awaited : Type 0
+Awaited = ℕ → Option ℕ
+
+-- the calls, where the link tells them
+abbrev pub Told : Type 0
+Told = Option (List Call)
+
+-- a call with this command is added at the end of a log that is told
+abbrev pub Adds : Told → Told → List ℕ → Sight → Type 0
+Adds old new command seen = (calls : List Call) → old ≡ Some calls → (position : Option ℕ) × (new ≡ Some (calls ++ record { command = command; position = position; seen = seen } ∷ []))
+
+-- the call at this place of a log that is told, which was waiting, has seen this
+abbrev pub Sees : Told → Told → Option ℕ → Sight → Type 0
+Sees old new place seen = (calls : List Call) → old ≡ Some calls → (k : ℕ) × (call : Call) × (place ≡ Some k) × (slice_get calls k ≡ Some call) × (call.seen ≡ waiting) × (new ≡ Some (see k seen calls))
+
+-- a command was started: the number of its ticket is new, and goes with the call that the log has more
+pub record Starts (old new : Awaited) (log log' : Told) (number : ℕ) (command : List ℕ) : Type 0 where
+  pub fresh : old number ≡ None
+  pub out : IsSome (new number)
+  pub place : (calls : List Call) → log ≡ Some calls → new number ≡ Some (length calls)
+  pub rest : (m : ℕ) → m ≢ number → new m ≡ old m
+  pub adds : Adds log log' command waiting
+
+-- a command was sent, and nothing more comes of it: no ticket is out for it, and its call has seen this
+pub record Sends (old new : Awaited) (log log' : Told) (command : List ℕ) (seen : Sight) : Type 0 where
+  pub rest : (m : ℕ) → new m ≡ old m
+  pub adds : Adds log log' command seen
+
+-- nothing was sent
+pub record SendsNothing (old new : Awaited) (log log' : Told) : Type 0 where
+  pub rest : (m : ℕ) → new m ≡ old m
+  pub log_same : log' ≡ log
+
+-- the reply is not there yet: the ticket is given back
+pub record Waits (old new : Awaited) (log log' : Told) (number given : ℕ) : Type 0 where
+  pub same : given ≡ number
+  pub rest : (m : ℕ) → new m ≡ old m
+  pub log_same : log' ≡ log
+
+-- the call of this number has seen its answer, and its ticket is gone
+pub record Ends (old new : Awaited) (log log' : Told) (number : ℕ) (seen : Sight) : Type 0 where
+  pub gone : new number ≡ None
+  pub rest : (m : ℕ) → m ≢ number → new m ≡ old m
+  pub sees : Sees log log' (old number) seen
+
+-- what a start does
+abbrev pub StartMeans : Awaited → Awaited → Told → Told → List ℕ → Result Ticket LinkError → Type 0
+StartMeans old new log log' command (Ok number) = Starts old new log log' number command
+StartMeans old new log log' command (Err error.Fault) = Sends old new log log' command fault
+StartMeans old new log log' command (Err error.Memory) = SendsNothing old new log log'
+
+-- what a poll does
+abbrev pub PollMeans : Awaited → Awaited → Told → Told → ℕ → Polled → Type 0
+PollMeans old new log log' number (polled.Pending given) = Waits old new log log' number given
+PollMeans old new log log' number (polled.Reply bytes) = Ends old new log log' number (reply bytes.items)
+PollMeans old new log log' number polled.Failed = Ends old new log log' number fault
+PollMeans old new log log' number polled.Memory = Ends old new log log' number memory
+
+-- the count of pending replies rises where a reply pends, and only there
+abbrev pub PollPends : Polled → ℕ → ℕ → Type 0
+PollPends (polled.Pending given) before now = Rose before now
+PollPends (polled.Reply bytes) before now = now ≡ before
+PollPends polled.Failed before now = now ≡ before
+PollPends polled.Memory before now = now ≡ before
+
+-- a prompt link lets nothing pend, and loses nothing by a fault
+abbrev pub StartsAtOnce : Result Ticket LinkError → Type 0
+StartsAtOnce (Ok number) = Unit {0}
+StartsAtOnce (Err error.Fault) = ⊥
+StartsAtOnce (Err error.Memory) = Unit {0}
+
+abbrev pub AnswersAtOnce : Polled → Type 0
+AnswersAtOnce (polled.Pending given) = ⊥
+AnswersAtOnce (polled.Reply bytes) = Unit {0}
+AnswersAtOnce polled.Failed = ⊥
+AnswersAtOnce polled.Memory = Unit {0}
+
+-- a link that is prompt stays so, and neither of its counts rises
+pub record StaysPrompt (prompts' : Type 0) (faulted faulted' pended pended' : ℕ) : Type 0 where
+  pub stays : prompts'
+  pub no_fault : faulted' ≡ faulted
+  pub no_pend : pended' ≡ pended
+
+-- what holds of a link after more calls: its counts did not fall, its wire version is the same, and it is prompt if it was
+pub record Later (faulted faulted' pended pended' : ℕ) (version version' : ℤ) (prompts prompts' : Type 0) : Type 0 where
+  pub faults : faulted ≤ faulted'
+  pub pends : pended ≤ pended'
+  pub wire : version' ≡ version
+  pub prompt : prompts → StaysPrompt prompts' faulted faulted' pended pended'

@@ -1,0 +1,131 @@
+-- What a server holds (change streams, find, getMore and killCursors specifications).
+use Rattle.std.specs.Prelude.{ℕ, suc, ◌+◌, ◌-◌, ◌*◌, ◌^◌, ◌&&◌, ℤ, Bool, true, false, Option, Some, None, List, [], ◌∷◌, ◌++◌, length, take, drop, map, nat_lt, if◌then◌else◌}
+use Rattle.std.specs.List.{filter}
+use Rattle.std.specs.Ordering.{int_eq}
+use Rattle.std.specs.Str.{bytes_eq}
+use Rattle.mg_bson.specs.Tree.{Tree, Fields}
+use Rattle.mg_link.specs.Namespace.{Space, Target, database, collection, cluster}
+use Rattle.mg_link.specs.Filter.{Condition, matches, is_same}
+
+-- what happened to a document or a collection
+pub data Change : Type 0 where
+  inserts : Change
+  updates : Change
+  replaces : Change
+  deletes : Change
+  drops : Change
+  invalidates : Change
+
+-- a time, as BSON orders timestamps: seconds first, then the increment
+abbrev pub time_of : ℕ → ℕ → ℕ
+time_of seconds increment = seconds * 2 ^ 32 + increment
+
+-- an entry of the list of changes; its event has the token as its `_id`
+pub record Entry : Type 0 where
+  pub token : Tree
+  pub time : ℕ
+  pub space : Space
+  pub change : Change
+  pub event : Fields
+
+-- what a change stream is to see
+pub record Watch : Type 0 where
+  pub target : Target
+  pub filter : List Condition
+
+-- an open cursor: the documents that are left of a query, or a watch and its place in the list of changes
+pub data Cursor : Type 0 where
+  query : (left : List Fields) → Cursor
+  watching : (watch : Watch) → (place : ℕ) → Cursor
+
+pub record State : Type 0 where
+  -- the documents of each collection that is there
+  pub documents : Space → Option (List Fields)
+  pub indexes : Space → List Fields
+  -- place p stands before entry p, counted from 0
+  pub changes : List Entry
+  -- the place that a token names
+  pub tokens : Tree → Option ℕ
+  pub cursors : ℤ → Option Cursor
+  -- the ids that were ever given to cursors
+  pub given : ℤ → Bool
+  pub now : ℕ
+
+-- a server with nothing in it
+abbrev pub nothing : State
+nothing = record { documents = λ space. None; indexes = λ space. []; changes = []; tokens = λ token. None; cursors = λ id. None; given = λ id. false; now = 0 }
+
+abbrev pub is_space : Space → Space → Bool
+is_space s t = bytes_eq s.db t.db && bytes_eq s.coll t.coll
+
+-- ---- what a watch sees
+
+abbrev pub is_invalidate : Change → Bool
+is_invalidate inserts = false
+is_invalidate updates = false
+is_invalidate replaces = false
+is_invalidate deletes = false
+is_invalidate drops = false
+is_invalidate invalidates = true
+
+abbrev pub unless : Bool → Bool → Bool
+unless b c = if b then false else c
+
+-- an entry belongs to a collection, to a database or to the cluster; only a collection has its invalidate entries
+abbrev pub is_of : Target → Entry → Bool
+is_of (collection space) e = is_space space e.space
+is_of (database db) e = unless (is_invalidate e.change) (bytes_eq db e.space.db)
+is_of cluster e = unless (is_invalidate e.change) true
+
+-- the watch is to see the entry
+abbrev pub sees : Watch → Entry → Bool
+sees w e = is_of w.target e && matches w.filter e.event
+
+-- the entries from one place up to another
+abbrev pub between : List Entry → ℕ → ℕ → List Entry
+between changes from upto = take (upto - from) (drop from changes)
+
+-- the view: those that a watch is to see
+abbrev pub seen_between : Watch → List Entry → ℕ → ℕ → List Entry
+seen_between w changes from upto = filter (sees w) (between changes from upto)
+
+-- their events
+abbrev pub events_between : Watch → List Entry → ℕ → ℕ → List Fields
+events_between w changes from upto = map (λ (e : Entry). e.event) (seen_between w changes from upto)
+
+-- where a watch begins
+pub data Start : Type 0 where
+  nowhere : Start
+  after : (token : Tree) → Start
+  at_time : (time : ℕ) → Start
+
+-- how many entries have a time below this
+abbrev pub count_before : ℕ → List Entry → ℕ
+count_before time [] = 0
+count_before time (e ∷ es) = if nat_lt e.time time then suc (count_before time es) else count_before time es
+
+-- the place that a watch opens at
+abbrev pub start_place : State → Start → Option ℕ
+start_place s nowhere = Some (length s.changes)
+start_place s (after token) = s.tokens token
+start_place s (at_time time) = Some (count_before time s.changes)
+
+-- ---- parts that change
+
+abbrev pub put_documents : Space → Option (List Fields) → (Space → Option (List Fields)) → Space → Option (List Fields)
+put_documents space ds documents other = if is_space other space then ds else documents other
+
+abbrev pub put_cursor : ℤ → Option Cursor → (ℤ → Option Cursor) → ℤ → Option Cursor
+put_cursor id cursor cursors other = if int_eq other id then cursor else cursors other
+
+-- no cursor with one of the ids is left
+abbrev pub without_cursors : List ℤ → (ℤ → Option Cursor) → ℤ → Option Cursor
+without_cursors [] cursors = cursors
+without_cursors (id ∷ ids) cursors = without_cursors ids (put_cursor id None cursors)
+
+abbrev pub give : ℤ → (ℤ → Bool) → ℤ → Bool
+give id given other = if int_eq other id then true else given other
+
+-- the token names the place from now on
+abbrev pub name : Tree → ℕ → (Tree → Option ℕ) → Tree → Option ℕ
+name token place tokens other = if is_same other token then Some place else tokens other

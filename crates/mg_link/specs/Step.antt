@@ -1,0 +1,194 @@
+-- What a server may reply, and the state after it (insert, change streams, getMore and killCursors specifications).
+use Rattle.std.specs.Prelude.{◌≡◌, ◌≢◌, ◌⊎◌, ℕ, suc, zero, ◌+◌, ◌<◌, ◌≤◌, ◌&&◌, ℤ, pos, Bool, true, false, Option, Some, None, option_map, unwrap_or, List, [], ◌∷◌, ◌++◌, length, map, slice_get, codes, if◌then◌else◌}
+use Rattle.std.specs.Ordering.{int_eq}
+use Rattle.mg_bson.specs.Tree.{Tree, string, document, Fields, no_fields, field}
+use Rattle.mg_bson.specs.Find.{get}
+use Rattle.mg_link.specs.Namespace.{Space}
+use Rattle.mg_link.specs.Filter.{is_same}
+use Rattle.mg_link.specs.State.{Change, inserts, invalidates, Entry, Watch, Cursor, watching, State, Start, seen_between, events_between, start_place, is_invalidate, put_documents, put_cursor, without_cursors, give, name}
+use Rattle.mg_link.specs.Commands.{Asked, asks_insert, asks_watch, asks_more, asks_kill, asks_other, Failure, Told, refuses, inserted, opened, gave, killed, garbled}
+
+-- a token and the place that it names
+pub record Named : Type 0 where
+  pub token : Tree
+  pub place : ℕ
+
+-- what a step adds: entries and tokens, and the time behind it
+pub record Made : Type 0 where
+  pub entries : List Entry
+  pub tokens : List Named
+  pub now : ℕ
+
+-- a step that adds nothing
+abbrev pub made_nothing : State → Made
+made_nothing s = record { entries = []; tokens = []; now = s.now }
+
+-- ---- the state after a step
+
+-- the token of each entry names the place behind it
+abbrev pub name_entries : ℕ → List Entry → (Tree → Option ℕ) → Tree → Option ℕ
+name_entries place [] tokens = tokens
+name_entries place (e ∷ es) tokens = name_entries (suc place) es (name e.token (suc place) tokens)
+
+abbrev pub name_all : List Named → (Tree → Option ℕ) → Tree → Option ℕ
+name_all [] tokens = tokens
+name_all (n ∷ ns) tokens = name_all ns (name n.token n.place tokens)
+
+-- the state with what a step adds
+unfoldable pub grown : State → Made → State
+grown s made = record s { changes = s.changes ++ made.entries; tokens = name_all made.tokens (name_entries (length s.changes) made.entries s.tokens); now = made.now }
+
+-- the failures list this document
+abbrev pub is_listed : ℕ → List Failure → Bool
+is_listed n [] = false
+is_listed n (f ∷ fs) = if int_eq f.index (pos n) then true else is_listed n fs
+
+-- the documents of an insert, numbered from n, that its failures do not list; an ordered one stops at the first that they list
+abbrev pub written : Bool → List Failure → ℕ → List Fields → List Fields
+written ordered failures n [] = []
+written ordered failures n (d ∷ ds) = if is_listed n failures then (if ordered then [] else written ordered failures (suc n) ds) else d ∷ written ordered failures (suc n) ds
+
+-- the documents of a collection, none where it is not there
+abbrev pub documents_of : State → Space → List Fields
+documents_of s space = unwrap_or (s.documents space) []
+
+-- a cursor of a watch at the place that the token names
+abbrev pub watching_at : State → Watch → Tree → Cursor
+watching_at s w token = watching w (unwrap_or (s.tokens token) 0)
+
+-- a reply with id 0 leaves the server without the cursor
+abbrev pub opened_cursor : State → Watch → ℤ → Tree → State
+opened_cursor s w id token = if int_eq id (pos 0) then s else record s { cursors = put_cursor id (Some (watching_at s w token)) s.cursors; given = give id s.given }
+
+abbrev pub moved : State → Tree → Option Cursor → Option Cursor
+moved s token None = None
+moved s token (Some (watching w place)) = Some (watching_at s w token)
+moved s token (Some other) = Some other
+
+abbrev pub moved_cursor : State → ℤ → ℤ → Tree → State
+moved_cursor s id left token = record s { cursors = put_cursor id (if int_eq left (pos 0) then None else moved s token (s.cursors id)) s.cursors }
+
+-- the codes with which a server refuses a cursor that it does not hold, or that was killed
+abbrev pub ends_cursor : ℤ → Bool
+ends_cursor code = if int_eq code (pos 43) then true else int_eq code (pos 237)
+
+-- what the command does beside what the step adds
+unfoldable pub effect : State → Asked → Told → State
+effect s (asks_insert space documents ordered) (inserted n failures) = record s { documents = put_documents space (Some (documents_of s space ++ written ordered failures 0 documents)) s.documents }
+effect s (asks_watch watch start) (opened id space events token time) = opened_cursor s watch id token
+effect s (asks_more id space) (gave left other events token) = moved_cursor s id left token
+effect s (asks_more id space) (refuses code labels) = if ends_cursor code then record s { cursors = put_cursor id None s.cursors } else s
+effect s (asks_kill ids) killed = record s { cursors = without_cursors ids s.cursors }
+effect s command reply = s
+
+-- the state after a step
+abbrev pub next : State → Asked → Told → Made → State
+next s command reply made = effect (grown s made) command reply
+
+-- ---- what a server may reply
+
+-- the tokens of new entries, each with the place behind it
+abbrev pub entry_names : ℕ → List Entry → List Named
+entry_names place [] = []
+entry_names place (e ∷ es) = record { token = e.token; place = suc place } ∷ entry_names (suc place) es
+
+-- each token is new, and names a place that is there
+abbrev pub AreNew : ℕ → (Tree → Option ℕ) → List Named → Type 0
+AreNew end tokens [] = Unit {0}
+AreNew end tokens (n ∷ ns) = (tokens n.token ≡ None) × (n.place ≤ end) × AreNew end (name n.token n.place tokens) ns
+
+abbrev pub AreWithin : ℕ → ℕ → List Entry → Type 0
+AreWithin from upto [] = Unit {0}
+AreWithin from upto (e ∷ es) = (from ≤ e.time) × (e.time ≤ upto) × AreWithin from upto es
+
+-- what a step adds is new, and the time does not fall
+pub record MayGrow (s : State) (made : Made) : Type 0 where
+  pub later : s.now ≤ made.now
+  pub times : AreWithin s.now made.now made.entries
+  pub names : AreNew (length s.changes + length made.entries) s.tokens (entry_names (length s.changes) made.entries ++ made.tokens)
+
+-- a command that reads adds no entry
+abbrev pub AddsNoEntry : Made → Type 0
+AddsNoEntry made = made.entries ≡ []
+
+-- a refusal changes nothing but tokens
+pub record MayRefuse (s : State) (made : Made) : Type 0 where
+  pub no_entry : AddsNoEntry made
+  pub same_time : made.now ≡ s.now
+
+-- no document of the list has the id
+abbrev pub HasNoId : Tree → List Fields → Type 0
+HasNoId id [] = Unit {0}
+HasNoId id (d ∷ ds) = ((other : Tree) → get (codes "_id") d ≡ Some other → is_same id other ≡ false) × HasNoId id ds
+
+-- each new document has an id that none before it has
+abbrev pub HaveNewIds : List Fields → List Fields → Type 0
+HaveNewIds there [] = Unit {0}
+HaveNewIds there (d ∷ ds) = ((id : Tree) × (get (codes "_id") d ≡ Some id) × HasNoId id there) × HaveNewIds (there ++ d ∷ []) ds
+
+-- the event of an inserted document: its `_id` is the token
+pub record IsInsertEvent (space : Space) (d : Fields) (e : Entry) : Type 0 where
+  pub at : e.space ≡ space
+  pub change_is : e.change ≡ inserts
+  pub token_is : get (codes "_id") e.event ≡ Some e.token
+  pub kind : get (codes "operationType") e.event ≡ Some (string (codes "insert"))
+  pub ns : get (codes "ns") e.event ≡ Some (document (field (codes "db") (string space.db) (field (codes "coll") (string space.coll) no_fields)))
+  pub full : get (codes "fullDocument") e.event ≡ Some (document d)
+
+-- one entry for each document, in order
+abbrev pub AreInsertEvents : Space → List Fields → List Entry → Type 0
+AreInsertEvents space [] [] = Unit {0}
+AreInsertEvents space (d ∷ ds) (e ∷ es) = IsInsertEvent space d e × AreInsertEvents space ds es
+AreInsertEvents space [] (e ∷ es) = ⊥
+AreInsertEvents space (d ∷ ds) [] = ⊥
+
+pub record MayInsert (s : State) (space : Space) (documents : List Fields) (ordered : Bool) (n : ℤ) (failures : List Failure) (made : Made) : Type 0 where
+  pub count : n ≡ pos (length (written ordered failures 0 documents))
+  pub ids : HaveNewIds (documents_of s space) (written ordered failures 0 documents)
+  pub entries : AreInsertEvents space (written ordered failures 0 documents) made.entries
+
+-- an invalidate entry is the last that a batch holds
+abbrev pub EndsAtInvalidate : List Entry → ℤ → Type 0
+EndsAtInvalidate [] id = Unit {0}
+EndsAtInvalidate (e ∷ []) id = is_invalidate e.change ≡ true → id ≡ pos 0
+EndsAtInvalidate (e ∷ f ∷ es) id = (is_invalidate e.change ≡ false) × EndsAtInvalidate (f ∷ es) id
+
+-- a batch of a watch from one place: the server chooses where it ends, and the token names that place
+pub record MayGive (s : State) (w : Watch) (from : ℕ) (id : ℤ) (events : List Fields) (token : Tree) : Type 0 where
+  pub upto : ℕ
+  pub forward : from ≤ upto
+  pub within : upto ≤ length s.changes
+  pub these : events ≡ events_between w s.changes from upto
+  pub named : s.tokens token ≡ Some upto
+  pub ends : EndsAtInvalidate (seen_between w s.changes from upto) id
+
+-- a new watch: s is the state before the step, and after it the tokens and the time of s' hold
+pub record MayOpen (s s' : State) (w : Watch) (start : Start) (id : ℤ) (events : List Fields) (token : Tree) (time : ℕ) (made : Made) : Type 0 where
+  pub no_entry : AddsNoEntry made
+  pub from : ℕ
+  pub begins : start_place s' start ≡ Some from
+  pub batch : MayGive s' w from id events token
+  pub fresh : id ≢ pos 0 → s.given id ≡ false
+  pub time_is : time ≡ s'.now
+
+-- a watch goes on
+pub record MayGoOn (s s' : State) (id left : ℤ) (events : List Fields) (token : Tree) (made : Made) : Type 0 where
+  pub no_entry : AddsNoEntry made
+  pub watch : Watch
+  pub at : ℕ
+  pub stood : s.cursors id ≡ Some (watching watch at)
+  pub batch : MayGive s' watch at left events token
+  pub same : (left ≡ id) ⊎ (left ≡ pos 0)
+
+abbrev pub MayTell : State → State → Asked → Told → Made → Type 0
+MayTell s s' command (refuses code labels) made = MayRefuse s made
+MayTell s s' (asks_insert space documents ordered) (inserted n failures) made = MayInsert s space documents ordered n failures made
+MayTell s s' (asks_watch watch start) (opened id space events token time) made = MayOpen s s' watch start id events token time made
+MayTell s s' (asks_more id space) (gave left other events token) made = MayGoOn s s' id left events token made
+MayTell s s' (asks_kill ids) killed made = AddsNoEntry made
+MayTell s s' command reply made = ⊥
+
+-- a server in this state may reply so to the command, and add this
+pub record May (s : State) (command : Asked) (reply : Told) (made : Made) : Type 0 where
+  pub grows : MayGrow s made
+  pub tells : MayTell s (grown s made) command reply made
