@@ -9,5 +9,7 @@ pub mod Frames
 pub mod RoundTrip
 pub mod Along
 pub mod Joining
+pub mod Known
+pub mod ReadLimits
 pub mod Counts
 pub mod Depths

@@ -27,7 +27,7 @@ fn are_fields(bytes: &[u8], levels: u32) -> bool
 {
     let mut rest = bytes;
     while !rest.is_empty() {
-        match split_element(rest) {
+        match split_element(rest, false) {
             None => return false,
             Some(element) => {
                 if !is_value(element.kind, element.value, levels) {

@@ -53,6 +53,7 @@ pub enum Kind {
 impl Kind {
     // The kind of the byte.
     #[tactic(auto, unfolding(crate::specs::Kind::kind_at))]
+    #[inline(always)]
     pub(crate) fn from_byte(byte: u8) -> Option<Kind>
         ensures { result ≡ kind_at byte }
     {

@@ -1,9 +1,9 @@
 //! What holds of the encoding and the decoding, for the proofs of callers.
-ghost use Rattle.std.specs.Prelude.{◌≡◌, ◌<◌, ◌^◌, length, Some};
+ghost use Rattle.std.specs.Prelude.{◌≡◌, ◌<◌, ◌≤◌, ◌^◌, List, ℕ, length, false, Some};
 ghost use Rattle.mg_bson.specs.Tree.{Tree, Fields};
-ghost use Rattle.mg_bson.specs.Bytes.{bytes, value_bytes, kind_of};
+ghost use Rattle.mg_bson.specs.Bytes.{bytes, value_bytes, kind_of, levels};
 ghost use Rattle.mg_bson.specs.Reading.{doc};
-ghost use Rattle.mg_bson.specs.Writable.{IsSound, IsWritable};
+ghost use Rattle.mg_bson.specs.Writable.{IsSound, IsWritable, max_levels, fields_have_bad_name};
 
 /// A document that may be written is what its bytes are read as.
 pub fn read_after_write()
@@ -20,4 +20,10 @@ pub fn written_once()
 pub fn same_bytes()
     ensures { (t u : Tree) → IsSound t → IsSound u → length (value_bytes t) < 2 ^ 31
         → kind_of t ≡ kind_of u → value_bytes t ≡ value_bytes u → t ≡ u }
+{}
+
+/// A document that was read has at most 100 levels, and no name or text of a regular expression with the character 0. So
+/// [`to_bytes`](crate::to_bytes) can refuse it for its size alone.
+pub fn read_within_limits()
+    ensures { (bs : List ℕ) (d : Fields) → doc bs ≡ Some d → (levels d ≤ max_levels) × (fields_have_bad_name d ≡ false) }
 {}

@@ -24,12 +24,21 @@ impl ObjectId {
         }
     }
 
-    /// The 24 digits of the id, in lower case, as a text of its own.
+    /// The 24 digits of the id, in lower case, as a text of its own. It is read as the same id.
     pub fn to_hex(self, alloc: Global) -> Result<String, AllocError>
-        ensures { IfOk result (λ text. string_bytes text ≡ encode_lower self.0) }
+        ensures digits { IfOk result (λ text. string_bytes text ≡ encode_lower self.0) }
+        ensures read_back { IfOk result (λ text. decode_of (string_bytes text) ≡ Ok self.0) }
     {
-        hex::encode(alloc, self.0.as_slice())
+        digits_of(alloc, self.0.as_slice())
     }
+}
+
+// The digits of the bytes, in lower case.
+fn digits_of(alloc: Global, bytes: &[u8]) -> Result<String, AllocError>
+    ensures digits { IfOk result (λ text. string_bytes text ≡ encode_lower bytes.now) }
+    ensures read_back { IfOk result (λ text. decode_of (string_bytes text) ≡ Ok bytes.now) }
+{
+    hex::encode(alloc, bytes)
 }
 
 impl fmt::Display for ObjectId {

@@ -1,5 +1,5 @@
 //! Documents as bytes that were checked once, and what is lent of them.
-ghost use Rattle.std.specs.Prelude.{◌≡◌, ◌↔◌, IsTrue, IfOk, IfErr, MatchOption, MatchResult, None, option_map};
+ghost use Rattle.std.specs.Prelude.{◌≡◌, ◌↔◌, IsTrue, IfOk, IfErr, IfSome, MatchOption, MatchResult, None, option_map};
 ghost use Rattle.std.specs.Cmp.{partial_equiv_from_equiv};
 ghost use Rattle.std.specs.Cmp.Lexicographic.{nat_list_eq_equiv};
 ghost use Rattle.std.specs.Str.{bytes_eq};
@@ -20,7 +20,7 @@ use crate::limits::MAX_LEVELS;
 use crate::object_id::ObjectId;
 use crate::read::{
     Element, array_8, array_12, array_16, binary_of, body_of, boolean_of, i32_at, i64_at,
-    pointer_of, regex_of, scope_of, split_element, text_of, u32_at,
+    known_text_of, pointer_of, regex_of, scope_of, split_element, u32_at,
 };
 use crate::tree::{Bson, DateTime, Timestamp};
 use std::alloc::{AllocError, Global};
@@ -179,15 +179,15 @@ impl<'a> RawArray<'a> {
         self.iter().next().is_none()
     }
 
-    /// How many values there are. Each of them is passed over.
+    /// How many values there are. Each of them is passed over unread.
     pub fn len(&self) -> usize
         ensures { result ≡ items_length (items self.now) }
     {
         // No array has more values than bytes, so the count fits.
         let _bytes = self.bytes;
         let mut count = 0;
-        let mut left = self.iter();
-        while let Some(_) = left.next() {
+        let mut left = self.iter().left;
+        while let Some(_) = left.next_element() {
             count += 1;
         }
         count
@@ -196,6 +196,7 @@ impl<'a> RawArray<'a> {
 
 impl<'a> RawItems<'a> {
     /// The next value, if one is left.
+    #[inline(always)]
     pub fn next(&mut self) -> Option<RawValue<'a>>
         ensures { MatchOption result (items_left self.old ≡ no_items)
             (λ v. items_left self.old ≡ item (value v) (items_left self.new)) }
@@ -312,7 +313,8 @@ impl<'a> RawDocument<'a> {
         let mut left = self.iter();
         while let Some(element) = left.next_element() {
             if element.name == name {
-                return open(element.kind, element.value);
+                let (_, value) = open(element.name, element.kind, element.value)?;
+                return Some(value);
             }
         }
         None
@@ -321,125 +323,137 @@ impl<'a> RawDocument<'a> {
 
 impl<'a> RawIter<'a> {
     // The next element, whose value is not opened.
+    #[inline(always)]
     fn next_element(&mut self) -> Option<Element<'a>>
         ensures { MatchOption result (fields_left self.old ≡ no_fields)
             (λ e. IsValue (spelling e) × (fields_left self.old ≡ field e.name.now (spelled (spelling e)) (fields_left self.new))) }
     {
-        let element = split_element(self.rest)?;
+        let element = split_element(self.rest, true)?;
         self.rest = element.rest;
         Some(element)
     }
 
     /// The next name and value, if one is left.
+    #[inline(always)]
     pub fn next(&mut self) -> Option<(&'a str, RawValue<'a>)>
         ensures { MatchOption result (fields_left self.old ≡ no_fields)
             (λ r. fields_left self.old ≡ field r.0.now (value r.1) (fields_left self.new)) }
     {
         let element = self.next_element()?;
-        let value = open(element.kind, element.value)?;
-        Some((element.name, value))
+        open(element.name, element.kind, element.value)
     }
 }
 
-// The value of the kind that the bytes spell.
-fn open(kind: Kind, bytes: &[u8]) -> Option<RawValue<'_>>
+// The name, and the value of the kind that the bytes spell: in one, so that the value is made where it is wanted.
+#[inline(always)]
+fn open<'a>(name: &'a str, kind: Kind, bytes: &'a [u8]) -> Option<(&'a str, RawValue<'a>)>
     requires { IsValue (record { kind = kind; bytes = bytes.now }) }
-    ensures { option_map value result ≡ value_at (doc_at 99) kind bytes.now }
+    ensures name { IfSome result (λ r. r.0.now ≡ name.now) }
+    ensures value { option_map (λ r. value r.1) result ≡ value_at (doc_at 99) kind bytes.now }
 {
     match kind {
         Kind::Double => {
             if bytes.len() != 8 {
                 return None;
             }
-            Some(RawValue::Double(array_8(bytes)))
+            Some((name, RawValue::Double(array_8(bytes))))
         }
-        Kind::String => { Some(RawValue::String(text_of(bytes)?)) }
-        Kind::Document => { Some(RawValue::Document(RawDocument { bytes })) }
-        Kind::Array => { Some(RawValue::Array(RawArray { bytes })) }
+        Kind::String => { Some((name, RawValue::String(known_text_of(bytes)))) }
+        Kind::Document => { Some((name, RawValue::Document(RawDocument { bytes }))) }
+        Kind::Array => { Some((name, RawValue::Array(RawArray { bytes }))) }
         Kind::Binary => {
             let (subtype, bytes) = binary_of(bytes)?;
-            Some(RawValue::Binary(subtype, bytes))
+            Some((name, RawValue::Binary(subtype, bytes)))
         }
         Kind::Undefined => {
             if !bytes.is_empty() {
                 return None;
             }
-            Some(RawValue::Undefined)
+            Some((name, RawValue::Undefined))
         }
         Kind::ObjectId => {
             if bytes.len() != 12 {
                 return None;
             }
-            Some(RawValue::ObjectId(ObjectId(array_12(bytes))))
+            Some((name, RawValue::ObjectId(ObjectId(array_12(bytes)))))
         }
-        Kind::Boolean => { Some(RawValue::Boolean(boolean_of(bytes)?)) }
+        Kind::Boolean => { Some((name, RawValue::Boolean(boolean_of(bytes)?))) }
         Kind::DateTime => {
             if bytes.len() != 8 {
                 return None;
             }
-            Some(RawValue::DateTime(DateTime {
-                millis: i64_at(bytes),
-            }))
+            Some((
+                name,
+                RawValue::DateTime(DateTime {
+                    millis: i64_at(bytes),
+                }),
+            ))
         }
         Kind::Null => {
             if !bytes.is_empty() {
                 return None;
             }
-            Some(RawValue::Null)
+            Some((name, RawValue::Null))
         }
         Kind::Regex => {
             let (pattern, options) = regex_of(bytes)?;
-            Some(RawValue::Regex(pattern, options))
+            Some((name, RawValue::Regex(pattern, options)))
         }
         Kind::DbPointer => {
             let (namespace, id) = pointer_of(bytes)?;
-            Some(RawValue::DbPointer(namespace, ObjectId(array_12(id))))
+            Some((name, RawValue::DbPointer(namespace, ObjectId(array_12(id)))))
         }
-        Kind::Code => { Some(RawValue::Code(text_of(bytes)?)) }
-        Kind::Symbol => { Some(RawValue::Symbol(text_of(bytes)?)) }
+        Kind::Code => { Some((name, RawValue::Code(known_text_of(bytes)))) }
+        Kind::Symbol => { Some((name, RawValue::Symbol(known_text_of(bytes)))) }
         Kind::CodeWithScope => {
             let (code, scope) = scope_of(bytes)?;
-            Some(RawValue::CodeWithScope(code, RawDocument { bytes: scope }))
+            Some((
+                name,
+                RawValue::CodeWithScope(code, RawDocument { bytes: scope }),
+            ))
         }
         Kind::Int32 => {
             if bytes.len() != 4 {
                 return None;
             }
-            Some(RawValue::Int32(i32_at(bytes)))
+            Some((name, RawValue::Int32(i32_at(bytes))))
         }
         Kind::Timestamp => {
             if bytes.len() != 8 {
                 return None;
             }
             let time = u32_at(&bytes[4..]);
-            Some(RawValue::Timestamp(Timestamp {
-                time,
-                increment: u32_at(bytes),
-            }))
+            Some((
+                name,
+                RawValue::Timestamp(Timestamp {
+                    time,
+                    increment: u32_at(bytes),
+                }),
+            ))
         }
         Kind::Int64 => {
             if bytes.len() != 8 {
                 return None;
             }
-            Some(RawValue::Int64(i64_at(bytes)))
+            Some((name, RawValue::Int64(i64_at(bytes))))
         }
         Kind::Decimal128 => {
             if bytes.len() != 16 {
                 return None;
             }
-            Some(RawValue::Decimal128(array_16(bytes)))
+            Some((name, RawValue::Decimal128(array_16(bytes))))
         }
         Kind::MinKey => {
             if !bytes.is_empty() {
                 return None;
             }
-            Some(RawValue::MinKey)
+            Some((name, RawValue::MinKey))
         }
         Kind::MaxKey => {
             if !bytes.is_empty() {
                 return None;
             }
-            Some(RawValue::MaxKey)
+            Some((name, RawValue::MaxKey))
         }
     }
 }

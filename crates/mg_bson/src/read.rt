@@ -1,5 +1,7 @@
 //! Bytes, taken apart one level at a time. Nothing is known of them beforehand.
-ghost use Rattle.std.specs.Prelude.{◌≡◌, ◌≤◌, ◌<◌, ◌==◌, length, option_map, is_some, IfSome};
+ghost use Rattle.std.specs.Prelude.{◌≡◌, ◌≤◌, ◌<◌, ◌==◌, length, option_map, is_some, IfSome, IsTrue, Some, true};
+ghost use Rattle.std.specs.Str.{IsUtf8};
+ghost use Rattle.mg_bson.specs.Raw.{AreFields};
 ghost use Rattle.mg_bson.specs.Reading.{le32_at, le64_at, cut, utf8_of, ahead, two_texts, extent, element_at, body_at, text_at, boolean_at, binary_at, regex_at, pointer_at, text_and_rest, scope_parts};
 ghost use Rattle.std.specs.Int.{w32, w64, cast_signed};
 ghost use Rattle.mg_bson.specs.Tree.{boolean, binary, regex, db_pointer};
@@ -8,15 +10,16 @@ ghost use Rattle.mg_bson.specs.ReadView.{element_view};
 use crate::kind::Kind;
 use std::str;
 
-// An element, and the bytes behind it.
+// An element, and the bytes behind it. The kind stands last, so that a move copies whole words.
 #[derive(Drop)]
 pub(crate) struct Element<'a> {
-    pub(crate) kind: Kind,
     pub(crate) name: &'a str,
     pub(crate) value: &'a [u8],
     pub(crate) rest: &'a [u8],
+    pub(crate) kind: Kind,
 }
 
+#[inline(always)]
 #[tactic(auto, unfolding(crate::specs::Reading::le32_at))]
 pub(crate) fn u32_at(bytes: &[u8]) -> u32
     requires { 4 ≤ length bytes.now }
@@ -25,6 +28,7 @@ pub(crate) fn u32_at(bytes: &[u8]) -> u32
     u32::from_le_bytes([bytes[0], bytes[1], bytes[2], bytes[3]])
 }
 
+#[inline(always)]
 #[tactic(auto, unfolding(crate::specs::Reading::le64_at))]
 pub(crate) fn u64_at(bytes: &[u8]) -> u64
     requires { 8 ≤ length bytes.now }
@@ -35,6 +39,7 @@ pub(crate) fn u64_at(bytes: &[u8]) -> u64
     ])
 }
 
+#[inline(always)]
 pub(crate) fn i32_at(bytes: &[u8]) -> i32
     requires { 4 ≤ length bytes.now }
     ensures { result ≡ cast_signed w32 (le32_at bytes.now) }
@@ -42,6 +47,7 @@ pub(crate) fn i32_at(bytes: &[u8]) -> i32
     u32_at(bytes).cast_signed()
 }
 
+#[inline(always)]
 pub(crate) fn i64_at(bytes: &[u8]) -> i64
     requires { 8 ≤ length bytes.now }
     ensures { result ≡ cast_signed w64 (le64_at bytes.now) }
@@ -49,21 +55,40 @@ pub(crate) fn i64_at(bytes: &[u8]) -> i64
     u64_at(bytes).cast_signed()
 }
 
-// The bytes before the first 0, and those behind it.
-fn cut_at_zero(bytes: &[u8]) -> Option<(&[u8], &[u8])>
-    ensures { option_map (λ p. (p.0.now, p.1.now)) result ≡ cut bytes.now }
+// The bytes before the first 0, those behind it, and whether the former are all ASCII.
+#[inline(always)]
+fn cut_at_zero(bytes: &[u8]) -> Option<(&[u8], &[u8], bool)>
+    ensures cut { option_map (λ p. (p.0.now, p.1.now)) result ≡ cut bytes.now }
+    ensures ascii { IfSome result (λ p. IsTrue p.2 → IsUtf8 p.0.now) }
 {
+    let mut is_ascii = true;
     for (i, byte) in bytes.iter().enumerate() {
         if *byte == 0 {
-            return Some((&bytes[..i], &bytes[i + 1..]));
+            return Some((&bytes[..i], &bytes[i + 1..], is_ascii));
         }
+        is_ascii = is_ascii && *byte < 128;
     }
     None
 }
 
-fn checked_text(bytes: &[u8]) -> Option<&str>
+// The text of bytes that are known to be one, and are not tested again.
+#[inline(always)]
+fn known_text(bytes: &[u8]) -> &str
+    requires { IsUtf8 bytes.now }
+    ensures { result.now ≡ bytes.now }
+{
+    unsafe { str::from_utf8_unchecked(bytes) }
+}
+
+// The bytes, where they are a text. They are tested where that is not known.
+#[inline(always)]
+fn checked_text(bytes: &[u8], is_known: bool) -> Option<&str>
+    requires { IsTrue is_known → IsUtf8 bytes.now }
     ensures { option_map (λ s. s.now) result ≡ utf8_of bytes.now }
 {
+    if is_known {
+        return Some(known_text(bytes));
+    }
     match str::from_utf8(bytes) {
         Ok(text) => Some(text),
         Err(_) => None,
@@ -71,6 +96,7 @@ fn checked_text(bytes: &[u8]) -> Option<&str>
 }
 
 // The number in front, and some more: how long a value is that its length begins.
+#[inline(always)]
 #[tactic(auto, unfolding(crate::specs::Reading::ahead))]
 fn number_ahead(more: usize, bytes: &[u8]) -> Option<usize>
     requires { more < 1000 }
@@ -87,12 +113,13 @@ fn number_ahead(more: usize, bytes: &[u8]) -> Option<usize>
 fn two_texts_of(bytes: &[u8]) -> Option<usize>
     ensures { result ≡ two_texts bytes.now }
 {
-    let (first, behind) = cut_at_zero(bytes)?;
-    let (second, _) = cut_at_zero(behind)?;
+    let (first, behind, _) = cut_at_zero(bytes)?;
+    let (second, _, _) = cut_at_zero(behind)?;
     Some(first.len() + second.len() + 2)
 }
 
 // How many bytes a value of the kind takes.
+#[inline(always)]
 fn extent_of(kind: Kind, bytes: &[u8]) -> Option<usize>
     ensures { result ≡ extent kind bytes.now }
 {
@@ -121,9 +148,11 @@ fn extent_of(kind: Kind, bytes: &[u8]) -> Option<usize>
     }
 }
 
-// The element in front, whose value is not read yet.
+// The element in front, whose value is not read yet. The name of an element that was checked before is not tested again.
+#[inline(always)]
 #[tactic(auto, unfolding(crate::specs::Reading::element_at))]
-pub(crate) fn split_element(bytes: &[u8]) -> Option<Element<'_>>
+pub(crate) fn split_element(bytes: &[u8], is_checked: bool) -> Option<Element<'_>>
+    requires { IsTrue is_checked → AreFields bytes.now }
     ensures { option_map element_view result ≡ element_at bytes.now }
 {
     let (byte, behind) = match bytes {
@@ -131,22 +160,23 @@ pub(crate) fn split_element(bytes: &[u8]) -> Option<Element<'_>>
         [byte, behind @ ..] => (*byte, behind),
     };
     let kind = Kind::from_byte(byte)?;
-    let (name, after) = cut_at_zero(behind)?;
-    let name = checked_text(name)?;
+    let (name, after, is_ascii) = cut_at_zero(behind)?;
+    let name = checked_text(name, is_ascii | is_checked)?;
     let len = extent_of(kind, after)?;
     if after.len() < len {
         return None;
     }
     let (value, rest) = after.split_at(len);
     Some(Element {
-        kind,
         name,
         value,
         rest,
+        kind,
     })
 }
 
 // The elements of a document, between its length and its last byte.
+#[inline(always)]
 #[tactic(auto, unfolding(crate::specs::Reading::body_at))]
 pub(crate) fn body_of(bytes: &[u8]) -> Option<&[u8]>
     ensures { option_map (λ b. b.now) result ≡ body_at bytes.now }
@@ -167,6 +197,7 @@ pub(crate) fn body_of(bytes: &[u8]) -> Option<&[u8]>
     Some(&bytes[4..len - 1])
 }
 
+#[inline(always)]
 #[tactic(auto, unfolding(crate::specs::Reading::text_at))]
 pub(crate) fn text_of(bytes: &[u8]) -> Option<&str>
     ensures { option_map (λ s. s.now) result ≡ text_at bytes.now }
@@ -181,9 +212,20 @@ pub(crate) fn text_of(bytes: &[u8]) -> Option<&str>
     if bytes[len - 1] != 0 {
         return None;
     }
-    checked_text(&bytes[4..len - 1])
+    checked_text(&bytes[4..len - 1], false)
 }
 
+// The text of bytes that were found to be one before, and are not tested again.
+#[inline(always)]
+#[tactic(auto, using(crate::proofs::Known::text_long))]
+pub(crate) fn known_text_of(bytes: &[u8]) -> &str
+    requires { is_some (text_at bytes.now) ≡ true }
+    ensures { text_at bytes.now ≡ Some result.now }
+{
+    known_text(&bytes[4..bytes.len() - 1])
+}
+
+#[inline(always)]
 pub(crate) fn boolean_of(bytes: &[u8]) -> Option<bool>
     ensures { option_map boolean result ≡ boolean_at bytes.now }
 {
@@ -194,6 +236,7 @@ pub(crate) fn boolean_of(bytes: &[u8]) -> Option<bool>
     }
 }
 
+#[inline(always)]
 #[tactic(auto, unfolding(crate::specs::Reading::binary_at))]
 pub(crate) fn binary_of(bytes: &[u8]) -> Option<(u8, &[u8])>
     ensures { option_map (λ p. binary p.0 p.1.now) result ≡ binary_at bytes.now }
@@ -212,10 +255,10 @@ pub(crate) fn binary_of(bytes: &[u8]) -> Option<(u8, &[u8])>
 pub(crate) fn regex_of(bytes: &[u8]) -> Option<(&str, &str)>
     ensures { option_map (λ p. regex p.0.now p.1.now) result ≡ regex_at bytes.now }
 {
-    let (pattern, behind) = cut_at_zero(bytes)?;
-    let pattern = checked_text(pattern)?;
-    let (options, rest) = cut_at_zero(behind)?;
-    let options = checked_text(options)?;
+    let (pattern, behind, is_ascii) = cut_at_zero(bytes)?;
+    let pattern = checked_text(pattern, is_ascii)?;
+    let (options, rest, is_ascii) = cut_at_zero(behind)?;
+    let options = checked_text(options, is_ascii)?;
     if !rest.is_empty() {
         return None;
     }
@@ -262,6 +305,7 @@ pub(crate) fn scope_of(bytes: &[u8]) -> Option<(&str, &[u8])>
     text_and_rest_of(&bytes[4..])
 }
 
+#[inline(always)]
 pub(crate) fn array_8(bytes: &[u8]) -> [u8; 8]
     requires { length bytes.now ≡ 8 }
     ensures { result ≡ bytes.now }
@@ -271,6 +315,7 @@ pub(crate) fn array_8(bytes: &[u8]) -> [u8; 8]
     array
 }
 
+#[inline(always)]
 pub(crate) fn array_12(bytes: &[u8]) -> [u8; 12]
     requires { length bytes.now ≡ 12 }
     ensures { result ≡ bytes.now }
@@ -280,6 +325,7 @@ pub(crate) fn array_12(bytes: &[u8]) -> [u8; 12]
     array
 }
 
+#[inline(always)]
 pub(crate) fn array_16(bytes: &[u8]) -> [u8; 16]
     requires { length bytes.now ≡ 16 }
     ensures { result ≡ bytes.now }

@@ -2,131 +2,201 @@ use super::*;
 use std::alloc::Global;
 use std::test::*;
 
-// A document for each kind, and how its value of the name `x` prints.
-const VECTORS: [(&str, &str); 30] = [
-    ("0500000000", "None"),
-    (
-        "10000000017800000000000000f03f00",
-        "Some(Double([0, 0, 0, 0, 0, 0, 240, 63]))",
-    ),
-    ("0f0000000278000300000068690000", "Some(String(\"hi\"))"),
-    ("0f00000002780003000000c3a90000", "Some(String(\"é\"))"),
-    (
-        "10000000027800040000006100620000",
-        "Some(String(\"a\\0b\"))",
-    ),
-    (
-        "1100000003780009000000087900010000",
-        "Some(Document(Document { fields: [Field { name: \"y\", value: Boolean(true) }] }))",
-    ),
-    (
-        "170000000478000f0000000a3000103100010000000000",
-        "Some(Array(Array { items: [Null, Int32(1)] }))",
-    ),
-    (
-        "0f0000000578000200000000010200",
-        "Some(Binary(Binary { subtype: 0, bytes: [1, 2] }))",
-    ),
-    (
-        "13000000057800060000000202000000010200",
-        "Some(Binary(Binary { subtype: 2, bytes: [2, 0, 0, 0, 1, 2] }))",
-    ),
-    ("0800000006780000", "Some(Undefined)"),
-    (
-        "140000000778000102030405060708090a0b0c00",
-        "Some(ObjectId(ObjectId([1, 2, 3, 4, 5, 6, 7, 8, 9, 10, 11, 12])))",
-    ),
-    ("090000000878000000", "Some(Boolean(false))"),
-    ("090000000878000100", "Some(Boolean(true))"),
-    (
-        "10000000097800ffffffffffffffff00",
-        "Some(DateTime(DateTime { millis: -1 }))",
-    ),
-    ("080000000a780000", "Some(Null)"),
-    (
-        "0c0000000b78006100690000",
-        "Some(Regex(Regex { pattern: \"a\", options: \"i\" }))",
-    ),
-    (
-        "1a0000000c78000200000062000102030405060708090a0b0c00",
-        "Some(DbPointer(DbPointer { namespace: \"b\", id: ObjectId([1, 2, 3, 4, 5, 6, 7, 8, 9, 10, 11, 12]) }))",
-    ),
-    ("0e0000000d780002000000660000", "Some(Code(\"f\"))"),
-    ("0e0000000e780002000000730000", "Some(Symbol(\"s\"))"),
-    (
-        "170000000f78000f000000020000006600050000000000",
-        "Some(CodeWithScope(CodeWithScope { code: \"f\", scope: Document { fields: [] } }))",
-    ),
-    ("0c0000001078000100000000", "Some(Int32(1))"),
-    ("0c000000107800feffffff00", "Some(Int32(-2))"),
-    (
-        "10000000117800010000000200000000",
-        "Some(Timestamp(Timestamp { time: 2, increment: 1 }))",
-    ),
-    (
-        "10000000127800000000000001000000",
-        "Some(Int64(1099511627776))",
-    ),
-    ("10000000127800fdffffffffffffff00", "Some(Int64(-3))"),
-    (
-        "180000001378000000000000000000000000000000403000",
-        "Some(Decimal128([0, 0, 0, 0, 0, 0, 0, 0, 0, 0, 0, 0, 0, 0, 64, 48]))",
-    ),
-    ("08000000ff780000", "Some(MinKey)"),
-    ("080000007f780000", "Some(MaxKey)"),
-    ("10000000107800010000000878000100", "Some(Int32(1))"),
-    ("070000000a0000", "None"),
-];
+// A document for each kind, a line each: its bytes, and how its value of the name `x` prints.
+const VECTORS: &str = "\
+0500000000 None
+10000000017800000000000000f03f00 Some(Double([0, 0, 0, 0, 0, 0, 240, 63]))
+0d000000027800010000000000 Some(String(\"\"))
+0f0000000278000300000068690000 Some(String(\"hi\"))
+160000000278000a000000c3a9e29883f09f98800000 Some(String(\"é☃😀\"))
+10000000027800040000006100620000 Some(String(\"a\\0b\"))
+0d000000037800050000000000 Some(Document(Document { fields: [] }))
+1100000003780009000000087900010000 Some(Document(Document { fields: [Field { name: \"y\", value: Boolean(true) }] }))
+0d000000047800050000000000 Some(Array(Array { items: [] }))
+170000000478000f0000000a3000103100010000000000 Some(Array(Array { items: [Null, Int32(1)] }))
+0d000000057800000000000000 Some(Binary(Binary { subtype: 0, bytes: [] }))
+0f0000000578000200000000010200 Some(Binary(Binary { subtype: 0, bytes: [1, 2] }))
+13000000057800060000000202000000010200 Some(Binary(Binary { subtype: 2, bytes: [2, 0, 0, 0, 1, 2] }))
+120000000578000500000002090000000100 Some(Binary(Binary { subtype: 2, bytes: [9, 0, 0, 0, 1] }))
+0e00000005780001000000ff0700 Some(Binary(Binary { subtype: 255, bytes: [7] }))
+0800000006780000 Some(Undefined)
+140000000778000102030405060708090a0b0c00 Some(ObjectId(ObjectId([1, 2, 3, 4, 5, 6, 7, 8, 9, 10, 11, 12])))
+090000000878000000 Some(Boolean(false))
+090000000878000100 Some(Boolean(true))
+10000000097800ffffffffffffffff00 Some(DateTime(DateTime { millis: -1 }))
+080000000a780000 Some(Null)
+0a0000000b7800000000 Some(Regex(Regex { pattern: \"\", options: \"\" }))
+0e0000000b7800c3a900696d0000 Some(Regex(Regex { pattern: \"é\", options: \"im\" }))
+1b0000000c7800030000006200000102030405060708090a0b0c00 Some(DbPointer(DbPointer { namespace: \"b\\0\", id: ObjectId([1, 2, 3, 4, 5, 6, 7, 8, 9, 10, 11, 12]) }))
+0f0000000d78000300000066000000 Some(Code(\"f\\0\"))
+0f0000000e78000300000073000000 Some(Symbol(\"s\\0\"))
+180000000f78001000000003000000660000050000000000 Some(CodeWithScope(CodeWithScope { code: \"f\\0\", scope: Document { fields: [] } }))
+190000000f7800110000000100000000080000000a79000000 Some(CodeWithScope(CodeWithScope { code: \"\", scope: Document { fields: [Field { name: \"y\", value: Null }] } }))
+0c0000001078000100000000 Some(Int32(1))
+0c0000001078000000008000 Some(Int32(-2147483648))
+1000000011780001000000feffffff00 Some(Timestamp(Timestamp { time: 4294967294, increment: 1 }))
+10000000127800000000000001000000 Some(Int64(1099511627776))
+10000000127800fdffffffffffffff00 Some(Int64(-3))
+180000001378000000000000000000000000000000403000 Some(Decimal128([0, 0, 0, 0, 0, 0, 0, 0, 0, 0, 0, 0, 0, 0, 64, 48]))
+08000000ff780000 Some(MinKey)
+080000007f780000 Some(MaxKey)
+10000000107800010000000878000100 Some(Int32(1))
+0b0000000a0006c3a90000 None
+";
+
+// Arrays whose names are no numbers in order, and what is written in their place.
+const RENAMED: &str = "\
+130000000478000b0000000a37000a61000000 130000000478000b0000000a30000a31000000
+140000000478000c0000000a000a000a30000000 160000000478000e0000000a30000a31000a32000000
+150000000478000d0000000ac3a9000a3031000000 130000000478000b0000000a30000a31000000
+";
 
 // Bytes that are no document, and why.
-const DAMAGED: [(&str, &str); 23] = [
-    ("", "no bytes"),
-    ("04000000", "no last 0"),
-    ("0400000000", "a length below all bytes"),
-    ("0600000000", "a length above all bytes"),
-    ("ffffffff00", "a length below 0"),
-    ("0500000001", "a last byte that is not 0"),
-    ("050000000000", "a byte after the end"),
-    ("0c00000010780001000000", "the last 0 missing"),
-    ("0b00000010780001000000", "a number cut short"),
-    ("0800000000780000", "the kind 0"),
-    ("0800000014780000", "an unknown kind"),
-    ("080000000a787800", "a name that does not end"),
-    ("080000000aff0000", "a name that is not UTF-8"),
-    ("090000000878000200", "a boolean of 2"),
-    ("0f00000002780003000000c3280000", "a text that is not UTF-8"),
-    (
-        "0f0000000278000200000068690000",
-        "a text that ends too early",
-    ),
-    ("0f0000000278000300000068690100", "a text without its 0"),
-    ("0c0000000278000000000000", "a text of length 0"),
-    (
-        "0f0000000578000300000000010200",
-        "bytes that run past the end",
-    ),
-    (
-        "1100000003780008000000087900010000",
-        "a document inside that ends too early",
-    ),
-    (
-        "11000000037800ff000000087900010000",
-        "a document inside that runs past the end",
-    ),
-    (
-        "170000000f78000e000000020000006600050000000000",
-        "code with scope, of a wrong length",
-    ),
-    (
-        "0a0000000b7800610000",
-        "a regular expression with no options",
-    ),
-];
+const DAMAGED: &str = "\
+04000000 a length and no end
+ no bytes
+0000000000 a length of 0
+0400000000 a length one too small
+0600000000 a length one too large
+ffffffff00 a length below 0
+0500008000 a length whose top bit is set
+0500000001 an end that is not 0
+050000000000 a byte after the end
+0c00000010780001000000 the end missing
+0b00000010780001000000 the end missing, and the length too
+0b0000001078000100000000 the length of a fuller document one too small
+0d0000001078000100000000 the length of a fuller document one too large
+0800000000780000 the kind 0, which is none
+0800000014780000 the kind 20, which is none
+0800000020780000 the kind 32, which is none
+080000007e780000 the kind 126, which is none
+0800000080780000 the kind 128, which is none
+08000000fe780000 the kind 254, which is none
+080000000a787800 a name without its 0
+080000000aff0000 a name with a byte that begins no character
+080000000a800000 a name with a byte that only follows
+080000000ac30000 a name with a character cut short
+090000000ac0800000 a name with a 0 in two bytes
+0a0000000aeda0800000 a name with a surrogate
+0b0000000af49080800000 a name with a character too high
+0f0000000178000101010101010100 one byte too few of a floating point number
+1100000001780001010101010101010000 one byte too many of a floating point number
+13000000077800010101010101010101010100 one byte too few of a object id
+150000000778000101010101010101010101010000 one byte too many of a object id
+0f0000000978000101010101010100 one byte too few of a time in milliseconds
+1100000009780001010101010101010000 one byte too many of a time in milliseconds
+0b00000010780001010100 one byte too few of a number of 32 bits
+0d000000107800010101010000 one byte too many of a number of 32 bits
+0f0000001178000101010101010100 one byte too few of a time of the log
+1100000011780001010101010101010000 one byte too many of a time of the log
+0f0000001278000101010101010100 one byte too few of a number of 64 bits
+1100000012780001010101010101010000 one byte too many of a number of 64 bits
+1700000013780001010101010101010101010101010100 one byte too few of a decimal
+19000000137800010101010101010101010101010101010000 one byte too many of a decimal
+090000000678000000 a byte behind undefined
+090000000a78000000 a byte behind null
+09000000ff78000000 a byte behind the least key
+090000007f78000000 a byte behind the greatest key
+0800000008780000 a boolean without its byte
+090000000878000200 a boolean of 2
+09000000087800ff00 a boolean of 255
+0f0000000278000200000068690000 the length of a string one too small
+0f0000000278000400000068690000 the length of a string one too large
+0f0000000278000000000068690000 the length of a string of 0
+0f000000027800ffffffff68690000 the length of a string below 0
+0f000000027800ffffff7f68690000 the length of a string of all bits but one
+0f0000000278000300000068690100 a string without its 0
+0f00000002780003000000c3280000 a string that is not UTF-8
+0e00000002780002000000c30000 a string that ends in a character
+0f0000000d78000200000068690000 the length of a code one too small
+0f0000000d78000400000068690000 the length of a code one too large
+0f0000000d78000000000068690000 the length of a code of 0
+0f0000000d7800ffffffff68690000 the length of a code below 0
+0f0000000d7800ffffff7f68690000 the length of a code of all bits but one
+0f0000000d78000300000068690100 a code without its 0
+0f0000000d780003000000c3280000 a code that is not UTF-8
+0e0000000d780002000000c30000 a code that ends in a character
+0f0000000e78000200000068690000 the length of a symbol one too small
+0f0000000e78000400000068690000 the length of a symbol one too large
+0f0000000e78000000000068690000 the length of a symbol of 0
+0f0000000e7800ffffffff68690000 the length of a symbol below 0
+0f0000000e7800ffffff7f68690000 the length of a symbol of all bits but one
+0f0000000e78000300000068690100 a symbol without its 0
+0f0000000e780003000000c3280000 a symbol that is not UTF-8
+0e0000000e780002000000c30000 a symbol that ends in a character
+1b0000000c7800020000006869000102030405060708090a0b0c00 the length of a namespace one too small
+1b0000000c7800040000006869000102030405060708090a0b0c00 the length of a namespace one too large
+1b0000000c7800000000006869000102030405060708090a0b0c00 the length of a namespace of 0
+1b0000000c7800ffffffff6869000102030405060708090a0b0c00 the length of a namespace below 0
+1b0000000c7800ffffff7f6869000102030405060708090a0b0c00 the length of a namespace of all bits but one
+1b0000000c7800030000006869010102030405060708090a0b0c00 a namespace without its 0
+1b0000000c780003000000c328000102030405060708090a0b0c00 a namespace that is not UTF-8
+1a0000000c780002000000c3000102030405060708090a0b0c00 a namespace that ends in a character
+190000000c78000200000062000102030405060708090a0b00 one byte too few of a pointer's id
+1b0000000c78000200000062000102030405060708090a0b0c0100 one byte too many of a pointer's id
+1100000003780008000000083000010000 the length of an inner document one too small
+110000000378000a000000083000010000 the length of an inner document one too large
+1100000003780004000000083000010000 the length of an inner document below all bytes
+1100000003780000000000083000010000 the length of an inner document of 0
+11000000037800ffffffff083000010000 the length of an inner document below 0
+1100000003780009000000083000010100 an inner document whose end is not 0
+10000000037800080000000aff000000 a name that is not UTF-8 in an inner document
+160000000378000e00000002300002000000ff000000 a text that is not UTF-8 in an inner document
+1100000003780009000000083000020000 a boolean of 2 in an inner document
+1100000004780008000000083000010000 the length of an inner array one too small
+110000000478000a000000083000010000 the length of an inner array one too large
+1100000004780004000000083000010000 the length of an inner array below all bytes
+1100000004780000000000083000010000 the length of an inner array of 0
+11000000047800ffffffff083000010000 the length of an inner array below 0
+1100000004780009000000083000010100 an inner array whose end is not 0
+10000000047800080000000aff000000 a name that is not UTF-8 in an inner array
+160000000478000e00000002300002000000ff000000 a text that is not UTF-8 in an inner array
+1100000004780009000000083000020000 a boolean of 2 in an inner array
+0f0000000578000100000000010200 the length of a binary one too small
+0f0000000578000300000000010200 the length of a binary one too large
+0f000000057800ffffffff00010200 the length of a binary below 0
+0f000000057800fcffffff00010200 the length of a binary that makes the value one byte long
+0f000000057800fbffffff00010200 the length of a binary that makes the value empty
+0c0000000578000000000000 a binary without its subtype
+0c0000000b7800ff00690000 a pattern that is not UTF-8
+0c0000000b78006100ff0000 options that are not UTF-8
+090000000b78006100 a pattern and no options
+0a0000000b7800610000 a pattern, and options that only the end ends
+0e0000000b7800610069006a0000 a regular expression of three texts
+1a0000000f780011000000020000006600080000000a79000000 the length of a code with scope one too small
+1a0000000f780013000000020000006600080000000a79000000 the length of a code with scope one too large
+1a0000000f780003000000020000006600080000000a79000000 the length of a code with scope below its own
+1a0000000f780000000000020000006600080000000a79000000 the length of a code with scope of 0
+1a0000000f7800ffffffff020000006600080000000a79000000 the length of a code with scope below 0
+1a0000000f780012000000010000006600080000000a79000000 the length of its code one too small
+1a0000000f780012000000030000006600080000000a79000000 the length of its code one too large
+1a0000000f780012000000000000006600080000000a79000000 the length of its code of 0
+1a0000000f780012000000ffffffff6600080000000a79000000 the length of its code below 0
+1a0000000f780012000000020000006601080000000a79000000 its code without its 0
+1a0000000f78001200000002000000ff00080000000a79000000 its code not UTF-8
+1a0000000f780012000000020000006600070000000a79000000 the length of its scope one too small
+1a0000000f780012000000020000006600090000000a79000000 the length of its scope one too large
+1a0000000f780012000000020000006600ffffffff0a79000000 the length of its scope below 0
+1a0000000f780012000000020000006600080000000a79000100 its scope whose end is not 0
+1a0000000f780012000000020000006600080000000aff000000 a name of its scope not UTF-8
+200000000f7800180000000200000066000e00000002790002000000ff000000 a text of its scope not UTF-8
+120000000f78000a00000002000000660000 no scope
+1b0000000f780013000000020000006600080000000a7900000000 a byte behind its scope
+";
+
+// The hexadecimal digits of a line of a table, and what stands behind them.
+fn parts_of(line: &str) -> (&str, &str) {
+    match line.split_once(' ') {
+        Some(parts) => parts,
+        None => (line, ""),
+    }
+}
 
 #[test]
 fn encoding_vectors(rt: HostRuntime) -> Result<(), Fail> {
     let alloc = rt.alloc();
-    for (text, shown) in VECTORS {
+    for line in VECTORS.lines() {
+        let (text, shown) = parts_of(line);
         let raw = RawDocumentBuf::from_bytes(hex::decode(alloc, text)?)?;
         let document = to_document(alloc, raw.as_raw())?;
         let value = format!(in alloc; "{:?}", document.get("x"))?;
@@ -134,38 +204,41 @@ fn encoding_vectors(rt: HostRuntime) -> Result<(), Fail> {
         let written = to_bytes(alloc, &document)?;
         assert_eq!(rt; hex::encode(alloc, written.as_bytes())?.as_str(), text);
     }
+    for line in RENAMED.lines() {
+        let (text, renamed) = parts_of(line);
+        let raw = RawDocumentBuf::from_bytes(hex::decode(alloc, text)?)?;
+        let written = to_bytes(alloc, &to_document(alloc, raw.as_raw())?)?;
+        assert_eq!(rt; hex::encode(alloc, written.as_bytes())?.as_str(), renamed);
+    }
     Ok(())
 }
 
 #[test]
 fn damaged_bytes(rt: HostRuntime) -> Result<(), Fail> {
     let alloc = rt.alloc();
-    for (text, why) in DAMAGED {
+    for line in DAMAGED.lines() {
+        let (text, why) = parts_of(line);
         let error = RawDocumentBuf::from_bytes(hex::decode(alloc, text)?).err();
         assert_eq!(rt; error, Some(BsonError::Malformed), "{why}");
     }
     Ok(())
 }
 
-// The document of so many levels.
-fn nested(alloc: Global, levels: u32) -> Result<Document, BsonError> {
-    let mut document = Document::new(alloc);
-    for _ in 1..levels {
-        let mut outer = Document::new(alloc);
-        outer.append("d", Bson::Document(document))?;
-        document = outer;
-    }
-    Ok(document)
-}
-
-// The bytes of the document of so many levels.
-fn nested_bytes(alloc: Global, levels: u32) -> Result<Vec<u8>, BsonError> {
+// The bytes of the document of so many levels, each but the first in a value of the kind: a document, an array or code
+// with its scope.
+fn nested_bytes(alloc: Global, kind: u8, levels: u32) -> Result<Vec<u8>, BsonError> {
     let mut bytes = Vec::from_slice(alloc, &[5, 0, 0, 0, 0])?;
     for _ in 1..levels {
+        let mut value = Vec::new(alloc);
+        if kind == 15 {
+            value.extend_from_slice(&(bytes.len() as u64).wrapping_add(9).to_le_bytes()[..4])?;
+            value.extend_from_slice(&[1, 0, 0, 0, 0])?;
+        }
+        value.extend_from_slice(&bytes)?;
         let mut outer = Vec::new(alloc);
-        outer.extend_from_slice(&(bytes.len() as u64).wrapping_add(8).to_le_bytes()[..4])?;
-        outer.extend_from_slice(&[3, 100, 0])?;
-        outer.extend_from_slice(&bytes)?;
+        outer.extend_from_slice(&(value.len() as u64).wrapping_add(8).to_le_bytes()[..4])?;
+        outer.extend_from_slice(&[kind, 48, 0])?;
+        outer.extend_from_slice(&value)?;
         outer.push(0)?;
         bytes = outer;
     }
@@ -175,16 +248,26 @@ fn nested_bytes(alloc: Global, levels: u32) -> Result<Vec<u8>, BsonError> {
 #[test]
 fn limits(rt: HostRuntime) -> Result<(), Fail> {
     let alloc = rt.alloc();
-    let deepest = to_bytes(alloc, &nested(alloc, 100)?)?;
-    let bytes = nested_bytes(alloc, 100)?;
-    assert_eq!(rt; deepest.as_bytes(), bytes.as_slice());
-    let read = RawDocumentBuf::from_bytes(bytes)?;
-    assert!(rt; to_document(alloc, read.as_raw()).is_ok());
+    for kind in [3, 4, 15] {
+        let bytes = nested_bytes(alloc, kind, 100)?;
+        let read = RawDocumentBuf::from_bytes(bytes.clone()?)?;
+        let deepest = to_document(alloc, read.as_raw())?;
+        assert_eq!(rt;
+            to_bytes(alloc, &deepest)?.as_bytes(),
+            bytes.as_slice(),
+            "{kind}"
+        );
 
-    let too_deep = to_bytes(alloc, &nested(alloc, 101)?).err();
-    assert_eq!(rt; too_deep, Some(BsonError::TooDeep));
-    let unread = RawDocumentBuf::from_bytes(nested_bytes(alloc, 101)?).err();
-    assert_eq!(rt; unread, Some(BsonError::Malformed));
+        let mut deeper = Document::new(alloc);
+        deeper.append("0", Bson::Document(deepest))?;
+        assert_eq!(rt;
+            to_bytes(alloc, &deeper).err(),
+            Some(BsonError::TooDeep),
+            "{kind}"
+        );
+        let unread = RawDocumentBuf::from_bytes(nested_bytes(alloc, kind, 101)?).err();
+        assert_eq!(rt; unread, Some(BsonError::Malformed), "{kind}");
+    }
 
     // The document of one binary takes 13 bytes more than it holds.
     for (len, error) in [(47_999_987, None), (47_999_988, Some(BsonError::TooLarge))] {

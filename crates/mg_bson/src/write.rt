@@ -18,48 +18,65 @@ use crate::tree::{
 };
 use std::alloc::Global;
 
+// Whether so many more bytes are within the limit. Each value is tested once, with its length and its end.
+fn room(out: &Vec<u8>, more: usize) -> Result<(), BsonError>
+    ensures ok { OnOk result (length out.now.items + more ≤ max_len) }
+    ensures err { IfErr result (λ e. RefusesAt e (length out.now.items + more) 0 0 false) }
+{
+    if more > MAX_DOCUMENT_BYTES || out.len() > MAX_DOCUMENT_BYTES - more {
+        return Err(BsonError::TooLarge);
+    }
+    Ok(())
+}
+
+// Bytes as they stand, for which there is room.
+fn add(out: &mut Vec<u8>, bytes: &[u8]) -> Result<(), BsonError>
+    requires { length out.old.items + length bytes.now ≤ max_len }
+    ensures ok { OnOk result (Puts out.old.items out.new.items bytes.now) }
+    ensures err { IfErr result (λ e. RefusesAt e (length out.old.items + length bytes.now) 0 0 false) }
+{
+    out.extend_from_slice(bytes)?;
+    Ok(())
+}
+
 // Bytes as they stand, where there is room for them.
 fn put(out: &mut Vec<u8>, bytes: &[u8]) -> Result<(), BsonError>
     ensures ok { OnOk result (Puts out.old.items out.new.items bytes.now) }
     ensures err { IfErr result (λ e. RefusesAt e (length out.old.items + length bytes.now) 0 0 false) }
 {
-    if bytes.len() > MAX_DOCUMENT_BYTES || out.len() > MAX_DOCUMENT_BYTES - bytes.len() {
-        return Err(BsonError::TooLarge);
-    }
-    out.extend_from_slice(bytes)?;
-    Ok(())
+    room(out, bytes.len())?;
+    add(out, bytes)
 }
 
-// The length of what is written behind it.
+// Four bytes for a length that is put in once what it measures stands behind it.
 #[tactic(auto, unfolding(crate::specs::Bytes::le32))]
-fn put_length(out: &mut Vec<u8>, len: usize) -> Result<(), BsonError>
-    ensures ok { OnOk result (out.new.items ≡ out.old.items ++ le32 len) }
-    ensures err { IfErr result (λ e. RefusesAt e (length out.old.items + 4 + len) 0 0 false) }
+fn put_gap(out: &mut Vec<u8>) -> Result<(), BsonError>
+    ensures ok { OnOk result (out.new.items ≡ out.old.items ++ le32 0) }
+    ensures err { IfErr result (λ e. RefusesAt e (length out.old.items + 4) 0 0 false) }
 {
-    if len > MAX_DOCUMENT_BYTES {
-        return Err(BsonError::TooLarge);
-    }
-    put(out, &(len as u32).to_le_bytes())
+    put(out, &0u32.to_le_bytes())
 }
 
-#[tactic(auto, using(crate::proofs::Numbers::lengths))]
+#[tactic(auto, using(crate::proofs::Numbers::lengths), unfolding(crate::specs::Bytes::le32))]
 fn put_text(out: &mut Vec<u8>, text: &str) -> Result<(), BsonError>
     ensures ok { OnOk result (out.new.items ≡ out.old.items ++ text_bytes text.now) }
     ensures err { IfErr result (λ e. RefusesAt e (length out.old.items + length (text_bytes text.now)) 0 0 false) }
 {
-    put_length(out, text.len() + 1)?;
-    put(out, text.as_bytes())?;
-    put(out, &[0])
+    room(out, text.len() + 5)?;
+    add(out, &((text.len() + 1) as u32).to_le_bytes())?;
+    add(out, text.as_bytes())?;
+    add(out, &[0])
 }
 
-#[tactic(auto, using(crate::proofs::Numbers::lengths))]
+#[tactic(auto, using(crate::proofs::Numbers::lengths), unfolding(crate::specs::Bytes::le32))]
 fn put_binary(out: &mut Vec<u8>, binary: &Binary) -> Result<(), BsonError>
     ensures ok { OnOk result (out.new.items ≡ out.old.items ++ (le32 (length binary.now.bytes.items) ++ binary.now.subtype ∷ binary.now.bytes.items)) }
     ensures err { IfErr result (λ e. RefusesAt e (length out.old.items + (length binary.now.bytes.items + 5)) 0 0 false) }
 {
-    put_length(out, binary.bytes.len())?;
-    put(out, &[binary.subtype])?;
-    put(out, &binary.bytes)
+    room(out, binary.bytes.len() + 5)?;
+    add(out, &(binary.bytes.len() as u32).to_le_bytes())?;
+    add(out, &[binary.subtype])?;
+    add(out, &binary.bytes)
 }
 
 #[tactic(auto, unfolding(crate::specs::Bytes::le32))]
@@ -84,8 +101,9 @@ fn put_timestamp(out: &mut Vec<u8>, t: Timestamp) -> Result<(), BsonError>
     ensures err { IfErr result (λ e. RefusesAt e (length out.old.items + 8) 0 0 false) }
     ensures sound { (t.time < 2 ^ 32) × (t.increment < 2 ^ 32) }
 {
-    put(out, &t.increment.to_le_bytes())?;
-    put(out, &t.time.to_le_bytes())
+    room(out, 8)?;
+    add(out, &t.increment.to_le_bytes())?;
+    add(out, &t.time.to_le_bytes())
 }
 
 fn holds_zero(name: &str) -> bool
@@ -109,9 +127,10 @@ fn put_head(out: &mut Vec<u8>, kind: Kind, name: &str) -> Result<(), BsonError>
     if holds_zero(name) {
         return Err(BsonError::BadName);
     }
-    put(out, &[kind.byte()])?;
-    put(out, name.as_bytes())?;
-    put(out, &[0])
+    room(out, name.len() + 2)?;
+    add(out, &[kind.byte()])?;
+    add(out, name.as_bytes())?;
+    add(out, &[0])
 }
 
 // A text that a 0 ends.
@@ -124,8 +143,9 @@ fn put_ended(out: &mut Vec<u8>, text: &str) -> Result<(), BsonError>
     if holds_zero(text) {
         return Err(BsonError::BadName);
     }
-    put(out, text.as_bytes())?;
-    put(out, &[0])
+    room(out, text.len() + 1)?;
+    add(out, text.as_bytes())?;
+    add(out, &[0])
 }
 
 #[tactic(auto, using(crate::proofs::Numbers::lengths))]
@@ -171,17 +191,13 @@ fn end_document(out: &mut Vec<u8>, start: usize) -> Result<(), BsonError>
 }
 
 // Writes the length of what begins at `start`, with four bytes there for it.
-fn end_measured(out: &mut Vec<u8>, start: usize) -> Result<(), BsonError>
-    requires { start + 4 ≤ length out.old.items }
-    ensures ok { OnOk result (out.new.items ≡ take start out.old.items ++ measured (drop (start + 4) out.old.items)) }
-    ensures err { IfErr result (λ e. RefusesAt e (length out.old.items) 0 0 false) }
+fn end_measured(out: &mut Vec<u8>, start: usize)
+    requires space { start + 4 ≤ length out.old.items }
+    requires within { length out.old.items ≤ max_len }
+    ensures { out.new.items ≡ take start out.old.items ++ measured (drop (start + 4) out.old.items) }
 {
-    if out.len() > MAX_DOCUMENT_BYTES {
-        return Err(BsonError::TooLarge);
-    }
     let len = (out.len() - start) as u32;
     patch(out, start, len);
-    Ok(())
 }
 
 #[cycle(write)]
@@ -197,7 +213,7 @@ fn write_document(out: &mut Vec<u8>, document: &Document, levels: u32) -> Result
         return Err(BsonError::TooDeep);
     }
     let start = out.len();
-    put_length(out, 0)?;
+    put_gap(out)?;
     write_fields(out, &document.fields, levels - 1)?;
     end_document(out, start)
 }
@@ -229,7 +245,7 @@ fn write_array(out: &mut Vec<u8>, array: &Array, levels: u32) -> Result<(), Bson
         return Err(BsonError::TooDeep);
     }
     let start = out.len();
-    put_length(out, 0)?;
+    put_gap(out)?;
     write_items(out, &array.items, levels - 1)?;
     end_document(out, start)
 }
@@ -293,10 +309,11 @@ fn write_scoped(out: &mut Vec<u8>, value: &CodeWithScope, levels: u32) -> Result
         levels (levels_of value.now.scope) (fields_have_bad_name value.now.scope)) }
 {
     let start = out.len();
-    put_length(out, 0)?;
+    put_gap(out)?;
     put_text(out, value.code.as_str())?;
     write_document(out, &value.scope, levels)?;
-    end_measured(out, start)
+    end_measured(out, start);
+    Ok(())
 }
 
 /// Encodes the document. It is too large past [`MAX_DOCUMENT_BYTES`] bytes, and too deep past

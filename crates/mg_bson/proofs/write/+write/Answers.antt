@@ -13,7 +13,7 @@ write_document-returns-clause-ok t c =
     let old = c.args.out.now.items in
     let fs = c.document.inside.fields.items in
     let mid = c.write_fields.new.out.items in
-    let body : mid ≡ (old ++ le32 0) ++ fields_bytes (fields_of fs) = c.in_ok-write_fields.ensures.ok ∙ rw (c.in_ok-put_length.ensures.ok, c.deref.ensures.value) refl in
+    let body : mid ≡ (old ++ le32 0) ++ fields_bytes (fields_of fs) = c.in_ok-write_fields.ensures.ok ∙ rw (c.in_ok-put_gap.ensures.ok, c.deref.ensures.value) refl in
     let o = opened old (fields_bytes (fields_of fs)) mid c.len-start.result (c.len-start.ensures ∙ c.args.out.now.ok.0) body in
     on_ok_weaker c.end_document.result (λ e. e ∙ rw (o.0, o.1) (ap (λ d. old ++ bytes d) c.document.view_is)) c.end_document.ensures.ok
 
@@ -22,7 +22,7 @@ write_array-returns-clause-ok t c =
     let old = c.args.out.now.items in
     let ts = c.array.inside.items.items in
     let mid = c.write_items.new.out.items in
-    let body : mid ≡ (old ++ le32 0) ++ items_bytes 0 (items_of ts) = c.in_ok-write_items.ensures.ok ∙ rw (c.in_ok-put_length.ensures.ok, c.deref.ensures.value) refl in
+    let body : mid ≡ (old ++ le32 0) ++ items_bytes 0 (items_of ts) = c.in_ok-write_items.ensures.ok ∙ rw (c.in_ok-put_gap.ensures.ok, c.deref.ensures.value) refl in
     let o = opened old (items_bytes 0 (items_of ts)) mid c.len-start.result (c.len-start.ensures ∙ c.args.out.now.ok.0) body in
     on_ok_weaker c.end_document.result (λ e. e ∙ rw (o.0, o.1) (ap (λ d. old ++ framed (items_bytes 0 d)) c.array.view_is)) c.end_document.ensures.ok
 
@@ -88,6 +88,6 @@ write_scoped-returns-clause-ok t c =
     let scope = c.args.value.now.scope in
     let mid = c.write_document.new.out.items in
     let body : mid ≡ (old ++ le32 0) ++ (text_bytes text ++ bytes scope) =
-    c.in_ok-write_document.ensures.ok ∙ rw (c.in_ok-put_text.ensures.ok, c.in_ok-put_length.ensures.ok, c.as_str.ensures.value) (append_assoc (old ++ le32 0) (text_bytes text) (bytes scope)) in
+    c.in_ok-write_document.ensures.ok ∙ rw (c.in_ok-put_text.ensures.ok, c.in_ok-put_gap.ensures.ok, c.as_str.ensures.value) (append_assoc (old ++ le32 0) (text_bytes text) (bytes scope)) in
     let o = opened old (text_bytes text ++ bytes scope) mid c.len-start.result (c.len-start.ensures ∙ c.args.out.now.ok.0) body in
-    on_ok_weaker c.end_measured.result (λ e. e ∙ rw (o.0, o.1) refl) c.end_measured.ensures.ok
+    c.end_measured.ensures ∙ rw (o.0, o.1) refl

@@ -10,4 +10,4 @@ returns-then-eq c =
     let k = c.args.name.now in
     let v = spelling c.in-Some.element in
     let found : get k (fields_left c.loop-element.left) ≡ Some (spelled v) = ap (get k) c.in-Some.ensures.1 ∙ rw (sym c.eq.ensures ∙ c.if-eq.true) refl in
-    c.open.ensures ∙ spells v c.in-Some.ensures.0 ∙ sym found ∙ c.loop-element.invariant
+    c.in_ok-value.ensures.value ∙ spells v c.in-Some.ensures.0 ∙ sym found ∙ c.loop-element.invariant

@@ -1,17 +1,10 @@
-use Rattle.std.proofs.Common.{sym, ap, ◌∙◌}
-use Rattle.mg_bson.specs.Tree.{field}
 use Rattle.mg_bson.specs.ReadView.{spelling}
 use Rattle.mg_bson.specs.Raw.{fields_left}
 use Rattle.mg_bson.specs.RawView.{value}
-use Rattle.mg_bson.proofs.Lending.{opens, spelled-is}
+use Rattle.mg_bson.proofs.Lending.{opened_next}
 use Rattle.mg_bson.proofs.raw.RawIter.next.Goals as goal
-
-pub returns-in_err-value : goal.returns-in_err-value
-returns-in_err-value c =
-    absurd (opens (spelling c.in_ok-element.element) c.in_ok-element.ensures.0 (sym c.in_err-value.ensures))
 
 pub returns : goal.returns
 returns c =
-    let x = c.in_ok-element.element in
-    let v = spelled-is (spelling x) (value c.in_ok-value.value) (sym c.in_ok-value.ensures) in
-    c.in_ok-element.ensures.1 ∙ ap (λ t. field x.name.now t (fields_left c.next_element.new.self)) v
+    let x = c.in_ok-element in
+    opened_next (λ r. r.0.now) (λ r. value r.1) (spelling x.element) x.element.name.now (fields_left c.args.self.now) (fields_left c.next_element.new.self) c.open.result x.ensures.0 x.ensures.1 c.open.ensures.name c.open.ensures.value

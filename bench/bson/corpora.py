@@ -1,0 +1,88 @@
+#!/usr/bin/env python3
+"""Writes the documents that the BSON layer is timed on, one behind another, to files of a folder.
+
+flat.bson has many small flat documents, nested.bson documents of 81 levels, blobs.bson chunks of 255 KiB, and depthN.bson
+documents of N levels, all with about the same number of bytes a level and in all. The files are the same in each run.
+"""
+import os
+import random
+import struct
+import sys
+
+LETTERS = "abcdefghij klmnopqrst uvwxyzé"
+
+
+def int32(number):
+    return struct.pack("<i", number)
+
+
+def value(it):
+    """The kind and the bytes of a value."""
+    if isinstance(it, bool):
+        return 8, bytes([it])
+    if isinstance(it, int):
+        return (16, int32(it)) if -(2**31) <= it < 2**31 else (18, struct.pack("<q", it))
+    if isinstance(it, str):
+        text = it.encode()
+        return 2, int32(len(text) + 1) + text + b"\0"
+    if isinstance(it, bytes):
+        return 5, int32(len(it)) + b"\0" + it
+    if it is None:
+        return 10, b""
+    if isinstance(it, list):
+        return 4, document({str(i): x for i, x in enumerate(it)})
+    return 3, document(it)
+
+
+def document(fields):
+    body = b""
+    for name, it in fields.items():
+        kind, data = value(it)
+        body += bytes([kind]) + name.encode() + b"\0" + data
+    return int32(len(body) + 5) + body + b"\0"
+
+
+def word(source):
+    return "".join(source.choice(LETTERS) for _ in range(source.randint(3, 24)))
+
+
+def flat(source):
+    for i in range(40000):
+        yield {
+            "_id": i,
+            "name": word(source),
+            "count": source.randint(0, 10**12),
+            "flag": i % 2 == 0,
+            "none": None,
+            "city": word(source),
+            "tags": [word(source), i, 3],
+        }
+
+
+def nested(source, documents, levels):
+    for i in range(documents):
+        it = {"leaf": word(source), "n": i}
+        for level in range(levels):
+            it = {"k%d" % level: it, "x": level, "s": "abc"}
+        yield it
+
+
+def blobs(source):
+    for i in range(60):
+        yield {"_id": i, "files_id": 7, "n": i, "data": source.randbytes(261120)}
+
+
+def write(name, documents):
+    with open(os.path.join(sys.argv[1], name), "wb") as file:
+        for it in documents:
+            file.write(document(it))
+
+
+if __name__ == "__main__":
+    os.makedirs(sys.argv[1], exist_ok=True)
+    shared = random.Random(7)
+    write("flat.bson", flat(shared))
+    write("nested.bson", nested(shared, 2000, 80))
+    write("blobs.bson", blobs(shared))
+    for depth in (6, 12, 25, 50, 100):
+        write("depth%d.bson" % depth, nested(random.Random(depth), 160000 // depth, depth - 1))
