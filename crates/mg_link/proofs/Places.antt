@@ -1,5 +1,5 @@
 -- Elements of lists by their places.
-use Rattle.std.proofs.Common.{◌≡◌, ◌⊎◌, ℕ, zero, suc, ◌+◌, ◌<◌, ◌≤◌, List, [], ◌∷◌, ◌++◌, length, Some, refl, sym, ap, subst, inl, inr, take, arith}
+use Rattle.std.proofs.Common.{◌≡◌, ◌⊎◌, ℕ, zero, suc, ◌+◌, ◌<◌, List, [], ◌∷◌, ◌++◌, length, Some, refl, sym, ap, subst, inl, inr, take, arith}
 use Rattle.std.specs.Prelude.{slice_get}
 
 pub get_front : {A : Type 0} (xs ys : List A) (k : ℕ) (x : A) → slice_get xs k ≡ Some x → slice_get (xs ++ ys) k ≡ Some x
@@ -35,3 +35,34 @@ taken_below zero xs k x h = cc
 taken_below (suc n) [] k x h = cc
 taken_below (suc n) (y ∷ xs) zero x h = omega arith
 taken_below (suc n) (y ∷ xs) (suc k) x h = let i = taken_below n xs k x h in omega arith
+
+pub get_seam : {A : Type 0} (xs ys : List A) (y : A) → slice_get (xs ++ y ∷ ys) (length xs) ≡ Some y
+get_seam [] ys y = refl
+get_seam (x ∷ xs) ys y = get_seam xs ys y
+
+-- an element of a list with one more is an old one or the new one
+pub get_push : {A : Type 0} (xs : List A) (y : A) (k : ℕ) (x : A) → slice_get (xs ++ y ∷ []) k ≡ Some x → (slice_get xs k ≡ Some x) ⊎ ((k ≡ length xs) × (y ≡ x))
+get_push [] y zero x h = inr (refl, cc)
+get_push [] y (suc k) x h = cc
+get_push (z ∷ xs) y zero x h = inl h
+get_push (z ∷ xs) y (suc k) x h = elim (get_push xs y k x h) [ inl e ↦ inl e | inr e ↦ inr (ap suc e.0, e.1) ]
+
+-- a list at one of its elements
+pub record SplitAt {A : Type 0} (xs : List A) (k : ℕ) (x : A) : Type 0 where
+  pub front : List A
+  pub back : List A
+  pub whole : xs ≡ front ++ x ∷ back
+  pub place : length front ≡ k
+
+pub split_at : {A : Type 0} (xs : List A) (k : ℕ) (x : A) → slice_get xs k ≡ Some x → SplitAt xs k x
+split_at [] k x h = cc
+split_at (y ∷ xs) zero x h = record { front = []; back = xs; whole = cc; place = refl }
+split_at (y ∷ xs) (suc k) x h =
+    let r = split_at xs k x h in
+    record { front = y ∷ r.front; back = r.back; whole = ap (λ l. y ∷ l) r.whole; place = ap suc r.place }
+
+-- the same, with the place in the second
+pub get_joined : {A : Type 0} (xs ys : List A) (k : ℕ) (x : A) → slice_get (xs ++ ys) k ≡ Some x → (slice_get xs k ≡ Some x) ⊎ ((j : ℕ) × (k ≡ length xs + j) × (slice_get ys j ≡ Some x))
+get_joined [] ys k x h = inr (k, omega arith, h)
+get_joined (y ∷ xs) ys zero x h = inl h
+get_joined (y ∷ xs) ys (suc k) x h = elim (get_joined xs ys k x h) [ inl e ↦ inl e | inr e ↦ inr (e.0, (let f = e.1 in omega arith), e.2) ]

@@ -26,5 +26,9 @@ pub mod Commands
 pub mod Step
 pub mod History
 pub mod Standing
+pub mod Prompt
+pub mod Owner
+pub mod Follow
 pub mod Rules
 pub mod Kept
+pub mod Example

@@ -1,10 +1,13 @@
 //! What holds of the definitions.
-ghost use Rattle.std.specs.Prelude.{◌≡◌, ◌+◌, ◌<◌, ◌≤◌, ◌^◌, ◌++◌, ℕ, suc, ℤ, pos, Bool, List, length};
+ghost use Rattle.std.specs.Prelude.{◌≡◌, ◌+◌, ◌<◌, ◌≤◌, ◌^◌, ◌++◌, ℕ, suc, ℤ, pos, Bool, Some, List, [], ◌∷◌, length, slice_get, slice_set};
 ghost use Rattle.mg_bson.specs.Raw.{fields};
+ghost use Rattle.mg_link.specs.Example.{IsExample, IsStep, asks_more, gave_two, inserted_two, inserts_two, killed, kills, opened, opens};
+ghost use Rattle.mg_link.specs.Follow.{Follow, FollowsOn, IsOpen, Knows, owner_of};
 ghost use Rattle.mg_link.specs.History.{IsLegal, Step, opening, state_of};
 ghost use Rattle.mg_link.specs.Ids.{counted_id};
 ghost use Rattle.mg_link.specs.Kept.{IsAllowed, IsByRules, IsStoreState, Kept, given_of, is_started, made_of, state_of_kept, steps_of};
 ghost use Rattle.mg_link.specs.Log.{Call, see, waiting};
+ghost use Rattle.mg_link.specs.Owner.{AreApart, Onward, Owner, Passes};
 ghost use Rattle.mg_link.specs.Rules.{answer_of, refusal};
 ghost use Rattle.mg_link.specs.Standing.{Stands, history_before};
 ghost use Rattle.mg_link.specs.State.{Entry, Start, State, Watch, events_between};
@@ -69,4 +72,27 @@ pub fn refusal_is_allowed()
 pub fn kept_is_legal()
     ensures { (kept : List Kept) → IsByRules kept → length (state_of_kept kept).changes < 2 ^ 64
         → IsLegal (steps_of kept) × IsStoreState (state_of_kept kept) (given_of kept) (is_started kept) }
+{}
+
+/// The first script, as `specs/Example` has it: the history of its four steps leads to the states that it should.
+pub fn first_script()
+    ensures { (a b c d : Kept) → IsStep opens opened a → IsStep inserts_two inserted_two b → IsStep asks_more gave_two c → IsStep kills killed d
+        → IsExample (steps_of (a ∷ b ∷ c ∷ d ∷ [])) }
+{}
+
+/// What an open stream knows says what it answered: in every legal history in which the log stands, the first events of
+/// its view from the opening place on, and just those up to the place that its token names.
+pub fn streams_follow()
+    ensures { (calls : List Call) (f : Follow) → IsOpen f.doing → Knows calls f → FollowsOn calls f }
+{}
+
+/// A stream goes on knowing while others call and leave its cursors alone.
+pub fn streams_go_on_knowing()
+    ensures { (calls calls' : List Call) (f : Follow) → Onward calls calls' (owner_of f) → Knows calls f → Knows calls' f }
+{}
+
+/// The jobs of a run stay apart: after the turn of one no two own the same cursor.
+pub fn jobs_stay_apart()
+    ensures { (calls calls' : List Call) (owners : List Owner) (k : ℕ) (o o' : Owner) → slice_get owners k ≡ Some o
+        → Passes calls calls' o o' → AreApart calls owners → AreApart calls' (slice_set owners k o') }
 {}

@@ -1,4 +1,6 @@
 //! The ends of the process: standard input and output, or any reader and writer of std.
+ghost use Rattle.std.specs.Prelude.{◌≡◌};
+
 use crate::ends::{ReadFailed, Sink, Source, WriteFailed};
 use std::io::{Read, Write};
 
@@ -11,7 +13,9 @@ pub struct StdSource<R: Read> {
 
 impl<R: Read> StdSource<R> {
     /// A source over this reader, with no faults so far.
-    pub fn new(inner: R) -> StdSource<R> {
+    pub fn new(inner: R) -> StdSource<R>
+        ensures { ⟦<StdSource<R> as Source>⟧.faults result ≡ 0 }
+    {
         StdSource { inner, faults: 0 }
     }
 }
@@ -45,7 +49,9 @@ pub struct StdSink<W: Write> {
 
 impl<W: Write> StdSink<W> {
     /// A sink over this writer, with no faults so far.
-    pub fn new(inner: W) -> StdSink<W> {
+    pub fn new(inner: W) -> StdSink<W>
+        ensures { ⟦<StdSink<W> as Sink>⟧.faults result ≡ 0 }
+    {
         StdSink { inner, faults: 0 }
     }
 }

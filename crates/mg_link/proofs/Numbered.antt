@@ -1,0 +1,99 @@
+-- The token of an entry names the place behind it, and is the `_id` of its event.
+use Rattle.std.proofs.Common.{◌≡◌, ℕ, zero, suc, ◌+◌, Bool, List, [], ◌∷◌, ◌++◌, length, Option, Some, refl, sym, ap, ◌∙◌, subst, inl, inr, arith}
+use Rattle.std.specs.Prelude.{slice_get, codes, if◌then◌else◌}
+use Rattle.mg_bson.specs.Tree.{Tree, Fields}
+use Rattle.mg_bson.specs.Find.{get}
+use Rattle.mg_link.specs.Namespace.{Space}
+use Rattle.mg_link.specs.State.{Entry, State, nothing, name}
+use Rattle.mg_link.specs.Commands.{Asked, asks_insert, asks_watch, asks_more, asks_kill, asks_other, Told, refuses, inserted, opened, gave, killed, garbled, asked}
+use Rattle.mg_link.specs.Step.{Made, Named, name_all, entry_names, AreNew, AddsNoEntry, AreInsertEvents, MayTell, May}
+use Rattle.mg_link.specs.History.{Step, step_after, state_after, IsLegal, IsLegalFrom, state_of, told_at}
+use Rattle.mg_link.proofs.Places.{get_joined}
+use Rattle.mg_link.proofs.Histories.{step_after-changes}
+use Rattle.mg_link.proofs.Tokens.{is_same_self}
+use Rattle.mg_link.proofs.Later.{Respects, name_respects, all_keep, grown-tokens, effect_keeps, later_step, respects_step}
+
+pub record IsNumbered (s : State) (p : ℕ) (e : Entry) : Type 0 where
+  pub named : s.tokens e.token ≡ Some (suc p)
+  pub id : get (codes "_id") e.event ≡ Some e.token
+
+abbrev pub AreNumbered : State → Type 0
+AreNumbered s = (p : ℕ) (e : Entry) → slice_get s.changes p ≡ Some e → IsNumbered s p e
+
+-- ---- the entries of a step
+
+insert_ids : (space : Space) (ds : List Fields) (es : List Entry) (j : ℕ) (e : Entry) → AreInsertEvents space ds es → slice_get es j ≡ Some e → get (codes "_id") e.event ≡ Some e.token
+insert_ids space [] [] j e are h = absurd cc
+insert_ids space [] (x ∷ es) j e are h = absurd are
+insert_ids space (d ∷ ds) [] j e are h = absurd are
+insert_ids space (d ∷ ds) (x ∷ es) zero e are h = let same : x ≡ e = cc in subst (λ (y : Entry). get (codes "_id") y.event ≡ Some y.token) same are.0.token_is
+insert_ids space (d ∷ ds) (x ∷ es) (suc j) e are h = insert_ids space ds es j e are.1 h
+
+none_there : (made : Made) (j : ℕ) (e : Entry) → AddsNoEntry made → slice_get made.entries j ≡ Some e → ⊥
+none_there made j e none h = let bad : slice_get (none_of e) j ≡ Some e = sym (ap (λ (l : List Entry). slice_get l j) none) ∙ h in cc
+  where
+    none_of : Entry → List Entry
+    none_of e = []
+
+step_ids : (s s' : State) (command : Asked) (reply : Told) (made : Made) (j : ℕ) (e : Entry) → MayTell s s' command reply made → slice_get made.entries j ≡ Some e → get (codes "_id") e.event ≡ Some e.token
+step_ids s s' command (refuses code labels) made j e may h = absurd (none_there made j e may.no_entry h)
+step_ids s s' (asks_insert space documents ordered) (inserted n failures) made j e may h = insert_ids space _ made.entries j e may.entries h
+step_ids s s' (asks_watch watch start) (opened id at events token time) made j e may h = absurd (none_there made j e may.no_entry h)
+step_ids s s' (asks_more id space) (gave left at events token) made j e may h = absurd (none_there made j e may.no_entry h)
+step_ids s s' (asks_kill ids) killed made j e may h = absurd (none_there made j e may h)
+step_ids s s' (asks_insert space documents ordered) (opened id at events token time) made j e may h = absurd may
+step_ids s s' (asks_insert space documents ordered) (gave left at events token) made j e may h = absurd may
+step_ids s s' (asks_insert space documents ordered) killed made j e may h = absurd may
+step_ids s s' (asks_insert space documents ordered) garbled made j e may h = absurd may
+step_ids s s' (asks_watch watch start) (inserted n failures) made j e may h = absurd may
+step_ids s s' (asks_watch watch start) (gave left at events token) made j e may h = absurd may
+step_ids s s' (asks_watch watch start) killed made j e may h = absurd may
+step_ids s s' (asks_watch watch start) garbled made j e may h = absurd may
+step_ids s s' (asks_more id space) (inserted n failures) made j e may h = absurd may
+step_ids s s' (asks_more id space) (opened other at events token time) made j e may h = absurd may
+step_ids s s' (asks_more id space) killed made j e may h = absurd may
+step_ids s s' (asks_more id space) garbled made j e may h = absurd may
+step_ids s s' (asks_kill ids) (inserted n failures) made j e may h = absurd may
+step_ids s s' (asks_kill ids) (opened id at events token time) made j e may h = absurd may
+step_ids s s' (asks_kill ids) (gave left at events token) made j e may h = absurd may
+step_ids s s' (asks_kill ids) garbled made j e may h = absurd may
+step_ids s s' asks_other (inserted n failures) made j e may h = absurd may
+step_ids s s' asks_other (opened id at events token time) made j e may h = absurd may
+step_ids s s' asks_other (gave left at events token) made j e may h = absurd may
+step_ids s s' asks_other killed made j e may h = absurd may
+step_ids s s' asks_other garbled made j e may h = absurd may
+
+step_names : (end place : ℕ) (es : List Entry) (ms : List Named) (tokens : Tree → Option ℕ) → Respects tokens → AreNew end tokens (entry_names place es ++ ms) → (j : ℕ) (e : Entry) → slice_get es j ≡ Some e
+    → name_all (entry_names place es ++ ms) tokens e.token ≡ Some (suc (place + j))
+step_names end place [] ms tokens r new j e h = absurd cc
+step_names end place (x ∷ es) ms tokens r new zero e h =
+    let same : x ≡ e = cc in
+    let here : name x.token (suc place) tokens x.token ≡ Some (suc place) = ap (λ (b : Bool). if b then Some (suc place) else tokens x.token) (is_same_self x.token) in
+    let n : suc place ≡ suc (place + 0) = omega arith in
+    subst (λ (y : Entry). name_all (entry_names (suc place) es ++ ms) (name x.token (suc place) tokens) y.token ≡ Some (suc (place + 0))) same
+    (all_keep end (entry_names (suc place) es ++ ms) (name x.token (suc place) tokens) (name_respects x.token (suc place) tokens r) new.2 x.token (suc (place + 0)) (here ∙ ap Some n))
+step_names end place (x ∷ es) ms tokens r new (suc j) e h =
+    let n : suc (suc place + j) ≡ suc (place + suc j) = omega arith in
+    step_names end (suc place) es ms (name x.token (suc place) tokens) (name_respects x.token (suc place) tokens r) new.2 j e h ∙ ap Some n
+
+-- ---- a state and its next
+
+numbered_step : (s : State) (step : Step) → Respects s.tokens → May s (asked step.command) (told_at step) step.made → AreNumbered s → AreNumbered (step_after s step)
+numbered_step s step r may num p e h =
+    let later = later_step s step r may in
+    elim (get_joined s.changes step.made.entries p e (ap (λ (l : List Entry). slice_get l p) (sym (step_after-changes s step)) ∙ h)) [
+      | inl old ↦ let was = num p e old in record { named = later.tokens e.token (suc p) was.named; id = was.id }
+      | inr new ↦
+          let keeps = effect_keeps _ (asked step.command) (told_at step) in
+          let shown = ap (λ (f : Tree → Option ℕ). f e.token) (keeps.tokens ∙ grown-tokens s step.made) in
+          let named = step_names _ (length s.changes) step.made.entries step.made.tokens s.tokens r may.grows.names new.0 e new.2 in
+          record { named = shown ∙ named ∙ ap (λ (n : ℕ). Some (suc n)) (sym new.1); id = step_ids s _ (asked step.command) (told_at step) step.made new.0 e may.tells new.2 }
+    ]
+
+numbered_steps : (s : State) (steps : List Step) → Respects s.tokens → IsLegalFrom s steps → AreNumbered s → AreNumbered (state_after s steps)
+unfolding state_after IsLegalFrom
+numbered_steps s [] r legal num = num
+numbered_steps s (step ∷ steps) r legal num = numbered_steps (step_after s step) steps (respects_step s step r) legal.1 (numbered_step s step r legal.0 num)
+
+pub numbered_of : (history : List Step) → IsLegal history → AreNumbered (state_of history)
+numbered_of history legal = numbered_steps nothing history (λ t u h. refl) legal (λ p e h. absurd cc)

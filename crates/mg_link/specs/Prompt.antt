@@ -1,0 +1,36 @@
+-- When the answers to a caller hold nothing back (change streams, getMore and insert specifications: a server may cut batches where it likes, and refuse).
+use Rattle.std.specs.Prelude.{◌≡◌, ℕ, ℤ, pos, Bool, true, Option, Some, List, [], Contains, length, take, slice_get, unwrap_or, codes}
+use Rattle.mg_bson.specs.Tree.{Tree, Fields}
+use Rattle.mg_bson.specs.Find.{get}
+use Rattle.mg_link.specs.Namespace.{Space}
+use Rattle.mg_link.specs.State.{Entry, Watch, watching, State, Start, start_place, events_between, seen_between, is_invalidate}
+use Rattle.mg_link.specs.Commands.{Asked, asks_insert, asks_watch, asks_more, asks_kill, Failure, Told, refuses, inserted, opened, gave, killed, asked, failures_at}
+use Rattle.mg_link.specs.Step.{documents_of}
+use Rattle.mg_link.specs.History.{Step, state_of, step_after, told_at}
+use Rattle.mg_link.specs.Rules.{inserting, inserted_reply}
+
+-- the write errors that the store's rules list for an insert
+abbrev pub rule_failures : State → Space → List Fields → Bool → List Failure
+rule_failures s space documents ordered = unwrap_or (failures_at (get (codes "writeErrors") (inserted_reply (inserting space ordered 0 (length s.changes) (documents_of s space) documents)))) []
+
+-- a cursor ends only behind an invalidate entry that its batch holds; s' is the state after the step
+abbrev pub EndsByInvalidate : State → Watch → ℕ → ℤ → Tree → Type 0
+EndsByInvalidate s' w from id token = id ≡ pos 0 → (upto : ℕ) × (s'.tokens token ≡ Some upto) × (e : Entry) × Contains (seen_between w s'.changes from upto) e × (is_invalidate e.change ≡ true)
+
+-- a batch is empty only where no entry is left to be seen
+abbrev pub GivesSome : State → Watch → ℕ → List Fields → Type 0
+GivesSome s w from events = events ≡ [] → events_between w s.changes from (length s.changes) ≡ []
+
+-- the first batch may be empty, and later ones not while an entry is left; nothing is refused, and a write fails only as the store's rules have it
+abbrev pub AnswersAtOnce : State → State → Asked → Told → Type 0
+AnswersAtOnce s s' command (refuses code labels) = ⊥
+AnswersAtOnce s s' (asks_insert space documents ordered) (inserted n failures) = (f : Failure) → Contains failures f → Contains (rule_failures s space documents ordered) f
+AnswersAtOnce s s' (asks_watch watch start) (opened id space events token time) = (from : ℕ) → start_place s start ≡ Some from → EndsByInvalidate s' watch from id token
+AnswersAtOnce s s' (asks_more id space) (gave left other events token) = (watch : Watch) (from : ℕ) → s.cursors id ≡ Some (watching watch from) → GivesSome s watch from events × EndsByInvalidate s' watch from left token
+AnswersAtOnce s s' (asks_kill ids) killed = Unit {0}
+AnswersAtOnce s s' command reply = Unit {0}
+
+-- the steps at these positions, which are a caller's own, were answered so
+abbrev pub IsPrompt : List ℕ → List Step → Type 0
+IsPrompt own history = (position : ℕ) (step : Step) → Contains own position → slice_get history position ≡ Some step →
+    AnswersAtOnce (state_of (take position history)) (step_after (state_of (take position history)) step) (asked step.command) (told_at step)
