@@ -1,1 +1,11 @@
 pub mod Stored
+pub mod Continued
+pub mod Holding
+pub mod Contents
+pub mod Inserting
+pub mod Asking
+pub mod Wanted
+pub mod Replies
+pub mod Answering
+pub mod InMemory
+pub mod Sending

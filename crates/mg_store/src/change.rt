@@ -1,6 +1,20 @@
 //! The list of changes.
-use crate::reply::{put, text, time, token};
-use mg_bson::{Array, Bson, BsonError, Document, RawDocumentBuf, to_bytes, to_document};
+ghost use Rattle.std.specs.Prelude.{◌≡◌, ◌&&◌, IfOk, map};
+ghost use Rattle.mg_bson.specs.Bytes.{bytes};
+ghost use Rattle.mg_bson.specs.Raw.{fields};
+ghost use Rattle.mg_bson.specs.Tree.{document};
+ghost use Rattle.mg_bson.specs.View.{tree};
+ghost use Rattle.mg_link.specs.Namespace.{space};
+ghost use Rattle.mg_link.specs.Rules.{insert_event};
+ghost use Rattle.mg_link.specs.State as state;
+ghost use Rattle.mg_link.specs.State.{is_space};
+ghost use Rattle.mg_store.specs.Asking.{held, matches_keys};
+ghost use Rattle.mg_store.specs.Holding.{AreExact, GivesBatch, IsWatch, entries_from};
+
+use crate::cursor::Watch;
+use crate::filter::matches;
+use crate::reply::{put, put_item, text, time, token};
+use mg_bson::{Array, Bson, Document, RawDocumentBuf, to_bytes, to_document};
 use mg_link::{Namespace, OutOfMemory};
 use std::alloc::Global;
 
@@ -16,15 +30,16 @@ pub struct ChangeEntry {
     pub event: RawDocumentBuf,
 }
 
-/// The event of a document that was inserted as the entry of this number, from 0.
+/// The event of a document that was inserted, whose entry stands before this place.
 pub(crate) fn insert_event(
     alloc: Global,
-    entry: u64,
+    place: u64,
     ns: &Namespace,
     id: Bson,
-    document: Document,
-) -> Result<Document, OutOfMemory> {
-    let place = entry.saturating_add(1);
+    inserted: Document,
+) -> Result<Document, OutOfMemory>
+    ensures { IfOk result (λ d. d ≡ insert_event place (space ns.now) (tree id) inserted) }
+{
     let mut space = Document::new(alloc);
     put(&mut space, "db", Bson::String(ns.db.clone()?))?;
     put(&mut space, "coll", Bson::String(ns.coll.clone()?))?;
@@ -36,7 +51,7 @@ pub(crate) fn insert_event(
     put(&mut event, "clusterTime", Bson::Timestamp(time(place)))?;
     put(&mut event, "ns", Bson::Document(space))?;
     put(&mut event, "documentKey", Bson::Document(key))?;
-    put(&mut event, "fullDocument", Bson::Document(document))?;
+    put(&mut event, "fullDocument", Bson::Document(inserted))?;
     Ok(event)
 }
 
@@ -47,57 +62,79 @@ pub(crate) struct Events {
     pub(crate) place: u64,
 }
 
-/// The events of a namespace from a place on: at most so many, and not more than fit a batch. A batch that ended
+/// Whether the watch is to see the entry.
+fn sees(alloc: Global, watch: &Watch, entry: &ChangeEntry) -> Result<bool, OutOfMemory>
+    ensures { IfOk result (λ b. b ≡ (is_space (space watch.now.ns) (space entry.now.ns) && matches_keys (map held watch.now.filter.items) (fields entry.now.event))) }
+{
+    if watch.ns == entry.ns {
+        matches(alloc, &watch.filter, &entry.event.as_raw())
+    } else {
+        Ok(false)
+    }
+}
+
+/// The event of an entry, as a tree.
+fn event_of(alloc: Global, entry: &ChangeEntry) -> Result<Bson, OutOfMemory>
+    ensures { IfOk result (λ e. tree e ≡ document (fields entry.now.event)) }
+{
+    match to_document(alloc, entry.event.as_raw()) {
+        Ok(event) => Ok(Bson::Document(event)),
+        Err(_) => Err(OutOfMemory),
+    }
+}
+
+/// The events that a watch sees from a place on: at most so many, and not more than fit a batch. A batch that ended
 /// before the changes did ends behind its last entry.
 pub(crate) fn events_from(
     alloc: Global,
     changes: &[ChangeEntry],
-    ns: &Namespace,
+    watch: &Watch,
     from: usize,
     size: u64,
-) -> Result<Events, OutOfMemory> {
+) -> Result<Events, OutOfMemory>
+    ensures { IfOk result (λ r. (w : state.Watch) → IsWatch watch.now w → AreExact changes.now → GivesBatch w (entries_from 0 changes.now) from size r) }
+{
     let mut events = Array::new(alloc);
+    let mut behind = from as u64;
     let mut room = MAX_BATCH;
-    let mut given = 0;
-    let mut behind = from;
+    let mut left = size;
     for place in from..changes.len() {
-        if given >= size {
-            break;
+        if left == 0 {
+            return Ok(Events {
+                events,
+                place: behind,
+            });
         }
         let entry = &changes[place];
-        if entry.ns == *ns {
+        if sees(alloc, watch, entry)? {
             let len = entry.event.as_bytes().len();
-            if len > room && given > 0 {
+            if left < size && room < len {
                 return Ok(Events {
                     events,
-                    place: behind as u64,
+                    place: behind,
                 });
             }
+            put_item(&mut events, event_of(alloc, entry)?)?;
             room = room.saturating_sub(len);
-            let event = match to_document(alloc, entry.event.as_raw()) {
-                Ok(event) => event,
-                Err(_) => return Err(OutOfMemory),
-            };
-            crate::reply::put_item(&mut events, Bson::Document(event))?;
-            given += 1;
-            behind = place + 1;
+            left -= 1;
+            behind = place as u64 + 1;
         }
     }
-    let place = if given >= size { behind } else { changes.len() };
-    Ok(Events {
-        events,
-        place: place as u64,
-    })
+    let place = if left == 0 {
+        behind
+    } else {
+        changes.len() as u64
+    };
+    Ok(Events { events, place })
 }
 
-/// The bytes of an event, or none where it is larger or deeper than one may be.
-pub(crate) fn event_bytes(
-    alloc: Global,
-    event: &Document,
-) -> Result<Option<RawDocumentBuf>, OutOfMemory> {
+/// The bytes of the event of a document that is stored. Such an event can always be encoded.
+pub(crate) fn event_bytes(alloc: Global, event: &Document) -> Result<RawDocumentBuf, OutOfMemory>
+    ensures bytes { IfOk result (λ r. r ≡ bytes event.now) }
+    ensures read_back { IfOk result (λ r. fields r ≡ event.now) }
+{
     match to_bytes(alloc, event) {
-        Ok(bytes) => Ok(Some(bytes)),
-        Err(BsonError::OutOfMemory) => Err(OutOfMemory),
-        Err(_) => Ok(None),
+        Ok(bytes) => Ok(bytes),
+        Err(_) => Err(OutOfMemory),
     }
 }

@@ -1,10 +1,19 @@
 //! What an insert appends.
-ghost use Rattle.std.specs.Prelude.{◌≡◌, ◌≤◌, ◌+◌, ◌++◌, vec_len, vec_capacity};
+ghost use Rattle.mg_store.specs.declared.insert.Rejected.TheVariants.{Memory};
+ghost use Rattle.std.specs.Prelude.{◌≡◌, ◌<◌, ◌≤◌, ◌+◌, ◌^◌, ◌++◌, List, [], suc, length, is_some, map, vec_len, vec_capacity, IfOk, OnOk, OnErr, codes};
+ghost use Rattle.mg_bson.specs.Find.{get};
+ghost use Rattle.mg_bson.specs.Raw.{fields, items};
+ghost use Rattle.mg_bson.specs.Tree.{Fields, no_items};
+ghost use Rattle.mg_link.specs.Namespace.{space};
+ghost use Rattle.mg_link.specs.Rules.{inserting, write_error};
+ghost use Rattle.mg_store.specs.Asking.{documents_among};
+ghost use Rattle.mg_store.specs.Inserting.{AcceptsOr, Appends, AreApart, Encodes, Fits, GivesId, HasIds, KeepsIds, KeepsIdsThere, Lists, Takes, new_documents, number_of_id, stored, there};
 
 use crate::change::{ChangeEntry, event_bytes, insert_event};
-use crate::reply::{put, put_item, write_error};
+use crate::filter::key_of;
+use crate::reply::{put_item, write_error};
 use mg_bson::{
-    Array, Bson, Document, RawArray, RawDocument, RawDocumentBuf, to_bytes, to_document,
+    Array, Bson, BsonError, Document, RawArray, RawDocument, RawDocumentBuf, to_bytes, to_document,
 };
 use mg_link::{Namespace, OutOfMemory};
 use std::alloc::{AllocError, AllocFailed, Global};
@@ -42,7 +51,11 @@ impl Collection {
         &mut self,
         mut documents: Vec<RawDocumentBuf>,
         ids: BTreeMap<Vec<u8>, u64>,
-    ) -> Result<(), OutOfMemory> {
+    ) -> Result<(), OutOfMemory>
+        ensures ok { OnOk result (stored self.new ≡ stored self.old ++ map fields documents.items) }
+        ensures err { OnErr result (stored self.new ≡ stored self.old) }
+        ensures ids { KeepsIds self.old → HasIds ids (length (stored self.old)) (map fields documents.items) → AreApart (stored self.old) (map fields documents.items) → KeepsIds self.new }
+    {
         self.documents.reserve(documents.len())?;
         let count = self.documents.len() as u64;
         add_ids(&mut self.ids, ids, count)?;
@@ -54,16 +67,19 @@ impl Collection {
 /// Adds ids whose numbers begin at `count`. An error changes nothing.
 fn add_ids(
     ids: &mut BTreeMap<Vec<u8>, u64>,
-    more: BTreeMap<Vec<u8>, u64>,
+    mut more: BTreeMap<Vec<u8>, u64>,
     count: u64,
-) -> Result<(), OutOfMemory> {
-    for (id, number) in more {
-        if ids.insert(id, number).is_err() {
+) -> Result<(), OutOfMemory>
+    ensures ok { OnOk result ((before docs : List Fields) → count ≡ length before → HasIds ids.old 0 before → HasIds more (length before) docs → AreApart before docs → HasIds ids.new 0 (before ++ docs)) }
+    ensures err { OnErr result ((before docs : List Fields) → count ≡ length before → HasIds ids.old 0 before → HasIds more (length before) docs → AreApart before docs → HasIds ids.new 0 before) }
+{
+    match ids.append(&mut more) {
+        Ok(()) => Ok(()),
+        Err(_) => {
             ids.retain(|_, number| *number < count);
-            return Err(OutOfMemory);
+            Err(OutOfMemory)
         }
     }
-    Ok(())
 }
 
 /// Moves items to the end of a vector that has room for them.
@@ -94,99 +110,147 @@ enum Rejected {
 }
 
 impl From<OutOfMemory> for Rejected {
+    ghost from_gives = { λ _ e. e ≡ Memory };
+
     fn from(_e: OutOfMemory) -> Rejected {
         Rejected::Memory
     }
 }
 
 impl From<AllocError> for Rejected {
+    ghost from_gives = { λ _ e. e ≡ Memory };
+
     fn from(_e: AllocError) -> Rejected {
         Rejected::Memory
     }
 }
 
 impl<T: Drop> From<AllocFailed<T>> for Rejected {
+    ghost from_gives = { λ _ e. e ≡ Memory };
+
     fn from(_e: AllocFailed<T>) -> Rejected {
         Rejected::Memory
     }
 }
 
-/// The bytes by which an `_id` is looked up: kind and value, under an empty name.
-fn key_of(alloc: Global, id: Bson) -> Result<Vec<u8>, Rejected> {
-    let mut document = Document::new(alloc);
-    put(&mut document, "", id)?;
-    match to_bytes(alloc, &document) {
-        Ok(bytes) => Ok(bytes.as_bytes().to_vec(alloc)?),
-        Err(mg_bson::BsonError::OutOfMemory) => Err(Rejected::Memory),
-        Err(_) => Err(Rejected::Refused(BAD_DOCUMENT)),
+/// The encoding of a document that may be stored.
+fn storable(alloc: Global, document: &Document) -> Result<RawDocumentBuf, Rejected>
+    ensures { Encodes result document.now }
+{
+    match to_bytes(alloc, document) {
+        Ok(bytes) => {
+            if bytes.as_bytes().len() > MAX_DOCUMENT || !document.is_within(MAX_LEVELS) {
+                return Err(Rejected::Refused(BAD_DOCUMENT));
+            }
+            Ok(bytes)
+        }
+        Err(BsonError::TooLarge) => Err(Rejected::Refused(BAD_DOCUMENT)),
+        Err(BsonError::TooDeep) => Err(Rejected::Refused(BAD_DOCUMENT)),
+        Err(_) => Err(Rejected::Memory),
     }
 }
 
-/// The document as a tree, where it may be stored.
-fn storable(alloc: Global, raw: &RawDocument<'_>) -> Result<Document, Rejected> {
-    if raw.as_bytes().len() > MAX_DOCUMENT {
-        return Err(Rejected::Refused(BAD_DOCUMENT));
-    }
-    let owned = raw.to_buf(alloc);
-    let Ok(owned) = owned else {
-        return Err(Rejected::Memory);
-    };
-    let Ok(document) = to_document(alloc, owned.as_raw()) else {
-        return Err(Rejected::Memory);
-    };
-    if document.is_within(MAX_LEVELS) {
-        Ok(document)
-    } else {
-        Err(Rejected::Refused(BAD_DOCUMENT))
+/// A copy of the `_id` of a document.
+fn id_of(document: &Document) -> Result<Bson, Rejected>
+    ensures { GivesId result (get (codes "_id") document.now) }
+{
+    match document.get("_id") {
+        Some(id) => Ok(id.clone()?),
+        None => Err(Rejected::Refused(BAD_DOCUMENT)),
     }
 }
 
 impl Appended {
-    /// Appends a document behind what is there already.
+    fn new(alloc: Global) -> Appended
+        ensures fits { (before : List Fields) → Fits before result }
+        ensures none { new_documents result ≡ [] }
+        ensures no_entries { result.entries.items ≡ [] }
+        ensures no_errors { result.errors ≡ no_items }
+    {
+        Appended {
+            documents: Vec::new(alloc),
+            ids: BTreeMap::new(alloc),
+            entries: Vec::new(alloc),
+            errors: Array::new(alloc),
+        }
+    }
+
+    /// Appends a document behind what is there already. Its entry stands before the place.
     fn accept(
         &mut self,
         alloc: Global,
         collection: Option<&Collection>,
-        entry: u64,
+        place: u64,
         ns: &Namespace,
-        raw: &RawDocument<'_>,
-    ) -> Result<(), Rejected> {
-        let document = storable(alloc, raw)?;
-        let id = match document.get("_id") {
-            Some(id) => id.clone()?,
-            None => return Err(Rejected::Refused(BAD_DOCUMENT)),
-        };
+        document: Document,
+    ) -> Result<(), Rejected>
+        ensures { KeepsIdsThere collection.entry → Fits (there collection.entry) self.old → AcceptsOr (there collection.entry) place (space ns.now) document self.old self.new result }
+    {
+        let bytes = storable(alloc, &document)?;
+        let id = id_of(&document)?;
         let key = key_of(alloc, id.clone()?)?;
         if holds(collection, &key) || self.ids.contains_key(&key) {
             return Err(Rejected::Refused(DUPLICATE_ID));
         }
-        let event = insert_event(alloc, entry, ns, id, document)?;
-        let Some(event) = event_bytes(alloc, &event)? else {
-            return Err(Rejected::Refused(BAD_DOCUMENT));
-        };
-        let Ok(bytes) = raw.to_buf(alloc) else {
-            return Err(Rejected::Memory);
-        };
-        let ns = Namespace {
-            db: ns.db.clone()?,
-            coll: ns.coll.clone()?,
-        };
-        let number = count_of(collection).saturating_add(self.documents.len() as u64);
+        let event = insert_event(alloc, place, ns, id, document)?;
+        let event = event_bytes(alloc, &event)?;
+        let ns = ns.clone()?;
+        let number = count_of(collection) + self.documents.len() as u64;
         self.ids.insert(key, number)?;
         self.documents.push(bytes)?;
         self.entries.push(ChangeEntry { ns, event })?;
         Ok(())
     }
+
+    /// Lists the write error of the document with this number. More than can be numbered are want of memory.
+    fn fail(&mut self, alloc: Global, index: u64, code: i32) -> Result<(), OutOfMemory>
+        ensures { OnOk result (Lists (write_error index code) self.old self.new) }
+    {
+        let Ok(index) = i32::try_from(index) else {
+            return Err(OutOfMemory);
+        };
+        let error = write_error(alloc, index, code)?;
+        put_item(&mut self.errors, Bson::Document(error))
+    }
+
+    /// Appends a document, or lists its write error. Whether it was appended.
+    fn take(
+        &mut self,
+        alloc: Global,
+        collection: Option<&Collection>,
+        entries: u64,
+        ns: &Namespace,
+        index: u64,
+        document: Document,
+    ) -> Result<bool, OutOfMemory>
+        requires { entries < 2 ^ 63 }
+        ensures { KeepsIdsThere collection.entry → Fits (there collection.entry) self.old → IfOk result (Takes (there collection.entry) (suc (entries + length self.old.entries.items)) index (space ns.now) document self.old self.new) }
+    {
+        let place = entries + self.entries.len() as u64 + 1;
+        match self.accept(alloc, collection, place, ns, document) {
+            Ok(()) => Ok(true),
+            Err(Rejected::Memory) => Err(OutOfMemory),
+            Err(Rejected::Refused(code)) => {
+                self.fail(alloc, index, code)?;
+                Ok(false)
+            }
+        }
+    }
 }
 
-fn holds(collection: Option<&Collection>, key: &Vec<u8>) -> bool {
+fn holds(collection: Option<&Collection>, key: &Vec<u8>) -> bool
+    ensures { KeepsIdsThere collection.entry → result ≡ is_some (number_of_id 0 key.now.items (there collection.entry)) }
+{
     match collection {
         Some(collection) => collection.ids.contains_key(key),
         None => false,
     }
 }
 
-fn count_of(collection: Option<&Collection>) -> u64 {
+fn count_of(collection: Option<&Collection>) -> u64
+    ensures count { result ≡ length (there collection.entry) }
+    ensures small { result < 2 ^ 63 }
+{
     match collection {
         Some(collection) => collection.documents.len() as u64,
         None => 0,
@@ -201,32 +265,36 @@ pub(crate) fn append_all(
     ns: &Namespace,
     documents: &RawArray<'_>,
     ordered: bool,
-) -> Result<Appended, OutOfMemory> {
-    let mut appended = Appended {
-        documents: Vec::new(alloc),
-        ids: BTreeMap::new(alloc),
-        entries: Vec::new(alloc),
-        errors: Array::new(alloc),
-    };
-    let mut index = 0i32;
+) -> Result<Appended, OutOfMemory>
+    requires { entries < 2 ^ 63 }
+    ensures { KeepsIdsThere collection.entry → IfOk result (Appends (there collection.entry) entries (inserting (space ns.now) ordered 0 entries (there collection.entry) (documents_among (items documents.now)))) }
+{
+    let mut appended = Appended::new(alloc);
+    let mut index = 0u64;
     let mut left = documents.iter();
     'documents: while let Some(item) = left.next() {
         let Some(raw) = item.as_document() else {
             continue;
         };
-        let entry = entries.saturating_add(appended.entries.len() as u64);
-        match appended.accept(alloc, collection, entry, ns, &raw) {
-            Ok(()) => {}
-            Err(Rejected::Memory) => return Err(OutOfMemory),
-            Err(Rejected::Refused(code)) => {
-                let error = write_error(alloc, index, code)?;
-                put_item(&mut appended.errors, Bson::Document(error))?;
-                if ordered {
-                    break 'documents;
-                }
-            }
+        let document = tree_of(alloc, raw)?;
+        let taken = appended.take(alloc, collection, entries, ns, index, document)?;
+        if ordered && !taken {
+            return Ok(appended);
         }
-        index = index.saturating_add(1);
+        let Some(next) = index.checked_add(1) else {
+            return Err(OutOfMemory);
+        };
+        index = next;
     }
     Ok(appended)
+}
+
+/// The document as a tree.
+fn tree_of(alloc: Global, raw: RawDocument<'_>) -> Result<Document, OutOfMemory>
+    ensures { IfOk result (λ d. d ≡ fields raw.entry) }
+{
+    match to_document(alloc, raw) {
+        Ok(document) => Ok(document),
+        Err(_) => Err(OutOfMemory),
+    }
 }

@@ -3,13 +3,24 @@
 
 mod change;
 mod cursor;
+mod fate;
+mod filter;
 mod insert;
 mod link;
 mod perform;
+mod reading;
+mod refusing;
 mod reply;
 mod request;
 mod store;
+mod token;
 
 pub use change::ChangeEntry;
+pub use fate::{Fate, FateKind};
 pub use link::MemLink;
 pub use store::Store;
+
+#[cfg(test)]
+mod link_tests;
+#[cfg(test)]
+mod tests;

@@ -1,5 +1,14 @@
 //! The replies of the store, as documents.
-use mg_bson::{Array, Bson, Document, RawDocumentBuf, Timestamp, to_bytes};
+ghost use Rattle.std.specs.Prelude.{◌≡◌, ◌<◌, ◌^◌, pos, IfOk, OnOk, map, string_bytes};
+ghost use Rattle.mg_bson.specs.Find.{with_field, with_item};
+ghost use Rattle.mg_bson.specs.Literal.{◌⇒◌⨾◌, empty, word};
+ghost use Rattle.mg_bson.specs.Tree.{array, document, field, int32, string, timestamp};
+ghost use Rattle.mg_bson.specs.View.{tree};
+ghost use Rattle.mg_link.specs.Namespace.{space};
+ghost use Rattle.mg_link.specs.Rules.{cursor_fields, errors_field, number_of, refusal, stamp_of, token_fields, token_of, words_of};
+ghost use Rattle.mg_store.specs.Replies.{Written, killed_with};
+
+use mg_bson::{Array, Bson, BsonError, Document, RawDocumentBuf, Timestamp, to_bytes};
 use mg_link::{Namespace, OutOfMemory};
 use std::alloc::Global;
 
@@ -7,7 +16,9 @@ use std::alloc::Global;
 pub(crate) const MAX_REPLY: usize = 47_000_000;
 
 /// Adds a field at the end.
-pub(crate) fn put(document: &mut Document, name: &str, value: Bson) -> Result<(), OutOfMemory> {
+pub(crate) fn put(document: &mut Document, name: &str, value: Bson) -> Result<(), OutOfMemory>
+    ensures { OnOk result (document.new ≡ with_field document.old name.now (tree value)) }
+{
     match document.append(name, value) {
         Ok(()) => Ok(()),
         Err(_) => Err(OutOfMemory),
@@ -15,52 +26,68 @@ pub(crate) fn put(document: &mut Document, name: &str, value: Bson) -> Result<()
 }
 
 /// Adds an item at the end.
-pub(crate) fn put_item(array: &mut Array, value: Bson) -> Result<(), OutOfMemory> {
+pub(crate) fn put_item(array: &mut Array, value: Bson) -> Result<(), OutOfMemory>
+    ensures { OnOk result (array.new ≡ with_item array.old (tree value)) }
+{
     match array.push(value) {
         Ok(()) => Ok(()),
         Err(_) => Err(OutOfMemory),
     }
 }
 
-pub(crate) fn text(alloc: Global, text: &str) -> Result<Bson, OutOfMemory> {
+pub(crate) fn text(alloc: Global, text: &str) -> Result<Bson, OutOfMemory>
+    ensures { IfOk result (λ t. tree t ≡ string text.now) }
+{
     Ok(Bson::String(String::from_str(alloc, text)?))
 }
 
 /// A count, as Int32 where it fits.
-pub(crate) fn count(n: u64) -> Bson {
-    if n <= 2_147_483_647 {
-        Bson::Int32(n as i32)
-    } else {
-        Bson::Int64((n & 0x7fff_ffff_ffff_ffff) as i64)
+pub(crate) fn count(n: u64) -> Bson
+    ensures { n < 2 ^ 63 → tree result ≡ number_of n }
+{
+    match i32::try_from(n) {
+        Ok(n) => Bson::Int32(n),
+        Err(_) => Bson::Int64(i64::try_from(n).unwrap_or(i64::MAX)),
     }
 }
 
 /// The token of a place in the list of changes.
-pub(crate) fn token(alloc: Global, place: u64) -> Result<Document, OutOfMemory> {
+pub(crate) fn token(alloc: Global, place: u64) -> Result<Document, OutOfMemory>
+    ensures { IfOk result (λ d. d ≡ token_fields place) }
+{
     let mut token = Document::new(alloc);
-    let digits = format!(in alloc; "{place:016x}")?;
+    let digits = hex::encode(alloc, place.to_be_bytes().as_slice())?;
     put(&mut token, "_data", Bson::String(digits))?;
     Ok(token)
 }
 
 /// The time behind so many entries, which stays at the greatest number of seconds.
-pub(crate) fn time(entries: u64) -> Timestamp {
+pub(crate) fn time(entries: u64) -> Timestamp
+    ensures { timestamp result.time result.increment ≡ stamp_of entries }
+{
     Timestamp {
         time: entries.min(4_294_967_295) as u32,
         increment: 1,
     }
 }
 
-/// The reply that refuses a command.
-pub(crate) fn refusal(
-    alloc: Global,
-    code: i32,
-    labels: &[String],
-) -> Result<Document, OutOfMemory> {
+/// The texts as an array.
+fn words_of(alloc: Global, labels: &[String]) -> Result<Array, OutOfMemory>
+    ensures { IfOk result (λ a. a ≡ words_of (map string_bytes labels.now)) }
+{
     let mut words = Array::new(alloc);
     for label in labels {
-        put_item(&mut words, Bson::String(label.clone()?))?;
+        let word = text(alloc, label.as_str())?;
+        put_item(&mut words, word)?;
     }
+    Ok(words)
+}
+
+/// The reply that refuses a command.
+pub(crate) fn refusal(alloc: Global, code: i32, labels: &[String]) -> Result<Document, OutOfMemory>
+    ensures { IfOk result (λ d. d ≡ refusal code (map string_bytes labels.now)) }
+{
+    let words = words_of(alloc, labels)?;
     let mut reply = Document::new(alloc);
     put(&mut reply, "ok", Bson::Int32(0))?;
     put(&mut reply, "errmsg", text(alloc, "refused")?)?;
@@ -70,38 +97,24 @@ pub(crate) fn refusal(
     Ok(reply)
 }
 
-/// Which of a cursor's batches a reply holds.
-#[derive(Clone, Copy, Debug, PartialEq, Eq)]
-pub(crate) enum Batch {
-    First,
-    Next,
-}
-
-/// The part of a reply that holds a batch and the token behind it.
+/// The part of a reply that holds a batch, under this name, and the token behind it.
 fn cursor(
     alloc: Global,
     id: i64,
     ns: &Namespace,
-    batch: Batch,
+    batch: &str,
     events: Array,
     place: u64,
-) -> Result<Document, OutOfMemory> {
-    let name = match batch {
-        Batch::First => "firstBatch",
-        Batch::Next => "nextBatch",
-    };
-    let db = ns.db.as_str();
-    let coll = ns.coll.as_str();
-    let full_name = format!(in alloc; "{db}.{coll}")?;
+) -> Result<Document, OutOfMemory>
+    ensures { IfOk result (λ d. d ≡ cursor_fields id (space ns.now) (field batch.now (array events) ("postBatchResumeToken" ⇒ token_of place ⨾ empty))) }
+{
+    let token = token(alloc, place)?;
+    let full_name = format!(in alloc; "{ns}")?;
     let mut cursor = Document::new(alloc);
     put(&mut cursor, "id", Bson::Int64(id))?;
     put(&mut cursor, "ns", Bson::String(full_name))?;
-    put(&mut cursor, name, Bson::Array(events))?;
-    put(
-        &mut cursor,
-        "postBatchResumeToken",
-        Bson::Document(token(alloc, place)?),
-    )?;
+    put(&mut cursor, batch, Bson::Array(events))?;
+    put(&mut cursor, "postBatchResumeToken", Bson::Document(token))?;
     Ok(cursor)
 }
 
@@ -113,8 +126,10 @@ pub(crate) fn opened(
     events: Array,
     place: u64,
     now: Timestamp,
-) -> Result<Document, OutOfMemory> {
-    let cursor = cursor(alloc, id, ns, Batch::First, events, place)?;
+) -> Result<Document, OutOfMemory>
+    ensures { IfOk result (λ d. d ≡ ("cursor" ⇒ document (cursor_fields id (space ns.now) ("firstBatch" ⇒ array events ⨾ "postBatchResumeToken" ⇒ token_of place ⨾ empty)) ⨾ "operationTime" ⇒ timestamp now.time now.increment ⨾ "ok" ⇒ int32 (pos 1) ⨾ empty)) }
+{
+    let cursor = cursor(alloc, id, ns, "firstBatch", events, place)?;
     let mut reply = Document::new(alloc);
     put(&mut reply, "cursor", Bson::Document(cursor))?;
     put(&mut reply, "operationTime", Bson::Timestamp(now))?;
@@ -129,8 +144,10 @@ pub(crate) fn next_batch(
     ns: &Namespace,
     events: Array,
     place: u64,
-) -> Result<Document, OutOfMemory> {
-    let cursor = cursor(alloc, id, ns, Batch::Next, events, place)?;
+) -> Result<Document, OutOfMemory>
+    ensures { IfOk result (λ d. d ≡ ("cursor" ⇒ document (cursor_fields id (space ns.now) ("nextBatch" ⇒ array events ⨾ "postBatchResumeToken" ⇒ token_of place ⨾ empty)) ⨾ "ok" ⇒ int32 (pos 1) ⨾ empty)) }
+{
+    let cursor = cursor(alloc, id, ns, "nextBatch", events, place)?;
     let mut reply = Document::new(alloc);
     put(&mut reply, "cursor", Bson::Document(cursor))?;
     put(&mut reply, "ok", Bson::Int32(1))?;
@@ -138,7 +155,9 @@ pub(crate) fn next_batch(
 }
 
 /// The reply to an insert: how many documents were appended, and which were not.
-pub(crate) fn inserted(alloc: Global, n: u64, errors: Array) -> Result<Document, OutOfMemory> {
+pub(crate) fn inserted(alloc: Global, n: u64, errors: Array) -> Result<Document, OutOfMemory>
+    ensures { n < 2 ^ 63 → IfOk result (λ d. d ≡ ("n" ⇒ number_of n ⨾ errors_field errors ("ok" ⇒ int32 (pos 1) ⨾ empty))) }
+{
     let mut reply = Document::new(alloc);
     put(&mut reply, "n", count(n))?;
     if !errors.is_empty() {
@@ -149,7 +168,9 @@ pub(crate) fn inserted(alloc: Global, n: u64, errors: Array) -> Result<Document,
 }
 
 /// One document of an insert that was not appended.
-pub(crate) fn write_error(alloc: Global, index: i32, code: i32) -> Result<Document, OutOfMemory> {
+pub(crate) fn write_error(alloc: Global, index: i32, code: i32) -> Result<Document, OutOfMemory>
+    ensures { IfOk result (λ d. d ≡ ("index" ⇒ int32 index ⨾ "code" ⇒ int32 code ⨾ "errmsg" ⇒ word "refused" ⨾ empty)) }
+{
     let mut error = Document::new(alloc);
     put(&mut error, "index", Bson::Int32(index))?;
     put(&mut error, "code", Bson::Int32(code))?;
@@ -162,7 +183,9 @@ pub(crate) fn killed(
     alloc: Global,
     killed: Array,
     not_found: Array,
-) -> Result<Document, OutOfMemory> {
+) -> Result<Document, OutOfMemory>
+    ensures { IfOk result (λ d. d ≡ killed_with killed not_found) }
+{
     let mut reply = Document::new(alloc);
     put(&mut reply, "cursorsKilled", Bson::Array(killed))?;
     put(&mut reply, "cursorsNotFound", Bson::Array(not_found))?;
@@ -172,11 +195,14 @@ pub(crate) fn killed(
     Ok(reply)
 }
 
-/// The bytes of a reply, or none where it is larger or deeper than a reply may be.
+/// The bytes of a reply, or none where it is larger or deeper than a reply may be. Its names are of checked documents, so
+/// that each can be written.
 pub(crate) fn bytes_of(
     alloc: Global,
     reply: &Document,
-) -> Result<Option<RawDocumentBuf>, OutOfMemory> {
+) -> Result<Option<RawDocumentBuf>, OutOfMemory>
+    ensures { IfOk result (Written reply.now) }
+{
     match to_bytes(alloc, reply) {
         Ok(bytes) => {
             if bytes.as_bytes().len() > MAX_REPLY {
@@ -184,7 +210,8 @@ pub(crate) fn bytes_of(
             }
             Ok(Some(bytes))
         }
-        Err(mg_bson::BsonError::OutOfMemory) => Err(OutOfMemory),
-        Err(_) => Ok(None),
+        Err(BsonError::TooLarge) => Ok(None),
+        Err(BsonError::TooDeep) => Ok(None),
+        Err(_) => Err(OutOfMemory),
     }
 }

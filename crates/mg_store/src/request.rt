@@ -1,10 +1,19 @@
 //! What a command asks of the store.
-use mg_bson::{RawArray, RawDocument, RawValue};
-use mg_link::{Namespace, OutOfMemory};
-use std::alloc::{AllocError, AllocFailed, Global};
+ghost use Rattle.mg_store.specs.declared.request.Stop.TheVariants.{Memory};
+ghost use Rattle.std.specs.Prelude.{◌≡◌, ◌∷◌, [], IfOk, map, option_map};
+ghost use Rattle.mg_bson.specs.Raw.{fields, items, items_left};
+ghost use Rattle.mg_link.specs.Rules.{batch_size, insert_request, kill_request, more_request, request_of, some_size, watch_request};
+ghost use Rattle.mg_store.specs.Asking.{held, keyed};
+ghost use Rattle.mg_store.specs.Wanted.{Asks, OrBadRequest, code_of, conditions_at, filter_behind, lent, lent_opening, lent_stages, opening_of, stages_of, wanted};
 
-/// The most bytes of the name of a database or a collection.
-const MAX_NAME: usize = 65_536;
+use crate::filter::{Condition, conditions_of};
+use crate::reading::{
+    LentSpace, array_at, count_at, documents_of, flag_or, has_only, id_of, ids_of, only_document,
+    space_at,
+};
+use mg_bson::{RawArray, RawDocument, RawItems, RawValue};
+use mg_link::OutOfMemory;
+use std::alloc::{AllocError, AllocFailed, Global};
 
 /// Why the store refuses a command.
 #[derive(Clone, Copy, Debug, PartialEq, Eq)]
@@ -21,7 +30,9 @@ pub(crate) enum Refusal {
 
 impl Refusal {
     /// The code that a server gives for it.
-    pub(crate) fn code(self) -> i32 {
+    pub(crate) fn code(self) -> i32
+        ensures { result ≡ code_of self }
+    {
         match self {
             Refusal::UnknownCommand => 59,
             Refusal::BadRequest => 9,
@@ -39,18 +50,24 @@ pub(crate) enum Stop {
 }
 
 impl From<AllocError> for Stop {
+    ghost from_gives = { λ _ e. e ≡ Memory };
+
     fn from(_e: AllocError) -> Stop {
         Stop::Memory
     }
 }
 
 impl<T: Drop> From<AllocFailed<T>> for Stop {
+    ghost from_gives = { λ _ e. e ≡ Memory };
+
     fn from(_e: AllocFailed<T>) -> Stop {
         Stop::Memory
     }
 }
 
 impl From<OutOfMemory> for Stop {
+    ghost from_gives = { λ _ e. e ≡ Memory };
+
     fn from(_e: OutOfMemory) -> Stop {
         Stop::Memory
     }
@@ -60,18 +77,19 @@ impl From<OutOfMemory> for Stop {
 #[derive(Drop)]
 pub(crate) enum Request<'a> {
     Insert {
-        ns: Namespace,
+        space: LentSpace<'a>,
         documents: RawArray<'a>,
         ordered: bool,
     },
     Watch {
-        ns: Namespace,
+        space: LentSpace<'a>,
+        filter: Vec<Condition>,
         resume_after: Option<RawValue<'a>>,
         batch_size: Option<u64>,
     },
     GetMore {
         id: i64,
-        ns: Namespace,
+        space: LentSpace<'a>,
         batch_size: Option<u64>,
     },
     KillCursors {
@@ -79,245 +97,203 @@ pub(crate) enum Request<'a> {
     },
 }
 
-/// Fields that any command may have and that change nothing here.
-const IGNORED: [&str; 15] = [
-    "$db",
-    "lsid",
-    "txnNumber",
-    "startTransaction",
-    "autocommit",
-    "readConcern",
-    "writeConcern",
-    "$readPreference",
-    "comment",
-    "maxTimeMS",
-    "allowDiskUse",
-    "noCursorTimeout",
-    "bypassDocumentValidation",
-    "showExpandedEvents",
-    "nameOnly",
-];
-
-fn is_among(name: &str, names: &[&str]) -> bool {
-    names.iter().any(|known| name == *known)
-}
-
-/// Whether each field has one of the names, or one that changes nothing.
-fn has_only(document: &RawDocument<'_>, names: &[&str]) -> bool {
-    let mut left = document.iter();
-    while let Some((name, _)) = left.next() {
-        if !is_among(name, names) && !is_among(name, IGNORED.as_slice()) {
-            return false;
-        }
-    }
-    true
-}
-
-fn refuse<T>(refusal: Refusal) -> Result<T, Stop> {
-    Err(Stop::Refused(refusal))
-}
-
-/// A text that may name a collection.
-fn name_of<'a>(value: Option<RawValue<'a>>) -> Result<&'a str, Stop> {
-    match value {
-        Some(RawValue::String(name)) => {
-            if name.is_empty() || name.len() > MAX_NAME {
-                return refuse(Refusal::BadRequest);
-            }
-            Ok(name)
-        }
-        _ => refuse(Refusal::BadRequest),
-    }
-}
-
-/// The namespace of the collection that a field of the command names.
-fn namespace_of(alloc: Global, command: &RawDocument<'_>, field: &str) -> Result<Namespace, Stop> {
-    let db = name_of(command.get("$db"))?;
-    if db.contains('.') {
-        return refuse(Refusal::BadRequest);
-    }
-    let coll = name_of(command.get(field))?;
-    Ok(Namespace {
-        db: String::from_str(alloc, db)?,
-        coll: String::from_str(alloc, coll)?,
-    })
-}
-
-/// A whole number of a request, Int32 or Int64.
-fn integer_of(value: &RawValue<'_>) -> Result<i64, Stop> {
-    match value {
-        RawValue::Int32(n) => Ok(i64::from(*n)),
-        RawValue::Int64(n) => Ok(*n),
-        _ => refuse(Refusal::BadRequest),
-    }
-}
-
-/// A number of a request that is not negative.
-fn number_of(value: &RawValue<'_>) -> Result<u64, Stop> {
-    match u64::try_from(integer_of(value)?) {
-        Ok(number) => Ok(number),
-        Err(_) => refuse(Refusal::BadRequest),
-    }
-}
-
-/// The id of a cursor, which is not negative.
-fn id_of(value: &RawValue<'_>) -> Result<i64, Stop> {
-    let id = integer_of(value)?;
-    if id < 0 {
-        return refuse(Refusal::BadRequest);
-    }
-    Ok(id)
-}
-
-fn number_at(document: &RawDocument<'_>, field: &str) -> Result<Option<u64>, Stop> {
-    match document.get(field) {
-        Some(value) => Ok(Some(number_of(&value)?)),
-        None => Ok(None),
-    }
-}
-
-fn are_documents(array: &RawArray<'_>) -> bool {
-    let mut left = array.iter();
-    while let Some(item) = left.next() {
-        if item.as_document().is_none() {
-            return false;
-        }
-    }
-    true
-}
-
-fn array_at<'a>(document: &RawDocument<'a>, field: &str) -> Result<RawArray<'a>, Stop> {
-    match document.get(field) {
-        Some(RawValue::Array(array)) => Ok(array),
-        _ => refuse(Refusal::BadRequest),
-    }
-}
-
-fn insert_of<'a>(alloc: Global, command: &RawDocument<'a>) -> Result<Request<'a>, Stop> {
+#[tactic(auto, unfolding(mg_link::specs::Rules::insert_request))]
+fn insert_of<'a>(command: &RawDocument<'a>) -> Option<Request<'a>>
+    ensures { option_map lent result ≡ option_map wanted (insert_request (fields command.now)) }
+{
     if !has_only(command, &["insert", "documents", "ordered"]) {
-        return refuse(Refusal::BadRequest);
+        return None;
     }
-    let ns = namespace_of(alloc, command, "insert")?;
-    let documents = array_at(command, "documents")?;
-    if !are_documents(&documents) {
-        return refuse(Refusal::BadRequest);
-    }
-    let ordered = match command.get("ordered") {
-        Some(RawValue::Boolean(ordered)) => ordered,
-        None => true,
-        Some(_) => return refuse(Refusal::BadRequest),
-    };
-    Ok(Request::Insert {
-        ns,
+    let space = space_at(command, "insert")?;
+    let documents = documents_of(array_at(command, "documents")?)?;
+    let ordered = flag_or(true, command.get("ordered"))?;
+    Some(Request::Insert {
+        space,
         documents,
         ordered,
     })
 }
 
-/// The options of the stage that opens a watch, where the pipeline has no other.
-fn watch_options<'a>(pipeline: &RawArray<'a>) -> Result<RawDocument<'a>, Stop> {
-    let mut stages = pipeline.iter();
-    let stage = match stages.next() {
-        Some(RawValue::Document(stage)) => stage,
-        _ => return refuse(Refusal::BadRequest),
+/// The stages of a pipeline that opens a watch: the options of the first, and the filter of a second.
+#[derive(Drop)]
+struct Stages<'a> {
+    options: RawDocument<'a>,
+    filter: Option<RawDocument<'a>>,
+}
+
+/// The filter of the stages that are left: none, or one `$match`.
+fn filter_of<'a>(stages: &mut RawItems<'a>) -> Option<Option<RawDocument<'a>>>
+    ensures { option_map (λ f. option_map fields f) result ≡ filter_behind (items_left stages.old) }
+{
+    let Some(stage) = stages.next() else {
+        return Some(None);
     };
+    let stage = stage.as_document()?;
     if stages.next().is_some() {
-        return refuse(Refusal::BadRequest);
+        return None;
     }
-    let mut fields = stage.iter();
-    let options = match fields.next() {
-        Some((name, RawValue::Document(options))) => {
-            if name != "$changeStream" {
-                return refuse(Refusal::BadRequest);
-            }
-            options
-        }
-        _ => return refuse(Refusal::BadRequest),
-    };
-    if fields.next().is_some() {
-        return refuse(Refusal::BadRequest);
-    }
-    Ok(options)
+    let filter = only_document(&stage, "$match")?;
+    Some(Some(filter))
+}
+
+/// The stages of a pipeline, where they open a watch.
+#[tactic(auto, unfolding(crate::specs::Wanted::stages_of))]
+fn stages_of<'a>(pipeline: &RawArray<'a>) -> Option<Stages<'a>>
+    ensures { option_map lent_stages result ≡ stages_of (items pipeline.now) }
+{
+    let mut stages = pipeline.iter();
+    let first = stages.next()?;
+    let first = first.as_document()?;
+    let options = only_document(&first, "$changeStream")?;
+    let filter = filter_of(&mut stages)?;
+    Some(Stages { options, filter })
 }
 
 /// The batch size that the field `cursor` of a command asks for.
-fn cursor_batch_size(command: &RawDocument<'_>) -> Result<Option<u64>, Stop> {
-    match command.get("cursor") {
-        Some(RawValue::Document(cursor)) => {
-            if !has_only(&cursor, &["batchSize"]) {
-                return refuse(Refusal::BadRequest);
-            }
-            number_at(&cursor, "batchSize")
-        }
-        _ => refuse(Refusal::BadRequest),
+#[tactic(auto, unfolding(mg_link::specs::Rules::batch_size))]
+fn batch_size(command: &RawDocument<'_>) -> Option<Option<u64>>
+    ensures { result ≡ batch_size (fields command.now) }
+{
+    let found = command.get("cursor")?;
+    let cursor = found.as_document()?;
+    if !has_only(&cursor, &["batchSize"]) {
+        return None;
     }
+    count_at(&cursor, "batchSize")
 }
 
-fn watch_of<'a>(alloc: Global, command: &RawDocument<'a>) -> Result<Request<'a>, Stop> {
+/// What an aggregate asks for but its conditions.
+#[derive(Drop)]
+struct Opening<'a> {
+    space: LentSpace<'a>,
+    stages: Stages<'a>,
+    batch_size: Option<u64>,
+}
+
+#[tactic(auto, unfolding(crate::specs::Wanted::opening_of))]
+fn opening_of<'a>(command: &RawDocument<'a>) -> Option<Opening<'a>>
+    ensures { option_map lent_opening result ≡ opening_of (fields command.now) }
+{
     if !has_only(command, &["aggregate", "pipeline", "cursor"]) {
-        return refuse(Refusal::BadRequest);
+        return None;
     }
-    let ns = namespace_of(alloc, command, "aggregate")?;
-    let pipeline = array_at(command, "pipeline")?;
-    let options = watch_options(&pipeline)?;
-    if !has_only(&options, &["resumeAfter"]) {
-        return refuse(Refusal::BadRequest);
+    let space = space_at(command, "aggregate")?;
+    let stages = stages_of(&array_at(command, "pipeline")?)?;
+    if !has_only(&stages.options, &["resumeAfter"]) {
+        return None;
     }
-    let batch_size = cursor_batch_size(command)?;
-    Ok(Request::Watch {
-        ns,
-        resume_after: options.get("resumeAfter"),
+    let batch_size = batch_size(command)?;
+    Some(Opening {
+        space,
+        stages,
         batch_size,
     })
 }
 
-fn get_more_of<'a>(alloc: Global, command: &RawDocument<'a>) -> Result<Request<'a>, Stop> {
-    if !has_only(command, &["getMore", "collection", "batchSize"]) {
-        return refuse(Refusal::BadRequest);
+fn filter_conditions(
+    alloc: Global,
+    filter: Option<RawDocument<'_>>,
+) -> Result<Option<Vec<Condition>>, OutOfMemory>
+    ensures { IfOk result (λ cs. option_map (λ v. map held v.items) cs ≡ option_map (map keyed) (conditions_at (option_map fields filter.entry))) }
+{
+    match filter {
+        Some(filter) => conditions_of(alloc, &filter),
+        None => Ok(Some(Vec::new(alloc))),
     }
-    let id = match command.get("getMore") {
-        Some(value) => id_of(&value)?,
-        None => return refuse(Refusal::BadRequest),
-    };
-    let ns = namespace_of(alloc, command, "collection")?;
-    let batch_size = match number_at(command, "batchSize")? {
-        Some(0) => None,
-        size => size,
-    };
-    Ok(Request::GetMore { id, ns, batch_size })
 }
 
-fn kill_cursors_of<'a>(alloc: Global, command: &RawDocument<'a>) -> Result<Request<'a>, Stop> {
+fn watch_of<'a>(
+    alloc: Global,
+    command: &RawDocument<'a>,
+) -> Result<Option<Request<'a>>, OutOfMemory>
+    ensures { IfOk result (λ r. option_map lent r ≡ option_map wanted (watch_request (fields command.now))) }
+{
+    let Some(opening) = opening_of(command) else {
+        return Ok(None);
+    };
+    let Opening {
+        space,
+        stages,
+        batch_size,
+    } = opening;
+    let Stages { options, filter } = stages;
+    let Some(filter) = filter_conditions(alloc, filter)? else {
+        return Ok(None);
+    };
+    Ok(Some(Request::Watch {
+        space,
+        filter,
+        resume_after: options.get("resumeAfter"),
+        batch_size,
+    }))
+}
+
+/// A size of 0 counts as none given.
+fn some_size(size: Option<u64>) -> Option<u64>
+    ensures { result ≡ some_size size }
+{
+    match size {
+        Some(0) => None,
+        _ => size,
+    }
+}
+
+#[tactic(auto, unfolding(mg_link::specs::Rules::more_request))]
+fn get_more_of<'a>(command: &RawDocument<'a>) -> Option<Request<'a>>
+    ensures { option_map lent result ≡ option_map wanted (more_request (fields command.now)) }
+{
+    if !has_only(command, &["getMore", "collection", "batchSize"]) {
+        return None;
+    }
+    let found = command.get("getMore")?;
+    let id = id_of(&found)?;
+    let space = space_at(command, "collection")?;
+    let size = count_at(command, "batchSize")?;
+    Some(Request::GetMore {
+        id,
+        space,
+        batch_size: some_size(size),
+    })
+}
+
+#[tactic(auto, unfolding(mg_link::specs::Rules::kill_request))]
+fn kill_cursors_of<'a>(command: &RawDocument<'a>) -> Option<Request<'a>>
+    ensures { option_map lent result ≡ option_map wanted (kill_request (fields command.now)) }
+{
     if !has_only(command, &["killCursors", "cursors"]) {
-        return refuse(Refusal::BadRequest);
+        return None;
     }
-    let _ns = namespace_of(alloc, command, "killCursors")?;
-    let ids = array_at(command, "cursors")?;
-    let mut left = ids.iter();
-    while let Some(id) = left.next() {
-        let _id = id_of(&id)?;
+    let _space = space_at(command, "killCursors")?;
+    let ids = ids_of(array_at(command, "cursors")?)?;
+    Some(Request::KillCursors { ids })
+}
+
+fn or_bad_request<'a>(request: Option<Request<'a>>) -> Result<Request<'a>, Stop>
+    ensures { OrBadRequest result request.entry }
+{
+    match request {
+        Some(request) => Ok(request),
+        None => Err(Stop::Refused(Refusal::BadRequest)),
     }
-    Ok(Request::KillCursors { ids })
 }
 
 /// What the command asks for. Its first field names it.
-pub(crate) fn request_of<'a>(
-    alloc: Global,
-    command: &RawDocument<'a>,
-) -> Result<Request<'a>, Stop> {
+pub(crate) fn request_of<'a>(alloc: Global, command: &RawDocument<'a>) -> Result<Request<'a>, Stop>
+    ensures { Asks result (request_of (fields command.now)) }
+{
     let name = match command.iter().next() {
         Some((name, _)) => name,
-        None => return refuse(Refusal::UnknownCommand),
+        None => return Err(Stop::Refused(Refusal::UnknownCommand)),
     };
     if name == "insert" {
-        insert_of(alloc, command)
+        or_bad_request(insert_of(command))
     } else if name == "aggregate" {
-        watch_of(alloc, command)
+        or_bad_request(watch_of(alloc, command)?)
     } else if name == "getMore" {
-        get_more_of(alloc, command)
+        or_bad_request(get_more_of(command))
     } else if name == "killCursors" {
-        kill_cursors_of(alloc, command)
+        or_bad_request(kill_cursors_of(command))
     } else {
-        refuse(Refusal::UnknownCommand)
+        Err(Stop::Refused(Refusal::UnknownCommand))
     }
 }

@@ -1,9 +1,17 @@
 //! The store.
-ghost use Rattle.std.specs.Prelude.{◌≡◌, ◌<◌, ◌++◌, ◌∷◌, [], length, vec_len, vec_capacity, IfOk, OnOk, OnErr};
-ghost use Rattle.mg_store.specs.Stored.{Stored, Step, Performs};
+ghost use Rattle.std.specs.Prelude.{◌≡◌, ◌<◌, ◌≤◌, ◌++◌, ◌∷◌, [], length, map, suc, pos, string_bytes, vec_len, vec_capacity, IfOk, OnErr};
+ghost use Rattle.mg_bson.specs.Bytes.{bytes};
+ghost use Rattle.mg_bson.specs.Raw.{fields};
+ghost use Rattle.mg_link.specs.Kept.{IsByRules, IsReply, given_of, state_of_kept};
+ghost use Rattle.mg_link.specs.Namespace.{space};
+ghost use Rattle.mg_link.specs.Rules.{answer_of, refusal};
+ghost use Rattle.mg_link.specs.Step.{documents_of};
+ghost use Rattle.mg_store.specs.Contents.{MayKeep};
+ghost use Rattle.mg_store.specs.Stored.{AreOpen, Performs, Stored, kept_of, shown, shown_of};
 
 use crate::change::ChangeEntry;
-use crate::perform::Content;
+use crate::perform::{Answer, Content, closing, refused};
+use crate::refusing::{continued_cursor, ends_cursor};
 use mg_bson::{RawDocument, RawDocumentBuf};
 use mg_link::{HistoryStep, Namespace, OutOfMemory, Receipt};
 use std::alloc::Global;
@@ -18,12 +26,15 @@ pub struct Store {
 }
 
 impl Model for Store {
+    ghost use Rattle.mg_store.specs.Contents.{Keeps};
     ghost use Rattle.mg_store.specs.Stored.{Stored, steps_of};
     ghost use Rattle.std.specs.BTreeMap.{keys};
 
     ghost Value = { Stored };
 
     ghost view = { λ s. record { history = steps_of s.history.items; open_ids = keys s.content.cursors } };
+
+    ghost invariant = { λ s. Keeps s.content (steps_of s.history.items) };
 }
 
 impl Store {
@@ -38,30 +49,64 @@ impl Store {
         }
     }
 
-    /// Performs a command and keeps the step. A refusal is a reply. Where memory runs out nothing changes.
+    /// Performs a command and keeps the step. The reply is that of the store's rules, and a refusal is a reply. Where
+    /// memory runs out nothing changes.
     pub fn perform(&mut self, command: RawDocument<'_>) -> Result<Receipt, OutOfMemory>
         ensures step { IfOk result (λ r. Performs self.old self.new command.entry r) }
+        ensures reply { IfOk result (λ r. IsReply (answer_of (state_of_kept self.old.history) (pos (suc (given_of self.old.history))) (fields command.entry)).reply r.reply) }
+        ensures err { OnErr result (self.new ≡ self.old) }
+    {
+        let answer = self.content.answer(self.alloc, &command)?;
+        self.keep(command, answer)
+    }
+
+    /// Does what the answer does, and keeps the step. Where memory runs out nothing changes.
+    fn keep(&mut self, command: RawDocument<'_>, answer: Answer) -> Result<Receipt, OutOfMemory>
+        requires { MayKeep self.old.history command answer }
+        ensures step { IfOk result (λ r. Performs self.old self.new command.entry r) }
+        ensures reply { IfOk result (λ r. r.reply ≡ answer.reply) }
         ensures err { OnErr result (self.new ≡ self.old) }
     {
         let alloc = self.alloc;
-        let answer = self.content.answer(alloc, &command)?;
+        let Answer { reply, effect } = answer;
         let step = HistoryStep {
             command: copy(alloc, &command)?,
-            reply: copy(alloc, &answer.reply.as_raw())?,
+            reply: copy(alloc, &reply.as_raw())?,
         };
         let receipt = Receipt {
             position: self.history.len() as u64,
             command: copy(alloc, &command)?,
-            reply: answer.reply,
+            reply,
         };
         self.history.reserve(1)?;
-        self.content.commit(answer.effect)?;
+        self.content.commit(effect)?;
         push_reserved(&mut self.history, step);
         Ok(receipt)
     }
 
+    /// Refuses a command with this code and these labels, and keeps the step. The reply has at most 47,000,000 bytes. A
+    /// getMore that is refused with code 43 or 237 leaves the store without the cursor that it names, and nothing else
+    /// changes but the history. Where memory runs out nothing changes.
+    pub fn refuse(
+        &mut self,
+        command: RawDocument<'_>,
+        code: i32,
+        labels: &[String],
+    ) -> Result<Receipt, OutOfMemory>
+        requires { length (bytes (refusal code (map string_bytes labels.now))) ≤ 47000000 }
+        ensures step { IfOk result (λ r. Performs self.old self.new command.entry r) }
+        ensures reply { IfOk result (λ r. IsReply (refusal code (map string_bytes labels.now)) r.reply) }
+        ensures err { OnErr result (self.new ≡ self.old) }
+    {
+        let Answer { reply, effect: _ } = refused(self.alloc, code, labels)?;
+        let effect = closing(ends_cursor(code), continued_cursor(&command));
+        self.keep(command, Answer { reply, effect })
+    }
+
     /// The documents of a collection, in the order of their inserts; none where the collection is not there.
-    pub fn documents(&self, ns: &Namespace) -> &[RawDocumentBuf] {
+    pub fn documents(&self, ns: &Namespace) -> &[RawDocumentBuf]
+        ensures { map fields result.now ≡ documents_of (state_of_kept self.now.history) (space ns.now) }
+    {
         match self.content.collections.get(ns) {
             Some(collection) => collection.documents.as_slice(),
             None => &[],
@@ -69,18 +114,24 @@ impl Store {
     }
 
     /// The list of changes, in order.
-    pub fn changes(&self) -> &[ChangeEntry] {
+    pub fn changes(&self) -> &[ChangeEntry]
+        ensures { map shown_of result.now ≡ map shown (state_of_kept self.now.history).changes }
+    {
         self.content.changes.as_slice()
     }
 
     /// The steps that were taken, in order.
-    pub fn history(&self) -> &[HistoryStep] {
+    pub fn history(&self) -> &[HistoryStep]
+        ensures steps { map kept_of result.now ≡ self.now.history }
+        ensures by_rules { IsByRules self.now.history }
+    {
         self.history.as_slice()
     }
 
     /// The ids of the open cursors, ascending.
     pub fn open_cursors(&self) -> Result<Vec<i64>, OutOfMemory>
-        ensures { IfOk result (λ ids. ids.items ≡ self.now.open_ids) }
+        ensures ids { IfOk result (λ ids. ids.items ≡ self.now.open_ids) }
+        ensures open { AreOpen (state_of_kept self.now.history) self.now.open_ids }
     {
         Ok(self.content.cursors.keys().copied().collect(self.alloc)?)
     }

@@ -1,0 +1,168 @@
+-- What a command does to the content, and to the state that it is.
+use Rattle.std.proofs.Common.{◌≡◌, ℕ, ℤ, pos, ◌+◌, Bool, true, false, cond, List, [], ◌∷◌, ◌++◌, length, drop, get_or, ◌<◌, Option, Some, None, option_map, refl, sym, ap, ap₂, ◌∙◌, subst, arith}
+use Rattle.std.specs.Prelude.{IsSome, if◌then◌else◌, ◌||◌}
+use Rattle.std.specs.BTreeMap.{get}
+use Rattle.std.specs.Ordering.{int_cmp, int_eq, is_eq}
+use Rattle.std.proofs.lemmas.List.{drop_more}
+use Rattle.mg_bson.specs.Tree.{Fields}
+use Rattle.mg_link.specs.declared.namespace.Namespace.{Namespace}
+use Rattle.mg_link.specs.Namespace.{Space, space}
+use Rattle.mg_link.specs.State.{Entry, Watch, Cursor, watching, State, is_space, put_cursor, without_cursors}
+use Rattle.mg_link.specs.Step.{documents_of}
+use Rattle.mg_link.specs.Rules.{is_id_among}
+use Rattle.mg_store.specs.Contents.{Does, IsCursorAt, Represents, collection_at}
+use Rattle.mg_store.specs.Holding.{AreExact, IsWatch, entries_from}
+use Rattle.mg_store.specs.Inserting.{KeepsIds, new_documents, stored}
+use Rattle.mg_store.specs.declared.cursor.Cursor as code
+use Rattle.mg_store.specs.declared.cursor.Watch as held
+use Rattle.mg_store.specs.declared.insert.Appended.{Appended}
+use Rattle.mg_store.specs.declared.insert.Collection.{Collection}
+use Rattle.mg_store.specs.declared.perform.Content.{Content}
+use Rattle.mg_store.specs.declared.perform.Effect.TheVariants as effects
+use Rattle.mg_store.proofs.Entries.{entries-append, exact-append}
+use Rattle.mg_store.proofs.Holdings.{changes-length}
+use Rattle.mg_store.proofs.Maps.{int_test, same_space}
+
+-- ---- cursors
+
+cursor_cond : (b : Bool) (o o' : Option code.Cursor) (p p' : Option Cursor) → IsCursorAt o p → IsCursorAt o' p' → IsCursorAt (cond b o o') (if b then p else p')
+cursor_cond true o o' p p' h h' = h
+cursor_cond false o o' p p' h h' = h'
+
+cursors_put : (c c' : Content) (s s' : State) (given : ℕ) (id : ℤ) (o : Option code.Cursor) (p : Option Cursor) → Represents c s given → IsCursorAt o p → ((q : ℤ) → get int_cmp c'.cursors q ≡ cond (is_eq (int_cmp id q)) o (get int_cmp c.cursors q))
+    → ((q : ℤ) → s'.cursors q ≡ put_cursor id p s.cursors q) → (q : ℤ) → IsCursorAt (get int_cmp c'.cursors q) (s'.cursors q)
+cursors_put c c' s s' given id o p h at code_is state_is q =
+    let both = cursor_cond (int_eq q id) o (get int_cmp c.cursors q) p (s.cursors q) at (h.cursors_are q) in
+    subst (λ (x : Option Cursor). IsCursorAt (get int_cmp c'.cursors q) x) (sym (state_is q))
+    (subst (λ (x : Option code.Cursor). IsCursorAt x (put_cursor id p s.cursors q)) (sym (code_is q ∙ ap (λ (b : Bool). cond b o (get int_cmp c.cursors q)) (int_test id q))) both)
+
+-- other parts stay
+represents_with : (c c' : Content) (s s' : State) (given given' : ℕ) → Represents c s given → c'.collections ≡ c.collections → c'.changes ≡ c.changes → ((sp : Space) → s'.documents sp ≡ s.documents sp) → s'.changes ≡ s.changes
+    → ((id : ℤ) → IsCursorAt (get int_cmp c'.cursors id) (s'.cursors id)) → c'.given ≡ pos given' → Represents c' s' given'
+represents_with c c' s s' given given' h cs es docs changes cursors number = record {
+  documents_are = λ sp. docs sp ∙ h.documents_are sp ∙ ap (λ m. option_map stored (collection_at m sp)) (sym cs);
+  ids_are = λ sp col e. h.ids_are sp col (ap (λ m. collection_at m sp) (sym cs) ∙ e);
+  changes_are = changes ∙ h.changes_are ∙ ap (λ l. entries_from 0 l.items) (sym es);
+  exact = subst (λ l. AreExact l.items) (sym es) h.exact;
+  cursors_are = cursors;
+  given_are = number;
+}
+
+pub does_nothing : (c c' : Content) (s s' : State) (given given' : ℕ) → Represents c s given → Does effects.Nothing s given s' given' → c' ≡ c → Represents c' s' given'
+does_nothing c c' s s' given given' h does same =
+    represents_with c c' s s' given given' h (ap (λ (x : Content). x.collections) same) (ap (λ (x : Content). x.changes) same) does.documents_are does.changes_are
+    (λ id. subst (λ (x : Option Cursor). IsCursorAt (get int_cmp c'.cursors id) x) (sym (does.cursors_are id)) (subst (λ (x : Content). IsCursorAt (get int_cmp x.cursors id) (s.cursors id)) (sym same) (h.cursors_are id)))
+    (ap (λ (x : Content). x.given) same ∙ h.given_are ∙ ap pos (sym does.given_are))
+
+pub does_open : (c c' : Content) (s s' : State) (given given' : ℕ) (id : ℤ) (cursor : code.Cursor) → Represents c s given → Does (effects.Open id cursor) s given s' given' → c'.collections ≡ c.collections → c'.changes ≡ c.changes
+    → ((q : ℤ) → get int_cmp c'.cursors q ≡ cond (is_eq (int_cmp id q)) (Some cursor) (get int_cmp c.cursors q)) → c'.given ≡ id → Represents c' s' given'
+does_open c c' s s' given given' id cursor h does cs es code_is number =
+    let b = does.3 in
+    represents_with c c' s s' given given' h cs es b.documents_are b.changes_are
+    (cursors_put c c' s s' given id (Some cursor) (Some (watching does.0 cursor.place)) h (does.1, refl) code_is b.cursors_are)
+    (number ∙ does.2 ∙ ap pos (sym b.given_are))
+
+some_watch : (o : Option code.Cursor) (w : Watch) (from : ℕ) → IsCursorAt o (Some (watching w from)) → (cursor : code.Cursor) × (o ≡ Some cursor) × IsWatch cursor.watch w
+some_watch None w from h = absurd h
+some_watch (Some c) w from h = (c, refl, h.0)
+
+pub does_move : (c c' : Content) (s s' : State) (given given' : ℕ) (id : ℤ) (place : ℕ) (old new : code.Cursor) → Represents c s given → Does (effects.Move id place) s given s' given' → get int_cmp c.cursors id ≡ Some old → new.watch ≡ old.watch → new.place ≡ place
+    → c'.collections ≡ c.collections → c'.changes ≡ c.changes → c'.given ≡ c.given → ((q : ℤ) → get int_cmp c'.cursors q ≡ cond (is_eq (int_cmp id q)) (Some new) (get int_cmp c.cursors q)) → Represents c' s' given'
+does_move c c' s s' given given' id place old new h does found watch place_is cs es number code_is =
+    let w : Watch = does.0 in
+    let b = does.3 in
+    let at = subst (λ (x : Option code.Cursor). IsCursorAt x (Some (watching w does.1))) found (subst (IsCursorAt (get int_cmp c.cursors id)) does.2 (h.cursors_are id)) in
+    represents_with c c' s s' given given' h cs es b.documents_are b.changes_are
+    (cursors_put c c' s s' given id (Some new) (Some (watching w place)) h (subst (λ (x : held.Watch). IsWatch x w) (sym watch) at.0, sym place_is) code_is b.cursors_are)
+    (number ∙ h.given_are ∙ ap pos (sym b.given_are))
+
+-- a cursor that is to move is held
+pub move_held : (c : Content) (s s' : State) (given given' : ℕ) (id : ℤ) (place : ℕ) → Represents c s given → Does (effects.Move id place) s given s' given' → get int_cmp c.cursors id ≡ None → ⊥
+move_held c s s' given given' id place h does none =
+    subst (λ (x : Option code.Cursor). IsCursorAt x (Some (watching does.0 does.1))) none (subst (IsCursorAt (get int_cmp c.cursors id)) does.2 (h.cursors_are id))
+
+pub does_close : (c c' : Content) (s s' : State) (given given' : ℕ) (id : ℤ) → Represents c s given → Does (effects.Close id) s given s' given' → c'.collections ≡ c.collections → c'.changes ≡ c.changes → c'.given ≡ c.given
+    → ((q : ℤ) → get int_cmp c'.cursors q ≡ cond (is_eq (int_cmp id q)) None (get int_cmp c.cursors q)) → Represents c' s' given'
+does_close c c' s s' given given' id h does cs es number code_is =
+    represents_with c c' s s' given given' h cs es does.documents_are does.changes_are (cursors_put c c' s s' given id None None h tt code_is does.cursors_are) (number ∙ h.given_are ∙ ap pos (sym does.given_are))
+
+without_if : (a b : Bool) (o : Option Cursor) → (if b then None else (if a then None else o)) ≡ (if (a || b) then None else o)
+without_if true true o = refl
+without_if true false o = refl
+without_if false b o = refl
+
+without_is : (ids : List ℤ) (cursors : ℤ → Option Cursor) (q : ℤ) → without_cursors ids cursors q ≡ (if is_id_among q ids then None else cursors q)
+without_is [] cursors q = refl
+without_is (id ∷ ids) cursors q = without_is ids (put_cursor id None cursors) q ∙ without_if (int_eq q id) (is_id_among q ids) (cursors q)
+
+cursor_if : (b : Bool) (o : Option code.Cursor) (p : Option Cursor) → IsCursorAt o p → IsCursorAt (if b then None else o) (if b then None else p)
+cursor_if true o p h = tt
+cursor_if false o p h = h
+
+pub does_kill : (c c' : Content) (s s' : State) (given given' : ℕ) (ids : List ℤ) → Represents c s given → ((sp : Space) → s'.documents sp ≡ s.documents sp) → s'.changes ≡ s.changes → ((q : ℤ) → s'.cursors q ≡ without_cursors ids s.cursors q) → given' ≡ given
+    → c'.collections ≡ c.collections → c'.changes ≡ c.changes → c'.given ≡ c.given → ((q : ℤ) → get int_cmp c'.cursors q ≡ (if is_id_among q ids then None else get int_cmp c.cursors q)) → Represents c' s' given'
+does_kill c c' s s' given given' ids h docs changes cursors number cs es same code_is =
+    represents_with c c' s s' given given' h cs es docs changes
+    (λ q. subst (λ (x : Option Cursor). IsCursorAt (get int_cmp c'.cursors q) x) (sym (cursors q ∙ without_is ids s.cursors q))
+    (subst (λ (x : Option code.Cursor). IsCursorAt x (if is_id_among q ids then None else s.cursors q)) (sym (code_is q)) (cursor_if (is_id_among q ids) (get int_cmp c.cursors q) (s.cursors q) (h.cursors_are q))))
+    (same ∙ h.given_are ∙ ap pos (sym number))
+
+removed_if : (a b : Bool) (o : Option code.Cursor) → (if b then None else cond a None o) ≡ (if (a || b) then None else o)
+removed_if true true o = refl
+removed_if true false o = refl
+removed_if false b o = refl
+
+-- one id of a list is removed
+pub removed_one : (ids : List ℤ) (i : ℕ) (other : ℤ) (old new : Option code.Cursor) → i < length ids → new ≡ cond (is_eq (int_cmp (get_or ids i (pos 0)) other)) None old
+    → (if is_id_among other (drop (i + 1) ids) then None else new) ≡ (if is_id_among other (drop i ids) then None else old)
+removed_one ids i other old new lt is =
+    let id : ℤ = get_or ids i (pos 0) in
+    ap (λ (o : Option code.Cursor). if is_id_among other (drop (i + 1) ids) then None else o) (is ∙ ap (λ (b : Bool). cond b None old) (int_test id other))
+    ∙ removed_if (int_eq other id) (is_id_among other (drop (i + 1) ids)) old ∙ sym (ap (λ (l : List ℤ). if is_id_among other l then None else old) (drop_more ids i (pos 0) lt))
+
+-- ---- inserts
+
+documents_if : (b : Bool) (w : Collection) (ds : List Fields) (o : Option Collection) (p : Option (List Fields)) → stored w ≡ ds → p ≡ option_map stored o → (if b then Some ds else p) ≡ option_map stored (if b then Some w else o)
+documents_if true w ds o p e f = ap Some (sym e)
+documents_if false w ds o p e f = f
+
+keeps_if : (b : Bool) (w col : Collection) (o : Option Collection) → KeepsIds w → (o ≡ Some col → KeepsIds col) → (if b then Some w else o) ≡ Some col → KeepsIds col
+keeps_if true w col o h f e = let same : w ≡ col = cc in subst KeepsIds same h
+keeps_if false w col o h f e = f e
+
+pub does_insert : (c c' : Content) (s s' : State) (given given' : ℕ) (ns : Namespace) (a : Appended) (w : Collection) → Represents c s given → Does (effects.Insert ns a) s given s' given'
+    → ((sp : Space) → collection_at c'.collections sp ≡ (if is_space sp (space ns) then Some w else collection_at c.collections sp)) → stored w ≡ documents_of s (space ns) ++ new_documents a → KeepsIds w
+    → c'.changes.items ≡ c.changes.items ++ a.entries.items → c'.cursors ≡ c.cursors → c'.given ≡ c.given → Represents c' s' given'
+does_insert c c' s s' given given' ns a w h does cs docs ids es cursors number =
+    let b = does.1 in
+    let place : 0 + length c.changes.items ≡ length s.changes = omega (arith, changes-length c s given h) in
+    record {
+      documents_are = λ sp. b.documents_are sp ∙ documents_if (is_space sp (space ns)) w (documents_of s (space ns) ++ new_documents a) (collection_at c.collections sp) (s.documents sp) docs (h.documents_are sp) ∙ ap (option_map stored) (sym (cs sp));
+      ids_are = λ sp col e. keeps_if (is_space sp (space ns)) w col (collection_at c.collections sp) ids (h.ids_are sp col) (sym (cs sp) ∙ e);
+      changes_are = b.changes_are ∙ ap₂ (λ (xs : List Entry) (n : ℕ). xs ++ entries_from n a.entries.items) h.changes_are (sym place) ∙ sym (entries-append 0 c.changes.items a.entries.items) ∙ ap (entries_from 0) (sym es);
+      exact = subst AreExact (sym es) (exact-append c.changes.items a.entries.items h.exact does.0.exact);
+      cursors_are = λ id. subst (λ (x : Option Cursor). IsCursorAt (get int_cmp c'.cursors id) x) (sym (b.cursors_are id)) (subst (λ m. IsCursorAt (get int_cmp m id) (s.cursors id)) (sym cursors) (h.cursors_are id));
+      given_are = number ∙ h.given_are ∙ ap pos (sym b.given_are);
+    }
+
+undone : (b : Bool) (old w : Collection) (o : Option Collection) → stored w ≡ stored old → (b ≡ true → o ≡ Some old) → option_map stored o ≡ option_map stored (if b then Some w else o)
+undone true old w o same found = ap (option_map stored) (found refl) ∙ ap Some (sym same)
+undone false old w o same found = refl
+
+-- an insert that came to nothing
+pub insert_undone : (c c' : Content) (s : State) (given : ℕ) (ns : Namespace) (old w : Collection) → Represents c s given → collection_at c.collections (space ns) ≡ Some old
+    → ((sp : Space) → collection_at c'.collections sp ≡ (if is_space sp (space ns) then Some w else collection_at c.collections sp)) → stored w ≡ stored old → KeepsIds w
+    → c'.changes.items ≡ c.changes.items → c'.cursors ≡ c.cursors → c'.given ≡ c.given → Represents c' s given
+insert_undone c c' s given ns old w h found cs same ids es cursors number =
+    record {
+      documents_are = λ sp. h.documents_are sp ∙ undone (is_space sp (space ns)) old w (collection_at c.collections sp) same (λ at. ap (collection_at c.collections) (same_space sp (space ns) at) ∙ found) ∙ ap (option_map stored) (sym (cs sp));
+      ids_are = λ sp col e. keeps_if (is_space sp (space ns)) w col (collection_at c.collections sp) ids (h.ids_are sp col) (sym (cs sp) ∙ e);
+      changes_are = h.changes_are ∙ ap (entries_from 0) (sym es);
+      exact = subst AreExact (sym es) h.exact;
+      cursors_are = λ id. subst (λ m. IsCursorAt (get int_cmp m id) (s.cursors id)) (sym cursors) (h.cursors_are id);
+      given_are = number ∙ h.given_are;
+    }
+
+pub some_of : {K : Type 0} (o : Option K) (x : K) → Some x ≡ o → IsSome o
+some_of None x e = absurd cc
+some_of (Some y) x e = refl

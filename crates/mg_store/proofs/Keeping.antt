@@ -1,0 +1,126 @@
+-- A step more is kept.
+use Rattle.std.proofs.Common.{◌≡◌, ℕ, ℤ, suc, ◌<◌, ◌^◌, Bool, true, false, List, [], ◌∷◌, ◌++◌, length, map, Option, None, is_some, option_map, refl, sym, ap, ap₂, ◌∙◌, subst, arith}
+use Rattle.std.specs.Prelude.{◌||◌, if◌then◌else◌, unwrap_or}
+use Rattle.std.specs.BTreeMap.{get}
+use Rattle.std.specs.Cmp.{both_ways}
+use Rattle.std.specs.List.{list_any}
+use Rattle.std.specs.List.Sorted.{IsStrictlySortedBy}
+use Rattle.std.specs.Ordering.{int_cmp, int_eq, is_eq}
+use Rattle.std.proofs.lemmas.Bool.Decides.{Decides-int_eq}
+use Rattle.mg_bson.specs.Tree.{Fields}
+use Rattle.mg_bson.specs.Raw.{fields}
+use Rattle.mg_link.specs.Namespace.{Space}
+use Rattle.mg_link.specs.State.{Cursor, State, nothing, put_cursor}
+use Rattle.mg_link.specs.Commands.{Asked, asks_insert, asks_watch, asks_more, asks_kill, asks_other, asked}
+use Rattle.mg_link.specs.Step.{documents_of, ends_cursor}
+use Rattle.mg_link.specs.Rules.{is_id_among, refusal}
+use Rattle.mg_link.specs.Kept.{AreByRulesFrom, Kept, IsReply, by_choice, by_rules, given_after, given_of, given_from, is_started, state_behind, state_of_kept, steps_from}
+use Rattle.mg_link.specs.History.{state_after}
+use Rattle.mg_link.proofs.Behind.{behind_refusal, cursors_refused}
+use Rattle.mg_link.proofs.Legal.{by_rules_push, given_push, kept_state, state_push}
+use Rattle.mg_store.specs.Contents.{AnswersBy, Becomes, Does, Keeps, MayKeep, Represents, closing, collection_at}
+use Rattle.mg_store.specs.Continued.{continued}
+use Rattle.mg_store.specs.declared.perform.Answer.{Answer}
+use Rattle.mg_store.specs.declared.perform.Content.{Content}
+use Rattle.mg_store.specs.declared.perform.Effect.{Effect}
+use Rattle.mg_store.specs.Holding.{entries_from}
+use Rattle.mg_store.specs.Inserting.{stored}
+use Rattle.mg_store.specs.Stored.{AreOpen, Shown, shown, shown_of}
+use Rattle.mg_store.specs.declared.change.ChangeEntry.{ChangeEntry}
+use Rattle.mg_store.specs.declared.insert.Collection.{Collection}
+use Rattle.mg_store.proofs.Holdings.{changes-length, held_is}
+use Rattle.mg_store.proofs.Maps.{int_test}
+
+pub keeps_more : (c c' : Content) (history : List Kept) (command : List ℕ) (a : Answer) → Keeps c history → MayKeep history command a → length c.changes.items < 2 ^ 64
+    → ((s : State) (given : ℕ) (s' : State) (given' : ℕ) → Represents c s given → Does a.effect s given s' given' → Represents c' s' given')
+    → Keeps c' (history ++ record { command = command; reply = a.reply } ∷ [])
+keeps_more c c' history command a h may lt commits =
+    let kept : Kept = record { command = command; reply = a.reply } in
+    let s : State = state_of_kept history in
+    let given : ℕ = given_of history in
+    let started : Bool = is_started history in
+    let fits : length s.changes < 2 ^ 64 = omega (arith, lt, changes-length c s given h.content_is) in
+    let does = may.leads started kept refl refl (kept_state history h.by_rules fits) fits in
+    let after = commits s given (state_behind s given started kept) (given_after given kept) h.content_is does in
+    record {
+      by_rules = by_rules_push history kept h.by_rules may.follows;
+      content_is = subst (λ (x : State). Represents c' x (given_of (history ++ kept ∷ []))) (sym (state_push history kept))
+          (subst (Represents c' (state_behind s given started kept)) (sym (given_push 0 history kept)) after);
+    }
+
+-- an answer by the rules may be kept
+pub may_by_rules : (history : List Kept) (command : List ℕ) (a : Answer) → AnswersBy (state_of_kept history) (given_of history) command a → MayKeep history command a
+may_by_rules history command a h = record { follows = by_rules h.reply; leads = h.leads }
+
+-- ---- chosen refusals
+
+closed : (ends : Bool) (asks : Asked) (s s' : State) (given given' : ℕ) (code : ℤ) → ends ≡ ends_cursor code → Becomes s' given' s.documents s.changes (cursors_refused asks code s.cursors) given → Does (closing ends (continued asks)) s given s' given'
+closed true (asks_more id sp) s s' given given' code e h =
+    record { documents_are = h.documents_are; changes_are = h.changes_are; cursors_are = λ x. h.cursors_are x ∙ ap (λ (b : Bool). (if b then put_cursor id None s.cursors else s.cursors) x) (sym e); given_are = h.given_are }
+closed false (asks_more id sp) s s' given given' code e h =
+    record { documents_are = h.documents_are; changes_are = h.changes_are; cursors_are = λ x. h.cursors_are x ∙ ap (λ (b : Bool). (if b then put_cursor id None s.cursors else s.cursors) x) (sym e); given_are = h.given_are }
+closed true (asks_insert sp ds ordered) s s' given given' code e h = h
+closed false (asks_insert sp ds ordered) s s' given given' code e h = h
+closed true (asks_watch w start) s s' given given' code e h = h
+closed false (asks_watch w start) s s' given given' code e h = h
+closed true (asks_kill ids) s s' given given' code e h = h
+closed false (asks_kill ids) s s' given given' code e h = h
+closed true asks_other s s' given given' code e h = h
+closed false asks_other s s' given given' code e h = h
+
+-- a refusal that is chosen may be kept
+pub may_by_choice : (history : List Kept) (command : List ℕ) (a : Answer) (code : ℤ) (labels : List (List ℕ)) → IsReply (refusal code labels) a.reply → a.effect ≡ closing (ends_cursor code) (continued (asked command)) → MayKeep history command a
+may_by_choice history command a code labels reply effect = record {
+  follows = by_choice code labels reply;
+  leads = λ started kept is_command is_reply h lt.
+      let s : State = state_of_kept history in
+      let given : ℕ = given_of history in
+      let parts = behind_refusal s given started kept code labels (ap fields is_reply ∙ reply.read_back) in
+      let becomes : Becomes (state_behind s given started kept) (given_after given kept) s.documents s.changes (cursors_refused (asked command) code s.cursors) given = record {
+        documents_are = λ sp. ap (λ (f : Space → Option (List Fields)). f sp) parts.documents_are;
+        changes_are = parts.changes_are;
+        cursors_are = λ id. ap (λ (f : ℤ → Option Cursor). f id) parts.cursors_are ∙ ap (λ (c : List ℕ). cursors_refused (asked c) code s.cursors id) is_command;
+        given_are = parts.given_are;
+      } in
+      subst (λ (e : Effect). Does e s given (state_behind s given started kept) (given_after given kept)) (sym effect)
+      (closed (ends_cursor code) (asked command) s (state_behind s given started kept) given (given_after given kept) code refl becomes);
+}
+
+-- ---- an empty store
+
+pub keeps_none : (c : Content) → Represents c nothing 0 → Keeps c []
+unfolding steps_from state_after given_from AreByRulesFrom
+keeps_none c h = record { by_rules = tt; content_is = h }
+
+-- ---- what is shown
+
+pub documents_at : (c : Content) (history : List Kept) (sp : Space) (o : Option Collection) → Keeps c history → o ≡ collection_at c.collections sp → unwrap_or (option_map stored o) [] ≡ documents_of (state_of_kept history) sp
+documents_at c history sp o h e = ap (λ (x : Option Collection). unwrap_or (option_map stored x) []) e ∙ sym (ap (λ (x : Option (List Fields)). unwrap_or x []) (h.content_is.documents_are sp))
+
+shown_entries : (p : ℕ) (es : List ChangeEntry) → map shown_of es ≡ map shown (entries_from p es)
+shown_entries p [] = refl
+shown_entries p (e ∷ es) = ap (λ (l : List Shown). shown_of e ∷ l) (shown_entries (suc p) es)
+
+pub changes_shown : (c : Content) (history : List Kept) → Keeps c history → map shown_of c.changes.items ≡ map shown (state_of_kept history).changes
+changes_shown c history h = shown_entries 0 c.changes.items ∙ ap (map shown) (sym h.content_is.changes_are)
+
+int_turned : (a b : ℤ) → int_eq a b ≡ int_eq b a
+int_turned a b = both_ways (int_eq a b) (int_eq b a) (λ h. (Decides-int_eq b a).1 (sym ((Decides-int_eq a b).0 h))) (λ h. (Decides-int_eq a b).1 (sym ((Decides-int_eq b a).0 h)))
+
+among_ids : (q : ℤ) (ids : List ℤ) → list_any (λ (x : ℤ). is_eq (int_cmp q x)) ids ≡ is_id_among q ids
+among_ids q [] = refl
+among_ids q (x ∷ ids) = ap₂ (λ (a b : Bool). a || b) (int_test q x ∙ int_turned x q) (among_ids q ids)
+
+pub open_ids : (c : Content) (history : List Kept) (ids : List ℤ) → Keeps c history → IsStrictlySortedBy int_cmp ids → ((q : ℤ) → is_some (get int_cmp c.cursors q) ≡ list_any (λ (x : ℤ). is_eq (int_cmp q x)) ids) → AreOpen (state_of_kept history) ids
+open_ids c history ids h ascending has = record { ascending = ascending; these = λ q. held_is c (state_of_kept history) (given_of history) q h.content_is ∙ has q ∙ among_ids q ids }
+
+-- a step that came to nothing
+pub keeps_still : (c c' : Content) (history : List Kept) (command : List ℕ) (a : Answer) → Keeps c history → MayKeep history command a → length c.changes.items < 2 ^ 64
+    → ((s : State) (given : ℕ) (s' : State) (given' : ℕ) → Represents c s given → Does a.effect s given s' given' → Represents c' s given) → Keeps c' history
+keeps_still c c' history command a h may lt commits =
+    let kept : Kept = record { command = command; reply = a.reply } in
+    let s : State = state_of_kept history in
+    let given : ℕ = given_of history in
+    let fits : length s.changes < 2 ^ 64 = omega (arith, lt, changes-length c s given h.content_is) in
+    let does = may.leads (is_started history) kept refl refl (kept_state history h.by_rules fits) fits in
+    record { by_rules = h.by_rules; content_is = commits s given (state_behind s given (is_started history) kept) (given_after given kept) h.content_is does }

@@ -1,0 +1,63 @@
+-- The places that tokens spell.
+use Rattle.std.proofs.Common.{◌≡◌, ℕ, zero, suc, ◌<◌, ◌≤◌, ◌^◌, ◌%◌, ◌/◌, List, [], ◌∷◌, Option, Some, None, codes, refl, sym, ap, ap₂, ◌∙◌, subst, arith}
+use Rattle.std.specs.Prelude.{if◌then◌else◌, Result, Ok, Err}
+use Rattle.std.specs.Result.{MatchResult}
+use Rattle.std.specs.Int.{w64, to_be_bytes, bytes_high_first, byte_at}
+use Rattle.std.specs.Str.{bytes_eq}
+use Rattle.hex.specs.Hex.{encode_lower, decode_sized, IsBytes}
+use Rattle.hex.specs.declared.error.FromHexError.{FromHexError}
+use Rattle.hex.proofs.HexLemmas.{decode_sized-encode_lower}
+use Rattle.mg_bson.specs.Tree.{Tree, string, Fields}
+use Rattle.mg_bson.specs.Find.{get, as_document, as_string}
+use Rattle.mg_link.specs.Filter.{key}
+use Rattle.mg_link.specs.Rules.{token_of, token_fields, token_place}
+use Rattle.mg_link.proofs.Tokens.{place_named}
+
+no_bytes : IsBytes []
+no_bytes i = omega arith
+
+more_bytes : (b : ℕ) (bs : List ℕ) → b < 256 → IsBytes bs → IsBytes (b ∷ bs)
+more_bytes b bs lt h zero = lt
+more_bytes b bs lt h (suc i) = h i
+
+low_byte : (n : ℕ) → n % 256 < 256
+low_byte n = omega arith
+
+byte_low : (n x : ℕ) → byte_at n x < 256
+byte_low zero x = low_byte x
+byte_low (suc n) x = low_byte (x / 256 ^ suc n)
+
+high_bytes : (n x : ℕ) → IsBytes (bytes_high_first n x)
+high_bytes zero x = no_bytes
+high_bytes (suc n) x = more_bytes (byte_at n x) (bytes_high_first n x) (byte_low n x) (high_bytes n x)
+
+-- the text of a token
+pub text_of_token : (place : ℕ) (found : Tree) (fs : Fields) (t : Tree) (s : List ℕ) → found ≡ token_of place → Some fs ≡ as_document found → Some t ≡ get (codes "_data") fs → Some s ≡ as_string t → s ≡ encode_lower (to_be_bytes w64 place)
+text_of_token place found fs t s is doc got text =
+    let a : Some fs ≡ Some (token_fields place) = doc ∙ ap as_document is in
+    let b : fs ≡ token_fields place = cc in
+    let c : Some t ≡ Some (string (encode_lower (to_be_bytes w64 place))) = got ∙ ap (get (codes "_data")) b in
+    let d : t ≡ string (encode_lower (to_be_bytes w64 place)) = cc in
+    let e : Some s ≡ Some (encode_lower (to_be_bytes w64 place)) = text ∙ ap as_string d in
+    cc
+
+-- the text decodes to the bytes of the place
+pub decodes : (place : ℕ) (s : List ℕ) → s ≡ encode_lower (to_be_bytes w64 place) → decode_sized s 8 ≡ Ok (to_be_bytes w64 place)
+decodes place s e = ap (λ (l : List ℕ). decode_sized l 8) e ∙ decode_sized-encode_lower (to_be_bytes w64 place) 8 refl (high_bytes 8 place)
+
+place_same : (n : ℕ) (t u : Tree) → key t ≡ key u → token_place n t ≡ token_place n u
+unfolding token_place
+place_same zero t u e = ap (λ (k : List ℕ). if bytes_eq k (key (token_of 0)) then Some 0 else None) e
+place_same (suc n) t u e = ap₂ (λ (k : List ℕ) (o : Option ℕ). if bytes_eq k (key (token_of (suc n))) then Some (suc n) else o) e (place_same n t u e)
+
+-- a value with the encoding of a token names its place
+pub place_by_key : (n place : ℕ) (t : Tree) → key t ≡ key (token_of place) → place ≤ n → n < 2 ^ 64 → token_place n t ≡ Some place
+place_by_key n place t e le lt = place_same n t (token_of place) e ∙ place_named n place le lt
+
+-- what is decoded of the text of a token
+pub decoded : (place : ℕ) (s : List ℕ) (result : Result (Unit {0}) FromHexError) (out : List ℕ) → s ≡ encode_lower (to_be_bytes w64 place) → MatchResult (decode_sized s 8) (λ bytes. (result ≡ Ok tt) × (out ≡ bytes)) (λ e. result ≡ Err e)
+    → (result ≡ Ok tt) × (out ≡ to_be_bytes w64 place)
+decoded place s result out e h = subst (λ (r : Result (List ℕ) FromHexError). MatchResult r (λ bytes. (result ≡ Ok tt) × (out ≡ bytes)) (λ e. result ≡ Err e)) (decodes place s e) h
+
+pub not_err : (result : Result (Unit {0}) FromHexError) (e : FromHexError) → result ≡ Ok tt → result ≡ Err e → ⊥
+not_err result e a b = let bad : ◌≡◌ {A = Result (Unit {0}) FromHexError} (Ok tt) (Err e) = sym a ∙ b in cc

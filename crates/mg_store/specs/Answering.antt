@@ -1,0 +1,25 @@
+-- The answer to a command: its reply, and what it does.
+use Rattle.std.specs.Prelude.{◌≡◌, false, Result, Ok, Err}
+use Rattle.mg_bson.specs.Tree.{Fields}
+use Rattle.mg_store.specs.Replies.{IsWritten, fits}
+use Rattle.mg_store.specs.declared.perform.Answer.{Answer}
+use Rattle.mg_store.specs.declared.perform.Effect.{Effect}
+use Rattle.mg_store.specs.declared.perform.Effect.TheVariants.{Nothing}
+use Rattle.mg_store.specs.declared.request.Refusal.TheVariants.{BadRequest}
+use Rattle.mg_store.specs.declared.request.Stop.{Stop}
+use Rattle.mg_store.specs.declared.request.Stop.TheVariants as stops
+
+-- the reply is written, and the command does this
+pub record Replies (d : Fields) (effect : Effect) (answer : Answer) : Type 0 where
+  pub reply : IsWritten d answer.reply
+  pub effect_is : answer.effect ≡ effect
+
+-- the answer of a reply that fits, or the refusal of another
+abbrev pub Answers : Result Answer Stop → Fields → Effect → Type 0
+Answers (Ok answer) d effect = Replies d effect answer
+Answers (Err stops.Memory) d effect = Unit {0}
+Answers (Err (stops.Refused refusal)) d effect = (refusal ≡ BadRequest) × (fits d ≡ false)
+
+-- the answer that refuses
+abbrev pub Refuses : Fields → Answer → Type 0
+Refuses d answer = Replies d Nothing answer

@@ -1,0 +1,35 @@
+-- What the store holds, seen as the parts of a server's state.
+use Rattle.std.specs.Prelude.{◌≡◌, ℕ, suc, List, [], ◌∷◌, map}
+use Rattle.mg_bson.specs.Bytes.{bytes}
+use Rattle.mg_bson.specs.Raw.{fields}
+use Rattle.mg_link.specs.Namespace.{space, collection}
+use Rattle.mg_link.specs.State.{inserts, Entry, Watch, events_between}
+use Rattle.mg_link.specs.Rules.{token_of, now_of, batch_place, documents_of_items}
+use Rattle.mg_store.specs.Asking.{held, keyed}
+use Rattle.mg_store.specs.declared.change.ChangeEntry.{ChangeEntry}
+use Rattle.mg_store.specs.declared.change.Events.{Events}
+use Rattle.mg_store.specs.declared.cursor.Watch as code
+
+-- the entry that stands behind this place
+abbrev pub entry_at : ℕ → ChangeEntry → Entry
+entry_at place e = record { token = token_of (suc place); time = now_of (suc place); space = space e.ns; change = inserts; event = fields e.event }
+
+-- the entries, the first of which stands behind this place
+abbrev pub entries_from : ℕ → List ChangeEntry → List Entry
+entries_from place [] = []
+entries_from place (e ∷ es) = entry_at place e ∷ entries_from (suc place) es
+
+-- the bytes of each event are those of the document that they are read as
+abbrev pub AreExact : List ChangeEntry → Type 0
+AreExact [] = Unit {0}
+AreExact (e ∷ es) = (e.event ≡ bytes (fields e.event)) × AreExact es
+
+-- the watch of a collection, held with the encodings of its values
+pub record IsWatch (c : code.Watch) (w : Watch) : Type 0 where
+  pub target_is : w.target ≡ collection (space c.ns)
+  pub filter_is : map held c.filter.items ≡ map keyed w.filter
+
+-- the batch of the rules from a place on
+pub record GivesBatch (w : Watch) (es : List Entry) (from size : ℕ) (batch : Events) : Type 0 where
+  pub place_is : batch.place ≡ batch_place w es from size
+  pub events_are : batch.events ≡ documents_of_items (events_between w es from (batch_place w es from size))

@@ -1,0 +1,128 @@
+-- What an insert makes of its documents.
+use Rattle.std.specs.declared.alloc.Global.{Global}
+use Rattle.std.specs.Prelude.{◌≡◌, ℕ, suc, ℤ, Bool, true, false, is_some, List, [], ◌∷◌, ◌++◌, length, map, Option, Some, None, Result, Ok, Err, codes, if◌then◌else◌, Vec}
+use Rattle.std.specs.BTreeMap.{BTreeMap, get_by}
+use Rattle.std.specs.Cmp.Lexicographic.{slice_cmp}
+use Rattle.std.specs.Ordering.{nat_cmp}
+use Rattle.std.specs.Str.{bytes_eq}
+use denote.Ref.{Bor}
+use Rattle.mg_bson.specs.Tree.{Tree, Fields, document}
+use Rattle.mg_bson.specs.Bytes.{bytes}
+use Rattle.mg_bson.specs.Raw.{fields}
+use Rattle.mg_bson.specs.Find.{get, with_item}
+use Rattle.mg_bson.specs.View.{tree}
+use Rattle.mg_bson.specs.declared.tree.Bson.{Bson}
+use Rattle.mg_link.specs.Namespace.{Space, space}
+use Rattle.mg_link.specs.Filter.{key}
+use Rattle.mg_link.specs.Rules.{accept, bad_request, insert_event, Inserted, is_storable, write_error}
+use Rattle.mg_store.specs.Holding.{AreExact, entries_from}
+use Rattle.mg_store.specs.declared.change.ChangeEntry.{ChangeEntry}
+use Rattle.mg_store.specs.declared.insert.Appended.{Appended}
+use Rattle.mg_store.specs.declared.insert.Collection.{Collection}
+use Rattle.mg_store.specs.declared.insert.Rejected.{Rejected}
+use Rattle.mg_store.specs.declared.insert.Rejected.TheVariants as rejected
+
+-- the id, or the refusal of a document that has none
+abbrev pub GivesId : Result Bson Rejected → Option Tree → Type 0
+GivesId (Ok id) found = found ≡ Some (tree id)
+GivesId (Err rejected.Memory) found = Unit {0}
+GivesId (Err (rejected.Refused code)) found = (code ≡ bad_request) × (found ≡ None)
+
+-- the encoding of a document that may be stored, or the refusal of another
+abbrev pub Encodes : Result (List ℕ) Rejected → Fields → Type 0
+Encodes (Ok written) d = (written ≡ bytes d) × (is_storable d ≡ true) × (fields written ≡ d)
+Encodes (Err rejected.Memory) d = Unit {0}
+Encodes (Err (rejected.Refused code)) d = (code ≡ bad_request) × (is_storable d ≡ false)
+
+-- ---- ids
+
+abbrev pub has_this : List ℕ → Option Tree → Bool
+has_this k None = false
+has_this k (Some id) = bytes_eq (key id) k
+
+-- the number of the first document whose id has this encoding; they are numbered from n
+abbrev pub number_of_id : ℕ → List ℕ → List Fields → Option ℕ
+number_of_id n k [] = None
+number_of_id n k (d ∷ ds) = if has_this k (get (codes "_id") d) then Some n else number_of_id (suc n) k ds
+
+-- the number that a map of ids has for this encoding
+abbrev pub number_in : BTreeMap (Vec ℕ Global) ℕ → List ℕ → Option ℕ
+number_in ids k = get_by (λ (other : Vec ℕ Global). slice_cmp nat_cmp k other.items) ids
+
+-- the map has just the ids of the documents
+abbrev pub HasIds : BTreeMap (Vec ℕ Global) ℕ → ℕ → List Fields → Type 0
+HasIds ids n ds = (k : Vec ℕ Global) → number_in ids k.items ≡ number_of_id n k.items ds
+
+-- no id of the first documents is one of the others
+abbrev pub AreApart : List Fields → List Fields → Type 0
+AreApart before ds = (k : List ℕ) → is_some (number_of_id 0 k before) ≡ true → number_of_id (length before) k ds ≡ None
+
+-- the documents of a collection
+abbrev pub stored : Collection → List Fields
+stored c = map fields c.documents.items
+
+abbrev pub KeepsIds : Collection → Type 0
+KeepsIds c = HasIds c.ids 0 (stored c)
+
+-- the documents that are there before an insert
+abbrev pub there : Option (Bor Collection) → List Fields
+there None = []
+there (Some c) = stored c.now
+
+abbrev pub KeepsIdsThere : Option (Bor Collection) → Type 0
+KeepsIdsThere None = Unit {0}
+KeepsIdsThere (Some c) = KeepsIds c.now
+
+-- ---- what is appended
+
+abbrev pub new_documents : Appended → List Fields
+new_documents a = map fields a.documents.items
+
+-- the ids are those of the new documents, numbered behind those that were there; none was there
+pub record Fits (before : List Fields) (a : Appended) : Type 0 where
+  pub ids_are : HasIds a.ids (length before) (new_documents a)
+  pub apart : AreApart before (new_documents a)
+  pub exact : AreExact a.entries.items
+
+-- the document was appended, with its entry
+pub record Accepts (before : List Fields) (place : ℕ) (s : Space) (d : Fields) (old new : Appended) : Type 0 where
+  pub id : Tree
+  pub accepted : accept (before ++ new_documents old) d ≡ Ok id
+  pub entry : ChangeEntry
+  pub at : space entry.ns ≡ s
+  pub event_is : fields entry.event ≡ insert_event place s id d
+  pub entries_are : new.entries.items ≡ old.entries.items ++ entry ∷ []
+  pub documents_are : new_documents new ≡ new_documents old ++ d ∷ []
+  pub errors_same : new.errors ≡ old.errors
+  pub fits : Fits before new
+
+-- the error was listed, and nothing else changed
+pub record Lists (error : Fields) (old new : Appended) : Type 0 where
+  pub errors_are : new.errors ≡ with_item old.errors (document error)
+  pub documents_same : new.documents ≡ old.documents
+  pub entries_same : new.entries ≡ old.entries
+  pub ids_same : new.ids ≡ old.ids
+
+-- the document was refused, and its error was listed
+pub record Refuses (before : List Fields) (index : ℕ) (d : Fields) (old new : Appended) : Type 0 where
+  pub code : ℤ
+  pub refused : accept (before ++ new_documents old) d ≡ Err code
+  pub lists : Lists (write_error index code) old new
+
+-- what came of appending a document
+abbrev pub AcceptsOr : List Fields → ℕ → Space → Fields → Appended → Appended → Result (Unit {0}) Rejected → Type 0
+AcceptsOr before place s d old new (Ok done) = Accepts before place s d old new
+AcceptsOr before place s d old new (Err rejected.Memory) = Unit {0}
+AcceptsOr before place s d old new (Err (rejected.Refused code)) = (accept (before ++ new_documents old) d ≡ Err code) × (new ≡ old)
+
+-- whether it was appended, and else its error was listed
+abbrev pub Takes : List Fields → (place index : ℕ) → Space → Fields → Appended → Appended → Bool → Type 0
+Takes before place index s d old new true = Accepts before place s d old new
+Takes before place index s d old new false = Refuses before index d old new
+
+-- what an insert appends is that of the rules
+pub record Appends (before : List Fields) (entries : ℕ) (i : Inserted) (a : Appended) : Type 0 where
+  pub documents_are : new_documents a ≡ i.documents
+  pub entries_are : entries_from entries a.entries.items ≡ i.entries
+  pub errors_are : a.errors ≡ i.errors
+  pub fits : Fits before a

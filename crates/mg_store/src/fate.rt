@@ -1,0 +1,51 @@
+//! What becomes of a command on a link in memory.
+ghost use Rattle.std.specs.Prelude.{◌≡◌};
+ghost use Rattle.mg_store.specs.InMemory.{fate_at};
+
+/// What becomes of a command.
+#[derive(Drop)]
+pub struct Fate {
+    /// How many polls answer that the reply pends, before the one that answers otherwise.
+    pub pend: u32,
+    /// What is performed, and what comes back.
+    pub kind: FateKind,
+}
+
+/// What is performed of a command, and what comes back.
+#[derive(Drop)]
+pub enum FateKind {
+    /// The command is performed at its start, and its reply comes.
+    Keep,
+    /// The command is performed at its start. Its reply is lost: a poll answers a fault.
+    Lose,
+    /// The command is lost. Nothing is performed, and a poll answers a fault.
+    Drop,
+    /// The command is refused at its start with this code and these labels. The refusal is its step and its reply.
+    Refuse {
+        /// The code of the refusal.
+        code: i32,
+        /// Its error labels, in order.
+        labels: Vec<String>,
+    },
+}
+
+/// How many polls of the command of this number pend.
+pub(crate) fn pend_at(fates: &[Fate], number: usize) -> u32
+    ensures { result ≡ (fate_at fates.now number).pend }
+{
+    match fates.get(number) {
+        Some(fate) => fate.pend,
+        None => 0,
+    }
+}
+
+/// What becomes of the command of this number. A command behind the end of the fates is kept.
+pub(crate) fn kind_at<'a>(fates: &'a [Fate], number: usize, kept: &'a FateKind) -> &'a FateKind
+    requires { kept.now ≡ FateKind.Keep }
+    ensures { result.now ≡ (fate_at fates.now number).kind }
+{
+    match fates.get(number) {
+        Some(fate) => &fate.kind,
+        None => kept,
+    }
+}

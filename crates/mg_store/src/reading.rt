@@ -1,0 +1,247 @@
+//! What the fields of a command hold.
+ghost use Rattle.std.specs.Prelude.{◌≡◌, ◌∷◌, [], map, is_some, IfOk, option_map};
+ghost use Rattle.mg_bson.specs.Find.{as_document, get};
+ghost use Rattle.mg_bson.specs.Raw.{fields, items};
+ghost use Rattle.mg_bson.specs.RawView.{value};
+ghost use Rattle.mg_link.specs.Commands.{as_integer, documents_in, flag_or};
+ghost use Rattle.mg_link.specs.Filter.{has_dot};
+ghost use Rattle.mg_link.specs.Namespace.{space};
+ghost use Rattle.mg_link.specs.State.{is_space};
+ghost use Rattle.mg_link.specs.Rules.{array_at, count_of, has_only, id_of, ids_in, ignored, is_name_among, name_at, named_space, optional_count};
+ghost use Rattle.mg_store.specs.Asking.{documents_among, ids_among, lent_space, only_document};
+
+use mg_bson::{RawArray, RawDocument, RawValue};
+use mg_link::{Namespace, OutOfMemory};
+use std::alloc::Global;
+
+/// The most bytes of the name of a database or a collection.
+const MAX_NAME: usize = 65_536;
+
+/// A namespace, lent from the command that names it.
+#[derive(Clone, Copy)]
+pub(crate) struct LentSpace<'a> {
+    pub(crate) db: &'a str,
+    pub(crate) coll: &'a str,
+}
+
+/// A namespace of its own.
+pub(crate) fn namespace(alloc: Global, lent: LentSpace<'_>) -> Result<Namespace, OutOfMemory>
+    ensures { IfOk result (λ n. space n ≡ lent_space lent.entry) }
+{
+    let db = String::from_str(alloc, lent.db)?;
+    let coll = String::from_str(alloc, lent.coll)?;
+    Ok(Namespace { db, coll })
+}
+
+/// Whether both name one collection.
+pub(crate) fn is_same_space(one: &Namespace, other: &Namespace) -> bool
+    ensures { result ≡ is_space (space one.now) (space other.now) }
+{
+    one == other
+}
+
+fn is_among(name: &str, names: &[&str]) -> bool
+    ensures { result ≡ is_name_among name.now (map (λ n. n.now) names.now) }
+{
+    for known in names {
+        if name == *known {
+            return true;
+        }
+    }
+    false
+}
+
+/// Whether any command may have a field of the name, which changes nothing here.
+fn is_ignored(name: &str) -> bool
+    ensures { result ≡ is_name_among name.now ignored }
+{
+    is_among(
+        name,
+        &[
+            "$db",
+            "lsid",
+            "txnNumber",
+            "startTransaction",
+            "autocommit",
+            "readConcern",
+            "writeConcern",
+            "$readPreference",
+            "comment",
+            "maxTimeMS",
+            "allowDiskUse",
+            "noCursorTimeout",
+            "bypassDocumentValidation",
+            "showExpandedEvents",
+            "nameOnly",
+        ],
+    )
+}
+
+/// Whether each field has one of the names, or one that changes nothing.
+pub(crate) fn has_only(document: &RawDocument<'_>, names: &[&str]) -> bool
+    ensures { result ≡ has_only (map (λ n. n.now) names.now) (fields document.now) }
+{
+    let mut left = document.iter();
+    'fields: while let Some((name, _)) = left.next() {
+        if !is_among(name, names) && !is_ignored(name) {
+            return false;
+        }
+    }
+    true
+}
+
+/// Whether the text has a dot.
+pub(crate) fn has_dot(text: &str) -> bool
+    ensures { result ≡ has_dot text.now }
+{
+    for byte in text.as_bytes() {
+        if *byte == b'.' {
+            return true;
+        }
+    }
+    false
+}
+
+/// The text of the field, where it may name a database or a collection.
+fn name_at<'a>(command: &RawDocument<'a>, field: &str) -> Option<&'a str>
+    ensures { option_map (λ s. s.now) result ≡ name_at field.now (fields command.now) }
+{
+    let found = command.get(field)?;
+    let name = found.as_str()?;
+    if 0 < name.len() && name.len() <= MAX_NAME {
+        Some(name)
+    } else {
+        None
+    }
+}
+
+/// The namespace of the collection that the field names.
+#[tactic(auto, unfolding(mg_link::specs::Rules::named_space))]
+pub(crate) fn space_at<'a>(command: &RawDocument<'a>, field: &str) -> Option<LentSpace<'a>>
+    ensures { option_map lent_space result ≡ named_space field.now (fields command.now) }
+{
+    let db = name_at(command, "$db")?;
+    if has_dot(db) {
+        return None;
+    }
+    let coll = name_at(command, field)?;
+    Some(LentSpace { db, coll })
+}
+
+/// A whole number, in 32 or 64 bits.
+pub(crate) fn integer_of(found: &RawValue<'_>) -> Option<i64>
+    ensures { result ≡ as_integer (value found.now) }
+{
+    match found {
+        RawValue::Int32(n) => Some(i64::from(*n)),
+        RawValue::Int64(n) => Some(*n),
+        _ => None,
+    }
+}
+
+/// A number that is not negative.
+fn count_of(found: &RawValue<'_>) -> Option<u64>
+    ensures { result ≡ count_of (value found.now) }
+{
+    let n = integer_of(found)?;
+    u64::try_from(n).ok()
+}
+
+/// The id of a cursor, which is not negative.
+pub(crate) fn id_of(found: &RawValue<'_>) -> Option<i64>
+    ensures { result ≡ id_of (value found.now) }
+{
+    let id = integer_of(found)?;
+    if id < 0 { None } else { Some(id) }
+}
+
+/// The number of the field, where it is there at all.
+pub(crate) fn count_at(document: &RawDocument<'_>, field: &str) -> Option<Option<u64>>
+    ensures { result ≡ optional_count (get field.now (fields document.now)) }
+{
+    match document.get(field) {
+        None => Some(None),
+        Some(found) => match count_of(&found) {
+            None => None,
+            Some(n) => Some(Some(n)),
+        },
+    }
+}
+
+/// The array of the field.
+pub(crate) fn array_at<'a>(document: &RawDocument<'a>, field: &str) -> Option<RawArray<'a>>
+    ensures { option_map items result ≡ array_at field.now (fields document.now) }
+{
+    let found = document.get(field)?;
+    found.as_array()
+}
+
+/// The truth value, or the default where there is none.
+pub(crate) fn flag_or(default: bool, found: Option<RawValue<'_>>) -> Option<bool>
+    ensures { result ≡ flag_or default (option_map value found.entry) }
+{
+    match found {
+        None => Some(default),
+        Some(found) => found.as_bool(),
+    }
+}
+
+fn are_documents(array: &RawArray<'_>) -> bool
+    ensures { result ≡ is_some (documents_in (items array.now)) }
+{
+    let mut left = array.iter();
+    'items: while let Some(item) = left.next() {
+        if item.as_document().is_none() {
+            return false;
+        }
+    }
+    true
+}
+
+/// The array, where each of its values is a document.
+#[tactic(auto, using(crate::proofs::Asking::all_documents))]
+pub(crate) fn documents_of<'a>(array: RawArray<'a>) -> Option<RawArray<'a>>
+    ensures { option_map (λ a. documents_among (items a)) result ≡ documents_in (items array.entry) }
+{
+    if are_documents(&array) {
+        Some(array)
+    } else {
+        None
+    }
+}
+
+fn are_ids(array: &RawArray<'_>) -> bool
+    ensures { result ≡ is_some (ids_in (items array.now)) }
+{
+    let mut left = array.iter();
+    'items: while let Some(item) = left.next() {
+        if id_of(&item).is_none() {
+            return false;
+        }
+    }
+    true
+}
+
+/// The array, where each of its values is an id.
+#[tactic(auto, using(crate::proofs::Asking::all_ids))]
+pub(crate) fn ids_of<'a>(array: RawArray<'a>) -> Option<RawArray<'a>>
+    ensures { option_map (λ a. ids_among (items a)) result ≡ ids_in (items array.entry) }
+{
+    if are_ids(&array) { Some(array) } else { None }
+}
+
+/// The document of the only field, where that has the name.
+pub(crate) fn only_document<'a>(stage: &RawDocument<'a>, name: &str) -> Option<RawDocument<'a>>
+    ensures { option_map fields result ≡ only_document name.now (fields stage.now) }
+{
+    let mut left = stage.iter();
+    let (first, found) = left.next()?;
+    if left.next().is_some() {
+        return None;
+    }
+    if first == name {
+        found.as_document()
+    } else {
+        None
+    }
+}
