@@ -1,0 +1,118 @@
+-- What built commands ask for.
+use Rattle.std.proofs.Common.{◌≡◌, ℕ, ℤ, Bool, true, false, List, [], ◌∷◌, Option, Some, None, refl, ap, ◌∙◌, option_map}
+use Rattle.std.specs.Prelude.{codes, option_and_then, unwrap_or, if◌then◌else◌}
+use Rattle.std.specs.Str.{bytes_eq}
+use Rattle.mg_bson.specs.Tree.{Tree, string, document, int64, boolean, Fields}
+use Rattle.mg_bson.specs.Find.{as_boolean, get}
+use Rattle.mg_bson.specs.Literal.{◌⇒◌⨾◌, empty}
+use Rattle.mg_bson.specs.Raw.{fields}
+use Rattle.mg_link.specs.Namespace.{Space, Target, database, collection, cluster}
+use Rattle.mg_link.specs.Filter.{Condition}
+use Rattle.mg_link.specs.State.{Start}
+use Rattle.mg_link.specs.Commands.{Asked, asked, asked_by, asks_insert, asks_kill, asks_more, asks_other, asks_watch, documents_in, filter_stages, insert_of, integers_in, is_cluster, kill_of, more_of, space_at, start_of, watch_of}
+use Rattle.mg_options.specs.Given.{before, ◌⇢◌⨾◌}
+use Rattle.mg_options.specs.Options.{change_stream_fields, time_value}
+use Rattle.mg_options.specs.declared.change_stream.ChangeStreamOptions.{ChangeStreamOptions}
+use Rattle.mg_ops.specs.Commands.{asked_size, get_more_command, insert_command, kill_command, listed, watch_command}
+use Rattle.mg_ops.specs.Naming.{IsAimed, IsNamed, start_in, watches_all}
+
+-- ---- lists in arrays
+
+documents_listed : (ds : List Fields) → documents_in (listed document ds) ≡ Some ds
+documents_listed [] = refl
+documents_listed (d ∷ ds) = ap (option_map (λ es. d ∷ es)) (documents_listed ds)
+
+integers_listed : (zs : List ℤ) → integers_in (listed int64 zs) ≡ Some zs
+integers_listed [] = refl
+integers_listed (z ∷ zs) = ap (option_map (λ ys. z ∷ ys)) (integers_listed zs)
+
+-- ---- fields that may be left out
+
+get_past : (k l : List ℕ) (t : Option Tree) (fs : Fields) → bytes_eq l k ≡ false → get k (before l t fs) ≡ get k fs
+get_past k l None fs other = refl
+get_past k l (Some t) fs other = ap (λ (b : Bool). if b then Some t else get k fs) other
+
+get_here : (k : List ℕ) (t : Option Tree) (fs : Fields) → bytes_eq k k ≡ true → get k fs ≡ None → get k (before k t fs) ≡ t
+get_here k None fs same none = none
+get_here k (Some t) fs same none = ap (λ (b : Bool). if b then Some t else get k fs) same
+
+-- ---- the options of a watch
+
+resume_after_in : (o : ChangeStreamOptions) → get (codes "resumeAfter") (change_stream_fields o) ≡ o.resume_after
+resume_after_in o =
+    get_here (codes "resumeAfter") o.resume_after ("startAtOperationTime" ⇢ option_map time_value o.start_at_operation_time ⨾ "startAfter" ⇢ o.start_after ⨾ "allChangesForCluster" ⇢ option_map boolean o.all_changes_for_cluster ⨾ empty) refl
+    (get_past (codes "resumeAfter") (codes "startAtOperationTime") (option_map time_value o.start_at_operation_time) ("startAfter" ⇢ o.start_after ⨾ "allChangesForCluster" ⇢ option_map boolean o.all_changes_for_cluster ⨾ empty) refl
+    ∙ get_past (codes "resumeAfter") (codes "startAfter") o.start_after ("allChangesForCluster" ⇢ option_map boolean o.all_changes_for_cluster ⨾ empty) refl
+    ∙ get_past (codes "resumeAfter") (codes "allChangesForCluster") (option_map boolean o.all_changes_for_cluster) empty refl)
+
+start_time_in : (o : ChangeStreamOptions) → get (codes "startAtOperationTime") (change_stream_fields o) ≡ option_map time_value o.start_at_operation_time
+start_time_in o =
+    get_past (codes "startAtOperationTime") (codes "resumeAfter") o.resume_after ("startAtOperationTime" ⇢ option_map time_value o.start_at_operation_time ⨾ "startAfter" ⇢ o.start_after ⨾ "allChangesForCluster" ⇢ option_map boolean o.all_changes_for_cluster ⨾ empty) refl
+    ∙ get_here (codes "startAtOperationTime") (option_map time_value o.start_at_operation_time) ("startAfter" ⇢ o.start_after ⨾ "allChangesForCluster" ⇢ option_map boolean o.all_changes_for_cluster ⨾ empty) refl
+    (get_past (codes "startAtOperationTime") (codes "startAfter") o.start_after ("allChangesForCluster" ⇢ option_map boolean o.all_changes_for_cluster ⨾ empty) refl
+    ∙ get_past (codes "startAtOperationTime") (codes "allChangesForCluster") (option_map boolean o.all_changes_for_cluster) empty refl)
+
+start_after_in : (o : ChangeStreamOptions) → get (codes "startAfter") (change_stream_fields o) ≡ o.start_after
+start_after_in o =
+    get_past (codes "startAfter") (codes "resumeAfter") o.resume_after ("startAtOperationTime" ⇢ option_map time_value o.start_at_operation_time ⨾ "startAfter" ⇢ o.start_after ⨾ "allChangesForCluster" ⇢ option_map boolean o.all_changes_for_cluster ⨾ empty) refl
+    ∙ get_past (codes "startAfter") (codes "startAtOperationTime") (option_map time_value o.start_at_operation_time) ("startAfter" ⇢ o.start_after ⨾ "allChangesForCluster" ⇢ option_map boolean o.all_changes_for_cluster ⨾ empty) refl
+    ∙ get_here (codes "startAfter") o.start_after ("allChangesForCluster" ⇢ option_map boolean o.all_changes_for_cluster ⨾ empty) refl
+    (get_past (codes "startAfter") (codes "allChangesForCluster") (option_map boolean o.all_changes_for_cluster) empty refl)
+
+all_changes_in : (o : ChangeStreamOptions) → get (codes "allChangesForCluster") (change_stream_fields o) ≡ option_map boolean o.all_changes_for_cluster
+all_changes_in o =
+    get_past (codes "allChangesForCluster") (codes "resumeAfter") o.resume_after ("startAtOperationTime" ⇢ option_map time_value o.start_at_operation_time ⨾ "startAfter" ⇢ o.start_after ⨾ "allChangesForCluster" ⇢ option_map boolean o.all_changes_for_cluster ⨾ empty) refl
+    ∙ get_past (codes "allChangesForCluster") (codes "startAtOperationTime") (option_map time_value o.start_at_operation_time) ("startAfter" ⇢ o.start_after ⨾ "allChangesForCluster" ⇢ option_map boolean o.all_changes_for_cluster ⨾ empty) refl
+    ∙ get_past (codes "allChangesForCluster") (codes "startAfter") o.start_after ("allChangesForCluster" ⇢ option_map boolean o.all_changes_for_cluster ⨾ empty) refl
+    ∙ get_here (codes "allChangesForCluster") (option_map boolean o.all_changes_for_cluster) empty refl refl
+
+start_is : (o : ChangeStreamOptions) → start_of (change_stream_fields o) ≡ start_in o
+start_is o = rw (resume_after_in o, start_after_in o, start_time_in o) refl
+
+flag_of : (b : Option Bool) → unwrap_or (option_and_then as_boolean (option_map boolean b)) false ≡ unwrap_or b false
+flag_of None = refl
+flag_of (Some b) = refl
+
+cluster_is : (o : ChangeStreamOptions) → is_cluster (change_stream_fields o) ≡ watches_all o
+cluster_is o = ap (λ t. unwrap_or (option_and_then as_boolean t) false) (all_changes_in o) ∙ flag_of o.all_changes_for_cluster
+
+-- ---- commands
+
+insert_by : (space : Space) (ds : List Fields) → IsNamed space → asked_by (insert_command space ds) ≡ Some (asks_insert space ds true)
+unfolding insert_of space_at
+insert_by space ds named = rw (named.db, named.coll, documents_listed ds) refl
+
+more_by : (id : ℤ) (space : Space) (t : Option Tree) → IsNamed space
+    → asked_by ("getMore" ⇒ int64 id ⨾ "collection" ⇒ string space.coll ⨾ "batchSize" ⇢ t ⨾ "$db" ⇒ string space.db ⨾ empty) ≡ Some (asks_more id space)
+unfolding more_of space_at
+more_by id space None named = rw (named.db, named.coll) refl
+more_by id space (Some t) named = rw (named.db, named.coll) refl
+
+kill_by : (space : Space) (ids : List ℤ) → asked_by (kill_command space ids) ≡ Some (asks_kill ids)
+unfolding kill_of
+kill_by space ids = rw (integers_listed ids) refl
+
+watch_by : (target : Target) (stages : List Fields) (filter : List Condition) (o : ChangeStreamOptions) (start : Start) → IsAimed target o → filter_stages stages ≡ Some filter → start_in o ≡ Some start
+    → asked_by (watch_command target stages o) ≡ Some (asks_watch (record { target = target; filter = filter }) start)
+unfolding watch_of space_at
+watch_by (collection space) stages filter o start aimed filtered starts = rw (documents_listed stages, filtered, start_is o, starts, aimed.db, aimed.coll) refl
+watch_by (database db) stages filter o start aimed filtered starts = rw (documents_listed stages, filtered, start_is o, starts, aimed.0, cluster_is o, aimed.1) refl
+watch_by cluster stages filter o start aimed filtered starts = rw (documents_listed stages, filtered, start_is o, starts, cluster_is o, aimed) refl
+
+as_asked : (command : List ℕ) (fs : Fields) (a : Asked) → fields command ≡ fs → asked_by fs ≡ Some a → asked command ≡ a
+unfolding asked
+as_asked command fs a e by = ap (λ gs. unwrap_or (asked_by gs) asks_other) e ∙ ap (λ b. unwrap_or b asks_other) by
+
+pub asks_to_insert : (command : List ℕ) (space : Space) (ds : List Fields) → IsNamed space → fields command ≡ insert_command space ds → asked command ≡ asks_insert space ds true
+asks_to_insert command space ds named e = as_asked command (insert_command space ds) (asks_insert space ds true) e (insert_by space ds named)
+
+pub asks_for_more : (command : List ℕ) (id : ℤ) (space : Space) (size : Option ℕ) → IsNamed space → fields command ≡ get_more_command id space size → asked command ≡ asks_more id space
+asks_for_more command id space size named e = as_asked command (get_more_command id space size) (asks_more id space) e (more_by id space (asked_size size) named)
+
+pub asks_to_kill : (command : List ℕ) (space : Space) (ids : List ℤ) → fields command ≡ kill_command space ids → asked command ≡ asks_kill ids
+asks_to_kill command space ids e = as_asked command (kill_command space ids) (asks_kill ids) e (kill_by space ids)
+
+pub asks_to_watch : (command : List ℕ) (target : Target) (stages : List Fields) (filter : List Condition) (o : ChangeStreamOptions) (start : Start) → IsAimed target o → filter_stages stages ≡ Some filter → start_in o ≡ Some start
+    → fields command ≡ watch_command target stages o → asked command ≡ asks_watch (record { target = target; filter = filter }) start
+asks_to_watch command target stages filter o start aimed filtered starts e =
+    as_asked command (watch_command target stages o) (asks_watch (record { target = target; filter = filter }) start) e (watch_by target stages filter o start aimed filtered starts)

@@ -1,0 +1,53 @@
+-- What read replies tell.
+use Rattle.std.proofs.Common.{◌≡◌, ℕ, ℤ, List, Option, Some, None, Result, Ok, Err, refl, ap, ◌∙◌, option_map}
+use Rattle.std.specs.Prelude.{codes, option_and_then}
+use Rattle.mg_bson.specs.Tree.{Tree, Fields, Items}
+use Rattle.mg_bson.specs.Find.{as_document, as_int64, get}
+use Rattle.mg_bson.specs.Raw.{fields}
+use Rattle.mg_link.specs.Namespace.{Space, space_of}
+use Rattle.mg_link.specs.Reply.{verdict_of}
+use Rattle.mg_link.specs.Commands.{Batch, asks_more, batch_by, batch_items, batch_of, documents_in, gave, text_of, token_in, told}
+use Rattle.mg_link.specs.declared.error.Malformed.{Malformed}
+use Rattle.mg_link.specs.declared.error.Malformed.TheVariants as malformed
+use Rattle.mg_link.specs.declared.reply.Verdict.TheVariants as verdict
+use Rattle.mg_ops.specs.Cursors.{Cursor, cursor_in, cursor_of, found, ◌>>=◌}
+
+then_ok : {A B : Type 0} (r : Result A Malformed) (f : A → Result B Malformed) (y : B) → (r >>= f) ≡ Ok y → (x : A) × (r ≡ Ok x) × (f x ≡ Ok y)
+then_ok (Ok x) f y h = (x, refl, h)
+then_ok (Err e) f y h = absurd cc
+
+found_some : {A : Type 0} (m : Malformed) (o : Option A) (x : A) → found m o ≡ Ok x → o ≡ Some x
+found_some m (Some y) x h = cc
+found_some m None x h = absurd cc
+
+abbrev batch_as : Cursor → List Fields → Batch
+batch_as c events = record { id = c.id; space = c.space; events = events; token = c.token }
+
+abbrev batch_from : Option Items → Option Tree → ℤ → Space → Option Batch
+batch_from b t id space = option_map (λ es. record { id = id; space = space; events = es; token = t }) (option_and_then documents_in b)
+
+batch_chain : (i : Option ℤ) (s : Option Space) (b : Option Items) (t : Option Tree) (x : ℤ) (y : Space) (z : Items) (events : List Fields) → i ≡ Some x → s ≡ Some y → b ≡ Some z → documents_in z ≡ Some events
+    → option_and_then (λ (id : ℤ). option_and_then (batch_from b t id) s) i ≡ Some (record { id = x; space = y; events = events; token = t })
+batch_chain i s b t x y z events ei es eb ed = rw (ei, es, eb, ed) refl
+
+cursor_batch : (cursor : Fields) (c : Cursor) (events : List Fields) → cursor_in cursor ≡ Ok c → documents_in c.batch ≡ Some events → batch_by cursor ≡ Some (batch_as c events)
+cursor_batch cursor c events h are =
+    let i = then_ok (found malformed.BadId (option_and_then as_int64 (get (codes "id") cursor))) (λ id. found malformed.BadNs (option_and_then space_of (text_of (codes "ns") cursor)) >>= λ space. found malformed.NoBatch (batch_items cursor) >>= λ batch. Ok (record { id = id; space = space; token = token_in cursor; batch = batch })) c h in
+    let s = then_ok (found malformed.BadNs (option_and_then space_of (text_of (codes "ns") cursor))) (λ space. found malformed.NoBatch (batch_items cursor) >>= λ batch. Ok (record { id = i.0; space = space; token = token_in cursor; batch = batch })) c i.2 in
+    let b = then_ok (found malformed.NoBatch (batch_items cursor)) (λ batch. Ok (record { id = i.0; space = s.0; token = token_in cursor; batch = batch })) c s.2 in
+    let made : record { id = i.0; space = s.0; token = token_in cursor; batch = b.0 } ≡ c = cc in
+    let all : documents_in b.0 ≡ Some events = ap (λ (d : Cursor). documents_in d.batch) made ∙ are in
+    batch_chain (option_and_then as_int64 (get (codes "id") cursor)) (option_and_then space_of (text_of (codes "ns") cursor)) (batch_items cursor) (token_in cursor) i.0 s.0 b.0 events
+    (found_some malformed.BadId _ i.0 i.1) (found_some malformed.BadNs _ s.0 s.1) (found_some malformed.NoBatch _ b.0 b.1) all
+    ∙ ap (λ (d : Cursor). Some (batch_as d events)) made
+
+reply_batch : (reply : Fields) (c : Cursor) (events : List Fields) → cursor_of reply ≡ Ok c → documents_in c.batch ≡ Some events → batch_of reply ≡ Some (batch_as c events)
+unfolding cursor_of batch_of
+reply_batch reply c events h are =
+    let a = then_ok (found malformed.NoCursor (option_and_then as_document (get (codes "cursor") reply))) cursor_in c h in
+    ap (option_and_then batch_by) (found_some malformed.NoCursor _ a.0 a.1) ∙ cursor_batch a.0 c events a.2 are
+
+pub tells_of_more : (id : ℤ) (space : Space) (reply : List ℕ) (c : Cursor) (events : List Fields) (token : Tree) → verdict_of (fields reply) ≡ verdict.Success → cursor_of (fields reply) ≡ Ok c → documents_in c.batch ≡ Some events → c.token ≡ Some token
+    → told (asks_more id space) reply ≡ gave c.id c.space events token
+unfolding told
+tells_of_more id space reply c events token success h are has = rw (success, reply_batch (fields reply) c events h are, has) refl

@@ -1,0 +1,84 @@
+-- What a reply with a cursor says (find, getMore and killCursors specification).
+use Rattle.std.specs.Prelude.{◌≡◌, ◌↔◌, IsTrue, ℕ, ℤ, pos, List, Option, Some, None, option_map, option_and_then, Result, Ok, Err, codes}
+use Rattle.mg_bson.specs.Tree.{Tree, Fields, Items, no_items}
+use Rattle.mg_bson.specs.Find.{get, as_document, as_int64, as_timestamp}
+use Rattle.mg_bson.specs.Raw.{fields, items}
+use Rattle.mg_link.specs.Namespace.{Space, space, space_of}
+use Rattle.mg_link.specs.Commands.{batch_items, text_of, token_in}
+use Rattle.mg_link.specs.Errors.{plain}
+use Rattle.mg_link.specs.declared.error.Error.{Error}
+use Rattle.mg_link.specs.declared.error.ErrorKind.TheVariants as kind
+use Rattle.mg_link.specs.declared.error.Malformed.{Malformed}
+use Rattle.mg_link.specs.declared.error.Malformed.TheVariants as malformed
+use Rattle.mg_ops.specs.declared.cursor_reply.Found.{Found}
+use Rattle.mg_ops.specs.declared.cursor_reply.CursorSpecification.{CursorSpecification}
+use Rattle.mg_ops.specs.declared.cursor_reply.GetMoreResult.{GetMoreResult}
+use Rattle.mg_bson.specs.declared.tree.Timestamp.{Timestamp}
+
+-- a cursor and a batch of it
+pub record Cursor : Type 0 where
+  pub id : ℤ
+  pub space : Space
+  pub token : Option Tree
+  pub batch : Items
+
+-- one step after another, up to the first fault
+infixl 10 ◌>>=◌
+abbrev pub ◌>>=◌ : {A B : Type 0} → Result A Malformed → (A → Result B Malformed) → Result B Malformed
+(Ok x) >>= f = f x
+(Err e) >>= f = Err e
+
+-- what has to stand in a reply, or the fault
+abbrev pub found : {A : Type 0} → Malformed → Option A → Result A Malformed
+found m (Some x) = Ok x
+found m None = Err m
+
+abbrev pub cursor_in : Fields → Result Cursor Malformed
+cursor_in cursor = found malformed.BadId (option_and_then as_int64 (get (codes "id") cursor))
+    >>= λ id. found malformed.BadNs (option_and_then space_of (text_of (codes "ns") cursor))
+    >>= λ space. found malformed.NoBatch (batch_items cursor)
+    >>= λ batch. Ok (record { id = id; space = space; token = token_in cursor; batch = batch })
+
+-- the cursor of a reply, or how the reply breaks its grammar; a token of another kind than a document counts as none
+unfoldable pub cursor_of : Fields → Result Cursor Malformed
+cursor_of reply = found malformed.NoCursor (option_and_then as_document (get (codes "cursor") reply)) >>= cursor_in
+
+-- the values of its batch
+unfoldable pub batch_at : Fields → Result Items Malformed
+batch_at reply = found malformed.NoCursor (option_and_then as_document (get (codes "cursor") reply)) >>= λ cursor. found malformed.NoBatch (batch_items cursor)
+
+-- the time of the server's log at a reply
+unfoldable pub operation_time : Fields → Option (ℕ × ℕ)
+operation_time reply = option_and_then as_timestamp (get (codes "operationTime") reply)
+
+abbrev pub found_cursor : Found → Cursor
+found_cursor f = record { id = f.id; space = space f.ns; token = f.token; batch = items f.batch }
+
+-- a reply breaks the grammar so
+pub record BreaksIn (reply : Fields) (e : Error) : Type 0 where
+  pub how : Malformed
+  pub says : cursor_of reply ≡ Err how
+  pub error : e ≡ plain (kind.InvalidResponse how)
+
+-- what the reply to a getMore gave
+pub record Gave (reply : List ℕ) (out : GetMoreResult) : Type 0 where
+  pub batch : Items
+  pub says : cursor_of (fields reply) ≡ Ok (record { id = out.id; space = space out.ns; token = out.post_batch_resume_token; batch = batch })
+  pub whole : out.raw_reply ≡ reply
+  pub ended : IsTrue out.exhausted ↔ (out.id ≡ pos 0)
+
+-- what the reply to an opening gave
+pub record Opens (size : Option ℕ) (reply : List ℕ) (out : CursorSpecification) : Type 0 where
+  pub batch : Items
+  pub says : cursor_of (fields reply) ≡ Ok (record { id = out.info.id; space = space out.info.ns; token = out.post_batch_resume_token; batch = batch })
+  pub whole : out.initial_reply ≡ reply
+  pub first : IsTrue out.is_empty ↔ (batch ≡ no_items)
+  pub size_is : out.info.batch_size ≡ size
+
+abbrev pub time_parts : Timestamp → ℕ × ℕ
+time_parts t = (t.time, t.increment)
+
+-- and its time
+pub record OpensAt (size : Option ℕ) (reply : List ℕ) (out : CursorSpecification × Option Timestamp) : Type 0 where
+  pub opens : Opens size reply out.0
+  pub time : option_map time_parts out.1 ≡ operation_time (fields reply)

@@ -1,0 +1,77 @@
+//! The next batch of a cursor.
+ghost use Rattle.std.specs.Prelude.{◌≡◌, OnOk, IfOk, IfErr};
+ghost use Rattle.mg_ops.specs.Commands.{asked_size};
+ghost use Rattle.mg_ops.specs.Failing.{FailsBy, HasBadSize};
+ghost use Rattle.mg_ops.specs.Limits.{SizeFits};
+ghost use Rattle.mg_options.specs.Given.{behind};
+ghost use Rattle.std.specs.Prelude.{codes};
+
+use crate::cursor_reply::{GetMoreResult, read_more};
+use crate::operation::Operation;
+use crate::parts::{size, text};
+use mg_bson::{Bson, Document, RawDocumentBuf};
+use mg_link::{Error, Namespace, Retry};
+use std::alloc::Global;
+
+/// Asks for the next batch of a cursor.
+#[derive(Drop)]
+pub struct GetMore {
+    /// The namespace of the cursor.
+    pub ns: Namespace,
+    /// Its id.
+    pub id: i64,
+    /// The most documents of the batch. The server chooses where it is absent or 0.
+    pub batch_size: Option<u32>,
+}
+
+// Puts the size of the batch at the end, where one is asked for.
+fn append_size(command: &mut Document, batch_size: Option<u32>) -> Result<(), Error>
+    ensures ok { OnOk result (command.new ≡ behind command.old (codes "batchSize") (asked_size batch_size)) }
+    ensures fits { OnOk result (SizeFits batch_size) }
+    ensures err { IfErr result (λ e. FailsBy (HasBadSize batch_size) e) }
+{
+    match batch_size {
+        None | Some(0) => Ok(()),
+        Some(n) => Ok(command.append("batchSize", size(n)?)?),
+    }
+}
+
+impl Operation for GetMore {
+    type Output = GetMoreResult;
+
+    ghost use Rattle.mg_link.specs.Namespace.{space};
+    ghost use Rattle.mg_link.specs.declared.exec.Retry.TheVariants as retries;
+    ghost use Rattle.mg_ops.specs.Commands.{get_more_command};
+    ghost use Rattle.mg_ops.specs.Cursors.{BreaksIn, Gave};
+    ghost use Rattle.mg_ops.specs.Failing.{HasBadSize};
+    ghost use Rattle.mg_ops.specs.Limits.{SizeFits};
+
+    ghost command = { λ o wire. get_more_command o.id (space o.ns) o.batch_size };
+
+    ghost sound = { λ o. SizeFits o.batch_size };
+
+    ghost unfit = { λ o. HasBadSize o.batch_size };
+
+    ghost retried = { λ o. retries.None };
+
+    ghost gives = { λ o. Gave };
+
+    ghost fails = { λ o. BreaksIn };
+
+    fn build(&self, alloc: Global, _wire: i32) -> Result<Document, Error> {
+        let mut command = Document::new(alloc);
+        command.append("getMore", Bson::Int64(self.id))?;
+        command.append("collection", text(alloc, self.ns.coll.as_str())?)?;
+        append_size(&mut command, self.batch_size)?;
+        command.append("$db", text(alloc, self.ns.db.as_str())?)?;
+        Ok(command)
+    }
+
+    fn retry(&self) -> Retry {
+        Retry::None
+    }
+
+    fn read(&self, alloc: Global, reply: RawDocumentBuf) -> Result<GetMoreResult, Error> {
+        read_more(alloc, reply)
+    }
+}

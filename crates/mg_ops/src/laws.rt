@@ -1,0 +1,47 @@
+//! What the commands of operations ask a server for, and what it tells by their replies, for the proofs of callers.
+ghost use Rattle.std.specs.Prelude.{◌≡◌, ℕ, ℤ, true, List, Option, Some, Ok};
+ghost use Rattle.mg_bson.specs.Tree.{Tree, Fields};
+ghost use Rattle.mg_bson.specs.Raw.{fields};
+ghost use Rattle.mg_link.specs.Commands.{Asked, asked, asks_insert, asks_kill, asks_more, asks_watch, documents_in, filter_stages, gave, told};
+ghost use Rattle.mg_link.specs.Filter.{Condition};
+ghost use Rattle.mg_link.specs.Namespace.{Space, Target};
+ghost use Rattle.mg_link.specs.Reply.{verdict_of};
+ghost use Rattle.mg_link.specs.State.{Start};
+ghost use Rattle.mg_link.specs.declared.reply.Verdict.TheVariants as verdict;
+ghost use Rattle.mg_options.specs.declared.change_stream.ChangeStreamOptions.{ChangeStreamOptions};
+ghost use Rattle.mg_ops.specs.Commands.{get_more_command, insert_command, kill_command, watch_command};
+ghost use Rattle.mg_ops.specs.Cursors.{Cursor, cursor_of};
+ghost use Rattle.mg_ops.specs.Naming.{IsAimed, IsNamed, start_in};
+
+/// An insert asks for its documents to be inserted, in order.
+pub fn asks_to_insert()
+    ensures { (command : List ℕ) (space : Space) (documents : List Fields) → IsNamed space
+        → fields command ≡ insert_command space documents → asked command ≡ asks_insert space documents true }
+{}
+
+/// The aggregate of a watch asks for that watch, from its start on.
+pub fn asks_to_watch()
+    ensures { (command : List ℕ) (target : Target) (pipeline : List Fields) (filter : List Condition) (o : ChangeStreamOptions) (start : Start)
+        → IsAimed target o → filter_stages pipeline ≡ Some filter → start_in o ≡ Some start
+        → fields command ≡ watch_command target pipeline o → asked command ≡ asks_watch (record { target = target; filter = filter }) start }
+{}
+
+/// A getMore asks for more of its cursor.
+pub fn asks_for_more()
+    ensures { (command : List ℕ) (id : ℤ) (space : Space) (size : Option ℕ) → IsNamed space
+        → fields command ≡ get_more_command id space size → asked command ≡ asks_more id space }
+{}
+
+/// A killCursors asks for its cursors to be removed.
+pub fn asks_to_kill()
+    ensures { (command : List ℕ) (space : Space) (ids : List ℤ)
+        → fields command ≡ kill_command space ids → asked command ≡ asks_kill ids }
+{}
+
+/// What a reply to a getMore tells: the cursor, and the documents of its batch.
+pub fn tells_of_more()
+    ensures { (id : ℤ) (space : Space) (reply : List ℕ) (cursor : Cursor) (events : List Fields) (token : Tree)
+        → verdict_of (fields reply) ≡ verdict.Success → cursor_of (fields reply) ≡ Ok cursor
+        → documents_in cursor.batch ≡ Some events → cursor.token ≡ Some token
+        → told (asks_more id space) reply ≡ gave cursor.id cursor.space events token }
+{}

@@ -1,0 +1,131 @@
+//! Resume tokens.
+ghost use Rattle.std.specs.Prelude.{◌≡◌, IfOk, IfErr, option_map};
+ghost use Rattle.mg_bson.specs.View.{tree};
+ghost use Rattle.mg_bson.specs.RawView.{value as raw_value};
+ghost use Rattle.mg_link.specs.Errors.{plain};
+ghost use Rattle.mg_link.specs.declared.error.ErrorKind.TheVariants as kinds;
+ghost use Rattle.mg_options.specs.Tokens.{first_token};
+
+use crate::change_stream::ChangeStreamOptions;
+use mg_bson::{Bson, RawValue};
+use mg_link::Error;
+use std::alloc::{AllocError, Global};
+use std::marker::Model;
+
+/// A token that names a place in the list of changes. It may be stored, and handed to a later watch.
+///
+/// Change streams specification: "resume token". Its value means nothing to anybody but the server.
+#[derive(Drop)]
+pub struct ResumeToken {
+    value: Bson,
+}
+
+impl Model for ResumeToken {
+    ghost use Rattle.mg_bson.specs.Tree.{Tree};
+    ghost use Rattle.mg_bson.specs.Coded.{coded_tree};
+
+    ghost Value = { Tree };
+
+    ghost coded = { coded_tree };
+
+    ghost use Rattle.mg_bson.specs.View.{tree};
+
+    ghost view = { λ t. tree t.value };
+}
+
+/// A token that is lent.
+#[derive(Drop)]
+pub struct TokenRef<'a> {
+    value: &'a Bson,
+}
+
+impl<'a> Model for TokenRef<'a> {
+    ghost use Rattle.mg_bson.specs.Tree.{Tree};
+    ghost use Rattle.mg_bson.specs.Coded.{coded_tree};
+
+    ghost Value = { Tree };
+
+    ghost coded = { coded_tree };
+
+    ghost use Rattle.mg_bson.specs.View.{tree};
+
+    ghost view = { λ t. tree t.value.now };
+}
+
+impl ResumeToken {
+    /// The token that has this value. Only memory can fail.
+    pub fn from_value(value: &Bson) -> Result<ResumeToken, Error>
+        ensures ok { IfOk result (λ t. t ≡ tree value.now) }
+        ensures err { IfErr result (λ e. e ≡ plain kinds.OutOfMemory) }
+    {
+        let value = value.clone()?;
+        Ok(ResumeToken { value })
+    }
+
+    /// The token that has this value of a received document. Only memory can fail.
+    pub fn from_raw(alloc: Global, value: &RawValue<'_>) -> Result<ResumeToken, Error>
+        ensures ok { IfOk result (λ t. t ≡ raw_value value.now) }
+        ensures err { IfErr result (λ e. e ≡ plain kinds.OutOfMemory) }
+    {
+        let value = value.to_value(alloc)?;
+        Ok(ResumeToken { value })
+    }
+
+    /// The value of the token. Only memory can fail.
+    pub fn to_value(&self) -> Result<Bson, Error>
+        ensures ok { IfOk result (λ v. tree v ≡ self.now) }
+        ensures err { IfErr result (λ e. e ≡ plain kinds.OutOfMemory) }
+    {
+        let value = self.value.clone()?;
+        Ok(value)
+    }
+
+    /// Lends the token.
+    pub fn as_ref(&self) -> TokenRef<'_>
+        ensures { result ≡ self.now }
+    {
+        TokenRef { value: &self.value }
+    }
+
+    /// The token of a new stream: that of its first batch where this is empty and has one, else the one that the
+    /// stream starts after, else the one that it resumes after, else none. Only memory can fail.
+    pub fn initial(
+        options: &ChangeStreamOptions,
+        first_is_empty: bool,
+        batch_token: Option<TokenRef<'_>>,
+    ) -> Result<Option<ResumeToken>, Error>
+        ensures ok { IfOk result (λ t. t ≡ first_token options.now.start_after options.now.resume_after first_is_empty batch_token.entry) }
+        ensures err { IfErr result (λ e. e ≡ plain kinds.OutOfMemory) }
+    {
+        if first_is_empty {
+            if let Some(token) = batch_token {
+                return Ok(Some(token.to_owned()?));
+            }
+        }
+        match (&options.start_after, &options.resume_after) {
+            (Some(token), _) => Ok(Some(token.clone()?)),
+            (None, Some(token)) => Ok(Some(token.clone()?)),
+            (None, None) => Ok(None),
+        }
+    }
+}
+
+impl<'a> TokenRef<'a> {
+    /// A copy that owns its value. Only memory can fail.
+    pub fn to_owned(&self) -> Result<ResumeToken, Error>
+        ensures ok { IfOk result (λ t. t ≡ self.now) }
+        ensures err { IfErr result (λ e. e ≡ plain kinds.OutOfMemory) }
+    {
+        let value = self.value.clone()?;
+        Ok(ResumeToken { value })
+    }
+}
+
+impl Clone for ResumeToken {
+    ghost is_clone = { λ t u. u ≡ t };
+
+    fn clone(&self) -> Result<ResumeToken, AllocError> {
+        let value = self.value.clone()?;
+        Ok(ResumeToken { value })
+    }
+}
