@@ -1,14 +1,18 @@
 //! A change stream over a link that answers at once.
 ghost use Rattle.std.specs.Prelude.{◌≢◌};
 
-use crate::command::{WatchArgs, aggregate, get_more, kill_cursors};
-use crate::reply::{CursorReply, check_reply, cursor_reply};
-use crate::token::ResumeToken;
-use mg_bson::RawDocumentBuf;
-use mg_link::{Error, ErrorKind, Labels, Namespace};
+use crate::batch::{batch_of, plain};
+use mg_bson::{RawDocumentBuf, Timestamp};
+use mg_link::{Error, ErrorKind, Link, Namespace};
+use mg_ops::{
+    ChangeStreamAggregate, ChangeStreamData, CursorSpecification, GetMore, KillCursors, Operation,
+    WatchArgs, check_reply, encode, initial_operation_time,
+};
+use mg_options::{ChangeStreamOptions, ResumeToken, TokenRef};
 use mg_store::MemLink;
 use std::alloc::Global;
 use std::collections::VecDeque;
+use std::mem;
 
 /// The code with which a server refuses a cursor that it does not hold.
 const CURSOR_NOT_FOUND: i32 = 43;
@@ -27,67 +31,80 @@ pub enum EventPoll {
     Failed(Error),
 }
 
+/// A cursor that the server holds, or none where its id is 0, and a batch of it.
+#[derive(Drop)]
+struct Batch {
+    id: i64,
+    ns: Namespace,
+    documents: VecDeque<RawDocumentBuf>,
+    /// The token behind the documents.
+    token: Option<ResumeToken>,
+}
+
 /// A stream of the changes of a collection, a database or the cluster.
 #[derive(Drop)]
 pub struct ChangeStream {
     alloc: Global,
-    args: WatchArgs,
-    /// The id of the cursor, or 0 where the server holds none.
-    cursor: i64,
-    ns: Namespace,
-    buffer: VecDeque<RawDocumentBuf>,
-    /// The token behind the batch in the buffer.
-    batch_token: Option<ResumeToken>,
-    token: Option<ResumeToken>,
+    /// The aggregate that resumes the stream, with the stream's token.
+    aggregate: ChangeStreamAggregate,
+    batch: Batch,
     /// A batch came of which no call has answered anything.
     fresh: bool,
     /// A batch may be lost, and the next call resumes behind the token.
     owes_resumption: bool,
 }
 
-fn batch_in(batch: Vec<RawDocumentBuf>, alloc: Global) -> Result<VecDeque<RawDocumentBuf>, Error> {
-    let mut buffer = VecDeque::new(alloc);
-    for document in batch {
-        buffer.push_back(document)?;
-    }
-    Ok(buffer)
+/// Sends the command of an operation, and reads its reply.
+fn run<O: Operation>(alloc: Global, link: &mut MemLink, operation: &O) -> Result<O::Output, Error> {
+    let command = encode(alloc, operation, link.wire_version())?;
+    let reply = link.send(command.as_raw())?;
+    check_reply(alloc, &reply.as_raw(), link.wire_version())?;
+    operation.read(alloc, reply)
 }
 
-/// The token of a new stream: the batch's where the batch is empty, else the one that the watch began behind.
-fn first_token(args: &WatchArgs, reply: &CursorReply) -> Result<Option<ResumeToken>, Error> {
-    if reply.batch.is_empty() {
-        if let Some(token) = &reply.token {
-            return Ok(Some(token.clone()?));
-        }
-    }
-    match &args.options.resume_after {
-        Some(token) => Ok(Some(token.clone()?)),
-        None => Ok(None),
-    }
+/// The batch of an opening.
+fn first_batch(alloc: Global, opened: CursorSpecification) -> Result<Batch, Error> {
+    let documents = batch_of(alloc, &opened.initial_reply.as_raw())?;
+    Ok(Batch {
+        id: opened.info.id,
+        ns: opened.info.ns,
+        documents,
+        token: opened.post_batch_resume_token,
+    })
+}
+
+/// What a new stream remembers of its opening.
+fn data_of(
+    options: &ChangeStreamOptions,
+    wire: i32,
+    opened: &CursorSpecification,
+    time: Option<Timestamp>,
+) -> Result<ChangeStreamData, Error> {
+    let is_empty = opened.is_empty;
+    let has_token = opened.post_batch_resume_token.is_some();
+    let token = match &opened.post_batch_resume_token {
+        Some(token) => Some(token.as_ref()),
+        None => None,
+    };
+    Ok(ChangeStreamData {
+        initial_operation_time: initial_operation_time(options, wire, is_empty, has_token, time),
+        resume_token: ResumeToken::initial(options, is_empty, token)?,
+        document_returned: false,
+    })
 }
 
 impl ChangeStream {
     /// Opens a stream: sends the aggregate of the arguments. Its failure is the aggregate's, and no stream is made.
     pub fn open(alloc: Global, link: &mut MemLink, args: WatchArgs) -> Result<ChangeStream, Error> {
-        let command = aggregate(alloc, &args, None)?;
-        let reply = link.send(command.as_raw())?;
-        let reply = cursor_reply(alloc, &reply.as_raw(), link.wire_version())?;
-        let token = first_token(&args, &reply)?;
-        let CursorReply {
-            id,
-            ns,
-            batch,
-            token: batch_token,
-        } = reply;
-        let buffer = batch_in(batch, alloc)?;
+        let mut aggregate = ChangeStreamAggregate { args, resume: None };
+        let (opened, time) = run(alloc, link, &aggregate)?;
+        let wire = link.wire_version();
+        let data = data_of(&aggregate.args.options, wire, &opened, time)?;
+        aggregate.resume = Some(data);
         Ok(ChangeStream {
             alloc,
-            args,
-            cursor: id,
-            ns,
-            buffer,
-            batch_token,
-            token,
+            aggregate,
+            batch: first_batch(alloc, opened)?,
             fresh: true,
             owes_resumption: false,
         })
@@ -107,33 +124,41 @@ impl ChangeStream {
     }
 
     /// The token behind the last answered event, or behind a batch that came empty.
-    pub fn resume_token(&self) -> Option<&ResumeToken> {
-        self.token.as_ref()
+    pub fn resume_token(&self) -> Option<TokenRef<'_>> {
+        match &self.aggregate.resume {
+            Some(data) => match &data.resume_token {
+                Some(token) => Some(token.as_ref()),
+                None => None,
+            },
+            None => None,
+        }
     }
 
     /// Hands the token out, and leaves none.
     pub fn take_token(&mut self) -> Option<ResumeToken> {
-        self.token.take()
+        match &mut self.aggregate.resume {
+            Some(data) => data.resume_token.take(),
+            None => None,
+        }
     }
 
     /// Whether the server may have more: it holds the cursor, or a resumption is owed.
     pub fn is_alive(&self) -> bool {
-        self.cursor != 0 || self.owes_resumption
+        self.batch.id != 0 || self.owes_resumption
     }
 
     /// Closes the stream: kills its cursor, where the server holds it.
     pub fn close(self, link: &mut MemLink) -> Result<(), Error> {
-        if self.cursor == 0 {
-            return Ok(());
-        }
-        kill(self.alloc, link, self.cursor, &self.ns)
+        let alloc = self.alloc;
+        let batch = self.batch;
+        kill(alloc, link, batch.id, batch.ns)
     }
 
     fn next_if_any(&mut self, link: &mut MemLink) -> Result<Option<RawDocumentBuf>, Error> {
         if self.owes_resumption {
             self.resume(link)?;
-        } else if self.buffer.is_empty() && !self.fresh {
-            if self.cursor == 0 {
+        } else if self.batch.documents.is_empty() && !self.fresh {
+            if self.batch.id == 0 {
                 return Ok(None);
             }
             self.ask(link)?;
@@ -141,36 +166,18 @@ impl ChangeStream {
         self.take()
     }
 
-    /// Puts a batch into the buffer.
-    fn fill(&mut self, reply: CursorReply) -> Result<(), Error> {
-        let CursorReply {
-            id,
-            ns,
-            batch,
-            token,
-        } = reply;
-        let buffer = batch_in(batch, self.alloc)?;
-        self.cursor = id;
-        self.ns = ns;
-        self.buffer = buffer;
-        self.batch_token = token;
-        self.fresh = true;
-        Ok(())
-    }
-
     /// Asks for the next batch. Where it may be lost a resumption is owed.
     fn ask(&mut self, link: &mut MemLink) -> Result<(), Error> {
-        let command = get_more(
-            self.alloc,
-            self.cursor,
-            &self.ns,
-            self.args.options.batch_size,
-        )?;
+        let get_more = GetMore {
+            ns: self.batch.ns.clone()?,
+            id: self.batch.id,
+            batch_size: self.aggregate.args.options.batch_size,
+        };
         self.owes_resumption = true;
-        let reply = link.send(command.as_raw())?;
-        match cursor_reply(self.alloc, &reply.as_raw(), link.wire_version()) {
-            Ok(reply) => {
-                self.fill(reply)?;
+        match self.more(link, &get_more) {
+            Ok(batch) => {
+                self.batch = batch;
+                self.fresh = true;
                 self.owes_resumption = false;
                 Ok(())
             }
@@ -178,11 +185,22 @@ impl ChangeStream {
         }
     }
 
+    fn more(&self, link: &mut MemLink, get_more: &GetMore) -> Result<Batch, Error> {
+        let gave = run(self.alloc, link, get_more)?;
+        let documents = batch_of(self.alloc, &gave.raw_reply.as_raw())?;
+        Ok(Batch {
+            id: gave.id,
+            ns: gave.ns,
+            documents,
+            token: gave.post_batch_resume_token,
+        })
+    }
+
     /// Handles a getMore that failed: the stream resumes where that helps.
     fn fail(&mut self, link: &mut MemLink, error: Error) -> Result<(), Error> {
         if let Some(code) = error.sdam_code() {
             if code == CURSOR_NOT_FOUND || code == CURSOR_KILLED {
-                self.cursor = 0;
+                self.batch.id = 0;
             }
         }
         if error.is_resumable() {
@@ -194,17 +212,11 @@ impl ChangeStream {
 
     /// Opens the watch again behind the token, and kills the cursor that it had.
     fn resume(&mut self, link: &mut MemLink) -> Result<(), Error> {
-        let command = aggregate(self.alloc, &self.args, self.token.as_ref())?;
-        let reply = link.send(command.as_raw())?;
-        let reply = cursor_reply(self.alloc, &reply.as_raw(), link.wire_version())?;
-        let old = self.cursor;
-        let ns = self.ns.clone()?;
-        self.fill(reply)?;
+        let (opened, _) = run(self.alloc, link, &self.aggregate)?;
+        let old = mem::replace(&mut self.batch, first_batch(self.alloc, opened)?);
+        self.fresh = true;
         self.owes_resumption = false;
-        if old == 0 {
-            return Ok(());
-        }
-        match kill(self.alloc, link, old, &ns) {
+        match kill(self.alloc, link, old.id, old.ns) {
             Err(error) if matches!(error.kind, ErrorKind::OutOfMemory) => {
                 self.owes_resumption = true;
                 Err(error)
@@ -213,11 +225,19 @@ impl ChangeStream {
         }
     }
 
+    /// Puts the token into what the stream resumes by.
+    fn remember(&mut self, token: ResumeToken, returned: bool) {
+        if let Some(data) = &mut self.aggregate.resume {
+            data.resume_token = Some(token);
+            data.document_returned = data.document_returned || returned;
+        }
+    }
+
     /// Answers from the buffer. An empty batch moves the token behind it.
     fn take(&mut self) -> Result<Option<RawDocumentBuf>, Error> {
-        let Some(document) = self.buffer.front() else {
-            if self.batch_token.is_some() {
-                self.token = self.batch_token.take();
+        let Some(document) = self.batch.documents.front() else {
+            if let Some(token) = self.batch.token.take() {
+                self.remember(token, false);
             }
             self.fresh = false;
             return Ok(None);
@@ -225,35 +245,29 @@ impl ChangeStream {
         let token = match document.as_raw().get("_id") {
             Some(id) => ResumeToken::from_raw(self.alloc, &id)?,
             None => {
-                let _taken = self.buffer.pop_front();
+                let _taken = self.batch.documents.pop_front();
                 self.fresh = false;
-                return Err(missing_token());
+                return Err(plain(ErrorKind::MissingResumeToken));
             }
         };
-        let event = self.buffer.pop_front();
+        let event = self.batch.documents.pop_front();
         self.fresh = false;
-        self.token = match self.batch_token.take() {
-            Some(last) if self.buffer.is_empty() => Some(last),
-            batch_token => {
-                self.batch_token = batch_token;
-                Some(token)
-            }
-        };
+        if self.batch.documents.is_empty() {
+            let token = self.batch.token.take().unwrap_or(token);
+            self.remember(token, true);
+        } else {
+            self.remember(token, true);
+        }
         Ok(event)
     }
 }
 
-fn missing_token() -> Error {
-    Error {
-        kind: ErrorKind::MissingResumeToken,
-        labels: Labels::none(),
-        wire_version: None,
+/// Kills a cursor, where the server holds it.
+fn kill(alloc: Global, link: &mut MemLink, id: i64, ns: Namespace) -> Result<(), Error> {
+    if id == 0 {
+        return Ok(());
     }
-}
-
-/// Kills a cursor.
-fn kill(alloc: Global, link: &mut MemLink, id: i64, ns: &Namespace) -> Result<(), Error> {
-    let command = kill_cursors(alloc, id, ns)?;
-    let reply = link.send(command.as_raw())?;
-    check_reply(alloc, &reply.as_raw(), link.wire_version())
+    let mut ids = Vec::new(alloc);
+    ids.push(id)?;
+    run(alloc, link, &KillCursors { ns, ids })
 }

@@ -1,6 +1,8 @@
 use super::*;
 use mg_bson::{Bson, Document, RawDocumentBuf, to_bytes};
 use mg_link::{Namespace, OperationTarget};
+use mg_ops::WatchArgs;
+use mg_options::ChangeStreamOptions;
 use mg_store::{MemLink, Store};
 use std::alloc::Global;
 use std::test::Fail;
@@ -24,7 +26,7 @@ fn insert_of(alloc: Global, id: i32) -> Result<RawDocumentBuf, Fail> {
 #[test]
 fn each_insert_once(rt: HostRuntime) -> Result<(), Fail> {
     let alloc = rt.alloc();
-    let mut link = MemLink::new(alloc, Store::new(alloc), 21);
+    let mut link = MemLink::new(alloc, Store::new(alloc), Vec::new(alloc), 21);
     let ns = Namespace {
         db: String::from_str(alloc, "app")?,
         coll: String::from_str(alloc, "c")?,
@@ -32,11 +34,7 @@ fn each_insert_once(rt: HostRuntime) -> Result<(), Fail> {
     let args = WatchArgs {
         pipeline: Vec::new(alloc),
         target: OperationTarget::Collection(ns),
-        options: ChangeStreamOptions {
-            resume_after: None,
-            batch_size: None,
-            all_changes_for_cluster: None,
-        },
+        options: ChangeStreamOptions::default(),
     };
     let Ok(mut stream) = ChangeStream::open(alloc, &mut link, args) else {
         return Err(Fail::from("open"));
