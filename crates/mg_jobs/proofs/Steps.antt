@@ -1,5 +1,5 @@
 -- Parts of a document, read one after another as a loop does.
-use Rattle.std.proofs.Common.{◌≡◌, ℕ, suc, ◌+◌, add-one, append_assoc, append-nil, ◌<◌, ◌≤◌, List, [], ◌∷◌, ◌++◌, length, get_or, drop, true, false, Result, Ok, Err, refl, sym, ap, ◌∙◌}
+use Rattle.std.proofs.Common.{◌≡◌, ◌≢◌, None, ℕ, suc, ◌+◌, add-one, append_assoc, append-nil, ◌<◌, ◌≤◌, List, [], ◌∷◌, ◌++◌, length, get_or, drop, Result, Ok, Err, refl, sym, ap, ◌∙◌}
 use Rattle.std.proofs.lemmas.List.{drop_more, drop_all}
 use Rattle.serde_json.specs.Data.{Data, item, Members, no_members, member}
 use Rattle.serde_json.specs.Events.{items_len}
@@ -12,7 +12,8 @@ use Rattle.mg_jobs.specs.declared.fault.ScriptError.{ScriptError}
 use Rattle.mg_jobs.specs.declared.fault.ScriptError.TheVariants as errors
 use Rattle.mg_jobs.specs.Reads.{◌>>=◌, Fails, each}
 use Rattle.serde_json.proofs.Views.{Entry}
-use Rattle.mg_jobs.specs.Values.{value_at, items_at, fields_at, begins_with_dollar}
+use Rattle.mg_jobs.specs.Parts.{only_member}
+use Rattle.mg_jobs.specs.Values.{value_at, items_at, fields_at}
 
 -- a fault of a step is a fault of what follows it
 pub Fails-bind : {A B : Type 0} (e : ScriptError) (r : Result A Place) (f : A → Result B Place) → Fails e r → Fails e (r >>= f)
@@ -76,20 +77,16 @@ fields_regroup : (front : bson.Fields) (k : List ℕ) (t : bson.Tree) (r : Resul
 fields_regroup front k t (Ok fs) = ap Ok (sym (joined_more front k t fs))
 fields_regroup front k t (Err p) = refl
 
-pub fields_go_on : (p : Place) (front after : bson.Fields) (k : List ℕ) (t : bson.Tree) (d : Data) (ms : Members) (total : Result bson.Fields Place) → begins_with_dollar k ≡ false → value_at p d ≡ Ok t → after ≡ with_field front k t
+pub fields_go_on : (p : Place) (front after : bson.Fields) (k : List ℕ) (t : bson.Tree) (d : Data) (ms : Members) (total : Result bson.Fields Place) → value_at p d ≡ Ok t → after ≡ with_field front k t
     → with_fields front (fields_at p (member k d ms)) ≡ total → with_fields after (fields_at p ms) ≡ total
-fields_go_on p front after k t d ms total plain h e so_far =
-    let here : with_fields front (fields_at p (member k d ms)) ≡ with_fields (with_field front k t) (fields_at p ms) = rw (plain, h) (fields_regroup front k t (fields_at p ms)) in
+fields_go_on p front after k t d ms total h e so_far =
+    let here : with_fields front (fields_at p (member k d ms)) ≡ with_fields (with_field front k t) (fields_at p ms) = rw h (fields_regroup front k t (fields_at p ms)) in
     ap (λ a. with_fields a (fields_at p ms)) e ∙ sym here ∙ so_far
 
-pub fields_stop : (e : ScriptError) (p : Place) (front : bson.Fields) (k : List ℕ) (d : Data) (ms : Members) (total : Result bson.Fields Place) → begins_with_dollar k ≡ false → Fails e (value_at p d)
+pub fields_stop : (e : ScriptError) (p : Place) (front : bson.Fields) (k : List ℕ) (d : Data) (ms : Members) (total : Result bson.Fields Place) → Fails e (value_at p d)
     → with_fields front (fields_at p (member k d ms)) ≡ total → Fails e total
-fields_stop e p front k d ms total plain h so_far =
-    Fails-along e _ _ (Fails-bind e _ (λ fs. Ok (joined front fs)) (rw plain (Fails-bind e (value_at p d) _ h))) so_far
-
-pub fields_refuse : (p : Place) (front : bson.Fields) (k : List ℕ) (d : Data) (ms : Members) (total : Result bson.Fields Place) → begins_with_dollar k ≡ true
-    → with_fields front (fields_at p (member k d ms)) ≡ total → total ≡ Err p
-fields_refuse p front k d ms total dollar so_far = sym so_far ∙ rw dollar
+fields_stop e p front k d ms total h so_far =
+    Fails-along e _ _ (Fails-bind e _ (λ fs. Ok (joined front fs)) (Fails-bind e (value_at p d) _ h)) so_far
 
 pub fields_end : (p : Place) (front : bson.Fields) (total : Result bson.Fields Place) → with_fields front (fields_at p no_members) ≡ total → total ≡ Ok front
 fields_end p front total so_far = sym so_far ∙ ap Ok (joined_all front)
@@ -125,3 +122,8 @@ list_end f front vs i total le so_far =
 pub lengths : (vs : List Value) → items_len (items_view vs) ≡ length vs
 lengths [] = refl
 lengths (v ∷ vs) = ap suc (lengths vs)
+
+pub not_one : (es : List Entry) → length es ≢ 1 → only_member (members_view es) ≡ None
+not_one [] other = refl
+not_one (e ∷ []) other = absurd (other refl)
+not_one (e ∷ f ∷ es) other = refl

@@ -1,12 +1,13 @@
 -- When the program ends with which status, and what it writes then.
-use Rattle.std.specs.Prelude.{◌≡◌, ◌⊎◌, ℕ, ◌<◌, List, [], ◌∷◌, length, Bool, true, false, Option, Some, None, Ok, Err, codes}
+use Rattle.std.specs.Prelude.{◌≡◌, ◌⊎◌, ℕ, ◌<◌, ◌≤◌, List, [], ◌∷◌, ◌++◌, length, Bool, true, false, Option, Some, None, Ok, Err, codes, decimal}
 use Rattle.std.specs.Str.{bytes_eq}
 use Rattle.std.specs.Io.KnownBytes.{Consumes, Appends}
 use Rattle.mg_link.specs.Causes.{Rose}
 use Rattle.mg_link.specs.Ends.{ReadWhole, TookFront, longest}
 use Rattle.mg_jobs.specs.Plan.{Plan, plan}
 use Rattle.mg_jobs.specs.Script.{script_of, missing}
-use Rattle.mg_jobs.specs.Text.{text_of}
+use Rattle.mg_jobs.specs.Places.{place_text}
+use Rattle.mg_jobs.specs.Text.{line, text_of}
 use Rattle.mg_jobs.specs.declared.fault.Place.{Place}
 use Rattle.mg_jobs.specs.declared.outcome.Run.{Run}
 use Rattle.mg_jobs.specs.declared.program.Ending.{Ending}
@@ -20,9 +21,13 @@ is_run (w ∷ v ∷ ws) = false
 
 -- ---- what was read
 
+-- the bytes were all that was left, and were read to their end
+abbrev pub ReadInput : Option (List ℕ) → Option (List ℕ) → List ℕ → Type 0
+ReadInput old new bytes = ReadWhole old new bytes × (length bytes ≤ longest)
+
 -- the input was read to its end, and is no script; its first fault stands at the place
 abbrev pub ReadNoScript : Option (List ℕ) → Option (List ℕ) → Place → Type 0
-ReadNoScript old new p = (bytes : List ℕ) × ReadWhole old new bytes × (script_of bytes ≡ Err p)
+ReadNoScript old new p = (bytes : List ℕ) × ReadInput old new bytes × (script_of bytes ≡ Err p)
 
 -- more bytes came than a script may have
 abbrev pub ReadTooMuch : Option (List ℕ) → Option (List ℕ) → Type 0
@@ -30,7 +35,7 @@ ReadTooMuch old new = (bytes : List ℕ) × Consumes old new bytes × (longest <
 
 -- the input was read to its end, and is the script
 abbrev pub ReadScript : Option (List ℕ) → Option (List ℕ) → Plan → Type 0
-ReadScript old new script = (bytes : List ℕ) × ReadWhole old new bytes × (script_of bytes ≡ Ok script)
+ReadScript old new script = (bytes : List ℕ) × ReadInput old new bytes × (script_of bytes ≡ Ok script)
 
 -- each number of the order names a job
 abbrev pub HasJobs : Plan → Type 0
@@ -43,10 +48,6 @@ LacksJob script n = missing script ≡ Some n
 -- the input was read to its end, and is a script whose order has a number that names no job
 abbrev pub ReadMissing : Option (List ℕ) → Option (List ℕ) → ℕ → Type 0
 ReadMissing old new n = (script : Plan) × ReadScript old new script × LacksJob script n
-
--- the input is no script that can be run
-abbrev pub ReadUnfit : Option (List ℕ) → Option (List ℕ) → Type 0
-ReadUnfit old new = ((p : Place) × ReadNoScript old new p) ⊎ (ReadTooMuch old new ⊎ ((n : ℕ) × ReadMissing old new n))
 
 -- ---- what came of the words and the input
 
@@ -68,12 +69,28 @@ Caused words old new before now endings.OutOfMemory = is_run words ≡ true
 Caused words old new before now (endings.Unprinted run) = (is_run words ≡ true) × Ran old new run
 Caused words old new before now (endings.Done run) = (is_run words ≡ true) × Ran old new run
 
+-- the bytes are a script
+abbrev pub IsScript : List ℕ → Plan → Type 0
+IsScript bytes script = (length bytes ≤ longest) × (script_of bytes ≡ Ok script)
+
+-- The ending is of these words and these bytes, which were all that was left. But for a failed read and want of memory, one ending alone
+-- is of the same words and bytes.
+abbrev pub IsOf : List (List ℕ) → List ℕ → Ending → Type 0
+IsOf words bytes endings.Usage = is_run words ≡ false
+IsOf words bytes endings.ReadFault = is_run words ≡ true
+IsOf words bytes endings.TooLong = (is_run words ≡ true) × (longest < length bytes)
+IsOf words bytes (endings.BadScript p) = (is_run words ≡ true) × (length bytes ≤ longest) × (script_of bytes ≡ Err p)
+IsOf words bytes (endings.NoSuchJob n) = (is_run words ≡ true) × ((script : Plan) × IsScript bytes script × LacksJob script n)
+IsOf words bytes endings.OutOfMemory = is_run words ≡ true
+IsOf words bytes (endings.Unprinted run) = (is_run words ≡ true) × IsScript bytes (plan run.script) × HasJobs (plan run.script)
+IsOf words bytes (endings.Done run) = (is_run words ≡ true) × IsScript bytes (plan run.script) × HasJobs (plan run.script)
+
 abbrev pub status_of : Ending → ℕ
 status_of endings.Usage = 1
 status_of endings.ReadFault = 2
-status_of endings.TooLong = 3
+status_of endings.TooLong = 7
 status_of (endings.BadScript p) = 3
-status_of (endings.NoSuchJob n) = 3
+status_of (endings.NoSuchJob n) = 5
 status_of endings.OutOfMemory = 6
 status_of (endings.Unprinted run) = 6
 status_of (endings.Done run) = 0
@@ -81,9 +98,9 @@ status_of (endings.Done run) = 0
 abbrev pub ending_text : Ending → List ℕ
 ending_text endings.Usage = codes "usage: jobs run | jobs share | jobs grow N\n"
 ending_text endings.ReadFault = codes "read fault\n"
-ending_text endings.TooLong = codes "bad script: not built\n"
-ending_text (endings.BadScript p) = codes "bad script: not built\n"
-ending_text (endings.NoSuchJob n) = codes "bad script: not built\n"
+ending_text endings.TooLong = codes "script too long\n"
+ending_text (endings.BadScript p) = line (codes "bad script: " ++ place_text p)
+ending_text (endings.NoSuchJob n) = line (codes "no such job: " ++ decimal n)
 ending_text endings.OutOfMemory = codes "out of memory\n"
 ending_text (endings.Unprinted run) = codes "out of memory\n"
 ending_text (endings.Done run) = text_of run

@@ -1,6 +1,7 @@
 -- The text that a run prints.
 use Rattle.std.specs.Prelude.{ℕ, suc, ℤ, List, [], ◌∷◌, ◌++◌, length, map, sum, Bool, Option, Some, None, ⊤, codes, decimal, if◌then◌else◌}
 use Rattle.std.specs.Fmt.{signed_decimal}
+use Rattle.hex.specs.Hex.{encode_lower}
 use Rattle.mg_bson.specs.Tree.{Tree, document}
 use Rattle.mg_bson.specs.Raw.{fields}
 use Rattle.mg_link.specs.declared.error.Error.{Error}
@@ -64,12 +65,24 @@ kind_text (kinds.ReceiptMismatch mismatch) = codes "E16"
 abbrev pub error_text : Error → List ℕ
 error_text e = kind_text e.kind
 
--- ---- the lines of an insert
+-- ---- the lines of an insert, a put and a get
 
-abbrev pub insert_text : Ended ℕ → List ℕ
-insert_text ended.Unfinished = codes "unfinished"
-insert_text (ended.Gave n) = codes "ok " ++ decimal n
-insert_text (ended.Failed e) = error_text e
+-- what a job came to that gives a number
+abbrev pub count_text : Ended ℕ → List ℕ
+count_text ended.Unfinished = codes "unfinished"
+count_text (ended.Gave n) = codes "ok " ++ decimal n
+count_text (ended.Failed e) = error_text e
+
+-- bytes as hexadecimal digits in lower case, or `-` where there are none
+abbrev pub bytes_text : List ℕ → List ℕ
+bytes_text [] = codes "-"
+bytes_text (b ∷ bs) = encode_lower (b ∷ bs)
+
+-- what a get came to, and the bytes so far
+abbrev pub get_line : ℕ → List ℕ → Ended ⊤ → List ℕ
+get_line job bytes ended.Unfinished = line (codes "job " ++ decimal job ++ codes " get unfinished " ++ bytes_text bytes)
+get_line job bytes (ended.Gave n) = line (codes "job " ++ decimal job ++ codes " get ok " ++ bytes_text bytes)
+get_line job bytes (ended.Failed e) = line (codes "job " ++ decimal job ++ codes " get " ++ error_text e ++ codes " " ++ bytes_text bytes)
 
 -- ---- the lines of a follow
 
@@ -118,7 +131,9 @@ follow_text job (ended.Gave n) given token alive closed = opened_text job given 
 -- ---- the whole
 
 abbrev pub outcome_text : ℕ → Outcome → List ℕ
-outcome_text job (outcomes.Insert e) = line (codes "job " ++ decimal job ++ codes " insert " ++ insert_text e)
+outcome_text job (outcomes.Insert e) = line (codes "job " ++ decimal job ++ codes " insert " ++ count_text e)
+outcome_text job (outcomes.Put e) = line (codes "job " ++ decimal job ++ codes " put " ++ count_text e)
+outcome_text job (outcomes.Get bytes e) = get_line job bytes.items e
 outcome_text job (outcomes.Follow opened given token alive closed) = follow_text job opened given.items token alive closed
 
 -- the lines of jobs, numbered from job

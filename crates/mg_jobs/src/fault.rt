@@ -1,9 +1,11 @@
 //! Why bytes are no script.
-ghost use Rattle.std.specs.Prelude.{◌≡◌};
+ghost use Rattle.std.specs.Prelude.{◌≡◌, Some};
+ghost use Rattle.mg_jobs.specs.Places.{place_text};
 ghost use Rattle.mg_jobs.specs.declared.fault.ScriptError.TheVariants.{OutOfMemory};
 
 use mg_bson::BsonError;
 use std::alloc::{AllocError, AllocFailed};
+use std::fmt;
 
 /// Where the first fault of a script stands.
 #[derive(Clone, Copy, Debug, PartialEq, Eq)]
@@ -16,6 +18,25 @@ pub enum Place {
     Job(usize),
     /// The entry of `order` of this number.
     Order(usize),
+    /// The fate of this number.
+    Fate(usize),
+    /// Nowhere: it asks for what cannot be run yet.
+    NotBuilt,
+}
+
+impl fmt::Display for Place {
+    ghost output = { λ p. Some (place_text p) };
+
+    fn fmt<W: fmt::Write>(&self, f: &mut fmt::Formatter<W>) -> fmt::Result {
+        match self {
+            Place::NotJson => write!(f, "not json"),
+            Place::Top => write!(f, "top"),
+            Place::Job(n) => write!(f, "job {n}"),
+            Place::Order(n) => write!(f, "order {n}"),
+            Place::Fate(n) => write!(f, "fate {n}"),
+            Place::NotBuilt => write!(f, "not built"),
+        }
+    }
 }
 
 /// Why there is no script.

@@ -1,12 +1,9 @@
 //! The insert of a list of documents.
 ghost use Rattle.std.specs.Prelude.{◌<◌, length, IfOk};
 
-use mg_bson::{
-    Array, Bson, BsonError, Document, ObjectId, RawArray, RawDocument, RawDocumentBuf, RawValue,
-    to_bytes,
-};
-use mg_change::check_reply;
-use mg_link::{Error, ErrorKind, IdSource, IndexedFailure, Labels, Malformed, Namespace};
+use mg_bson::{Bson, BsonError, Document, ObjectId, to_bytes};
+use mg_link::{Error, IdSource, Link, Namespace};
+use mg_ops::{Insert, Operation, check_reply, encode};
 use mg_store::MemLink;
 use std::alloc::Global;
 
@@ -16,22 +13,11 @@ const MAX_DOCUMENTS: usize = 100_000;
 /// The most bytes of the documents of one insert command together.
 const MAX_BATCH: usize = 47_000_000;
 
-/// The most bytes of a stored document.
-const MAX_DOCUMENT: usize = 16_777_216;
-
 /// The documents of one command, and how many of the list it and the earlier ones hold.
 #[derive(Drop)]
 struct Batch {
-    documents: Array,
+    documents: Vec<Document>,
     upto: usize,
-}
-
-fn error_of(kind: ErrorKind) -> Error {
-    Error {
-        kind,
-        labels: Labels::none(),
-        wire_version: None,
-    }
 }
 
 /// Draws an id for each document that has none.
@@ -85,7 +71,7 @@ fn batch_from(
     requires { from < length documents.now }
     ensures further { IfOk result (λ b. from < b.upto) }
 {
-    let mut batch = Array::new(alloc);
+    let mut batch = Vec::new(alloc);
     let mut room = MAX_BATCH;
     for i in from..documents.len() {
         if i - from == MAX_DOCUMENTS {
@@ -103,11 +89,8 @@ fn batch_from(
                 upto: i,
             });
         }
-        if length > MAX_DOCUMENT {
-            return Err(error_of(ErrorKind::BsonSerialization));
-        }
         room = room.saturating_sub(length);
-        batch.push(Bson::Document(document))?;
+        batch.push(document)?;
     }
     Ok(Batch {
         documents: batch,
@@ -115,123 +98,13 @@ fn batch_from(
     })
 }
 
-fn command_of(alloc: Global, ns: &Namespace, documents: Array) -> Result<RawDocumentBuf, Error> {
-    let mut command = Document::new(alloc);
-    command.append("insert", Bson::String(ns.coll.clone()?))?;
-    command.append("documents", Bson::Array(documents))?;
-    command.append("ordered", Bson::Boolean(true))?;
-    command.append("$db", Bson::String(ns.db.clone()?))?;
-    Ok(to_bytes(alloc, &command)?)
-}
-
-fn bad_item<T>() -> Result<T, Error> {
-    Err(error_of(ErrorKind::InvalidResponse(Malformed::BadItem)))
-}
-
-fn message_of(alloc: Global, failure: &RawDocument<'_>) -> Result<String, Error> {
-    match failure.get("errmsg") {
-        None => Ok(String::new(alloc)),
-        Some(RawValue::String(message)) => Ok(String::from_str(alloc, message)?),
-        Some(_) => bad_item(),
-    }
-}
-
-fn code_of(failure: &RawDocument<'_>) -> Result<i32, Error> {
-    match failure.get("code") {
-        Some(RawValue::Int32(code)) => Ok(code),
-        _ => bad_item(),
-    }
-}
-
-fn write_error(alloc: Global, failure: &RawDocument<'_>) -> Result<IndexedFailure, Error> {
-    let index = match failure.get("index") {
-        Some(RawValue::Int32(index)) => match u32::try_from(index) {
-            Ok(index) => index,
-            Err(_) => return bad_item(),
-        },
-        _ => return bad_item(),
-    };
-    Ok(IndexedFailure {
-        index,
-        code: code_of(failure)?,
-        message: message_of(alloc, failure)?,
-    })
-}
-
-fn add_write_errors(
-    alloc: Global,
-    failures: &mut Vec<IndexedFailure>,
-    errors: &RawArray<'_>,
-) -> Result<(), Error> {
-    let mut left = errors.iter();
-    'errors: while let Some(item) = left.next() {
-        let Some(failure) = item.as_document() else {
-            return bad_item();
-        };
-        failures.push(write_error(alloc, &failure)?)?;
-    }
-    Ok(())
-}
-
-/// What a reply to an insert of so many documents lists: its write errors, and behind them its write concern error.
-fn failures_of(
-    alloc: Global,
-    reply: &RawDocument<'_>,
-    count: u32,
-) -> Result<Vec<IndexedFailure>, Error> {
-    let mut failures = Vec::new(alloc);
-    match reply.get("writeErrors") {
-        None => {}
-        Some(RawValue::Array(errors)) => add_write_errors(alloc, &mut failures, &errors)?,
-        Some(_) => return bad_item(),
-    }
-    match reply.get("writeConcernError") {
-        None => {}
-        Some(RawValue::Document(failure)) => {
-            let code = code_of(&failure)?;
-            let message = message_of(alloc, &failure)?;
-            failures.push(IndexedFailure {
-                index: count,
-                code,
-                message,
-            })?;
-        }
-        Some(_) => return bad_item(),
-    }
-    Ok(failures)
-}
-
-/// Reads the reply to an insert of so many documents.
-fn read_reply(
-    alloc: Global,
-    reply: &RawDocument<'_>,
-    count: usize,
-    wire: i32,
-) -> Result<(), Error> {
-    check_reply(alloc, reply, wire)?;
-    let n = match reply.get("n") {
-        Some(RawValue::Int32(n)) => i64::from(n),
-        Some(RawValue::Int64(n)) => n,
-        _ => -1,
-    };
-    if n < 0 {
-        return Err(error_of(ErrorKind::InvalidResponse(Malformed::BadCount)));
-    }
-    let count = u32::try_from(count).unwrap_or(u32::MAX);
-    let failures = failures_of(alloc, reply, count)?;
-    if failures.is_empty() {
-        Ok(())
-    } else {
-        Err(error_of(ErrorKind::InsertMany(failures)))
-    }
-}
-
 /// Sends the command of one batch.
-fn send(alloc: Global, link: &mut MemLink, ns: &Namespace, documents: Array) -> Result<(), Error> {
-    let count = documents.len();
-    let command = command_of(alloc, ns, documents)?;
+fn send(alloc: Global, link: &mut MemLink, insert: &Insert) -> Result<(), Error> {
+    let command = encode(alloc, insert, link.wire_version())?;
     let reply = link.send(command.as_raw())?;
-    read_reply(alloc, &reply.as_raw(), count, link.wire_version())
+    check_reply(alloc, &reply.as_raw(), link.wire_version())?;
+    let _written = insert.read(alloc, reply)?;
+    Ok(())
 }
 
 /// Inserts the documents in their order, cut into commands that keep the limits, and gives their number. A document
@@ -247,7 +120,11 @@ pub(crate) fn insert_all<I: IdSource>(
     let mut done = 0;
     'commands: while done < documents.len() {
         let batch = batch_from(alloc, documents, drawn.as_slice(), done)?;
-        send(alloc, link, ns, batch.documents)?;
+        let insert = Insert {
+            ns: ns.clone()?,
+            documents: batch.documents,
+        };
+        send(alloc, link, &insert)?;
         done = batch.upto;
     }
     Ok(documents.len() as u64)

@@ -4,8 +4,12 @@
 mod fault;
 mod insert;
 mod json;
+pub mod laws;
 mod outcome;
 mod parse;
+mod parse_fate;
+mod parse_job;
+mod parts;
 mod print;
 mod program;
 mod run;
@@ -20,6 +24,9 @@ pub use parse::parse_script;
 pub use program::{Ending, Finished, run_program};
 pub use run::run_jobs;
 pub use script::{Job, Script, Start};
+pub use value::value_from_json;
 
+#[cfg(test)]
+mod grammar_tests;
 #[cfg(test)]
 mod tests;

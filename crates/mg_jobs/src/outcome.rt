@@ -1,8 +1,8 @@
 //! What became of each job.
 use crate::script::Script;
 use mg_bson::RawDocumentBuf;
-use mg_change::ResumeToken;
 use mg_link::{Error, Log};
+use mg_options::ResumeToken;
 use mg_store::Store;
 
 /// What a job, or a part of one, came to.
@@ -44,6 +44,15 @@ pub enum Outcome {
         alive: bool,
         /// The closing of its stream.
         closed: Ended<()>,
+    },
+    /// Of a put: the length of its file.
+    Put(Ended<u64>),
+    /// Of a get.
+    Get {
+        /// The bytes that were read.
+        bytes: Vec<u8>,
+        /// The reading.
+        ended: Ended<()>,
     },
 }
 

@@ -1,217 +1,93 @@
 //! The script that bytes are.
-ghost use Rattle.std.specs.Prelude.{◌≡◌, map, length, nat_le, nat_lt};
-ghost use Rattle.serde_json.specs.Events.{items_len};
-ghost use Rattle.serde_json.specs.View.{view, items_view, members_view};
-ghost use Rattle.mg_link.specs.Namespace.{space};
-ghost use Rattle.mg_jobs.specs.Plan.{task, tasks, plan};
-ghost use Rattle.mg_jobs.specs.Reads.{Gives, each};
-ghost use Rattle.mg_jobs.specs.Script.{is_among, are_among, has_only, array_at, text_at, small_number, number_at, space_at, document_of, insert_of, follow_of, task_of, tasks_of, turn_of, turns_of, plan_of, data_of, script_of, first_missing, missing};
+ghost use Rattle.std.specs.Prelude.{◌≡◌, map, length};
+ghost use Rattle.std.specs.List.{list_all};
+ghost use Rattle.serde_json.specs.View.{view, items_view};
+ghost use Rattle.mg_link.specs.Namespace.{target};
+ghost use Rattle.mg_jobs.specs.Plan.{tasks, plan, begin, has_begin, is_collection, task, task_built, fated, is_prompt, is_built};
+ghost use Rattle.mg_jobs.specs.Reads.{Gives};
+ghost use Rattle.mg_jobs.specs.Script.{turn_of, turns_of, wire_at, ids_at, moment_at, lists_of, plan_of, data_of, script_of, first_missing, missing};
 
 use crate::fault::{Place, ScriptError};
+use crate::parse_fate::fates_of;
+use crate::parse_job::jobs_of;
+use crate::parts::{
+    are_few, array_at, array_or, has_only, lower_bytes, natural_number, small_number,
+};
 use crate::script::{Job, Script, Start};
-use crate::value::fields_of;
-use mg_bson::{DateTime, Document};
-use mg_link::{Namespace, OperationTarget};
-use serde_json::{Map, Value};
+use mg_bson::DateTime;
+use mg_link::OperationTarget;
+use mg_store::{Fate, FateKind};
+use serde_json::Value;
 use std::alloc::Global;
 
-// ---- parts of objects
+// ---- the scalar fields
 
-fn is_among(name: &str, names: &[&str]) -> bool
-    ensures { result ≡ is_among name.now (map (λ n. n.now) names.now) }
+fn wire_at(value: &Value, place: Place) -> Result<i32, ScriptError>
+    ensures { Gives (λ n. n) result (wire_at place (view value.now)) }
 {
-    for known in names {
-        if name == *known {
-            return true;
-        }
-    }
-    false
-}
-
-fn are_among(members: &Map<String, Value>, names: &[&str]) -> bool
-    ensures { result ≡ are_among (members_view members.now.entries) (map (λ n. n.now) names.now) }
-{
-    for (name, _) in members.iter() {
-        if !is_among(name.as_str(), names) {
-            return false;
-        }
-    }
-    true
-}
-
-fn has_only(value: &Value, names: &[&str]) -> bool
-    ensures { result ≡ has_only (map (λ n. n.now) names.now) (view value.now) }
-{
-    match value {
-        Value::Object(members) => are_among(members, names),
-        _ => false,
-    }
-}
-
-fn array_at<'v>(value: &'v Value, name: &str, place: Place) -> Result<&'v [Value], ScriptError>
-    ensures { Gives (λ v. items_view v.now) result (array_at place name.now (view value.now)) }
-{
-    match value.get(name) {
-        Some(member) => match member.as_array() {
-            Some(items) => Ok(items.as_slice()),
-            None => Err(ScriptError::Fault(place)),
-        },
-        None => Err(ScriptError::Fault(place)),
-    }
-}
-
-/// Whether there are at most so many items.
-#[tactic(auto, using(crate::proofs::Steps::lengths))]
-fn are_few(items: &[Value], limit: usize) -> bool
-    ensures { result ≡ nat_le (items_len (items_view items.now)) limit }
-{
-    items.len() <= limit
-}
-
-/// Whether there is an item.
-#[tactic(auto, using(crate::proofs::Steps::lengths))]
-fn is_some(items: &[Value]) -> bool
-    ensures { result ≡ nat_lt 0 (items_len (items_view items.now)) }
-{
-    items.len() > 0
-}
-
-fn text_at<'v>(value: &'v Value, name: &str, place: Place) -> Result<&'v str, ScriptError>
-    ensures { Gives (λ s. s.now) result (text_at place name.now (view value.now)) }
-{
-    match value.get(name) {
-        Some(member) => match member.as_str() {
-            Some(text) => Ok(text),
-            None => Err(ScriptError::Fault(place)),
-        },
-        None => Err(ScriptError::Fault(place)),
-    }
-}
-
-fn small_number(value: &Value) -> Option<u32>
-    ensures { result ≡ small_number (view value.now) }
-{
-    match value.as_u64() {
-        Some(n) => if n < 1 << 32 { Some(n as u32) } else { None },
-        None => None,
-    }
-}
-
-fn number_at(value: &Value, name: &str, place: Place) -> Result<u32, ScriptError>
-    ensures { Gives (λ n. n) result (number_at place name.now (view value.now)) }
-{
-    match value.get(name) {
-        Some(member) => match small_number(member) {
+    match value.get("wire") {
+        Some(wire) => match natural_number(wire) {
             Some(n) => Ok(n),
             None => Err(ScriptError::Fault(place)),
         },
-        None => Err(ScriptError::Fault(place)),
+        None => Ok(21),
     }
 }
 
-fn space_at(alloc: Global, text: &str, place: Place) -> Result<Namespace, ScriptError>
-    ensures { Gives space result (space_at place text.now) }
+fn ids_at(value: &Value, place: Place) -> Result<[u8; 3], ScriptError>
+    ensures { Gives (λ b. b) result (ids_at place (view value.now)) }
 {
-    match Namespace::from_str(alloc, text)? {
-        Some(namespace) => Ok(namespace),
-        None => Err(ScriptError::Fault(place)),
+    match value.get("ids") {
+        Some(ids) => match ids.as_str() {
+            Some(text) => match lower_bytes::<3>(text) {
+                Some(bytes) => Ok(bytes),
+                None => Err(ScriptError::Fault(place)),
+            },
+            None => Err(ScriptError::Fault(place)),
+        },
+        None => Ok([0, 0, 0]),
     }
 }
 
-// ---- jobs
-
-fn document_of(alloc: Global, value: &Value, place: Place) -> Result<Document, ScriptError>
-    ensures { Gives (λ d. d) result (document_of place (view value.now)) }
+fn moment_at(value: &Value, place: Place) -> Result<DateTime, ScriptError>
+    ensures { Gives (λ t. t.millis) result (moment_at place (view value.now)) }
 {
-    match value {
-        Value::Object(members) => fields_of(alloc, members, place),
-        _ => Err(ScriptError::Fault(place)),
+    match value.get("moment") {
+        Some(moment) => match moment.as_i64() {
+            Some(millis) => Ok(DateTime { millis }),
+            None => Err(ScriptError::Fault(place)),
+        },
+        None => Ok(DateTime { millis: 0 }),
     }
 }
 
-fn documents_of(alloc: Global, values: &[Value], place: Place) -> Result<Vec<Document>, ScriptError>
-    ensures { Gives (λ v. v.items) result
-        (each (λ n. document_of place) 0 (items_view values.now)) }
-{
-    let mut documents = Vec::new(alloc);
-    for value in values {
-        let document = document_of(alloc, value, place)?;
-        documents.push(document)?;
-    }
-    Ok(documents)
+// ---- the lists
+
+/// The lists of a script, none too long.
+#[derive(Drop)]
+struct Lists<'v> {
+    jobs: &'v [Value],
+    order: &'v [Value],
+    fates: &'v [Value],
 }
 
-#[tactic(auto, unfolding(crate::specs::Script::insert_of))]
-fn insert_of(alloc: Global, value: &Value, place: Place) -> Result<Job, ScriptError>
-    ensures { Gives task result (insert_of place (view value.now)) }
+#[tactic(auto, unfolding(crate::specs::Script::lists_of))]
+fn lists_of(value: &Value) -> Result<Lists<'_>, ScriptError>
+    ensures { Gives (λ l. record { jobs = items_view l.jobs.now; order = items_view l.order.now; fates = items_view l.fates.now }) result (lists_of (view value.now)) }
 {
-    if !has_only(value, &["docs", "job", "ns"]) {
-        return Err(ScriptError::Fault(place));
+    let jobs = array_at(value, "jobs", Place::Top)?;
+    let order = array_at(value, "order", Place::Top)?;
+    let fates = array_or(value, "fates", Place::Top)?;
+    if !are_few(jobs, 65_536) {
+        return Err(ScriptError::Fault(Place::Top));
     }
-    let ns = text_at(value, "ns", place)?;
-    let ns = space_at(alloc, ns, place)?;
-    let docs = array_at(value, "docs", place)?;
-    if !is_some(docs) {
-        return Err(ScriptError::Fault(place));
+    if !are_few(order, 1_048_576) {
+        return Err(ScriptError::Fault(Place::Top));
     }
-    let docs = documents_of(alloc, docs, place)?;
-    Ok(Job::Insert { ns, docs })
-}
-
-#[tactic(auto, unfolding(crate::specs::Script::follow_of))]
-fn follow_of(alloc: Global, value: &Value, place: Place) -> Result<Job, ScriptError>
-    ensures { Gives task result (follow_of place (view value.now)) }
-{
-    if !has_only(value, &["calls", "job", "on"]) {
-        return Err(ScriptError::Fault(place));
+    if !are_few(fates, 1_048_576) {
+        return Err(ScriptError::Fault(Place::Top));
     }
-    let on = text_at(value, "on", place)?;
-    let on = space_at(alloc, on, place)?;
-    let calls = number_at(value, "calls", place)?;
-    if calls > 1_048_576 {
-        return Err(ScriptError::Fault(place));
-    }
-    Ok(Job::Follow {
-        target: OperationTarget::Collection(on),
-        calls,
-        start: Start::Nowhere,
-        filter: None,
-        batch: None,
-    })
-}
-
-#[tactic(auto, unfolding(crate::specs::Script::task_of))]
-fn job_of(alloc: Global, value: &Value, place: Place) -> Result<Job, ScriptError>
-    ensures { Gives task result (task_of place (view value.now)) }
-{
-    let job = text_at(value, "job", place)?;
-    if job == "insert" {
-        insert_of(alloc, value, place)
-    } else if job == "follow" {
-        follow_of(alloc, value, place)
-    } else {
-        Err(ScriptError::Fault(place))
-    }
-}
-
-#[tactic(auto, unfolding(crate::specs::Script::tasks_of))]
-fn jobs_of(alloc: Global, values: &[Value]) -> Result<Vec<Job>, ScriptError>
-    ensures { Gives (λ v. tasks v.items) result (tasks_of (items_view values.now)) }
-{
-    let mut jobs = Vec::new(alloc);
-    for (i, value) in values.iter().enumerate() {
-        let job = job_of(alloc, value, Place::Job(i))?;
-        jobs.push(job)?;
-    }
-    Ok(jobs)
-}
-
-// ---- the whole
-
-fn count_of(jobs: &[Job]) -> usize
-    ensures { result ≡ length (tasks jobs.now) }
-{
-    jobs.len()
+    Ok(Lists { jobs, order, fates })
 }
 
 fn turn_of(value: &Value, place: Place) -> Result<u32, ScriptError>
@@ -235,29 +111,29 @@ fn order_of(alloc: Global, values: &[Value]) -> Result<Vec<u32>, ScriptError>
     Ok(order)
 }
 
+// ---- the whole
+
 #[tactic(auto, unfolding(crate::specs::Script::plan_of))]
 fn script_from(alloc: Global, value: &Value) -> Result<Script, ScriptError>
     ensures { Gives plan result (plan_of (view value.now)) }
 {
-    if !has_only(value, &["jobs", "order"]) {
+    if !has_only(value, &["fates", "ids", "jobs", "moment", "order", "wire"]) {
         return Err(ScriptError::Fault(Place::Top));
     }
-    let jobs = array_at(value, "jobs", Place::Top)?;
-    let order = array_at(value, "order", Place::Top)?;
-    if !are_few(jobs, 65_536) {
-        return Err(ScriptError::Fault(Place::Top));
-    }
-    if !are_few(order, 1_048_576) {
-        return Err(ScriptError::Fault(Place::Top));
-    }
-    let jobs = jobs_of(alloc, jobs)?;
-    let order = order_of(alloc, order)?;
+    let lists = lists_of(value)?;
+    let wire = wire_at(value, Place::Top)?;
+    let ids = ids_at(value, Place::Top)?;
+    let moment = moment_at(value, Place::Top)?;
+    let jobs = jobs_of(alloc, lists.jobs)?;
+    let order = order_of(alloc, lists.order)?;
+    let fates = fates_of(alloc, lists.fates)?;
     Ok(Script {
         jobs,
         order,
-        wire: 21,
-        ids: [0, 0, 0],
-        moment: DateTime { millis: 0 },
+        fates,
+        wire,
+        ids,
+        moment,
     })
 }
 
@@ -276,11 +152,99 @@ fn value_from(alloc: Global, bytes: &[u8]) -> Result<Value, ScriptError>
 }
 
 /// The script that the bytes are, or the first place where they are none.
+///
+/// The text is JSON (RFC 8259) of an object of `jobs`, at most 65,536 of them, `order`, at most 1,048,576 numbers, and
+/// where they are given `fates`, at most 1,048,576 of them, `wire`, `ids` and `moment`. Of two members with one name the
+/// last one stands. A script that asks for what cannot be run yet is refused behind all other faults. That each number
+/// of `order` names a job is not looked at.
 pub fn parse_script(alloc: Global, bytes: &[u8]) -> Result<Script, ScriptError>
     ensures { Gives plan result (script_of bytes.now) }
 {
     let value = value_from(alloc, bytes)?;
-    script_from(alloc, &value)
+    let script = script_from(alloc, &value)?;
+    if !is_built(&script) {
+        return Err(ScriptError::Fault(Place::NotBuilt));
+    }
+    Ok(script)
+}
+
+// ---- what can be run by now
+
+fn has_start(start: &Start) -> bool
+    ensures { result ≡ has_begin (begin start.now) }
+{
+    match start {
+        Start::Nowhere => true,
+        Start::ResumeAfter(_) => true,
+        Start::StartAfter(_) => false,
+        Start::At(_) => false,
+    }
+}
+
+fn is_collection(on: &OperationTarget) -> bool
+    ensures { result ≡ is_collection (target on.now) }
+{
+    match on {
+        OperationTarget::Collection(_) => true,
+        OperationTarget::Database(_) => false,
+        OperationTarget::Cluster => false,
+    }
+}
+
+fn job_built(job: &Job) -> bool
+    ensures { result ≡ task_built (task job.now) }
+{
+    match job {
+        Job::Insert { .. } => true,
+        Job::Follow { target, start, .. } => is_collection(target) && has_start(start),
+        Job::Put { .. } => false,
+        Job::Get { .. } => false,
+    }
+}
+
+fn jobs_built(jobs: &[Job]) -> bool
+    ensures { result ≡ list_all task_built (tasks jobs.now) }
+{
+    for job in jobs {
+        if !job_built(job) {
+            return false;
+        }
+    }
+    true
+}
+
+fn is_prompt(fate: &Fate) -> bool
+    ensures { result ≡ is_prompt (fated fate.now) }
+{
+    match fate.kind {
+        FateKind::Keep => fate.pend == 0,
+        _ => false,
+    }
+}
+
+fn fates_prompt(fates: &[Fate]) -> bool
+    ensures { result ≡ list_all is_prompt (map fated fates.now) }
+{
+    for fate in fates {
+        if !is_prompt(fate) {
+            return false;
+        }
+    }
+    true
+}
+
+fn is_built(script: &Script) -> bool
+    ensures { result ≡ is_built (plan script.now) }
+{
+    jobs_built(script.jobs.as_slice()) && fates_prompt(script.fates.as_slice())
+}
+
+// ---- numbers that name no job
+
+fn count_of(jobs: &[Job]) -> usize
+    ensures { result ≡ length (tasks jobs.now) }
+{
+    jobs.len()
 }
 
 #[tactic(auto, unfolding(crate::specs::Script::first_missing))]

@@ -4,13 +4,13 @@ ghost use Rattle.mg_bson.specs.Tree.{document};
 ghost use Rattle.mg_bson.specs.Raw.{fields};
 ghost use Rattle.mg_jobs.specs.declared.outcome.Outcome.TheVariants as outcomes;
 ghost use Rattle.mg_jobs.specs.Json.{value_text};
-ghost use Rattle.mg_jobs.specs.Text.{coded, file_text, error_text, token_text, token_line, closed_line, answer_line, answers_text, outcome_text, open_line, commands_of, text_of};
+ghost use Rattle.mg_jobs.specs.Text.{coded, file_text, error_text, bytes_text, get_line, token_text, token_line, closed_line, answer_line, answers_text, outcome_text, open_line, commands_of, text_of};
 
 use crate::json::value_text;
 use crate::outcome::{Answer, Ended, Outcome, Run};
 use mg_bson::{Bson, RawDocumentBuf, to_document};
-use mg_change::ResumeToken;
 use mg_link::{Error, ErrorKind, GridFsErrorKind, Log};
+use mg_options::ResumeToken;
 use std::alloc::{AllocError, Global};
 
 // ---- parts of lines
@@ -103,6 +103,55 @@ fn insert_line(
     }
 }
 
+fn put_line(
+    alloc: Global,
+    out: &mut String,
+    job: usize,
+    ended: &Ended<u64>,
+) -> Result<(), AllocError>
+    ensures { OnOk result
+        (string_bytes out.new ≡ string_bytes out.old ++ outcome_text job (outcomes.Put ended.now)) }
+{
+    match ended {
+        Ended::Unfinished => writeln!(out, "job {job} put unfinished"),
+        Ended::Gave(n) => writeln!(out, "job {job} put ok {n}"),
+        Ended::Failed(error) => {
+            let error = error_text(alloc, error)?;
+            writeln!(out, "job {job} put {error}")
+        }
+    }
+}
+
+fn bytes_text(alloc: Global, bytes: &[u8]) -> Result<String, AllocError>
+    ensures { IfOk result (λ s. string_bytes s ≡ bytes_text bytes.now) }
+{
+    match bytes {
+        [] => String::from_str(alloc, "-"),
+        [_, ..] => hex::encode(alloc, bytes),
+    }
+}
+
+fn get_line(
+    alloc: Global,
+    out: &mut String,
+    job: usize,
+    bytes: &[u8],
+    ended: &Ended<()>,
+) -> Result<(), AllocError>
+    ensures { OnOk result
+        (string_bytes out.new ≡ string_bytes out.old ++ get_line job bytes.now ended.now) }
+{
+    let bytes = bytes_text(alloc, bytes)?;
+    match ended {
+        Ended::Unfinished => writeln!(out, "job {job} get unfinished {bytes}"),
+        Ended::Gave(_) => writeln!(out, "job {job} get ok {bytes}"),
+        Ended::Failed(error) => {
+            let error = error_text(alloc, error)?;
+            writeln!(out, "job {job} get {error} {bytes}")
+        }
+    }
+}
+
 fn answer_line(
     alloc: Global,
     out: &mut String,
@@ -189,6 +238,8 @@ fn outcome_lines(
 {
     match outcome {
         Outcome::Insert(ended) => insert_line(alloc, out, job, ended),
+        Outcome::Put(ended) => put_line(alloc, out, job, ended),
+        Outcome::Get { bytes, ended } => get_line(alloc, out, job, bytes.as_slice(), ended),
         Outcome::Follow {
             opened,
             answers,

@@ -1,11 +1,13 @@
 //! The program, from the words of its command line to its status.
-ghost use Rattle.std.specs.Prelude.{◌≡◌, ◌⊎◌, Some, None, map, length, codes, false, string_bytes, IfOk, IfSome, IsSomeAnd};
+ghost use Rattle.std.specs.Prelude.{◌≡◌, ◌⊎◌, ◌++◌, ℕ, Some, None, map, length, codes, decimal, false, string_bytes, IfOk, IfSome, IsSomeAnd};
 ghost use Rattle.std.specs.Io.KnownBytes.{Appends};
 ghost use Rattle.mg_link.specs.Causes.{Rose};
+ghost use Rattle.mg_jobs.specs.declared.fault.Place.{Place};
 ghost use Rattle.mg_jobs.specs.declared.program.Ending.{Ending};
 ghost use Rattle.mg_jobs.specs.Plan.{plan};
-ghost use Rattle.mg_jobs.specs.Text.{text_of};
-ghost use Rattle.mg_jobs.specs.Program.{is_run, HasJobs, ReadUnfit, Ran, Caused, status_of, ending_text, run_of, Told};
+ghost use Rattle.mg_jobs.specs.Places.{place_text};
+ghost use Rattle.mg_jobs.specs.Text.{line, text_of};
+ghost use Rattle.mg_jobs.specs.Program.{is_run, HasJobs, ReadNoScript, ReadTooMuch, ReadMissing, Ran, Caused, status_of, ending_text, run_of, Told};
 
 use crate::fault::{Place, ScriptError};
 use crate::outcome::Run;
@@ -64,7 +66,7 @@ fn run_script(alloc: Global, script: Script) -> Result<Run, Error>
     ensures turns { IfOk result (λ r. length r.turns.items ≡ 1) }
 {
     let [a, b, c] = script.ids;
-    let mut link = MemLink::new(alloc, Store::new(alloc), script.wire);
+    let mut link = MemLink::new(alloc, Store::new(alloc), Vec::new(alloc), script.wire);
     let mut ids = CountedIds::new([a, b, c, 0]);
     let played = run_jobs(
         alloc,
@@ -157,12 +159,41 @@ fn refuse<K: Sink>(sink: &mut K, status: u8, text: &str) -> Finished
     }
 }
 
+/// Writes where the first fault of the input stands, or that memory ran out for it.
+fn refuse_script<K: Sink>(alloc: Global, place: Place, sink: &mut K) -> Finished
+    ensures run { result.run ≡ None }
+    ensures told { Told 3 (line (codes "bad script: " ++ place_text place)) result.status
+        (K.taken sink.old) (K.taken sink.new) (K.faults sink.old) (K.faults sink.new)
+        ⊎ Told 6 (codes "out of memory\n") result.status (K.taken sink.old) (K.taken sink.new)
+        (K.faults sink.old) (K.faults sink.new) }
+{
+    match format!(in alloc; "bad script: {place}\n") {
+        Ok(text) => refuse(sink, 3, text.as_str()),
+        Err(_) => refuse(sink, 6, "out of memory\n"),
+    }
+}
+
+/// Writes which number names no job, or that memory ran out for it.
+fn refuse_job<K: Sink>(alloc: Global, n: u32, sink: &mut K) -> Finished
+    ensures run { result.run ≡ None }
+    ensures told { Told 5 (line (codes "no such job: " ++ decimal n)) result.status
+        (K.taken sink.old) (K.taken sink.new) (K.faults sink.old) (K.faults sink.new)
+        ⊎ Told 6 (codes "out of memory\n") result.status (K.taken sink.old) (K.taken sink.new)
+        (K.faults sink.old) (K.faults sink.new) }
+{
+    match format!(in alloc; "no such job: {n}\n") {
+        Ok(text) => refuse(sink, 5, text.as_str()),
+        Err(_) => refuse(sink, 6, "out of memory\n"),
+    }
+}
+
 /// The whole program: reads a script from the source, runs its jobs over an empty store in memory, and writes what each
 /// job got to the sink. `words` are the arguments behind the program's name.
 ///
 /// The status is 0 where the text of the run was written whole, 1 where the words are not `run`, 2 where the source failed,
-/// 3 where the input is no script or longer than 16,777,216 bytes, 4 where the sink failed, and 6 where memory ran out. The
-/// line of each status is written to the sink; after a failure of the sink a front of it stands there.
+/// 3 where the input is no script, 4 where the sink failed, 5 where the script gives a turn to a job that it does not have,
+/// 6 where memory ran out, and 7 where the input is longer than 16,777,216 bytes. The line of each status is written to
+/// the sink; after a failure of the sink a front of it stands there.
 pub fn run_program<S: Source, K: Sink>(
     alloc: Global,
     words: &[String],
@@ -178,10 +209,14 @@ pub fn run_program<S: Source, K: Sink>(
     ensures refused { is_run (map string_bytes words.now) ≡ false → (result.status ≡ 1) ⊎ (result.status ≡ 4) }
     // 2 only where a read failed.
     ensures read { result.status ≡ 2 → Rose (S.faults source.old) (S.faults source.new) }
-    // 3 just where what came is no script that can be run.
-    ensures script { result.status ≡ 3 → ReadUnfit (S.left source.old) (S.left source.new) }
+    // 3 just where what came is no script.
+    ensures script { result.status ≡ 3 → (p : Place) × ReadNoScript (S.left source.old) (S.left source.new) p }
     // 4 only where a write failed.
     ensures write { result.status ≡ 4 → Rose (K.faults sink.old) (K.faults sink.new) }
+    // 5 just where the order of the script has a number that names no job.
+    ensures missing { result.status ≡ 5 → (n : ℕ) × ReadMissing (S.left source.old) (S.left source.new) n }
+    // 7 just where more bytes came than a script may have.
+    ensures long { result.status ≡ 7 → ReadTooMuch (S.left source.old) (S.left source.new) }
     // A run is of the script that was read.
     ensures run { IfSome result.run (λ r. Ran (S.left source.old) (S.left source.new) r) }
     // 0: the text of the run was written whole.
@@ -191,9 +226,9 @@ pub fn run_program<S: Source, K: Sink>(
     match play(alloc, words, source) {
         Ending::Usage => refuse(sink, 1, "usage: jobs run | jobs share | jobs grow N\n"),
         Ending::ReadFault => refuse(sink, 2, "read fault\n"),
-        Ending::TooLong => refuse(sink, 3, "bad script: not built\n"),
-        Ending::BadScript(_) => refuse(sink, 3, "bad script: not built\n"),
-        Ending::NoSuchJob(_) => refuse(sink, 3, "bad script: not built\n"),
+        Ending::TooLong => refuse(sink, 7, "script too long\n"),
+        Ending::BadScript(place) => refuse_script(alloc, place, sink),
+        Ending::NoSuchJob(n) => refuse_job(alloc, n, sink),
         Ending::OutOfMemory => refuse(sink, 6, "out of memory\n"),
         Ending::Unprinted(run) => Finished {
             status: say(sink, 6, "out of memory\n"),

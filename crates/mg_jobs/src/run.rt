@@ -6,8 +6,10 @@ use crate::insert::insert_all;
 use crate::outcome::{Answer, Ended, Outcome, Played, Turned};
 use crate::script::{Job, Start};
 use mg_bson::{DateTime, Document};
-use mg_change::{ChangeStream, ChangeStreamOptions, EventPoll, ResumeToken, WatchArgs};
+use mg_change::{ChangeStream, EventPoll};
 use mg_link::{Error, IdSource, OperationTarget};
+use mg_ops::WatchArgs;
+use mg_options::{ChangeStreamOptions, ResumeToken};
 use mg_store::MemLink;
 use std::alloc::Global;
 
@@ -28,6 +30,8 @@ struct Follow {
 enum Player {
     Insert(Ended<u64>),
     Follow(Follow),
+    Put,
+    Get,
 }
 
 fn ended<T>(outcome: Result<T, Error>) -> Ended<T> {
@@ -48,31 +52,36 @@ fn pipeline_of(alloc: Global, filter: Option<&Document>) -> Result<Vec<Document>
     Ok(pipeline)
 }
 
+/// What a follow opens, or nothing where its start is not built yet.
 fn watch_args(
     alloc: Global,
     target: &OperationTarget,
     start: &Start,
     filter: Option<&Document>,
     batch_size: Option<u32>,
-) -> Result<WatchArgs, Error> {
+) -> Result<Option<WatchArgs>, Error> {
     let resume_after = match start {
         Start::Nowhere => None,
         Start::ResumeAfter(token) => Some(token.clone()?),
+        Start::StartAfter(_) => return Ok(None),
+        Start::At(_) => return Ok(None),
     };
     let all_changes_for_cluster = match target {
         OperationTarget::Cluster => Some(true),
         OperationTarget::Database(_) => None,
         OperationTarget::Collection(_) => None,
     };
-    Ok(WatchArgs {
+    Ok(Some(WatchArgs {
         pipeline: pipeline_of(alloc, filter)?,
         target: target.clone()?,
         options: ChangeStreamOptions {
             resume_after,
-            batch_size,
+            start_at_operation_time: None,
+            start_after: None,
             all_changes_for_cluster,
+            batch_size,
         },
-    })
+    }))
 }
 
 impl Follow {
@@ -87,10 +96,11 @@ impl Follow {
         }
     }
 
-    /// Opens the stream.
-    fn open(&mut self, link: &mut MemLink, alloc: Global, args: Result<WatchArgs, Error>) {
+    /// Opens the stream, where there is something to open.
+    fn open(&mut self, link: &mut MemLink, alloc: Global, args: Result<Option<WatchArgs>, Error>) {
         let opening = match args {
-            Ok(args) => ChangeStream::open(alloc, link, args),
+            Ok(Some(args)) => ChangeStream::open(alloc, link, args),
+            Ok(None) => return,
             Err(error) => Err(error),
         };
         match opening {
@@ -156,6 +166,8 @@ impl Player {
         match job {
             Job::Insert { .. } => Player::Insert(Ended::Unfinished),
             Job::Follow { .. } => Player::Follow(Follow::new(alloc)),
+            Job::Put { .. } => Player::Put,
+            Job::Get { .. } => Player::Get,
         }
     }
 
@@ -182,7 +194,6 @@ impl Player {
                 filter,
                 batch,
             } => match self {
-                Player::Insert(_) => Ok(()),
                 Player::Follow(follow) => {
                     match follow.opened {
                         Ended::Unfinished => {
@@ -197,14 +208,22 @@ impl Player {
                     }
                     Ok(())
                 }
+                _ => Ok(()),
             },
+            Job::Put { .. } => Ok(()),
+            Job::Get { .. } => Ok(()),
         }
     }
 
-    fn into_outcome(self) -> Outcome {
+    fn into_outcome(self, alloc: Global) -> Outcome {
         match self {
             Player::Insert(ended) => Outcome::Insert(ended),
             Player::Follow(follow) => follow.into_outcome(),
+            Player::Put => Outcome::Put(Ended::Unfinished),
+            Player::Get => Outcome::Get {
+                bytes: Vec::new(alloc),
+                ended: Ended::Unfinished,
+            },
         }
     }
 }
@@ -212,7 +231,7 @@ impl Player {
 fn outcomes_of(alloc: Global, players: Vec<Player>) -> Result<Vec<Outcome>, Error> {
     let mut outcomes = Vec::with_capacity(alloc, players.len())?;
     for player in players {
-        outcomes.push(player.into_outcome())?;
+        outcomes.push(player.into_outcome(alloc))?;
     }
     Ok(outcomes)
 }
@@ -238,7 +257,8 @@ fn turn_at<I: IdSource>(
 /// an ended job does nothing.
 ///
 /// An insert is one call. A follow opens its stream, asks `calls` times for an event, and closes the stream in the
-/// turn of its last call. `moment` is the time that new records get. An error comes only for want of memory.
+/// turn of its last call. A put, a get, and a follow that starts by `StartAfter` or `At` are not built yet: their turns
+/// do nothing. `moment` is the time that new records get. An error comes only for want of memory.
 pub fn run_jobs<I: IdSource>(
     alloc: Global,
     link: &mut MemLink,

@@ -1,7 +1,8 @@
 //! What a script asks for.
-use mg_bson::{DateTime, Document};
-use mg_change::ResumeToken;
+use mg_bson::{Bson, DateTime, Document, Timestamp};
 use mg_link::{Namespace, OperationTarget};
+use mg_options::ResumeToken;
+use mg_store::Fate;
 
 /// One thing to do against the server, a call at a time.
 #[derive(Drop)]
@@ -26,6 +27,32 @@ pub enum Job {
         /// The greatest number of events in a batch, where it is given.
         batch: Option<u32>,
     },
+    /// Writes a file, piece by piece.
+    Put {
+        /// The database of the bucket.
+        db: String,
+        /// The name of the bucket.
+        bucket: String,
+        /// The name of the file.
+        name: String,
+        /// The `_id` of the file.
+        id: Bson,
+        /// The bytes of each chunk but the last.
+        chunk: u32,
+        /// What the file holds, cut as it is written.
+        pieces: Vec<Vec<u8>>,
+    },
+    /// Reads a file, piece by piece.
+    Get {
+        /// The database of the bucket.
+        db: String,
+        /// The name of the bucket.
+        bucket: String,
+        /// The `_id` of the file.
+        id: Bson,
+        /// The most bytes of one read.
+        read: u32,
+    },
 }
 
 /// Where a change stream begins.
@@ -35,6 +62,10 @@ pub enum Start {
     Nowhere,
     /// Behind the event of this token.
     ResumeAfter(ResumeToken),
+    /// Behind the event of this token, which may be the last one of a stream that ended.
+    StartAfter(ResumeToken),
+    /// Before the first event that is not older than this time.
+    At(Timestamp),
 }
 
 /// A script, read whole.
@@ -44,6 +75,8 @@ pub struct Script {
     pub jobs: Vec<Job>,
     /// The numbers of the jobs that get a turn, in order.
     pub order: Vec<u32>,
+    /// What becomes of each command, in the order of their starts. Later ones are kept.
+    pub fates: Vec<Fate>,
     /// The wire version of the link.
     pub wire: i32,
     /// The first bytes of each id that is drawn.

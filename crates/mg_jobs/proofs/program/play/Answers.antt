@@ -8,4 +8,4 @@ pub returns-in-Some : goal.returns-in-Some
 returns-in-Some g c =
     let asked : is_run (map string_bytes c.args.words.now) ≡ true = grind arith in
     let read : script_of c.in-Ok.bytes.items ≡ Ok (plan c.in-Ok-parse_script.script) = ap script_of (sym c.as_slice.ensures.value) ∙ c.in-Ok-parse_script.ensures in
-    (asked, (plan c.in-Ok-parse_script.script, (c.in-Ok.bytes.items, c.in-Ok.ensures.whole, read), sym c.in-Some.ensures))
+    (asked, (plan c.in-Ok-parse_script.script, (c.in-Ok.bytes.items, (c.in-Ok.ensures.whole, c.in-Ok.ensures.short), read), sym c.in-Some.ensures))

@@ -1,10 +1,10 @@
-use Rattle.std.proofs.Common.{◌≡◌, false, Result, string_bytes, sym, ap, ◌∙◌, arith}
+use Rattle.std.proofs.Common.{◌≡◌, Result, string_bytes, sym, ap, ◌∙◌, arith}
 use Rattle.serde_json.specs.View.{view, items_view, members_view}
 use Rattle.mg_bson.specs.View.{tree}
 use Rattle.mg_bson.specs.Tree.{Fields}
 use Rattle.mg_bson.specs.Find.{with_field}
 use Rattle.mg_jobs.specs.declared.fault.Place.{Place}
-use Rattle.mg_jobs.specs.Values.{items_at, fields_at, begins_with_dollar}
+use Rattle.mg_jobs.specs.Values.{items_at, fields_at}
 use Rattle.mg_jobs.proofs.Steps.{with_fields, items_go_on, items_end, fields_go_on, fields_end}
 use Rattle.mg_jobs.proofs.value.+value.Goals as goal
 
@@ -14,10 +14,9 @@ fields_of-loop-name-preserved t c =
     let k = string_bytes c.in-Some.name.now in
     let front = c.loop-name.document in
     let total : Result Fields Place = fields_at p (members_view c.args.members.now.entries) in
-    let plain : begins_with_dollar k ≡ false = ap begins_with_dollar (sym c.as_str.ensures.value) ∙ sym c.begins_with_dollar.ensures ∙ c.if-begins_with_dollar.false in
-    let appended : c.append.new.self ≡ with_field front k (tree c.in_ok-value.value) = c.in_ok-append.ensures.ok ∙ ap (λ n. with_field front n (tree c.in_ok-value.value)) c.as_str-in-loop-name.ensures.value in
+    let appended : c.append.new.self ≡ with_field front k (tree c.in_ok-value.value) = c.in_ok-append.ensures.ok ∙ ap (λ n. with_field front n (tree c.in_ok-value.value)) c.as_str.ensures.value in
     let so_far = ap (λ es. with_fields front (fields_at p (members_view es))) (sym c.in-Some.ensures.steps) ∙ c.loop-name.invariant in
-    fields_go_on p front c.append.new.self k (tree c.in_ok-value.value) (view c.in-Some.member.now) (members_view c.next.new.self) total plain c.in_ok-value.ensures appended so_far
+    fields_go_on p front c.append.new.self k (tree c.in_ok-value.value) (view c.in-Some.member.now) (members_view c.next.new.self) total c.in_ok-value.ensures appended so_far
 
 pub fields_of-returns : goal.fields_of-returns
 fields_of-returns t c =
