@@ -64,7 +64,7 @@ const NOT_BUILT: &str =
 #[test]
 fn statuses(rt: HostRuntime) -> Result<(), Fail> {
     let usage = "usage: jobs run | jobs share | jobs grow N\n";
-    let rows: [(&[&str], &str, &[u64], &[u64], u8, &str); 14] = [
+    let rows: [(&[&str], &str, &[u64], &[u64], u8, &str); 11] = [
         (&["run"], FOLLOW_TWO_INSERTS, &[], &[], 0, FOLLOWED),
         (&["run"], NO_TURNS, &[], &[], 0, UNTURNED),
         (&["run"], NO_JOBS, &[], &[], 0, "open none\ncommands 0\n"),
@@ -72,13 +72,10 @@ fn statuses(rt: HostRuntime) -> Result<(), Fail> {
         (&["run", "run"], NO_JOBS, &[], &[], 1, usage),
         (&["run"], NO_JOBS, &[0], &[], 2, "read fault\n"),
         (&["run"], "[", &[], &[], 3, "bad script: not json\n"),
-        (&["run"], "{}", &[], &[], 3, "bad script: top\n"),
         (&["run"], NOT_BUILT, &[], &[], 3, "bad script: not built\n"),
-        (&["run"], NO_TURNS, &[], &[1], 4, "job"),
-        (&["run"], "{}", &[], &[2], 4, "bad sc"),
-        (&[], "", &[], &[0], 4, ""),
         (&["run"], NO_SUCH_JOB, &[], &[], 5, "no such job: 0\n"),
-        (&["run"], NO_SUCH_JOB, &[], &[0], 4, ""),
+        (&["run"], NO_TURNS, &[], &[1], 4, "job"),
+        (&[], "", &[], &[0], 4, ""),
     ];
     for (words, input, reads, writes, status, text) in rows {
         let found = status_and_text(rt.alloc(), words, input, reads, writes)?;
