@@ -1,6 +1,10 @@
 //! What becomes of a command on a link in memory.
-ghost use Rattle.std.specs.Prelude.{◌≡◌};
-ghost use Rattle.mg_store.specs.InMemory.{fate_at};
+ghost use Rattle.std.specs.Prelude.{◌≡◌, IfOk, true};
+ghost use Rattle.mg_store.specs.InMemory.{IsSmall, fate_at};
+
+use crate::reply::{bytes_of, refusal};
+use mg_link::OutOfMemory;
+use std::alloc::Global;
 
 /// What becomes of a command.
 #[derive(Drop)]
@@ -27,6 +31,26 @@ pub enum FateKind {
         /// Its error labels, in order.
         labels: Vec<String>,
     },
+}
+
+impl FateKind {
+    /// Whether the refusal that it names, if any, is no larger than a reply may be.
+    pub fn is_small(&self, alloc: Global) -> Result<bool, OutOfMemory>
+        ensures { IfOk result (λ small. small ≡ true → IsSmall self.now) }
+    {
+        match self {
+            FateKind::Keep => Ok(true),
+            FateKind::Lose => Ok(true),
+            FateKind::Drop => Ok(true),
+            FateKind::Refuse { code, labels } => {
+                let reply = refusal(alloc, *code, labels.as_slice())?;
+                match bytes_of(alloc, &reply)? {
+                    Some(_) => Ok(true),
+                    None => Ok(false),
+                }
+            }
+        }
+    }
 }
 
 /// How many polls of the command of this number pend.
