@@ -1,0 +1,15 @@
+pub mod Reading
+pub mod Resumption
+pub mod Forgetting
+pub mod Heeding
+pub mod Turning
+pub mod Hearing
+pub mod Garbled
+pub mod Opened
+pub mod Closed
+pub mod Sames
+pub mod SameClosings
+pub mod Growths
+pub mod Seeking
+pub mod Sent
+pub mod OpeningSends

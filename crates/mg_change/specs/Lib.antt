@@ -1,0 +1,11 @@
+pub mod Polls
+pub mod Phases
+pub mod Batches
+pub mod Openings
+pub mod Closings
+pub mod Following
+pub mod Replies
+pub mod Growths
+pub mod Rows
+pub mod Sent
+pub mod OpeningSends

@@ -1,23 +1,28 @@
 //! The documents of a batch.
+ghost use Rattle.std.specs.Prelude.{◌≡◌, IfOk, IfErr, Some, codes, map};
+ghost use Rattle.mg_bson.specs.Find.{get};
+ghost use Rattle.mg_bson.specs.Raw.{fields, items};
+ghost use Rattle.mg_link.specs.Commands.{documents_in};
+ghost use Rattle.mg_ops.specs.Cursors.{batch_at};
+ghost use Rattle.mg_change.specs.Polls.{IsNotIo};
+ghost use Rattle.mg_change.specs.Batches.{HoldsBatch};
+
+use crate::fault::plain;
 use mg_bson::{RawArray, RawDocument, RawDocumentBuf};
-use mg_link::{Error, ErrorKind, Labels, Malformed};
+use mg_link::{Error, ErrorKind, Malformed};
 use mg_ops::doc_slices;
+use mg_options::ResumeToken;
 use std::alloc::Global;
 use std::collections::VecDeque;
 
-pub(crate) fn plain(kind: ErrorKind) -> Error {
-    Error {
-        kind,
-        labels: Labels::none(),
-        wire_version: None,
-    }
-}
-
 // Copies the documents among the items, where all of them are documents.
-fn documents_of(alloc: Global, batch: &RawArray<'_>) -> Result<VecDeque<RawDocumentBuf>, Error> {
+fn documents_of(alloc: Global, batch: &RawArray<'_>) -> Result<VecDeque<RawDocumentBuf>, Error>
+    ensures ok { IfOk result (λ ds. documents_in (items batch.now) ≡ Some (map fields ds.items)) }
+    ensures err { IfErr result IsNotIo }
+{
     let mut documents = VecDeque::new(alloc);
     let mut left = batch.iter();
-    while let Some(item) = left.next() {
+    'items: while let Some(item) = left.next() {
         let Some(document) = item.as_document() else {
             return Err(plain(ErrorKind::InvalidResponse(Malformed::BadItem)));
         };
@@ -26,11 +31,25 @@ fn documents_of(alloc: Global, batch: &RawArray<'_>) -> Result<VecDeque<RawDocum
     Ok(documents)
 }
 
+// The `_id` of a document, as a token.
+pub(crate) fn id_of(alloc: Global, document: &RawDocument<'_>) -> Result<Option<ResumeToken>, Error>
+    ensures ok { IfOk result (λ id. id ≡ get (codes "_id") (fields document.now)) }
+    ensures err { IfErr result IsNotIo }
+{
+    match document.get("_id") {
+        Some(id) => Ok(Some(ResumeToken::from_raw(alloc, &id)?)),
+        None => Ok(None),
+    }
+}
+
 // The documents of a reply's batch.
 pub(crate) fn batch_of(
     alloc: Global,
     reply: &RawDocument<'_>,
-) -> Result<VecDeque<RawDocumentBuf>, Error> {
+) -> Result<VecDeque<RawDocumentBuf>, Error>
+    ensures ok { IfOk result (λ ds. HoldsBatch (fields reply.now) (map fields ds.items)) }
+    ensures err { IfErr result IsNotIo }
+{
     match doc_slices(reply) {
         Ok(batch) => documents_of(alloc, &batch),
         Err(how) => Err(plain(ErrorKind::InvalidResponse(how))),

@@ -1,130 +1,186 @@
-//! A change stream over a link that answers at once.
-ghost use Rattle.std.specs.Prelude.{◌≢◌};
+//! A change stream over any link.
+ghost use Rattle.std.specs.Prelude.{◌≡◌, ◌≢◌, ◌↔◌, ◌⊎◌, IsTrue, ℕ, ℤ, pos, List, [], ◌++◌, Option, IfErr, OnOk, OnErr, Ok, None, true};
+ghost use Rattle.mg_bson.specs.Tree.{Fields};
+ghost use Rattle.mg_link.specs.Acts.{IsOut, Tickets};
+ghost use Rattle.mg_link.specs.Errors.{command_code};
+ghost use Rattle.mg_link.specs.Exec.{ticket_of};
+ghost use Rattle.mg_link.specs.Follow.{Moved};
+ghost use Rattle.mg_link.specs.Link.{Later};
+ghost use Rattle.mg_link.specs.Namespace.{space};
+ghost use Rattle.mg_link.specs.State.{Start, Watch};
+ghost use Rattle.mg_ops.specs.Naming.{IsNamed};
+ghost use Rattle.mg_change.specs.Following.{Asks, Passes, Pops, Spends, StepSpends, Turned, Turns, event_told, follow_of, popped_told, step_told, token_of};
+ghost use Rattle.mg_change.specs.Phases.{Carries, IsAsking, IsKept, IsKilling, IsResuming, IsSound, left_with, rank, remembering, resuming_command, ticket_in, without_token};
+ghost use Rattle.mg_change.specs.Polls.{Falls, IsAtOnce, IsNotIo, IsStepAtOnce, Loses, Pends, RestsAfter, StepLoses, StepPends, StepRests, ends_cursor};
+ghost use Rattle.mg_change.specs.Sent.{CallSent, Quiet, StepSent};
+ghost use Rattle.mg_change.specs.Rows.{CountsAfter, Ends, StepEnds, left_in};
+ghost use Rattle.mg_change.specs.Replies.{FailTurns, MoreTurns, Replaces, ResumeTurns};
 
-use crate::batch::{batch_of, plain};
-use mg_bson::{RawDocumentBuf, Timestamp};
-use mg_link::{Error, ErrorKind, Link, Namespace};
-use mg_ops::{
-    ChangeStreamAggregate, ChangeStreamData, CursorSpecification, GetMore, KillCursors, Operation,
-    WatchArgs, check_reply, encode, initial_operation_time,
-};
-use mg_options::{ChangeStreamOptions, ResumeToken, TokenRef};
-use mg_store::MemLink;
+use crate::batch::{batch_of, id_of};
+use crate::commands::{ask, kill_one, resume};
+use crate::counts::Counts;
+use crate::event_poll::{EventPoll, Stepped};
+use crate::fault::{ends_cursor, is_memory, plain};
+use mg_bson::RawDocumentBuf;
+use mg_link::{Action, Error, ErrorKind, Exec, Link, Step};
+use mg_ops::{ChangeStreamAggregate, CursorInformation, CursorSpecification, GetMore, Operation};
+use mg_options::{ResumeToken, TokenRef};
 use std::alloc::Global;
 use std::collections::VecDeque;
 use std::mem;
 
-/// The code with which a server refuses a cursor that it does not hold.
-const CURSOR_NOT_FOUND: i32 = 43;
-
-/// The code with which a server refuses a cursor that was killed.
-const CURSOR_KILLED: i32 = 237;
-
-/// What a call of a stream came to.
+// How far the stream has come.
 #[derive(Drop)]
-pub enum EventPoll {
-    /// The link has not answered yet. The next call goes on.
-    Pending,
-    /// The next event, or none where nothing is there.
-    Ready(Option<RawDocumentBuf>),
-    /// The call failed.
-    Failed(Error),
+pub(crate) enum Phase {
+    // A step has taken the phase out.
+    Taken,
+    // Nothing is in flight.
+    Rest,
+    // The reply to the opening, whose batch was not looked at.
+    First(RawDocumentBuf),
+    // A batch came that nothing was answered from.
+    Fresh,
+    // The next batch is asked for.
+    Asking(GetMore, Exec),
+    // A resumption is owed.
+    Owing,
+    // The aggregate that resumes the stream is sent.
+    Resuming(Exec),
+    // The cursor that a resumption left behind, by its id, is killed. The reply has the first batch of the new one.
+    Killing(Exec, i64, RawDocumentBuf),
+    // The reply to a resumption, whose batch was not looked at.
+    Resumed(RawDocumentBuf),
 }
 
-/// A cursor that the server holds, or none where its id is 0, and a batch of it.
-#[derive(Drop)]
-struct Batch {
-    id: i64,
-    ns: Namespace,
-    documents: VecDeque<RawDocumentBuf>,
-    /// The token behind the documents.
-    token: Option<ResumeToken>,
-}
-
-/// A stream of the changes of a collection, a database or the cluster.
+/// A stream of the changes of a collection, a database or the cluster. It goes on behind its resume token after faults of
+/// the link and refusals that pass (change streams specification).
+///
+/// A stream that is dropped sends nothing: [`close`](ChangeStream::close) kills its cursor.
 #[derive(Drop)]
 pub struct ChangeStream {
-    alloc: Global,
-    /// The aggregate that resumes the stream, with the stream's token.
-    aggregate: ChangeStreamAggregate,
-    batch: Batch,
-    /// A batch came of which no call has answered anything.
-    fresh: bool,
-    /// A batch may be lost, and the next call resumes behind the token.
-    owes_resumption: bool,
-}
-
-/// Sends the command of an operation, and reads its reply.
-fn run<O: Operation>(alloc: Global, link: &mut MemLink, operation: &O) -> Result<O::Output, Error> {
-    let command = encode(alloc, operation, link.wire_version())?;
-    let reply = link.send(command.as_raw())?;
-    check_reply(alloc, &reply.as_raw(), link.wire_version())?;
-    operation.read(alloc, reply)
-}
-
-/// The batch of an opening.
-fn first_batch(alloc: Global, opened: CursorSpecification) -> Result<Batch, Error> {
-    let documents = batch_of(alloc, &opened.initial_reply.as_raw())?;
-    Ok(Batch {
-        id: opened.info.id,
-        ns: opened.info.ns,
-        documents,
-        token: opened.post_batch_resume_token,
-    })
-}
-
-/// What a new stream remembers of its opening.
-fn data_of(
-    options: &ChangeStreamOptions,
-    wire: i32,
-    opened: &CursorSpecification,
-    time: Option<Timestamp>,
-) -> Result<ChangeStreamData, Error> {
-    let is_empty = opened.is_empty;
-    let has_token = opened.post_batch_resume_token.is_some();
-    let token = match &opened.post_batch_resume_token {
-        Some(token) => Some(token.as_ref()),
-        None => None,
-    };
-    Ok(ChangeStreamData {
-        initial_operation_time: initial_operation_time(options, wire, is_empty, has_token, time),
-        resume_token: ResumeToken::initial(options, is_empty, token)?,
-        document_returned: false,
-    })
+    pub(crate) alloc: Global,
+    // The aggregate that resumes the stream, with what the stream remembers.
+    pub(crate) aggregate: ChangeStreamAggregate,
+    // The cursor, whose id is 0 where the server holds none.
+    pub(crate) cursor: CursorInformation,
+    pub(crate) buffer: VecDeque<RawDocumentBuf>,
+    // The token behind the batch in the buffer.
+    pub(crate) batch_token: Option<ResumeToken>,
+    pub(crate) phase: Phase,
+    // What a call that seeks an event got in vain, while it goes on.
+    pub(crate) counts: Counts,
 }
 
 impl ChangeStream {
-    /// Opens a stream: sends the aggregate of the arguments. Its failure is the aggregate's, and no stream is made.
-    pub fn open(alloc: Global, link: &mut MemLink, args: WatchArgs) -> Result<ChangeStream, Error> {
-        let mut aggregate = ChangeStreamAggregate { args, resume: None };
-        let (opened, time) = run(alloc, link, &aggregate)?;
-        let wire = link.wire_version();
-        let data = data_of(&aggregate.args.options, wire, &opened, time)?;
-        aggregate.resume = Some(data);
-        Ok(ChangeStream {
-            alloc,
-            aggregate,
-            batch: first_batch(alloc, opened)?,
-            fresh: true,
-            owes_resumption: false,
-        })
-    }
-
-    /// The next event, or none where nothing is there. At most one batch is asked for.
+    /// The next event, or none where nothing is there. A call goes on over several polls while replies pend; it sends at
+    /// most one getMore, two aggregates and one killCursors.
     ///
-    /// After a failure the token and the events that were not answered stay. Where a batch may be lost the next call
+    /// After a failure the token and the events that were not answered stay. Where a batch may be lost, the next call
     /// first resumes behind the token.
-    pub fn poll_next_if_any(&mut self, link: &mut MemLink) -> EventPoll
-        ensures { result ≢ EventPoll.Pending }
+    pub fn poll_next_if_any<L: Link>(&mut self, link: &mut L) -> EventPoll
+        requires held { IsOut (L.awaited link.old) (ticket_in self.old.phase) }
+        requires sound { IsSound (L.wire link.old) self.old }
+        ensures tickets { Tickets (L.awaited link.old) (L.awaited link.new) (ticket_in self.old.phase) (ticket_in self.new.phase) }
+        ensures pended { Pends result (L.pends link.old) (L.pends link.new) }
+        ensures lost { Loses result (L.faults link.old) (L.faults link.new) }
+        ensures prompt { L.prompt link.old → IsAtOnce result }
+        ensures later { Later (L.faults link.old) (L.faults link.new) (L.pends link.old) (L.pends link.new)
+            (L.wire link.old) (L.wire link.new) (L.prompt link.old) (L.prompt link.new) }
+        ensures sound { IsSound (L.wire link.new) self.new }
+        ensures spent { Spends result self.new }
+        ensures moved { (w : Watch) (start : Start) → Asks self.old.aggregate.args w start → (opened : Option ℕ) (answered : List Fields)
+            → Moved (L.log link.old) (L.log link.new) (follow_of (L.awaited link.old) w start self.old opened answered)
+            (follow_of (L.awaited link.new) w start self.new opened (answered ++ event_told result)) }
+        ensures args { self.new.aggregate.args ≡ self.old.aggregate.args }
+        ensures rests { RestsAfter result self.new.phase }
+        ensures sent { CallSent (L.log link.old) (L.log link.new) (L.wire link.old) self.old self.new result }
+        ensures counts { CountsAfter result self.new.counts }
     {
-        match self.next_if_any(link) {
-            Ok(event) => EventPoll::Ready(event),
-            Err(error) => EventPoll::Failed(error),
+        'steps: loop {
+            match self.advance(link) {
+                Stepped::Goes => {}
+                Stepped::Gives(poll) => {
+                    let counts = self.counts;
+                    return self.leave(counts, poll);
+                }
+            }
         }
     }
 
+    /// The next event; none only where the server holds no cursor, nothing is in hand and no resumption is owed. A call goes
+    /// on over several polls while replies pend.
+    ///
+    /// It fails with [`ErrorKind::EmptyBatches`] at the 1,000th empty reply in a row, and at the 1,000th resumption that gave
+    /// no event and left the cursor open. After a failure the token and the events that were not answered stay.
+    pub fn poll_next<L: Link>(&mut self, link: &mut L) -> EventPoll
+        requires held { IsOut (L.awaited link.old) (ticket_in self.old.phase) }
+        requires sound { IsSound (L.wire link.old) self.old }
+        ensures tickets { Tickets (L.awaited link.old) (L.awaited link.new) (ticket_in self.old.phase) (ticket_in self.new.phase) }
+        ensures pended { Pends result (L.pends link.old) (L.pends link.new) }
+        ensures lost { Loses result (L.faults link.old) (L.faults link.new) }
+        ensures prompt { L.prompt link.old → IsAtOnce result }
+        ensures later { Later (L.faults link.old) (L.faults link.new) (L.pends link.old) (L.pends link.new)
+            (L.wire link.old) (L.wire link.new) (L.prompt link.old) (L.prompt link.new) }
+        ensures sound { IsSound (L.wire link.new) self.new }
+        ensures ended { Ends result self.new }
+        ensures moved { (w : Watch) (start : Start) → Asks self.old.aggregate.args w start → (opened : Option ℕ) (answered : List Fields)
+            → Moved (L.log link.old) (L.log link.new) (follow_of (L.awaited link.old) w start self.old opened answered)
+            (follow_of (L.awaited link.new) w start self.new opened (answered ++ event_told result)) }
+        ensures args { self.new.aggregate.args ≡ self.old.aggregate.args }
+        ensures rests { RestsAfter result self.new.phase }
+        ensures counts { CountsAfter result self.new.counts }
+    {
+        let mut counts = self.counts;
+        'steps: loop {
+            match self.seek(link, &mut counts) {
+                Stepped::Goes => {}
+                Stepped::Gives(poll) => return self.leave(counts, poll),
+            }
+        }
+    }
+
+    // Keeps the counts while the call goes on.
+    fn leave(&mut self, counts: Counts, poll: EventPoll) -> EventPoll
+        ensures answer { result ≡ poll }
+        ensures stays { self.new ≡ record self.old { counts = self.new.counts } }
+        ensures counts { CountsAfter result self.new.counts }
+    {
+        self.counts = counts.kept(&poll);
+        poll
+    }
+
+    // One step of a call that seeks an event: an empty reply of an open cursor answers nothing.
+    fn seek<L: Link>(&mut self, link: &mut L, counts: &mut Counts) -> Stepped
+        requires held { IsOut (L.awaited link.old) (ticket_in self.old.phase) }
+        requires sound { IsSound (L.wire link.old) self.old }
+        ensures tickets { Tickets (L.awaited link.old) (L.awaited link.new) (ticket_in self.old.phase) (ticket_in self.new.phase) }
+        ensures pended { StepPends result (L.pends link.old) (L.pends link.new) }
+        ensures lost { StepLoses result (L.faults link.old) (L.faults link.new) }
+        ensures prompt { L.prompt link.old → IsStepAtOnce result }
+        ensures later { Later (L.faults link.old) (L.faults link.new) (L.pends link.old) (L.pends link.new)
+            (L.wire link.old) (L.wire link.new) (L.prompt link.old) (L.prompt link.new) }
+        ensures sound { IsSound (L.wire link.new) self.new }
+        ensures falls { Falls result (left_in counts.old self.old.phase) (left_in counts.new self.new.phase) }
+        ensures rests { StepRests result self.new.phase }
+        ensures ended { StepEnds result self.new }
+        ensures turned { Turned (L.awaited link.old) (L.awaited link.new) (L.log link.old) (L.log link.new) self.old.phase self.old self.new (step_told result) }
+    {
+        let resumes = matches!(self.phase, Phase::Resumed(_));
+        let stepped = self.advance(link);
+        counts.after(resumes, self.is_over(), stepped)
+    }
+
+    // Whether the server holds no cursor of the stream.
+    fn is_over(&self) -> bool
+        ensures { IsTrue result ↔ (self.now.cursor.id ≡ pos 0) }
+    {
+        self.cursor.id == 0
+    }
+
     /// The token behind the last answered event, or behind a batch that came empty.
-    pub fn resume_token(&self) -> Option<TokenRef<'_>> {
+    pub fn resume_token(&self) -> Option<TokenRef<'_>>
+        ensures { result ≡ token_of self.now.aggregate.resume }
+    {
         match &self.aggregate.resume {
             Some(data) => match &data.resume_token {
                 Some(token) => Some(token.as_ref()),
@@ -134,8 +190,12 @@ impl ChangeStream {
         }
     }
 
-    /// Hands the token out, and leaves none.
-    pub fn take_token(&mut self) -> Option<ResumeToken> {
+    /// Hands the token out, and leaves none. A stream that goes on afterwards has forgotten where it was.
+    pub fn take_token(&mut self) -> Option<ResumeToken>
+        ensures token { result ≡ token_of self.old.aggregate.resume }
+        ensures rest { self.new ≡ without_token self.old }
+        ensures ticket { ticket_in self.new.phase ≡ ticket_in self.old.phase }
+    {
         match &mut self.aggregate.resume {
             Some(data) => data.resume_token.take(),
             None => None,
@@ -143,131 +203,525 @@ impl ChangeStream {
     }
 
     /// Whether the server may have more: it holds the cursor, or a resumption is owed.
-    pub fn is_alive(&self) -> bool {
-        self.batch.id != 0 || self.owes_resumption
+    pub fn is_alive(&self) -> bool
+        ensures { IsTrue result ↔ ((self.now.cursor.id ≢ pos 0) ⊎ IsResuming self.now.phase) }
+    {
+        self.cursor.id != 0 || matches!(self.phase, Phase::Owing | Phase::Resuming(_))
     }
 
-    /// Closes the stream: kills its cursor, where the server holds it.
-    pub fn close(self, link: &mut MemLink) -> Result<(), Error> {
-        let alloc = self.alloc;
-        let batch = self.batch;
-        kill(alloc, link, batch.id, batch.ns)
-    }
-
-    fn next_if_any(&mut self, link: &mut MemLink) -> Result<Option<RawDocumentBuf>, Error> {
-        if self.owes_resumption {
-            self.resume(link)?;
-        } else if self.batch.documents.is_empty() && !self.fresh {
-            if self.batch.id == 0 {
-                return Ok(None);
-            }
-            self.ask(link)?;
-        }
-        self.take()
-    }
-
-    /// Asks for the next batch. Where it may be lost a resumption is owed.
-    fn ask(&mut self, link: &mut MemLink) -> Result<(), Error> {
-        let get_more = GetMore {
-            ns: self.batch.ns.clone()?,
-            id: self.batch.id,
-            batch_size: self.aggregate.args.options.batch_size,
-        };
-        self.owes_resumption = true;
-        match self.more(link, &get_more) {
-            Ok(batch) => {
-                self.batch = batch;
-                self.fresh = true;
-                self.owes_resumption = false;
-                Ok(())
-            }
-            Err(error) => self.fail(link, error),
+    // One step: at most one command.
+    fn advance<L: Link>(&mut self, link: &mut L) -> Stepped
+        requires held { IsOut (L.awaited link.old) (ticket_in self.old.phase) }
+        requires sound { IsSound (L.wire link.old) self.old }
+        ensures tickets { Tickets (L.awaited link.old) (L.awaited link.new) (ticket_in self.old.phase) (ticket_in self.new.phase) }
+        ensures pended { StepPends result (L.pends link.old) (L.pends link.new) }
+        ensures lost { StepLoses result (L.faults link.old) (L.faults link.new) }
+        ensures prompt { L.prompt link.old → IsStepAtOnce result }
+        ensures later { Later (L.faults link.old) (L.faults link.new) (L.pends link.old) (L.pends link.new)
+            (L.wire link.old) (L.wire link.new) (L.prompt link.old) (L.prompt link.new) }
+        ensures sound { IsSound (L.wire link.new) self.new }
+        ensures falls { Falls result (rank self.old.phase) (rank self.new.phase) }
+        ensures rests { StepRests result self.new.phase }
+        ensures spent { StepSpends result self.new }
+        ensures turned { Turned (L.awaited link.old) (L.awaited link.new) (L.log link.old) (L.log link.new) self.old.phase self.old self.new (step_told result) }
+        ensures sent { StepSent (L.log link.old) (L.log link.new) (L.wire link.old) self.old.phase self.old self.new result }
+    {
+        let wire = link.wire_version();
+        match mem::replace(&mut self.phase, Phase::Taken) {
+            Phase::Taken => self.rest(wire),
+            Phase::Rest => self.rest(wire),
+            Phase::First(reply) => self.first(reply),
+            Phase::Fresh => self.fresh(),
+            Phase::Asking(get_more, exec) => self.asking(link, get_more, exec),
+            Phase::Owing => self.owing(wire),
+            Phase::Resuming(exec) => self.resuming(link, exec),
+            Phase::Killing(exec, old, reply) => self.killing(link, exec, old, reply),
+            Phase::Resumed(reply) => self.resumed(reply),
         }
     }
 
-    fn more(&self, link: &mut MemLink, get_more: &GetMore) -> Result<Batch, Error> {
-        let gave = run(self.alloc, link, get_more)?;
-        let documents = batch_of(self.alloc, &gave.raw_reply.as_raw())?;
-        Ok(Batch {
-            id: gave.id,
-            ns: gave.ns,
-            documents,
-            token: gave.post_batch_resume_token,
-        })
-    }
-
-    /// Handles a getMore that failed: the stream resumes where that helps.
-    fn fail(&mut self, link: &mut MemLink, error: Error) -> Result<(), Error> {
-        if let Some(code) = error.sdam_code() {
-            if code == CURSOR_NOT_FOUND || code == CURSOR_KILLED {
-                self.batch.id = 0;
+    // Answers from the buffer, or asks for a batch.
+    fn rest(&mut self, wire: i32) -> Stepped
+        requires taken { self.old.phase ≡ Phase.Taken }
+        requires kept { IsKept self.old.aggregate self.old.cursor }
+        ensures ticket { ticket_in self.new.phase ≡ None }
+        ensures no_pend { (n m : ℕ) → StepPends result n m }
+        ensures no_loss { (n m : ℕ) → StepLoses result n m }
+        ensures at_once { IsStepAtOnce result }
+        ensures sound { (w : ℤ) → w ≡ wire → IsSound w self.new }
+        ensures falls { Falls result 8 (rank self.new.phase) }
+        ensures rests { StepRests result self.new.phase }
+        ensures spent { StepSpends result self.new }
+        ensures turned { Turns Phase.Rest self.old self.new (step_told result) }
+        ensures quiet { Quiet 4 self.old self.new result }
+    {
+        if !self.buffer.is_empty() {
+            return Stepped::Gives(self.take());
+        }
+        if self.cursor.id == 0 {
+            self.phase = Phase::Rest;
+            return Stepped::Gives(EventPoll::Ready(None));
+        }
+        match ask(self.alloc, &self.cursor, wire) {
+            Ok((get_more, exec)) => {
+                self.phase = Phase::Asking(get_more, exec);
+                Stepped::Goes
+            }
+            Err(error) => {
+                self.phase = Phase::Rest;
+                Stepped::Gives(EventPoll::Failed(error))
             }
         }
+    }
+
+    // Looks at the first batch of the opening.
+    fn first(&mut self, reply: RawDocumentBuf) -> Stepped
+        requires taken { self.old.phase ≡ Phase.Taken }
+        requires kept { IsKept self.old.aggregate self.old.cursor }
+        ensures ticket { ticket_in self.new.phase ≡ None }
+        ensures no_pend { (n m : ℕ) → StepPends result n m }
+        ensures no_loss { (n m : ℕ) → StepLoses result n m }
+        ensures at_once { IsStepAtOnce result }
+        ensures sound { (w : ℤ) → IsSound w self.new }
+        ensures falls { Falls result 8 (rank self.new.phase) }
+        ensures rests { StepRests result self.new.phase }
+        ensures spent { StepSpends result self.new }
+        ensures turned { Turns (Phase.First reply) self.old self.new (step_told result) }
+        ensures quiet { Quiet 3 self.old self.new result }
+    {
+        match batch_of(self.alloc, &reply.as_raw()) {
+            Ok(documents) => {
+                self.buffer = documents;
+                self.phase = Phase::Fresh;
+                Stepped::Goes
+            }
+            Err(error) => self.lose(error),
+        }
+    }
+
+    // A batch may be lost: the stream is to resume, now where that helps.
+    fn lose(&mut self, error: Error) -> Stepped
+        ensures owes { self.new ≡ record self.old { phase = Phase.Owing } }
+        ensures no_pend { (n m : ℕ) → StepPends result n m }
+        ensures no_loss { (n m : ℕ) → StepLoses result n m }
+        ensures at_once { IsStepAtOnce result }
+        ensures falls { Falls result 7 (rank self.new.phase) }
+        ensures rests { StepRests result self.new.phase }
+        ensures spent { StepSpends result self.new }
+        ensures told { step_told result ≡ [] }
+        ensures quiet { Quiet 3 self.old self.new result }
+    {
+        self.phase = Phase::Owing;
         if error.is_resumable() {
-            return self.resume(link);
+            Stepped::Goes
+        } else {
+            Stepped::Gives(EventPoll::Failed(error))
         }
-        self.owes_resumption = matches!(error.kind, ErrorKind::OutOfMemory);
-        Err(error)
     }
 
-    /// Opens the watch again behind the token, and kills the cursor that it had.
-    fn resume(&mut self, link: &mut MemLink) -> Result<(), Error> {
-        let (opened, _) = run(self.alloc, link, &self.aggregate)?;
-        let old = mem::replace(&mut self.batch, first_batch(self.alloc, opened)?);
-        self.fresh = true;
-        self.owes_resumption = false;
-        match kill(self.alloc, link, old.id, old.ns) {
-            Err(error) if matches!(error.kind, ErrorKind::OutOfMemory) => {
-                self.owes_resumption = true;
-                Err(error)
+    // A batch came: an empty one answers nothing.
+    fn fresh(&mut self) -> Stepped
+        requires taken { self.old.phase ≡ Phase.Taken }
+        requires kept { IsKept self.old.aggregate self.old.cursor }
+        ensures ticket { ticket_in self.new.phase ≡ None }
+        ensures no_pend { (n m : ℕ) → StepPends result n m }
+        ensures no_loss { (n m : ℕ) → StepLoses result n m }
+        ensures at_once { IsStepAtOnce result }
+        ensures sound { (w : ℤ) → IsSound w self.new }
+        ensures falls { Falls result 2 (rank self.new.phase) }
+        ensures rests { StepRests result self.new.phase }
+        ensures spent { StepSpends result self.new }
+        ensures turned { Turns Phase.Fresh self.old self.new (step_told result) }
+        ensures quiet { Quiet 0 self.old self.new result }
+    {
+        if !self.buffer.is_empty() {
+            return Stepped::Gives(self.take());
+        }
+        self.phase = Phase::Rest;
+        if let Some(token) = self.batch_token.take() {
+            self.remember(token, false);
+        }
+        Stepped::Gives(EventPoll::Ready(None))
+    }
+
+    // Waits for the reply to a getMore.
+    fn asking<L: Link>(&mut self, link: &mut L, get_more: GetMore, exec: Exec) -> Stepped
+        requires held { IsOut (L.awaited link.old) (ticket_of exec) }
+        requires asking { IsAsking self.old exec }
+        requires taken { self.old.phase ≡ Phase.Taken }
+        requires kept { IsKept self.old.aggregate self.old.cursor }
+        ensures tickets { Tickets (L.awaited link.old) (L.awaited link.new) (ticket_of exec) (ticket_in self.new.phase) }
+        ensures pended { StepPends result (L.pends link.old) (L.pends link.new) }
+        ensures lost { StepLoses result (L.faults link.old) (L.faults link.new) }
+        ensures prompt { L.prompt link.old → IsStepAtOnce result }
+        ensures later { Later (L.faults link.old) (L.faults link.new) (L.pends link.old) (L.pends link.new)
+            (L.wire link.old) (L.wire link.new) (L.prompt link.old) (L.prompt link.new) }
+        ensures sound { IsSound (L.wire link.new) self.new }
+        ensures falls { Falls result 7 (rank self.new.phase) }
+        ensures rests { StepRests result self.new.phase }
+        ensures spent { StepSpends result self.new }
+        ensures turned { Turned (L.awaited link.old) (L.awaited link.new) (L.log link.old) (L.log link.new) (Phase.Asking get_more exec) self.old self.new (step_told result) }
+        ensures sent { StepSent (L.log link.old) (L.log link.new) (L.wire link.old) (Phase.Asking get_more exec) self.old self.new result }
+    {
+        match exec.poll(link) {
+            Step::Pending(exec) => {
+                self.phase = Phase::Asking(get_more, exec);
+                Stepped::Gives(EventPoll::Pending)
             }
-            _ => Ok(()),
+            Step::Done(reply) => self.more_came(&get_more, reply),
+            Step::Failed(error) => self.more_failed(error),
         }
     }
 
-    /// Puts the token into what the stream resumes by.
-    fn remember(&mut self, token: ResumeToken, returned: bool) {
+    // The reply to a getMore came.
+    fn more_came(&mut self, get_more: &GetMore, reply: RawDocumentBuf) -> Stepped
+        requires taken { self.old.phase ≡ Phase.Taken }
+        requires kept { IsKept self.old.aggregate self.old.cursor }
+        ensures ticket { ticket_in self.new.phase ≡ None }
+        ensures no_pend { (n m : ℕ) → StepPends result n m }
+        ensures no_loss { (n m : ℕ) → StepLoses result n m }
+        ensures at_once { IsStepAtOnce result }
+        ensures sound { (w : ℤ) → IsSound w self.new }
+        ensures falls { Falls result 7 (rank self.new.phase) }
+        ensures rests { StepRests result self.new.phase }
+        ensures spent { StepSpends result self.new }
+        ensures turned { MoreTurns reply self.old self.new (step_told result) }
+        ensures quiet { Quiet 3 self.old self.new result }
+    {
+        match self.keep(get_more, reply) {
+            Ok(()) => {
+                self.phase = Phase::Fresh;
+                Stepped::Goes
+            }
+            Err(error) => self.lose(error),
+        }
+    }
+
+    // Keeps the cursor and the batch of a reply.
+    fn keep(&mut self, get_more: &GetMore, reply: RawDocumentBuf) -> Result<(), Error>
+        requires { IsKept self.old.aggregate self.old.cursor }
+        ensures phase { self.new.phase ≡ self.old.phase }
+        ensures kept { IsKept self.new.aggregate self.new.cursor }
+        ensures err { IfErr result IsNotIo }
+        ensures kept_turned { OnOk result (MoreTurns reply self.old (record self.new { phase = Phase.Fresh }) []) }
+        ensures lost_turned { OnErr result (MoreTurns reply self.old (record self.new { phase = Phase.Owing }) []) }
+        ensures aggregate { self.new.aggregate ≡ self.old.aggregate }
+    {
+        let gave = get_more.read(self.alloc, reply)?;
+        self.cursor.id = gave.id;
+        self.cursor.ns = gave.ns;
+        self.buffer = batch_of(self.alloc, &gave.raw_reply.as_raw())?;
+        self.batch_token = gave.post_batch_resume_token;
+        Ok(())
+    }
+
+    // A getMore failed. The stream is to resume, unless the server refused it for good.
+    fn more_failed(&mut self, error: Error) -> Stepped
+        requires taken { self.old.phase ≡ Phase.Taken }
+        requires kept { IsKept self.old.aggregate self.old.cursor }
+        requires empty { self.old.buffer.items ≡ [] }
+        ensures ticket { ticket_in self.new.phase ≡ None }
+        ensures no_pend { (n m : ℕ) → StepPends result n m }
+        ensures no_loss { (n m : ℕ) → StepLoses result n m }
+        ensures at_once { IsStepAtOnce result }
+        ensures sound { (w : ℤ) → IsSound w self.new }
+        ensures falls { Falls result 7 (rank self.new.phase) }
+        ensures rests { StepRests result self.new.phase }
+        ensures spent { StepSpends result self.new }
+        ensures turned { FailTurns error self.old self.new (step_told result) }
+        ensures quiet { Quiet 3 self.old self.new result }
+    {
+        self.note_end(&error);
+        if !error.is_resumable() && !is_memory(&error) {
+            self.phase = Phase::Rest;
+            return Stepped::Gives(EventPoll::Failed(error));
+        }
+        self.lose(error)
+    }
+
+    // Lets go of the cursor, where the error says that the server holds it no longer.
+    fn note_end(&mut self, error: &Error)
+        ensures { self.new ≡ left_with self.old (ends_cursor (command_code error.now.kind)) }
+    {
+        if ends_cursor(error) {
+            self.cursor.id = 0;
+        }
+    }
+
+    // Sends the aggregate that resumes the stream.
+    fn owing(&mut self, wire: i32) -> Stepped
+        requires taken { self.old.phase ≡ Phase.Taken }
+        requires kept { IsKept self.old.aggregate self.old.cursor }
+        ensures ticket { ticket_in self.new.phase ≡ None }
+        ensures no_pend { (n m : ℕ) → StepPends result n m }
+        ensures no_loss { (n m : ℕ) → StepLoses result n m }
+        ensures at_once { IsStepAtOnce result }
+        ensures sound { (w : ℤ) → w ≡ wire → IsSound w self.new }
+        ensures falls { Falls result 6 (rank self.new.phase) }
+        ensures rests { StepRests result self.new.phase }
+        ensures spent { StepSpends result self.new }
+        ensures turned { Turns Phase.Owing self.old self.new (step_told result) }
+        ensures quiet { Quiet 3 self.old self.new result }
+    {
+        match resume(self.alloc, &self.aggregate, wire) {
+            Ok(exec) => {
+                self.phase = Phase::Resuming(exec);
+                Stepped::Goes
+            }
+            Err(error) => {
+                self.phase = Phase::Owing;
+                Stepped::Gives(EventPoll::Failed(error))
+            }
+        }
+    }
+
+    // Waits for the reply to the aggregate.
+    fn resuming<L: Link>(&mut self, link: &mut L, exec: Exec) -> Stepped
+        requires held { IsOut (L.awaited link.old) (ticket_of exec) }
+        requires carries { Carries exec (resuming_command self.old.aggregate (L.wire link.old)) true }
+        requires taken { self.old.phase ≡ Phase.Taken }
+        requires kept { IsKept self.old.aggregate self.old.cursor }
+        ensures tickets { Tickets (L.awaited link.old) (L.awaited link.new) (ticket_of exec) (ticket_in self.new.phase) }
+        ensures pended { StepPends result (L.pends link.old) (L.pends link.new) }
+        ensures lost { StepLoses result (L.faults link.old) (L.faults link.new) }
+        ensures prompt { L.prompt link.old → IsStepAtOnce result }
+        ensures later { Later (L.faults link.old) (L.faults link.new) (L.pends link.old) (L.pends link.new)
+            (L.wire link.old) (L.wire link.new) (L.prompt link.old) (L.prompt link.new) }
+        ensures sound { IsSound (L.wire link.new) self.new }
+        ensures falls { Falls result 5 (rank self.new.phase) }
+        ensures rests { StepRests result self.new.phase }
+        ensures spent { StepSpends result self.new }
+        ensures turned { Turned (L.awaited link.old) (L.awaited link.new) (L.log link.old) (L.log link.new) (Phase.Resuming exec) self.old self.new (step_told result) }
+        ensures sent { StepSent (L.log link.old) (L.log link.new) (L.wire link.old) (Phase.Resuming exec) self.old self.new result }
+    {
+        match exec.poll(link) {
+            Step::Pending(exec) => {
+                self.phase = Phase::Resuming(exec);
+                Stepped::Gives(EventPoll::Pending)
+            }
+            Step::Done(reply) => self.resumption_came(link.wire_version(), reply),
+            Step::Failed(error) => {
+                self.phase = Phase::Owing;
+                Stepped::Gives(EventPoll::Failed(error))
+            }
+        }
+    }
+
+    // The reply to the aggregate came.
+    fn resumption_came(&mut self, wire: i32, reply: RawDocumentBuf) -> Stepped
+        requires taken { self.old.phase ≡ Phase.Taken }
+        requires kept { IsKept self.old.aggregate self.old.cursor }
+        ensures ticket { ticket_in self.new.phase ≡ None }
+        ensures no_pend { (n m : ℕ) → StepPends result n m }
+        ensures no_loss { (n m : ℕ) → StepLoses result n m }
+        ensures at_once { IsStepAtOnce result }
+        ensures sound { (w : ℤ) → IsSound w self.new }
+        ensures falls { Falls result 5 (rank self.new.phase) }
+        ensures rests { StepRests result self.new.phase }
+        ensures spent { StepSpends result self.new }
+        ensures turned { ResumeTurns reply self.old self.new (step_told result) }
+        ensures quiet { Quiet 1 self.old self.new result }
+    {
+        match self.aggregate.read(self.alloc, reply) {
+            Ok((opened, _)) => self.replace(wire, opened),
+            Err(error) => {
+                self.phase = Phase::Owing;
+                Stepped::Gives(EventPoll::Failed(error))
+            }
+        }
+    }
+
+    // The new cursor replaces the old one, which is to be killed.
+    fn replace(&mut self, wire: i32, opened: CursorSpecification) -> Stepped
+        requires taken { self.old.phase ≡ Phase.Taken }
+        requires kept { IsKept self.old.aggregate self.old.cursor }
+        requires named { IsNamed (space opened.info.ns) }
+        ensures ticket { ticket_in self.new.phase ≡ None }
+        ensures no_pend { (n m : ℕ) → StepPends result n m }
+        ensures no_loss { (n m : ℕ) → StepLoses result n m }
+        ensures at_once { IsStepAtOnce result }
+        ensures sound { (w : ℤ) → IsSound w self.new }
+        ensures falls { Falls result 5 (rank self.new.phase) }
+        ensures rests { StepRests result self.new.phase }
+        ensures spent { StepSpends result self.new }
+        ensures turned { Replaces self.old opened self.new (step_told result) }
+        ensures quiet { Quiet 1 self.old self.new result }
+    {
+        let CursorSpecification {
+            info,
+            initial_reply,
+            post_batch_resume_token,
+            ..
+        } = opened;
+        let old = mem::replace(&mut self.cursor, info);
+        self.batch_token = post_batch_resume_token;
+        if old.id == 0 {
+            self.phase = Phase::Resumed(initial_reply);
+            return Stepped::Goes;
+        }
+        match kill_one(self.alloc, &old, wire) {
+            Ok(exec) => {
+                self.phase = Phase::Killing(exec, old.id, initial_reply);
+                Stepped::Goes
+            }
+            Err(error) => self.kill_failed(error, initial_reply),
+        }
+    }
+
+    // Waits for the reply to a killCursors. Whatever the server says, the new cursor's first batch is next.
+    fn killing<L: Link>(
+        &mut self,
+        link: &mut L,
+        exec: Exec,
+        old: i64,
+        reply: RawDocumentBuf,
+    ) -> Stepped
+        requires held { IsOut (L.awaited link.old) (ticket_of exec) }
+        requires killing { IsKilling old exec }
+        requires taken { self.old.phase ≡ Phase.Taken }
+        requires kept { IsKept self.old.aggregate self.old.cursor }
+        ensures tickets { Tickets (L.awaited link.old) (L.awaited link.new) (ticket_of exec) (ticket_in self.new.phase) }
+        ensures pended { StepPends result (L.pends link.old) (L.pends link.new) }
+        ensures lost { StepLoses result (L.faults link.old) (L.faults link.new) }
+        ensures prompt { L.prompt link.old → IsStepAtOnce result }
+        ensures later { Later (L.faults link.old) (L.faults link.new) (L.pends link.old) (L.pends link.new)
+            (L.wire link.old) (L.wire link.new) (L.prompt link.old) (L.prompt link.new) }
+        ensures sound { IsSound (L.wire link.new) self.new }
+        ensures falls { Falls result 4 (rank self.new.phase) }
+        ensures rests { StepRests result self.new.phase }
+        ensures spent { StepSpends result self.new }
+        ensures turned { Turned (L.awaited link.old) (L.awaited link.new) (L.log link.old) (L.log link.new) (Phase.Killing exec old reply) self.old self.new (step_told result) }
+        ensures sent { StepSent (L.log link.old) (L.log link.new) (L.wire link.old) (Phase.Killing exec old reply) self.old self.new result }
+    {
+        match exec.poll(link) {
+            Step::Pending(exec) => {
+                self.phase = Phase::Killing(exec, old, reply);
+                Stepped::Gives(EventPoll::Pending)
+            }
+            Step::Done(_) => {
+                self.phase = Phase::Resumed(reply);
+                Stepped::Goes
+            }
+            Step::Failed(error) => self.kill_failed(error, reply),
+        }
+    }
+
+    // A killCursors failed. Only want of memory is answered.
+    fn kill_failed(&mut self, error: Error, reply: RawDocumentBuf) -> Stepped
+        requires taken { self.old.phase ≡ Phase.Taken }
+        requires kept { IsKept self.old.aggregate self.old.cursor }
+        ensures ticket { ticket_in self.new.phase ≡ None }
+        ensures no_pend { (n m : ℕ) → StepPends result n m }
+        ensures no_loss { (n m : ℕ) → StepLoses result n m }
+        ensures at_once { IsStepAtOnce result }
+        ensures sound { (w : ℤ) → IsSound w self.new }
+        ensures falls { Falls result 4 (rank self.new.phase) }
+        ensures rests { StepRests result self.new.phase }
+        ensures spent { StepSpends result self.new }
+        ensures turned { Turns (Phase.Resumed reply) self.old self.new (step_told result) }
+        ensures quiet { Quiet 0 self.old self.new result }
+    {
+        if is_memory(&error) {
+            self.phase = Phase::Owing;
+            return Stepped::Gives(EventPoll::Failed(error));
+        }
+        self.phase = Phase::Resumed(reply);
+        Stepped::Goes
+    }
+
+    // Looks at the first batch of a resumption.
+    fn resumed(&mut self, reply: RawDocumentBuf) -> Stepped
+        requires taken { self.old.phase ≡ Phase.Taken }
+        requires kept { IsKept self.old.aggregate self.old.cursor }
+        ensures ticket { ticket_in self.new.phase ≡ None }
+        ensures no_pend { (n m : ℕ) → StepPends result n m }
+        ensures no_loss { (n m : ℕ) → StepLoses result n m }
+        ensures at_once { IsStepAtOnce result }
+        ensures sound { (w : ℤ) → IsSound w self.new }
+        ensures falls { Falls result 3 (rank self.new.phase) }
+        ensures rests { StepRests result self.new.phase }
+        ensures spent { StepSpends result self.new }
+        ensures turned { Turns (Phase.Resumed reply) self.old self.new (step_told result) }
+        ensures quiet { Quiet 0 self.old self.new result }
+    {
+        match batch_of(self.alloc, &reply.as_raw()) {
+            Ok(documents) => {
+                self.buffer = documents;
+                self.phase = Phase::Fresh;
+                Stepped::Goes
+            }
+            Err(error) => {
+                self.phase = Phase::Owing;
+                Stepped::Gives(EventPoll::Failed(error))
+            }
+        }
+    }
+
+    // Puts a token into what the stream resumes by.
+    fn remember(&mut self, token: ResumeToken, returned: bool)
+        ensures { self.new ≡ remembering token returned self.old }
+    {
         if let Some(data) = &mut self.aggregate.resume {
             data.resume_token = Some(token);
             data.document_returned = data.document_returned || returned;
         }
     }
 
-    /// Answers from the buffer. An empty batch moves the token behind it.
-    fn take(&mut self) -> Result<Option<RawDocumentBuf>, Error> {
-        let Some(document) = self.batch.documents.front() else {
-            if let Some(token) = self.batch.token.take() {
-                self.remember(token, false);
-            }
-            self.fresh = false;
+    // Answers the first event of the buffer.
+    fn take(&mut self) -> EventPoll
+        requires taken { self.old.phase ≡ Phase.Taken }
+        requires kept { IsKept self.old.aggregate self.old.cursor }
+        ensures no_pend { (n m : ℕ) → Pends result n m }
+        ensures no_loss { (n m : ℕ) → Loses result n m }
+        ensures at_once { IsAtOnce result }
+        ensures phase { self.new.phase ≡ Phase.Rest }
+        ensures spent { Spends result self.new }
+        ensures kept { IsKept self.new.aggregate self.new.cursor }
+        ensures turned { self.old.buffer.items ≢ [] → Turns Phase.Fresh self.old self.new (event_told result) }
+    {
+        self.phase = Phase::Rest;
+        match self.pop() {
+            Ok(event) => EventPoll::Ready(event),
+            Err(error) => EventPoll::Failed(error),
+        }
+    }
+
+    // Takes the first event of the buffer. Where memory runs out nothing has changed; an event without `_id` is taken all
+    // the same.
+    fn pop(&mut self) -> Result<Option<RawDocumentBuf>, Error>
+        requires { IsKept self.old.aggregate self.old.cursor }
+        ensures phase { self.new.phase ≡ self.old.phase }
+        ensures kept { IsKept self.new.aggregate self.new.cursor }
+        ensures err { IfErr result IsNotIo }
+        ensures none { result ≡ Ok None → self.new.buffer.items ≡ [] }
+        ensures turned { self.old.buffer.items ≢ [] → Pops self.old self.new (popped_told result) }
+    {
+        let Some(document) = self.buffer.front() else {
             return Ok(None);
         };
-        let token = match document.as_raw().get("_id") {
-            Some(id) => ResumeToken::from_raw(self.alloc, &id)?,
-            None => {
-                let _taken = self.batch.documents.pop_front();
-                self.fresh = false;
-                return Err(plain(ErrorKind::MissingResumeToken));
+        let id = id_of(self.alloc, &document.as_raw())?;
+        let event = self.buffer.pop_front();
+        match id {
+            Some(id) => {
+                self.pass(id);
+                Ok(event)
             }
-        };
-        let event = self.batch.documents.pop_front();
-        self.fresh = false;
-        if self.batch.documents.is_empty() {
-            let token = self.batch.token.take().unwrap_or(token);
+            None => Err(plain(ErrorKind::MissingResumeToken)),
+        }
+    }
+
+    // An event with this `_id` was taken. The last one of a batch leaves the token of the batch, where there is one.
+    fn pass(&mut self, id: ResumeToken)
+        requires { IsKept self.old.aggregate self.old.cursor }
+        ensures phase { self.new.phase ≡ self.old.phase }
+        ensures kept { IsKept self.new.aggregate self.new.cursor }
+        ensures turned { Passes id self.old self.new }
+    {
+        if self.buffer.is_empty() {
+            let token = self.batch_token.take().unwrap_or(id);
             self.remember(token, true);
         } else {
-            self.remember(token, true);
+            self.remember(id, true);
         }
-        Ok(event)
     }
-}
-
-/// Kills a cursor, where the server holds it.
-fn kill(alloc: Global, link: &mut MemLink, id: i64, ns: Namespace) -> Result<(), Error> {
-    if id == 0 {
-        return Ok(());
-    }
-    let mut ids = Vec::new(alloc);
-    ids.push(id)?;
-    run(alloc, link, &KillCursors { ns, ids })
 }

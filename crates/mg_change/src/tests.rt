@@ -1,71 +1,422 @@
+ghost use Rattle.std.specs.Prelude.{IfOk};
+ghost use Rattle.mg_link.specs.Acts.{IsOut};
+ghost use Rattle.mg_link.specs.Places.{out_at};
+ghost use Rattle.mg_change.specs.Closings.{closing_ticket};
+ghost use Rattle.mg_change.specs.Openings.{opening_ticket};
+ghost use Rattle.mg_change.specs.Phases.{IsSound, ticket_in};
+
 use super::*;
-use mg_bson::{Bson, Document, RawDocumentBuf, to_bytes};
-use mg_link::{Namespace, OperationTarget};
+use mg_bson::{Array, Bson, Document, RawArray, RawDocument, RawDocumentBuf, Timestamp, to_bytes};
+use mg_link::{
+    Action, Error, ErrorKind, Namespace, OperationTarget, ScriptLink, Scripted, ScriptedSeen, Step,
+};
 use mg_ops::WatchArgs;
-use mg_options::ChangeStreamOptions;
-use mg_store::{MemLink, Store};
+use mg_options::{ChangeStreamOptions, ResumeToken};
 use std::alloc::Global;
 use std::test::Fail;
 
-fn text(alloc: Global, text: &str) -> Result<Bson, Fail> {
-    Ok(Bson::String(String::from_str(alloc, text)?))
+// ---- replies
+
+fn bytes_of(alloc: Global, reply: &Document) -> Result<Vec<u8>, Fail> {
+    let raw = to_bytes(alloc, reply)?;
+    Ok(Vec::from_slice(alloc, raw.as_bytes())?)
 }
 
-fn insert_of(alloc: Global, id: i32) -> Result<RawDocumentBuf, Fail> {
+fn document_of(alloc: Global, name: &str, n: i32) -> Result<Bson, Fail> {
     let mut document = Document::new(alloc);
-    document.append("_id", Bson::Int32(id))?;
-    let mut documents = mg_bson::Array::new(alloc);
-    documents.push(Bson::Document(document))?;
-    let mut command = Document::new(alloc);
-    command.append("insert", text(alloc, "c")?)?;
-    command.append("documents", Bson::Array(documents))?;
-    command.append("$db", text(alloc, "app")?)?;
-    Ok(to_bytes(alloc, &command)?)
+    document.append(name, Bson::Int32(n))?;
+    Ok(Bson::Document(document))
+}
+
+// The items of a batch: none, an event, an event without `_id` and one behind it, or an item that is no document.
+fn items_of(alloc: Global, kind: u8) -> Result<Array, Fail> {
+    let mut items = Array::new(alloc);
+    if kind == b'e' {
+        items.push(document_of(alloc, "_id", 2)?)?;
+    }
+    if kind == b'n' {
+        items.push(document_of(alloc, "x", 1)?)?;
+        items.push(document_of(alloc, "_id", 2)?)?;
+    }
+    if kind == b'm' {
+        items.push(Bson::Int32(5))?;
+    }
+    Ok(items)
+}
+
+// A success at time 7 with a batch of this cursor.
+fn batch(alloc: Global, id: i64, kind: u8) -> Result<Vec<u8>, Fail> {
+    let mut cursor = Document::new(alloc);
+    cursor.append("id", Bson::Int64(id))?;
+    cursor.append("ns", Bson::String(String::from_str(alloc, "db.coll")?))?;
+    cursor.append("firstBatch", Bson::Array(items_of(alloc, kind)?))?;
+    let mut reply = Document::new(alloc);
+    reply.append("ok", Bson::Int32(1))?;
+    reply.append("cursor", Bson::Document(cursor))?;
+    let time = Timestamp {
+        time: 7,
+        increment: 1,
+    };
+    reply.append("operationTime", Bson::Timestamp(time))?;
+    bytes_of(alloc, &reply)
+}
+
+// A refusal with this code, or a success of nothing.
+fn plain_reply(alloc: Global, ok: i32, code: i32) -> Result<Vec<u8>, Fail> {
+    let mut reply = Document::new(alloc);
+    reply.append("ok", Bson::Int32(ok))?;
+    reply.append("code", Bson::Int32(code))?;
+    bytes_of(alloc, &reply)
+}
+
+fn seen_of(alloc: Global, word: &str) -> Result<ScriptedSeen, Fail> {
+    let bytes = word.as_bytes();
+    if bytes.len() < 2 {
+        return Err(Fail::from("word"));
+    }
+    if bytes[0] >= b'0' && bytes[0] <= b'9' {
+        let id = i64::from(bytes[0] - b'0');
+        return Ok(ScriptedSeen::Reply(batch(alloc, id, bytes[1])?));
+    }
+    match bytes[0] {
+        b'k' => Ok(ScriptedSeen::Reply(plain_reply(alloc, 1, 0)?)),
+        b'g' => Ok(ScriptedSeen::Reply(plain_reply(alloc, 0, 43)?)),
+        b'f' => Ok(ScriptedSeen::Memory),
+        _ => Ok(ScriptedSeen::Fault),
+    }
+}
+
+// The answers of a script, of which each pends so often, and those with a `+` once more.
+fn list_of(alloc: Global, script: &str, pend: u32) -> Result<Vec<Scripted>, Fail> {
+    let mut list = Vec::new(alloc);
+    for word in script.split(' ') {
+        let more = u32::from(word.ends_with('+'));
+        list.push(Scripted {
+            pend: pend.saturating_add(more),
+            seen: seen_of(alloc, word)?,
+        })?;
+    }
+    Ok(list)
+}
+
+// ---- commands
+
+// The options of the stage that opens a watch.
+fn stage_of<'a>(command: &RawDocument<'a>) -> Option<RawDocument<'a>> {
+    let mut stages = command.get("pipeline")?.as_array()?.iter();
+    stages
+        .next()?
+        .as_document()?
+        .get("$changeStream")?
+        .as_document()
+}
+
+fn aggregate_word(alloc: Global, command: &RawDocument<'_>) -> Result<String, Fail> {
+    let Some(options) = stage_of(command) else {
+        return Err(Fail::from("stage"));
+    };
+    if let Some(time) = options.get("startAtOperationTime") {
+        let seconds = match time.as_timestamp() {
+            Some(time) => time.time,
+            None => 0,
+        };
+        return Ok(format!(in alloc; "/aggregate at {seconds}")?);
+    }
+    if let Some(token) = options.get("resumeAfter") {
+        let n = token.as_i32().unwrap_or(0);
+        return Ok(format!(in alloc; "/aggregate after {n}")?);
+    }
+    Ok(String::from_str(alloc, "/aggregate")?)
+}
+
+fn kill_word(alloc: Global, ids: &RawArray<'_>) -> Result<String, Fail> {
+    let mut word = String::from_str(alloc, "/killCursors")?;
+    let mut left = ids.iter();
+    'ids: while let Some(id) = left.next() {
+        let n = id.as_i64().unwrap_or(0);
+        word.push_str(format!(in alloc; " {n}")?.as_str())?;
+    }
+    Ok(word)
+}
+
+fn command_word(alloc: Global, command: &RawDocument<'_>) -> Result<String, Fail> {
+    if let Some(id) = command.get("getMore") {
+        let n = id.as_i64().unwrap_or(0);
+        return Ok(format!(in alloc; "/getMore {n}")?);
+    }
+    if let Some(ids) = command.get("cursors") {
+        let Some(ids) = ids.as_array() else {
+            return Err(Fail::from("cursors"));
+        };
+        return kill_word(alloc, &ids);
+    }
+    aggregate_word(alloc, command)
+}
+
+// ---- answers
+
+fn error_word(error: &Error) -> &'static str {
+    match &error.kind {
+        ErrorKind::OutOfMemory => "/E1",
+        ErrorKind::Io => "/E2",
+        ErrorKind::MissingResumeToken => "/E9",
+        ErrorKind::EmptyBatches => "/E13",
+        _ => "/error",
+    }
+}
+
+fn answer_word(alloc: Global, poll: EventPoll) -> Result<String, Fail> {
+    match poll {
+        EventPoll::Pending => Ok(String::from_str(alloc, "/pending")?),
+        EventPoll::Ready(None) => Ok(String::from_str(alloc, "/nothing")?),
+        EventPoll::Ready(Some(event)) => {
+            let raw = event.as_raw();
+            let n = match raw.get("_id") {
+                Some(id) => id.as_i32().unwrap_or(0),
+                None => 0,
+            };
+            Ok(format!(in alloc; "/event {n}")?)
+        }
+        EventPoll::Failed(error) => Ok(String::from_str(alloc, error_word(&error))?),
+    }
+}
+
+fn token_word(alloc: Global, stream: &ChangeStream) -> Result<String, Fail> {
+    let Some(token) = stream.resume_token() else {
+        return Ok(String::from_str(alloc, "/no token")?);
+    };
+    let Ok(token) = token.to_owned() else {
+        return Err(Fail::from("token"));
+    };
+    let Ok(value) = token.to_value() else {
+        return Err(Fail::from("token"));
+    };
+    let n = value.as_i32().unwrap_or(0);
+    Ok(format!(in alloc; "/token {n}")?)
+}
+
+// ---- runs
+
+fn args_of(alloc: Global, start: &str) -> Result<WatchArgs, Fail> {
+    let mut options = ChangeStreamOptions::default();
+    if start == "at" {
+        options.start_at_operation_time = Some(Timestamp {
+            time: 9,
+            increment: 1,
+        });
+    }
+    if start == "after" {
+        let Ok(token) = ResumeToken::from_value(&Bson::Int32(4)) else {
+            return Err(Fail::from("token"));
+        };
+        options.resume_after = Some(token);
+    }
+    Ok(WatchArgs {
+        pipeline: Vec::new(alloc),
+        target: OperationTarget::Collection(Namespace {
+            db: String::from_str(alloc, "db")?,
+            coll: String::from_str(alloc, "coll")?,
+        }),
+        options,
+    })
+}
+
+// Polls to the end of the opening.
+fn open(opening: Opening, link: &mut ScriptLink) -> Result<ChangeStream, Fail>
+    requires { IsOut (out_at link.old.calls) (opening_ticket opening) }
+    ensures sound { IfOk result (λ s. IsSound link.new.wire s) }
+    ensures out { IfOk result (λ s. IsOut (out_at link.new.calls) (ticket_in s.phase)) }
+{
+    let mut state = opening;
+    'polls: for _count in 1..10 {
+        match state.poll(link) {
+            Step::Pending(next) => state = next,
+            Step::Done(stream) => return Ok(stream),
+            Step::Failed(_) => return Err(Fail::from("not opened")),
+        }
+    }
+    Err(Fail::from("not opened yet"))
+}
+
+// Polls to the end of a call.
+fn call(stream: &mut ChangeStream, link: &mut ScriptLink) -> EventPoll
+    requires out { IsOut (out_at link.old.calls) (ticket_in stream.old.phase) }
+    requires sound { IsSound link.old.wire stream.old }
+    ensures out { IsOut (out_at link.new.calls) (ticket_in stream.new.phase) }
+    ensures sound { IsSound link.new.wire stream.new }
+{
+    'polls: for _count in 1..10 {
+        match stream.poll_next_if_any(link) {
+            EventPoll::Pending => {}
+            poll => return poll,
+        }
+    }
+    EventPoll::Pending
+}
+
+// Polls to the end of a call that seeks an event.
+fn seek(stream: &mut ChangeStream, link: &mut ScriptLink) -> EventPoll
+    requires out { IsOut (out_at link.old.calls) (ticket_in stream.old.phase) }
+    requires sound { IsSound link.old.wire stream.old }
+    ensures out { IsOut (out_at link.new.calls) (ticket_in stream.new.phase) }
+    ensures sound { IsSound link.new.wire stream.new }
+{
+    'polls: for _count in 1..10 {
+        match stream.poll_next(link) {
+            EventPoll::Pending => {}
+            poll => return poll,
+        }
+    }
+    EventPoll::Pending
+}
+
+// One call, one poll, or a look at the token.
+fn step_word(
+    alloc: Global,
+    stream: &mut ChangeStream,
+    link: &mut ScriptLink,
+    step: u8,
+) -> Result<String, Fail>
+    requires out { IsOut (out_at link.old.calls) (ticket_in stream.old.phase) }
+    requires sound { IsSound link.old.wire stream.old }
+    ensures out { IsOut (out_at link.new.calls) (ticket_in stream.new.phase) }
+    ensures sound { IsSound link.new.wire stream.new }
+{
+    match step {
+        b'c' => answer_word(alloc, call(stream, link)),
+        b'p' => answer_word(alloc, stream.poll_next_if_any(link)),
+        b'n' => answer_word(alloc, seek(stream, link)),
+        _ => token_word(alloc, stream),
+    }
+}
+
+// Polls to the end of the closing.
+fn close_word(closing: Closing, link: &mut ScriptLink) -> &'static str
+    requires { IsOut (out_at link.old.calls) (closing_ticket closing) }
+{
+    let mut state = closing;
+    'polls: for _count in 1..10 {
+        match state.poll(link) {
+            Step::Pending(next) => state = next,
+            Step::Done(()) => return "/closed",
+            Step::Failed(error) => return error_word(&error),
+        }
+    }
+    "/pending"
+}
+
+// Opens a stream, takes the steps and closes it: what was answered, and which commands were sent.
+fn run(alloc: Global, start: &str, script: &str, steps: &str, pend: u32) -> Result<String, Fail> {
+    let mut link = ScriptLink::new(list_of(alloc, script, pend)?, 21);
+    let mut stream = open(Opening::new(alloc, args_of(alloc, start)?), &mut link)?;
+    let mut seen = String::new(alloc);
+    'steps: for step in steps.as_bytes() {
+        let word = step_word(alloc, &mut stream, &mut link, *step)?;
+        seen.push_str(word.as_str())?;
+    }
+    seen.push_str(close_word(stream.close(), &mut link))?;
+    'commands: for command in link.commands() {
+        let word = command_word(alloc, &command.as_raw())?;
+        seen.push_str(word.as_str())?;
+    }
+    Ok(seen)
+}
+
+/// Each line is where a stream starts, how its commands are answered, its steps, and what comes of them.
+const RUNS: &str = "none~1- k.~~/closed/aggregate/killCursors 1
+none~0-~~/closed/aggregate
+none~1- k.~c~/nothing/closed/aggregate/killCursors 1
+none~1- l.~~/E2/aggregate/killCursors 1
+none~1e k.~tct~/no token/event 2/token 2/closed/aggregate/killCursors 1
+at~1m 2- k. k.~ct~/nothing/no token/closed/aggregate at 9/aggregate at 9/killCursors 1/killCursors 2
+after~1n k.~tctct~/token 4/E9/token 4/event 2/token 2/closed/aggregate after 4/killCursors 1
+none~1- l. l. l. k.~cc~/nothing/E2/closed/aggregate/getMore 1/aggregate at 7/aggregate at 7/killCursors 1
+none~1e l. 2- k. k.~cc~/event 2/nothing/closed/aggregate/getMore 1/aggregate after 2/killCursors 1/killCursors 2
+none~1- 1-+ k.~cp~/nothing/pending/closed/aggregate/getMore 1/killCursors 1
+none~1- 0-+~cp~/nothing/pending/closed/aggregate/getMore 1
+none~1- l.+ k.~cp~/nothing/pending/closed/aggregate/getMore 1/killCursors 1
+none~1- g.+~cp~/nothing/pending/closed/aggregate/getMore 1
+none~1- f.+~cp~/nothing/pending/E1/aggregate/getMore 1
+none~1- l. 2-+ k.~cp~/nothing/pending/closed/aggregate/getMore 1/aggregate at 7/killCursors 1 2
+none~1- l. l.+ l. k.~cp~/nothing/pending/closed/aggregate/getMore 1/aggregate at 7/aggregate at 7/killCursors 1
+none~1- l. f.+~cp~/nothing/pending/E1/aggregate/getMore 1/aggregate at 7
+none~1- l. 2- k.+ k.~cp~/nothing/pending/closed/aggregate/getMore 1/aggregate at 7/killCursors 1/killCursors 2
+none~1- l. 2- l.+ k.~cp~/nothing/pending/closed/aggregate/getMore 1/aggregate at 7/killCursors 1/killCursors 2
+none~1- 1- 1e k.~n~/event 2/closed/aggregate/getMore 1/getMore 1/killCursors 1
+none~1- 0-~nn~/nothing/nothing/closed/aggregate/getMore 1
+none~1- l. 2- k. 2e k.~n~/event 2/closed/aggregate/getMore 1/aggregate at 7/killCursors 1/getMore 2/killCursors 2
+none~1- l. 2- f.+~cp~/nothing/pending/E1/aggregate/getMore 1/aggregate at 7/killCursors 1";
+
+// The four parts of a line.
+fn parts(line: &str) -> Option<(&str, &str, &str, &str)> {
+    let (start, rest) = line.split_once('~')?;
+    let (script, rest) = rest.split_once('~')?;
+    let (steps, wanted) = rest.split_once('~')?;
+    Some((start, script, steps, wanted))
 }
 
 #[test]
-fn each_insert_once(rt: HostRuntime) -> Result<(), Fail> {
+fn streams_to_their_closing(rt: HostRuntime) -> Result<(), Fail> {
     let alloc = rt.alloc();
-    let mut link = MemLink::new(alloc, Store::new(alloc), Vec::new(alloc), 21);
-    let ns = Namespace {
-        db: String::from_str(alloc, "app")?,
-        coll: String::from_str(alloc, "c")?,
-    };
-    let args = WatchArgs {
-        pipeline: Vec::new(alloc),
-        target: OperationTarget::Collection(ns),
-        options: ChangeStreamOptions::default(),
-    };
-    let Ok(mut stream) = ChangeStream::open(alloc, &mut link, args) else {
-        return Err(Fail::from("open"));
-    };
-    let first = stream.poll_next_if_any(&mut link);
-    assert!(rt; matches!(first, EventPoll::Ready(None)));
-    for id in 0..3 {
-        let command = insert_of(alloc, id)?;
-        assert!(rt; link.send(command.as_raw()).is_ok());
+    for line in RUNS.lines() {
+        let Some((start, script, steps, wanted)) = parts(line) else {
+            return Err(Fail::from("line"));
+        };
+        let seen = run(alloc, start, script, steps, 0)?;
+        assert_eq!(rt; seen.as_str(), wanted, "{script}");
+        if !steps.contains('p') {
+            let pended = run(alloc, start, script, steps, 1)?;
+            assert_eq!(rt; pended.as_str(), wanted, "pending {script}");
+        }
     }
-    for id in 0..3 {
-        let EventPoll::Ready(Some(event)) = stream.poll_next_if_any(&mut link) else {
-            return Err(Fail::from("event"));
-        };
-        let raw = event.as_raw();
-        let Some(key) = raw.get("documentKey") else {
-            return Err(Fail::from("key"));
-        };
-        let Some(key) = key.as_document() else {
-            return Err(Fail::from("key"));
-        };
-        let found = match key.get("_id") {
-            Some(value) => value.as_i32(),
-            None => None,
-        };
-        assert_eq!(rt; found, Some(id));
+    Ok(())
+}
+
+// A text whose middle is repeated.
+fn repeated(
+    alloc: Global,
+    first: &str,
+    middle: &str,
+    times: u32,
+    last: &str,
+) -> Result<String, Fail> {
+    let mut text = String::from_str(alloc, first)?;
+    for _count in 0..times {
+        text.push_str(middle)?;
     }
-    let last = stream.poll_next_if_any(&mut link);
-    assert!(rt; matches!(last, EventPoll::Ready(None)));
-    assert!(rt; stream.is_alive());
-    assert!(rt; stream.close(&mut link).is_ok());
-    assert_eq!(rt; link.store().history().len(), 7);
+    text.push_str(last)?;
+    Ok(text)
+}
+
+#[test]
+fn empty_replies_in_a_row(rt: HostRuntime) -> Result<(), Fail> {
+    let alloc = rt.alloc();
+    let script = repeated(alloc, "1-", " 1-", 999, " k.")?;
+    let seen = run(alloc, "none", script.as_str(), "n", 0)?;
+    let wanted = repeated(
+        alloc,
+        "/E13/closed/aggregate",
+        "/getMore 1",
+        999,
+        "/killCursors 1",
+    )?;
+    assert_eq!(rt; seen.as_str(), wanted.as_str(), "999 getMores");
+    Ok(())
+}
+
+#[test]
+fn resumptions_without_an_event(rt: HostRuntime) -> Result<(), Fail> {
+    let alloc = rt.alloc();
+    let script = repeated(alloc, "1-", " l. 1- k.", 1000, " k.")?;
+    let seen = run(alloc, "none", script.as_str(), "n", 0)?;
+    let middle = "/getMore 1/aggregate at 7/killCursors 1";
+    let wanted = repeated(
+        alloc,
+        "/E13/closed/aggregate",
+        middle,
+        1000,
+        "/killCursors 1",
+    )?;
+    assert_eq!(rt; seen.as_str(), wanted.as_str(), "1000 resumptions");
     Ok(())
 }

@@ -3,3 +3,10 @@ pub mod Digits
 pub mod Printed
 pub mod Lines
 pub mod Endings
+pub mod Apart
+pub mod Tallies
+pub mod Orders
+pub mod Turning
+pub mod Knowing
+pub mod Plainly
+pub mod Small

@@ -7,3 +7,9 @@ pub mod Script
 pub mod Json
 pub mod Text
 pub mod Program
+pub mod Inserts
+pub mod Playing
+pub mod Counts
+pub mod Runs
+pub mod Follows
+pub mod Headline

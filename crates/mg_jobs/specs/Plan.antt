@@ -1,5 +1,5 @@
 -- What a script asks for, without where it lies in memory.
-use Rattle.std.specs.Prelude.{ℕ, ℤ, List, map, Bool, true, false, ◌&&◌, ◌==◌, Option, Vec, string_bytes}
+use Rattle.std.specs.Prelude.{ℕ, ℤ, List, map, Bool, true, false, ◌&&◌, Option, Vec, string_bytes}
 use Rattle.std.specs.declared.alloc.Global.{Global}
 use Rattle.std.specs.List.{list_all}
 use Rattle.mg_bson.specs.Tree.{Tree, Fields}
@@ -107,16 +107,6 @@ task_built (follow on calls b filter batch) = is_collection on && has_begin b
 task_built (put db bucket name id chunk pieces) = false
 task_built (get db bucket id read) = false
 
-abbrev pub is_keep : Lot → Bool
-is_keep keep = true
-is_keep lose = false
-is_keep dropped = false
-is_keep (refuse code labels) = false
-
--- a command that is performed, and its reply comes at once
-abbrev pub is_prompt : Fated → Bool
-is_prompt f = f.pend == 0 && is_keep f.lot
-
 -- whether all that the script asks for can be run
 abbrev pub is_built : Plan → Bool
-is_built p = list_all task_built p.tasks && list_all is_prompt p.fates
+is_built p = list_all task_built p.tasks

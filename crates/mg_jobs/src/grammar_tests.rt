@@ -273,11 +273,11 @@ fate 1~{"kind":"refuse","labels":null}
 fate 1~{"kind":"refuse","labels":"a"}
 fate 1~{"kind":"refuse","labels":["a",0]}
 taken~{"kind":"keep","pend":0}
-not built~{"pend":4294967295}
-not built~{"kind":"lose"}
-not built~{"kind":"drop","pend":0}
-not built~{"kind":"refuse"}
-not built~{"code":-2147483648,"kind":"refuse","labels":["a","a",""],"pend":1}"#;
+taken~{"pend":4294967295}
+taken~{"kind":"lose"}
+taken~{"kind":"drop","pend":0}
+taken~{"kind":"refuse"}
+taken~{"code":-2147483648,"kind":"refuse","labels":["a","a",""],"pend":1}"#;
 
 /// The place of the first fault of a script, or `taken` where it has none.
 fn place_of(alloc: Global, script: &str) -> Result<String, AllocError> {

@@ -1,10 +1,14 @@
 //! The insert of a list of documents.
-ghost use Rattle.std.specs.Prelude.{◌<◌, length, IfOk};
+ghost use Rattle.std.specs.Prelude.{◌≡◌, ◌≢◌, ◌<◌, ◌≤◌, None, length, IfErr, IfOk, IfSome};
+ghost use Rattle.mg_link.specs.Acts.{EndsAtOnce, FailsByFault, IsOut, PendsBy, Tickets, ticket_after};
+ghost use Rattle.mg_link.specs.Exec.{ticket_of};
+ghost use Rattle.mg_link.specs.Link.{Later};
+ghost use Rattle.mg_link.proofs.Plain.{PassesPlain};
+ghost use Rattle.mg_jobs.specs.Inserts.{HeardAtOnce, HeardLost, HeardPends, HeardPlain, HeldPlain, IsPlain, NextFewer, NextNotIo, NextPlain, NextTicket, SendsPlain, StepPlain, heard_ticket, insert_ticket, left_of};
 
 use mg_bson::{Bson, BsonError, Document, ObjectId, to_bytes};
-use mg_link::{Error, IdSource, Link, Namespace};
-use mg_ops::{Insert, Operation, check_reply, encode};
-use mg_store::MemLink;
+use mg_link::{Action, Error, ErrorKind, Exec, IdSource, Link, Namespace, Retry, Step};
+use mg_ops::{Insert, Operation, encode};
 use std::alloc::Global;
 
 /// The most documents of one insert command.
@@ -38,7 +42,9 @@ fn draw<I: IdSource>(
 }
 
 /// A copy of the document, with a drawn id as its first field.
-fn with_id(alloc: Global, document: &Document, id: Option<ObjectId>) -> Result<Document, Error> {
+fn with_id(alloc: Global, document: &Document, id: Option<ObjectId>) -> Result<Document, Error>
+    ensures { IfErr result (λ e. e.kind ≢ ErrorKind.Io) }
+{
     let Some(id) = id else {
         let copy = document.clone()?;
         return Ok(copy);
@@ -53,7 +59,9 @@ fn with_id(alloc: Global, document: &Document, id: Option<ObjectId>) -> Result<D
 }
 
 /// The length of a document in bytes, or none where it is longer than any document may be.
-fn length_of(alloc: Global, document: &Document) -> Result<Option<usize>, Error> {
+fn length_of(alloc: Global, document: &Document) -> Result<Option<usize>, Error>
+    ensures { IfErr result (λ e. e.kind ≢ ErrorKind.Io) }
+{
     match to_bytes(alloc, document) {
         Ok(bytes) => Ok(Some(bytes.as_bytes().len())),
         Err(BsonError::TooLarge) => Ok(None),
@@ -69,7 +77,8 @@ fn batch_from(
     from: usize,
 ) -> Result<Batch, Error>
     requires { from < length documents.now }
-    ensures further { IfOk result (λ b. from < b.upto) }
+    ensures further { IfOk result (λ b. (from < b.upto) × (b.upto ≤ length documents.now)) }
+    ensures err { IfErr result (λ e. e.kind ≢ ErrorKind.Io) }
 {
     let mut batch = Vec::new(alloc);
     let mut room = MAX_BATCH;
@@ -98,34 +107,173 @@ fn batch_from(
     })
 }
 
-/// Sends the command of one batch.
-fn send(alloc: Global, link: &mut MemLink, insert: &Insert) -> Result<(), Error> {
-    let command = encode(alloc, insert, link.wire_version())?;
-    let reply = link.send(command.as_raw())?;
-    check_reply(alloc, &reply.as_raw(), link.wire_version())?;
-    let _written = insert.read(alloc, reply)?;
-    Ok(())
+/// A command of an insert whose reply was not read yet.
+#[derive(Drop)]
+struct Command {
+    exec: Exec,
+    insert: Insert,
 }
 
-/// Inserts the documents in their order, cut into commands that keep the limits, and gives their number. A document
-/// without `_id` gets a drawn one as its first field. After a failure the commands before it took effect.
-pub(crate) fn insert_all<I: IdSource>(
+/// The documents of an insert, and how many of them stand in commands that were built.
+#[derive(Drop)]
+struct Batches<'a> {
     alloc: Global,
-    link: &mut MemLink,
-    ids: &mut I,
-    ns: &Namespace,
-    documents: &[Document],
-) -> Result<u64, Error> {
-    let drawn = draw(alloc, ids, documents)?;
-    let mut done = 0;
-    'commands: while done < documents.len() {
-        let batch = batch_from(alloc, documents, drawn.as_slice(), done)?;
+    ns: &'a Namespace,
+    documents: &'a [Document],
+    drawn: Vec<Option<ObjectId>>,
+    upto: usize,
+}
+
+/// What is to be sent next.
+#[derive(Drop)]
+enum Next {
+    Send(Command),
+    /// No document is left.
+    Finished,
+    /// The next command was not built.
+    Stopped(Error),
+}
+
+/// What a poll of a command came to.
+#[derive(Drop)]
+enum Heard {
+    Pending(Command),
+    Inserted,
+    Failed(Error),
+}
+
+impl<'a> Batches<'a> {
+    /// Builds the next command, where documents are left.
+    fn next(&mut self, wire: i32) -> Result<Option<Command>, Error>
+        ensures unsent { IfOk result (λ o. IfSome o (λ c. ticket_of c.exec ≡ None)) }
+        ensures plain { IfOk result (λ o. IfSome o (λ c. IsPlain c.exec.command)) }
+        ensures further { IfOk result (λ o. IfSome o (λ c. (self.old.upto < self.new.upto) × (self.old.upto < length self.old.documents.now))) }
+        ensures same { self.new.documents ≡ self.old.documents }
+        ensures err { IfErr result (λ e. e.kind ≢ ErrorKind.Io) }
+    {
+        if self.upto >= self.documents.len() {
+            return Ok(None);
+        }
+        let batch = batch_from(self.alloc, self.documents, self.drawn.as_slice(), self.upto)?;
         let insert = Insert {
-            ns: ns.clone()?,
+            ns: self.ns.clone()?,
             documents: batch.documents,
         };
-        send(alloc, link, &insert)?;
-        done = batch.upto;
+        let command = encode(self.alloc, &insert, wire)?;
+        self.upto = batch.upto;
+        let exec = Exec::start(command, Retry::None);
+        Ok(Some(Command { exec, insert }))
     }
-    Ok(documents.len() as u64)
+
+    /// The command that waits for its reply, or else the next one, where documents are left.
+    fn current(&mut self, waiting: Option<Command>, wire: i32) -> Next
+        ensures ticket { NextTicket waiting result }
+        ensures plain { HeldPlain waiting → NextPlain result }
+        ensures fewer { NextFewer (left_of self.old.documents.now self.old.upto waiting) (left_of self.new.documents.now self.new.upto None) result }
+        ensures err { NextNotIo result }
+    {
+        let Some(command) = waiting else {
+            return match self.next(wire) {
+                Ok(Some(command)) => Next::Send(command),
+                Ok(None) => Next::Finished,
+                Err(error) => Next::Stopped(error),
+            };
+        };
+        Next::Send(command)
+    }
+
+    /// Goes on with a command.
+    fn hear<L: Link>(&self, link: &mut L, command: Command) -> Heard
+        requires { IsOut (L.awaited link.old) (ticket_of command.exec) }
+        ensures tickets { Tickets (L.awaited link.old) (L.awaited link.new) (ticket_of command.exec) (heard_ticket result) }
+        ensures plain { IsPlain command.exec.command → PassesPlain (L.log link.old) (L.log link.new) × HeardPlain result }
+        ensures pended { HeardPends result (L.pends link.old) (L.pends link.new) }
+        ensures lost { HeardLost result (L.faults link.old) (L.faults link.new) }
+        ensures prompt { L.prompt link.old → HeardAtOnce result }
+        ensures later { Later (L.faults link.old) (L.faults link.new) (L.pends link.old) (L.pends link.new)
+            (L.wire link.old) (L.wire link.new) (L.prompt link.old) (L.prompt link.new) }
+    {
+        let Command { exec, insert } = command;
+        match exec.poll(link) {
+            Step::Pending(exec) => Heard::Pending(Command { exec, insert }),
+            Step::Failed(error) => Heard::Failed(error),
+            Step::Done(reply) => match insert.read(self.alloc, reply) {
+                Ok(_) => Heard::Inserted,
+                Err(error) => Heard::Failed(error),
+            },
+        }
+    }
+}
+
+/// An insert of documents in their order, cut into commands that keep the limits, which goes on while replies pend. It
+/// gives their number. One without `_id` gets a drawn one as its first field. After a failure the commands before it
+/// took effect.
+#[derive(Drop)]
+pub(crate) struct Inserting<'a> {
+    batches: Batches<'a>,
+    command: Option<Command>,
+}
+
+impl<'a> Inserting<'a> {
+    /// An insert of these documents. Their missing ids are drawn at once, and nothing is sent.
+    pub(crate) fn start<I: IdSource>(
+        alloc: Global,
+        ids: &mut I,
+        ns: &'a Namespace,
+        documents: &'a [Document],
+    ) -> Result<Inserting<'a>, Error>
+        ensures ticket { IfOk result (λ i. insert_ticket i ≡ None) }
+        ensures unsent { IfOk result (λ i. i.command ≡ None) }
+    {
+        let drawn = draw(alloc, ids, documents)?;
+        Ok(Inserting {
+            batches: Batches {
+                alloc,
+                ns,
+                documents,
+                drawn,
+                upto: 0,
+            },
+            command: None,
+        })
+    }
+}
+
+impl<'a> Action for Inserting<'a> {
+    type Output = u64;
+
+    ghost ticket = { insert_ticket };
+
+    fn poll<L: Link>(self, link: &mut L) -> Step<Inserting<'a>, u64>
+        requires { IsOut (L.awaited link.old) (insert_ticket self) }
+        ensures tickets { Tickets (L.awaited link.old) (L.awaited link.new) (insert_ticket self.entry) (ticket_after insert_ticket result) }
+        ensures pended { PendsBy 1 result (L.pends link.old) (L.pends link.new) }
+        ensures lost { FailsByFault result (L.faults link.old) (L.faults link.new) }
+        ensures prompt { L.prompt link.old → EndsAtOnce result }
+        ensures later { Later (L.faults link.old) (L.faults link.new) (L.pends link.old) (L.pends link.new)
+            (L.wire link.old) (L.wire link.new) (L.prompt link.old) (L.prompt link.new) }
+        ensures plain { SendsPlain self.entry → PassesPlain (L.log link.old) (L.log link.new) × StepPlain result }
+    {
+        let Inserting {
+            mut batches,
+            mut command,
+        } = self;
+        'commands: loop {
+            let next = match batches.current(command, link.wire_version()) {
+                Next::Send(next) => next,
+                Next::Finished => return Step::Done(batches.documents.len() as u64),
+                Next::Stopped(error) => return Step::Failed(error),
+            };
+            match batches.hear(link, next) {
+                Heard::Pending(waiting) => {
+                    return Step::Pending(Inserting {
+                        batches,
+                        command: Some(waiting),
+                    });
+                }
+                Heard::Inserted => command = None,
+                Heard::Failed(error) => return Step::Failed(error),
+            }
+        }
+    }
 }

@@ -1,6 +1,8 @@
 //! Jobs over a store, from the script to the printed text.
 #![tactic(auto)]
 
+mod counting;
+mod fates;
 mod fault;
 mod insert;
 mod json;
@@ -10,6 +12,7 @@ mod parse;
 mod parse_fate;
 mod parse_job;
 mod parts;
+mod player;
 mod print;
 mod program;
 mod run;
@@ -22,7 +25,7 @@ pub use mg_link::{MemSink, MemSource, ReadFailed, Sink, Source, StdSink, StdSour
 pub use outcome::{Answer, Ended, Outcome, Played, Run, Turned};
 pub use parse::parse_script;
 pub use program::{Ending, Finished, run_program};
-pub use run::run_jobs;
+pub use run::{Runner, run_jobs};
 pub use script::{Job, Script, Start};
 pub use value::value_from_json;
 

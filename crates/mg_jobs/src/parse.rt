@@ -1,9 +1,9 @@
 //! The script that bytes are.
-ghost use Rattle.std.specs.Prelude.{◌≡◌, map, length};
+ghost use Rattle.std.specs.Prelude.{◌≡◌, length};
 ghost use Rattle.std.specs.List.{list_all};
 ghost use Rattle.serde_json.specs.View.{view, items_view};
 ghost use Rattle.mg_link.specs.Namespace.{target};
-ghost use Rattle.mg_jobs.specs.Plan.{tasks, plan, begin, has_begin, is_collection, task, task_built, fated, is_prompt, is_built};
+ghost use Rattle.mg_jobs.specs.Plan.{tasks, plan, begin, has_begin, is_collection, task, task_built, is_built};
 ghost use Rattle.mg_jobs.specs.Reads.{Gives};
 ghost use Rattle.mg_jobs.specs.Script.{turn_of, turns_of, wire_at, ids_at, moment_at, lists_of, plan_of, data_of, script_of, first_missing, missing};
 
@@ -16,7 +16,6 @@ use crate::parts::{
 use crate::script::{Job, Script, Start};
 use mg_bson::DateTime;
 use mg_link::OperationTarget;
-use mg_store::{Fate, FateKind};
 use serde_json::Value;
 use std::alloc::Global;
 
@@ -213,30 +212,10 @@ fn jobs_built(jobs: &[Job]) -> bool
     true
 }
 
-fn is_prompt(fate: &Fate) -> bool
-    ensures { result ≡ is_prompt (fated fate.now) }
-{
-    match fate.kind {
-        FateKind::Keep => fate.pend == 0,
-        _ => false,
-    }
-}
-
-fn fates_prompt(fates: &[Fate]) -> bool
-    ensures { result ≡ list_all is_prompt (map fated fates.now) }
-{
-    for fate in fates {
-        if !is_prompt(fate) {
-            return false;
-        }
-    }
-    true
-}
-
 fn is_built(script: &Script) -> bool
     ensures { result ≡ is_built (plan script.now) }
 {
-    jobs_built(script.jobs.as_slice()) && fates_prompt(script.fates.as_slice())
+    jobs_built(script.jobs.as_slice())
 }
 
 // ---- numbers that name no job
@@ -247,8 +226,9 @@ fn count_of(jobs: &[Job]) -> usize
     jobs.len()
 }
 
+/// The first number that is not below the count.
 #[tactic(auto, unfolding(crate::specs::Script::first_missing))]
-fn first_missing(order: &[u32], count: usize) -> Option<u32>
+pub(crate) fn first_missing(order: &[u32], count: usize) -> Option<u32>
     ensures { result ≡ first_missing count order.now }
 {
     for n in order {

@@ -1,7 +1,9 @@
 //! The program, from the words of its command line to its status.
-ghost use Rattle.std.specs.Prelude.{◌≡◌, ◌⊎◌, ◌++◌, ℕ, Some, None, map, length, codes, decimal, false, string_bytes, IfOk, IfSome, IsSomeAnd};
+ghost use Rattle.std.specs.Prelude.{◌≡◌, ◌⊎◌, ◌++◌, ℕ, Some, None, map, length, codes, decimal, false, string_bytes, IfErr, IfOk, IfSome, IsSomeAnd};
 ghost use Rattle.std.specs.Io.KnownBytes.{Appends};
 ghost use Rattle.mg_link.specs.Causes.{Rose};
+ghost use Rattle.mg_link.specs.Errors.{plain};
+ghost use Rattle.mg_link.specs.declared.error.ErrorKind.TheVariants as kinds;
 ghost use Rattle.mg_jobs.specs.declared.fault.Place.{Place};
 ghost use Rattle.mg_jobs.specs.declared.program.Ending.{Ending};
 ghost use Rattle.mg_jobs.specs.Plan.{plan};
@@ -9,6 +11,7 @@ ghost use Rattle.mg_jobs.specs.Places.{place_text};
 ghost use Rattle.mg_jobs.specs.Text.{line, text_of};
 ghost use Rattle.mg_jobs.specs.Program.{is_run, HasJobs, ReadNoScript, ReadTooMuch, ReadMissing, Ran, Caused, status_of, ending_text, run_of, Told};
 
+use crate::fates::small_copies;
 use crate::fault::{Place, ScriptError};
 use crate::outcome::Run;
 use crate::parse::{missing, parse_script};
@@ -64,9 +67,11 @@ fn run_script(alloc: Global, script: Script) -> Result<Run, Error>
     ensures script { IfOk result (λ r. plan r.script ≡ plan script) }
     ensures log { IfOk result (λ r. length r.logs.items ≡ 1) }
     ensures turns { IfOk result (λ r. length r.turns.items ≡ 1) }
+    ensures err { IfErr result (λ e. e ≡ plain kinds.OutOfMemory) }
 {
     let [a, b, c] = script.ids;
-    let mut link = MemLink::new(alloc, Store::new(alloc), Vec::new(alloc), script.wire);
+    let fates = small_copies(alloc, script.fates.as_slice())?;
+    let mut link = MemLink::new(alloc, Store::new(alloc), fates, script.wire);
     let mut ids = CountedIds::new([a, b, c, 0]);
     let played = run_jobs(
         alloc,

@@ -1,223 +1,122 @@
 //! Jobs, run by a list of turns.
-ghost use Rattle.std.specs.Prelude.{◌<◌, length};
-ghost use Rattle.std.specs.List.{All};
+ghost use Rattle.std.specs.Prelude.{◌≡◌, ◌≤◌, ◌<◌, ◌++◌, ◌∷◌, ◌⊎◌, ℕ, [], false, true, length, List, IfErr, IfOk, IfSome, OnErr, OnOk, Ok, Err, Some, vec_capacity, vec_len};
+ghost use Rattle.std.specs.List.{All, sum_by};
+ghost use Rattle.mg_link.specs.Errors.{plain};
+ghost use Rattle.mg_link.specs.Link.{Awaited, Later, Told};
+ghost use Rattle.mg_jobs.specs.Counts.{Counted, StartedBy};
+ghost use Rattle.mg_jobs.specs.Runs.{AreNew, AreSameJobs, CanGo, Goes, IsNew, IsNoted, IsReady, IsSameJob, JobHolds, Stands, has_ended, idle, job_ended, job_ticket};
+ghost use Rattle.mg_link.specs.Log.{Call};
+ghost use Rattle.mg_link.specs.Owner.{Owner};
+ghost use Rattle.mg_jobs.specs.Headline.{AllFollowed, AllWatch, AreFirst, DoTasks, Does, IsFirst, IsSameTask, Knowing, OutcomeOf, OutcomesOf, Plays};
+ghost use Rattle.mg_jobs.specs.Plan.{Task, task, tasks};
+ghost use Rattle.mg_jobs.specs.Script.{first_missing};
 
-use crate::insert::insert_all;
-use crate::outcome::{Answer, Ended, Outcome, Played, Turned};
-use crate::script::{Job, Start};
-use mg_bson::{DateTime, Document};
-use mg_change::{ChangeStream, EventPoll};
-use mg_link::{Error, IdSource, OperationTarget};
-use mg_ops::WatchArgs;
-use mg_options::{ChangeStreamOptions, ResumeToken};
-use mg_store::MemLink;
+use crate::counting::{Began, Counting};
+use crate::outcome::{Ended, Outcome, Played, Turned};
+use crate::parse::first_missing;
+use crate::player::{FollowPlayer, InsertPlayer, Watched};
+use crate::script::Job;
+use core::mem::replace_with;
+use mg_bson::DateTime;
+use mg_link::{Error, ErrorKind, IdSource, Labels, Link};
 use std::alloc::Global;
-
-/// A follow that goes on.
-#[derive(Drop)]
-struct Follow {
-    opened: Ended<()>,
-    /// The stream, from its opening to its closing.
-    stream: Option<ChangeStream>,
-    answers: Vec<Answer>,
-    token: Option<ResumeToken>,
-    alive: bool,
-    closed: Ended<()>,
-}
+use std::marker::Brand;
+use std::mem;
 
 /// A job that goes on.
 #[derive(Drop)]
-enum Player {
-    Insert(Ended<u64>),
-    Follow(Follow),
+enum Player<'a> {
+    Insert(InsertPlayer<'a>),
+    Follow(FollowPlayer<'a>),
     Put,
     Get,
 }
 
-fn ended<T>(outcome: Result<T, Error>) -> Ended<T> {
-    match outcome {
-        Ok(value) => Ended::Gave(value),
-        Err(error) => Ended::Failed(error),
-    }
-}
-
-/// The stages behind the one that opens the watch.
-fn pipeline_of(alloc: Global, filter: Option<&Document>) -> Result<Vec<Document>, Error> {
-    let mut pipeline = Vec::new(alloc);
-    if let Some(filter) = filter {
-        let mut stage = Document::new(alloc);
-        stage.append("$match", mg_bson::Bson::Document(filter.clone()?))?;
-        pipeline.push(stage)?;
-    }
-    Ok(pipeline)
-}
-
-/// What a follow opens, or nothing where its start is not built yet.
-fn watch_args(
-    alloc: Global,
-    target: &OperationTarget,
-    start: &Start,
-    filter: Option<&Document>,
-    batch_size: Option<u32>,
-) -> Result<Option<WatchArgs>, Error> {
-    let resume_after = match start {
-        Start::Nowhere => None,
-        Start::ResumeAfter(token) => Some(token.clone()?),
-        Start::StartAfter(_) => return Ok(None),
-        Start::At(_) => return Ok(None),
-    };
-    let all_changes_for_cluster = match target {
-        OperationTarget::Cluster => Some(true),
-        OperationTarget::Database(_) => None,
-        OperationTarget::Collection(_) => None,
-    };
-    Ok(Some(WatchArgs {
-        pipeline: pipeline_of(alloc, filter)?,
-        target: target.clone()?,
-        options: ChangeStreamOptions {
-            resume_after,
-            start_at_operation_time: None,
-            start_after: None,
-            all_changes_for_cluster,
-            batch_size,
-        },
-    }))
-}
-
-impl Follow {
-    fn new(alloc: Global) -> Follow {
-        Follow {
-            opened: Ended::Unfinished,
-            stream: None,
-            answers: Vec::new(alloc),
-            token: None,
-            alive: false,
-            closed: Ended::Unfinished,
-        }
-    }
-
-    /// Opens the stream, where there is something to open.
-    fn open(&mut self, link: &mut MemLink, alloc: Global, args: Result<Option<WatchArgs>, Error>) {
-        let opening = match args {
-            Ok(Some(args)) => ChangeStream::open(alloc, link, args),
-            Ok(None) => return,
-            Err(error) => Err(error),
-        };
-        match opening {
-            Ok(stream) => {
-                self.opened = Ended::Gave(());
-                self.alive = stream.is_alive();
-                self.stream = Some(stream);
-            }
-            Err(error) => self.opened = Ended::Failed(error),
-        }
-    }
-
-    /// Asks for an event.
-    fn ask(&mut self, link: &mut MemLink) -> Result<(), Error> {
-        let Some(stream) = &mut self.stream else {
-            return Ok(());
-        };
-        self.answers.reserve(1)?;
-        let answer = match stream.poll_next_if_any(link) {
-            EventPoll::Pending => return Ok(()),
-            EventPoll::Ready(Some(event)) => Answer::Event(event),
-            EventPoll::Ready(None) => Answer::Nothing,
-            EventPoll::Failed(error) => Answer::Failed(error),
-        };
-        self.alive = stream.is_alive();
-        self.answers.push(answer)?;
-        Ok(())
-    }
-
-    /// Closes the stream, and keeps its token.
-    fn close(&mut self, link: &mut MemLink) {
-        if let Some(mut stream) = self.stream.take() {
-            self.token = stream.take_token();
-            self.closed = ended(stream.close(link));
-        }
-    }
-
-    fn into_outcome(self) -> Outcome {
-        let Follow {
-            opened,
-            stream,
-            answers,
-            token,
-            alive,
-            closed,
-        } = self;
-        let token = match stream {
-            Some(mut stream) => stream.take_token(),
-            None => token,
-        };
-        Outcome::Follow {
-            opened,
-            answers,
-            token,
-            alive,
-            closed,
-        }
-    }
-}
-
-impl Player {
-    fn new(alloc: Global, job: &Job) -> Player {
+impl<'a> Player<'a> {
+    fn new(alloc: Global, job: &'a Job) -> Player<'a>
+        ensures new { IsNew result }
+        ensures first { IsFirst result }
+        ensures task { Does (task job.now) result }
+    {
         match job {
-            Job::Insert { .. } => Player::Insert(Ended::Unfinished),
-            Job::Follow { .. } => Player::Follow(Follow::new(alloc)),
-            Job::Put { .. } => Player::Put,
-            Job::Get { .. } => Player::Get,
-        }
-    }
-
-    /// One turn of the job. An error comes only where no place for an answer was found.
-    fn turn<I: IdSource>(
-        &mut self,
-        alloc: Global,
-        link: &mut MemLink,
-        ids: &mut I,
-        job: &Job,
-    ) -> Result<(), Error> {
-        match job {
-            Job::Insert { ns, docs } => {
-                if let Player::Insert(Ended::Unfinished) = self {
-                    let inserted = insert_all(alloc, link, ids, ns, docs.as_slice());
-                    *self = Player::Insert(ended(inserted));
-                }
-                Ok(())
-            }
+            Job::Insert { ns, docs } => Player::Insert(InsertPlayer::Unsent(ns, docs.as_slice())),
             Job::Follow {
                 target,
                 calls,
                 start,
                 filter,
                 batch,
-            } => match self {
-                Player::Follow(follow) => {
-                    match follow.opened {
-                        Ended::Unfinished => {
-                            let args = watch_args(alloc, target, start, filter.as_ref(), *batch);
-                            follow.open(link, alloc, args);
-                        }
-                        Ended::Gave(()) => follow.ask(link)?,
-                        Ended::Failed(_) => {}
-                    }
-                    if follow.answers.len() == *calls as usize {
-                        follow.close(link);
-                    }
-                    Ok(())
-                }
-                _ => Ok(()),
-            },
-            Job::Put { .. } => Ok(()),
-            Job::Get { .. } => Ok(()),
+            } => {
+                let watched = Watched {
+                    target,
+                    start,
+                    filter: filter.as_ref(),
+                    batch_size: *batch,
+                };
+                Player::Follow(FollowPlayer::new(alloc, *calls, watched))
+            }
+            Job::Put { .. } => Player::Put,
+            Job::Get { .. } => Player::Get,
         }
     }
 
-    fn into_outcome(self, alloc: Global) -> Outcome {
+    fn has_ended(&self) -> bool
+        ensures { result ≡ has_ended self.now }
+    {
         match self {
-            Player::Insert(ended) => Outcome::Insert(ended),
+            Player::Insert(insert) => insert.has_ended(),
+            Player::Follow(follow) => follow.has_ended(),
+            Player::Put => true,
+            Player::Get => true,
+        }
+    }
+
+    /// Gets what a turn needs beside the link. Nothing is sent.
+    fn ready<I: IdSource>(&mut self, alloc: Global, ids: &mut I) -> Result<(), Error>
+        ensures ticket { job_ticket self.new ≡ job_ticket self.old }
+        ensures holds { (wire : _) → JobHolds wire self.old → JobHolds wire self.new }
+        ensures ready { OnOk result (IsReady self.new) }
+        ensures knows { (awaited : Awaited) (calls : List Call) (o : Owner) → Plays awaited calls self.old o → Plays awaited calls self.new o }
+        ensures task { IsSameTask self.old self.new }
+        ensures same { OnErr result (IsSameJob self.old self.new) }
+        ensures err { IfErr result (λ e. e ≡ plain ErrorKind.OutOfMemory) }
+    {
+        match self {
+            Player::Insert(insert) => {
+                insert.ready(alloc, ids);
+                Ok(())
+            }
+            Player::Follow(follow) => follow.ready(),
+            Player::Put => Ok(()),
+            Player::Get => Ok(()),
+        }
+    }
+
+    /// One turn.
+    fn go<L: Link>(self, alloc: Global, link: &mut L) -> Player<'a>
+        requires can { CanGo (L.awaited link.old) (L.wire link.old) self }
+        requires ready { IsReady self }
+        ensures goes { Goes (L.awaited link.old) (L.awaited link.new) (L.log link.old) (L.log link.new) (L.wire link.new) self.entry result }
+        ensures later { Later (L.faults link.old) (L.faults link.new) (L.pends link.old) (L.pends link.new)
+            (L.wire link.old) (L.wire link.new) (L.prompt link.old) (L.prompt link.new) }
+    {
+        match self {
+            Player::Insert(insert) => Player::Insert(insert.go(link)),
+            Player::Follow(follow) => {
+                let mut follow = follow;
+                follow.go(alloc, link);
+                Player::Follow(follow)
+            }
+            Player::Put => Player::Put,
+            Player::Get => Player::Get,
+        }
+    }
+
+    fn into_outcome(self, alloc: Global) -> Outcome
+        ensures { OutcomeOf self.entry result }
+    {
+        match self {
+            Player::Insert(insert) => insert.into_outcome(),
             Player::Follow(follow) => follow.into_outcome(),
             Player::Put => Outcome::Put(Ended::Unfinished),
             Player::Get => Outcome::Get {
@@ -228,60 +127,270 @@ impl Player {
     }
 }
 
-fn outcomes_of(alloc: Global, players: Vec<Player>) -> Result<Vec<Outcome>, Error> {
-    let mut outcomes = Vec::with_capacity(alloc, players.len())?;
-    for player in players {
-        outcomes.push(player.into_outcome(alloc))?;
+// ---- one turn
+
+/// A job whose turn it is.
+#[derive(Drop)]
+struct Turn<'a> {
+    alloc: Global,
+    player: Player<'a>,
+}
+
+/// A job behind its turn, with the turn's note.
+#[derive(Drop)]
+struct Gone<'a> {
+    player: Player<'a>,
+    note: Turned,
+}
+
+/// Gives a job its turn over a link of which it is known what it began with.
+fn counted_since<'a, L: Link, B: Began>(link: L, turn: Turn<'a>) -> (L, Gone<'a>)
+    requires can { CanGo (L.awaited link) (L.wire link) turn.player }
+    requires ready { IsReady turn.player }
+    requires calls { L.log link ≡ B.calls }
+    requires pends { L.pends link ≡ B.pends }
+    requires prompts { B.prompts → L.prompt link }
+    ensures goes { Goes (L.awaited link) (L.awaited result.0) (L.log link) (L.log result.0) (L.wire result.0) turn.entry.player result.1.player }
+    ensures later { Later (L.faults link) (L.faults result.0) (L.pends link) (L.pends result.0)
+        (L.wire link) (L.wire result.0) (L.prompt link) (L.prompt result.0) }
+    ensures noted { IsNoted result.1.note B.calls (L.log result.0) B.pends (L.pends result.0) B.prompts (L.prompt result.0) }
+{
+    let Turn { alloc, player } = turn;
+    let mut counting = Counting::<L, B>::new(link);
+    let player = player.go(alloc, &mut counting);
+    let (link, note) = counting.into_parts();
+    (link, Gone { player, note })
+}
+
+/// Gives a job its turn.
+fn counted<'a, L: Link>(link: L, turn: Turn<'a>) -> (L, Gone<'a>)
+    requires can { CanGo (L.awaited link) (L.wire link) turn.player }
+    requires ready { IsReady turn.player }
+    ensures goes { Goes (L.awaited link) (L.awaited result.0) (L.log link) (L.log result.0) (L.wire result.0) turn.entry.player result.1.player }
+    ensures later { Later (L.faults link) (L.faults result.0) (L.pends link) (L.pends result.0)
+        (L.wire link) (L.wire result.0) (L.prompt link) (L.prompt result.0) }
+    ensures noted { IsNoted result.1.note (L.log link) (L.log result.0) (L.pends link) (L.pends result.0) (L.prompt link) (L.prompt result.0) }
+{
+    counted_since::<L, Brand>(link, turn)
+}
+
+/// Gives a job its turn over a link that stays where it is.
+fn take_turn<'a, L: Link>(player: &mut Player<'a>, alloc: Global, link: &mut L) -> Turned
+    requires can { CanGo (L.awaited link.old) (L.wire link.old) player.old }
+    requires ready { IsReady player.old }
+    ensures goes { Goes (L.awaited link.old) (L.awaited link.new) (L.log link.old) (L.log link.new) (L.wire link.new) player.old player.new }
+    ensures later { Later (L.faults link.old) (L.faults link.new) (L.pends link.old) (L.pends link.new)
+        (L.wire link.old) (L.wire link.new) (L.prompt link.old) (L.prompt link.new) }
+    ensures noted { IsNoted result (L.log link.old) (L.log link.new) (L.pends link.old) (L.pends link.new) (L.prompt link.old) (L.prompt link.new) }
+{
+    let turn = Turn {
+        alloc,
+        player: mem::replace(player, Player::Put),
+    };
+    let Gone { player: gone, note } = replace_with(link, turn, counted);
+    *player = gone;
+    note
+}
+
+/// Gives a job its turn, unless it has ended. An error comes only where no place for an answer was found; then nothing
+/// is sent.
+fn turn_of<'a, L: Link, I: IdSource>(
+    player: &mut Player<'a>,
+    alloc: Global,
+    link: &mut L,
+    ids: &mut I,
+) -> Result<Turned, Error>
+    requires { CanGo (L.awaited link.old) (L.wire link.old) player.old }
+    ensures goes { Goes (L.awaited link.old) (L.awaited link.new) (L.log link.old) (L.log link.new) (L.wire link.new) player.old player.new }
+    ensures later { Later (L.faults link.old) (L.faults link.new) (L.pends link.old) (L.pends link.new)
+        (L.wire link.old) (L.wire link.new) (L.prompt link.old) (L.prompt link.new) }
+    ensures noted { IfOk result (λ n. IsNoted n (L.log link.old) (L.log link.new) (L.pends link.old) (L.pends link.new) (L.prompt link.old) (L.prompt link.new)) }
+    ensures ended { has_ended player.old ≡ true → (result ≡ Ok idle) × (link.new ≡ link.old) × (player.new ≡ player.old) }
+    ensures err { IfErr result (λ e. (e ≡ plain ErrorKind.OutOfMemory) × (link.new ≡ link.old) × IsSameJob player.old player.new) }
+{
+    if player.has_ended() {
+        return Ok(Turned {
+            started: 0,
+            pended: false,
+        });
     }
-    Ok(outcomes)
+    player.ready(alloc, ids)?;
+    Ok(take_turn(player, alloc, link))
 }
 
-/// Gives one job a turn, and the note of it.
-fn turn_at<I: IdSource>(
-    alloc: Global,
-    link: &mut MemLink,
-    ids: &mut I,
-    player: &mut Player,
-    job: &Job,
-) -> Result<Turned, Error> {
-    let before = link.log().len() as u64;
-    player.turn(alloc, link, ids, job)?;
-    let after = link.log().len() as u64;
-    Ok(Turned {
-        started: after.saturating_sub(before),
-        pended: false,
-    })
+/// The error of a number that names no job.
+fn no_such_job(job: u32) -> Error
+    ensures { result ≡ plain (ErrorKind.NoSuchJob job) }
+{
+    Error {
+        kind: ErrorKind::NoSuchJob(job),
+        labels: Labels::none(),
+        wire_version: None,
+    }
 }
 
-/// Runs the jobs: each number of `order` gives that job one turn, in which one call of it runs to its end. A turn of
-/// an ended job does nothing.
-///
-/// An insert is one call. A follow opens its stream, asks `calls` times for an event, and closes the stream in the
-/// turn of its last call. A put, a get, and a follow that starts by `StartAfter` or `At` are not built yet: their turns
-/// do nothing. `moment` is the time that new records get. An error comes only for want of memory.
-pub fn run_jobs<I: IdSource>(
+/// Adds a note, for which there is room.
+fn push_reserved(turns: &mut Vec<Turned>, note: Turned)
+    requires { vec_len turns.old < vec_capacity turns.old }
+    ensures { turns.new.items ≡ turns.old.items ++ note ∷ [] }
+{
+    match turns.push(note) {
+        Ok(()) => {}
+        Err(_) => unreachable!(),
+    }
+}
+
+// ---- all turns
+
+/// Jobs whose turns are given one by one.
+#[derive(Drop)]
+pub struct Runner<'a> {
     alloc: Global,
-    link: &mut MemLink,
+    players: Vec<Player<'a>>,
+    turns: Vec<Turned>,
+}
+
+impl<'a> Runner<'a> {
+    /// No job has had a turn. Only memory can fail.
+    pub fn new(alloc: Global, jobs: &'a [Job]) -> Result<Runner<'a>, Error>
+        ensures new { IfOk result (λ r. AreNew r.players.items) }
+        ensures first { IfOk result (λ r. AreFirst r.players.items) }
+        ensures tasks { IfOk result (λ r. DoTasks (tasks jobs.now) r.players.items) }
+        ensures jobs { IfOk result (λ r. length r.players.items ≡ length jobs.now) }
+        ensures turns { IfOk result (λ r. r.turns.items ≡ []) }
+        ensures stands { IfOk result (λ r. (awaited : _) (wire : _) → Stands awaited wire r) }
+        ensures err { IfErr result (λ e. e ≡ plain ErrorKind.OutOfMemory) }
+    {
+        let mut players = Vec::with_capacity(alloc, jobs.len())?;
+        for job in jobs {
+            players.push(Player::new(alloc, job))?;
+        }
+        Ok(Runner {
+            alloc,
+            players,
+            turns: Vec::new(alloc),
+        })
+    }
+
+    /// Gives one job a turn: a call of it goes on until a reply pends, or to its end. A turn of an ended job does nothing.
+    /// The number of no job, and want of memory for an answer or a note, are errors; then nothing is sent.
+    pub fn turn<L: Link, I: IdSource>(
+        &mut self,
+        link: &mut L,
+        ids: &mut I,
+        _moment: DateTime,
+        job: u32,
+    ) -> Result<(), Error>
+        requires { Stands (L.awaited link.old) (L.wire link.old) self.old }
+        ensures stands { Stands (L.awaited link.new) (L.wire link.new) self.new }
+        ensures later { Later (L.faults link.old) (L.faults link.new) (L.pends link.old) (L.pends link.new)
+            (L.wire link.old) (L.wire link.new) (L.prompt link.old) (L.prompt link.new) }
+        ensures jobs { length self.new.players.items ≡ length self.old.players.items }
+        // The jobs go on knowing what they should, and none touches a cursor of another.
+        ensures knowing { (begun : Told) → Knowing (L.awaited link.old) begun (L.log link.old) self.old.players.items → Knowing (L.awaited link.new) begun (L.log link.new) self.new.players.items }
+        ensures tasks { (ts : List Task) → DoTasks ts self.old.players.items → DoTasks ts self.new.players.items }
+        // E15 just where the number names no job, and otherwise want of memory.
+        ensures missing { length self.old.players.items ≤ job → result ≡ Err (plain (ErrorKind.NoSuchJob job)) }
+        ensures err { IfErr result (λ e. ((e ≡ plain (ErrorKind.NoSuchJob job)) × (length self.old.players.items ≤ job)) ⊎ (e ≡ plain ErrorKind.OutOfMemory)) }
+        // An error changes nothing.
+        ensures unsent { OnErr result (link.new ≡ link.old) }
+        ensures same { OnErr result (AreSameJobs self.old.players.items self.new.players.items) }
+        ensures unnoted { OnErr result (self.new.turns.items ≡ self.old.turns.items) }
+        // One note, which is true.
+        ensures noted { OnOk result ((note : _) × (self.new.turns.items ≡ self.old.turns.items ++ note ∷ [])
+            × IsNoted note (L.log link.old) (L.log link.new) (L.pends link.old) (L.pends link.new) (L.prompt link.old) (L.prompt link.new)) }
+        // A job that has ended does nothing.
+        ensures ended { job_ended self.old job ≡ true → (link.new ≡ link.old) × AreSameJobs self.old.players.items self.new.players.items
+            × OnOk result (self.new.turns.items ≡ self.old.turns.items ++ idle ∷ []) }
+    {
+        let at = job as usize;
+        if at >= self.players.len() {
+            return Err(no_such_job(job));
+        }
+        self.turns.reserve(1)?;
+        let alloc = self.alloc;
+        let player = &mut self.players[at];
+        let note = turn_of(player, alloc, link, ids)?;
+        push_reserved(&mut self.turns, note);
+        Ok(())
+    }
+
+    /// What became of each job, and the notes of the turns. Only memory can fail.
+    pub fn into_played(self) -> Result<Played, Error>
+        ensures outcomes { IfOk result (λ p. length p.outcomes.items ≡ length self.entry.players.items) }
+        ensures each { IfOk result (λ p. OutcomesOf self.entry.players.items p.outcomes.items) }
+        ensures turns { IfOk result (λ p. p.turns.items ≡ self.entry.turns.items) }
+        ensures err { IfErr result (λ e. e ≡ plain ErrorKind.OutOfMemory) }
+    {
+        let Runner {
+            alloc,
+            players,
+            turns,
+        } = self;
+        let mut outcomes = Vec::with_capacity(alloc, players.len())?;
+        for player in players {
+            outcomes.push(player.into_outcome(alloc))?;
+        }
+        Ok(Played { outcomes, turns })
+    }
+}
+
+/// Gives the jobs their turns.
+fn play<L: Link, I: IdSource>(
+    runner: &mut Runner<'_>,
+    link: &mut L,
     ids: &mut I,
-    _moment: DateTime,
+    moment: DateTime,
+    order: &[u32],
+) -> Result<(), Error>
+    requires stands { Stands (L.awaited link.old) (L.wire link.old) runner.old }
+    requires jobs { All (λ n. n < length runner.old.players.items) order.now }
+    requires new { runner.old.turns.items ≡ [] }
+    ensures later { Later (L.faults link.old) (L.faults link.new) (L.pends link.old) (L.pends link.new)
+        (L.wire link.old) (L.wire link.new) (L.prompt link.old) (L.prompt link.new) }
+    ensures turns { OnOk result (length runner.new.turns.items ≡ length order.now) }
+    ensures started { OnOk result (StartedBy (sum_by (λ t. t.started) runner.new.turns.items) (L.log link.old) (L.log link.new)) }
+    ensures prompt { L.prompt link.old → OnOk result (All (λ t. t.pended ≡ false) runner.new.turns.items) }
+    ensures jobs { length runner.new.players.items ≡ length runner.old.players.items }
+    ensures knowing { (begun : Told) → Knowing (L.awaited link.old) begun (L.log link.old) runner.old.players.items → Knowing (L.awaited link.new) begun (L.log link.new) runner.new.players.items }
+    ensures tasks { (ts : List Task) → DoTasks ts runner.old.players.items → DoTasks ts runner.new.players.items }
+    ensures err { IfErr result (λ e. e ≡ plain ErrorKind.OutOfMemory) }
+{
+    for number in order {
+        runner.turn(link, ids, moment, *number)?;
+    }
+    Ok(())
+}
+
+/// Runs the jobs: each number of `order` gives that job one turn, in which one call of it runs until a reply pends, or to its
+/// end. `moment` is the time that new records get. Where a number names no job, nothing is sent.
+pub fn run_jobs<L: Link, I: IdSource>(
+    alloc: Global,
+    link: &mut L,
+    ids: &mut I,
+    moment: DateTime,
     jobs: &[Job],
     order: &[u32],
 ) -> Result<Played, Error>
-    requires jobs { All (λ n. n < length jobs.now) order.now }
+    ensures later { Later (L.faults link.old) (L.faults link.new) (L.pends link.old) (L.pends link.new)
+        (L.wire link.old) (L.wire link.new) (L.prompt link.old) (L.prompt link.new) }
+    // E15 just where a number names no job, with the first such number; and otherwise want of memory.
+    ensures missing { IfSome (first_missing (length jobs.now) order.now) (λ n. (result ≡ Err (plain (ErrorKind.NoSuchJob n))) × (link.new ≡ link.old)) }
+    ensures err { IfErr result (λ e. ((n : ℕ) × (e ≡ plain (ErrorKind.NoSuchJob n)) × (first_missing (length jobs.now) order.now ≡ Some n)) ⊎ (e ≡ plain ErrorKind.OutOfMemory)) }
+    // Each follow answers consecutive matching entries from its opening place on, each once, in order, just up to its token,
+    // also after errors; and the run names its own cursors only.
+    ensures followed { IfOk result (λ p. AllWatch (tasks jobs.now) → AllFollowed (L.log link.old) (L.log link.new) (tasks jobs.now) p.outcomes.items) }
+    // One outcome for each job, and one note for each turn.
+    ensures outcomes { IfOk result (λ p. length p.outcomes.items ≡ length jobs.now) }
+    ensures turns { IfOk result (λ p. length p.turns.items ≡ length order.now) }
+    // The notes count what was started, and over a prompt link no turn pends.
+    ensures started { IfOk result (λ p. StartedBy (sum_by (λ t. t.started) p.turns.items) (L.log link.old) (L.log link.new)) }
+    ensures prompt { L.prompt link.old → IfOk result (λ p. All (λ t. t.pended ≡ false) p.turns.items) }
 {
-    let mut players = Vec::with_capacity(alloc, jobs.len())?;
-    for job in jobs {
-        players.push(Player::new(alloc, job))?;
+    if let Some(number) = first_missing(order, jobs.len()) {
+        return Err(no_such_job(number));
     }
-    let mut turns = Vec::with_capacity(alloc, order.len())?;
-    for number in order {
-        let at = *number as usize;
-        if let (Some(player), Some(job)) = (players.get_mut(at), jobs.get(at)) {
-            turns.push(turn_at(alloc, link, ids, player, job)?)?;
-        }
-    }
-    Ok(Played {
-        outcomes: outcomes_of(alloc, players)?,
-        turns,
-    })
+    let mut runner = Runner::new(alloc, jobs)?;
+    play(&mut runner, link, ids, moment, order)?;
+    runner.into_played()
 }

@@ -1,0 +1,76 @@
+use mir.Val.{SFits}
+use Rattle.std.proofs.Common.{◌≡◌, ◌∙◌, w64, to_z, of_z, ap, subst, sym, rules}
+use Rattle.std.proofs.lemmas.Int.{to_z-of_z}
+use Rattle.mg_link.specs.Follow.{Moved}
+use Rattle.mg_change.specs.Closings.{IsQuiet, KnewBy, closes_to, closing_in, left_of}
+use Rattle.mg_change.specs.declared.closing.Flight.{Flight}
+use Rattle.mg_change.specs.declared.closing.Flight.TheVariants as flight
+use Rattle.mg_change.proofs.Closed.{closes_on, flies_as, tickets_through}
+use Rattle.mg_change.proofs.closing.ClosingAction.poll.Goals as goal
+use Rattle.mg_change.proofs.closing.ClosingAction.poll.Goals.{After-go_on-in-Older}
+use Rattle.mg_change.proofs.closing.ClosingAction.poll.Given.{Over}
+
+pub returns-in-Landed-clause-moved : goal.returns-in-Landed-clause-moved
+returns-in-Landed-clause-moved g c = λ is f knew.
+    subst (λ (x : Flight). Moved (g.L.Link.log c.args.link.now) (g.L.Link.log c.kill_all.new.link) (closing_in (g.L.Link.awaited c.args.link.now) x (left_of f c.args.self.remains)) (closes_to (g.L.Link.awaited c.kill_all.new.link) f c.kill_all.result)) (sym c.in-Landed.is)
+    (c.kill_all.ensures.moved f)
+
+pub returns-in-More-clause-tickets : goal.returns-in-More-clause-tickets
+returns-in-More-clause-tickets g c = tickets_through _ _ _ (flight.More c.in-More.get_more c.in-More.exec) c.args.self.flight _ _ c.in-More.is c.land_more-landing.ensures.tickets c.go_on.ensures.tickets
+
+pub returns-in-More-clause-closes : goal.returns-in-More-clause-closes
+returns-in-More-clause-closes g c = λ is.
+    c.go_on.ensures.closes _ (c.land_more-landing.ensures.lands is.kept (flies_as _ c.args.self.remains (flight.More c.in-More.get_more c.in-More.exec) c.args.self.flight c.in-More.is is.flies))
+
+pub returns-in-More-clause-moved : goal.returns-in-More-clause-moved
+returns-in-More-clause-moved g c = λ is f knew.
+    let p = flight.More c.in-More.get_more c.in-More.exec in
+    closes_on _ _ _ _ _ _ f c.args.self.remains p c.args.self.flight c.land_more-landing.result c.go_on.result c.in-More.is
+    (c.land_more-landing.ensures.moved is.kept (flies_as _ c.args.self.remains p c.args.self.flight c.in-More.is is.flies) f) (c.go_on.ensures.moved f)
+
+pub returns-in-Resumption-clause-closes : goal.returns-in-Resumption-clause-closes
+returns-in-Resumption-clause-closes g c = λ is.
+    c.go_on-in-Resumption.ensures.closes _ (c.land_resumption-landing.ensures.lands is.kept (flies_as _ c.args.self.remains (flight.Resumption c.in-Resumption.exec) c.args.self.flight c.in-Resumption.is is.flies))
+
+pub returns-in-Resumption-clause-moved : goal.returns-in-Resumption-clause-moved
+returns-in-Resumption-clause-moved g c = λ is f knew.
+    let p = flight.Resumption c.in-Resumption.exec in
+    closes_on _ _ _ _ _ _ f c.args.self.remains p c.args.self.flight c.land_resumption-landing.result c.go_on-in-Resumption.result c.in-Resumption.is
+    (c.land_resumption-landing.ensures.moved is.kept (flies_as _ c.args.self.remains p c.args.self.flight c.in-Resumption.is is.flies) f (subst (λ (x : Flight). KnewBy x c.args.self.remains.aggregate f) c.in-Resumption.is knew)) (c.go_on-in-Resumption.ensures.moved f)
+
+-- the flight, by the id that was handed on
+abbrev older_flight : (g : Over) → After-go_on-in-Older g → Flight
+older_flight g c = flight.Older c.in-Older.exec (to_z w64 (of_z w64 c.in-Older.old))
+
+older_is : (g : Over) (c : After-go_on-in-Older g) → c.args.self.flight ≡ older_flight g c
+older_is g c =
+    let fits : SFits w64 c.in-Older.old = search rules in
+    c.in-Older.is ∙ ap (flight.Older c.in-Older.exec) (sym (to_z-of_z w64 c.in-Older.old fits))
+
+pub returns-in-Older-clause-tickets : goal.returns-in-Older-clause-tickets
+returns-in-Older-clause-tickets g c = tickets_through _ _ _ (older_flight g c) c.args.self.flight _ _ (older_is g c) c.land_older-landing.ensures.tickets c.go_on-in-Older.ensures.tickets
+
+pub returns-in-Older-clause-closes : goal.returns-in-Older-clause-closes
+returns-in-Older-clause-closes g c = λ is.
+    c.go_on-in-Older.ensures.closes _ (c.land_older-landing.ensures.lands is.kept (flies_as _ c.args.self.remains (older_flight g c) c.args.self.flight (older_is g c) is.flies))
+
+pub returns-in-Older-clause-moved : goal.returns-in-Older-clause-moved
+returns-in-Older-clause-moved g c = λ is f knew.
+    let p = older_flight g c in
+    closes_on _ _ _ _ _ _ f c.args.self.remains p c.args.self.flight c.land_older-landing.result c.go_on-in-Older.result (older_is g c)
+    (c.land_older-landing.ensures.moved (flies_as _ c.args.self.remains p c.args.self.flight (older_is g c) is.flies) f) (c.go_on-in-Older.ensures.moved f)
+
+pub returns-in-Last-clause-moved : goal.returns-in-Last-clause-moved
+returns-in-Last-clause-moved g c = λ is f knew.
+    let p = flight.Last c.in-Last.exec in
+    subst (λ (x : Flight). Moved (g.L.Link.log c.args.link.now) (g.L.Link.log c.wait.new.link) (closing_in (g.L.Link.awaited c.args.link.now) x (left_of f c.args.self.remains)) (closes_to (g.L.Link.awaited c.wait.new.link) f c.wait.result)) (sym c.in-Last.is)
+    (c.wait.ensures.moved (flies_as _ c.args.self.remains p c.args.self.flight c.in-Last.is is.flies) f)
+
+pub returns-in-More-clause-quiet : goal.returns-in-More-clause-quiet
+returns-in-More-clause-quiet g c = λ q. absurd (subst (λ (x : Flight). IsQuiet x) c.in-More.is q)
+
+pub returns-in-Resumption-clause-quiet : goal.returns-in-Resumption-clause-quiet
+returns-in-Resumption-clause-quiet g c = λ q. absurd (subst (λ (x : Flight). IsQuiet x) c.in-Resumption.is q)
+
+pub returns-in-Older-clause-quiet : goal.returns-in-Older-clause-quiet
+returns-in-Older-clause-quiet g c = λ q. absurd (subst (λ (x : Flight). IsQuiet x) c.in-Older.is q)

@@ -1,0 +1,30 @@
+use Rattle.std.proofs.Common.{refl, false}
+use Rattle.mg_link.specs.Namespace.{space}
+use Rattle.mg_ops.specs.Commands.{get_more_command}
+use Rattle.mg_change.proofs.Garbled.{carries_on, still_waits}
+use Rattle.mg_change.proofs.Closed.{fail_lands, fail_to, more_flown, more_lands, more_to}
+use Rattle.mg_change.proofs.closing.land_more.Goals as goal
+
+pub returns-in-Pending-clause-lands : goal.returns-in-Pending-clause-lands
+returns-in-Pending-clause-lands g c = λ kept is.
+    let r = c.args.remains in
+    let command = get_more_command r.cursor.id (space r.cursor.ns) r.cursor.batch_size in
+    let carries = carries_on c.args.exec c.in-Pending.exec command false (still_waits _ _ _ _ _ c.args.exec c.in-Pending.exec c.in-Pending.ensures.runs) is.carries in
+    (record { kept = kept; flies = record { carries = carries; held = is.held; alone = is.alone } }, refl)
+
+pub returns-in-Pending-clause-moved : goal.returns-in-Pending-clause-moved
+returns-in-Pending-clause-moved g c = λ kept is f. more_flown _ _ _ _ _ f c.args.remains c.args.exec _ c.in-Pending.ensures.runs c.args.get_more kept is
+
+pub returns-in-Done-clause-lands : goal.returns-in-Done-clause-lands
+returns-in-Done-clause-lands g c = λ kept is. more_lands _ c.args.remains c.in-Done.reply c.more_came.result c.more_came.ensures.leaves kept
+
+pub returns-in-Done-clause-moved : goal.returns-in-Done-clause-moved
+returns-in-Done-clause-moved g c = λ kept is f.
+    let m = more_flown _ _ _ _ _ f c.args.remains c.args.exec _ c.in-Done.ensures.runs c.args.get_more kept is in
+    more_to _ _ _ _ f c.args.remains c.in-Done.reply c.more_came.result is.alone c.more_came.ensures.leaves m.0 m.1
+
+pub returns-in-Failed-clause-lands : goal.returns-in-Failed-clause-lands
+returns-in-Failed-clause-lands g c = λ kept is. fail_lands _ c.args.remains c.more_failed.result c.more_failed.ensures.leaves kept
+
+pub returns-in-Failed-clause-moved : goal.returns-in-Failed-clause-moved
+returns-in-Failed-clause-moved g c = λ kept is f. fail_to _ _ _ _ f c.args.remains c.more_failed.result c.more_failed.ensures.leaves (more_flown _ _ _ _ _ f c.args.remains c.args.exec _ c.in-Failed.ensures.runs c.args.get_more kept is).lost

@@ -1,0 +1,27 @@
+use mir.Val.{SFits}
+use Rattle.std.proofs.Common.{refl, w64, rules}
+use Rattle.std.proofs.lemmas.Int.{to_z-of_z}
+use Rattle.mg_change.proofs.Garbled.{still_waits}
+use Rattle.mg_change.proofs.Closed.{lost_lands, lost_to, older_ran, older_still, older_waits}
+use Rattle.mg_change.proofs.closing.land_older.Goals as goal
+
+pub returns-in-Pending-clause-lands : goal.returns-in-Pending-clause-lands
+returns-in-Pending-clause-lands g c = λ kept is.
+    let fits : SFits w64 c.args.old = search rules in
+    let waits = still_waits _ _ _ _ _ c.args.exec c.in-Pending.exec c.in-Pending.ensures.runs in
+    (record { kept = kept; flies = older_still c.args.exec c.in-Pending.exec c.args.remains c.args.old _ (to_z-of_z w64 c.args.old fits) waits is }, refl)
+
+pub returns-in-Pending-clause-moved : goal.returns-in-Pending-clause-moved
+returns-in-Pending-clause-moved g c = λ is f. older_waits _ _ _ _ _ f c.args.remains c.args.exec c.in-Pending.exec c.args.old _ is c.in-Pending.ensures.runs
+
+pub returns-in-Done-clause-lands : goal.returns-in-Done-clause-lands
+returns-in-Done-clause-lands g c = λ kept is. (kept, refl)
+
+pub returns-in-Done-clause-moved : goal.returns-in-Done-clause-moved
+returns-in-Done-clause-moved g c = λ is f. older_ran _ _ _ _ _ f c.args.remains c.args.exec _ c.poll.ensures.runs c.args.old is
+
+pub returns-clause-lands : goal.returns-clause-lands
+returns-clause-lands g c = λ kept is. lost_lands _ c.args.remains c.passed.result c.passed.ensures.leaves kept
+
+pub returns-clause-moved : goal.returns-clause-moved
+returns-clause-moved g c = λ is f. lost_to _ _ _ _ f c.args.remains c.passed.result c.passed.ensures.leaves (older_ran _ _ _ _ _ f c.args.remains c.args.exec _ c.poll.ensures.runs c.args.old is)

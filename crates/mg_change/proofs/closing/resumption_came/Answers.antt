@@ -1,0 +1,9 @@
+use mir.Val.{SFits}
+use Rattle.std.proofs.Common.{ℤ, ap, inr, w64, rules}
+use Rattle.std.proofs.lemmas.Int.{to_z-of_z}
+use Rattle.mg_change.proofs.closing.resumption_came.Goals as goal
+
+pub returns-in-Ok-clause-leaves : goal.returns-in-Ok-clause-leaves
+returns-in-Ok-clause-leaves c =
+    let fits : SFits w64 c.in-Ok.opened.info.id = search rules in
+    inr ((c.in-Ok.opened, c.in-Ok.field-0-1), c.in-Ok.ensures.ok, ap (λ (id : ℤ). record c.args.remains { opened = id }) (to_z-of_z w64 c.in-Ok.opened.info.id fits))

@@ -1,0 +1,31 @@
+use Rattle.std.proofs.Common.{Option, sym, subst, refl}
+use Rattle.mg_link.specs.Exec.{Sending}
+use Rattle.mg_link.specs.Follow.{Follow, Moved}
+use Rattle.mg_link.proofs.Moves.{stayed}
+use Rattle.mg_change.specs.Following.{not_open, opening_in}
+use Rattle.mg_change.specs.Openings.{OpeningMoves}
+use Rattle.mg_change.proofs.Opened.{next_follow, next_keeps, next_opening}
+use Rattle.mg_change.proofs.OpeningSends as sends
+use Rattle.mg_change.proofs.opening.OpeningAction.poll.Goals as goal
+
+pub returns-in-Ok-clause-keeps : goal.returns-in-Ok-clause-keeps
+returns-in-Ok-clause-keeps g c = next_keeps c.args.self.aggregate _ c.args.self.exec c.in-Ok.exec c.wait.result c.in-Ok.ensures.ok c.wait.ensures.keeps
+
+pub returns-in-Ok-clause-moved : goal.returns-in-Ok-clause-moved
+returns-in-Ok-clause-moved g c = λ o w start asks.
+    subst (λ (f : Follow). OpeningMoves (g.L.Link.awaited c.wait.new.link) (g.L.Link.log c.args.link.now) (g.L.Link.log c.wait.new.link) f w start c.wait.result)
+    (next_follow c.args.self.aggregate _ c.args.self.exec c.in-Ok.exec (g.L.Link.awaited c.args.link.now) w start c.in-Ok.ensures.ok)
+    (c.wait.ensures.moved (next_opening c.args.self.aggregate _ c.args.self.exec c.in-Ok.exec c.in-Ok.ensures.ok o) w start asks)
+
+pub returns-in-Err-clause-moved : goal.returns-in-Err-clause-moved
+returns-in-Err-clause-moved g c = λ o w start asks.
+    subst (λ (e : Option Sending). Moved (g.L.Link.log c.args.link.now) (g.L.Link.log c.args.link.now) (opening_in (g.L.Link.awaited c.args.link.now) e w start) (not_open w start)) (sym c.in-Err.ensures.none)
+    (stayed (g.L.Link.log c.args.link.now) (g.L.Link.log c.args.link.now) (not_open w start) refl)
+
+pub returns-in-Ok-clause-sent : goal.returns-in-Ok-clause-sent
+returns-in-Ok-clause-sent g c = λ o.
+    sends.next_sends c.args.self.aggregate _ c.args.self.exec c.in-Ok.exec (g.L.Link.log c.args.link.now) (g.L.Link.log c.wait.new.link) c.wait.result c.in-Ok.ensures.ok
+    (c.wait.ensures.sent (next_opening c.args.self.aggregate _ c.args.self.exec c.in-Ok.exec c.in-Ok.ensures.ok o))
+
+pub returns-in-Err-clause-sent : goal.returns-in-Err-clause-sent
+returns-in-Err-clause-sent g c = λ o. sends.opening_unsent c.args.self.aggregate.args c.args.self.exec (g.L.Link.log c.args.link.now) c.in-Err.error c.in-Err.ensures.none

@@ -1,0 +1,31 @@
+use mir.Val.{SFits}
+use Rattle.std.proofs.Common.{◌≡◌, ℤ, w32, ap, refl, sym, subst, ◌∙◌, rules}
+use Rattle.std.specs.Prelude.{is_some}
+use Rattle.std.proofs.lemmas.Int.{to_z-of_z}
+use Rattle.mg_ops.specs.Resuming.{saved_time}
+use Rattle.mg_bson.specs.Raw.{fields}
+use Rattle.mg_change.specs.Phases.{SavedFor}
+use Rattle.mg_change.specs.declared.stream.Phase.TheVariants as phase
+use Rattle.mg_change.proofs.Opened.{saved_for}
+use Rattle.mg_change.proofs.Reading.{named_read}
+use Rattle.mg_change.proofs.opening.stream_of.Goals as goal
+
+pub returns-clause-ok : goal.returns-clause-ok
+returns-clause-ok c =
+    let o = c.in_ok-opened.ensures.ok.opens in
+    let fits : SFits w32 c.args.wire = search rules in
+    let time : c.in_ok-data.data.initial_operation_time ≡ saved_time c.args.aggregate.args.options c.args.wire c.in_ok-opened.opened.is_empty (is_some c.in_ok-opened.opened.post_batch_resume_token) c.in_ok-opened.time =
+    c.in_ok-data.ensures.time ∙ ap (λ (w : ℤ). saved_time c.args.aggregate.args.options w c.in_ok-opened.opened.is_empty (is_some c.in_ok-opened.opened.post_batch_resume_token) c.in_ok-opened.time) (to_z-of_z w32 c.args.wire fits) in
+    record {
+      phase_is = ap phase.First o.whole;
+      args_is = refl;
+      batch = o.batch;
+      says = o.says;
+      is_empty = c.in_ok-opened.opened.is_empty;
+      empty = o.first;
+      begins = c.in_ok-data.ensures.token;
+      kept = record {
+        saved = subst (SavedFor c.args.aggregate.args.options) (sym time) (saved_for c.args.aggregate.args.options c.args.wire c.in_ok-opened.opened.is_empty (is_some c.in_ok-opened.opened.post_batch_resume_token) c.in_ok-opened.time);
+        named = named_read (fields c.args.reply) _ o.says;
+      };
+    }

@@ -1,0 +1,43 @@
+use Rattle.std.proofs.Common.{true, refl, subst, sym}
+use Rattle.mg_change.specs.Phases.{AtRest}
+use Rattle.mg_change.specs.Openings.{opening_command}
+use Rattle.mg_change.proofs.Garbled.{carries_on, still_waits}
+use Rattle.mg_change.proofs.Opened.{opened_sound, opening_came, opening_failed, opening_lost, opening_waits}
+use Rattle.mg_change.proofs.OpeningSends as sends
+use Rattle.mg_change.proofs.opening.wait.Goals as goal
+
+pub returns-in-Pending-clause-keeps : goal.returns-in-Pending-clause-keeps
+returns-in-Pending-clause-keeps g c = (
+  λ o. record {
+    first = o.first;
+    sent = carries_on c.args.exec c.in-Pending.exec (opening_command c.args.aggregate.args) true (still_waits _ _ _ _ _ c.args.exec c.in-Pending.exec c.in-Pending.ensures.runs) o.sent;
+  },
+  refl,
+)
+
+pub returns-in-Pending-clause-moved : goal.returns-in-Pending-clause-moved
+returns-in-Pending-clause-moved g c = λ o w start asks. opening_waits c.args.aggregate.args w start _ _ _ _ _ c.args.exec asks o.sent c.in-Pending.exec c.in-Pending.ensures.runs
+
+pub returns-in-Ok-clause-keeps : goal.returns-in-Ok-clause-keeps
+returns-in-Ok-clause-keeps g c = (c.in-Ok.ensures.ok.args_is, opened_sound c.args.aggregate.args c.in-Done.reply c.in-Ok.stream c.in-Ok.ensures.ok, subst AtRest (sym c.in-Ok.ensures.ok.phase_is) tt)
+
+pub returns-in-Ok-clause-moved : goal.returns-in-Ok-clause-moved
+returns-in-Ok-clause-moved g c = λ o w start asks. opening_came c.args.aggregate.args w start _ _ _ _ _ c.args.exec asks o.sent c.in-Done.reply c.in-Ok.stream c.in-Ok.ensures.ok c.in-Done.ensures.runs
+
+pub returns-in-Err-clause-moved : goal.returns-in-Err-clause-moved
+returns-in-Err-clause-moved g c = λ o w start asks. opening_lost c.args.aggregate.args w start _ _ _ _ _ c.args.exec asks o.sent c.in-Done.reply c.in-Done.ensures.runs
+
+pub returns-in-Failed-clause-moved : goal.returns-in-Failed-clause-moved
+returns-in-Failed-clause-moved g c = λ o w start asks. opening_failed c.args.aggregate.args w start _ _ _ _ _ c.args.exec asks o.sent c.in-Failed.error c.in-Failed.ensures.runs
+
+pub returns-in-Pending-clause-sent : goal.returns-in-Pending-clause-sent
+returns-in-Pending-clause-sent g c = λ o. sends.opening_held c.args.aggregate.args _ _ _ _ _ c.args.exec o.sent _ c.in-Pending.exec refl c.in-Pending.ensures.runs
+
+pub returns-in-Ok-clause-sent : goal.returns-in-Ok-clause-sent
+returns-in-Ok-clause-sent g c = λ o. sends.opening_done c.args.aggregate.args _ _ _ _ _ c.args.exec o.sent c.poll.result c.in-Ok.stream c.poll.ensures.runs
+
+pub returns-in-Err-clause-sent : goal.returns-in-Err-clause-sent
+returns-in-Err-clause-sent g c = λ o. sends.opening_fails c.args.aggregate.args _ _ _ _ _ c.args.exec o.sent c.poll.result c.in-Err.error c.poll.ensures.runs
+
+pub returns-in-Failed-clause-sent : goal.returns-in-Failed-clause-sent
+returns-in-Failed-clause-sent g c = λ o. sends.opening_fails c.args.aggregate.args _ _ _ _ _ c.args.exec o.sent c.poll.result c.in-Failed.error c.poll.ensures.runs

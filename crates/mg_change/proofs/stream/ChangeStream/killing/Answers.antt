@@ -1,0 +1,33 @@
+use Rattle.std.proofs.Common.{[], w64, to_z, of_z}
+use Rattle.std.proofs.lemmas.Int.{to_z-of_z}
+use Rattle.mg_change.specs.Following.{step_told}
+use Rattle.mg_change.proofs.Hearing as hearing
+use Rattle.mg_change.proofs.Turning as turning
+use Rattle.mg_change.proofs.Sent as sending
+use Rattle.std.proofs.Common.{refl, arith}
+use Rattle.mg_change.proofs.stream.ChangeStream.killing.Goals as goal
+
+pub returns-in-Pending-clause-turned : goal.returns-in-Pending-clause-turned
+returns-in-Pending-clause-turned g c = hearing.killing_waits (g.L.Link.awaited c.args.link.now) (g.L.Link.awaited c.poll.new.link) (g.L.Link.log c.args.link.now) (g.L.Link.log c.poll.new.link) (g.L.Link.wire c.args.link.now) c.args.self.now c.args.exec c.args.old c.args.reply c.requires.killing c.in-Pending.exec (to_z w64 (of_z w64 c.args.old)) (to_z-of_z w64 c.args.old c.ranges.old) c.in-Pending.ensures.runs
+
+pub returns-in-Done-clause-turned : goal.returns-in-Done-clause-turned
+returns-in-Done-clause-turned g c =
+    hearing.killing_ended (g.L.Link.awaited c.args.link.now) (g.L.Link.awaited c.poll.new.link) (g.L.Link.log c.args.link.now) (g.L.Link.log c.poll.new.link) (g.L.Link.wire c.args.link.now) c.args.self.now c.args.exec c.args.old c.args.reply c.requires.killing c.poll.result _ [] c.poll.ensures.runs
+    (turning.resumed_stays c.args.self.now c.args.reply)
+
+pub returns-clause-sound : goal.returns-clause-sound
+returns-clause-sound g c = c.kill_failed.ensures.sound (g.L.Link.wire c.poll.new.link)
+
+pub returns-clause-turned : goal.returns-clause-turned
+returns-clause-turned g c =
+    hearing.killing_ended (g.L.Link.awaited c.args.link.now) (g.L.Link.awaited c.poll.new.link) (g.L.Link.log c.args.link.now) (g.L.Link.log c.poll.new.link) (g.L.Link.wire c.args.link.now) c.args.self.now c.args.exec c.args.old c.args.reply c.requires.killing c.poll.result c.kill_failed.new.self (step_told c.kill_failed.result) c.poll.ensures.runs
+    c.kill_failed.ensures.turned
+
+pub returns-in-Pending-clause-sent : goal.returns-in-Pending-clause-sent
+returns-in-Pending-clause-sent g c = sending.killing_waits (g.L.Link.awaited c.args.link.now) (g.L.Link.awaited c.poll.new.link) (g.L.Link.log c.args.link.now) (g.L.Link.log c.poll.new.link) (g.L.Link.wire c.args.link.now) c.args.self.now c.args.exec c.args.old c.args.reply c.requires.killing c.in-Pending.exec (to_z w64 (of_z w64 c.args.old)) c.in-Pending.ensures.runs
+
+pub returns-in-Done-clause-sent : goal.returns-in-Done-clause-sent
+returns-in-Done-clause-sent g c = sending.killing_goes_on (g.L.Link.awaited c.args.link.now) (g.L.Link.awaited c.poll.new.link) (g.L.Link.log c.args.link.now) (g.L.Link.log c.poll.new.link) (g.L.Link.wire c.args.link.now) c.args.self.now c.args.exec c.args.old c.args.reply c.requires.killing c.poll.result _ _ c.poll.ensures.runs (sending.quiet_resumed c.args.self.now c.args.reply) tt
+
+pub returns-clause-sent : goal.returns-clause-sent
+returns-clause-sent g c = sending.killing_goes_on (g.L.Link.awaited c.args.link.now) (g.L.Link.awaited c.poll.new.link) (g.L.Link.log c.args.link.now) (g.L.Link.log c.poll.new.link) (g.L.Link.wire c.args.link.now) c.args.self.now c.args.exec c.args.old c.args.reply c.requires.killing c.poll.result c.kill_failed.new.self c.kill_failed.result c.poll.ensures.runs c.kill_failed.ensures.quiet c.kill_failed.ensures.at_once

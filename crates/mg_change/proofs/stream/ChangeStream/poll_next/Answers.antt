@@ -1,0 +1,47 @@
+use Rattle.std.proofs.Common.{◌≡◌, [], sym, subst, ap, ◌∙◌}
+use Rattle.mg_change.specs.Following.{Turned, event_told}
+use Rattle.mg_change.specs.Rows.{Ends}
+use Rattle.mg_change.specs.declared.event_poll.Stepped.TheVariants as stepped
+use Rattle.mg_link.proofs.Onward.{later_on, later_same, tickets_on, tickets_same}
+use Rattle.mg_change.specs.Phases.{ticket_in}
+use Rattle.mg_change.proofs.Hearing as hearing
+use Rattle.mg_change.proofs.Seeking as seeking
+use Rattle.mg_change.proofs.stream.ChangeStream.poll_next.Goals as goal
+
+pub steps-init : goal.steps-init
+steps-init g c =
+    record {
+      tickets = tickets_same (g.L.Link.awaited c.args.link.now) (ticket_in c.args.self.now.phase) c.requires.held;
+      later = later_same (g.L.Link.faults c.args.link.now) (g.L.Link.pends c.args.link.now) (g.L.Link.wire c.args.link.now) (g.L.Link.prompt c.args.link.now);
+      sound = c.requires.sound;
+      turned = hearing.turned_none (g.L.Link.awaited c.args.link.now) (g.L.Link.log c.args.link.now) c.args.self.now;
+    }
+
+pub steps-preserved : goal.steps-preserved
+steps-preserved g c =
+    record {
+      tickets = tickets_on c.steps.invariant.tickets c.in-Goes.ensures.tickets;
+      later = later_on c.steps.invariant.later c.in-Goes.ensures.later;
+      sound = c.in-Goes.ensures.sound;
+      turned =
+          hearing.turned_on (g.L.Link.awaited c.args.link.now) (g.L.Link.awaited c.steps.link) (g.L.Link.awaited c.seek.new.link)
+          (g.L.Link.log c.args.link.now) (g.L.Link.log c.steps.link) (g.L.Link.log c.seek.new.link)
+          c.args.self.now c.steps.self c.seek.new.self [] c.steps.invariant.turned c.in-Goes.ensures.turned;
+    }
+
+pub returns-in-Gives-clause-sound : goal.returns-in-Gives-clause-sound
+returns-in-Gives-clause-sound g c = seeking.sound_counting (g.L.Link.wire c.seek.new.link) c.seek.new.self c.leave.new.self c.leave.ensures.stays c.in-Gives.ensures.sound
+
+pub returns-in-Gives-clause-ended : goal.returns-in-Gives-clause-ended
+returns-in-Gives-clause-ended g c =
+    subst (λ p. Ends p c.leave.new.self) (sym c.leave.ensures.answer)
+    (seeking.ends_counting (stepped.Gives c.in-Gives.poll) c.seek.new.self c.leave.new.self c.leave.ensures.stays c.in-Gives.ensures.ended)
+
+pub returns-in-Gives-clause-moved : goal.returns-in-Gives-clause-moved
+returns-in-Gives-clause-moved g c =
+    let t = hearing.turned_on (g.L.Link.awaited c.args.link.now) (g.L.Link.awaited c.steps.link) (g.L.Link.awaited c.seek.new.link)
+    (g.L.Link.log c.args.link.now) (g.L.Link.log c.steps.link) (g.L.Link.log c.seek.new.link)
+    c.args.self.now c.steps.self c.seek.new.self (event_told c.in-Gives.poll) c.steps.invariant.turned c.in-Gives.ensures.turned in
+    let u = seeking.turned_counting (g.L.Link.awaited c.args.link.now) (g.L.Link.awaited c.seek.new.link) (g.L.Link.log c.args.link.now) (g.L.Link.log c.seek.new.link)
+    c.args.self.now.phase c.args.self.now c.seek.new.self c.leave.new.self (event_told c.in-Gives.poll) c.leave.ensures.stays t in
+    (subst (λ p. Turned (g.L.Link.awaited c.args.link.now) (g.L.Link.awaited c.seek.new.link) (g.L.Link.log c.args.link.now) (g.L.Link.log c.seek.new.link) c.args.self.now.phase c.args.self.now c.leave.new.self (event_told p)) (sym c.leave.ensures.answer) u).moved

@@ -1,0 +1,35 @@
+use Rattle.std.proofs.Common.{◌≢◌, [], ap, w64, of_z}
+use Rattle.mg_change.specs.Following.{event_told}
+use Rattle.mg_change.proofs.Turning as turning
+use Rattle.mg_change.proofs.Sent as sending
+use Rattle.mg_change.proofs.stream.ChangeStream.rest.Goals as goal
+
+pub returns-then-not-is_empty-clause-turned : goal.returns-then-not-is_empty-clause-turned
+returns-then-not-is_empty-clause-turned c =
+    let some : c.args.self.now.buffer.items ≢ [] = turning.some_items c.args.self.now.buffer.items c.args.self.now.buffer.len c.is_empty.result c.args.self.now.buffer.ok.0 c.is_empty.ensures c.if-not-is_empty.true in
+    turning.from_fresh c.args.self.now c.take.new.self (event_told c.take.result) some (c.take.ensures.turned some)
+
+pub returns-then-self-eq0-clause-turned : goal.returns-then-self-eq0-clause-turned
+returns-then-self-eq0-clause-turned c = turning.rests c.args.self.now
+
+pub returns-in-Ok-clause-sound : goal.returns-in-Ok-clause-sound
+returns-in-Ok-clause-sound c = λ w same.
+    record {
+      kept = c.requires.kept;
+      sends = record {
+        carries = c.in-Ok.ensures.command;
+        held = λ none. c.if-self-eq0.false (ap (of_z w64) none);
+        empty = turning.no_items c.args.self.now.buffer.items c.args.self.now.buffer.len c.is_empty.result c.args.self.now.buffer.ok.0 c.is_empty.ensures c.if-not-is_empty.false;
+      };
+    }
+
+pub returns-in-Ok-clause-turned : goal.returns-in-Ok-clause-turned
+returns-in-Ok-clause-turned c =
+    turning.asks_next c.args.self.now c.in-Ok.get_more c.in-Ok.exec
+    (turning.no_items c.args.self.now.buffer.items c.args.self.now.buffer.len c.is_empty.result c.args.self.now.buffer.ok.0 c.is_empty.ensures c.if-not-is_empty.false) c.in-Ok.ensures.stage
+
+pub returns-in-Err-clause-turned : goal.returns-in-Err-clause-turned
+returns-in-Err-clause-turned c = turning.rests c.args.self.now
+
+pub returns-in-Ok-clause-quiet : goal.returns-in-Ok-clause-quiet
+returns-in-Ok-clause-quiet c = sending.quiet_asking c.args.self.now c.in-Ok.get_more c.in-Ok.exec

@@ -1,0 +1,12 @@
+use Rattle.std.proofs.Common.{ℕ, List, map, subst}
+use Rattle.mg_bson.specs.Raw.{fields}
+use Rattle.mg_change.specs.Batches.{HoldsBatch}
+use Rattle.mg_change.proofs.Turning as turning
+use Rattle.mg_change.proofs.stream.ChangeStream.resumed.Goals as goal
+
+pub returns-in-Ok-clause-turned : goal.returns-in-Ok-clause-turned
+returns-in-Ok-clause-turned c = turning.resumed_came c.args.self.now c.args.reply (record c.args.self.now { buffer = c.in-Ok.documents })
+    (subst (λ (b : List ℕ). HoldsBatch (fields b) (map fields c.in-Ok.documents.items)) c.as_raw.ensures c.in-Ok.ensures.ok)
+
+pub returns-clause-turned : goal.returns-clause-turned
+returns-clause-turned c = turning.resumed_lost c.args.self.now c.args.reply

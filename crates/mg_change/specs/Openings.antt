@@ -1,0 +1,70 @@
+-- The opening of a change stream.
+use Rattle.std.specs.Prelude.{◌≡◌, ◌↔◌, IsTrue, ℕ, ℤ, List, [], Bool, true, Option, Some, None, Ok}
+use Rattle.mg_bson.specs.Tree.{Fields, Items, no_items}
+use Rattle.mg_bson.specs.Raw.{fields}
+use Rattle.mg_link.specs.Exec.{Sending, unsent, ticket_of}
+use Rattle.mg_link.specs.Follow.{Follow, Moved}
+use Rattle.mg_link.specs.Link.{Awaited, Told}
+use Rattle.mg_link.specs.Namespace.{space, target}
+use Rattle.mg_link.specs.State.{Start, Watch}
+use Rattle.mg_link.specs.declared.action.Step.{Step}
+use Rattle.mg_link.specs.declared.action.Step.TheVariants as step
+use Rattle.mg_options.specs.Tokens.{first_token}
+use Rattle.mg_ops.specs.Commands.{watch_command}
+use Rattle.mg_ops.specs.Cursors.{cursor_of}
+use Rattle.mg_ops.specs.declared.aggregate.ChangeStreamAggregate.{ChangeStreamAggregate}
+use Rattle.mg_ops.specs.declared.change_stream.WatchArgs.{WatchArgs}
+use Rattle.mg_change.specs.declared.opening.Opening.{Opening}
+use Rattle.mg_change.specs.declared.stream.ChangeStream.{ChangeStream}
+use Rattle.mg_change.specs.declared.stream.Phase.TheVariants as phase
+use Rattle.mg_change.specs.Following.{follow_of, not_open, opening_in, token_of}
+use Rattle.mg_change.specs.Phases.{AtRest, Carries, IsKept, IsSound, resuming_command}
+
+abbrev pub exec_ticket : Option Sending → Option ℕ
+exec_ticket None = None
+exec_ticket (Some exec) = ticket_of exec
+
+abbrev pub opening_ticket : Opening → Option ℕ
+opening_ticket o = exec_ticket o.exec
+
+-- the aggregate that opens a watch
+abbrev pub opening_command : WatchArgs → Fields
+opening_command a = watch_command (target a.target) a.pipeline.items a.options
+
+-- the command in flight, where there is one, is the aggregate of the arguments
+abbrev pub IsSent : WatchArgs → Option Sending → Type 0
+IsSent a None = Unit {0}
+IsSent a (Some exec) = Carries exec (opening_command a) true
+
+-- nothing is remembered, and what is in flight is the aggregate of the arguments
+pub record IsOpening (a : ChangeStreamAggregate) (exec : Option Sending) : Type 0 where
+  pub first : a.resume ≡ None
+  pub sent : IsSent a.args exec
+
+-- the command that is sent next: the one in flight, or the aggregate
+abbrev pub IsNextSent : ChangeStreamAggregate → ℤ → Option Sending → Sending → Type 0
+IsNextSent a wire None exec = (exec.stage ≡ unsent) × Carries exec (resuming_command a wire) true
+IsNextSent a wire (Some sent) exec = exec ≡ sent
+
+-- a stream that was made of the reply to its opening
+pub record IsOpened (args : WatchArgs) (reply : List ℕ) (s : ChangeStream) : Type 0 where
+  pub phase_is : s.phase ≡ phase.First reply
+  pub args_is : s.aggregate.args ≡ args
+  pub batch : Items
+  pub says : cursor_of (fields reply) ≡ Ok (record { id = s.cursor.id; space = space s.cursor.ns; token = s.batch_token; batch = batch })
+  pub is_empty : Bool
+  pub empty : IsTrue is_empty ↔ (batch ≡ no_items)
+  pub begins : token_of s.aggregate.resume ≡ first_token args.options.start_after args.options.resume_after is_empty s.batch_token
+  pub kept : IsKept s.aggregate s.cursor
+
+-- what every poll of an opening keeps
+abbrev pub OpeningKeeps : ChangeStreamAggregate → Option Sending → Step Opening ChangeStream → Type 0
+OpeningKeeps a exec (step.Pending o) = (IsOpening a exec → IsOpening o.aggregate o.exec) × (o.aggregate.args ≡ a.args)
+OpeningKeeps a exec (step.Done s) = (s.aggregate.args ≡ a.args) × ((wire : ℤ) → IsSound wire s) × AtRest s.phase
+OpeningKeeps a exec (step.Failed e) = Unit {0}
+
+-- where a watch is behind a poll of its opening
+abbrev pub OpeningMoves : Awaited → Told → Told → Follow → Watch → Start → Step Opening ChangeStream → Type 0
+OpeningMoves new log log' f w start (step.Pending o) = Moved log log' f (opening_in new o.exec w start)
+OpeningMoves new log log' f w start (step.Done s) = (opened : Option ℕ) × Moved log log' f (follow_of new w start s opened [])
+OpeningMoves new log log' f w start (step.Failed e) = Moved log log' f (not_open w start)

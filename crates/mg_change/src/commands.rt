@@ -1,0 +1,70 @@
+//! The commands of a change stream, ready to be sent.
+ghost use Rattle.std.specs.Prelude.{◌≡◌, IfOk, IfErr, [], ◌∷◌, true, false};
+ghost use Rattle.mg_link.specs.Exec.{unsent};
+ghost use Rattle.mg_link.specs.Namespace.{space};
+ghost use Rattle.mg_ops.specs.Commands.{get_more_command, kill_command};
+ghost use Rattle.mg_change.specs.Phases.{Carries, resuming_command};
+ghost use Rattle.mg_change.specs.Polls.{IsNotIo};
+
+use mg_link::{Error, Exec, Namespace};
+use mg_ops::{ChangeStreamAggregate, CursorInformation, GetMore, KillCursors, Operation, encode};
+use std::alloc::Global;
+
+// The getMore of a cursor.
+pub(crate) fn ask(
+    alloc: Global,
+    cursor: &CursorInformation,
+    wire: i32,
+) -> Result<(GetMore, Exec), Error>
+    ensures stage { IfOk result (λ r. r.1.stage ≡ unsent) }
+    ensures command { IfOk result (λ r. Carries r.1 (get_more_command cursor.now.id (space cursor.now.ns) cursor.now.batch_size) false) }
+    ensures err { IfErr result IsNotIo }
+{
+    let get_more = GetMore {
+        ns: cursor.ns.clone()?,
+        id: cursor.id,
+        batch_size: cursor.batch_size,
+    };
+    let command = encode(alloc, &get_more, wire)?;
+    let exec = Exec::start(command, get_more.retry());
+    Ok((get_more, exec))
+}
+
+// The aggregate that resumes a stream.
+pub(crate) fn resume(
+    alloc: Global,
+    aggregate: &ChangeStreamAggregate,
+    wire: i32,
+) -> Result<Exec, Error>
+    ensures stage { IfOk result (λ e. e.stage ≡ unsent) }
+    ensures command { IfOk result (λ e. Carries e (resuming_command aggregate.now wire) true) }
+    ensures err { IfErr result IsNotIo }
+{
+    let command = encode(alloc, aggregate, wire)?;
+    Ok(Exec::start(command, aggregate.retry()))
+}
+
+// The killCursors of cursors of one namespace.
+pub(crate) fn kill(alloc: Global, ns: &Namespace, ids: Vec<i64>, wire: i32) -> Result<Exec, Error>
+    ensures stage { IfOk result (λ e. e.stage ≡ unsent) }
+    ensures command { IfOk result (λ e. Carries e (kill_command (space ns.now) ids.items) false) }
+    ensures err { IfErr result IsNotIo }
+{
+    let kill = KillCursors {
+        ns: ns.clone()?,
+        ids,
+    };
+    let command = encode(alloc, &kill, wire)?;
+    Ok(Exec::start(command, kill.retry()))
+}
+
+// The killCursors of one cursor.
+pub(crate) fn kill_one(alloc: Global, cursor: &CursorInformation, wire: i32) -> Result<Exec, Error>
+    ensures stage { IfOk result (λ e. e.stage ≡ unsent) }
+    ensures command { IfOk result (λ e. Carries e (kill_command (space cursor.now.ns) (cursor.now.id ∷ [])) false) }
+    ensures err { IfErr result IsNotIo }
+{
+    let mut ids = Vec::new(alloc);
+    ids.push(cursor.id)?;
+    kill(alloc, &cursor.ns, ids, wire)
+}

@@ -1,0 +1,340 @@
+-- What the jobs of a run know goes on to hold, turn by turn.
+use Rattle.std.proofs.Common.{◌≡◌, ◌≢◌, ◌⊎◌, ℕ, zero, suc, ℤ, pos, List, [], ◌∷◌, ◌++◌, Option, Some, None, refl, sym, ap, ◌∙◌, subst, inl, inr, length, map, arith, append_assoc, append-nil, length-append, ◌+◌, Result, Ok, Err, take}
+use Rattle.std.specs.Prelude.{slice_get, slice_set, IfOk}
+use Rattle.mg_link.specs.Acts.{IsOut, Tickets}
+use Rattle.mg_link.specs.Link.{Awaited, Told}
+use Rattle.mg_link.specs.Log.{Call}
+use Rattle.mg_link.specs.Follow.{Follow, Knows, owner_of}
+use Rattle.mg_link.specs.Owner.{Owner, Holds, IsOf, NamesItsOwn, Onward, Passes, nobody}
+use Rattle.mg_link.proofs.Apart.{holds_nobody, passes_same}
+use Rattle.mg_link.proofs.Plain.{PassesPlain}
+use Rattle.mg_link.proofs.Runs.{OwnsNothing, apart_after, apart_at_first, others_onward}
+use Rattle.mg_link.specs.Namespace.{target}
+use Rattle.mg_link.specs.State.{Start, Watch}
+use Rattle.mg_link.proofs.Answering.{knows_new}
+use Rattle.mg_change.specs.Following.{not_open}
+use Rattle.mg_jobs.specs.Plan as plan
+use Rattle.mg_jobs.specs.Plan.{Task, begin, task, tasks}
+use Rattle.mg_link.specs.declared.error.Error.{Error}
+use Rattle.mg_jobs.specs.declared.outcome.Played.{Played}
+use Rattle.mg_jobs.specs.declared.script.Job.{Job}
+use Rattle.mg_jobs.specs.Follows.{FollowKnows, FollowTurns, HasNothing, IsUnfinished, IsWatch, IsWatched, filter_in}
+use Rattle.mg_jobs.specs.Playing.{IsPlainJob, IsSameFollow}
+use Rattle.mg_jobs.specs.Headline.{AllFollowed, AllKnow, AllWatch, AreFirst, DoTasks, Does, IsFirst, IsSameTask, Knowing, Made, OutcomeFollowed, OutcomeOf, OutcomesOf, Plays, PlaysAt, Took, Turns, Watches}
+use Rattle.mg_jobs.specs.declared.player.FollowPlayer.{FollowPlayer}
+use Rattle.mg_jobs.specs.declared.player.Stage.{Stage}
+use Rattle.mg_jobs.specs.declared.player.Stage.TheVariants as stage
+use Rattle.mg_jobs.specs.Runs.{AreApart, Goes, job_ticket}
+use Rattle.mg_jobs.specs.declared.run.Player.{Player}
+use Rattle.mg_jobs.specs.declared.run.Player.TheVariants as player
+use Rattle.mg_jobs.proofs.Apart.{get_set_other, get_set_same, same_some, stays, which}
+use Rattle.std.proofs.lemmas.Bool.{cases_eq}
+use Rattle.std.proofs.lemmas.List.{length-map}
+use Rattle.mg_jobs.proofs.Turning.{kept_follow, outcome_followed, parts_knows, same_follow}
+use Rattle.mg_jobs.specs.declared.outcome.Outcome.{Outcome}
+use Rattle.mg_jobs.specs.declared.player.InsertPlayer.{InsertPlayer}
+
+get_past_other : {A : Type 0} (xs : List A) (k i : ℕ) (x y : A) → (i ≡ k → ⊥) → slice_get xs i ≡ Some x → slice_get (slice_set xs k y) i ≡ Some x
+get_past_other [] k i x y ne h = h
+get_past_other (z ∷ xs) zero zero x y ne h = absurd (ne refl)
+get_past_other (z ∷ xs) zero (suc i) x y ne h = h
+get_past_other (z ∷ xs) (suc k) zero x y ne h = h
+get_past_other (z ∷ xs) (suc k) (suc i) x y ne h = get_past_other xs k i x y (λ e. ne (ap suc e)) h
+
+same_player : (old new : Awaited) (calls : List Call) (p : Player) (o : Owner) → ((m : ℕ) → job_ticket p ≡ Some m → new m ≡ old m) → Plays old calls p o → Plays new calls p o
+same_player old new calls (player.Insert job) o same plays = plays
+same_player old new calls (player.Follow job) o same plays = same_follow old new calls job.stage job o same plays
+same_player old new calls player.Put o same plays = plays
+same_player old new calls player.Get o same plays = plays
+
+kept_player : (awaited : Awaited) (calls calls' : List Call) (p : Player) (o : Owner) → Onward calls calls' o → Plays awaited calls p o → Plays awaited calls' p o
+kept_player awaited calls calls' (player.Insert job) o onward plays = plays
+kept_player awaited calls calls' (player.Follow job) o onward plays = kept_follow awaited calls calls' job.stage job o onward plays
+kept_player awaited calls calls' player.Put o onward plays = plays
+kept_player awaited calls calls' player.Get o onward plays = plays
+
+module _ (old new : Awaited) (log log' : Told) (wire : ℤ) (players : List Player) (k : ℕ) (p p' : Player) (at : slice_get players k ≡ Some p) (apart : AreApart old wire players) (goes : Goes old new log log' wire p p') where
+  knowing_turn : (calls calls' : List Call) (all : AllKnow old calls players) (here : PlaysAt old calls p all.owners k) → Took new calls calls' p' here.owner → AllKnow new calls' (slice_set players k p')
+  knowing_turn calls calls' all here took =
+      record {
+        owners = slice_set all.owners k took.owner;
+        apart = apart_after calls calls' all.owners k here.owner took.owner here.there took.passes all.apart;
+        each = λ i a ha. elim (which old new log log' wire players k p p' at apart goes i a ha) [
+          | inl mine ↦ record {
+            owner = took.owner;
+            there = subst (λ n. slice_get (slice_set all.owners k took.owner) n ≡ Some took.owner) (sym mine.0) (get_set_same all.owners k here.owner took.owner here.there);
+            plays = subst (λ (x : Player). Plays new calls' x took.owner) mine.1 took.plays;
+          }
+          | inr other ↦
+              let was = all.each i a other.1 in
+              let onward = others_onward calls calls' all.owners k here.owner took.owner here.there took.passes all.apart i was.owner other.0 was.there in
+              record {
+                owner = was.owner;
+                there = get_past_other all.owners k i was.owner took.owner other.0 was.there;
+                plays = same_player old new calls' a was.owner (stays old new log log' wire players k p p' at apart goes i a other.0 other.1) (kept_player old calls calls' a was.owner onward was.plays);
+              }
+        ];
+      }
+
+  -- A run stands after the turn of one of its jobs.
+  pub knowing_on : (begun : Told) → Knowing old begun log players → Knowing new begun log' (slice_set players k p')
+  knowing_on begun knowing calls e =
+      let before = knowing calls e in
+      let here = before.2.each k p at in
+      let on = goes.turned before.0 before.1 here.owner here.plays in
+      (on.0, on.1, knowing_turn before.0 on.0 before.2 here on.2, λ made. on.2.passes.made (before.3 made))
+
+-- A run in which nothing was changed stands as before.
+pub knowing_same : (awaited awaited' : Awaited) (begun log log' : Told) (players players' : List Player) → awaited' ≡ awaited → log' ≡ log → players' ≡ players → Knowing awaited begun log players → Knowing awaited' begun log' players'
+knowing_same awaited awaited' begun log log' players players' a l p knowing calls e =
+    let before = knowing calls e in
+    (before.0, l ∙ before.1, subst (λ ps. AllKnow awaited' before.0 ps) (sym p) (subst (λ w. AllKnow w before.0 players) (sym a) before.2), before.3)
+
+-- ---- turns of each kind
+
+-- an insert names no cursor, and leaves every other job alone
+pub turned_insert : (old new : Awaited) (log log' : Told) (job job' : InsertPlayer) → (IsPlainJob job → PassesPlain log log' × IsPlainJob job') → Turns old new log log' (player.Insert job) (player.Insert job')
+turned_insert old new log log' job job' plain calls told o plays =
+    let on = plain plays.1 in
+    let m = on.0 calls told in
+    (m.0, m.1, record { owner = nobody; plays = (refl, on.1); passes = subst (λ (x : Owner). Passes calls m.0 x nobody) (sym plays.0) m.2 })
+
+pub turned_follow : (old new : Awaited) (log log' : Told) (job job' : FollowPlayer) → FollowTurns old new log log' job.stage job job'.stage job' → Turns old new log log' (player.Follow job) (player.Follow job')
+turned_follow old new log log' job job' turned calls told o plays =
+    let m = turned calls told o plays in
+    (m.0, m.1, record { owner = m.2.owner; plays = m.2.knows; passes = m.2.passes })
+
+holds_player : (awaited : Awaited) (calls : List Call) (p : Player) (o : Owner) → Plays awaited calls p o → Holds calls o
+holds_player awaited calls (player.Insert job) o plays = subst (Holds calls) (sym plays.0) (holds_nobody calls)
+holds_player awaited calls (player.Follow job) o plays = subst (Holds calls) (sym plays.owns) plays.knows.owned
+holds_player awaited calls player.Put o plays = subst (Holds calls) (sym plays) (holds_nobody calls)
+holds_player awaited calls player.Get o plays = subst (Holds calls) (sym plays) (holds_nobody calls)
+
+-- a job that does nothing
+pub turned_not : (awaited : Awaited) (log : Told) (p p' : Player) → ((calls : List Call) (o : Owner) → Plays awaited calls p o → Plays awaited calls p' o) → Turns awaited awaited log log p p'
+turned_not awaited log p p' knows calls told o plays = (calls, told, record { owner = o; plays = knows calls o plays; passes = passes_same calls o (holds_player awaited calls p o plays) })
+
+-- a job that found a place for its answer, and then took its turn
+pub turned_ready : (old new : Awaited) (log log' : Told) (p q p' : Player) → ((awaited : Awaited) (calls : List Call) (o : Owner) → Plays awaited calls p o → Plays awaited calls q o) → Turns old new log log' q p' → Turns old new log log' p p'
+turned_ready old new log log' p q p' knows turned calls told o plays = turned calls told o (knows old calls o plays)
+
+-- what differs at most in the room for answers knows the same
+pub same_knows : (f f' : FollowPlayer) → IsSameFollow f f' → (awaited : Awaited) (calls : List Call) (o : Owner) → FollowKnows awaited calls f.stage f o → FollowKnows awaited calls f'.stage f' o
+same_knows f f' same awaited calls o k =
+    subst (λ s. FollowKnows awaited calls s f' o) (sym same.stage_same) (parts_knows awaited calls f.stage f f' o (record { watched = same.watched_same; opened = same.opened_same; answers = same.answers_same; token = same.token_same }) k)
+
+-- ---- at first
+
+get_map : {A B : Type 0} (f : A → B) (xs : List A) (i : ℕ) (x : A) → slice_get xs i ≡ Some x → slice_get (map f xs) i ≡ Some (f x)
+get_map f [] i x h = absurd cc
+get_map f (y ∷ ys) zero x h = ap (λ z. Some (f z)) (same_some y x h)
+get_map f (y ∷ ys) (suc i) x h = get_map f ys i x h
+
+get_mapped : {A B : Type 0} (f : A → B) (xs : List A) (i : ℕ) (z : B) → slice_get (map f xs) i ≡ Some z → (x : A) × (f x ≡ z)
+get_mapped f [] i z h = absurd cc
+get_mapped f (y ∷ ys) zero z h = (y, same_some (f y) z h)
+get_mapped f (y ∷ ys) (suc i) z h = get_mapped f ys i z h
+
+-- what a job is to the others before it has done anything
+abbrev first_owner : Player → Owner
+first_owner (player.Insert job) = nobody
+first_owner (player.Follow job) = record { ids = pos 0 ∷ pos 0 ∷ []; coming = None ∷ [] }
+first_owner player.Put = nobody
+first_owner player.Get = nobody
+
+owns_none : OwnsNothing nobody
+owns_none = record { ids = λ x of. absurd of; coming = λ k of. absurd of }
+
+owns_zero : OwnsNothing (record { ids = pos 0 ∷ pos 0 ∷ []; coming = None ∷ [] })
+owns_zero =
+    record {
+      ids = λ x of. elim of [ inl e ↦ sym e | inr more ↦ elim more [ inl e ↦ sym e | inr none ↦ absurd none ] ];
+      coming = λ k of. elim of [ inl e ↦ let bad : None ≡ Some k = e in absurd cc | inr none ↦ none ];
+    }
+
+owns_first : (p : Player) → OwnsNothing (first_owner p)
+owns_first (player.Insert job) = owns_none
+owns_first (player.Follow job) = owns_zero
+owns_first player.Put = owns_none
+owns_first player.Get = owns_none
+
+at_first : (awaited : Awaited) (calls : List Call) (s : Stage) (p : FollowPlayer) (w : Watch) (start : Start) → s ≡ stage.Unopened → IsUnfinished p.opened → HasNothing p → IsWatched p.watched w start → FollowKnows awaited calls s p (record { ids = pos 0 ∷ pos 0 ∷ []; coming = None ∷ [] })
+at_first awaited calls stage.Unopened p w start is unfinished nothing watched =
+    record {
+      watch = w;
+      start = start;
+      opened = None;
+      watches = watched;
+      asks = tt;
+      knows = knows_new calls (not_open w start) refl (record { none_answered = refl; no_cursor = refl; no_old = refl });
+      owns = refl;
+      in_order = (unfinished, nothing);
+    }
+at_first awaited calls (stage.Opens opening) p w start is unfinished nothing watched = absurd cc
+at_first awaited calls (stage.Open stream) p w start is unfinished nothing watched = absurd cc
+at_first awaited calls (stage.Closes closing) p w start is unfinished nothing watched = absurd cc
+at_first awaited calls stage.Ended p w start is unfinished nothing watched = absurd cc
+
+watched_by : (t : Task) (job : FollowPlayer) → Does t (player.Follow job) → Watches t → (w : Watch) × (start : Start) × IsWatched job.watched w start
+watched_by (plan.insert ns docs) job does watches = absurd does
+watched_by (plan.follow on calls start filter batch) job does watches =
+    (watches.0, watches.1, subst (λ f. IsWatch (target job.watched.target.now) (begin job.watched.start.now) f watches.0 watches.1) (sym does.2) (subst (λ b. IsWatch (target job.watched.target.now) b filter watches.0 watches.1) (sym does.1) (subst (λ u. IsWatch u start filter watches.0 watches.1) (sym does.0) watches.2)))
+watched_by (plan.put db bucket name id chunk pieces) job does watches = absurd does
+watched_by (plan.get db bucket id read) job does watches = absurd does
+
+plays_first : (awaited : Awaited) (calls : List Call) (t : Task) (p : Player) → IsFirst p → Does t p → Watches t → Plays awaited calls p (first_owner p)
+plays_first awaited calls t (player.Insert job) first does watches = (refl, first)
+plays_first awaited calls t (player.Follow job) first does watches = let w = watched_by t job does watches in at_first awaited calls job.stage job w.0 w.1 first.0 first.1 first.2 w.2
+plays_first awaited calls t player.Put first does watches = refl
+plays_first awaited calls t player.Get first does watches = refl
+
+get_length : {A B : Type 0} (xs : List A) (ys : List B) → length ys ≡ length xs → (i : ℕ) (y : B) → slice_get ys i ≡ Some y → (x : A) × (slice_get xs i ≡ Some x)
+get_length xs [] same i y h = absurd cc
+get_length [] (z ∷ zs) same i y h = absurd cc
+get_length (x ∷ xs) (z ∷ zs) same zero y h = (x, refl)
+get_length (x ∷ xs) (z ∷ zs) same (suc i) y h = get_length xs zs (omega (arith, same)) i y h
+
+task_at : (tasks : List Task) (players : List Player) → length players ≡ length tasks → (i : ℕ) (p : Player) → slice_get players i ≡ Some p → (t : Task) × (slice_get tasks i ≡ Some t)
+task_at tasks players same i p h = get_length tasks players same i p h
+
+-- Jobs that have done nothing know what they should, whatever was called before.
+pub knowing_first : (awaited : Awaited) (log : Told) (tasks : List Task) (players : List Player) → length players ≡ length tasks → AreFirst players → DoTasks tasks players → AllWatch tasks → Knowing awaited log log players
+knowing_first awaited log tasks players count first does watch calls e = (
+  calls,
+  e,
+  record {
+    owners = map first_owner players;
+    apart = apart_at_first calls (map first_owner players) (λ i o h. let x = get_mapped first_owner players i o h in subst OwnsNothing x.1 (owns_first x.0));
+    each = λ i p h.
+        let t = task_at tasks players count i p h in
+        record { owner = first_owner p; there = get_map first_owner players i p h; plays = plays_first awaited calls t.0 p (first i p h) (does i t.0 p t.1 h) (watch i t.0 t.1) };
+  },
+  λ made. made,
+)
+
+-- ---- at the end
+
+outcome_of_task : (awaited : Awaited) (calls : List Call) (t : Task) (p : Player) (r : Outcome) (o : Owner) → Does t p → OutcomeOf p r → Plays awaited calls p o → OutcomeFollowed calls t r
+outcome_of_task awaited calls (plan.insert ns docs) p r o does is plays = tt
+outcome_of_task awaited calls (plan.put db bucket name id chunk pieces) p r o does is plays = tt
+outcome_of_task awaited calls (plan.get db bucket id read) p r o does is plays = tt
+outcome_of_task awaited calls (plan.follow on count start filter batch) (player.Insert job) r o does is plays = absurd does
+outcome_of_task awaited calls (plan.follow on count start filter batch) player.Put r o does is plays = absurd does
+outcome_of_task awaited calls (plan.follow on count start filter batch) player.Get r o does is plays = absurd does
+outcome_of_task awaited calls (plan.follow on count start filter batch) (player.Follow job) r o does is plays =
+    subst (λ (x : Outcome). OutcomeFollowed calls (plan.follow on count start filter batch) x) (sym is) (
+      plays.watch,
+      plays.start,
+      subst (λ f. IsWatch on start f plays.watch plays.start) does.2 (subst (λ b. IsWatch on b (filter_in job.watched) plays.watch plays.start) does.1 (subst (λ u. IsWatch u (begin job.watched.start.now) (filter_in job.watched) plays.watch plays.start) does.0 plays.watches)),
+      outcome_followed awaited calls job.stage job o plays,
+    )
+
+-- What the jobs of a run know at its end says what became of them.
+pub all_followed : (awaited : Awaited) (log log' : Told) (tasks : List Task) (players : List Player) (outcomes : List Outcome) → length outcomes ≡ length players → Knowing awaited log log' players → DoTasks tasks players → OutcomesOf players outcomes → AllFollowed log log' tasks outcomes
+all_followed awaited log log' tasks players outcomes count knowing does of calls e =
+    let k = knowing calls e in (
+      k.0,
+      k.1,
+      (λ i t r ht hr.
+          let p = get_length players outcomes count i r hr in
+          let at = k.2.each i p.0 p.1 in
+          outcome_of_task awaited k.0 t p.0 r at.owner (does i t p.0 ht p.1) (of i p.0 r p.1 hr) at.plays),
+      k.3,
+    )
+
+-- ---- tasks
+
+-- an insert does the same task, however far it has come
+pub same_insert : (a b : InsertPlayer) → IsSameTask (player.Insert a) (player.Insert b)
+same_insert a b (plan.insert ns docs) does = does
+same_insert a b (plan.follow on calls start filter batch) does = does
+same_insert a b (plan.put db bucket name id chunk pieces) does = does
+same_insert a b (plan.get db bucket id read) does = does
+
+pub same_watch : (a b : FollowPlayer) → b.watched ≡ a.watched → IsSameTask (player.Follow a) (player.Follow b)
+same_watch a b same (plan.insert ns docs) does = does
+same_watch a b same (plan.follow on calls start filter batch) does =
+    subst (λ v. (target v.target.now ≡ on) × (begin v.start.now ≡ start) × (filter_in v ≡ filter)) (sym same) does
+same_watch a b same (plan.put db bucket name id chunk pieces) does = does
+same_watch a b same (plan.get db bucket id read) does = does
+
+-- jobs of which one went on do the same tasks
+pub tasks_after : (players : List Player) (k : ℕ) (p p' : Player) → slice_get players k ≡ Some p → IsSameTask p p' → (ts : List Task) → DoTasks ts players → DoTasks ts (slice_set players k p')
+tasks_after players k p p' at same ts does i t a ht ha =
+    elim (cases_eq i k) [
+      | inl e ↦
+          let here : slice_get players i ≡ Some p = ap (slice_get players) e ∙ at in
+          let is : p' ≡ a = same_some p' a (sym (get_set_same players k p p' at) ∙ ap (λ n. slice_get (slice_set players k p') n) (sym e) ∙ ha) in
+          subst (λ (x : Player). Does t x) is (same t (does i t p ht here))
+      | inr ne ↦ does i t a ht (get_set_other players k i a p' ne ha)
+    ]
+
+pub first_more : (players : List Player) (p : Player) → AreFirst players → IsFirst p → AreFirst (players ++ p ∷ [])
+first_more [] p first is zero a h = subst IsFirst (same_some p a h) is
+first_more [] p first is (suc i) a h = absurd cc
+first_more (q ∷ qs) p first is zero a h = first zero a h
+first_more (q ∷ qs) p first is (suc i) a h = first_more qs p (λ j b hb. first (suc j) b hb) is i a h
+
+-- the players made so far do the tasks of the jobs gone through
+pub tasks_more : (ts : List Task) (players : List Player) (t : Task) (p : Player) → length players ≡ length ts → DoTasks ts players → Does t p → DoTasks (ts ++ t ∷ []) (players ++ p ∷ [])
+tasks_more [] [] t p same does is zero u a hu ha = subst (λ (x : Player). Does u x) (same_some p a ha) (subst (λ (x : Task). Does x p) (same_some t u hu) is)
+tasks_more [] [] t p same does is (suc i) u a hu ha = absurd cc
+tasks_more [] (q ∷ qs) t p same does is i u a hu ha = absurd cc
+tasks_more (v ∷ vs) [] t p same does is i u a hu ha = absurd cc
+tasks_more (v ∷ vs) (q ∷ qs) t p same does is zero u a hu ha = does zero u a hu ha
+tasks_more (v ∷ vs) (q ∷ qs) t p same does is (suc i) u a hu ha = tasks_more vs qs t p (omega (arith, same)) (λ j w b hw hb. does (suc j) w b hw hb) is i u a hu ha
+
+pub outcomes_more : (players : List Player) (outcomes : List Outcome) (p : Player) (r : Outcome) → length players ≡ length outcomes → OutcomesOf players outcomes → OutcomeOf p r → OutcomesOf (players ++ p ∷ []) (outcomes ++ r ∷ [])
+outcomes_more [] [] p r same of is zero a b ha hb = subst (λ (x : Outcome). OutcomeOf a x) (same_some r b hb) (subst (λ (x : Player). OutcomeOf x r) (same_some p a ha) is)
+outcomes_more [] [] p r same of is (suc i) a b ha hb = absurd cc
+outcomes_more [] (s ∷ ss) p r same of is i a b ha hb = absurd cc
+outcomes_more (q ∷ qs) [] p r same of is i a b ha hb = absurd cc
+outcomes_more (q ∷ qs) (s ∷ ss) p r same of is zero a b ha hb = of zero a b ha hb
+outcomes_more (q ∷ qs) (s ∷ ss) p r same of is (suc i) a b ha hb = outcomes_more qs ss p r (omega (arith, same)) (λ j c d hc hd. of (suc j) c d hc hd) is i a b ha hb
+
+pub made_none : (players : List Player) → Made players players []
+made_none players = record { gone = []; whole = refl; count = refl; of = λ i p r hp hr. absurd cc }
+
+pub made_more : (players rest rest' : List Player) (outcomes : List Outcome) (p : Player) (r : Outcome) → rest ≡ p ∷ rest' → Made players rest outcomes → OutcomeOf p r → Made players rest' (outcomes ++ r ∷ [])
+made_more players rest rest' outcomes p r is made of =
+    record {
+      gone = made.gone ++ p ∷ [];
+      whole = made.whole ∙ ap (λ l. made.gone ++ l) is ∙ sym (append_assoc made.gone (p ∷ []) rest');
+      count = length-append made.gone (p ∷ []) ∙ ap (λ n. n + 1) made.count ∙ sym (length-append outcomes (r ∷ []));
+      of = outcomes_more made.gone outcomes p r made.count made.of of;
+    }
+
+pub made_all : (players rest : List Player) (outcomes : List Outcome) → rest ≡ [] → Made players rest outcomes → OutcomesOf players outcomes
+made_all players rest outcomes is made = subst (λ ps. OutcomesOf ps outcomes) (sym (made.whole ∙ ap (λ l. made.gone ++ l) is ∙ append-nil made.gone)) made.of
+
+pub same_count : (jobs : List Job) (players : List Player) → length players ≡ length jobs → length players ≡ length (tasks jobs)
+same_count jobs players same = same ∙ sym (length-map jobs task)
+
+-- what was played is as it should be, unless memory ran out
+pub played_so : (awaited : Awaited) (ts : List Task) (log log' : Told) (result : Result Played Error) (players : List Player) (count : ℕ) → IfOk result (λ p. length p.outcomes.items ≡ count) → IfOk result (λ p. OutcomesOf players p.outcomes.items)
+    → (AllWatch ts → Knowing awaited log log' players) → DoTasks ts players → count ≡ length players → IfOk result (λ p. AllWatch ts → AllFollowed log log' ts p.outcomes.items)
+played_so awaited ts log log' (Ok p) players count counted of knowing does same = λ watch. all_followed awaited log log' ts players p.outcomes.items (counted ∙ same) (knowing watch) does of
+played_so awaited ts log log' (Err e) players count counted of knowing does same = tt
+
+take_next : {A : Type 0} (xs : List A) (k : ℕ) (x : A) → slice_get xs k ≡ Some x → take (suc k) xs ≡ take k xs ++ x ∷ []
+take_next [] k x h = absurd cc
+take_next (y ∷ ys) zero x h = ap (λ z. z ∷ []) (same_some y x h)
+take_next (y ∷ ys) (suc k) x h = ap (λ l. y ∷ l) (take_next ys k x h)
+
+one_more : (k : ℕ) → suc k ≡ k + 1
+one_more k = omega (arith)
+
+map_joined : {A B : Type 0} (f : A → B) (xs ys : List A) → map f (xs ++ ys) ≡ map f xs ++ map f ys
+map_joined f [] ys = refl
+map_joined f (x ∷ xs) ys = ap (λ l. f x ∷ l) (map_joined f xs ys)
+
+length_take : {A : Type 0} (xs : List A) (k : ℕ) (x : A) → slice_get xs k ≡ Some x → length (take k xs) ≡ k
+length_take [] k x h = absurd cc
+length_take (y ∷ ys) zero x h = refl
+length_take (y ∷ ys) (suc k) x h = ap suc (length_take ys k x h)
+
+-- one job more was gone through
+pub tasks_step : (jobs : List Job) (k : ℕ) (players : List Player) (job : Job) (p : Player) → slice_get jobs k ≡ Some job → length players ≡ k → DoTasks (tasks (take k jobs)) players → Does (task job) p → DoTasks (tasks (take (k + 1) jobs)) (players ++ p ∷ [])
+tasks_step jobs k players job p at count does is =
+    subst (λ ts. DoTasks ts (players ++ p ∷ [])) (sym (ap (λ n. tasks (take n jobs)) (sym (one_more k)) ∙ ap tasks (take_next jobs k job at) ∙ map_joined task (take k jobs) (job ∷ [])))
+    (tasks_more (tasks (take k jobs)) players (task job) p (count ∙ sym (length-map (take k jobs) task ∙ length_take jobs k job at)) does is)

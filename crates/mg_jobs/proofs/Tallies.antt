@@ -1,0 +1,36 @@
+-- What is counted of a turn, poll by poll.
+use Rattle.std.proofs.Common.{◌≡◌, ◌+◌, ◌++◌, ◌∷◌, [], List, ℕ, Bool, Option, arith, refl, sym, ◌∙◌, subst}
+use Rattle.std.specs.List.{sum_by}
+use Rattle.std.proofs.lemmas.List.Sums.{sum_by-append}
+use Rattle.mg_jobs.specs.declared.outcome.Turned.{Turned}
+use Rattle.mg_link.specs.Link.{Sees, Told}
+use Rattle.mg_link.specs.Log.{Sight, see}
+use Rattle.mg_link.proofs.Outs.{length-see}
+use Rattle.mg_jobs.specs.Counts.{Counted, PendedAs, StartedBy}
+
+started_seen : (n : ℕ) (old log log' : Told) (place : Option ℕ) (seen : Sight) → StartedBy n old log → Sees log log' place seen → StartedBy n old log'
+started_seen n old log log' place seen started sees calls e =
+    let s = started calls e in
+    let r = sees s.0 s.1 in
+    (see r.0 seen s.0, r.5, length-see r.0 seen s.0 ∙ s.2)
+
+-- a call has seen its answer
+pub counted_seen : (old log log' : Told) (n before pends pends' : ℕ) (pended : Bool) (prompts p p' : Type 0) (place : Option ℕ) (seen : Sight) → Counted old log n before pends pended prompts p → Sees log log' place seen → pends' ≡ pends → (p → p') → Counted old log' n before pends' pended prompts p'
+counted_seen old log log' n before pends pends' pended prompts p p' place seen counted sees same stays =
+    record {
+      starts = started_seen n old log log' place seen counted.starts sees;
+      pends = subst (λ m. PendedAs pended before m) (sym same) counted.pends;
+      prompt = λ was. let r = counted.prompt was in (stays r.0, r.1);
+    }
+
+-- ---- notes
+
+pub started_more : (xs : List Turned) (note : Turned) (old mid new : Told) → StartedBy (sum_by (λ (t : Turned). t.started) xs) old mid → StartedBy note.started mid new → StartedBy (sum_by (λ (t : Turned). t.started) (xs ++ note ∷ [])) old new
+started_more xs note old mid new first second calls e =
+    let a = first calls e in
+    let b = second a.0 a.1 in
+    let all = sum_by-append (λ (t : Turned). t.started) xs (note ∷ []) in
+    let one : sum_by (λ (t : Turned). t.started) (note ∷ []) ≡ 0 + note.started = refl in
+    let x = a.2 in
+    let y = b.2 in
+    (b.0, b.1, omega (arith, x, y, all, one))

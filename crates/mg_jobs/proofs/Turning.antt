@@ -1,0 +1,431 @@
+-- The turns of follows: what they know stays so, whatever other jobs do.
+use Rattle.std.proofs.Common.{◌≡◌, ◌≢◌, ◌⊎◌, ℕ, zero, suc, ℤ, List, [], ◌∷◌, ◌++◌, Option, Some, None, refl, sym, ap, ◌∙◌, subst, inl, inr, append-nil, option_map}
+use Rattle.mg_bson.specs.Tree.{Tree, Fields}
+use Rattle.mg_bson.specs.Raw.{fields}
+use Rattle.mg_link.specs.Exec.{Sending}
+use Rattle.mg_link.specs.Follow.{Follow, Knows, Moved, owner_of}
+use Rattle.mg_link.specs.Link.{Awaited, Told}
+use Rattle.mg_link.specs.Log.{Call}
+use Rattle.mg_link.specs.Owner.{Owner, Holds, Onward, Passes}
+use Rattle.mg_link.specs.State.{Start, Watch}
+use Rattle.mg_link.proofs.Answering.{follows_on}
+use Rattle.mg_link.proofs.Apart.{passes_on, passes_same}
+use Rattle.mg_link.proofs.Moves.{stayed}
+use Rattle.mg_link.proofs.Follows.{knows_kept}
+use Rattle.mg_change.proofs.Sames.{Continues, continues_phase, same_phase, same_opening}
+use Rattle.mg_change.proofs.SameClosings.{continues_closing, same_closing}
+use Rattle.mg_change.specs.Closings.{IsQuiet, KnewBy, closed, closing_of}
+use Rattle.mg_change.specs.Following.{Asks, buffered, follow_of, idle, idle_by, in_phase, not_open, opening_in, token_of}
+use Rattle.mg_change.specs.Phases.{AtRest, IsSaved, IsSound, Sends, forgotten, ticket_in, without_token}
+use Rattle.mg_options.specs.declared.change_stream.ChangeStreamOptions.{ChangeStreamOptions}
+use Rattle.mg_ops.specs.declared.change_stream.ChangeStreamData.{ChangeStreamData}
+use Rattle.mg_link.specs.Acts.{IsOut, Tickets}
+use Rattle.mg_change.specs.Polls.{RestsAfter}
+use Rattle.mg_change.specs.declared.event_poll.EventPoll.{EventPoll}
+use Rattle.mg_change.specs.declared.event_poll.EventPoll.TheVariants as polls
+use Rattle.mg_jobs.specs.Follows.{HasEnded}
+use Rattle.mg_change.specs.declared.stream.Phase.{Phase}
+use Rattle.mg_change.specs.declared.stream.Phase.TheVariants as phase
+use Rattle.mg_change.specs.declared.closing.Flight.{Flight}
+use Rattle.mg_change.specs.declared.closing.Flight.TheVariants as flight
+use Rattle.mg_ops.specs.declared.aggregate.ChangeStreamAggregate.{ChangeStreamAggregate}
+use Rattle.mg_change.specs.Openings.{IsOpening}
+use Rattle.mg_change.specs.declared.closing.Closing.{Closing}
+use Rattle.mg_change.specs.declared.opening.Opening.{Opening}
+use Rattle.mg_change.specs.declared.stream.ChangeStream.{ChangeStream}
+use Rattle.mg_jobs.specs.Follows.{EndsSo, FollowKnows, FollowTook, FollowTurns, Followed, FollowedOr, HasGiven, HasNothing, IsFailed, IsInOrder, IsUnfinished, IsWatched, StageAsks, closed_follow, ended_follow, follow_at, follow_by, events_of, token_at}
+use Rattle.mg_jobs.specs.Playing.{stage_ticket}
+use Rattle.mg_jobs.specs.declared.outcome.Answer.{Answer}
+use Rattle.mg_jobs.specs.declared.outcome.Answer.TheVariants as answers
+use Rattle.mg_jobs.specs.declared.outcome.Ended.{Ended}
+use Rattle.mg_jobs.specs.declared.outcome.Ended.TheVariants as ended
+use Rattle.mg_jobs.specs.declared.player.FollowPlayer.{FollowPlayer}
+use Rattle.mg_jobs.specs.declared.player.Stage.{Stage}
+use Rattle.mg_jobs.specs.declared.player.Stage.TheVariants as stage
+
+-- ---- what a follow is doing depends on its own ticket alone
+
+same_follow_at : (old new : Awaited) (s : Stage) {A : Type 0} (o : Ended A) (w : Watch) (start : Start) (opened : Option ℕ) (token : Option Tree) (answered : List Fields) → ((m : ℕ) → stage_ticket s ≡ Some m → new m ≡ old m) → follow_at old s o w start opened token answered ≡ follow_at new s o w start opened token answered
+same_follow_at old new stage.Unopened o w start opened token answered same = refl
+same_follow_at old new (stage.Opens opening) o w start opened token answered same = same_opening old new opening.exec w start same
+same_follow_at old new (stage.Open stream) o w start opened token answered same = same_phase old new stream.phase (buffered stream) stream.batch_token (idle w start stream opened answered) same
+same_follow_at old new (stage.Closes closing) o w start opened token answered same = same_closing old new (closed_follow w start opened token answered) closing same
+same_follow_at old new stage.Ended o w start opened token answered same = refl
+
+-- Where its own ticket goes with the same call, a follow knows what it knew.
+pub same_follow : (old new : Awaited) (calls : List Call) (s : Stage) (p : FollowPlayer) (o : Owner) → ((m : ℕ) → stage_ticket s ≡ Some m → new m ≡ old m) → FollowKnows old calls s p o → FollowKnows new calls s p o
+same_follow old new calls s p o same k =
+    let e : follow_by old s k.watch k.start k.opened p ≡ follow_by new s k.watch k.start k.opened p = same_follow_at old new s p.opened k.watch k.start k.opened p.token (events_of p.answers.items) same in
+    record {
+      watch = k.watch;
+      start = k.start;
+      opened = k.opened;
+      watches = k.watches;
+      asks = k.asks;
+      knows = subst (λ (f : Follow). Knows calls f) e k.knows;
+      owns = k.owns ∙ ap owner_of e;
+      in_order = k.in_order;
+    }
+
+-- What others do leaves what a follow knows.
+pub kept_follow : (awaited : Awaited) (calls calls' : List Call) (s : Stage) (p : FollowPlayer) (o : Owner) → Onward calls calls' o → FollowKnows awaited calls s p o → FollowKnows awaited calls' s p o
+kept_follow awaited calls calls' s p o onward k =
+    record {
+      watch = k.watch;
+      start = k.start;
+      opened = k.opened;
+      watches = k.watches;
+      asks = k.asks;
+      knows = knows_kept calls calls' (follow_by awaited s k.watch k.start k.opened p) (subst (Onward calls calls') k.owns onward) k.knows;
+      owns = k.owns;
+      in_order = k.in_order;
+    }
+
+-- ---- one turn
+
+-- A stream that moved takes its follow along.
+pub took : (old new : Awaited) (log log' : Told) (s : Stage) (p : FollowPlayer) (s' : Stage) (p' : FollowPlayer) → p'.watched ≡ p.watched
+    → ((w : Watch) (start : Start) → IsWatched p.watched w start → StageAsks s w start → IsInOrder p s → (opened : Option ℕ) → (opened' : Option ℕ) × Moved log log' (follow_by old s w start opened p) (follow_by new s' w start opened' p') × StageAsks s' w start × IsInOrder p' s')
+    → FollowTurns old new log log' s p s' p'
+took old new log log' s p s' p' same moves calls told o k =
+    let m = moves k.watch k.start k.watches k.asks k.in_order k.opened in
+    let on = m.1 calls told in (
+      on.0,
+      on.1,
+      record {
+        owner = owner_of (follow_by new s' k.watch k.start m.0 p');
+        knows = record {
+          watch = k.watch;
+          start = k.start;
+          opened = m.0;
+          watches = subst (λ v. IsWatched v k.watch k.start) (sym same) k.watches;
+          asks = m.2;
+          knows = on.2.knows k.knows;
+          owns = refl;
+          in_order = m.3;
+        };
+        passes = subst (λ (x : Owner). Passes calls on.0 x (owner_of (follow_by new s' k.watch k.start m.0 p'))) (sym k.owns) (on.2.passes k.knows);
+      },
+    )
+
+-- One part of a turn after another.
+pub took_on : (old mid new : Awaited) (log log_mid log' : Told) (s : Stage) (p : FollowPlayer) (s_mid : Stage) (p_mid : FollowPlayer) (s' : Stage) (p' : FollowPlayer) → FollowTurns old mid log log_mid s p s_mid p_mid → FollowTurns mid new log_mid log' s_mid p_mid s' p' → FollowTurns old new log log' s p s' p'
+took_on old mid new log log_mid log' s p s_mid p_mid s' p' first second calls told o k =
+    let a = first calls told o k in
+    let b = second a.0 a.1 a.2.owner a.2.knows in
+    (b.0, b.1, record { owner = b.2.owner; knows = b.2.knows; passes = passes_on calls a.0 b.0 o a.2.owner b.2.owner a.2.passes b.2.passes })
+
+-- ---- what a follow comes to
+
+ends_so : {A : Type 0} (calls : List Call) (o : Ended A) (w : Watch) (start : Start) (opened : Option ℕ) (p : FollowPlayer) → Knows calls (ended_follow o w start opened p.token (events_of p.answers.items)) → EndsSo o p → FollowedOr o calls w start (events_of p.answers.items) p.token
+ends_so calls ended.Unfinished w start opened p knows nothing = (ap events_of nothing.no_answer, nothing.no_token)
+ends_so calls (ended.Gave x) w start opened p knows so =
+    let f = closed_follow w start opened p.token (events_of p.answers.items) in
+    record { stream = f; watch_is = refl; start_is = refl; answered_is = refl; token_is = refl; follows = follows_on calls f tt knows }
+ends_so calls (ended.Failed e) w start opened p knows nothing = (ap events_of nothing.no_answer, nothing.no_token)
+
+unfinished_so : {A : Type 0} (calls : List Call) (o : Ended A) (w : Watch) (start : Start) (p : FollowPlayer) → IsUnfinished o → HasNothing p → FollowedOr o calls w start (events_of p.answers.items) None
+unfinished_so calls ended.Unfinished w start p is nothing = (ap events_of nothing.no_answer, refl)
+unfinished_so calls (ended.Gave x) w start p is nothing = absurd is
+unfinished_so calls (ended.Failed e) w start p is nothing = absurd is
+
+given_so : {A : Type 0} (calls : List Call) (o : Ended A) (f g : Follow) → HasGiven o → Continues f g → Knows calls g → FollowedOr o calls f.watch f.start f.answered f.token
+given_so calls ended.Unfinished f g has same knows = absurd has
+given_so calls (ended.Gave x) f g has same knows = record { stream = g; watch_is = same.watch; start_is = same.start; answered_is = same.answered; token_is = same.token; follows = follows_on calls g same.is_open knows }
+given_so calls (ended.Failed e) f g has same knows = absurd has
+
+outcome_at : (awaited : Awaited) (calls : List Call) (s : Stage) (w : Watch) (start : Start) (opened : Option ℕ) (p : FollowPlayer) → Knows calls (follow_by awaited s w start opened p) → IsInOrder p s → FollowedOr p.opened calls w start (events_of p.answers.items) (token_at s p.token)
+outcome_at awaited calls stage.Unopened w start opened p knows order = unfinished_so calls p.opened w start p order.0 order.1
+outcome_at awaited calls (stage.Opens opening) w start opened p knows order = unfinished_so calls p.opened w start p order.0 order.1
+outcome_at awaited calls (stage.Open stream) w start opened p knows order =
+    let f = idle w start stream opened (events_of p.answers.items) in
+    given_so calls p.opened f (follow_of awaited w start stream opened (events_of p.answers.items)) order (continues_phase awaited stream.phase (buffered stream) stream.batch_token f tt) knows
+outcome_at awaited calls (stage.Closes closing) w start opened p knows order =
+    let f = closed_follow w start opened p.token (events_of p.answers.items) in
+    given_so calls p.opened f (closing_of awaited f closing) order (continues_closing awaited f closing) knows
+outcome_at awaited calls stage.Ended w start opened p knows order = ends_so calls p.opened w start opened p knows order
+
+-- What became of a follow is as it should be.
+pub outcome_followed : (awaited : Awaited) (calls : List Call) (s : Stage) (p : FollowPlayer) (o : Owner) → (k : FollowKnows awaited calls s p o) → FollowedOr p.opened calls k.watch k.start (events_of p.answers.items) (token_at s p.token)
+outcome_followed awaited calls s p o k = outcome_at awaited calls s k.watch k.start k.opened p k.knows k.in_order
+
+-- ---- the same follow at another stage
+
+pub record SameParts (p t : FollowPlayer) : Type 0 where
+  pub watched : t.watched ≡ p.watched
+  pub opened : t.opened ≡ p.opened
+  pub answers : t.answers.items ≡ p.answers.items
+  pub token : t.token ≡ p.token
+
+parts_follow : (awaited : Awaited) (s : Stage) (p t : FollowPlayer) → SameParts p t → (w : Watch) (start : Start) (opened : Option ℕ) → follow_by awaited s w start opened p ≡ follow_by awaited s w start opened t
+parts_follow awaited s p t same w start opened =
+    ap (λ o. follow_at awaited s o w start opened p.token (events_of p.answers.items)) (sym same.opened)
+    ∙ ap (λ u. follow_at awaited s t.opened w start opened u (events_of p.answers.items)) (sym same.token)
+    ∙ ap (λ l. follow_at awaited s t.opened w start opened t.token (events_of l)) (sym same.answers)
+
+parts_nothing : (p t : FollowPlayer) → SameParts p t → HasNothing p → HasNothing t
+parts_nothing p t same nothing = record { no_answer = same.answers ∙ nothing.no_answer; no_token = same.token ∙ nothing.no_token }
+
+parts_end : {A : Type 0} (o : Ended A) (p t : FollowPlayer) → SameParts p t → EndsSo o p → EndsSo o t
+parts_end ended.Unfinished p t same so = parts_nothing p t same so
+parts_end (ended.Gave x) p t same so = so
+parts_end (ended.Failed e) p t same so = parts_nothing p t same so
+
+parts_order : (s : Stage) (p t : FollowPlayer) → SameParts p t → IsInOrder p s → IsInOrder t s
+parts_order stage.Unopened p t same order = (subst (λ o. IsUnfinished o) (sym same.opened) order.0, parts_nothing p t same order.1)
+parts_order (stage.Opens opening) p t same order = (subst (λ o. IsUnfinished o) (sym same.opened) order.0, parts_nothing p t same order.1)
+parts_order (stage.Open stream) p t same order = subst (λ o. HasGiven o) (sym same.opened) order
+parts_order (stage.Closes closing) p t same order = subst (λ o. HasGiven o) (sym same.opened) order
+parts_order stage.Ended p t same order = subst (λ o. EndsSo o t) (sym same.opened) (parts_end p.opened p t same order)
+
+pub parts_knows : (awaited : Awaited) (calls : List Call) (s : Stage) (p t : FollowPlayer) (o : Owner) → SameParts p t → FollowKnows awaited calls s p o → FollowKnows awaited calls s t o
+parts_knows awaited calls s p t o same k =
+    let e = parts_follow awaited s p t same k.watch k.start k.opened in
+    record {
+      watch = k.watch;
+      start = k.start;
+      opened = k.opened;
+      watches = subst (λ v. IsWatched v k.watch k.start) (sym same.watched) k.watches;
+      asks = k.asks;
+      knows = subst (λ (f : Follow). Knows calls f) e k.knows;
+      owns = k.owns ∙ ap owner_of e;
+      in_order = parts_order s p t same k.in_order;
+    }
+
+-- A turn whose stage was taken out before, and put back behind it.
+pub other_stage : (old new : Awaited) (log log' : Told) (s s0 : Stage) (p t : FollowPlayer) (s' : Stage) (q r : FollowPlayer) → s ≡ s0 → SameParts p t → SameParts q r → r.stage ≡ s' → FollowTurns old new log log' s t s' q → FollowTurns old new log log' s0 p r.stage r
+other_stage old new log log' s s0 p t s' q r from before behind at turned calls told o k =
+    let m = turned calls told o (parts_knows old calls s p t o before (subst (λ x. FollowKnows old calls x p o) (sym from) k)) in
+    (m.0, m.1, record { owner = m.2.owner; knows = subst (λ x. FollowKnows new m.0 x r m.2.owner) (sym at) (parts_knows new m.0 s' q r m.2.owner behind m.2.knows); passes = m.2.passes })
+
+-- ---- the arms of a turn
+
+-- nothing was sent, and the follow is the same
+pub took_same : (awaited : Awaited) (log log' : Told) (s : Stage) (p : FollowPlayer) → log' ≡ log → FollowTurns awaited awaited log log' s p s p
+took_same awaited log log' s p same calls told o k =
+    (calls, same ∙ told, record { owner = o; knows = k; passes = passes_same calls o (subst (Holds calls) (sym k.owns) k.knows.owned) })
+
+nothing_kept : (p p' : FollowPlayer) → p'.answers.items ≡ p.answers.items → p'.token ≡ p.token → HasNothing p → HasNothing p'
+nothing_kept p p' answers token nothing = record { no_answer = answers ∙ nothing.no_answer; no_token = token ∙ nothing.no_token }
+
+-- a follow whose opening failed
+never_opened : {A : Type 0} (o : Ended A) (p : FollowPlayer) → IsFailed o → HasNothing p → EndsSo o p
+never_opened ended.Unfinished p failed nothing = nothing
+never_opened (ended.Gave x) p failed nothing = absurd failed
+never_opened (ended.Failed e) p failed nothing = nothing
+
+ended_not_open : {A : Type 0} (o : Ended A) (w : Watch) (start : Start) (opened : Option ℕ) (token : Option Tree) (answered : List Fields) → IsFailed o → ended_follow o w start opened token answered ≡ not_open w start
+ended_not_open ended.Unfinished w start opened token answered failed = refl
+ended_not_open (ended.Gave x) w start opened token answered failed = absurd failed
+ended_not_open (ended.Failed e) w start opened token answered failed = refl
+
+-- what is the same of a follow before its stream is open
+pub record KeepsNothing (p p' : FollowPlayer) : Type 0 where
+  pub watched : p'.watched ≡ p.watched
+  pub answers : p'.answers.items ≡ p.answers.items
+  pub token : p'.token ≡ p.token
+
+-- The arguments of the watch were not built: nothing was sent.
+pub begin_failed : (awaited : Awaited) (log : Told) (p p' : FollowPlayer) → KeepsNothing p p' → IsFailed p'.opened → FollowTurns awaited awaited log log stage.Unopened p stage.Ended p'
+begin_failed awaited log p p' same failed =
+    took awaited awaited log log stage.Unopened p stage.Ended p' same.watched
+    (λ w start watched asks order opened. (
+      opened,
+      subst (λ (f : Follow). Moved log log (not_open w start) f) (sym (ended_not_open p'.opened w start opened p'.token (events_of p'.answers.items) failed)) (stayed log log (not_open w start) refl),
+      tt,
+      never_opened p'.opened p' failed (nothing_kept p p' same.answers same.token order.1),
+    ))
+
+-- The watch is to be opened: nothing was sent yet.
+pub begins : (awaited : Awaited) (log : Told) (p : FollowPlayer) (opening : Opening) → ((w : Watch) (start : Start) → IsWatched p.watched w start → Asks opening.aggregate.args w start) → IsOpening opening.aggregate opening.exec → opening.exec ≡ None → FollowTurns awaited awaited log log stage.Unopened p (stage.Opens opening) p
+begins awaited log p opening asks sent none =
+    took awaited awaited log log stage.Unopened p (stage.Opens opening) p refl
+    (λ w start watched before order opened. (
+      opened,
+      subst (λ (x : Option Sending). Moved log log (not_open w start) (opening_in awaited x w start)) (sym none) (stayed log log (not_open w start) refl),
+      (asks w start watched, sent),
+      order,
+    ))
+
+-- The reply to the opening pends.
+pub open_pends : (old new : Awaited) (log log' : Told) (p : FollowPlayer) (opening opening' : Opening) → opening'.aggregate.args ≡ opening.aggregate.args → (IsOpening opening.aggregate opening.exec → IsOpening opening'.aggregate opening'.exec)
+    → (IsOpening opening.aggregate opening.exec → (w : Watch) (start : Start) → Asks opening.aggregate.args w start → Moved log log' (opening_in old opening.exec w start) (opening_in new opening'.exec w start)) → FollowTurns old new log log' (stage.Opens opening) p (stage.Opens opening') p
+open_pends old new log log' p opening opening' args sent moves =
+    took old new log log' (stage.Opens opening) p (stage.Opens opening') p refl
+    (λ w start watched asks order opened. (opened, moves asks.1 w start asks.0, (subst (λ a. Asks a w start) (sym args) asks.0, sent asks.1), order))
+
+-- It failed.
+pub open_failed : (old new : Awaited) (log log' : Told) (p p' : FollowPlayer) (opening : Opening) → KeepsNothing p p' → IsFailed p'.opened
+    → (IsOpening opening.aggregate opening.exec → (w : Watch) (start : Start) → Asks opening.aggregate.args w start → Moved log log' (opening_in old opening.exec w start) (not_open w start)) → FollowTurns old new log log' (stage.Opens opening) p stage.Ended p'
+open_failed old new log log' p p' opening same failed moves =
+    took old new log log' (stage.Opens opening) p stage.Ended p' same.watched
+    (λ w start watched asks order opened. (
+      opened,
+      subst (λ (f : Follow). Moved log log' (opening_in old opening.exec w start) f) (sym (ended_not_open p'.opened w start opened p'.token (events_of p'.answers.items) failed)) (moves asks.1 w start asks.0),
+      tt,
+      never_opened p'.opened p' failed (nothing_kept p p' same.answers same.token order.1),
+    ))
+
+-- The stream is open.
+pub open_done : (old new : Awaited) (log log' : Told) (p p' : FollowPlayer) (opening : Opening) (stream : ChangeStream) → KeepsNothing p p' → HasGiven p'.opened → stream.aggregate.args ≡ opening.aggregate.args
+    → (IsOpening opening.aggregate opening.exec → (w : Watch) (start : Start) → Asks opening.aggregate.args w start → (opened : Option ℕ) × Moved log log' (opening_in old opening.exec w start) (follow_of new w start stream opened [])) → FollowTurns old new log log' (stage.Opens opening) p (stage.Open stream) p'
+open_done old new log log' p p' opening stream same given args moves =
+    took old new log log' (stage.Opens opening) p (stage.Open stream) p' same.watched
+    (λ w start watched asks order opened.
+    let m = moves asks.1 w start asks.0 in
+    let none : events_of p'.answers.items ≡ [] = ap events_of (same.answers ∙ order.1.no_answer) in (
+      m.0,
+      subst (λ l. Moved log log' (opening_in old opening.exec w start) (follow_of new w start stream m.0 l)) (sym none) m.1,
+      subst (λ a. Asks a w start) (sym args) asks.0,
+      given,
+    ))
+
+-- what a follow whose stream is open keeps
+pub record KeepsOpen (p p' : FollowPlayer) : Type 0 where
+  pub watched : p'.watched ≡ p.watched
+  pub opened : p'.opened ≡ p.opened
+  pub answers : p'.answers.items ≡ p.answers.items
+
+-- The stream is to be closed, and the follow has its token now.
+pub to_close : (awaited : Awaited) (log : Told) (p p' : FollowPlayer) (stream left : ChangeStream) (closing : Closing) → KeepsOpen p p' → p'.token ≡ token_of stream.aggregate.resume → left ≡ without_token stream
+    → ((w : Watch) (start : Start) (opened : Option ℕ) (token : Option Tree) (answered : List Fields) → Moved log log (in_phase awaited left.phase (buffered left) left.batch_token (idle_by w start opened left.cursor.id token answered)) (closing_of awaited (idle_by w start opened left.cursor.id token answered) closing))
+    → FollowTurns awaited awaited log log (stage.Open stream) p (stage.Closes closing) p'
+to_close awaited log p p' stream left closing same token is moves =
+    took awaited awaited log log (stage.Open stream) p (stage.Closes closing) p' same.watched
+    (λ w start watched asks order opened.
+    let answered = events_of p.answers.items in
+    let kept = token_of stream.aggregate.resume in
+    let there : Moved log log (follow_of awaited w start stream opened answered) (closing_of awaited (closed_follow w start opened kept answered) closing) =
+    subst (λ (x : ChangeStream). Moved log log (in_phase awaited x.phase (buffered x) x.batch_token (idle_by w start opened x.cursor.id kept answered)) (closing_of awaited (idle_by w start opened x.cursor.id kept answered) closing)) is (moves w start opened kept answered) in (
+      opened,
+      subst (λ t. Moved log log (follow_of awaited w start stream opened answered) (closing_of awaited (closed_follow w start opened t (events_of p'.answers.items)) closing)) (sym token)
+          (subst (λ l. Moved log log (follow_of awaited w start stream opened answered) (closing_of awaited (closed_follow w start opened kept (events_of l)) closing)) (sym same.answers) there),
+      tt,
+      subst (λ o. HasGiven o) (sym same.opened) order,
+    ))
+
+-- A call of the stream pends.
+pub call_pends : (old new : Awaited) (log log' : Told) (p : FollowPlayer) (stream stream' : ChangeStream) (told : List Fields) → told ≡ [] → stream'.aggregate.args ≡ stream.aggregate.args
+    → ((w : Watch) (start : Start) → Asks stream.aggregate.args w start → (opened : Option ℕ) (answered : List Fields) → Moved log log' (follow_of old w start stream opened answered) (follow_of new w start stream' opened (answered ++ told))) → FollowTurns old new log log' (stage.Open stream) p (stage.Open stream') p
+call_pends old new log log' p stream stream' told none args moves =
+    took old new log log' (stage.Open stream) p (stage.Open stream') p refl
+    (λ w start watched asks order opened.
+    let answered = events_of p.answers.items in (
+      opened,
+      subst (λ l. Moved log log' (follow_of old w start stream opened answered) (follow_of new w start stream' opened l)) (ap (λ t. answered ++ t) none ∙ append-nil answered) (moves w start asks opened answered),
+      subst (λ a. Asks a w start) (sym args) asks,
+      order,
+    ))
+
+events_joined : (xs ys : List Answer) → events_of (xs ++ ys) ≡ events_of xs ++ events_of ys
+events_joined [] ys = refl
+events_joined (answers.Event event ∷ xs) ys = ap (λ l. fields event ∷ l) (events_joined xs ys)
+events_joined (answers.Nothing ∷ xs) ys = events_joined xs ys
+events_joined (answers.Failed e ∷ xs) ys = events_joined xs ys
+
+-- A call of the stream answered.
+pub call_answers : (old new : Awaited) (log log' : Told) (p p' : FollowPlayer) (stream stream' : ChangeStream) (told : List Fields) (answer : Answer) → p'.watched ≡ p.watched → p'.opened ≡ p.opened → p'.answers.items ≡ p.answers.items ++ answer ∷ [] → told ≡ events_of (answer ∷ []) → stream'.aggregate.args ≡ stream.aggregate.args
+    → ((w : Watch) (start : Start) → Asks stream.aggregate.args w start → (opened : Option ℕ) (answered : List Fields) → Moved log log' (follow_of old w start stream opened answered) (follow_of new w start stream' opened (answered ++ told))) → FollowTurns old new log log' (stage.Open stream) p (stage.Open stream') p'
+call_answers old new log log' p p' stream stream' told answer watched opened_same items same args moves =
+    took old new log log' (stage.Open stream) p (stage.Open stream') p' watched
+    (λ w start is asks order opened.
+    let e : events_of p.answers.items ++ told ≡ events_of p'.answers.items = ap (λ l. events_of p.answers.items ++ l) same ∙ sym (events_joined p.answers.items (answer ∷ [])) ∙ ap events_of (sym items) in (
+      opened,
+      subst (λ l. Moved log log' (follow_of old w start stream opened (events_of p.answers.items)) (follow_of new w start stream' opened l)) e (moves w start asks opened (events_of p.answers.items)),
+      subst (λ a. Asks a w start) (sym args) asks,
+      subst (λ o. HasGiven o) (sym opened_same) order,
+    ))
+
+-- The killing of its cursors pends.
+pub close_pends : (old new : Awaited) (log log' : Told) (p : FollowPlayer) (closing closing' : Closing)
+    → ((f : Follow) → Moved log log' (closing_of old f closing) (closing_of new f closing')) → FollowTurns old new log log' (stage.Closes closing) p (stage.Closes closing') p
+close_pends old new log log' p closing closing' moves =
+    took old new log log' (stage.Closes closing) p (stage.Closes closing') p refl
+    (λ w start watched asks order opened. (opened, moves (closed_follow w start opened p.token (events_of p.answers.items)), tt, order))
+
+ended_closed : {A : Type 0} (o : Ended A) (w : Watch) (start : Start) (opened : Option ℕ) (token : Option Tree) (answered : List Fields) → HasGiven o → ended_follow o w start opened token answered ≡ closed_follow w start opened token answered
+ended_closed ended.Unfinished w start opened token answered given = absurd given
+ended_closed (ended.Gave x) w start opened token answered given = refl
+ended_closed (ended.Failed e) w start opened token answered given = absurd given
+
+ends_given : {A : Type 0} (o : Ended A) (p : FollowPlayer) → HasGiven o → EndsSo o p
+ends_given ended.Unfinished p given = absurd given
+ends_given (ended.Gave x) p given = tt
+ends_given (ended.Failed e) p given = absurd given
+
+-- The stream is closed, or its closing failed.
+pub close_ends : (old new : Awaited) (log log' : Told) (p p' : FollowPlayer) (closing : Closing) → KeepsOpen p p' → p'.token ≡ p.token
+    → ((f : Follow) → Moved log log' (closing_of old f closing) (closed f)) → FollowTurns old new log log' (stage.Closes closing) p stage.Ended p'
+close_ends old new log log' p p' closing same token moves =
+    took old new log log' (stage.Closes closing) p stage.Ended p' same.watched
+    (λ w start watched asks order opened.
+    let given : HasGiven p'.opened = subst (λ o. HasGiven o) (sym same.opened) order in
+    let e : closed_follow w start opened p.token (events_of p.answers.items) ≡ closed_follow w start opened p'.token (events_of p'.answers.items) =
+    ap (λ t. closed_follow w start opened t (events_of p.answers.items)) (sym token) ∙ ap (λ l. closed_follow w start opened p'.token (events_of l)) (sym same.answers) in (
+      opened,
+      subst (λ (f : Follow). Moved log log' (closing_of old (closed_follow w start opened p.token (events_of p.answers.items)) closing) f) (e ∙ sym (ended_closed p'.opened w start opened p'.token (events_of p'.answers.items) given))
+          (moves (closed_follow w start opened p.token (events_of p.answers.items))),
+      tt,
+      ends_given p'.opened p' given,
+    ))
+
+-- ---- streams at rest
+
+-- nothing is in flight, so no ticket is held
+pub rest_none : (p : Phase) → AtRest p → ticket_in p ≡ None
+rest_none phase.Taken rest = refl
+rest_none phase.Rest rest = refl
+rest_none (phase.First reply) rest = refl
+rest_none phase.Fresh rest = refl
+rest_none (phase.Asking get_more exec) rest = absurd rest
+rest_none phase.Owing rest = refl
+rest_none (phase.Resuming exec) rest = absurd rest
+rest_none (phase.Killing exec old reply) rest = absurd rest
+rest_none (phase.Resumed reply) rest = refl
+
+pub rest_out : (awaited : Awaited) (p : Phase) → AtRest p → IsOut awaited (ticket_in p)
+rest_out awaited p rest n e = let bad : None ≡ Some n = sym (rest_none p rest) ∙ e in absurd cc
+
+-- a closing in which no resumption is in flight needs to know nothing of its stream
+pub quiet_knew : (c : Flight) (a : ChangeStreamAggregate) (f : Follow) → IsQuiet c → KnewBy c a f
+quiet_knew flight.Landed a f quiet = tt
+quiet_knew (flight.More get_more exec) a f quiet = tt
+quiet_knew (flight.Resumption exec) a f quiet = absurd quiet
+quiet_knew (flight.Older exec old) a f quiet = tt
+quiet_knew (flight.Last exec) a f quiet = tt
+
+rest_sends : (wire : ℤ) (s : ChangeStream) (p : Phase) → AtRest p → Sends wire s p
+rest_sends wire s phase.Taken rest = tt
+rest_sends wire s phase.Rest rest = tt
+rest_sends wire s (phase.First reply) rest = tt
+rest_sends wire s phase.Fresh rest = tt
+rest_sends wire s (phase.Asking get_more exec) rest = absurd rest
+rest_sends wire s phase.Owing rest = tt
+rest_sends wire s (phase.Resuming exec) rest = absurd rest
+rest_sends wire s (phase.Killing exec old reply) rest = absurd rest
+rest_sends wire s (phase.Resumed reply) rest = tt
+
+saved_without : (o : ChangeStreamOptions) (r : Option ChangeStreamData) → IsSaved o r → IsSaved o (option_map forgotten r)
+saved_without o None saved = absurd saved
+saved_without o (Some known) saved = saved
+
+-- a stream whose token was handed out keeps what it has to
+pub sound_without : (wire : ℤ) (s left : ChangeStream) → left ≡ without_token s → AtRest s.phase → IsSound wire s → IsSound wire left
+sound_without wire s left is rest sound = subst (IsSound wire) (sym is) (record { kept = record { saved = saved_without s.aggregate.args.options s.aggregate.resume sound.kept.saved; named = sound.kept.named }; sends = rest_sends wire (without_token s) s.phase rest })
+
+pub tickets_rest : (mid new : Awaited) (p : Phase) (ticket : Option ℕ) → AtRest p → Tickets mid new (ticket_in p) ticket → Tickets mid new None ticket
+tickets_rest mid new p ticket rest t = subst (λ (h : Option ℕ). Tickets mid new h ticket) (rest_none p rest) t
+
+-- a call that has ended leaves its stream at rest
+pub rests_after : (poll : EventPoll) (p : Phase) → HasEnded poll → RestsAfter poll p → AtRest p
+rests_after polls.Pending p ended rests = absurd ended
+rests_after (polls.Ready event) p ended rests = rests
+rests_after (polls.Failed e) p ended rests = rests
+
+-- a closing of a stream at rest
+pub closes_at_rest : (s left : ChangeStream) (c : Flight) → left ≡ without_token s → AtRest s.phase → (AtRest left.phase → IsQuiet c) → IsQuiet c
+closes_at_rest s left c is rest quiet = quiet (subst (λ (x : ChangeStream). AtRest x.phase) (sym is) rest)
+
+-- a follow that has ended does nothing
+pub took_ended : (awaited : Awaited) (log : Told) (s : Stage) (p : FollowPlayer) → s ≡ stage.Ended → FollowTurns awaited awaited log log s p stage.Ended p
+took_ended awaited log s p is = subst (λ x. FollowTurns awaited awaited log log x p stage.Ended p) (sym is) (took_same awaited log log stage.Ended p refl)

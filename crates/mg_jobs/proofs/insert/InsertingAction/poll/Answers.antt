@@ -1,0 +1,44 @@
+use Rattle.std.proofs.Common.{refl, sym, ◌∙◌}
+use Rattle.mg_link.proofs.Onward.{later_on, later_same, tickets_on, tickets_same}
+use Rattle.mg_link.proofs.Plain.{plain_on, plain_stayed}
+use Rattle.mg_jobs.specs.Inserts.{held}
+use Rattle.mg_jobs.proofs.Plainly.{tickets_from}
+use Rattle.mg_jobs.proofs.insert.InsertingAction.poll.Goals as goal
+
+pub commands-init : goal.commands-init
+commands-init g c = record {
+  tickets = tickets_same _ (held c.args.self.command) c.requires;
+  plain = λ plain. (plain_stayed _ _ refl, plain);
+  later = later_same _ _ _ _;
+}
+
+pub hear-requires : goal.hear-requires
+hear-requires g c n e = c.commands.invariant.tickets.held n (sym c.in-Send.ensures.ticket ∙ e)
+
+pub returns-in-Pending-clause-tickets : goal.returns-in-Pending-clause-tickets
+returns-in-Pending-clause-tickets g c = tickets_on c.commands.invariant.tickets (tickets_from _ _ _ _ _ c.in-Send.ensures.ticket c.in-Pending.ensures.tickets)
+
+pub returns-in-Pending-clause-plain : goal.returns-in-Pending-clause-plain
+returns-in-Pending-clause-plain g c = λ plain.
+    let before = c.commands.invariant.plain plain in
+    let heard = c.in-Pending.ensures.plain (c.in-Send.ensures.plain before.1) in
+    (plain_on _ _ _ before.0 heard.0, heard.1)
+
+pub commands-preserved : goal.commands-preserved
+commands-preserved g c = record {
+  tickets = tickets_on c.commands.invariant.tickets (tickets_from _ _ _ _ _ c.in-Send.ensures.ticket c.in-Inserted.ensures.tickets);
+  plain = λ plain.
+      let before = c.commands.invariant.plain plain in
+      let heard = c.in-Inserted.ensures.plain (c.in-Send.ensures.plain before.1) in
+      (plain_on _ _ _ before.0 heard.0, tt);
+  later = later_on c.commands.invariant.later c.hear.ensures.later;
+}
+
+pub returns-in-Failed-clause-plain : goal.returns-in-Failed-clause-plain
+returns-in-Failed-clause-plain g c = λ plain.
+    let before = c.commands.invariant.plain plain in
+    let heard = c.in-Failed.ensures.plain (c.in-Send.ensures.plain before.1) in
+    (plain_on _ _ _ before.0 heard.0, tt)
+
+pub returns-in-Failed-clause-tickets : goal.returns-in-Failed-clause-tickets
+returns-in-Failed-clause-tickets g c = tickets_on c.commands.invariant.tickets (tickets_from _ _ _ _ _ c.in-Send.ensures.ticket c.in-Failed.ensures.tickets)

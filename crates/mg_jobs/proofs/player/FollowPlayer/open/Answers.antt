@@ -1,0 +1,30 @@
+use Rattle.std.proofs.Common.{refl, subst, sym}
+use Rattle.mg_link.proofs.Onward.{tickets_on}
+use Rattle.mg_jobs.specs.Follows.{HasGiven, IsFailed}
+use Rattle.mg_jobs.specs.declared.player.Stage.TheVariants as stage
+use Rattle.mg_jobs.proofs.Turning.{open_done, open_failed, open_pends, rest_out, tickets_rest, took_on}
+use Rattle.mg_jobs.proofs.player.FollowPlayer.open.Goals as goal
+
+pub returns-in-Pending-clause-turned : goal.returns-in-Pending-clause-turned
+returns-in-Pending-clause-turned g c = open_pends _ _ _ _ c.args.self.now c.args.opening c.in-Pending.opening c.in-Pending.ensures.keeps.1 c.in-Pending.ensures.keeps.0 c.in-Pending.ensures.moved
+
+pub go_on-requires-clause-held : goal.go_on-requires-clause-held
+go_on-requires-clause-held g c = rest_out _ c.in-Done.stream.phase c.in-Done.ensures.keeps.2
+
+pub go_on-requires-clause-sound : goal.go_on-requires-clause-sound
+go_on-requires-clause-sound g c = c.in-Done.ensures.keeps.1 (g.L.Link.wire c.poll.new.link)
+
+pub go_on-requires-clause-rests : goal.go_on-requires-clause-rests
+go_on-requires-clause-rests g c = c.in-Done.ensures.keeps.2
+
+pub returns-in-Done-clause-tickets : goal.returns-in-Done-clause-tickets
+returns-in-Done-clause-tickets g c = tickets_on c.in-Done.ensures.tickets (tickets_rest _ _ c.in-Done.stream.phase _ c.in-Done.ensures.keeps.2 c.go_on.ensures.tickets)
+
+pub returns-in-Done-clause-turned : goal.returns-in-Done-clause-turned
+returns-in-Done-clause-turned g c =
+    took_on _ _ _ _ _ _ (stage.Opens c.args.opening) c.args.self.now (stage.Open c.in-Done.stream) _ _ _
+    (open_done _ _ _ _ c.args.self.now _ c.args.opening c.in-Done.stream (record { watched = refl; answers = refl; token = refl }) (subst (λ o. HasGiven o) (sym c.note.ensures) tt) c.in-Done.ensures.keeps.0 c.in-Done.ensures.moved)
+    c.go_on.ensures.turned
+
+pub returns-in-Failed-clause-turned : goal.returns-in-Failed-clause-turned
+returns-in-Failed-clause-turned g c = open_failed _ _ _ _ c.args.self.now _ c.args.opening (record { watched = refl; answers = refl; token = refl }) (subst (λ o. IsFailed o) (sym c.note-in-Failed.ensures) tt) c.in-Failed.ensures.moved

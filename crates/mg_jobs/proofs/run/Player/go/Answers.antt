@@ -1,0 +1,37 @@
+use Rattle.std.proofs.Common.{None}
+use Rattle.mg_link.proofs.Onward.{tickets_same}
+use Rattle.mg_jobs.specs.declared.run.Player.TheVariants as player
+use Rattle.mg_jobs.proofs.Knowing.{same_insert, same_watch, turned_follow, turned_insert, turned_not}
+use Rattle.mg_jobs.proofs.run.Player.go.Goals as goal
+
+pub returns-in-Insert-clause-goes : goal.returns-in-Insert-clause-goes
+returns-in-Insert-clause-goes g c = rw c.in-Insert.is (record {
+  tickets = c.go.ensures.tickets;
+  holds = tt;
+  turned = turned_insert (g.L.Link.awaited c.args.link.now) (g.L.Link.awaited c.go.new.link) (g.L.Link.log c.args.link.now) (g.L.Link.log c.go.new.link) c.in-Insert.insert c.go.result c.go.ensures.plain;
+  task = same_insert c.in-Insert.insert c.go.result;
+})
+
+pub returns-in-Follow-clause-goes : goal.returns-in-Follow-clause-goes
+returns-in-Follow-clause-goes g c = rw c.in-Follow.is (record {
+  tickets = c.go-in-Follow.ensures.tickets;
+  holds = c.go-in-Follow.ensures.holds;
+  turned = turned_follow (g.L.Link.awaited c.args.link.now) (g.L.Link.awaited c.go-in-Follow.new.link) (g.L.Link.log c.args.link.now) (g.L.Link.log c.go-in-Follow.new.link) c.in-Follow.follow c.go-in-Follow.new.self c.go-in-Follow.ensures.turned;
+  task = same_watch c.in-Follow.follow c.go-in-Follow.new.self c.go-in-Follow.ensures.watched;
+})
+
+pub returns-in-Put-clause-goes : goal.returns-in-Put-clause-goes
+returns-in-Put-clause-goes g c = rw c.in-Put.is (record {
+  tickets = tickets_same _ None (λ n e. absurd cc);
+  holds = tt;
+  turned = turned_not _ _ player.Put player.Put (λ calls o plays. plays);
+  task = λ t does. does;
+})
+
+pub returns-in-Get-clause-goes : goal.returns-in-Get-clause-goes
+returns-in-Get-clause-goes g c = rw c.in-Get.is (record {
+  tickets = tickets_same _ None (λ n e. absurd cc);
+  holds = tt;
+  turned = turned_not _ _ player.Get player.Get (λ calls o plays. plays);
+  task = λ t does. does;
+})

@@ -1,0 +1,18 @@
+use Rattle.mg_jobs.proofs.Apart.{follow_same}
+use Rattle.mg_jobs.proofs.Knowing.{same_insert, same_knows, same_watch}
+use Rattle.mg_jobs.proofs.run.Player.ready.Goals as goal
+
+pub returns-in-Insert-clause-knows : goal.returns-in-Insert-clause-knows
+returns-in-Insert-clause-knows g c = rw c.in-Insert.is (λ awaited calls o plays. (plays.0, c.ready.ensures.plain plays.1))
+
+pub returns-in-Insert-clause-task : goal.returns-in-Insert-clause-task
+returns-in-Insert-clause-task g c = rw c.in-Insert.is (same_insert _ _)
+
+pub returns-in-Follow-clause-same : goal.returns-in-Follow-clause-same
+returns-in-Follow-clause-same g c = rw c.in-Follow.is (follow_same _ _ _ c.ready-in-Follow.ensures.same)
+
+pub returns-in-Follow-clause-knows : goal.returns-in-Follow-clause-knows
+returns-in-Follow-clause-knows g c = rw c.in-Follow.is (same_knows _ _ c.ready-in-Follow.ensures.same)
+
+pub returns-in-Follow-clause-task : goal.returns-in-Follow-clause-task
+returns-in-Follow-clause-task g c = rw c.in-Follow.is (same_watch _ _ c.ready-in-Follow.ensures.same.watched_same)

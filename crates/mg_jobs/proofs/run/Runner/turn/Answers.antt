@@ -1,0 +1,100 @@
+use Rattle.std.proofs.Common.{◌≡◌, ◌<◌, ◌++◌, ◌∷◌, [], length, true, Some, refl, sym, ap, ◌∙◌, subst, arith}
+use Rattle.std.specs.Prelude.{slice_get}
+use Rattle.std.proofs.lemmas.Option.{slice_get_read}
+use Rattle.std.proofs.lemmas.Result.{err_from_is_err_and}
+use Rattle.mg_jobs.specs.Runs.{IsSameJob, ended_at, idle}
+use Rattle.mg_jobs.specs.declared.outcome.Turned.{Turned}
+use Rattle.mg_jobs.specs.declared.run.Player.{Player}
+use Rattle.mg_jobs.proofs.Apart.{apart_as, on_err, same_at, same_job, same_jobs, stands_after}
+use Rattle.mg_jobs.proofs.Knowing.{knowing_on, tasks_after}
+use Rattle.mg_jobs.proofs.run.Runner.turn.Goals as goal
+
+pub returns-then-at-len-clause-same : goal.returns-then-at-len-clause-same
+returns-then-at-len-clause-same g c = same_jobs c.args.self.now.players.items
+
+pub returns-then-at-len-clause-ended : goal.returns-then-at-len-clause-ended
+returns-then-at-len-clause-ended g c = λ e. (refl, same_jobs c.args.self.now.players.items, tt)
+
+pub returns-in_err-reserve-clause-same : goal.returns-in_err-reserve-clause-same
+returns-in_err-reserve-clause-same g c = on_err c.from_residual.result (same_jobs c.args.self.now.players.items)
+
+pub returns-in_err-reserve-clause-ended : goal.returns-in_err-reserve-clause-ended
+returns-in_err-reserve-clause-ended g c = λ e.
+    let p = err_from_is_err_and c.from_residual.result c.from_residual.ensures.1 in
+    (refl, same_jobs c.args.self.now.players.items, rw p.1 tt)
+
+pub turn_of-requires : goal.turn_of-requires
+turn_of-requires g c =
+    let ok = c.args.self.now.players.ok.0 in
+    let within : c.args.job < length c.args.self.now.players.items = omega (arith, c.len.ensures, c.if-at-len.false) in
+    c.requires.each c.args.job c.index_mut-player.result.now (slice_get_read c.args.self.now.players.items (length c.args.self.now.players.items) c.args.job c.index_mut-player.result.now refl within c.index_mut-player.ensures.value)
+
+pub returns-in_err-note-clause-stands : goal.returns-in_err-note-clause-stands
+returns-in_err-note-clause-stands g c =
+    let ok = c.args.self.now.players.ok.0 in
+    let within : c.args.job < length c.args.self.now.players.items = omega (arith, c.len.ensures, c.if-at-len.false) in
+    let at = slice_get_read c.args.self.now.players.items (length c.args.self.now.players.items) c.args.job c.index_mut-player.result.now refl within c.index_mut-player.ensures.value in
+    stands_after (g.L.Link.awaited c.args.link.now) (g.L.Link.awaited c.turn_of.new.link) (g.L.Link.log c.args.link.now) (g.L.Link.log c.turn_of.new.link) (g.L.Link.wire c.args.link.now) (g.L.Link.wire c.turn_of.new.link) c.args.self.now.players.items c.args.job c.index_mut-player.result.now c.turn_of.new.player c.turn_of.ensures.later.wire at c.requires c.turn_of.ensures.goes
+
+pub returns-in_err-note-clause-same : goal.returns-in_err-note-clause-same
+returns-in_err-note-clause-same g c =
+    let ok = c.args.self.now.players.ok.0 in
+    let within : c.args.job < length c.args.self.now.players.items = omega (arith, c.len.ensures, c.if-at-len.false) in
+    let at = slice_get_read c.args.self.now.players.items (length c.args.self.now.players.items) c.args.job c.index_mut-player.result.now refl within c.index_mut-player.ensures.value in
+    on_err c.from_residual-in_err-note.result (same_at c.args.self.now.players.items c.args.job c.index_mut-player.result.now c.turn_of.new.player at c.in_err-note.ensures.err.2)
+
+pub returns-in_err-note-clause-ended : goal.returns-in_err-note-clause-ended
+returns-in_err-note-clause-ended g c = λ e.
+    let ok = c.args.self.now.players.ok.0 in
+    let within : c.args.job < length c.args.self.now.players.items = omega (arith, c.len.ensures, c.if-at-len.false) in
+    let at = slice_get_read c.args.self.now.players.items (length c.args.self.now.players.items) c.args.job c.index_mut-player.result.now refl within c.index_mut-player.ensures.value in
+    let bad = c.in_err-note.ensures.ended (ap ended_at (sym at) ∙ e) in
+    absurd (cc bad.0)
+
+pub returns-clause-stands : goal.returns-clause-stands
+returns-clause-stands g c =
+    let ok = c.args.self.now.players.ok.0 in
+    let within : c.args.job < length c.args.self.now.players.items = omega (arith, c.len.ensures, c.if-at-len.false) in
+    let at = slice_get_read c.args.self.now.players.items (length c.args.self.now.players.items) c.args.job c.index_mut-player.result.now refl within c.index_mut-player.ensures.value in
+    stands_after (g.L.Link.awaited c.args.link.now) (g.L.Link.awaited c.turn_of.new.link) (g.L.Link.log c.args.link.now) (g.L.Link.log c.turn_of.new.link) (g.L.Link.wire c.args.link.now) (g.L.Link.wire c.turn_of.new.link) c.args.self.now.players.items c.args.job c.index_mut-player.result.now c.turn_of.new.player c.turn_of.ensures.later.wire at c.requires c.turn_of.ensures.goes
+
+pub returns-clause-ended : goal.returns-clause-ended
+returns-clause-ended g c = λ e.
+    let ok = c.args.self.now.players.ok.0 in
+    let within : c.args.job < length c.args.self.now.players.items = omega (arith, c.len.ensures, c.if-at-len.false) in
+    let at = slice_get_read c.args.self.now.players.items (length c.args.self.now.players.items) c.args.job c.index_mut-player.result.now refl within c.index_mut-player.ensures.value in
+    let h = c.in_ok-note.ensures.ended (ap ended_at (sym at) ∙ e) in
+    let noted : c.in_ok-note.note ≡ idle = cc h.0 in
+    let same = subst (λ (q : Player). IsSameJob c.index_mut-player.result.now q) (sym h.2) (same_job c.index_mut-player.result.now) in (
+      h.1,
+      same_at c.args.self.now.players.items c.args.job c.index_mut-player.result.now c.turn_of.new.player at same,
+      c.push_reserved.ensures ∙ ap (λ l. l ++ c.in_ok-note.note ∷ []) c.in_ok-reserve.ensures.items ∙ ap (λ (n : Turned). c.args.self.now.turns.items ++ n ∷ []) noted,
+    )
+
+pub returns-in_err-note-clause-knowing : goal.returns-in_err-note-clause-knowing
+returns-in_err-note-clause-knowing g c = λ begun.
+    let ok = c.args.self.now.players.ok.0 in
+    let within : c.args.job < length c.args.self.now.players.items = omega (arith, c.len.ensures, c.if-at-len.false) in
+    let at = slice_get_read c.args.self.now.players.items (length c.args.self.now.players.items) c.args.job c.index_mut-player.result.now refl within c.index_mut-player.ensures.value in
+    knowing_on (g.L.Link.awaited c.args.link.now) (g.L.Link.awaited c.turn_of.new.link) (g.L.Link.log c.args.link.now) (g.L.Link.log c.turn_of.new.link) (g.L.Link.wire c.turn_of.new.link) c.args.self.now.players.items c.args.job c.index_mut-player.result.now c.turn_of.new.player at (apart_as _ _ _ c.args.self.now.players.items c.turn_of.ensures.later.wire c.requires) c.turn_of.ensures.goes begun
+
+pub returns-in_err-note-clause-tasks : goal.returns-in_err-note-clause-tasks
+returns-in_err-note-clause-tasks g c =
+    let ok = c.args.self.now.players.ok.0 in
+    let within : c.args.job < length c.args.self.now.players.items = omega (arith, c.len.ensures, c.if-at-len.false) in
+    let at = slice_get_read c.args.self.now.players.items (length c.args.self.now.players.items) c.args.job c.index_mut-player.result.now refl within c.index_mut-player.ensures.value in
+    tasks_after c.args.self.now.players.items c.args.job c.index_mut-player.result.now c.turn_of.new.player at c.turn_of.ensures.goes.task
+
+pub returns-clause-knowing : goal.returns-clause-knowing
+returns-clause-knowing g c = λ begun.
+    let ok = c.args.self.now.players.ok.0 in
+    let within : c.args.job < length c.args.self.now.players.items = omega (arith, c.len.ensures, c.if-at-len.false) in
+    let at = slice_get_read c.args.self.now.players.items (length c.args.self.now.players.items) c.args.job c.index_mut-player.result.now refl within c.index_mut-player.ensures.value in
+    knowing_on (g.L.Link.awaited c.args.link.now) (g.L.Link.awaited c.turn_of.new.link) (g.L.Link.log c.args.link.now) (g.L.Link.log c.turn_of.new.link) (g.L.Link.wire c.turn_of.new.link) c.args.self.now.players.items c.args.job c.index_mut-player.result.now c.turn_of.new.player at (apart_as _ _ _ c.args.self.now.players.items c.turn_of.ensures.later.wire c.requires) c.turn_of.ensures.goes begun
+
+pub returns-clause-tasks : goal.returns-clause-tasks
+returns-clause-tasks g c =
+    let ok = c.args.self.now.players.ok.0 in
+    let within : c.args.job < length c.args.self.now.players.items = omega (arith, c.len.ensures, c.if-at-len.false) in
+    let at = slice_get_read c.args.self.now.players.items (length c.args.self.now.players.items) c.args.job c.index_mut-player.result.now refl within c.index_mut-player.ensures.value in
+    tasks_after c.args.self.now.players.items c.args.job c.index_mut-player.result.now c.turn_of.new.player at c.turn_of.ensures.goes.task

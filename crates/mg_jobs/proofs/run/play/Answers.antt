@@ -1,0 +1,28 @@
+use Rattle.std.proofs.Common.{◌≡◌, ◌+◌, ◌∷◌, [], List, false, ap, sym, ◌∙◌, subst, length, length-append}
+use Rattle.std.specs.List.{All, sum_by}
+use Rattle.std.proofs.lemmas.List.Elements.{All-append, All-cons, All-nil}
+use Rattle.mg_link.proofs.Onward.{later_on}
+use Rattle.mg_jobs.specs.Counts.{StartedBy}
+use Rattle.mg_jobs.specs.declared.outcome.Turned.{Turned}
+use Rattle.mg_jobs.proofs.Tallies.{started_more}
+use Rattle.mg_jobs.proofs.run.play.Goals as goal
+
+pub returns-in_err-turn-clause-knowing : goal.returns-in_err-turn-clause-knowing
+returns-in_err-turn-clause-knowing g c = λ begun before. c.turn.ensures.knowing begun (c.loop-number.invariant.knowing begun before)
+
+pub loop-number-preserved : goal.loop-number-preserved
+loop-number-preserved g c =
+    let noted = c.in_ok-turn.ensures.noted in
+    let xs = c.loop-number.runner.turns.items in
+    record {
+      stands = c.turn.ensures.stands;
+      later = later_on c.loop-number.invariant.later c.turn.ensures.later;
+      turns = ap length noted.1 ∙ length-append xs (noted.0 ∷ []) ∙ ap (λ n. n + 1) c.loop-number.invariant.turns;
+      started = subst (λ (ts : List Turned). StartedBy (sum_by (λ (t : Turned). t.started) ts) (g.L.Link.log c.args.link.now) (g.L.Link.log c.turn.new.link)) (sym noted.1)
+          (started_more xs noted.0 _ _ _ c.loop-number.invariant.started noted.2.starts);
+      quiet = λ prompt. subst (λ (ts : List Turned). All (λ (t : Turned). t.pended ≡ false) ts) (sym noted.1)
+          (All-append (λ (t : Turned). t.pended ≡ false) xs (noted.0 ∷ []) (c.loop-number.invariant.quiet prompt) (All-cons (λ (t : Turned). t.pended ≡ false) noted.0 [] (noted.2.prompt (c.loop-number.invariant.later.prompt prompt).stays).1 (All-nil (λ (t : Turned). t.pended ≡ false))));
+      jobs = c.turn.ensures.jobs ∙ c.loop-number.invariant.jobs;
+      knowing = λ begun before. c.turn.ensures.knowing begun (c.loop-number.invariant.knowing begun before);
+      tasks = λ ts does. c.turn.ensures.tasks ts (c.loop-number.invariant.tasks ts does);
+    }

@@ -1,0 +1,21 @@
+use Rattle.std.proofs.Common.{◌≡◌, List, length, false}
+use Rattle.std.specs.List.{All, sum_by}
+use Rattle.mg_link.specs.Link.{Later, Told}
+use Rattle.mg_jobs.specs.Counts.{StartedBy}
+use Rattle.mg_jobs.specs.Headline.{DoTasks, Knowing}
+use Rattle.mg_jobs.specs.Plan.{Task}
+use Rattle.mg_jobs.specs.Runs.{Stands}
+use Rattle.mg_jobs.specs.declared.outcome.Turned.{Turned}
+use Rattle.mg_jobs.proofs.run.play.Given as goal
+
+abbrev pub invariant-loop-number : goal.invariant-loop-number
+invariant-loop-number g l = record {
+  stands : Stands (g.L.Link.awaited l.link) (g.L.Link.wire l.link) l.runner;
+  later : Later (g.L.Link.faults l.initial.link) (g.L.Link.faults l.link) (g.L.Link.pends l.initial.link) (g.L.Link.pends l.link) (g.L.Link.wire l.initial.link) (g.L.Link.wire l.link) (g.L.Link.prompt l.initial.link) (g.L.Link.prompt l.link);
+  turns : length l.runner.turns.items ≡ l.number-index;
+  started : StartedBy (sum_by (λ (t : Turned). t.started) l.runner.turns.items) (g.L.Link.log l.initial.link) (g.L.Link.log l.link);
+  quiet : g.L.Link.prompt l.initial.link → All (λ (t : Turned). t.pended ≡ false) l.runner.turns.items;
+  jobs : length l.runner.players.items ≡ length l.initial.runner.players.items;
+  knowing : (begun : Told) → Knowing (g.L.Link.awaited l.initial.link) begun (g.L.Link.log l.initial.link) l.initial.runner.players.items → Knowing (g.L.Link.awaited l.link) begun (g.L.Link.log l.link) l.runner.players.items;
+  tasks : (ts : List Task) → DoTasks ts l.initial.runner.players.items → DoTasks ts l.runner.players.items;
+}

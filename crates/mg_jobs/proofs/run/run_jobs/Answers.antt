@@ -1,0 +1,17 @@
+use Rattle.std.proofs.Common.{◌≡◌, ◌<◌, length, None, refl, sym, subst}
+use Rattle.std.specs.List.{All}
+use Rattle.mg_jobs.specs.Script.{first_missing}
+use Rattle.mg_jobs.proofs.Orders.{none_missing}
+use Rattle.mg_jobs.specs.Plan.{tasks}
+use Rattle.mg_jobs.proofs.Knowing.{knowing_first, played_so, same_count}
+use Rattle.mg_jobs.proofs.run.run_jobs.Goals as goal
+
+pub play-requires-clause-jobs : goal.play-requires-clause-jobs
+play-requires-clause-jobs g c =
+    let none : first_missing (length c.args.jobs.now) c.args.order.now ≡ None = sym c.in_default.ensures in
+    subst (λ n. All (λ m. m < n) c.args.order.now) (sym c.in_ok-runner.ensures.jobs) (none_missing (length c.args.jobs.now) c.args.order.now none)
+
+pub returns-clause-followed : goal.returns-clause-followed
+returns-clause-followed g c = played_so _ (tasks c.args.jobs.now) _ _ c.into_played.result c.play.new.runner.players.items _ c.into_played.ensures.outcomes c.into_played.ensures.each
+    (λ watch. c.play.ensures.knowing _ (knowing_first _ _ (tasks c.args.jobs.now) c.in_ok-runner.runner.players.items (same_count c.args.jobs.now c.in_ok-runner.runner.players.items c.in_ok-runner.ensures.jobs) c.in_ok-runner.ensures.first c.in_ok-runner.ensures.tasks watch))
+    (c.play.ensures.tasks _ c.in_ok-runner.ensures.tasks) refl

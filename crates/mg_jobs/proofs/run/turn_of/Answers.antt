@@ -1,0 +1,36 @@
+use Rattle.std.proofs.Common.{sym, subst}
+use Rattle.mg_link.specs.Acts.{IsOut, Tickets}
+use Rattle.mg_link.proofs.Onward.{tickets_same}
+use Rattle.mg_jobs.proofs.Knowing.{turned_not, turned_ready}
+use Rattle.mg_jobs.specs.Runs.{job_ticket}
+use Rattle.mg_jobs.proofs.run.turn_of.Goals as goal
+
+pub returns-then-has_ended-clause-goes : goal.returns-then-has_ended-clause-goes
+returns-then-has_ended-clause-goes g c = record {
+  tickets = tickets_same _ _ c.requires.out;
+  holds = c.requires.holds;
+  turned = turned_not _ _ c.args.player.now c.args.player.now (λ calls o plays. plays);
+  task = λ t does. does;
+}
+
+pub returns-in_err-ready-clause-goes : goal.returns-in_err-ready-clause-goes
+returns-in_err-ready-clause-goes g c = record {
+  tickets = subst (λ t. Tickets (g.L.Link.awaited c.args.link.now) (g.L.Link.awaited c.args.link.now) (job_ticket c.args.player.now) t) (sym c.ready.ensures.ticket) (tickets_same _ _ c.requires.out);
+  holds = c.ready.ensures.holds _ c.requires.holds;
+  turned = turned_not _ _ c.args.player.now c.ready.new.self (c.ready.ensures.knows _);
+  task = c.ready.ensures.task;
+}
+
+pub take_turn-requires-clause-can : goal.take_turn-requires-clause-can
+take_turn-requires-clause-can g c = record {
+  out = subst (λ t. IsOut (g.L.Link.awaited c.args.link.now) t) (sym c.in_ok-ready.ensures.ticket) c.requires.out;
+  holds = c.in_ok-ready.ensures.holds _ c.requires.holds;
+}
+
+pub returns-clause-goes : goal.returns-clause-goes
+returns-clause-goes g c = record {
+  tickets = subst (λ t. Tickets (g.L.Link.awaited c.args.link.now) (g.L.Link.awaited c.take_turn.new.link) t (job_ticket c.take_turn.new.player)) c.in_ok-ready.ensures.ticket c.take_turn.ensures.goes.tickets;
+  holds = c.take_turn.ensures.goes.holds;
+  turned = turned_ready _ _ _ _ c.args.player.now c.ready.new.self c.take_turn.new.player c.in_ok-ready.ensures.knows c.take_turn.ensures.goes.turned;
+  task = λ t does. c.take_turn.ensures.goes.task t (c.in_ok-ready.ensures.task t does);
+}

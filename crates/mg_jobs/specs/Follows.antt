@@ -1,0 +1,190 @@
+-- What a follow watches, and what it knows turn by turn.
+use Rattle.std.specs.Prelude.{◌≡◌, ◌++◌, ℕ, ℤ, pos, List, [], ◌∷◌, Option, Some, None, option_map, slice_get}
+use Rattle.mg_bson.specs.Tree.{Tree, document, Fields}
+use Rattle.mg_bson.specs.Literal.{◌⇒◌⨾◌, empty}
+use Rattle.mg_bson.specs.Raw.{fields}
+use Rattle.mg_link.specs.Commands.{as_database, filter_stages}
+use Rattle.mg_link.specs.Follow.{Follow, FollowsOn, Knows, owing, owner_of}
+use Rattle.mg_link.specs.Link.{Awaited, Told}
+use Rattle.mg_link.specs.Log.{Call}
+use Rattle.mg_link.specs.Namespace.{Target, database, collection, cluster, target}
+use Rattle.mg_link.specs.Owner.{Owner, Passes}
+use Rattle.mg_link.specs.State.{Start, Watch, time_of}
+use Rattle.mg_link.specs.State as state
+use Rattle.mg_ops.specs.Naming.{IsNamed}
+use Rattle.mg_change.specs.Closings.{closing_of}
+use Rattle.mg_change.specs.declared.event_poll.EventPoll.{EventPoll}
+use Rattle.mg_change.specs.declared.event_poll.EventPoll.TheVariants as polls
+use Rattle.mg_change.specs.Following.{Asks, event_told, follow_of, not_open, opening_in, token_of}
+use Rattle.mg_change.specs.Openings.{IsOpening}
+use Rattle.mg_jobs.specs.Plan.{Begin, begin, nowhere, resume_after, start_after, at_time}
+use Rattle.mg_jobs.specs.declared.outcome.Answer.{Answer}
+use Rattle.mg_jobs.specs.declared.outcome.Answer.TheVariants as answers
+use Rattle.mg_jobs.specs.declared.outcome.Ended.{Ended}
+use Rattle.mg_jobs.specs.declared.outcome.Ended.TheVariants as ended
+use Rattle.mg_jobs.specs.declared.player.FollowPlayer.{FollowPlayer}
+use Rattle.mg_jobs.specs.declared.player.Stage.{Stage}
+use Rattle.mg_jobs.specs.declared.player.Stage.TheVariants as stage
+use Rattle.mg_jobs.specs.declared.player.Watched.{Watched}
+
+-- ---- what is watched
+
+-- the stages behind the one that opens the watch
+abbrev pub stages_of : Option Fields → List Fields
+stages_of None = []
+stages_of (Some filter) = ("$match" ⇒ document filter ⨾ empty) ∷ []
+
+abbrev pub start_of : Begin → Start
+start_of nowhere = state.nowhere
+start_of (resume_after token) = state.after token
+start_of (start_after token) = state.after token
+start_of (at_time seconds increment) = state.at_time (time_of seconds increment)
+
+-- a server may have a target of this name
+abbrev pub IsTarget : Target → Type 0
+IsTarget (collection space) = IsNamed space
+IsTarget (database db) = as_database db ≡ Some db
+IsTarget cluster = Unit {0}
+
+-- this is watched, from this start on: the target has a name that may be, and the filter has a meaning
+pub record IsWatch (on : Target) (start : Begin) (filter : Option Fields) (w : Watch) (from : Start) : Type 0 where
+  pub named : IsTarget on
+  pub on_is : w.target ≡ on
+  pub by : filter_stages (stages_of filter) ≡ Some w.filter
+  pub from_is : from ≡ start_of start
+
+abbrev pub filter_in : Watched → Option Fields
+filter_in v = option_map (λ d. d.now) v.filter
+
+abbrev pub IsWatched : Watched → Watch → Start → Type 0
+IsWatched v w from = IsWatch (target v.target.now) (begin v.start.now) (filter_in v) w from
+
+-- ---- what it has come to
+
+-- the events among the answers
+abbrev pub events_of : List Answer → List Fields
+events_of [] = []
+events_of (answers.Event event ∷ more) = fields event ∷ events_of more
+events_of (answers.Nothing ∷ more) = events_of more
+events_of (answers.Failed e ∷ more) = events_of more
+
+-- the call has ended
+abbrev pub HasEnded : EventPoll → Type 0
+HasEnded polls.Pending = ⊥
+HasEnded (polls.Ready event) = Unit {0}
+HasEnded (polls.Failed e) = Unit {0}
+
+-- what is kept of the answer to a call: nothing while it pends
+abbrev pub IsAnswer : EventPoll → Option Answer → Type 0
+IsAnswer poll None = poll ≡ polls.Pending
+IsAnswer poll (Some answer) = (event_told poll ≡ events_of (answer ∷ [])) × HasEnded poll
+
+-- a stream that is closed, or is being closed
+abbrev pub closed_follow : Watch → Start → Option ℕ → Option Tree → List Fields → Follow
+closed_follow w start opened token answered = record { doing = owing; watch = w; start = start; opened = opened; cursor = pos 0; old = pos 0; ahead = []; upto = None; token = token; answered = answered }
+
+-- the end of a follow: its stream was closed, or was never open
+abbrev pub ended_follow : {A : Type 0} → Ended A → Watch → Start → Option ℕ → Option Tree → List Fields → Follow
+ended_follow ended.Unfinished w start opened token answered = not_open w start
+ended_follow (ended.Gave x) w start opened token answered = closed_follow w start opened token answered
+ended_follow (ended.Failed e) w start opened token answered = not_open w start
+
+abbrev pub follow_at : {A : Type 0} → Awaited → Stage → Ended A → Watch → Start → Option ℕ → Option Tree → List Fields → Follow
+follow_at awaited stage.Unopened o w start opened token answered = not_open w start
+follow_at awaited (stage.Opens opening) o w start opened token answered = opening_in awaited opening.exec w start
+follow_at awaited (stage.Open stream) o w start opened token answered = follow_of awaited w start stream opened answered
+follow_at awaited (stage.Closes closing) o w start opened token answered = closing_of awaited (closed_follow w start opened token answered) closing
+follow_at awaited stage.Ended o w start opened token answered = ended_follow o w start opened token answered
+
+-- what a follow at a stage is doing, where the call at `opened` opened its stream
+abbrev pub follow_by : Awaited → Stage → Watch → Start → Option ℕ → FollowPlayer → Follow
+follow_by awaited s w start opened p = follow_at awaited s p.opened w start opened p.token (events_of p.answers.items)
+
+-- nothing was answered, and there is no token
+pub record HasNothing (p : FollowPlayer) : Type 0 where
+  pub no_answer : p.answers.items ≡ []
+  pub no_token : p.token ≡ None
+
+abbrev pub IsUnfinished : {A : Type 0} → Ended A → Type 0
+IsUnfinished ended.Unfinished = Unit {0}
+IsUnfinished (ended.Gave x) = ⊥
+IsUnfinished (ended.Failed e) = ⊥
+
+abbrev pub HasGiven : {A : Type 0} → Ended A → Type 0
+HasGiven ended.Unfinished = ⊥
+HasGiven (ended.Gave x) = Unit {0}
+HasGiven (ended.Failed e) = ⊥
+
+abbrev pub IsFailed : {A : Type 0} → Ended A → Type 0
+IsFailed ended.Unfinished = ⊥
+IsFailed (ended.Gave x) = ⊥
+IsFailed (ended.Failed e) = Unit {0}
+
+-- a follow that ended has answers where its stream was opened
+abbrev pub EndsSo : {A : Type 0} → Ended A → FollowPlayer → Type 0
+EndsSo ended.Unfinished p = HasNothing p
+EndsSo (ended.Gave x) p = Unit {0}
+EndsSo (ended.Failed e) p = HasNothing p
+
+-- what a follow keeps goes with its stage: nothing before its stream is open
+abbrev pub IsInOrder : FollowPlayer → Stage → Type 0
+IsInOrder p stage.Unopened = IsUnfinished p.opened × HasNothing p
+IsInOrder p (stage.Opens opening) = IsUnfinished p.opened × HasNothing p
+IsInOrder p (stage.Open stream) = HasGiven p.opened
+IsInOrder p (stage.Closes closing) = HasGiven p.opened
+IsInOrder p stage.Ended = EndsSo p.opened p
+
+-- what is in flight or open asks for the watch
+abbrev pub StageAsks : Stage → Watch → Start → Type 0
+StageAsks stage.Unopened w start = Unit {0}
+StageAsks (stage.Opens opening) w start = Asks opening.aggregate.args w start × IsOpening opening.aggregate opening.exec
+StageAsks (stage.Open stream) w start = Asks stream.aggregate.args w start
+StageAsks (stage.Closes closing) w start = Unit {0}
+StageAsks stage.Ended w start = Unit {0}
+
+-- what a follow that is this to other jobs knows of its server
+pub record FollowKnows (awaited : Awaited) (calls : List Call) (s : Stage) (p : FollowPlayer) (o : Owner) : Type 0 where
+  pub watch : Watch
+  pub start : Start
+  -- the place in the log of the aggregate that opened its stream
+  pub opened : Option ℕ
+  pub watches : IsWatched p.watched watch start
+  pub asks : StageAsks s watch start
+  pub knows : Knows calls (follow_by awaited s watch start opened p)
+  pub owns : o ≡ owner_of (follow_by awaited s watch start opened p)
+  pub in_order : IsInOrder p s
+
+pub record FollowTook (awaited : Awaited) (calls calls' : List Call) (s : Stage) (p : FollowPlayer) (o : Owner) : Type 0 where
+  pub owner : Owner
+  pub knows : FollowKnows awaited calls' s p owner
+  pub passes : Passes calls calls' o owner
+
+-- A follow went from one stage to another: it goes on knowing, and leaves every other job alone.
+abbrev pub FollowTurns : Awaited → Awaited → Told → Told → Stage → FollowPlayer → Stage → FollowPlayer → Type 0
+FollowTurns old new log log' s p s' p' = (calls : List Call) → log ≡ Some calls → (o : Owner) → FollowKnows old calls s p o
+    → (calls' : List Call) × (log' ≡ Some calls') × FollowTook new calls calls' s' p' o
+
+-- ---- what this comes to
+
+-- In every legal history in which the log stands, the answered events are the first of the view from the opening place on, each once, in order, just up to the place that the token names.
+pub record Followed (calls : List Call) (w : Watch) (start : Start) (answered : List Fields) (token : Option Tree) : Type 0 where
+  pub stream : Follow
+  pub watch_is : stream.watch ≡ w
+  pub start_is : stream.start ≡ start
+  pub answered_is : stream.answered ≡ answered
+  pub token_is : stream.token ≡ token
+  pub follows : FollowsOn calls stream
+
+-- the token of a follow
+abbrev pub token_at : Stage → Option Tree → Option Tree
+token_at stage.Unopened token = None
+token_at (stage.Opens opening) token = None
+token_at (stage.Open stream) token = token_of stream.aggregate.resume
+token_at (stage.Closes closing) token = token
+token_at stage.Ended token = token
+
+-- a follow that was opened followed, and any other answered nothing
+abbrev pub FollowedOr : {A : Type 0} → Ended A → List Call → Watch → Start → List Fields → Option Tree → Type 0
+FollowedOr ended.Unfinished calls w start answered token = (answered ≡ []) × (token ≡ None)
+FollowedOr (ended.Gave x) calls w start answered token = Followed calls w start answered token
+FollowedOr (ended.Failed e) calls w start answered token = (answered ≡ []) × (token ≡ None)

@@ -1,0 +1,136 @@
+-- What the jobs of a run know of their server, and what their answers come to.
+use Rattle.std.specs.Prelude.{◌≡◌, ◌++◌, ℕ, List, Option, Some, None, length, slice_get}
+use Rattle.mg_bson.specs.Tree.{Fields}
+use Rattle.mg_link.specs.Link.{Awaited, Told}
+use Rattle.mg_link.specs.Log.{Call}
+use Rattle.mg_link.specs.Namespace.{target}
+use Rattle.mg_link.specs.Owner.{Owner, AreApart, NamesItsOwn, Passes, nobody}
+use Rattle.mg_link.specs.State.{Start, Watch}
+use Rattle.mg_jobs.specs.Plan.{Task, begin, insert, follow, put, get}
+use Rattle.mg_jobs.specs.Follows.{FollowKnows, FollowedOr, HasNothing, IsUnfinished, IsWatch, events_of, filter_in, token_at}
+use Rattle.mg_jobs.specs.Playing.{IsOfInsert, IsPlainJob}
+use Rattle.mg_jobs.specs.declared.outcome.Outcome.{Outcome}
+use Rattle.mg_jobs.specs.declared.outcome.Outcome.TheVariants as outcome
+use Rattle.mg_jobs.specs.declared.player.FollowPlayer.{FollowPlayer}
+use Rattle.mg_jobs.specs.declared.player.Stage.TheVariants as stage
+use Rattle.mg_jobs.specs.declared.run.Player.{Player}
+use Rattle.mg_jobs.specs.declared.run.Player.TheVariants as player
+
+-- ---- the tasks of jobs
+
+-- the job does this task
+abbrev pub Does : Task → Player → Type 0
+Does (insert ns docs) (player.Insert job) = Unit {0}
+Does (follow on calls start filter batch) (player.Follow job) = (target job.watched.target.now ≡ on) × (begin job.watched.start.now ≡ start) × (filter_in job.watched ≡ filter)
+Does (put db bucket name id chunk pieces) player.Put = Unit {0}
+Does (get db bucket id read) player.Get = Unit {0}
+Does (insert ns docs) (player.Follow job) = ⊥
+Does (insert ns docs) player.Put = ⊥
+Does (insert ns docs) player.Get = ⊥
+Does (follow on calls start filter batch) (player.Insert job) = ⊥
+Does (follow on calls start filter batch) player.Put = ⊥
+Does (follow on calls start filter batch) player.Get = ⊥
+Does (put db bucket name id chunk pieces) (player.Insert job) = ⊥
+Does (put db bucket name id chunk pieces) (player.Follow job) = ⊥
+Does (put db bucket name id chunk pieces) player.Get = ⊥
+Does (get db bucket id read) (player.Insert job) = ⊥
+Does (get db bucket id read) (player.Follow job) = ⊥
+Does (get db bucket id read) player.Put = ⊥
+
+-- the job goes on with the same task
+abbrev pub IsSameTask : Player → Player → Type 0
+IsSameTask p p' = (t : Task) → Does t p → Does t p'
+
+-- each job does its task
+abbrev pub DoTasks : List Task → List Player → Type 0
+DoTasks tasks players = (i : ℕ) (t : Task) (p : Player) → slice_get tasks i ≡ Some t → slice_get players i ≡ Some p → Does t p
+
+-- a follow watches something: its target has a name that may be, and its filter has a meaning
+abbrev pub Watches : Task → Type 0
+Watches (insert ns docs) = Unit {0}
+Watches (follow on calls start filter batch) = (w : Watch) × (from : Start) × IsWatch on start filter w from
+Watches (put db bucket name id chunk pieces) = Unit {0}
+Watches (get db bucket id read) = Unit {0}
+
+abbrev pub AllWatch : List Task → Type 0
+AllWatch tasks = (i : ℕ) (t : Task) → slice_get tasks i ≡ Some t → Watches t
+
+-- the job has done nothing
+abbrev pub IsFirst : Player → Type 0
+IsFirst (player.Insert job) = IsPlainJob job
+IsFirst (player.Follow job) = (job.stage ≡ stage.Unopened) × IsUnfinished job.opened × HasNothing job
+IsFirst player.Put = Unit {0}
+IsFirst player.Get = Unit {0}
+
+abbrev pub AreFirst : List Player → Type 0
+AreFirst players = (i : ℕ) (p : Player) → slice_get players i ≡ Some p → IsFirst p
+
+-- ---- what jobs know
+
+-- a job that is this to the others knows of its server what it should
+abbrev pub Plays : Awaited → List Call → Player → Owner → Type 0
+Plays awaited calls (player.Insert job) o = (o ≡ nobody) × IsPlainJob job
+Plays awaited calls (player.Follow job) o = FollowKnows awaited calls job.stage job o
+Plays awaited calls player.Put o = o ≡ nobody
+Plays awaited calls player.Get o = o ≡ nobody
+
+pub record PlaysAt (awaited : Awaited) (calls : List Call) (p : Player) (owners : List Owner) (i : ℕ) : Type 0 where
+  pub owner : Owner
+  pub there : slice_get owners i ≡ Some owner
+  pub plays : Plays awaited calls p owner
+
+-- the jobs know what they should, and none has a cursor of another
+pub record AllKnow (awaited : Awaited) (calls : List Call) (players : List Player) : Type 0 where
+  pub owners : List Owner
+  pub apart : AreApart calls owners
+  pub each : (i : ℕ) (p : Player) → slice_get players i ≡ Some p → PlaysAt awaited calls p owners i
+
+pub record Took (awaited : Awaited) (calls calls' : List Call) (p : Player) (o : Owner) : Type 0 where
+  pub owner : Owner
+  pub plays : Plays awaited calls' p owner
+  pub passes : Passes calls calls' o owner
+
+-- A job took a turn: it knows what it should, and leaves every other job alone.
+abbrev pub Turns : Awaited → Awaited → Told → Told → Player → Player → Type 0
+Turns old new log log' p p' = (calls : List Call) → log ≡ Some calls → (o : Owner) → Plays old calls p o
+    → (calls' : List Call) × (log' ≡ Some calls') × Took new calls calls' p' o
+
+-- how a run stands that began with one log and has another
+abbrev pub Knowing : Awaited → Told → Told → List Player → Type 0
+Knowing awaited log log' players = (calls : List Call) → log ≡ Some calls → (calls' : List Call) × (log' ≡ Some calls')
+    × AllKnow awaited calls' players × (NamesItsOwn calls → NamesItsOwn calls')
+
+-- ---- what this comes to
+
+-- the outcome is that of the job
+abbrev pub OutcomeOf : Player → Outcome → Type 0
+OutcomeOf (player.Insert job) r = IsOfInsert r
+OutcomeOf (player.Follow job) r = r ≡ outcome.Follow job.opened job.answers (token_at job.stage job.token) job.alive job.closed
+OutcomeOf player.Put r = Unit {0}
+OutcomeOf player.Get r = Unit {0}
+
+abbrev pub OutcomesOf : List Player → List Outcome → Type 0
+OutcomesOf players outcomes = (i : ℕ) (p : Player) (r : Outcome) → slice_get players i ≡ Some p → slice_get outcomes i ≡ Some r → OutcomeOf p r
+
+-- the outcome of a job is as its task says
+abbrev pub OutcomeFollowed : List Call → Task → Outcome → Type 0
+OutcomeFollowed calls (follow on count start filter batch) (outcome.Follow opened answers token alive closed) = (w : Watch) × (from : Start) × IsWatch on start filter w from × FollowedOr opened calls w from (events_of answers.items) token
+OutcomeFollowed calls (follow on count start filter batch) (outcome.Insert n) = ⊥
+OutcomeFollowed calls (follow on count start filter batch) (outcome.Put n) = ⊥
+OutcomeFollowed calls (follow on count start filter batch) (outcome.Get bytes read) = ⊥
+OutcomeFollowed calls (insert ns docs) r = Unit {0}
+OutcomeFollowed calls (put db bucket name id chunk pieces) r = Unit {0}
+OutcomeFollowed calls (get db bucket id read) r = Unit {0}
+
+-- the outcomes made so far are those of the jobs gone through
+pub record Made (players rest : List Player) (outcomes : List Outcome) : Type 0 where
+  pub gone : List Player
+  pub whole : players ≡ gone ++ rest
+  pub count : length gone ≡ length outcomes
+  pub of : OutcomesOf gone outcomes
+
+-- Over a link that tells its log, each follow's answers are as they should be, and the log names its own cursors only.
+abbrev pub AllFollowed : Told → Told → List Task → List Outcome → Type 0
+AllFollowed log log' tasks outcomes = (calls : List Call) → log ≡ Some calls → (calls' : List Call) × (log' ≡ Some calls')
+    × ((i : ℕ) (t : Task) (r : Outcome) → slice_get tasks i ≡ Some t → slice_get outcomes i ≡ Some r → OutcomeFollowed calls' t r)
+    × (NamesItsOwn calls → NamesItsOwn calls')

@@ -1,0 +1,77 @@
+-- Jobs that go on turn by turn.
+use Rattle.std.specs.Prelude.{◌≡◌, ◌<◌, ℕ, ℤ, Bool, true, false, Option, None, vec_capacity, vec_len}
+use Rattle.mg_change.specs.Phases.{IsSound, ticket_in}
+use Rattle.mg_change.specs.Openings.{opening_ticket}
+use Rattle.mg_change.specs.Closings.{IsClosing, IsQuiet, closing_ticket}
+use Rattle.mg_jobs.specs.Inserts.{SendsPlain, insert_ticket}
+use Rattle.mg_jobs.specs.declared.outcome.Outcome.{Outcome}
+use Rattle.mg_jobs.specs.declared.outcome.Outcome.TheVariants as outcome
+use Rattle.mg_jobs.specs.declared.player.InsertPlayer.{InsertPlayer}
+use Rattle.mg_jobs.specs.declared.player.InsertPlayer.TheVariants as inserts
+use Rattle.mg_jobs.specs.declared.player.FollowPlayer.{FollowPlayer}
+use Rattle.mg_jobs.specs.declared.player.Stage.{Stage}
+use Rattle.mg_jobs.specs.declared.player.Stage.TheVariants as stage
+
+-- the ticket that an insert holds
+abbrev pub player_ticket : InsertPlayer → Option ℕ
+player_ticket (inserts.Unsent ns documents) = None
+player_ticket (inserts.Goes inserting) = insert_ticket inserting
+player_ticket (inserts.Ended ended) = None
+
+-- an insert that sends nothing more
+abbrev pub insert_ended : InsertPlayer → Bool
+insert_ended (inserts.Unsent ns documents) = false
+insert_ended (inserts.Goes inserting) = false
+insert_ended (inserts.Ended ended) = true
+
+-- the ticket that a follow holds
+abbrev pub stage_ticket : Stage → Option ℕ
+stage_ticket stage.Unopened = None
+stage_ticket (stage.Opens opening) = opening_ticket opening
+stage_ticket (stage.Open stream) = ticket_in stream.phase
+stage_ticket (stage.Closes closing) = closing_ticket closing
+stage_ticket stage.Ended = None
+
+-- a follow that sends nothing more
+abbrev pub follow_ended : Stage → Bool
+follow_ended stage.Unopened = false
+follow_ended (stage.Opens opening) = false
+follow_ended (stage.Open stream) = false
+follow_ended (stage.Closes closing) = false
+follow_ended stage.Ended = true
+
+-- its stream keeps what it has to
+abbrev pub StageHolds : ℤ → Stage → Type 0
+StageHolds wire stage.Unopened = Unit {0}
+StageHolds wire (stage.Opens opening) = Unit {0}
+StageHolds wire (stage.Open stream) = IsSound wire stream
+StageHolds wire (stage.Closes closing) = IsClosing wire closing.remains closing.flight × IsQuiet closing.flight
+StageHolds wire stage.Ended = Unit {0}
+
+-- there is a place for one more answer
+abbrev pub HasRoom : FollowPlayer → Type 0
+HasRoom f = vec_len f.answers < vec_capacity f.answers
+
+-- the two differ at most in the room for answers
+pub record IsSameFollow (f f' : FollowPlayer) : Type 0 where
+  pub watched_same : f'.watched ≡ f.watched
+  pub stage_same : f'.stage ≡ f.stage
+  pub left_same : f'.left ≡ f.left
+  pub opened_same : f'.opened ≡ f.opened
+  pub answers_same : f'.answers.items ≡ f.answers.items
+  pub token_same : f'.token ≡ f.token
+  pub alive_same : f'.alive ≡ f.alive
+  pub closed_same : f'.closed ≡ f.closed
+
+-- what an insert has in flight names no cursor
+abbrev pub IsPlainJob : InsertPlayer → Type 0
+IsPlainJob (inserts.Unsent ns documents) = Unit {0}
+IsPlainJob (inserts.Goes inserting) = SendsPlain inserting
+IsPlainJob (inserts.Ended ended) = Unit {0}
+
+-- the outcome is one of an insert
+abbrev pub IsOfInsert : Outcome → Type 0
+IsOfInsert (outcome.Insert count) = Unit {0}
+IsOfInsert (outcome.Follow opened answers token alive closed) = ⊥
+IsOfInsert (outcome.Put count) = ⊥
+IsOfInsert (outcome.Get bytes read) = ⊥

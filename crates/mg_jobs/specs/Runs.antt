@@ -1,0 +1,103 @@
+-- Jobs that share a link, turn by turn.
+use Rattle.std.specs.Prelude.{◌≡◌, ℕ, ℤ, Bool, true, false, ⊤, Option, Some, None, List, length, slice_get}
+use Rattle.mg_link.specs.Acts.{IsOut, Tickets}
+use Rattle.mg_link.specs.Link.{Awaited, Later, Told}
+use Rattle.mg_jobs.specs.Counts.{Counted}
+use Rattle.mg_jobs.specs.Headline.{IsSameTask, Turns}
+use Rattle.mg_jobs.specs.Playing.{HasRoom, IsSameFollow, StageHolds, follow_ended, insert_ended, player_ticket, stage_ticket}
+use Rattle.mg_jobs.specs.declared.outcome.Turned.{Turned}
+use Rattle.mg_jobs.specs.declared.player.FollowPlayer.{FollowPlayer}
+use Rattle.mg_jobs.specs.declared.run.Player.{Player}
+use Rattle.mg_jobs.specs.declared.run.Player.TheVariants as player
+use Rattle.mg_jobs.specs.declared.run.Runner.{Runner}
+
+-- ---- one job
+
+-- the ticket that it holds
+abbrev pub job_ticket : Player → Option ℕ
+job_ticket (player.Insert insert) = player_ticket insert
+job_ticket (player.Follow follow) = stage_ticket follow.stage
+job_ticket player.Put = None
+job_ticket player.Get = None
+
+-- it sends nothing more
+abbrev pub has_ended : Player → Bool
+has_ended (player.Insert insert) = insert_ended insert
+has_ended (player.Follow follow) = follow_ended follow.stage
+has_ended player.Put = true
+has_ended player.Get = true
+
+-- what it has in flight is its own command
+abbrev pub JobHolds : ℤ → Player → Type 0
+JobHolds wire (player.Insert insert) = Unit {0}
+JobHolds wire (player.Follow follow) = StageHolds wire follow.stage
+JobHolds wire player.Put = Unit {0}
+JobHolds wire player.Get = Unit {0}
+
+-- there is a place for what a turn gives
+abbrev pub IsReady : Player → Type 0
+IsReady (player.Insert insert) = Unit {0}
+IsReady (player.Follow follow) = HasRoom follow
+IsReady player.Put = Unit {0}
+IsReady player.Get = Unit {0}
+
+-- the two differ at most in the room for answers
+abbrev pub IsSameJob : Player → Player → Type 0
+IsSameJob (player.Insert insert) p = p ≡ player.Insert insert
+IsSameJob (player.Follow follow) p = (follow' : FollowPlayer) × (p ≡ player.Follow follow') × IsSameFollow follow follow'
+IsSameJob player.Put p = p ≡ player.Put
+IsSameJob player.Get p = p ≡ player.Get
+
+-- it may be given a turn over a link
+pub record CanGo (awaited : Awaited) (wire : ℤ) (p : Player) : Type 0 where
+  pub out : IsOut awaited (job_ticket p)
+  pub holds : JobHolds wire p
+
+-- ---- a turn
+
+-- what a turn does to its job, to the link's tickets and to what the job knows of its server
+pub record Goes (old new : Awaited) (log log' : Told) (wire : ℤ) (p p' : Player) : Type 0 where
+  pub tickets : Tickets old new (job_ticket p) (job_ticket p')
+  pub holds : JobHolds wire p'
+  pub turned : Turns old new log log' p p'
+  pub task : IsSameTask p p'
+
+-- the note is true of the turn
+abbrev pub IsNoted : Turned → (old new : Told) → (before now : ℕ) → (prompts prompts' : Type 0) → Type 0
+IsNoted note old new before now prompts prompts' = Counted old new note.started before now note.pended prompts prompts'
+
+-- the note of a turn in which nothing was sent
+abbrev pub idle : Turned
+idle = record { started = 0; pended = false }
+
+-- ---- all jobs
+
+-- the jobs may be given turns, and no ticket is of two
+pub record AreApart (awaited : Awaited) (wire : ℤ) (players : List Player) : Type 0 where
+  pub each : (i : ℕ) (p : Player) → slice_get players i ≡ Some p → CanGo awaited wire p
+  pub distinct : (i j : ℕ) (p q : Player) (n : ℕ) → (i ≡ j → ⊥) → slice_get players i ≡ Some p → slice_get players j ≡ Some q → job_ticket p ≡ Some n → job_ticket q ≡ Some n → ⊥
+
+-- the runner may give turns over a link of these tickets and this wire version
+abbrev pub Stands : Awaited → ℤ → Runner → Type 0
+Stands awaited wire runner = AreApart awaited wire runner.players.items
+
+-- a job that has done nothing
+pub record IsNew (p : Player) : Type 0 where
+  pub no_ticket : job_ticket p ≡ None
+  pub holds : (wire : ℤ) → JobHolds wire p
+
+abbrev pub AreNew : List Player → Type 0
+AreNew players = (i : ℕ) (p : Player) → slice_get players i ≡ Some p → IsNew p
+
+-- the jobs differ at most in the room for answers
+pub record AreSameJobs (players players' : List Player) : Type 0 where
+  pub count : length players' ≡ length players
+  pub each : (i : ℕ) (p p' : Player) → slice_get players i ≡ Some p → slice_get players' i ≡ Some p' → IsSameJob p p'
+
+-- whether the job of this number sends nothing more
+abbrev pub ended_at : Option Player → Bool
+ended_at None = true
+ended_at (Some p) = has_ended p
+
+abbrev pub job_ended : Runner → ℕ → Bool
+job_ended runner job = ended_at (slice_get runner.players.items job)

@@ -1,0 +1,128 @@
+//! A link over which the commands of a turn are counted.
+ghost use Rattle.std.specs.Prelude.{◌≡◌, ℕ};
+ghost use Rattle.mg_link.specs.Link.{Told};
+ghost use Rattle.mg_jobs.specs.Counts.{Counted};
+
+use crate::outcome::Turned;
+use mg_bson::RawDocument;
+use mg_link::{Link, LinkError, Polled, Ticket};
+use std::marker::{Brand, Model, PhantomData};
+
+/// What a turn began with, for proofs alone.
+pub(crate) trait Began {
+    /// The calls of the link, where it tells them.
+    ghost calls: { Told };
+
+    /// The count of its pending replies.
+    ghost pends: { ℕ };
+
+    /// Holds where it was prompt.
+    ghost prompts: { Type 0 };
+}
+
+impl Began for Brand {
+    ghost use Rattle.std.specs.Prelude.{None};
+
+    ghost calls = { None };
+
+    ghost pends = { 0 };
+
+    ghost prompts = { ⊥ };
+}
+
+/// A link that counts what a turn does over it. To clauses it is the link behind it.
+pub(crate) struct Counting<L: Link, B: Began> {
+    link: L,
+    started: u64,
+    pended: bool,
+    began: PhantomData<B>,
+}
+
+impl<L: Link, B: Began> Model for Counting<L, B> {
+    ghost use Rattle.mg_jobs.specs.Counts.{Counted};
+
+    ghost Value = { L };
+
+    ghost view = { λ c. c.link };
+
+    ghost invariant = { λ c. Counted B.calls (L.log c.link) c.started B.pends (L.pends c.link) c.pended B.prompts (L.prompt c.link) };
+}
+
+impl<L: Link, B: Began> Counting<L, B> {
+    /// Nothing is counted yet.
+    pub(crate) fn new(link: L) -> Counting<L, B>
+        requires calls { L.log link ≡ B.calls }
+        requires pends { L.pends link ≡ B.pends }
+        requires prompts { B.prompts → L.prompt link }
+        ensures { result ≡ link }
+    {
+        Counting {
+            link,
+            started: 0,
+            pended: false,
+            began: PhantomData,
+        }
+    }
+
+    /// The link, and what was counted.
+    pub(crate) fn into_parts(self) -> (L, Turned)
+        ensures link { result.0 ≡ self }
+        ensures counted { Counted B.calls (L.log self) result.1.started B.pends (L.pends self) result.1.pended B.prompts (L.prompt self) }
+    {
+        let Counting {
+            link,
+            started,
+            pended,
+            began: _,
+        } = self;
+        (link, Turned { started, pended })
+    }
+}
+
+impl<L: Link, B: Began> Link for Counting<L, B> {
+    ghost faults = { L.faults };
+
+    ghost pends = { L.pends };
+
+    ghost log = { L.log };
+
+    ghost awaited = { L.awaited };
+
+    ghost prompt = { L.prompt };
+
+    ghost wire = { L.wire };
+
+    /// A command that could not be counted is not sent.
+    fn start(&mut self, command: RawDocument<'_>) -> Result<Ticket, LinkError> {
+        let Some(started) = self.started.checked_add(1) else {
+            return Err(LinkError::Memory);
+        };
+        match self.link.start(command) {
+            Ok(ticket) => {
+                self.started = started;
+                Ok(ticket)
+            }
+            Err(LinkError::Fault) => {
+                self.started = started;
+                Err(LinkError::Fault)
+            }
+            Err(LinkError::Memory) => Err(LinkError::Memory),
+        }
+    }
+
+    fn poll(&mut self, ticket: Ticket) -> Polled {
+        match self.link.poll(ticket) {
+            Polled::Pending(ticket) => {
+                self.pended = true;
+                Polled::Pending(ticket)
+            }
+            Polled::Reply(bytes) => Polled::Reply(bytes),
+            Polled::Failed => Polled::Failed,
+            Polled::Memory => Polled::Memory,
+        }
+    }
+
+    fn wire_version(&self) -> i32 {
+        self.link.wire_version()
+    }
+}
