@@ -9,7 +9,6 @@ pub mod Opened
 pub mod Closed
 pub mod Sames
 pub mod SameClosings
-pub mod Growths
 pub mod Seeking
 pub mod Sent
 pub mod OpeningSends

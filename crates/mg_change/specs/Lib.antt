@@ -5,7 +5,6 @@ pub mod Openings
 pub mod Closings
 pub mod Following
 pub mod Replies
-pub mod Growths
 pub mod Rows
 pub mod Sent
 pub mod OpeningSends
