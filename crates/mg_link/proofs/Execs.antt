@@ -1,5 +1,6 @@
 -- The polls of an exec.
 use Rattle.std.proofs.Common.{◌≡◌, ◌⊎◌, ◌&&◌, ◌≤◌, ℕ, ℤ, List, Bool, true, false, Option, Some, None, refl, sym, ap, ◌∙◌, subst, inl, inr, arith}
+use Rattle.std.proofs.lemmas.Bool.{and_parts}
 use Rattle.std.specs.Prelude.{IsSome, is_some}
 use Rattle.mg_bson.specs.Tree.{Fields}
 use Rattle.mg_bson.specs.Reading.{doc}
@@ -17,7 +18,7 @@ use Rattle.mg_link.specs.Causes.{Rose}
 use Rattle.mg_link.specs.Log.{waiting, reply, fault, memory}
 use Rattle.mg_link.specs.Reply.{Refusal, refusal_of, verdict_of}
 use Rattle.mg_link.specs.Link.{Awaited, Told}
-use Rattle.mg_link.specs.Acts.{IsOut, Tickets, ticket_after, PendsBy, FailsByFault, EndsAtOnce}
+use Rattle.mg_link.specs.Acts.{IsOut, Tickets, ticket_after, Pended, FailsByFault, EndsAtOnce}
 use Rattle.mg_link.specs.Exec.{Stage, unsent, first, second, Sending, Attempt, not_sent, waits, answered, ticket_at, ticket_of, Begins, GoesOn, Tries, is_retried_attempt, is_repeated, FailsAs, FailsByReply, FailsBy, Gives, holding, Once, Twice, Runs}
 use Rattle.mg_link.specs.Attempts.{HasCounts, IsAtOnce, held, Stops, Repeats}
 use Rattle.mg_link.proofs.Onward.{tickets_on}
@@ -49,7 +50,7 @@ fault_seen not_sent wire e f f' p p' fails counts io = absurd (not_io e kind.Out
 fault_seen (waits ticket) wire e f f' p p' fails counts io = absurd fails
 fault_seen (answered waiting) wire e f f' p p' fails counts io = absurd fails
 fault_seen (answered (reply bytes)) wire e f f' p p' fails counts io = absurd (fails_by_reply_other (doc bytes) wire e fails io)
-fault_seen (answered fault) wire e f f' p p' fails counts io = counts
+fault_seen (answered fault) wire e f f' p p' fails counts io = counts.0
 fault_seen (answered memory) wire e f f' p p' fails counts io = absurd (not_io e kind.OutOfMemory fails (λ bad. cc) io)
 
 no_fault_at_once : (a : Attempt) (wire : ℤ) (e : Error) → FailsBy a wire e → IsAtOnce a → e.kind ≡ kind.Io → ⊥
@@ -60,13 +61,31 @@ no_fault_at_once (answered (reply bytes)) wire e fails at io = fails_by_reply_ot
 no_fault_at_once (answered fault) wire e fails at io = at
 no_fault_at_once (answered memory) wire e fails at io = not_io e kind.OutOfMemory fails (λ bad. cc) io
 
+-- an attempt that failed left the count of pending replies as it was
+failed_calm : (a : Attempt) (wire : ℤ) (e : Error) (f f' p p' : ℕ) → FailsBy a wire e → HasCounts a f f' p p' → p' ≡ p
+failed_calm not_sent wire e f f' p p' fails counts = counts
+failed_calm (waits ticket) wire e f f' p p' fails counts = absurd fails
+failed_calm (answered waiting) wire e f f' p p' fails counts = counts
+failed_calm (answered (reply bytes)) wire e f f' p p' fails counts = counts
+failed_calm (answered fault) wire e f f' p p' fails counts = counts.1
+failed_calm (answered memory) wire e f f' p p' fails counts = counts
+
+-- and so did one that is made once more
+retried_calm : (a : Attempt) (f f' p p' : ℕ) → is_retried_attempt a ≡ true → HasCounts a f f' p p' → p' ≡ p
+retried_calm not_sent f f' p p' is counts = counts
+retried_calm (waits ticket) f f' p p' is counts = absurd cc
+retried_calm (answered waiting) f f' p p' is counts = counts
+retried_calm (answered (reply bytes)) f f' p p' is counts = counts
+retried_calm (answered fault) f f' p p' is counts = counts.1
+retried_calm (answered memory) f f' p p' is counts = counts
+
 -- ---- what a poll answers, by its last attempt
 
 module _ (a : Attempt) (wire : ℤ) (hold : ℕ → Sending) where
-  pub gives_pended : (result : Step Sending (List ℕ)) (f f' p p' : ℕ) → HasCounts a f f' p p' → Gives a wire hold result → PendsBy 1 result p p'
+  pub gives_pended : (result : Step Sending (List ℕ)) (f f' p p' : ℕ) → HasCounts a f f' p p' → Gives a wire hold result → Pended result p p'
   gives_pended (step.Pending s) f f' p p' counts g = subst (λ x. HasCounts x f f' p p') g.1 counts
-  gives_pended (step.Done bytes) f f' p p' counts g = tt
-  gives_pended (step.Failed e) f f' p p' counts g = tt
+  gives_pended (step.Done bytes) f f' p p' counts g = subst (λ x. HasCounts x f f' p p') g.0 counts
+  gives_pended (step.Failed e) f f' p p' counts g = failed_calm a wire e f f' p p' g counts
 
   pub gives_lost : (result : Step Sending (List ℕ)) (f f' p p' : ℕ) → HasCounts a f f' p p' → Gives a wire hold result → FailsByFault result f f'
   gives_lost (step.Pending s) f f' p p' counts g = tt
@@ -192,7 +211,7 @@ runs_second old new log log' wire wire1 s n attempt result at goes_on same gives
 
 module _ (old mid new : Awaited) (log between log' : Told) (wire wire1 : ℤ) (s : Sending) (attempt : Attempt) (f f1 f' p p1 p' : ℕ) (prompts prompts' : Type 0) (result : Step Sending (List ℕ)) where
   abbrev pub Settles : Type 0
-  Settles = Stops mid new between log' wire1 s.command s.retries attempt result ⊎ Repeats mid new between log' wire1 s.command s.retries attempt f1 f' p1 p' prompts' result
+  Settles = Stops mid new between log' wire1 s.command s.retries attempt p1 p' result ⊎ Repeats mid new between log' wire1 s.command s.retries attempt f1 f' p1 p' prompts' result
 
   pub runs_first : Tries old mid log between s.command s.stage attempt → is_repeated s.retries s.stage attempt ≡ (s.retries && is_retried_attempt attempt) → ((n : ℕ) → holding s.stage n ≡ first n) → wire1 ≡ wire → Settles → Runs old new log log' wire s result
   runs_first t repeats_as hold same settles =
@@ -215,22 +234,14 @@ module _ (old mid new : Awaited) (log between log' : Told) (wire wire1 : ℤ) (s
         })
       ]
 
-  pub first_pended : HasCounts attempt f f1 p p1 → p ≤ p1 → p1 ≤ p' → Settles → PendsBy 1 result p p'
-  first_pended counts le le' settles =
+  pub first_pended : HasCounts attempt f f1 p p1 → Settles → Pended result p p'
+  first_pended counts settles =
       elim settles [
-        | inl stops ↦ raised result p1 (gives_pended attempt wire1 (held s.command s.retries false) result f f1 p p1 counts stops.gives) le'
-        | inr repeats ↦ lowered result (gives_pended repeats.again wire1 (held s.command s.retries true) result f1 f' p1 p' repeats.counts repeats.gives)
+        | inl stops ↦ subst (Pended result p) (sym stops.pended_same) (gives_pended attempt wire1 (held s.command s.retries false) result f f1 p p1 counts stops.gives)
+        | inr repeats ↦
+            let retried = (and_parts s.retries (is_retried_attempt attempt) repeats.repeated).1 in
+            subst (λ q. Pended result q p') (retried_calm attempt f f1 p p1 retried counts) (gives_pended repeats.again wire1 (held s.command s.retries true) result f1 f' p1 p' repeats.counts repeats.gives)
       ]
-    where
-      raised : (r : Step Sending (List ℕ)) (q : ℕ) → PendsBy 1 r p q → q ≤ p' → PendsBy 1 r p p'
-      raised (step.Pending x) q h lt = omega arith
-      raised (step.Done bytes) q h lt = tt
-      raised (step.Failed e) q h lt = tt
-
-      lowered : (r : Step Sending (List ℕ)) → PendsBy 1 r p1 p' → PendsBy 1 r p p'
-      lowered (step.Pending x) h = omega arith
-      lowered (step.Done bytes) h = tt
-      lowered (step.Failed e) h = tt
 
   pub first_lost : HasCounts attempt f f1 p p1 → f ≤ f1 → f1 ≤ f' → Settles → FailsByFault result f f'
   first_lost counts le le' settles =

@@ -11,7 +11,7 @@ use Rattle.mg_bson.specs.Find.{get}
 use Rattle.mg_link.specs.Namespace.{Space, collection}
 use Rattle.mg_link.specs.Filter.{Condition, has_dot}
 use Rattle.mg_link.specs.State.{Start, nowhere, after}
-use Rattle.mg_link.specs.Commands.{Asked, asks_insert, asks_watch, asks_more, asks_kill, asks_other, asked_by, asked, text_of, as_database, as_collection, database_at, space_at, as_integer, documents_in, integers_in, flag_or, insert_of, filter_stages, start_by, start_of, target_by, target_of, watch_from, watch_of, more_of, kill_of}
+use Rattle.mg_link.specs.Commands.{Asked, asks_insert, asks_watch, asks_more, asks_kill, asks_other, asked_by, asked, text_of, as_database, as_collection, database_at, space_at, as_integer, documents_in, integers_in, flag_or, insert_of, filter_stages, start_by, start_of, target_of, watch_from, watch_of, more_of, kill_of}
 use Rattle.mg_link.specs.Rules.{Request, insert, watch, more, kill, is_name_among, ignored, has_only, max_name, as_name, name_at, without_dot, named_space, as_id, id_of, optional_count, array_at, insert_request, batch_size, watch_options, behind_first, watch_request, some_size, more_request, ids_in, kill_request, bad_request, unknown_command, or_code, request_of}
 
 -- ---- steps that gave something
@@ -72,6 +72,9 @@ as_database-some (b ∷ bs) h e = ap (λ (d : Bool). if d then None else Some (b
 -- the collection that a command names
 pub record NamesSpace (at : List ℕ) (fs : Fields) (space : Space) : Type 0 where
   pub here : space_at at fs ≡ Some space
+  pub db_is : database_at fs ≡ Some space.db
+  pub text_is : text_of at fs ≡ Some space.coll
+  pub coll_is : as_collection space.coll ≡ Some space.coll
   pub named : IsNamed space
 
 pub space_some : (at : List ℕ) (fs : Fields) (space : Space) → named_space at fs ≡ Some space → NamesSpace at fs space
@@ -86,11 +89,15 @@ space_some at fs space h =
     let coll = name_some at fs c.0 c.1 in
     let there : nat_lt 0 (length b.0) ≡ true = subst (λ (n : List ℕ). nat_lt 0 (length n) ≡ true) db.0 name.1 in
     let db_at : option_and_then as_database (text_of (codes "$db") fs) ≡ Some b.0 = ap (option_and_then as_database) (name.0 ∙ ap Some db.0) ∙ as_database-some b.0 there db.1 in
-    let coll_at : option_and_then as_collection (text_of at fs) ≡ Some c.0 = ap (option_and_then as_collection) coll.0 ∙ as_collection-some c.0 coll.1 in
-    record {
-      here = rw (db_at, coll_at) (ap Some made);
-      named = subst IsNamed made (record { db_there = there; coll_there = coll.1; no_dot = db.1 });
-    }
+    let coll_is = as_collection-some c.0 coll.1 in
+    let coll_at : option_and_then as_collection (text_of at fs) ≡ Some c.0 = ap (option_and_then as_collection) coll.0 ∙ coll_is in
+    subst (NamesSpace at fs) made (record {
+      here = rw (db_at, coll_at) refl;
+      db_is = db_at;
+      text_is = coll.0;
+      coll_is = coll_is;
+      named = record { db_there = there; coll_there = coll.1; no_dot = db.1 };
+    })
 
 -- ---- what a request asks for
 
@@ -168,10 +175,10 @@ start_reads options h =
     ap₂ (start_by (get (codes "resumeAfter") options)) a b ∙ start_alone (get (codes "resumeAfter") options)
 
 stages_read : (fs : Fields) (stages : List Fields) (options : Fields) (filter : List Condition) (space : Space) → watch_options stages ≡ Some options → filter_stages (behind_first stages) ≡ Some filter → start_of options ≡ Some (start_from (get (codes "resumeAfter") options))
-    → space_at (codes "aggregate") fs ≡ Some space → watch_from fs stages ≡ Some (asks_watch (record { target = collection space; filter = filter }) (start_from (get (codes "resumeAfter") options)))
+    → NamesSpace (codes "aggregate") fs space → watch_from fs stages ≡ Some (asks_watch (record { target = collection space; filter = filter }) (start_from (get (codes "resumeAfter") options)))
 stages_read fs [] options filter space o f s at = absurd cc
 stages_read fs (stage ∷ stages) options filter space o f s at =
-    let t : target_of options fs ≡ Some (collection space) = ap (λ (x : Option Space). target_by options x (database_at fs)) at in
+    let t : target_of options fs ≡ Some (collection space) = rw (at.db_is, at.text_is, at.coll_is) refl in
     rw (o, f, s, t) refl
 
 abbrev watch_sized : Fields → Space → Fields → List Condition → Option Request
@@ -205,7 +212,7 @@ watch_reads fs r h =
     let f = when_some (has_only (codes "resumeAfter" ∷ []) d.0) (batch_size fs >>= λ size. Some (watch a.0 e.0 (get (codes "resumeAfter") d.0) size)) r e.2 in
     let g = then_some (batch_size fs) (λ (size : Option ℕ). Some (watch a.0 e.0 (get (codes "resumeAfter") d.0) size)) r f.1 in
     let space = space_some (codes "aggregate") fs a.0 a.1 in
-    let stages = stages_read fs c.0 d.0 e.0 a.0 d.1 e.1 (start_reads d.0 f.0) space.here in
+    let stages = stages_read fs c.0 d.0 e.0 a.0 d.1 e.1 (start_reads d.0 f.0) space in
     let asks = watch_asks fs b.0 c.0 (asks_of (watch a.0 e.0 (get (codes "resumeAfter") d.0) g.0)) b.1 c.1 stages in
     reads_as (watch_of fs) (watch a.0 e.0 (get (codes "resumeAfter") d.0) g.0) r g.2 asks space.named
 

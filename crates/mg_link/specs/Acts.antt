@@ -28,6 +28,12 @@ PendsBy n (Pending s) before now = RoseBy n before now
 PendsBy n (Done t) before now = Unit {0}
 PendsBy n (Failed e) before now = Unit {0}
 
+-- it pends just where the count of pending replies rose
+abbrev pub Pended : {S T : Type 0} → Step S T → ℕ → ℕ → Type 0
+Pended (Pending s) before now = Rose before now
+Pended (Done t) before now = now ≡ before
+Pended (Failed e) before now = now ≡ before
+
 -- it fails by the link only where the count of faults rose
 abbrev pub FailsByFault : {S T : Type 0} → Step S T → ℕ → ℕ → Type 0
 FailsByFault (Pending s) before now = Unit {0}

@@ -20,14 +20,14 @@ attempt_of (attempt.Reply bytes) = exec.answered (reply bytes.items)
 attempt_of attempt.Fault = exec.answered fault
 attempt_of attempt.Memory = exec.answered memory
 
--- the count of pending replies rose where the attempt waits, and that of faults where it is lost
+-- the count of pending replies rose just where the attempt waits, and that of faults where it is lost
 abbrev pub HasCounts : exec.Attempt → ℕ → ℕ → ℕ → ℕ → Type 0
-HasCounts exec.not_sent faulted faulted' pended pended' = Unit {0}
+HasCounts exec.not_sent faulted faulted' pended pended' = pended' ≡ pended
 HasCounts (exec.waits ticket) faulted faulted' pended pended' = Rose pended pended'
-HasCounts (exec.answered waiting) faulted faulted' pended pended' = Unit {0}
-HasCounts (exec.answered (reply bytes)) faulted faulted' pended pended' = Unit {0}
-HasCounts (exec.answered fault) faulted faulted' pended pended' = Rose faulted faulted'
-HasCounts (exec.answered memory) faulted faulted' pended pended' = Unit {0}
+HasCounts (exec.answered waiting) faulted faulted' pended pended' = pended' ≡ pended
+HasCounts (exec.answered (reply bytes)) faulted faulted' pended pended' = pended' ≡ pended
+HasCounts (exec.answered fault) faulted faulted' pended pended' = Rose faulted faulted' × (pended' ≡ pended)
+HasCounts (exec.answered memory) faulted faulted' pended pended' = pended' ≡ pended
 
 -- the attempt neither waits nor is lost
 abbrev pub IsAtOnce : exec.Attempt → Type 0
@@ -55,9 +55,10 @@ abbrev pub held : List ℕ → Bool → Bool → ℕ → exec.Sending
 held command retries again ticket = record { command = command; retries = retries; stage = stage_held again ticket }
 
 -- the attempt is the last, and nothing more is sent
-pub record Stops (old new : Awaited) (log log' : Told) (wire : ℤ) (command : List ℕ) (retries : Bool) (attempt : exec.Attempt) (result : Step exec.Sending (List ℕ)) : Type 0 where
+pub record Stops (old new : Awaited) (log log' : Told) (wire : ℤ) (command : List ℕ) (retries : Bool) (attempt : exec.Attempt) (pended pended' : ℕ) (result : Step exec.Sending (List ℕ)) : Type 0 where
   pub awaited_same : new ≡ old
   pub log_same : log' ≡ log
+  pub pended_same : pended' ≡ pended
   pub last : retries && exec.is_retried_attempt attempt ≡ false
   pub gives : exec.Gives attempt wire (held command retries false) result
 

@@ -104,14 +104,18 @@ start_of options = start_by (get (codes "resumeAfter") options) (get (codes "sta
 abbrev pub is_cluster : Fields → Bool
 is_cluster options = unwrap_or (option_and_then as_boolean (get (codes "allChangesForCluster") options)) false
 
--- a collection by its name, and otherwise a database, or the cluster where its option is set
-abbrev pub target_by : Fields → Option Space → Option (List ℕ) → Option Target
-target_by options (Some space) db = Some (collection space)
-target_by options None None = None
-target_by options None (Some db) = if is_cluster options then Some cluster else Some (database db)
+-- a whole database, or the cluster where the changes of all are asked for, which only `admin` may
+abbrev pub whole_target : Bool → List ℕ → Option Target
+whole_target all db = if all then (if bytes_eq db (codes "admin") then Some cluster else None) else Some (database db)
+
+-- what the first field of an aggregate aims a watch at: a text is the name of a collection, and 1 is the whole database
+abbrev pub target_by : Bool → List ℕ → Option (List ℕ) → Option ℤ → Option Target
+target_by all db (Some name) number = option_map (λ coll. collection (record { db = db; coll = coll })) (as_collection name)
+target_by all db None (Some n) = if int_eq n (pos 1) then whole_target all db else None
+target_by all db None None = None
 
 abbrev pub target_of : Fields → Fields → Option Target
-target_of options fs = target_by options (space_at (codes "aggregate") fs) (database_at fs)
+target_of options fs = option_and_then (λ db. target_by (is_cluster options) db (text_of (codes "aggregate") fs) (option_and_then as_int32 (get (codes "aggregate") fs))) (database_at fs)
 
 abbrev pub watch_by : Fields → Fields → List Fields → Option Asked
 watch_by fs options stages = option_and_then (λ filter. option_and_then (λ start. option_map (λ target. asks_watch (record { target = target; filter = filter }) start)

@@ -1,6 +1,6 @@
 //! Work over a link that goes on while replies pend.
 ghost use Rattle.std.specs.Prelude.{◌≡◌, ◌≤◌, ℕ, max, Option};
-ghost use Rattle.mg_link.specs.Acts.{EndsAtOnce, FailsByFault, IsOut, PendsBy, Tickets, ticket_after};
+ghost use Rattle.mg_link.specs.Acts.{EndsAtOnce, FailsByFault, IsOut, Pended, PendsBy, Tickets, ticket_after};
 ghost use Rattle.mg_link.specs.Link.{Later};
 
 use crate::error::Error;
@@ -29,7 +29,7 @@ pub trait Action: Sized {
     fn poll<L: Link>(self, link: &mut L) -> Step<Self, Self::Output>
         requires { IsOut (L.awaited link.old) (ticket self) }
         ensures tickets { Tickets (L.awaited link.old) (L.awaited link.new) (ticket self) (ticket_after ticket result) }
-        ensures pended { PendsBy 1 result (L.pends link.old) (L.pends link.new) }
+        ensures pended { Pended result (L.pends link.old) (L.pends link.new) }
         ensures lost { FailsByFault result (L.faults link.old) (L.faults link.new) }
         ensures prompt { L.prompt link.old → EndsAtOnce result }
         ensures later { Later (L.faults link.old) (L.faults link.new) (L.pends link.old) (L.pends link.new)

@@ -2,7 +2,7 @@
 ghost use Rattle.std.specs.Prelude.{◌≡◌, ◌⊎◌, ◌&&◌, ℕ};
 ghost use Rattle.mg_bson.specs.Raw.{fields};
 ghost use Rattle.mg_link.specs.declared.reply.Verdict.TheVariants as verdict;
-ghost use Rattle.mg_link.specs.Acts.{EndsAtOnce, FailsByFault, IsOut, PendsBy, Tickets, ticket_after};
+ghost use Rattle.mg_link.specs.Acts.{EndsAtOnce, FailsByFault, IsOut, Pended, Tickets, ticket_after};
 ghost use Rattle.mg_link.specs.Link.{Later};
 ghost use Rattle.mg_link.specs.Exec.{FailsAs, Gives, Runs, is_retried_attempt, ticket_of};
 ghost use Rattle.mg_link.specs.Attempts.{Reads, Repeats, Stops, attempt_of, held, stage_held};
@@ -128,7 +128,7 @@ fn settle<L: Link>(
     attempt: Attempt,
 ) -> Step<Exec, RawDocumentBuf>
     ensures settles { Stops (L.awaited link.old) (L.awaited link.new) (L.log link.old) (L.log link.new) (L.wire link.old)
-        command (reads retry) (attempt_of attempt) result
+        command (reads retry) (attempt_of attempt) (L.pends link.old) (L.pends link.new) result
         ⊎ Repeats (L.awaited link.old) (L.awaited link.new) (L.log link.old) (L.log link.new) (L.wire link.old)
         command (reads retry) (attempt_of attempt) (L.faults link.old) (L.faults link.new) (L.pends link.old) (L.pends link.new)
         (L.prompt link.old) result }
@@ -153,7 +153,7 @@ impl Action for Exec {
         requires { IsOut (L.awaited link.old) (ticket_of self) }
         ensures runs { Runs (L.awaited link.old) (L.awaited link.new) (L.log link.old) (L.log link.new) (L.wire link.old) self result }
         ensures tickets { Tickets (L.awaited link.old) (L.awaited link.new) (ticket_of self) (ticket_after ticket_of result) }
-        ensures pended { PendsBy 1 result (L.pends link.old) (L.pends link.new) }
+        ensures pended { Pended result (L.pends link.old) (L.pends link.new) }
         ensures lost { FailsByFault result (L.faults link.old) (L.faults link.new) }
         ensures prompt { L.prompt link.old → EndsAtOnce result }
         ensures later { Later (L.faults link.old) (L.faults link.new) (L.pends link.old) (L.pends link.new)

@@ -21,6 +21,7 @@ returns-clause-settles g c =
     inl (record {
       awaited_same = refl;
       log_same = refl;
+      pended_same = refl;
       last = sym (c.repeats.ensures (attempt_of c.args.attempt) c.judge-judged.ensures) ∙ c.if-repeats.false;
       gives = c.answer-2.ensures (attempt_of c.args.attempt) c.judge-judged.ensures;
     })
