@@ -1,5 +1,5 @@
 -- A link to a store in this process: what it keeps, and when a call is as its fate says.
-use Rattle.std.specs.Prelude.{◌≡◌, ◌+◌, ◌<◌, ◌≤◌, ◌++◌, ℕ, zero, suc, ℤ, pos, Option, Some, None, option_map, List, [], ◌∷◌, length, map, slice_get, string_bytes, Result, Ok, Err}
+use Rattle.std.specs.Prelude.{◌≡◌, ◌+◌, ◌<◌, ◌≤◌, ◌++◌, Bool, true, ℕ, zero, suc, ℤ, pos, Option, Some, None, option_map, List, [], ◌∷◌, length, map, slice_get, string_bytes, Result, Ok, Err}
 use Rattle.mg_bson.specs.Tree.{Fields}
 use Rattle.mg_bson.specs.Bytes.{bytes}
 use Rattle.mg_bson.specs.Raw.{fields}
@@ -13,6 +13,7 @@ use Rattle.mg_link.specs.declared.link.LinkError.TheVariants as errors
 use Rattle.mg_link.specs.declared.link.Polled.{Polled}
 use Rattle.mg_link.specs.declared.link.Polled.TheVariants as polled
 use Rattle.mg_link.specs.declared.link.Ticket.{Ticket}
+use Rattle.mg_store.specs.Replies.{fits}
 use Rattle.mg_store.specs.Stored.{Stored}
 use Rattle.mg_store.specs.declared.fate.Fate.{Fate}
 use Rattle.mg_store.specs.declared.fate.FateKind.{FateKind}
@@ -35,6 +36,13 @@ IsSmall kinds.Keep = Unit {0}
 IsSmall kinds.Lose = Unit {0}
 IsSmall kinds.Drop = Unit {0}
 IsSmall (kinds.Refuse code labels) = length (bytes (refusal code (map string_bytes labels.items))) ≤ 47000000
+
+-- the same as an answer: what a reply can hold has at most its bytes and its levels
+abbrev pub is_small : FateKind → Bool
+is_small kinds.Keep = true
+is_small kinds.Lose = true
+is_small kinds.Drop = true
+is_small (kinds.Refuse code labels) = fits (refusal code (map string_bytes labels.items))
 
 abbrev pub AreSmall : List Fate → Type 0
 AreSmall [] = Unit {0}

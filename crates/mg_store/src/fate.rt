@@ -1,6 +1,6 @@
 //! What becomes of a command on a link in memory.
 ghost use Rattle.std.specs.Prelude.{◌≡◌, IfOk, true};
-ghost use Rattle.mg_store.specs.InMemory.{IsSmall, fate_at};
+ghost use Rattle.mg_store.specs.InMemory.{IsSmall, fate_at, is_small};
 
 use crate::reply::{bytes_of, refusal};
 use mg_link::OutOfMemory;
@@ -36,7 +36,8 @@ pub enum FateKind {
 impl FateKind {
     /// Whether the refusal that it names, if any, is no larger than a reply may be.
     pub fn is_small(&self, alloc: Global) -> Result<bool, OutOfMemory>
-        ensures { IfOk result (λ small. small ≡ true → IsSmall self.now) }
+        ensures exact { IfOk result (λ small. small ≡ is_small self.now) }
+        ensures small { IfOk result (λ small. small ≡ true → IsSmall self.now) }
     {
         match self {
             FateKind::Keep => Ok(true),

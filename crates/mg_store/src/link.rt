@@ -337,20 +337,6 @@ impl MemLink {
             command,
         )
     }
-
-    /// Sends a command, and gives its reply. Where no reply comes at once the answer is want of memory.
-    pub fn send(&mut self, command: RawDocument<'_>) -> Result<RawDocumentBuf, OutOfMemory> {
-        let Ok(ticket) = self.start(command) else {
-            return Err(OutOfMemory);
-        };
-        let Polled::Reply(bytes) = self.poll(ticket) else {
-            return Err(OutOfMemory);
-        };
-        match RawDocumentBuf::from_bytes(bytes) {
-            Ok(reply) => Ok(reply),
-            Err(_) => Err(OutOfMemory),
-        }
-    }
 }
 
 impl Link for MemLink {
