@@ -14,7 +14,8 @@ use Rattle.mg_options.specs.Given.{before, ◌⇢◌⨾◌}
 use Rattle.mg_options.specs.Options.{change_stream_fields, time_value}
 use Rattle.mg_options.specs.declared.change_stream.ChangeStreamOptions.{ChangeStreamOptions}
 use Rattle.mg_ops.specs.Commands.{asked_size, get_more_command, insert_command, kill_command, listed, watch_command}
-use Rattle.mg_ops.specs.Naming.{IsAimed, IsNamed, start_in, watches_all}
+use Rattle.mg_ops.specs.Aims.{Aim, aim, aim_of, asked_for}
+use Rattle.mg_ops.specs.Naming.{IsNamed, start_in, watches_all}
 
 -- ---- lists in arrays
 
@@ -92,12 +93,21 @@ kill_by : (space : Space) (ids : List ℤ) → asked_by (kill_command space ids)
 unfolding kill_of
 kill_by space ids = rw (integers_listed ids) refl
 
-watch_by : (target : Target) (stages : List Fields) (filter : List Condition) (o : ChangeStreamOptions) (start : Start) → IsAimed target o → filter_stages stages ≡ Some filter → start_in o ≡ Some start
-    → asked_by (watch_command target stages o) ≡ Some (asks_watch (record { target = target; filter = filter }) start)
-unfolding watch_of space_at
-watch_by (collection space) stages filter o start aimed filtered starts = rw (documents_listed stages, filtered, start_is o, starts, aimed.db, aimed.coll) refl
-watch_by (database db) stages filter o start aimed filtered starts = rw (documents_listed stages, filtered, start_is o, starts, aimed.0, cluster_is o, aimed.1) refl
-watch_by cluster stages filter o start aimed filtered starts = rw (documents_listed stages, filtered, start_is o, starts, cluster_is o, aimed) refl
+-- what is found in turn: a filter, a start and a target
+watched_of : (f : Option (List Condition)) (s : Option Start) (t : Option Target)
+    → option_and_then (λ filter. option_and_then (λ start. option_map (λ target. asks_watch (record { target = target; filter = filter }) start) t) s) f
+    ≡ option_map (λ (a : Aim). asks_watch a.watch a.start) (option_and_then (λ filter. option_and_then (λ start. option_map (λ target. record { watch = record { target = target; filter = filter }; start = start }) t) s) f)
+watched_of None s t = refl
+watched_of (Some f) None t = refl
+watched_of (Some f) (Some s) None = refl
+watched_of (Some f) (Some s) (Some t) = refl
+
+watch_by : (target : Target) (stages : List Fields) (o : ChangeStreamOptions)
+    → asked_by (watch_command target stages o) ≡ option_map (λ (a : Aim). asks_watch a.watch a.start) (aim_of target stages o)
+unfolding watch_of
+watch_by (collection space) stages o = rw (documents_listed stages, start_is o) (watched_of (filter_stages stages) (start_in o) (aim o (collection space)))
+watch_by (database db) stages o = rw (documents_listed stages, start_is o, cluster_is o) (watched_of (filter_stages stages) (start_in o) (aim o (database db)))
+watch_by cluster stages o = rw (documents_listed stages, start_is o, cluster_is o) (watched_of (filter_stages stages) (start_in o) (aim o cluster))
 
 as_asked : (command : List ℕ) (fs : Fields) (a : Asked) → fields command ≡ fs → asked_by fs ≡ Some a → asked command ≡ a
 unfolding asked
@@ -112,7 +122,10 @@ asks_for_more command id space size named e = as_asked command (get_more_command
 pub asks_to_kill : (command : List ℕ) (space : Space) (ids : List ℤ) → fields command ≡ kill_command space ids → asked command ≡ asks_kill ids
 asks_to_kill command space ids e = as_asked command (kill_command space ids) (asks_kill ids) e (kill_by space ids)
 
-pub asks_to_watch : (command : List ℕ) (target : Target) (stages : List Fields) (filter : List Condition) (o : ChangeStreamOptions) (start : Start) → IsAimed target o → filter_stages stages ≡ Some filter → start_in o ≡ Some start
-    → fields command ≡ watch_command target stages o → asked command ≡ asks_watch (record { target = target; filter = filter }) start
-asks_to_watch command target stages filter o start aimed filtered starts e =
-    as_asked command (watch_command target stages o) (asks_watch (record { target = target; filter = filter }) start) e (watch_by target stages filter o start aimed filtered starts)
+unwrapped : (a : Option Aim) → unwrap_or (option_map (λ (a : Aim). asks_watch a.watch a.start) a) asks_other ≡ asked_for a
+unwrapped None = refl
+unwrapped (Some a) = refl
+
+pub asks_as_aimed : (command : List ℕ) (target : Target) (stages : List Fields) (o : ChangeStreamOptions) → fields command ≡ watch_command target stages o → asked command ≡ asked_for (aim_of target stages o)
+unfolding asked
+asks_as_aimed command target stages o e = ap (λ gs. unwrap_or (asked_by gs) asks_other) e ∙ ap (λ b. unwrap_or b asks_other) (watch_by target stages o) ∙ unwrapped (aim_of target stages o)

@@ -1,16 +1,17 @@
 -- What read replies tell.
-use Rattle.std.proofs.Common.{◌≡◌, ℕ, ℤ, List, Option, Some, None, Result, Ok, Err, refl, ap, ◌∙◌, option_map}
+use Rattle.std.proofs.Common.{◌≡◌, ℕ, ℤ, pos, negsuc, Bool, List, [], ◌∷◌, ◌++◌, Option, Some, None, Result, Ok, Err, refl, ap, ◌∙◌, option_map}
 use Rattle.std.specs.Prelude.{codes, option_and_then}
-use Rattle.mg_bson.specs.Tree.{Tree, Fields, Items}
-use Rattle.mg_bson.specs.Find.{as_document, as_int64, get}
+use Rattle.mg_bson.specs.Tree.{Tree, Fields, Items, no_items, item}
+use Rattle.mg_bson.specs.Find.{as_array, as_document, as_int64, get}
 use Rattle.mg_bson.specs.Raw.{fields}
 use Rattle.mg_link.specs.Namespace.{Space, space_of}
 use Rattle.mg_link.specs.Reply.{verdict_of}
-use Rattle.mg_link.specs.Commands.{Batch, asks_more, batch_by, batch_items, batch_of, documents_in, gave, text_of, token_in, told}
+use Rattle.mg_link.specs.Commands.{Batch, as_integer, asks_insert, asks_more, batch_by, batch_items, batch_of, documents_in, failures_at, gave, inserted, inserted_by, text_of, token_in, told}
 use Rattle.mg_link.specs.declared.error.Malformed.{Malformed}
 use Rattle.mg_link.specs.declared.error.Malformed.TheVariants as malformed
 use Rattle.mg_link.specs.declared.reply.Verdict.TheVariants as verdict
 use Rattle.mg_ops.specs.Cursors.{Cursor, cursor_in, cursor_of, found, ◌>>=◌}
+use Rattle.mg_ops.specs.Writes.{Failure, Inserted, as_count, concern_error_at, count_of, failures_of, item_error, last_index, with_concern, write_errors_at, write_errors_in}
 
 then_ok : {A B : Type 0} (r : Result A Malformed) (f : A → Result B Malformed) (y : B) → (r >>= f) ≡ Ok y → (x : A) × (r ≡ Ok x) × (f x ≡ Ok y)
 then_ok (Ok x) f y h = (x, refl, h)
@@ -51,3 +52,45 @@ pub tells_of_more : (id : ℤ) (space : Space) (reply : List ℕ) (c : Cursor) (
     → told (asks_more id space) reply ≡ gave c.id c.space events token
 unfolding told
 tells_of_more id space reply c events token success h are has = rw (success, reply_batch (fields reply) c events h are, has) refl
+
+-- ---- inserts
+
+count_back : (o : Option ℤ) (n : ℕ) → option_and_then as_count o ≡ Some n → o ≡ Some (pos n)
+count_back None n h = absurd cc
+count_back (Some (pos m)) n h = cc
+count_back (Some (negsuc m)) n h = absurd cc
+
+reply_count : (reply : Fields) (n : ℕ) → count_of reply ≡ Ok n → option_and_then as_integer (get (codes "n") reply) ≡ Some (pos n)
+unfolding count_of
+reply_count reply n h = count_back _ n (found_some malformed.BadCount _ n h)
+
+front_none : {A : Type 0} (xs ys : List A) → xs ++ ys ≡ [] → xs ≡ []
+front_none [] ys h = refl
+front_none (x ∷ xs) ys h = absurd cc
+
+none_in : (ts : Items) → write_errors_in ts ≡ Ok [] → ts ≡ no_items
+none_in no_items h = refl
+none_in (item t ts) h =
+    let first = then_ok (item_error t) (λ (failure : Failure). write_errors_in ts >>= λ failures. Ok (failure ∷ failures)) [] h in
+    let rest = then_ok (write_errors_in ts) (λ failures. Ok (first.0 ∷ failures)) [] first.2 in
+    let bad = rest.2 in
+    absurd cc
+
+none_at : (o : Option Tree) → write_errors_at o ≡ Ok [] → failures_at o ≡ Some []
+none_at None h = refl
+none_at (Some t) h =
+    let list = then_ok (found malformed.BadItem (as_array t)) write_errors_in [] h in
+    rw (found_some malformed.BadItem (as_array t) list.0 list.1, none_in list.0 list.2) refl
+
+reply_failures : (count : ℕ) (reply : Fields) → failures_of count reply ≡ Ok [] → failures_at (get (codes "writeErrors") reply) ≡ Some []
+unfolding failures_of
+reply_failures count reply h =
+    let errors = then_ok (write_errors_at (get (codes "writeErrors") reply)) (λ errors. with_concern errors count (get (codes "writeConcernError") reply)) [] h in
+    let concern = then_ok (concern_error_at count (get (codes "writeConcernError") reply)) (λ failures. Ok (errors.0 ++ failures)) [] errors.2 in
+    let joined : errors.0 ++ concern.0 ≡ [] = (let e = concern.2 in cc) in
+    none_at (get (codes "writeErrors") reply) (errors.1 ∙ ap (λ (fs : List Failure). Ok fs) (front_none errors.0 concern.0 joined))
+
+pub tells_of_insert : (space : Space) (documents : List Fields) (ordered : Bool) (reply : List ℕ) (count n : ℕ) → verdict_of (fields reply) ≡ verdict.Success → Inserted count (fields reply) n
+    → told (asks_insert space documents ordered) reply ≡ inserted (pos n) []
+unfolding told inserted_by
+tells_of_insert space documents ordered reply count n success i = rw (success, reply_count (fields reply) n i.counted, reply_failures (last_index count) (fields reply) i.none_failed) refl

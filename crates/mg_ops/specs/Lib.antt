@@ -5,3 +5,4 @@ pub mod Resuming
 pub mod Cursors
 pub mod Writes
 pub mod Naming
+pub mod Aims

@@ -1,6 +1,6 @@
 -- Which names a server takes.
-use Rattle.std.specs.Prelude.{◌≡◌, Bool, true, false, Option, Some, unwrap_or, option_map}
-use Rattle.mg_link.specs.Namespace.{Space, Target, database, collection, cluster}
+use Rattle.std.specs.Prelude.{◌≡◌, Bool, false, Option, Some, unwrap_or, option_map}
+use Rattle.mg_link.specs.Namespace.{Space}
 use Rattle.mg_link.specs.Commands.{as_collection, as_database, start_by}
 use Rattle.mg_link.specs.State.{Start}
 use Rattle.mg_options.specs.Options.{time_value}
@@ -13,12 +13,6 @@ pub record IsNamed (space : Space) : Type 0 where
 
 abbrev pub watches_all : ChangeStreamOptions → Bool
 watches_all o = unwrap_or o.all_changes_for_cluster false
-
--- a watch may be aimed so: the changes of every database are asked for exactly where the target is the cluster
-abbrev pub IsAimed : Target → ChangeStreamOptions → Type 0
-IsAimed (collection space) o = IsNamed space
-IsAimed (database db) o = (as_database db ≡ Some db) × (watches_all o ≡ false)
-IsAimed cluster o = watches_all o ≡ true
 
 -- where the watch begins; more than one start is none
 abbrev pub start_in : ChangeStreamOptions → Option Start

@@ -1,5 +1,0 @@
-use Rattle.mg_ops.proofs.Asking.{asks_to_watch}
-use Rattle.mg_ops.proofs.laws.asks_to_watch.Goals as goal
-
-pub returns : goal.returns
-returns c = asks_to_watch
