@@ -28,7 +28,8 @@ use Rattle.mg_ops.specs.Resuming.{options_for}
 use Rattle.mg_ops.specs.declared.cursor_reply.CursorSpecification.{CursorSpecification}
 use Rattle.mg_ops.specs.declared.cursor_reply.GetMoreResult.{GetMoreResult}
 use Rattle.mg_ops.specs.declared.get_more.GetMore.{GetMore}
-use Rattle.mg_ops.proofs.Asking.{asks_for_more, asks_to_kill, asks_to_watch}
+use Rattle.mg_ops.proofs.Asking.{asks_as_aimed, asks_for_more, asks_to_kill}
+use Rattle.mg_ops.specs.Aims.{asked_for}
 use Rattle.mg_change.specs.Following.{idle_by, in_hand, in_phase}
 use Rattle.mg_change.specs.Phases.{Carries, IsKept, Sends, resuming_command}
 use Rattle.mg_change.specs.Closings.{FailLeaves, Flies, IsLast, IsMore, IsOlder, Knew, Lands, Leaves, MoreLeaves, ResumeLeaves, closed, closes_to, closing_in, flight_in, flight_ticket, ids_left, landing_of, left_as, left_of}
@@ -44,6 +45,7 @@ use Rattle.mg_change.proofs.Garbled.{IsHeld, Waiting, carries_on, runs_once, sti
 use Rattle.mg_change.proofs.Heeding.{MoreCame, ResumeCame, more_polled, more_taken, resume_polled, resume_taken}
 use Rattle.mg_change.proofs.Reading.{batch_as, named_read}
 use Rattle.mg_change.proofs.Resumption.{aimed_still, begins_again}
+use Rattle.mg_change.proofs.Opened.{aimed_at}
 
 -- ---- what is let down
 
@@ -189,10 +191,11 @@ module _ (old new : Awaited) (log log' : Told) (wire : ℤ) (f : Follow) (r : Re
       let asks = knew.asks in
       let o = options_for a.options r.aggregate.resume wire in
       let b = begins_again a.options r.aggregate.resume wire f.start kept.saved asks.from in
-      let is : asked s.command ≡ asks_watch (record { target = target a.target; filter = f.watch.filter }) b.begin =
-      asks_to_watch s.command (target a.target) a.pipeline.items f.watch.filter o b.begin (aimed_still (target a.target) a.options r.aggregate.resume wire asks.aimed) asks.by b.starts carries.command_is in
+      let aimed = aimed_still (target a.target) a.options r.aggregate.resume wire ∙ asks.aimed in
+      let is : asked s.command ≡ asks_watch f.watch b.begin =
+      asks_as_aimed s.command (target a.target) a.pipeline.items o carries.command_is ∙ ap asked_for (aimed_at a f.watch o b.begin aimed asks.by b.starts) in
       resume_polled (left_of f r) b.begin old new log log' wire s (subst (λ (t : Option Tree). ResumesAt f.start t b.begin) (sym knew.token_is) b.resumes)
-      (is ∙ ap (λ t. asks_watch (record { target = t; filter = f.watch.filter }) b.begin) (sym asks.on)) result runs
+      is result runs
 
 -- ---- behind a reply
 

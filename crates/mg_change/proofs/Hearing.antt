@@ -23,7 +23,8 @@ use Rattle.mg_ops.specs.Resuming.{options_for}
 use Rattle.mg_ops.specs.declared.cursor_reply.CursorSpecification.{CursorSpecification}
 use Rattle.mg_ops.specs.declared.cursor_reply.GetMoreResult.{GetMoreResult}
 use Rattle.mg_ops.specs.declared.get_more.GetMore.{GetMore}
-use Rattle.mg_ops.proofs.Asking.{asks_for_more, asks_to_kill, asks_to_watch}
+use Rattle.mg_ops.proofs.Asking.{asks_as_aimed, asks_for_more, asks_to_kill}
+use Rattle.mg_ops.specs.Aims.{asked_for}
 use Rattle.mg_change.specs.Batches.{HoldsBatch}
 use Rattle.mg_change.specs.Following.{Asks, Turned, Turns, events_in, follow_in, follow_of, held_by, idle, in_hand}
 use Rattle.mg_change.specs.Phases.{Carries, IsAsking, IsKept, IsKilling, left_with, resuming_command}
@@ -36,6 +37,7 @@ use Rattle.mg_change.proofs.Heeding.{MoreCame, ResumeCame, Waits, at_waiting, ki
 use Rattle.mg_change.proofs.Reading.{events_held, events_read, named_read}
 use Rattle.mg_change.proofs.Resumption.{aimed_still, begins_again}
 use Rattle.mg_change.proofs.Turning.{quietly}
+use Rattle.mg_change.proofs.Opened.{aimed_at}
 
 -- ---- the reply to a getMore
 
@@ -245,10 +247,11 @@ module _ (old new : Awaited) (log log' : Told) (wire : ℤ) (s : ChangeStream) (
       let a = s.aggregate.args in
       let o = options_for a.options s.aggregate.resume wire in
       let b = begins_again a.options s.aggregate.resume wire start kept.saved asks.from in
-      let is : asked exec.command ≡ asks_watch (record { target = target a.target; filter = w.filter }) b.begin =
-      asks_to_watch exec.command (target a.target) a.pipeline.items w.filter o b.begin (aimed_still (target a.target) a.options s.aggregate.resume wire asks.aimed) asks.by b.starts carries.command_is in
+      let aimed = aimed_still (target a.target) a.options s.aggregate.resume wire ∙ asks.aimed in
+      let is : asked exec.command ≡ asks_watch w b.begin =
+      asks_as_aimed exec.command (target a.target) a.pipeline.items o carries.command_is ∙ ap asked_for (aimed_at a w o b.begin aimed asks.by b.starts) in
       resume_polled (idle w start s opened answered) b.begin old new log log' wire exec b.resumes
-      (is ∙ ap (λ t. asks_watch (record { target = t; filter = w.filter }) b.begin) (sym asks.on)) result runs
+      is result runs
 
   pub resuming_waits : (exec' : Sending) → Runs old new log log' wire exec (step.Pending exec') → Turned old new log log' (phase.Resuming exec) s (record s { phase = phase.Resuming exec' }) []
   resuming_waits exec' runs =

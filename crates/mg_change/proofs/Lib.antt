@@ -11,4 +11,10 @@ pub mod Sames
 pub mod SameClosings
 pub mod Seeking
 pub mod Sent
+pub mod Causes
 pub mod OpeningSends
+pub mod OpeningCauses
+pub mod SeekCauses
+pub mod ClosingCauses
+pub mod Growths
+pub mod Vain

@@ -5,7 +5,7 @@ use Rattle.mg_bson.specs.Tree.{Tree, Fields, Items, no_items, item}
 use Rattle.mg_bson.specs.Find.{as_document}
 use Rattle.mg_bson.specs.declared.tree.Timestamp.{Timestamp}
 use Rattle.mg_bson.specs.Raw.{fields}
-use Rattle.mg_link.specs.Commands.{asks_watch, as_time, asked, batch_of, documents_in, start_by}
+use Rattle.mg_link.specs.Commands.{asks_watch, as_time, asked, batch_of, documents_in, filter_stages, start_by}
 use Rattle.mg_link.specs.Namespace.{space, target}
 use Rattle.mg_link.specs.State.{Start, Watch, nowhere, after, at_time}
 use Rattle.mg_link.specs.Exec.{Sending, unsent, first, second, IsSuccess, Runs}
@@ -25,13 +25,14 @@ use Rattle.mg_ops.specs.Cursors.{Cursor}
 use Rattle.mg_ops.specs.Naming.{start_in}
 use Rattle.mg_ops.specs.Resuming.{has_start, options_for, saved_time, times_from}
 use Rattle.mg_ops.specs.declared.change_stream.WatchArgs.{WatchArgs}
-use Rattle.mg_ops.proofs.Asking.{asks_to_watch}
+use Rattle.mg_ops.proofs.Asking.{asks_as_aimed}
 use Rattle.mg_change.specs.declared.stream.ChangeStream.{ChangeStream}
 use Rattle.mg_change.specs.declared.stream.Phase.{Phase}
 use Rattle.mg_change.specs.declared.stream.Phase.TheVariants as phase
 use Rattle.mg_change.specs.Following.{Asks, events_in, follow_in, follow_of, not_open, opening_in, token_of}
 use Rattle.mg_change.specs.Openings.{IsNextSent, IsOpened, IsOpening, OpeningKeeps, opening_command}
 use Rattle.mg_change.specs.declared.opening.Opening.{Opening}
+use Rattle.mg_ops.specs.Aims.{aim, aim_of, asked_for}
 use Rattle.mg_ops.specs.Commands.{watch_command}
 use Rattle.mg_ops.specs.declared.aggregate.ChangeStreamAggregate.{ChangeStreamAggregate}
 use Rattle.mg_ops.specs.declared.change_stream.ChangeStreamData.{ChangeStreamData}
@@ -101,9 +102,14 @@ opened_sound a bytes s o wire = record { kept = o.kept; sends = subst (Sends wir
 
 -- ---- the command
 
+-- what is asked for by a target, a filter and a start that are found
+pub aimed_at : (a : WatchArgs) (w : Watch) (o : ChangeStreamOptions) (begin : Start) → aim o (target a.target) ≡ Some w.target → filter_stages a.pipeline.items ≡ Some w.filter → start_in o ≡ Some begin
+    → aim_of (target a.target) a.pipeline.items o ≡ Some (record { watch = w; start = begin })
+aimed_at a w o begin aimed by from = rw (by, from, aimed) refl
+
 pub watches : (a : WatchArgs) (w : Watch) (start : Start) (command : List ℕ) → Asks a w start → fields command ≡ opening_command a → asked command ≡ asks_watch w start
 watches a w start command asks is =
-    asks_to_watch command (target a.target) a.pipeline.items w.filter a.options start asks.aimed asks.by asks.from is ∙ ap (λ t. asks_watch (record { target = t; filter = w.filter }) start) (sym asks.on)
+    asks_as_aimed command (target a.target) a.pipeline.items a.options is ∙ ap asked_for (aimed_at a w a.options start asks.aimed asks.by asks.from)
 
 -- the watch while its opening waits
 abbrev waits_at : Watch → Start → Option ℕ → Follow

@@ -1,5 +1,5 @@
 -- What a poll of an opening sends.
-use Rattle.std.proofs.Common.{◌≡◌, ℕ, ℤ, List, true, Option, Some, None, refl, sym, ap, subst, arith}
+use Rattle.std.proofs.Common.{◌≡◌, ℕ, ℤ, List, true, Option, Some, None, sym, ap, subst, arith}
 use Rattle.mg_link.specs.Exec.{Sending, Runs}
 use Rattle.mg_link.specs.Link.{Awaited, Told}
 use Rattle.mg_link.specs.declared.action.Step.{Step}

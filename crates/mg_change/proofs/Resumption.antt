@@ -1,15 +1,16 @@
 -- Where a resumption begins, and that it watches the same.
 use Rattle.std.proofs.Common.{◌≡◌, ℤ, Bool, true, false, not, Option, Some, None, refl, ap, ◌∙◌, subst, option_map}
-use Rattle.std.specs.Prelude.{◌&&◌, ◌||◌, is_some, int_lt, if◌then◌else◌}
+use Rattle.std.specs.Prelude.{◌&&◌, ◌||◌, codes, is_some, int_lt, if◌then◌else◌, option_and_then}
 use Rattle.mg_bson.specs.Tree.{Tree}
 use Rattle.mg_bson.specs.declared.tree.Timestamp.{Timestamp}
-use Rattle.mg_link.specs.Commands.{start_by}
+use Rattle.mg_link.specs.Commands.{as_database, start_by, whole_target}
 use Rattle.mg_link.specs.Follow.{ResumesAt}
 use Rattle.mg_link.specs.Namespace.{Target, database, collection, cluster}
 use Rattle.mg_link.specs.State.{Start, nowhere, after, at_time, time_of}
 use Rattle.mg_options.specs.Options.{time_value}
 use Rattle.mg_options.specs.declared.change_stream.ChangeStreamOptions.{ChangeStreamOptions}
-use Rattle.mg_ops.specs.Naming.{IsAimed, start_in, watches_all}
+use Rattle.mg_ops.specs.Aims.{aim}
+use Rattle.mg_ops.specs.Naming.{start_in, watches_all}
 use Rattle.mg_ops.specs.Resuming.{options_for, or_time, resume_at, resume_behind, resume_by, times_from}
 use Rattle.mg_ops.specs.declared.change_stream.ChangeStreamData.{ChangeStreamData}
 use Rattle.mg_change.specs.Following.{token_of}
@@ -37,14 +38,14 @@ all_for : (o : ChangeStreamOptions) (r : Option ChangeStreamData) (wire : ℤ) �
 all_for o None wire = refl
 all_for o (Some known) wire = all_by known.resume_token o known wire
 
-aimed_by : (t : Target) (o o' : ChangeStreamOptions) → watches_all o' ≡ watches_all o → IsAimed t o → IsAimed t o'
-aimed_by (collection space) o o' e h = h
-aimed_by (database db) o o' e h = (h.0, e ∙ h.1)
-aimed_by cluster o o' e h = e ∙ h
+aimed_by : (t : Target) (o o' : ChangeStreamOptions) → watches_all o' ≡ watches_all o → aim o' t ≡ aim o t
+aimed_by (collection space) o o' e = refl
+aimed_by (database db) o o' e = ap (λ (b : Bool). option_and_then (whole_target b) (as_database db)) e
+aimed_by cluster o o' e = ap (λ (b : Bool). whole_target b (codes "admin")) e
 
 -- a resumption is aimed as the opening was
-pub aimed_still : (t : Target) (o : ChangeStreamOptions) (r : Option ChangeStreamData) (wire : ℤ) → IsAimed t o → IsAimed t (options_for o r wire)
-aimed_still t o r wire h = aimed_by t o (options_for o r wire) (all_for o r wire) h
+pub aimed_still : (t : Target) (o : ChangeStreamOptions) (r : Option ChangeStreamData) (wire : ℤ) → aim (options_for o r wire) t ≡ aim o t
+aimed_still t o r wire = aimed_by t o (options_for o r wire) (all_for o r wire)
 
 -- ---- where it begins
 

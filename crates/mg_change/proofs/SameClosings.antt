@@ -1,5 +1,5 @@
 -- What a closing knows depends on its own ticket alone, and is the same stream still.
-use Rattle.std.proofs.Common.{◌≡◌, ℕ, pos, Option, Some, refl}
+use Rattle.std.proofs.Common.{◌≡◌, ℕ, Some, refl}
 use Rattle.mg_link.specs.Follow.{Follow, asking, resting, resuming}
 use Rattle.mg_link.specs.Link.{Awaited}
 use Rattle.mg_change.specs.Closings.{closing_in, closing_of, flight_ticket, left_of}

@@ -1,15 +1,14 @@
 -- The steps of a call that seeks an event.
-use Rattle.std.proofs.Common.{◌≡◌, ℕ, ℤ, pos, Bool, true, false, List, [], Option, Some, None, refl, sym, subst, inl, inr, arith}
-use Rattle.std.specs.Prelude.{◌<◌, ◌≤◌, ◌+◌, ◌*◌, ◌↔◌, IsTrue}
+use Rattle.std.proofs.Common.{◌≡◌, ℕ, ℤ, pos, Bool, true, false, List, [], Some, None, refl, sym, subst, inl, inr, arith}
+use Rattle.std.specs.Prelude.{◌<◌, ◌+◌, ◌*◌, ◌↔◌, IsTrue}
 use Rattle.mg_bson.specs.Tree.{Fields}
 use Rattle.mg_link.specs.Errors.{plain}
-use Rattle.mg_link.specs.Exec.{Sending}
 use Rattle.mg_link.specs.Link.{Awaited, Told}
 use Rattle.mg_link.specs.declared.error.ErrorKind.TheVariants as kind
-use Rattle.mg_change.specs.Following.{IsSpent, Spends, StepSpends, Turned, step_told}
+use Rattle.mg_change.specs.Following.{Spends, StepSpends, Turned, step_told}
 use Rattle.mg_change.specs.Phases.{IsSound, Sends, rank}
 use Rattle.mg_change.specs.Polls.{Falls, IsStepAtOnce, StepLoses, StepPends, StepRests}
-use Rattle.mg_change.specs.Rows.{Counted, CountsBy, GivesUp, GoesOn, Seeks, SeeksBeyond, StepEnds, left, left_in}
+use Rattle.mg_change.specs.Rows.{CountsBy, Seeks, StepEnds, left, left_in}
 use Rattle.mg_change.specs.Sent.{CallSent, PollKeeps}
 use Rattle.mg_change.specs.declared.counts.Counts.{Counts}
 use Rattle.mg_change.specs.declared.event_poll.EventPoll.{EventPoll}
@@ -30,9 +29,18 @@ sought P c d false (stepped.Gives (poll.Ready None)) r (inr h) p goes fails = su
 sought P c d over (stepped.Gives (poll.Ready (Some event))) r h p goes fails = subst P (sym h) p
 sought P c d over (stepped.Gives (poll.Failed e)) r h p goes fails = subst P (sym h) p
 
+pends_by : (c d : Counts) (over : Bool) (s r : Stepped) (n m : ℕ) → Seeks c d over s r → StepPends s n m → StepPends r n m
+pends_by c d over stepped.Goes r n m h p = subst (λ x. StepPends x n m) (sym h.goes) p
+pends_by c d over (stepped.Gives poll.Pending) r n m h p = subst (λ x. StepPends x n m) (sym h) p
+pends_by c d true (stepped.Gives (poll.Ready None)) r n m h p = subst (λ x. StepPends x n m) (sym h) p
+pends_by c d false (stepped.Gives (poll.Ready None)) r n m (inl h) p = subst (λ x. StepPends x n m) (sym h.goes) p
+pends_by c d false (stepped.Gives (poll.Ready None)) r n m (inr h) p = subst (λ x. StepPends x n m) (sym h.fails) p
+pends_by c d over (stepped.Gives (poll.Ready (Some event))) r n m h p = subst (λ x. StepPends x n m) (sym h) p
+pends_by c d over (stepped.Gives (poll.Failed e)) r n m h p = subst (λ x. StepPends x n m) (sym h) p
+
 module _ (c d : Counts) (over : Bool) (s r : Stepped) (seeks : Seeks c d over s r) where
   pub pends_so : (n m : ℕ) → StepPends s n m → StepPends r n m
-  pends_so n m p = sought (λ x. StepPends x n m) c d over s r seeks p tt tt
+  pends_so n m p = pends_by c d over s r n m seeks p
 
   pub loses_so : (n m : ℕ) → StepLoses s n m → StepLoses r n m
   loses_so n m p = sought (λ x. StepLoses x n m) c d over s r seeks p tt (λ io. absurd cc)

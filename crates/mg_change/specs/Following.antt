@@ -13,7 +13,8 @@ use Rattle.mg_link.specs.declared.error.Error.{Error}
 use Rattle.mg_link.specs.declared.error.Malformed.{Malformed}
 use Rattle.mg_link.proofs.Retries.{at_stage}
 use Rattle.mg_ops.specs.Cursors.{batch_at}
-use Rattle.mg_ops.specs.Naming.{IsAimed, start_in}
+use Rattle.mg_ops.specs.Aims.{aim}
+use Rattle.mg_ops.specs.Naming.{start_in}
 use Rattle.mg_ops.specs.declared.change_stream.ChangeStreamData.{ChangeStreamData}
 use Rattle.mg_ops.specs.declared.change_stream.WatchArgs.{WatchArgs}
 use Rattle.mg_change.specs.declared.event_poll.EventPoll.{EventPoll}
@@ -26,10 +27,13 @@ use Rattle.mg_change.specs.declared.stream.Phase.TheVariants as phase
 
 -- the arguments ask for this watch, from this start on
 pub record Asks (a : WatchArgs) (w : Watch) (start : Start) : Type 0 where
-  pub aimed : IsAimed (target a.target) a.options
-  pub on : w.target ≡ target a.target
+  pub aimed : aim a.options (target a.target) ≡ Some w.target
   pub by : filter_stages a.pipeline.items ≡ Some w.filter
   pub from : start_in a.options ≡ Some start
+
+-- no server takes what the arguments ask for: a name may not be, the filter has no meaning, or there are two starts
+abbrev pub AsksNothing : WatchArgs → Type 0
+AsksNothing a = (w : Watch) (start : Start) → Asks a w start → ⊥
 
 -- the cached token
 abbrev pub token_of : Option ChangeStreamData → Option Tree

@@ -7,4 +7,9 @@ pub mod Following
 pub mod Replies
 pub mod Rows
 pub mod Sent
+pub mod Causes
 pub mod OpeningSends
+pub mod OpeningCauses
+pub mod SeekCauses
+pub mod ClosingCauses
+pub mod Growths

@@ -15,11 +15,11 @@ use Rattle.mg_change.specs.declared.event_poll.Stepped.TheVariants as stepped
 abbrev pub IsNotIo : Error → Type 0
 IsNotIo e = e.kind ≡ kind.Io → ⊥
 
--- it pends only where the count of pending replies rose
+-- it pends just where the count of pending replies rose
 abbrev pub Pends : EventPoll → ℕ → ℕ → Type 0
 Pends poll.Pending before now = Rose before now
-Pends (poll.Ready event) before now = Unit {0}
-Pends (poll.Failed e) before now = Unit {0}
+Pends (poll.Ready event) before now = now ≡ before
+Pends (poll.Failed e) before now = now ≡ before
 
 -- it fails by the link only where the count of faults rose
 abbrev pub Loses : EventPoll → ℕ → ℕ → Type 0
@@ -36,7 +36,7 @@ IsAtOnce (poll.Failed e) = IsNotIo e
 -- the same of a step, which may go on
 
 abbrev pub StepPends : Stepped → ℕ → ℕ → Type 0
-StepPends stepped.Goes before now = Unit {0}
+StepPends stepped.Goes before now = now ≡ before
 StepPends (stepped.Gives p) before now = Pends p before now
 
 abbrev pub StepLoses : Stepped → ℕ → ℕ → Type 0

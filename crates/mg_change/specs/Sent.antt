@@ -5,6 +5,7 @@ use Rattle.mg_bson.specs.Raw.{fields}
 use Rattle.mg_link.specs.Exec.{Stage, unsent, first, second}
 use Rattle.mg_link.specs.Link.{Told}
 use Rattle.mg_link.specs.Log.{Call}
+use Rattle.mg_link.specs.Owner.{Onward, nobody}
 use Rattle.mg_link.specs.Namespace.{Space, space}
 use Rattle.mg_ops.specs.Commands.{get_more_command, kill_command}
 use Rattle.mg_ops.specs.declared.aggregate.ChangeStreamAggregate.{ChangeStreamAggregate}
@@ -22,9 +23,9 @@ use Rattle.mg_change.specs.declared.stream.Phase.TheVariants as phase
 abbrev pub commands_of : List Call → List Fields
 commands_of calls = map (λ (c : Call). fields c.command) calls
 
--- these commands, and no others, were added to a log that is told
+-- these commands, and no others, were added to a log that is told, and what it had seen it has seen still
 abbrev pub Sent : Told → Told → List Fields → Type 0
-Sent log log' commands = (calls : List Call) → log ≡ Some calls → (calls' : List Call) × (log' ≡ Some calls') × (commands_of calls' ≡ commands_of calls ++ commands)
+Sent log log' commands = (calls : List Call) → log ≡ Some calls → (calls' : List Call) × (log' ≡ Some calls') × (commands_of calls' ≡ commands_of calls ++ commands) × Onward calls calls' nobody
 
 -- the killing of one cursor
 pub record KillsOne (command : Fields) : Type 0 where

@@ -6,6 +6,10 @@ ghost use Rattle.mg_link.specs.Commands.{documents_in};
 ghost use Rattle.mg_ops.specs.Cursors.{batch_at};
 ghost use Rattle.mg_change.specs.Polls.{IsNotIo};
 ghost use Rattle.mg_change.specs.Batches.{HoldsBatch};
+ghost use Rattle.mg_change.specs.Causes.{BreaksBatch, HasBadItem};
+ghost use Rattle.mg_link.specs.declared.error.ErrorKind.TheVariants as kind;
+ghost use Rattle.mg_link.specs.Errors.{plain};
+ghost use Rattle.mg_ops.specs.Failing.{FailsBy};
 
 use crate::fault::plain;
 use mg_bson::{RawArray, RawDocument, RawDocumentBuf};
@@ -19,6 +23,7 @@ use std::collections::VecDeque;
 fn documents_of(alloc: Global, batch: &RawArray<'_>) -> Result<VecDeque<RawDocumentBuf>, Error>
     ensures ok { IfOk result (λ ds. documents_in (items batch.now) ≡ Some (map fields ds.items)) }
     ensures err { IfErr result IsNotIo }
+    ensures fails { IfErr result (λ e. FailsBy (HasBadItem (items batch.now)) e) }
 {
     let mut documents = VecDeque::new(alloc);
     let mut left = batch.iter();
@@ -35,6 +40,7 @@ fn documents_of(alloc: Global, batch: &RawArray<'_>) -> Result<VecDeque<RawDocum
 pub(crate) fn id_of(alloc: Global, document: &RawDocument<'_>) -> Result<Option<ResumeToken>, Error>
     ensures ok { IfOk result (λ id. id ≡ get (codes "_id") (fields document.now)) }
     ensures err { IfErr result IsNotIo }
+    ensures fails { IfErr result (λ e. e ≡ plain kind.OutOfMemory) }
 {
     match document.get("_id") {
         Some(id) => Ok(Some(ResumeToken::from_raw(alloc, &id)?)),
@@ -49,6 +55,7 @@ pub(crate) fn batch_of(
 ) -> Result<VecDeque<RawDocumentBuf>, Error>
     ensures ok { IfOk result (λ ds. HoldsBatch (fields reply.now) (map fields ds.items)) }
     ensures err { IfErr result IsNotIo }
+    ensures fails { IfErr result (λ e. FailsBy (BreaksBatch (fields reply.now)) e) }
 {
     match doc_slices(reply) {
         Ok(batch) => documents_of(alloc, &batch),

@@ -1,6 +1,6 @@
 //! The closing of a change stream.
 ghost use Rattle.std.specs.Prelude.{◌≡◌, ℕ, IfErr, IfOk, None};
-ghost use Rattle.mg_link.specs.Acts.{EndsAtOnce, FailsByFault, IsOut, PendsBy, Tickets, ticket_after};
+ghost use Rattle.mg_link.specs.Acts.{EndsAtOnce, FailsByFault, IsOut, Pended, Tickets, ticket_after};
 ghost use Rattle.mg_link.specs.Exec.{ticket_of};
 ghost use Rattle.mg_link.specs.Link.{Later};
 ghost use Rattle.mg_link.specs.Follow.{Follow, Moved};
@@ -8,8 +8,13 @@ ghost use Rattle.std.specs.Prelude.{List, Option, ℤ, ◌≤◌, true};
 ghost use Rattle.mg_link.specs.State.{Start, Watch};
 ghost use Rattle.mg_bson.specs.Tree.{Fields, Tree};
 ghost use Rattle.mg_link.specs.Link.{Awaited, Told};
+ghost use Rattle.mg_change.specs.Growths.{Grows};
 ghost use Rattle.mg_change.specs.Closings.{Closes, FailLeaves, IsClosing, IsLanded, IsLast, IsMore, IsOlder, IsQuiet, KillRan, KillsAll, Knew, KnewBy, Lands, Leaves, MoreLeaves, QuietAfter, ResumeLeaves, closes_to, closing_in, closing_of, closing_ticket, flight_in, flight_ticket, ids_left, landing_of, left_of};
+ghost use Rattle.mg_change.specs.Causes.{placed};
+ghost use Rattle.mg_change.specs.ClosingCauses.{ClosingCaused, KillCaused, Landed, Landing, WantsMemory};
 ghost use Rattle.mg_change.specs.Following.{buffered, idle_by, in_phase};
+ghost use Rattle.mg_link.specs.Errors.{plain};
+ghost use Rattle.mg_link.specs.declared.error.ErrorKind.TheVariants as kind;
 ghost use Rattle.mg_change.specs.Phases.{AtRest, Carries, IsKept, IsSound, resuming_command, ticket_in};
 ghost use Rattle.mg_change.specs.Polls.{IsNotIo};
 
@@ -107,6 +112,7 @@ fn flight_of(phase: Phase) -> Flight
 // The request in flight failed, which only want of memory makes the answer.
 fn passed(error: Error, remains: Remains) -> Step<Closing, Remains>
     ensures landed { IsLanded result }
+    ensures memory { WantsMemory result }
     ensures leaves { Leaves remains result }
 {
     if is_memory(&error) {
@@ -119,6 +125,7 @@ fn passed(error: Error, remains: Remains) -> Step<Closing, Remains>
 // The reply to a getMore came.
 fn more_came(remains: Remains, get_more: &GetMore, reply: RawDocumentBuf) -> Step<Closing, Remains>
     ensures landed { IsLanded result }
+    ensures memory { WantsMemory result }
     ensures leaves { MoreLeaves reply remains result }
 {
     let mut remains = remains;
@@ -135,6 +142,7 @@ fn more_came(remains: Remains, get_more: &GetMore, reply: RawDocumentBuf) -> Ste
 // A getMore failed.
 fn more_failed(remains: Remains, error: Error) -> Step<Closing, Remains>
     ensures landed { IsLanded result }
+    ensures memory { WantsMemory result }
     ensures leaves { FailLeaves remains result }
 {
     let mut remains = remains;
@@ -147,6 +155,7 @@ fn more_failed(remains: Remains, error: Error) -> Step<Closing, Remains>
 // The reply to the aggregate of a resumption came.
 fn resumption_came(remains: Remains, reply: RawDocumentBuf) -> Step<Closing, Remains>
     ensures landed { IsLanded result }
+    ensures memory { WantsMemory result }
     ensures leaves { ResumeLeaves reply remains result }
 {
     let mut remains = remains;
@@ -168,7 +177,7 @@ fn land_more<L: Link>(
 ) -> Step<Closing, Remains>
     requires { IsOut (L.awaited link.old) (ticket_of exec) }
     ensures tickets { Tickets (L.awaited link.old) (L.awaited link.new) (ticket_of exec) (ticket_after closing_ticket result) }
-    ensures pended { PendsBy 1 result (L.pends link.old) (L.pends link.new) }
+    ensures pended { Pended result (L.pends link.old) (L.pends link.new) }
     ensures lost { FailsByFault result (L.faults link.old) (L.faults link.new) }
     ensures prompt { L.prompt link.old → EndsAtOnce result }
     ensures later { Later (L.faults link.old) (L.faults link.new) (L.pends link.old) (L.pends link.new)
@@ -176,6 +185,7 @@ fn land_more<L: Link>(
     ensures lands { IsKept remains.aggregate remains.cursor → IsMore remains exec → Lands (L.wire link.new) remains.aggregate result }
     ensures moved { IsKept remains.aggregate remains.cursor → IsMore remains exec → (f : Follow)
         → Moved (L.log link.old) (L.log link.new) (closing_in (L.awaited link.old) (Flight.More get_more exec) (left_of f remains)) (landing_of (L.awaited link.new) f result) }
+    ensures caused { Landing (L.log link.old) (L.log link.new) result }
 {
     match exec.poll(link) {
         Step::Pending(exec) => Step::Pending(Closing {
@@ -191,7 +201,7 @@ fn land_more<L: Link>(
 fn land_resumption<L: Link>(link: &mut L, remains: Remains, exec: Exec) -> Step<Closing, Remains>
     requires { IsOut (L.awaited link.old) (ticket_of exec) }
     ensures tickets { Tickets (L.awaited link.old) (L.awaited link.new) (ticket_of exec) (ticket_after closing_ticket result) }
-    ensures pended { PendsBy 1 result (L.pends link.old) (L.pends link.new) }
+    ensures pended { Pended result (L.pends link.old) (L.pends link.new) }
     ensures lost { FailsByFault result (L.faults link.old) (L.faults link.new) }
     ensures prompt { L.prompt link.old → EndsAtOnce result }
     ensures later { Later (L.faults link.old) (L.faults link.new) (L.pends link.old) (L.pends link.new)
@@ -199,6 +209,7 @@ fn land_resumption<L: Link>(link: &mut L, remains: Remains, exec: Exec) -> Step<
     ensures lands { IsKept remains.aggregate remains.cursor → Carries exec (resuming_command remains.aggregate (L.wire link.old)) true → Lands (L.wire link.new) remains.aggregate result }
     ensures moved { IsKept remains.aggregate remains.cursor → Carries exec (resuming_command remains.aggregate (L.wire link.old)) true → (f : Follow) → Knew remains.aggregate f
         → Moved (L.log link.old) (L.log link.new) (closing_in (L.awaited link.old) (Flight.Resumption exec) (left_of f remains)) (landing_of (L.awaited link.new) f result) }
+    ensures caused { Landing (L.log link.old) (L.log link.new) result }
 {
     match exec.poll(link) {
         Step::Pending(exec) => Step::Pending(Closing {
@@ -219,7 +230,7 @@ fn land_older<L: Link>(
 ) -> Step<Closing, Remains>
     requires { IsOut (L.awaited link.old) (ticket_of exec) }
     ensures tickets { Tickets (L.awaited link.old) (L.awaited link.new) (ticket_of exec) (ticket_after closing_ticket result) }
-    ensures pended { PendsBy 1 result (L.pends link.old) (L.pends link.new) }
+    ensures pended { Pended result (L.pends link.old) (L.pends link.new) }
     ensures lost { FailsByFault result (L.faults link.old) (L.faults link.new) }
     ensures prompt { L.prompt link.old → EndsAtOnce result }
     ensures later { Later (L.faults link.old) (L.faults link.new) (L.pends link.old) (L.pends link.new)
@@ -227,6 +238,7 @@ fn land_older<L: Link>(
     ensures lands { IsKept remains.aggregate remains.cursor → IsOlder remains old exec → Lands (L.wire link.new) remains.aggregate result }
     ensures moved { IsOlder remains old exec → (f : Follow)
         → Moved (L.log link.old) (L.log link.new) (closing_in (L.awaited link.old) (Flight.Older exec old) (left_of f remains)) (landing_of (L.awaited link.new) f result) }
+    ensures caused { Landing (L.log link.old) (L.log link.new) result }
 {
     match exec.poll(link) {
         Step::Pending(exec) => Step::Pending(Closing {
@@ -242,6 +254,7 @@ fn land_older<L: Link>(
 fn ids_of(alloc: Global, id: i64, opened: i64) -> Result<Vec<i64>, Error>
     ensures ok { IfOk result (λ ids. ids.items ≡ ids_left id opened) }
     ensures err { IfErr result IsNotIo }
+    ensures room { IfErr result (λ e. e ≡ plain kind.OutOfMemory) }
 {
     let mut ids = Vec::new(alloc);
     if id != 0 {
@@ -257,7 +270,7 @@ fn ids_of(alloc: Global, id: i64, opened: i64) -> Result<Vec<i64>, Error>
 fn wait<L: Link>(link: &mut L, remains: Remains, exec: Exec) -> Step<Closing, ()>
     requires { IsOut (L.awaited link.old) (ticket_of exec) }
     ensures tickets { Tickets (L.awaited link.old) (L.awaited link.new) (ticket_of exec) (ticket_after closing_ticket result) }
-    ensures pended { PendsBy 1 result (L.pends link.old) (L.pends link.new) }
+    ensures pended { Pended result (L.pends link.old) (L.pends link.new) }
     ensures lost { FailsByFault result (L.faults link.old) (L.faults link.new) }
     ensures prompt { L.prompt link.old → EndsAtOnce result }
     ensures later { Later (L.faults link.old) (L.faults link.new) (L.pends link.old) (L.pends link.new)
@@ -267,6 +280,7 @@ fn wait<L: Link>(link: &mut L, remains: Remains, exec: Exec) -> Step<Closing, ()
     ensures closes { IsKept remains.aggregate remains.cursor → IsLast remains exec → Closes (L.wire link.new) remains.aggregate result }
     ensures moved { IsLast remains exec → (f : Follow)
         → Moved (L.log link.old) (L.log link.new) (left_of f remains) (closes_to (L.awaited link.new) f result) }
+    ensures caused { IsLast remains exec → KillCaused (L.log link.old) (L.log link.new) (placed (L.awaited link.old) (ticket_of exec)) (L.wire link.old) remains result }
 {
     match exec.poll(link) {
         Step::Pending(exec) => Step::Pending(Closing {
@@ -281,7 +295,7 @@ fn wait<L: Link>(link: &mut L, remains: Remains, exec: Exec) -> Step<Closing, ()
 // Kills the cursors that the server holds.
 fn kill_all<L: Link>(link: &mut L, remains: Remains) -> Step<Closing, ()>
     ensures tickets { Tickets (L.awaited link.old) (L.awaited link.new) (None) (ticket_after closing_ticket result) }
-    ensures pended { PendsBy 1 result (L.pends link.old) (L.pends link.new) }
+    ensures pended { Pended result (L.pends link.old) (L.pends link.new) }
     ensures lost { FailsByFault result (L.faults link.old) (L.faults link.new) }
     ensures prompt { L.prompt link.old → EndsAtOnce result }
     ensures later { Later (L.faults link.old) (L.faults link.new) (L.pends link.old) (L.pends link.new)
@@ -290,6 +304,7 @@ fn kill_all<L: Link>(link: &mut L, remains: Remains) -> Step<Closing, ()>
     ensures quiet { QuietAfter result }
     ensures closes { IsKept remains.aggregate remains.cursor → Closes (L.wire link.new) remains.aggregate result }
     ensures moved { (f : Follow) → Moved (L.log link.old) (L.log link.new) (left_of f remains) (closes_to (L.awaited link.new) f result) }
+    ensures caused { KillCaused (L.log link.old) (L.log link.new) None (L.wire link.old) remains result }
 {
     let ids = match ids_of(remains.alloc, remains.cursor.id, remains.opened) {
         Ok(ids) => ids,
@@ -308,7 +323,7 @@ fn kill_all<L: Link>(link: &mut L, remains: Remains) -> Step<Closing, ()>
 fn go_on<L: Link>(link: &mut L, landing: Step<Closing, Remains>) -> Step<Closing, ()>
     requires { IsOut (L.awaited link.old) (ticket_after closing_ticket landing) }
     ensures tickets { Tickets (L.awaited link.old) (L.awaited link.new) (ticket_after closing_ticket landing) (ticket_after closing_ticket result) }
-    ensures pended { (n : ℕ) → n ≤ L.pends link.old → PendsBy 1 landing n (L.pends link.old) → PendsBy 1 result n (L.pends link.new) }
+    ensures pended { (n : ℕ) → Pended landing n (L.pends link.old) → Pended result n (L.pends link.new) }
     ensures lost { (n : ℕ) → n ≤ L.faults link.old → FailsByFault landing n (L.faults link.old) → FailsByFault result n (L.faults link.new) }
     ensures prompt { L.prompt link.old → EndsAtOnce landing → EndsAtOnce result }
     ensures later { Later (L.faults link.old) (L.faults link.new) (L.pends link.old) (L.pends link.new)
@@ -316,6 +331,7 @@ fn go_on<L: Link>(link: &mut L, landing: Step<Closing, Remains>) -> Step<Closing
     ensures sends { (r : Remains) → landing ≡ Step.Done r → KillsAll (L.awaited link.old) (L.awaited link.new) (L.log link.old) (L.log link.new) (L.wire link.old) r result }
     ensures closes { (a : ChangeStreamAggregate) → Lands (L.wire link.old) a landing → Closes (L.wire link.new) a result }
     ensures moved { (f : Follow) → Moved (L.log link.old) (L.log link.new) (landing_of (L.awaited link.old) f landing) (closes_to (L.awaited link.new) f result) }
+    ensures caused { (log : Told) → Landing log (L.log link.old) landing → Landed log (L.log link.new) (L.wire link.old) result }
 {
     match landing {
         Step::Pending(closing) => Step::Pending(closing),
@@ -334,16 +350,18 @@ impl Action for Closing {
     fn poll<L: Link>(self, link: &mut L) -> Step<Closing, ()>
         requires { IsOut (L.awaited link.old) (closing_ticket self) }
         ensures tickets { Tickets (L.awaited link.old) (L.awaited link.new) (closing_ticket self) (ticket_after closing_ticket result) }
-        ensures pended { PendsBy 1 result (L.pends link.old) (L.pends link.new) }
+        ensures pended { Pended result (L.pends link.old) (L.pends link.new) }
         ensures lost { FailsByFault result (L.faults link.old) (L.faults link.new) }
         ensures prompt { L.prompt link.old → EndsAtOnce result }
         ensures later { Later (L.faults link.old) (L.faults link.new) (L.pends link.old) (L.pends link.new)
             (L.wire link.old) (L.wire link.new) (L.prompt link.old) (L.prompt link.new) }
         ensures sends { self.flight ≡ Flight.Landed → KillsAll (L.awaited link.old) (L.awaited link.new) (L.log link.old) (L.log link.new) (L.wire link.old) self.remains result }
         ensures quiet { IsQuiet self.flight → QuietAfter result }
+        ensures grows { IsQuiet self.flight → Grows (L.log link.old) (L.log link.new) }
         ensures closes { IsClosing (L.wire link.old) self.remains self.flight → Closes (L.wire link.new) self.remains.aggregate result }
         ensures moved { IsClosing (L.wire link.old) self.remains self.flight → (f : Follow) → KnewBy self.flight self.remains.aggregate f
             → Moved (L.log link.old) (L.log link.new) (closing_of (L.awaited link.old) f self) (closes_to (L.awaited link.new) f result) }
+        ensures caused { IsClosing (L.wire link.old) self.remains self.flight → ClosingCaused (L.awaited link.old) (L.log link.old) (L.log link.new) (L.wire link.old) self.remains self.flight result }
     {
         let Closing { remains, flight } = self;
         match flight {

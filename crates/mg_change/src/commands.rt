@@ -3,6 +3,8 @@ ghost use Rattle.std.specs.Prelude.{◌≡◌, IfOk, IfErr, [], ◌∷◌, true,
 ghost use Rattle.mg_link.specs.Exec.{unsent};
 ghost use Rattle.mg_link.specs.Namespace.{space};
 ghost use Rattle.mg_ops.specs.Commands.{get_more_command, kill_command};
+ghost use Rattle.mg_ops.specs.Failing.{CannotBeSent, FailsBy};
+ghost use Rattle.mg_change.specs.Causes.{CannotBuild};
 ghost use Rattle.mg_change.specs.Phases.{Carries, resuming_command};
 ghost use Rattle.mg_change.specs.Polls.{IsNotIo};
 
@@ -19,6 +21,7 @@ pub(crate) fn ask(
     ensures stage { IfOk result (λ r. r.1.stage ≡ unsent) }
     ensures command { IfOk result (λ r. Carries r.1 (get_more_command cursor.now.id (space cursor.now.ns) cursor.now.batch_size) false) }
     ensures err { IfErr result IsNotIo }
+    ensures fails { IfErr result (λ e. FailsBy (CannotBuild cursor.now.batch_size (get_more_command cursor.now.id (space cursor.now.ns) cursor.now.batch_size)) e) }
 {
     let get_more = GetMore {
         ns: cursor.ns.clone()?,
@@ -39,6 +42,7 @@ pub(crate) fn resume(
     ensures stage { IfOk result (λ e. e.stage ≡ unsent) }
     ensures command { IfOk result (λ e. Carries e (resuming_command aggregate.now wire) true) }
     ensures err { IfErr result IsNotIo }
+    ensures fails { IfErr result (λ e. FailsBy (CannotBuild aggregate.now.args.options.batch_size (resuming_command aggregate.now wire)) e) }
 {
     let command = encode(alloc, aggregate, wire)?;
     Ok(Exec::start(command, aggregate.retry()))
@@ -49,6 +53,7 @@ pub(crate) fn kill(alloc: Global, ns: &Namespace, ids: Vec<i64>, wire: i32) -> R
     ensures stage { IfOk result (λ e. e.stage ≡ unsent) }
     ensures command { IfOk result (λ e. Carries e (kill_command (space ns.now) ids.items) false) }
     ensures err { IfErr result IsNotIo }
+    ensures fails { IfErr result (λ e. FailsBy (CannotBeSent (kill_command (space ns.now) ids.items)) e) }
 {
     let kill = KillCursors {
         ns: ns.clone()?,

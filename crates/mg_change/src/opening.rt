@@ -1,15 +1,24 @@
 //! The opening of a change stream.
 ghost use Rattle.std.specs.Prelude.{◌≡◌, IfOk, IfErr, OnErr, Some, None};
-ghost use Rattle.mg_link.specs.Acts.{EndsAtOnce, FailsByFault, IsOut, PendsBy, Tickets, ticket_after};
+ghost use Rattle.mg_link.specs.Acts.{EndsAtOnce, FailsByFault, IsOut, Pended, Tickets, ticket_after};
 ghost use Rattle.mg_link.specs.Exec.{ticket_of};
 ghost use Rattle.mg_link.specs.Link.{Later};
 ghost use Rattle.mg_link.specs.State.{Start, Watch};
 ghost use Rattle.mg_options.specs.Tokens.{first_token};
 ghost use Rattle.mg_ops.specs.Resuming.{saved_time};
 ghost use Rattle.std.specs.Prelude.{is_some};
-ghost use Rattle.mg_change.specs.Following.{Asks, opening_in};
+ghost use Rattle.mg_change.specs.Following.{Asks, AsksNothing, opening_in};
+ghost use Rattle.mg_change.specs.Growths.{OpensInVain};
 ghost use Rattle.mg_change.specs.Polls.{IsNotIo};
 ghost use Rattle.mg_change.specs.OpeningSends.{OpeningSent};
+ghost use Rattle.mg_change.specs.OpeningCauses.{OpeningCaused};
+ghost use Rattle.mg_change.specs.Causes.{CannotBuild};
+ghost use Rattle.mg_change.specs.Phases.{resuming_command};
+ghost use Rattle.mg_bson.specs.Raw.{fields};
+ghost use Rattle.mg_link.specs.Errors.{plain};
+ghost use Rattle.mg_link.specs.declared.error.ErrorKind.TheVariants as kind;
+ghost use Rattle.mg_ops.specs.Cursors.{BreaksIn};
+ghost use Rattle.mg_ops.specs.Failing.{FailsBy};
 ghost use Rattle.mg_change.specs.Openings.{IsNextSent, IsOpened, IsOpening, OpeningKeeps, OpeningMoves, opening_ticket};
 
 use crate::commands::resume;
@@ -44,6 +53,7 @@ fn data_of(
     ensures token { IfOk result (λ d. d.resume_token ≡ first_token options.now.start_after options.now.resume_after opened.now.is_empty opened.now.post_batch_resume_token) }
     ensures time { IfOk result (λ d. d.initial_operation_time ≡ saved_time options.now wire opened.now.is_empty (is_some opened.now.post_batch_resume_token) time) }
     ensures err { IfErr result IsNotIo }
+    ensures room { IfErr result (λ e. e ≡ plain kind.OutOfMemory) }
 {
     let is_empty = opened.is_empty;
     let has_token = opened.post_batch_resume_token.is_some();
@@ -67,6 +77,7 @@ fn stream_of(
 ) -> Result<ChangeStream, Error>
     ensures ok { IfOk result (λ s. IsOpened aggregate.args reply s) }
     ensures err { IfErr result IsNotIo }
+    ensures fails { IfErr result (λ e. FailsBy (BreaksIn (fields reply)) e) }
 {
     let mut aggregate = aggregate;
     let (opened, time) = aggregate.read(alloc, reply)?;
@@ -92,6 +103,7 @@ fn next_sent(
 ) -> Result<Exec, Error>
     ensures ok { IfOk result (λ e. IsNextSent aggregate.now wire exec e) }
     ensures err { IfErr result IsNotIo }
+    ensures fails { IfErr result (λ e. FailsBy (CannotBuild aggregate.now.args.options.batch_size (resuming_command aggregate.now wire)) e) }
     ensures none { OnErr result (exec ≡ None) }
 {
     match exec {
@@ -109,7 +121,7 @@ fn wait<L: Link>(
 ) -> Step<Opening, ChangeStream>
     requires { IsOut (L.awaited link.old) (ticket_of exec) }
     ensures tickets { Tickets (L.awaited link.old) (L.awaited link.new) (ticket_of exec) (ticket_after opening_ticket result) }
-    ensures pended { PendsBy 1 result (L.pends link.old) (L.pends link.new) }
+    ensures pended { Pended result (L.pends link.old) (L.pends link.new) }
     ensures lost { FailsByFault result (L.faults link.old) (L.faults link.new) }
     ensures prompt { L.prompt link.old → EndsAtOnce result }
     ensures later { Later (L.faults link.old) (L.faults link.new) (L.pends link.old) (L.pends link.new)
@@ -118,6 +130,8 @@ fn wait<L: Link>(
     ensures moved { IsOpening aggregate (Some exec) → (w : Watch) (start : Start) → Asks aggregate.args w start
         → OpeningMoves (L.awaited link.new) (L.log link.old) (L.log link.new) (opening_in (L.awaited link.old) (Some exec) w start) w start result }
     ensures sent { IsOpening aggregate (Some exec) → OpeningSent aggregate.args (L.log link.old) (L.log link.new) (Some exec) result }
+    ensures vain { IsOpening aggregate (Some exec) → AsksNothing aggregate.args → OpensInVain (L.awaited link.old) (L.awaited link.new) (L.log link.old) (L.log link.new) (Some exec) result }
+    ensures caused { IsOpening aggregate (Some exec) → OpeningCaused (L.awaited link.old) (L.log link.old) (L.log link.new) (L.wire link.old) aggregate.args (Some exec) result }
 {
     match exec.poll(link) {
         Step::Pending(exec) => Step::Pending(Opening {
@@ -159,7 +173,7 @@ impl Action for Opening {
     fn poll<L: Link>(self, link: &mut L) -> Step<Opening, ChangeStream>
         requires { IsOut (L.awaited link.old) (opening_ticket self) }
         ensures tickets { Tickets (L.awaited link.old) (L.awaited link.new) (opening_ticket self) (ticket_after opening_ticket result) }
-        ensures pended { PendsBy 1 result (L.pends link.old) (L.pends link.new) }
+        ensures pended { Pended result (L.pends link.old) (L.pends link.new) }
         ensures lost { FailsByFault result (L.faults link.old) (L.faults link.new) }
         ensures prompt { L.prompt link.old → EndsAtOnce result }
         ensures later { Later (L.faults link.old) (L.faults link.new) (L.pends link.old) (L.pends link.new)
@@ -168,6 +182,8 @@ impl Action for Opening {
         ensures moved { IsOpening self.aggregate self.exec → (w : Watch) (start : Start) → Asks self.aggregate.args w start
             → OpeningMoves (L.awaited link.new) (L.log link.old) (L.log link.new) (opening_in (L.awaited link.old) self.exec w start) w start result }
         ensures sent { IsOpening self.aggregate self.exec → OpeningSent self.aggregate.args (L.log link.old) (L.log link.new) self.exec result }
+        ensures vain { IsOpening self.aggregate self.exec → AsksNothing self.aggregate.args → OpensInVain (L.awaited link.old) (L.awaited link.new) (L.log link.old) (L.log link.new) self.exec result }
+        ensures caused { IsOpening self.aggregate self.exec → OpeningCaused (L.awaited link.old) (L.log link.old) (L.log link.new) (L.wire link.old) self.aggregate.args self.exec result }
     {
         let Opening {
             alloc,

@@ -1,6 +1,8 @@
 //! A change stream over any link.
 ghost use Rattle.std.specs.Prelude.{◌≡◌, ◌≢◌, ◌↔◌, ◌⊎◌, IsTrue, ℕ, ℤ, pos, List, [], ◌++◌, Option, IfErr, OnOk, OnErr, Ok, None, true};
 ghost use Rattle.mg_bson.specs.Tree.{Fields};
+ghost use Rattle.mg_bson.specs.Raw.{fields};
+ghost use Rattle.mg_change.specs.Batches.{HoldsBatch};
 ghost use Rattle.mg_link.specs.Acts.{IsOut, Tickets};
 ghost use Rattle.mg_link.specs.Errors.{command_code};
 ghost use Rattle.mg_link.specs.Exec.{ticket_of};
@@ -9,10 +11,13 @@ ghost use Rattle.mg_link.specs.Link.{Later};
 ghost use Rattle.mg_link.specs.Namespace.{space};
 ghost use Rattle.mg_link.specs.State.{Start, Watch};
 ghost use Rattle.mg_ops.specs.Naming.{IsNamed};
-ghost use Rattle.mg_change.specs.Following.{Asks, Passes, Pops, Spends, StepSpends, Turned, Turns, event_told, follow_of, popped_told, step_told, token_of};
+ghost use Rattle.mg_change.specs.Following.{Asks, Passes, Pops, Spends, StepSpends, Turned, Turns, buffered, event_told, follow_of, popped_told, step_told, token_of};
 ghost use Rattle.mg_change.specs.Phases.{Carries, IsAsking, IsKept, IsKilling, IsResuming, IsSound, left_with, rank, remembering, resuming_command, ticket_in, without_token};
 ghost use Rattle.mg_change.specs.Polls.{Falls, IsAtOnce, IsNotIo, IsStepAtOnce, Loses, Pends, RestsAfter, StepLoses, StepPends, StepRests, ends_cursor};
 ghost use Rattle.mg_change.specs.Sent.{CallSent, Quiet, StepSent};
+ghost use Rattle.mg_change.specs.Causes.{CallCaused, Caused, FailCause, HeardReply, IsIdle, IsSpoilt, KillCause, PopCause, Reply, Resumption, StepCause, TakeCause, over};
+ghost use Rattle.mg_change.specs.SeekCauses.{SeekCaused, StepSought};
+ghost use Rattle.mg_link.specs.Link.{Awaited, Told};
 ghost use Rattle.mg_change.specs.Rows.{CountsAfter, Ends, StepEnds, left_in};
 ghost use Rattle.mg_change.specs.Replies.{FailTurns, MoreTurns, Replaces, ResumeTurns};
 
@@ -94,6 +99,7 @@ impl ChangeStream {
         ensures args { self.new.aggregate.args ≡ self.old.aggregate.args }
         ensures rests { RestsAfter result self.new.phase }
         ensures sent { CallSent (L.log link.old) (L.log link.new) (L.wire link.old) self.old self.new result }
+        ensures caused { CallCaused (L.awaited link.old) (L.log link.old) (L.log link.new) (L.wire link.old) self.old self.new result }
         ensures counts { CountsAfter result self.new.counts }
     {
         'steps: loop {
@@ -128,6 +134,7 @@ impl ChangeStream {
             (follow_of (L.awaited link.new) w start self.new opened (answered ++ event_told result)) }
         ensures args { self.new.aggregate.args ≡ self.old.aggregate.args }
         ensures rests { RestsAfter result self.new.phase }
+        ensures caused { SeekCaused (L.awaited link.old) (L.log link.old) (L.log link.new) (L.wire link.old) self.old self.new result }
         ensures counts { CountsAfter result self.new.counts }
     {
         let mut counts = self.counts;
@@ -164,6 +171,7 @@ impl ChangeStream {
         ensures rests { StepRests result self.new.phase }
         ensures ended { StepEnds result self.new }
         ensures turned { Turned (L.awaited link.old) (L.awaited link.new) (L.log link.old) (L.log link.new) self.old.phase self.old self.new (step_told result) }
+        ensures caused { StepSought (L.awaited link.old) (L.log link.old) (L.log link.new) (L.wire link.old) self.old self.new result }
     {
         let resumes = matches!(self.phase, Phase::Resumed(_));
         let stepped = self.advance(link);
@@ -225,6 +233,7 @@ impl ChangeStream {
         ensures spent { StepSpends result self.new }
         ensures turned { Turned (L.awaited link.old) (L.awaited link.new) (L.log link.old) (L.log link.new) self.old.phase self.old self.new (step_told result) }
         ensures sent { StepSent (L.log link.old) (L.log link.new) (L.wire link.old) self.old.phase self.old self.new result }
+        ensures caused { Caused (L.awaited link.old) (L.log link.old) (L.log link.new) (L.wire link.old) self.old.phase self.old self.new result }
     {
         let wire = link.wire_version();
         match mem::replace(&mut self.phase, Phase::Taken) {
@@ -245,7 +254,7 @@ impl ChangeStream {
         requires taken { self.old.phase ≡ Phase.Taken }
         requires kept { IsKept self.old.aggregate self.old.cursor }
         ensures ticket { ticket_in self.new.phase ≡ None }
-        ensures no_pend { (n m : ℕ) → StepPends result n m }
+        ensures no_pend { (n : ℕ) → StepPends result n n }
         ensures no_loss { (n m : ℕ) → StepLoses result n m }
         ensures at_once { IsStepAtOnce result }
         ensures sound { (w : ℤ) → w ≡ wire → IsSound w self.new }
@@ -254,6 +263,7 @@ impl ChangeStream {
         ensures spent { StepSpends result self.new }
         ensures turned { Turns Phase.Rest self.old self.new (step_told result) }
         ensures quiet { Quiet 4 self.old self.new result }
+        ensures caused { (awaited : Awaited) (log : Told) (w : ℤ) (p : Phase) → IsIdle p → StepCause (over awaited log log w p self.old) self.new result }
     {
         if !self.buffer.is_empty() {
             return Stepped::Gives(self.take());
@@ -279,7 +289,7 @@ impl ChangeStream {
         requires taken { self.old.phase ≡ Phase.Taken }
         requires kept { IsKept self.old.aggregate self.old.cursor }
         ensures ticket { ticket_in self.new.phase ≡ None }
-        ensures no_pend { (n m : ℕ) → StepPends result n m }
+        ensures no_pend { (n : ℕ) → StepPends result n n }
         ensures no_loss { (n m : ℕ) → StepLoses result n m }
         ensures at_once { IsStepAtOnce result }
         ensures sound { (w : ℤ) → IsSound w self.new }
@@ -288,6 +298,7 @@ impl ChangeStream {
         ensures spent { StepSpends result self.new }
         ensures turned { Turns (Phase.First reply) self.old self.new (step_told result) }
         ensures quiet { Quiet 3 self.old self.new result }
+        ensures caused { (awaited : Awaited) (log : Told) (w : ℤ) → StepCause (over awaited log log w (Phase.First reply) self.old) self.new result }
     {
         match batch_of(self.alloc, &reply.as_raw()) {
             Ok(documents) => {
@@ -302,7 +313,7 @@ impl ChangeStream {
     // A batch may be lost: the stream is to resume, now where that helps.
     fn lose(&mut self, error: Error) -> Stepped
         ensures owes { self.new ≡ record self.old { phase = Phase.Owing } }
-        ensures no_pend { (n m : ℕ) → StepPends result n m }
+        ensures no_pend { (n : ℕ) → StepPends result n n }
         ensures no_loss { (n m : ℕ) → StepLoses result n m }
         ensures at_once { IsStepAtOnce result }
         ensures falls { Falls result 7 (rank self.new.phase) }
@@ -310,6 +321,7 @@ impl ChangeStream {
         ensures spent { StepSpends result self.new }
         ensures told { step_told result ≡ [] }
         ensures quiet { Quiet 3 self.old self.new result }
+        ensures passed { FailCause error self.old self.new result }
     {
         self.phase = Phase::Owing;
         if error.is_resumable() {
@@ -324,7 +336,7 @@ impl ChangeStream {
         requires taken { self.old.phase ≡ Phase.Taken }
         requires kept { IsKept self.old.aggregate self.old.cursor }
         ensures ticket { ticket_in self.new.phase ≡ None }
-        ensures no_pend { (n m : ℕ) → StepPends result n m }
+        ensures no_pend { (n : ℕ) → StepPends result n n }
         ensures no_loss { (n m : ℕ) → StepLoses result n m }
         ensures at_once { IsStepAtOnce result }
         ensures sound { (w : ℤ) → IsSound w self.new }
@@ -333,6 +345,7 @@ impl ChangeStream {
         ensures spent { StepSpends result self.new }
         ensures turned { Turns Phase.Fresh self.old self.new (step_told result) }
         ensures quiet { Quiet 0 self.old self.new result }
+        ensures caused { (awaited : Awaited) (log : Told) (w : ℤ) → StepCause (over awaited log log w Phase.Fresh self.old) self.new result }
     {
         if !self.buffer.is_empty() {
             return Stepped::Gives(self.take());
@@ -362,6 +375,7 @@ impl ChangeStream {
         ensures spent { StepSpends result self.new }
         ensures turned { Turned (L.awaited link.old) (L.awaited link.new) (L.log link.old) (L.log link.new) (Phase.Asking get_more exec) self.old self.new (step_told result) }
         ensures sent { StepSent (L.log link.old) (L.log link.new) (L.wire link.old) (Phase.Asking get_more exec) self.old self.new result }
+        ensures caused { Caused (L.awaited link.old) (L.log link.old) (L.log link.new) (L.wire link.old) (Phase.Asking get_more exec) self.old self.new result }
     {
         match exec.poll(link) {
             Step::Pending(exec) => {
@@ -378,7 +392,7 @@ impl ChangeStream {
         requires taken { self.old.phase ≡ Phase.Taken }
         requires kept { IsKept self.old.aggregate self.old.cursor }
         ensures ticket { ticket_in self.new.phase ≡ None }
-        ensures no_pend { (n m : ℕ) → StepPends result n m }
+        ensures no_pend { (n : ℕ) → StepPends result n n }
         ensures no_loss { (n m : ℕ) → StepLoses result n m }
         ensures at_once { IsStepAtOnce result }
         ensures sound { (w : ℤ) → IsSound w self.new }
@@ -387,6 +401,7 @@ impl ChangeStream {
         ensures spent { StepSpends result self.new }
         ensures turned { MoreTurns reply self.old self.new (step_told result) }
         ensures quiet { Quiet 3 self.old self.new result }
+        ensures caused { (awaited : Awaited) (log log' : Told) (w : ℤ) (p : Phase) → Reply (over awaited log log' w p self.old) reply → StepCause (over awaited log log' w p self.old) self.new result }
     {
         match self.keep(get_more, reply) {
             Ok(()) => {
@@ -406,6 +421,8 @@ impl ChangeStream {
         ensures kept_turned { OnOk result (MoreTurns reply self.old (record self.new { phase = Phase.Fresh }) []) }
         ensures lost_turned { OnErr result (MoreTurns reply self.old (record self.new { phase = Phase.Owing }) []) }
         ensures aggregate { self.new.aggregate ≡ self.old.aggregate }
+        ensures spoilt { IfErr result IsSpoilt }
+        ensures gave { OnOk result (HoldsBatch (fields reply) (buffered self.new)) }
     {
         let gave = get_more.read(self.alloc, reply)?;
         self.cursor.id = gave.id;
@@ -421,7 +438,7 @@ impl ChangeStream {
         requires kept { IsKept self.old.aggregate self.old.cursor }
         requires empty { self.old.buffer.items ≡ [] }
         ensures ticket { ticket_in self.new.phase ≡ None }
-        ensures no_pend { (n m : ℕ) → StepPends result n m }
+        ensures no_pend { (n : ℕ) → StepPends result n n }
         ensures no_loss { (n m : ℕ) → StepLoses result n m }
         ensures at_once { IsStepAtOnce result }
         ensures sound { (w : ℤ) → IsSound w self.new }
@@ -430,6 +447,7 @@ impl ChangeStream {
         ensures spent { StepSpends result self.new }
         ensures turned { FailTurns error self.old self.new (step_told result) }
         ensures quiet { Quiet 3 self.old self.new result }
+        ensures passed { FailCause error self.old self.new result }
     {
         self.note_end(&error);
         if !error.is_resumable() && !is_memory(&error) {
@@ -453,7 +471,7 @@ impl ChangeStream {
         requires taken { self.old.phase ≡ Phase.Taken }
         requires kept { IsKept self.old.aggregate self.old.cursor }
         ensures ticket { ticket_in self.new.phase ≡ None }
-        ensures no_pend { (n m : ℕ) → StepPends result n m }
+        ensures no_pend { (n : ℕ) → StepPends result n n }
         ensures no_loss { (n m : ℕ) → StepLoses result n m }
         ensures at_once { IsStepAtOnce result }
         ensures sound { (w : ℤ) → w ≡ wire → IsSound w self.new }
@@ -462,6 +480,7 @@ impl ChangeStream {
         ensures spent { StepSpends result self.new }
         ensures turned { Turns Phase.Owing self.old self.new (step_told result) }
         ensures quiet { Quiet 3 self.old self.new result }
+        ensures caused { (awaited : Awaited) (log : Told) (w : ℤ) → w ≡ wire → StepCause (over awaited log log w Phase.Owing self.old) self.new result }
     {
         match resume(self.alloc, &self.aggregate, wire) {
             Ok(exec) => {
@@ -493,6 +512,7 @@ impl ChangeStream {
         ensures spent { StepSpends result self.new }
         ensures turned { Turned (L.awaited link.old) (L.awaited link.new) (L.log link.old) (L.log link.new) (Phase.Resuming exec) self.old self.new (step_told result) }
         ensures sent { StepSent (L.log link.old) (L.log link.new) (L.wire link.old) (Phase.Resuming exec) self.old self.new result }
+        ensures caused { Caused (L.awaited link.old) (L.log link.old) (L.log link.new) (L.wire link.old) (Phase.Resuming exec) self.old self.new result }
     {
         match exec.poll(link) {
             Step::Pending(exec) => {
@@ -512,7 +532,7 @@ impl ChangeStream {
         requires taken { self.old.phase ≡ Phase.Taken }
         requires kept { IsKept self.old.aggregate self.old.cursor }
         ensures ticket { ticket_in self.new.phase ≡ None }
-        ensures no_pend { (n m : ℕ) → StepPends result n m }
+        ensures no_pend { (n : ℕ) → StepPends result n n }
         ensures no_loss { (n m : ℕ) → StepLoses result n m }
         ensures at_once { IsStepAtOnce result }
         ensures sound { (w : ℤ) → IsSound w self.new }
@@ -521,6 +541,7 @@ impl ChangeStream {
         ensures spent { StepSpends result self.new }
         ensures turned { ResumeTurns reply self.old self.new (step_told result) }
         ensures quiet { Quiet 1 self.old self.new result }
+        ensures caused { (awaited : Awaited) (log log' : Told) (w : ℤ) (p : Phase) → HeardReply (over awaited log log' w p self.old) reply → StepCause (over awaited log log' w p self.old) self.new result }
     {
         match self.aggregate.read(self.alloc, reply) {
             Ok((opened, _)) => self.replace(wire, opened),
@@ -537,7 +558,7 @@ impl ChangeStream {
         requires kept { IsKept self.old.aggregate self.old.cursor }
         requires named { IsNamed (space opened.info.ns) }
         ensures ticket { ticket_in self.new.phase ≡ None }
-        ensures no_pend { (n m : ℕ) → StepPends result n m }
+        ensures no_pend { (n : ℕ) → StepPends result n n }
         ensures no_loss { (n m : ℕ) → StepLoses result n m }
         ensures at_once { IsStepAtOnce result }
         ensures sound { (w : ℤ) → IsSound w self.new }
@@ -546,6 +567,7 @@ impl ChangeStream {
         ensures spent { StepSpends result self.new }
         ensures turned { Replaces self.old opened self.new (step_told result) }
         ensures quiet { Quiet 1 self.old self.new result }
+        ensures caused { (awaited : Awaited) (log log' : Told) (w : ℤ) (p : Phase) → Resumption (over awaited log log' w p self.old) opened.initial_reply → StepCause (over awaited log log' w p self.old) self.new result }
     {
         let CursorSpecification {
             info,
@@ -592,6 +614,7 @@ impl ChangeStream {
         ensures spent { StepSpends result self.new }
         ensures turned { Turned (L.awaited link.old) (L.awaited link.new) (L.log link.old) (L.log link.new) (Phase.Killing exec old reply) self.old self.new (step_told result) }
         ensures sent { StepSent (L.log link.old) (L.log link.new) (L.wire link.old) (Phase.Killing exec old reply) self.old self.new result }
+        ensures caused { Caused (L.awaited link.old) (L.log link.old) (L.log link.new) (L.wire link.old) (Phase.Killing exec old reply) self.old self.new result }
     {
         match exec.poll(link) {
             Step::Pending(exec) => {
@@ -611,7 +634,7 @@ impl ChangeStream {
         requires taken { self.old.phase ≡ Phase.Taken }
         requires kept { IsKept self.old.aggregate self.old.cursor }
         ensures ticket { ticket_in self.new.phase ≡ None }
-        ensures no_pend { (n m : ℕ) → StepPends result n m }
+        ensures no_pend { (n : ℕ) → StepPends result n n }
         ensures no_loss { (n m : ℕ) → StepLoses result n m }
         ensures at_once { IsStepAtOnce result }
         ensures sound { (w : ℤ) → IsSound w self.new }
@@ -620,6 +643,7 @@ impl ChangeStream {
         ensures spent { StepSpends result self.new }
         ensures turned { Turns (Phase.Resumed reply) self.old self.new (step_told result) }
         ensures quiet { Quiet 0 self.old self.new result }
+        ensures killed { KillCause reply self.old self.new result }
     {
         if is_memory(&error) {
             self.phase = Phase::Owing;
@@ -634,7 +658,7 @@ impl ChangeStream {
         requires taken { self.old.phase ≡ Phase.Taken }
         requires kept { IsKept self.old.aggregate self.old.cursor }
         ensures ticket { ticket_in self.new.phase ≡ None }
-        ensures no_pend { (n m : ℕ) → StepPends result n m }
+        ensures no_pend { (n : ℕ) → StepPends result n n }
         ensures no_loss { (n m : ℕ) → StepLoses result n m }
         ensures at_once { IsStepAtOnce result }
         ensures sound { (w : ℤ) → IsSound w self.new }
@@ -643,6 +667,7 @@ impl ChangeStream {
         ensures spent { StepSpends result self.new }
         ensures turned { Turns (Phase.Resumed reply) self.old self.new (step_told result) }
         ensures quiet { Quiet 0 self.old self.new result }
+        ensures caused { (awaited : Awaited) (log : Told) (w : ℤ) → StepCause (over awaited log log w (Phase.Resumed reply) self.old) self.new result }
     {
         match batch_of(self.alloc, &reply.as_raw()) {
             Ok(documents) => {
@@ -671,13 +696,14 @@ impl ChangeStream {
     fn take(&mut self) -> EventPoll
         requires taken { self.old.phase ≡ Phase.Taken }
         requires kept { IsKept self.old.aggregate self.old.cursor }
-        ensures no_pend { (n m : ℕ) → Pends result n m }
+        ensures no_pend { (n : ℕ) → Pends result n n }
         ensures no_loss { (n m : ℕ) → Loses result n m }
         ensures at_once { IsAtOnce result }
         ensures phase { self.new.phase ≡ Phase.Rest }
         ensures spent { Spends result self.new }
         ensures kept { IsKept self.new.aggregate self.new.cursor }
         ensures turned { self.old.buffer.items ≢ [] → Turns Phase.Fresh self.old self.new (event_told result) }
+        ensures caused { self.old.buffer.items ≢ [] → TakeCause (buffered self.old) result }
     {
         self.phase = Phase::Rest;
         match self.pop() {
@@ -695,6 +721,7 @@ impl ChangeStream {
         ensures err { IfErr result IsNotIo }
         ensures none { result ≡ Ok None → self.new.buffer.items ≡ [] }
         ensures turned { self.old.buffer.items ≢ [] → Pops self.old self.new (popped_told result) }
+        ensures caused { self.old.buffer.items ≢ [] → PopCause (buffered self.old) result }
     {
         let Some(document) = self.buffer.front() else {
             return Ok(None);

@@ -6,6 +6,7 @@ use Rattle.mg_link.specs.declared.action.Step.{Step}
 use Rattle.mg_link.specs.declared.action.Step.TheVariants as step
 use Rattle.mg_change.specs.declared.closing.Closing.{Closing}
 use Rattle.mg_change.specs.declared.closing.Remains.{Remains}
+use Rattle.mg_change.proofs.ClosingCauses as causes
 use Rattle.mg_change.proofs.closing.go_on.Goals as goal
 
 abbrev done : Remains → Step Closing Remains
@@ -33,3 +34,13 @@ pub returns-in-Done-clause-sends : goal.returns-in-Done-clause-sends
 returns-in-Done-clause-sends g c = λ r is.
     let same : c.in-Done.remains ≡ r = done_same c.in-Done.remains r (sym c.in-Done.is ∙ is) in
     subst (λ (x : Remains). KillsAll (g.L.Link.awaited c.args.link.now) (g.L.Link.awaited c.kill_all.new.link) (g.L.Link.log c.args.link.now) (g.L.Link.log c.kill_all.new.link) (g.L.Link.wire c.args.link.now) x c.kill_all.result) same c.kill_all.ensures.sends
+
+pub returns-in-Pending-clause-caused : goal.returns-in-Pending-clause-caused
+returns-in-Pending-clause-caused g c = λ log landing. causes.waits_on log (g.L.Link.log c.args.link.now) (g.L.Link.wire c.args.link.now) c.args.landing c.in-Pending.closing c.in-Pending.is landing
+
+pub returns-in-Done-clause-caused : goal.returns-in-Done-clause-caused
+returns-in-Done-clause-caused g c = λ log landing.
+    causes.killed_later log (g.L.Link.log c.args.link.now) (g.L.Link.log c.kill_all.new.link) (g.L.Link.wire c.args.link.now) c.in-Done.remains landing.stays c.kill_all.result c.kill_all.ensures.caused
+
+pub returns-in-Failed-clause-caused : goal.returns-in-Failed-clause-caused
+returns-in-Failed-clause-caused g c = λ log landing. causes.fails_on log (g.L.Link.log c.args.link.now) (g.L.Link.wire c.args.link.now) c.args.landing c.in-Failed.error c.in-Failed.is landing

@@ -7,6 +7,9 @@ use Rattle.mg_ops.specs.Commands.{kill_command}
 use Rattle.mg_change.specs.Closings.{IsLast, ids_left}
 use Rattle.mg_change.specs.Phases.{Carries}
 use Rattle.mg_change.proofs.Closed.{dropped}
+use Rattle.mg_link.specs.Exec.{ticket_at}
+use Rattle.mg_change.specs.ClosingCauses.{no_memory}
+use Rattle.mg_change.proofs.ClosingCauses as causes
 use Rattle.mg_change.proofs.closing.kill_all.Goals as goal
 use Rattle.mg_change.proofs.closing.kill_all.Goals.{After-wait}
 use Rattle.mg_change.proofs.closing.kill_all.Given.{Over}
@@ -62,3 +65,16 @@ returns-in-Ok-kill-clause-sends g c =
 
 pub returns-in-Err-kill-clause-sends : goal.returns-in-Err-kill-clause-sends
 returns-in-Err-kill-clause-sends g c = inl (refl, tt)
+
+pub returns-in-Err-clause-caused : goal.returns-in-Err-clause-caused
+returns-in-Err-clause-caused g c = causes.kill_no_memory (g.L.Link.log c.args.link.now) (g.L.Link.wire c.args.link.now) c.args.remains c.in-Err.error _ c.in-Err.ensures.room (no_memory refl)
+
+pub returns-then-is_empty-clause-caused : goal.returns-then-is_empty-clause-caused
+returns-then-is_empty-clause-caused g c = causes.kill_none (g.L.Link.log c.args.link.now) (g.L.Link.wire c.args.link.now) c.args.remains _ (sym (ids_same c.args.remains.cursor.id c.args.remains.opened c.in-Ok.ids.items (search rules) (search rules) c.in-Ok.ensures.ok) ∙ no_ids c.in-Ok.ids.items c.in-Ok.ids.len c.is_empty.result c.in-Ok.ids.ok.0 c.is_empty.ensures c.if-is_empty.true)
+
+pub returns-in-Ok-kill-clause-caused : goal.returns-in-Ok-kill-clause-caused
+returns-in-Ok-kill-clause-caused g c =
+    causes.kill_new (g.L.Link.awaited c.args.link.now) (g.L.Link.log c.args.link.now) (g.L.Link.log c.wait.new.link) (g.L.Link.wire c.args.link.now) c.args.remains c.in-Ok-kill.exec c.wait.result (ap ticket_at c.in-Ok-kill.ensures.stage) (c.wait.ensures.caused (kills g c))
+
+pub returns-in-Err-kill-clause-caused : goal.returns-in-Err-kill-clause-caused
+returns-in-Err-kill-clause-caused g c = causes.kill_unbuilt (g.L.Link.log c.args.link.now) (g.L.Link.wire c.args.link.now) c.args.remains c.in-Ok.ids.items c.in-Err-kill.error (ids_same c.args.remains.cursor.id c.args.remains.opened c.in-Ok.ids.items (search rules) (search rules) c.in-Ok.ensures.ok) c.in-Err-kill.ensures.fails

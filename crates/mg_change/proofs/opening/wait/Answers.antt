@@ -4,6 +4,8 @@ use Rattle.mg_change.specs.Openings.{opening_command}
 use Rattle.mg_change.proofs.Garbled.{carries_on, still_waits}
 use Rattle.mg_change.proofs.Opened.{opened_sound, opening_came, opening_failed, opening_lost, opening_waits}
 use Rattle.mg_change.proofs.OpeningSends as sends
+use Rattle.mg_change.proofs.Vain as vain
+use Rattle.mg_change.proofs.OpeningCauses as causes
 use Rattle.mg_change.proofs.opening.wait.Goals as goal
 
 pub returns-in-Pending-clause-keeps : goal.returns-in-Pending-clause-keeps
@@ -41,3 +43,27 @@ returns-in-Err-clause-sent g c = λ o. sends.opening_fails c.args.aggregate.args
 
 pub returns-in-Failed-clause-sent : goal.returns-in-Failed-clause-sent
 returns-in-Failed-clause-sent g c = λ o. sends.opening_fails c.args.aggregate.args _ _ _ _ _ c.args.exec o.sent c.poll.result c.in-Failed.error c.poll.ensures.runs
+
+pub returns-in-Pending-clause-vain : goal.returns-in-Pending-clause-vain
+returns-in-Pending-clause-vain g c = λ o none. vain.vainly_held c.args.aggregate.args none c.args.exec o.sent _ _ _ _ _ c.in-Pending.exec c.in-Pending.ensures.runs
+
+pub returns-in-Ok-clause-vain : goal.returns-in-Ok-clause-vain
+returns-in-Ok-clause-vain g c = λ o none. vain.vainly_came c.args.aggregate.args none c.args.exec o.sent _ _ _ _ _ c.in-Done.reply c.in-Ok.stream c.in-Done.ensures.runs
+
+pub returns-in-Err-clause-vain : goal.returns-in-Err-clause-vain
+returns-in-Err-clause-vain g c = λ o none. vain.vainly_failed c.args.aggregate.args none c.args.exec o.sent _ _ _ _ _ c.poll.result c.in-Err.error c.poll.ensures.runs
+
+pub returns-in-Failed-clause-vain : goal.returns-in-Failed-clause-vain
+returns-in-Failed-clause-vain g c = λ o none. vain.vainly_failed c.args.aggregate.args none c.args.exec o.sent _ _ _ _ _ c.poll.result c.in-Failed.error c.poll.ensures.runs
+
+pub returns-in-Pending-clause-caused : goal.returns-in-Pending-clause-caused
+returns-in-Pending-clause-caused g c = λ o. causes.opening_waits c.args.aggregate.args (g.L.Link.awaited c.args.link.now) (g.L.Link.awaited c.poll.new.link) (g.L.Link.log c.args.link.now) (g.L.Link.log c.poll.new.link) (g.L.Link.wire c.args.link.now) c.args.exec o.sent c.poll.result _ c.poll.ensures.runs
+
+pub returns-in-Ok-clause-caused : goal.returns-in-Ok-clause-caused
+returns-in-Ok-clause-caused g c = λ o. causes.opening_came c.args.aggregate.args (g.L.Link.awaited c.args.link.now) (g.L.Link.awaited c.poll.new.link) (g.L.Link.log c.args.link.now) (g.L.Link.log c.poll.new.link) (g.L.Link.wire c.args.link.now) c.args.exec o.sent c.in-Done.reply c.in-Ok.stream c.in-Ok.ensures.ok.phase_is c.in-Done.ensures.runs
+
+pub returns-in-Err-clause-caused : goal.returns-in-Err-clause-caused
+returns-in-Err-clause-caused g c = λ o. causes.opening_lost c.args.aggregate.args (g.L.Link.awaited c.args.link.now) (g.L.Link.awaited c.poll.new.link) (g.L.Link.log c.args.link.now) (g.L.Link.log c.poll.new.link) (g.L.Link.wire c.args.link.now) c.args.exec o.sent c.in-Done.reply c.in-Err.error c.in-Err.ensures.fails c.in-Done.ensures.runs
+
+pub returns-in-Failed-clause-caused : goal.returns-in-Failed-clause-caused
+returns-in-Failed-clause-caused g c = λ o. causes.opening_failed c.args.aggregate.args (g.L.Link.awaited c.args.link.now) (g.L.Link.awaited c.poll.new.link) (g.L.Link.log c.args.link.now) (g.L.Link.log c.poll.new.link) (g.L.Link.wire c.args.link.now) c.args.exec o.sent c.in-Failed.error c.in-Failed.ensures.runs

@@ -5,7 +5,9 @@ use Rattle.mg_link.specs.Follow.{Moved}
 use Rattle.mg_change.specs.Closings.{IsQuiet, KnewBy, closes_to, closing_in, left_of}
 use Rattle.mg_change.specs.declared.closing.Flight.{Flight}
 use Rattle.mg_change.specs.declared.closing.Flight.TheVariants as flight
+use Rattle.mg_change.proofs.Growths.{grows_kills, grows_ran}
 use Rattle.mg_change.proofs.Closed.{closes_on, flies_as, tickets_through}
+use Rattle.mg_change.proofs.ClosingCauses as causes
 use Rattle.mg_change.proofs.closing.ClosingAction.poll.Goals as goal
 use Rattle.mg_change.proofs.closing.ClosingAction.poll.Goals.{After-go_on-in-Older}
 use Rattle.mg_change.proofs.closing.ClosingAction.poll.Given.{Over}
@@ -74,3 +76,43 @@ returns-in-Resumption-clause-quiet g c = λ q. absurd (subst (λ (x : Flight). I
 
 pub returns-in-Older-clause-quiet : goal.returns-in-Older-clause-quiet
 returns-in-Older-clause-quiet g c = λ q. absurd (subst (λ (x : Flight). IsQuiet x) c.in-Older.is q)
+
+pub returns-in-Landed-clause-grows : goal.returns-in-Landed-clause-grows
+returns-in-Landed-clause-grows g c = λ q. grows_kills _ _ _ _ _ c.args.self.remains c.kill_all.result c.kill_all.ensures.sends
+
+pub returns-in-More-clause-grows : goal.returns-in-More-clause-grows
+returns-in-More-clause-grows g c = λ q. absurd (subst (λ (x : Flight). IsQuiet x) c.in-More.is q)
+
+pub returns-in-Resumption-clause-grows : goal.returns-in-Resumption-clause-grows
+returns-in-Resumption-clause-grows g c = λ q. absurd (subst (λ (x : Flight). IsQuiet x) c.in-Resumption.is q)
+
+pub returns-in-Older-clause-grows : goal.returns-in-Older-clause-grows
+returns-in-Older-clause-grows g c = λ q. absurd (subst (λ (x : Flight). IsQuiet x) c.in-Older.is q)
+
+pub returns-in-Last-clause-grows : goal.returns-in-Last-clause-grows
+returns-in-Last-clause-grows g c = λ q. grows_ran _ _ _ _ _ c.in-Last.exec c.wait.ensures.sends.came c.wait.ensures.sends.runs
+
+pub returns-in-Landed-clause-caused : goal.returns-in-Landed-clause-caused
+returns-in-Landed-clause-caused g c = λ is.
+    causes.flight_is (g.L.Link.awaited c.args.link.now) (g.L.Link.log c.args.link.now) (g.L.Link.log c.kill_all.new.link) (g.L.Link.wire c.args.link.now) c.args.self.remains flight.Landed c.args.self.flight c.kill_all.result c.in-Landed.is c.kill_all.ensures.caused
+
+pub returns-in-More-clause-caused : goal.returns-in-More-clause-caused
+returns-in-More-clause-caused g c = λ is.
+    causes.flight_is (g.L.Link.awaited c.args.link.now) (g.L.Link.log c.args.link.now) (g.L.Link.log c.go_on.new.link) (g.L.Link.wire c.args.link.now) c.args.self.remains (flight.More c.in-More.get_more c.in-More.exec) c.args.self.flight c.go_on.result c.in-More.is
+    (causes.landed_at (g.L.Link.log c.args.link.now) (g.L.Link.log c.go_on.new.link) (g.L.Link.wire c.args.link.now) _ c.go_on.result c.land_more-landing.ensures.later.wire (c.go_on.ensures.caused (g.L.Link.log c.args.link.now) c.land_more-landing.ensures.caused))
+
+pub returns-in-Resumption-clause-caused : goal.returns-in-Resumption-clause-caused
+returns-in-Resumption-clause-caused g c = λ is.
+    causes.flight_is (g.L.Link.awaited c.args.link.now) (g.L.Link.log c.args.link.now) (g.L.Link.log c.go_on-in-Resumption.new.link) (g.L.Link.wire c.args.link.now) c.args.self.remains (flight.Resumption c.in-Resumption.exec) c.args.self.flight c.go_on-in-Resumption.result c.in-Resumption.is
+    (causes.landed_at (g.L.Link.log c.args.link.now) (g.L.Link.log c.go_on-in-Resumption.new.link) (g.L.Link.wire c.args.link.now) _ c.go_on-in-Resumption.result c.land_resumption-landing.ensures.later.wire (c.go_on-in-Resumption.ensures.caused (g.L.Link.log c.args.link.now) c.land_resumption-landing.ensures.caused))
+
+pub returns-in-Older-clause-caused : goal.returns-in-Older-clause-caused
+returns-in-Older-clause-caused g c = λ is.
+    causes.flight_is (g.L.Link.awaited c.args.link.now) (g.L.Link.log c.args.link.now) (g.L.Link.log c.go_on-in-Older.new.link) (g.L.Link.wire c.args.link.now) c.args.self.remains (older_flight g c) c.args.self.flight c.go_on-in-Older.result (older_is g c)
+    (causes.landed_at (g.L.Link.log c.args.link.now) (g.L.Link.log c.go_on-in-Older.new.link) (g.L.Link.wire c.args.link.now) _ c.go_on-in-Older.result c.land_older-landing.ensures.later.wire (c.go_on-in-Older.ensures.caused (g.L.Link.log c.args.link.now) c.land_older-landing.ensures.caused))
+
+pub returns-in-Last-clause-caused : goal.returns-in-Last-clause-caused
+returns-in-Last-clause-caused g c = λ is.
+    let p = flight.Last c.in-Last.exec in
+    causes.flight_is (g.L.Link.awaited c.args.link.now) (g.L.Link.log c.args.link.now) (g.L.Link.log c.wait.new.link) (g.L.Link.wire c.args.link.now) c.args.self.remains p c.args.self.flight c.wait.result c.in-Last.is
+    (c.wait.ensures.caused (flies_as _ c.args.self.remains p c.args.self.flight c.in-Last.is is.flies))

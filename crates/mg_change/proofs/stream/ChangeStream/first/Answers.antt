@@ -4,6 +4,8 @@ use Rattle.mg_change.specs.Batches.{HoldsBatch}
 use Rattle.mg_change.specs.Following.{step_told}
 use Rattle.mg_change.specs.declared.stream.Phase.TheVariants as phase
 use Rattle.mg_change.proofs.Turning as turning
+use Rattle.mg_change.specs.Causes.{came, opening}
+use Rattle.std.proofs.Common.{refl}
 use Rattle.mg_change.proofs.stream.ChangeStream.first.Goals as goal
 
 pub returns-in-Ok-clause-turned : goal.returns-in-Ok-clause-turned
@@ -14,3 +16,10 @@ pub returns-clause-turned : goal.returns-clause-turned
 returns-clause-turned c =
     turning.turned_as (phase.First c.args.reply) c.args.self.now c.lose.new.self (record c.args.self.now { phase = phase.Owing }) [] (step_told c.lose.result) c.lose.ensures.owes c.lose.ensures.told
     (turning.first_lost c.args.self.now c.args.reply)
+
+pub returns-in-Ok-clause-caused : goal.returns-in-Ok-clause-caused
+returns-in-Ok-clause-caused c = λ awaited log w.
+    record {
+      same = refl;
+      since = came c.args.reply (opening refl) (subst (λ (b : List ℕ). HoldsBatch (fields b) (map fields c.in-Ok.documents.items)) c.as_raw.ensures c.in-Ok.ensures.ok);
+    }

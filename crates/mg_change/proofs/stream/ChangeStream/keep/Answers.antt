@@ -29,3 +29,8 @@ returns-clause-kept_turned c =
     let back : to_z w64 (of_z w64 c.in_ok-gave.gave.id) ≡ c.in_ok-gave.gave.id = to_z-of_z w64 c.in_ok-gave.gave.id fits in
     hearing.more_kept_by c.args.reply c.args.self.now c.in_ok-gave.gave c.in_ok-gave.ensures.ok (record c.args.self.now { buffer = c.in_ok-self.field-0 }) (to_z w64 (of_z w64 c.in_ok-gave.gave.id)) back
     (subst (λ (b : List ℕ). HoldsBatch (fields b) (map fields c.in_ok-self.field-0.items)) c.as_raw.ensures c.in_ok-self.ensures.ok)
+
+pub returns-clause-gave : goal.returns-clause-gave
+returns-clause-gave c =
+    subst (λ (b : List ℕ). HoldsBatch (fields b) (map fields c.in_ok-self.field-0.items)) c.in_ok-gave.ensures.ok.whole
+    (subst (λ (b : List ℕ). HoldsBatch (fields b) (map fields c.in_ok-self.field-0.items)) c.as_raw.ensures c.in_ok-self.ensures.ok)

@@ -1,4 +1,4 @@
-use Rattle.std.proofs.Common.{◌≡◌, [], sym, subst, ap, ◌∙◌}
+use Rattle.std.proofs.Common.{[], refl, sym, subst, ◌∙◌}
 use Rattle.mg_change.specs.Following.{Turned, event_told}
 use Rattle.mg_change.specs.Rows.{Ends}
 use Rattle.mg_change.specs.declared.event_poll.Stepped.TheVariants as stepped
@@ -6,6 +6,8 @@ use Rattle.mg_link.proofs.Onward.{later_on, later_same, tickets_on, tickets_same
 use Rattle.mg_change.specs.Phases.{ticket_in}
 use Rattle.mg_change.proofs.Hearing as hearing
 use Rattle.mg_change.proofs.Seeking as seeking
+use Rattle.mg_change.specs.SeekCauses.{SeekCaused}
+use Rattle.mg_change.proofs.SeekCauses as causes
 use Rattle.mg_change.proofs.stream.ChangeStream.poll_next.Goals as goal
 
 pub steps-init : goal.steps-init
@@ -13,8 +15,10 @@ steps-init g c =
     record {
       tickets = tickets_same (g.L.Link.awaited c.args.link.now) (ticket_in c.args.self.now.phase) c.requires.held;
       later = later_same (g.L.Link.faults c.args.link.now) (g.L.Link.pends c.args.link.now) (g.L.Link.wire c.args.link.now) (g.L.Link.prompt c.args.link.now);
+      pended = refl;
       sound = c.requires.sound;
       turned = hearing.turned_none (g.L.Link.awaited c.args.link.now) (g.L.Link.log c.args.link.now) c.args.self.now;
+      caused = causes.sought_start (g.L.Link.awaited c.args.link.now) (g.L.Link.log c.args.link.now) (g.L.Link.wire c.args.link.now) c.args.self.now;
     }
 
 pub steps-preserved : goal.steps-preserved
@@ -22,11 +26,15 @@ steps-preserved g c =
     record {
       tickets = tickets_on c.steps.invariant.tickets c.in-Goes.ensures.tickets;
       later = later_on c.steps.invariant.later c.in-Goes.ensures.later;
+      pended = c.in-Goes.ensures.pended ∙ c.steps.invariant.pended;
       sound = c.in-Goes.ensures.sound;
       turned =
           hearing.turned_on (g.L.Link.awaited c.args.link.now) (g.L.Link.awaited c.steps.link) (g.L.Link.awaited c.seek.new.link)
           (g.L.Link.log c.args.link.now) (g.L.Link.log c.steps.link) (g.L.Link.log c.seek.new.link)
           c.args.self.now c.steps.self c.seek.new.self [] c.steps.invariant.turned c.in-Goes.ensures.turned;
+      caused =
+          causes.sought_on (g.L.Link.awaited c.args.link.now) (g.L.Link.awaited c.steps.link) (g.L.Link.log c.args.link.now) (g.L.Link.log c.steps.link) (g.L.Link.wire c.args.link.now) (g.L.Link.wire c.steps.link) c.args.self.now c.steps.self c.steps.invariant.later.wire c.steps.invariant.caused
+          (g.L.Link.awaited c.seek.new.link) (g.L.Link.log c.seek.new.link) (g.L.Link.wire c.seek.new.link) c.seek.new.self (c.in-Goes.ensures.later.wire ∙ c.steps.invariant.later.wire) c.in-Goes.ensures.caused;
     }
 
 pub returns-in-Gives-clause-sound : goal.returns-in-Gives-clause-sound
@@ -45,3 +53,9 @@ returns-in-Gives-clause-moved g c =
     let u = seeking.turned_counting (g.L.Link.awaited c.args.link.now) (g.L.Link.awaited c.seek.new.link) (g.L.Link.log c.args.link.now) (g.L.Link.log c.seek.new.link)
     c.args.self.now.phase c.args.self.now c.seek.new.self c.leave.new.self (event_told c.in-Gives.poll) c.leave.ensures.stays t in
     (subst (λ p. Turned (g.L.Link.awaited c.args.link.now) (g.L.Link.awaited c.seek.new.link) (g.L.Link.log c.args.link.now) (g.L.Link.log c.seek.new.link) c.args.self.now.phase c.args.self.now c.leave.new.self (event_told p)) (sym c.leave.ensures.answer) u).moved
+
+pub returns-in-Gives-clause-caused : goal.returns-in-Gives-clause-caused
+returns-in-Gives-clause-caused g c =
+    subst (λ p. SeekCaused (g.L.Link.awaited c.args.link.now) (g.L.Link.log c.args.link.now) (g.L.Link.log c.seek.new.link) (g.L.Link.wire c.args.link.now) c.args.self.now c.leave.new.self p) (sym c.leave.ensures.answer)
+    (causes.sought_last (g.L.Link.awaited c.args.link.now) (g.L.Link.awaited c.steps.link) (g.L.Link.log c.args.link.now) (g.L.Link.log c.steps.link) (g.L.Link.wire c.args.link.now) (g.L.Link.wire c.steps.link) c.args.self.now c.steps.self c.steps.invariant.later.wire c.steps.invariant.caused
+    (g.L.Link.log c.seek.new.link) c.seek.new.self c.leave.new.self c.in-Gives.poll c.leave.ensures.stays c.in-Gives.ensures.caused)

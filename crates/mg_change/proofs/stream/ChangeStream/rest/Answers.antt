@@ -2,6 +2,11 @@ use Rattle.std.proofs.Common.{◌≢◌, [], ap, w64, of_z}
 use Rattle.mg_change.specs.Following.{event_told}
 use Rattle.mg_change.proofs.Turning as turning
 use Rattle.mg_change.proofs.Sent as sending
+use Rattle.mg_change.proofs.Causes as causes
+use Rattle.mg_change.specs.Causes.{over}
+use Rattle.mg_link.specs.Exec.{ticket_at}
+use Rattle.mg_change.specs.Following.{buffered}
+use Rattle.std.proofs.Common.{refl, inl}
 use Rattle.mg_change.proofs.stream.ChangeStream.rest.Goals as goal
 
 pub returns-then-not-is_empty-clause-turned : goal.returns-then-not-is_empty-clause-turned
@@ -33,3 +38,11 @@ returns-in-Err-clause-turned c = turning.rests c.args.self.now
 
 pub returns-in-Ok-clause-quiet : goal.returns-in-Ok-clause-quiet
 returns-in-Ok-clause-quiet c = sending.quiet_asking c.args.self.now c.in-Ok.get_more c.in-Ok.exec
+
+pub returns-then-not-is_empty-clause-caused : goal.returns-then-not-is_empty-clause-caused
+returns-then-not-is_empty-clause-caused c = λ awaited log w p idle.
+    let some : c.args.self.now.buffer.items ≢ [] = turning.some_items c.args.self.now.buffer.items c.args.self.now.buffer.len c.is_empty.result c.args.self.now.buffer.ok.0 c.is_empty.ensures c.if-not-is_empty.true in
+    causes.take_causes (over awaited log log w p c.args.self.now) c.take.new.self (buffered c.args.self.now) c.take.result (inl (idle, refl)) (c.take.ensures.caused some)
+
+pub returns-in-Ok-clause-caused : goal.returns-in-Ok-clause-caused
+returns-in-Ok-clause-caused c = λ awaited log w p idle. record { same = refl; since = (idle, refl, ap ticket_at c.in-Ok.ensures.stage) }

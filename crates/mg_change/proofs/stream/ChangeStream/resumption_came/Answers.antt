@@ -2,6 +2,9 @@ use Rattle.mg_bson.specs.Raw.{fields}
 use Rattle.mg_change.specs.Following.{step_told}
 use Rattle.mg_change.proofs.Hearing as hearing
 use Rattle.mg_change.proofs.Reading as reading
+use Rattle.mg_change.proofs.Causes as causes
+use Rattle.mg_change.specs.Causes.{Resumption, over}
+use Rattle.std.proofs.Common.{ℕ, List, sym, subst, inr}
 use Rattle.mg_change.proofs.stream.ChangeStream.resumption_came.Goals as goal
 
 pub replace-requires-clause-named : goal.replace-requires-clause-named
@@ -10,3 +13,11 @@ replace-requires-clause-named c = reading.named_read (fields c.args.reply) _ c.i
 pub returns-in-Ok-clause-turned : goal.returns-in-Ok-clause-turned
 returns-in-Ok-clause-turned c =
     hearing.resume_read c.args.self.now.aggregate.args.options.batch_size c.args.reply c.args.self.now c.replace.new.self c.in-Ok.opened (step_told c.replace.result) c.in-Ok.ensures.ok.opens.batch c.in-Ok.ensures.ok.opens.says c.in-Ok.ensures.ok.opens.whole c.replace.ensures.turned
+
+pub returns-in-Ok-clause-caused : goal.returns-in-Ok-clause-caused
+returns-in-Ok-clause-caused c = λ awaited log log' w p heard.
+    c.replace.ensures.caused awaited log log' w p
+    (subst (λ (b : List ℕ). Resumption (over awaited log log' w p c.args.self.now) b) (sym c.in-Ok.ensures.ok.opens.whole) (inr heard))
+
+pub returns-in-Err-clause-caused : goal.returns-in-Err-clause-caused
+returns-in-Err-clause-caused c = λ awaited log log' w p heard. causes.opening_broken (over awaited log log' w p c.args.self.now) c.args.reply c.in-Err.error heard c.in-Err.ensures.err

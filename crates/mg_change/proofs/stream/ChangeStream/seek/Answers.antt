@@ -1,4 +1,5 @@
 use Rattle.mg_change.proofs.Seeking as seeking
+use Rattle.mg_change.proofs.SeekCauses as causes
 use Rattle.mg_change.proofs.stream.ChangeStream.seek.Goals as goal
 
 pub returns-clause-pended : goal.returns-clause-pended
@@ -23,3 +24,8 @@ pub returns-clause-turned : goal.returns-clause-turned
 returns-clause-turned g c =
     seeking.turned_so c.args.counts.now c.after.new.self c.is_over.result c.advance-stepped.result c.after.result (g.L.Link.awaited c.args.link.now) (g.L.Link.awaited c.advance-stepped.new.link) (g.L.Link.log c.args.link.now) (g.L.Link.log c.advance-stepped.new.link)
     c.args.self.now.phase c.args.self.now c.advance-stepped.new.self c.after.ensures c.advance-stepped.ensures.turned
+
+pub returns-clause-caused : goal.returns-clause-caused
+returns-clause-caused g c =
+    causes.sought_so c.args.counts.now c.after.new.self c.is_over.result c.advance-stepped.result c.after.result (g.L.Link.awaited c.args.link.now) (g.L.Link.log c.args.link.now) (g.L.Link.log c.advance-stepped.new.link) (g.L.Link.wire c.args.link.now)
+    c.args.self.now c.advance-stepped.new.self c.after.ensures c.is_over.ensures c.advance-stepped.ensures.caused
