@@ -1,12 +1,11 @@
 -- The tickets of jobs over turns.
-use Rattle.std.proofs.Common.{◌≡◌, ℕ, zero, suc, ℤ, true, false, List, [], ◌∷◌, ◌++◌, length, Option, Some, None, Result, Ok, Err, refl, sym, ap, ◌∙◌, subst, inl, inr, ◌⊎◌}
+use Rattle.std.proofs.Common.{◌≡◌, ℕ, zero, suc, ℤ, true, false, List, [], ◌∷◌, ◌++◌, length, Some, None, Result, Ok, Err, refl, sym, ap, ◌∙◌, subst, inl, inr, ◌⊎◌}
 use Rattle.std.specs.Prelude.{slice_get, slice_set, IsSome, is_some, OnErr, ⊤}
 use Rattle.std.proofs.lemmas.Bool.{cases_eq}
-use Rattle.mg_link.specs.Acts.{IsOut, Tickets}
 use Rattle.mg_link.specs.Link.{Awaited, Told}
 use Rattle.mg_link.specs.declared.error.Error.{Error}
 use Rattle.mg_jobs.specs.Playing.{IsSameFollow}
-use Rattle.mg_jobs.specs.Runs.{AreApart, AreNew, AreSameJobs, CanGo, Goes, IsNew, IsSameJob, JobHolds, job_ticket}
+use Rattle.mg_jobs.specs.Runs.{AreApart, AreNew, AreSameJobs, CanGo, Goes, IsNew, IsSameJob, job_ticket}
 use Rattle.mg_jobs.specs.declared.player.FollowPlayer.{FollowPlayer}
 use Rattle.mg_jobs.specs.declared.run.Player.{Player}
 use Rattle.mg_jobs.specs.declared.run.Player.TheVariants as player

@@ -1,15 +1,16 @@
 -- What the jobs of a run know goes on to hold, turn by turn.
-use Rattle.std.proofs.Common.{◌≡◌, ◌≢◌, ◌⊎◌, ℕ, zero, suc, ℤ, pos, List, [], ◌∷◌, ◌++◌, Option, Some, None, refl, sym, ap, ◌∙◌, subst, inl, inr, length, map, arith, append_assoc, append-nil, length-append, ◌+◌, Result, Ok, Err, take}
+use Rattle.std.proofs.Common.{◌≡◌, ◌⊎◌, ℕ, zero, suc, ℤ, pos, List, [], ◌∷◌, ◌++◌, Some, None, refl, sym, ap, ◌∙◌, subst, inl, inr, length, map, arith, append_assoc, append-nil, length-append, ◌+◌, Result, Ok, Err, take}
 use Rattle.std.specs.Prelude.{slice_get, slice_set, IfOk}
-use Rattle.mg_link.specs.Acts.{IsOut, Tickets}
 use Rattle.mg_link.specs.Link.{Awaited, Told}
 use Rattle.mg_link.specs.Log.{Call}
-use Rattle.mg_link.specs.Follow.{Follow, Knows, owner_of}
-use Rattle.mg_link.specs.Owner.{Owner, Holds, IsOf, NamesItsOwn, Onward, Passes, nobody}
+use Rattle.mg_link.specs.Owner.{Owner, Holds, Onward, Passes, nobody}
 use Rattle.mg_link.proofs.Apart.{holds_nobody, passes_same}
 use Rattle.mg_link.proofs.Plain.{PassesPlain}
 use Rattle.mg_link.proofs.Runs.{OwnsNothing, apart_after, apart_at_first, others_onward}
-use Rattle.mg_link.specs.Namespace.{target}
+use Rattle.mg_link.specs.Namespace.{space, target}
+use Rattle.mg_link.proofs.Owners.{grown_refl}
+use Rattle.mg_jobs.specs.Underway.{EndInserts, InsertKnows, InsertTurns, StageInserts}
+use Rattle.mg_jobs.proofs.Sendings.{stage_ends, stage_on}
 use Rattle.mg_link.specs.State.{Start, Watch}
 use Rattle.mg_link.proofs.Answering.{knows_new}
 use Rattle.mg_change.specs.Following.{not_open}
@@ -18,9 +19,9 @@ use Rattle.mg_jobs.specs.Plan.{Task, begin, task, tasks}
 use Rattle.mg_link.specs.declared.error.Error.{Error}
 use Rattle.mg_jobs.specs.declared.outcome.Played.{Played}
 use Rattle.mg_jobs.specs.declared.script.Job.{Job}
-use Rattle.mg_jobs.specs.Follows.{FollowKnows, FollowTurns, HasNothing, IsUnfinished, IsWatch, IsWatched, filter_in}
-use Rattle.mg_jobs.specs.Playing.{IsPlainJob, IsSameFollow}
-use Rattle.mg_jobs.specs.Headline.{AllFollowed, AllKnow, AllWatch, AreFirst, DoTasks, Does, IsFirst, IsSameTask, Knowing, Made, OutcomeFollowed, OutcomeOf, OutcomesOf, Plays, PlaysAt, Took, Turns, Watches}
+use Rattle.mg_jobs.specs.Follows.{FollowKnows, FollowTurns, FollowsNothing, HasNothing, IsUnfinished, IsUnwatched, IsWatch, IsWatched, WatchesNothing, filter_in}
+use Rattle.mg_jobs.specs.Playing.{IsPlainInsert, IsPlainJob, IsSameFollow, IsSameInsert, end_of}
+use Rattle.mg_jobs.specs.Headline.{AllFollowed, AllKnow, AreFirst, DoTasks, Does, IsFirst, IsSameTask, Knowing, Made, OutcomeFollowed, OutcomeOf, OutcomesOf, Plays, PlaysAt, Took, Turns}
 use Rattle.mg_jobs.specs.declared.player.FollowPlayer.{FollowPlayer}
 use Rattle.mg_jobs.specs.declared.player.Stage.{Stage}
 use Rattle.mg_jobs.specs.declared.player.Stage.TheVariants as stage
@@ -30,7 +31,9 @@ use Rattle.mg_jobs.specs.declared.run.Player.TheVariants as player
 use Rattle.mg_jobs.proofs.Apart.{get_set_other, get_set_same, same_some, stays, which}
 use Rattle.std.proofs.lemmas.Bool.{cases_eq}
 use Rattle.std.proofs.lemmas.List.{length-map}
-use Rattle.mg_jobs.proofs.Turning.{kept_follow, outcome_followed, parts_knows, same_follow}
+use Rattle.mg_jobs.proofs.Turning.{SameParts, kept_follow, outcome_followed, parts_knows, same_follow}
+use Rattle.mg_jobs.proofs.Vainly.{kept_vain, outcome_vain, same_vain, unfinished_not_given, vain_parts}
+use Rattle.mg_jobs.proofs.Watched.{watch_or_nothing}
 use Rattle.mg_jobs.specs.declared.outcome.Outcome.{Outcome}
 use Rattle.mg_jobs.specs.declared.player.InsertPlayer.{InsertPlayer}
 
@@ -42,14 +45,16 @@ get_past_other (z ∷ xs) (suc k) zero x y ne h = h
 get_past_other (z ∷ xs) (suc k) (suc i) x y ne h = get_past_other xs k i x y (λ e. ne (ap suc e)) h
 
 same_player : (old new : Awaited) (calls : List Call) (p : Player) (o : Owner) → ((m : ℕ) → job_ticket p ≡ Some m → new m ≡ old m) → Plays old calls p o → Plays new calls p o
-same_player old new calls (player.Insert job) o same plays = plays
-same_player old new calls (player.Follow job) o same plays = same_follow old new calls job.stage job o same plays
+same_player old new calls (player.Insert job) o same plays = (plays.0, plays.1, stage_on old new calls calls (space job.ns.now) (grown_refl calls) job.documents.now job.stage same plays.2)
+same_player old new calls (player.Follow job) o same (inl knows) = inl (same_follow old new calls job.stage job o same knows)
+same_player old new calls (player.Follow job) o same (inr vain) = inr (vain.0, same_vain old new calls job.stage job same vain.1)
 same_player old new calls player.Put o same plays = plays
 same_player old new calls player.Get o same plays = plays
 
 kept_player : (awaited : Awaited) (calls calls' : List Call) (p : Player) (o : Owner) → Onward calls calls' o → Plays awaited calls p o → Plays awaited calls' p o
-kept_player awaited calls calls' (player.Insert job) o onward plays = plays
-kept_player awaited calls calls' (player.Follow job) o onward plays = kept_follow awaited calls calls' job.stage job o onward plays
+kept_player awaited calls calls' (player.Insert job) o onward plays = (plays.0, plays.1, stage_on awaited awaited calls calls' (space job.ns.now) onward.grown job.documents.now job.stage (λ m e. refl) plays.2)
+kept_player awaited calls calls' (player.Follow job) o onward (inl knows) = inl (kept_follow awaited calls calls' job.stage job o onward knows)
+kept_player awaited calls calls' (player.Follow job) o onward (inr vain) = inr (vain.0, kept_vain awaited calls calls' job.stage job (subst (Onward calls calls') vain.0 onward) vain.1)
 kept_player awaited calls calls' player.Put o onward plays = plays
 kept_player awaited calls calls' player.Get o onward plays = plays
 
@@ -93,20 +98,26 @@ knowing_same awaited awaited' begun log log' players players' a l p knowing call
 -- ---- turns of each kind
 
 -- an insert names no cursor, and leaves every other job alone
-pub turned_insert : (old new : Awaited) (log log' : Told) (job job' : InsertPlayer) → (IsPlainJob job → PassesPlain log log' × IsPlainJob job') → Turns old new log log' (player.Insert job) (player.Insert job')
-turned_insert old new log log' job job' plain calls told o plays =
+pub turned_insert : (old new : Awaited) (log log' : Told) (job job' : InsertPlayer) → (IsPlainJob job → PassesPlain log log' × IsPlainJob job') → IsSameInsert job job' → InsertTurns old new log log' job.stage job'.stage → Turns old new log log' (player.Insert job) (player.Insert job')
+turned_insert old new log log' job job' plain same turned calls told o plays =
     let on = plain plays.1 in
     let m = on.0 calls told in
-    (m.0, m.1, record { owner = nobody; plays = (refl, on.1); passes = subst (λ (x : Owner). Passes calls m.0 x nobody) (sym plays.0) m.2 })
+    let knows : StageInserts new m.0 (space job.ns.now) job.documents.now job'.stage = turned calls m.0 told m.1 (space job.ns.now) job.documents.now plays.2 in
+    let knows' : InsertKnows new m.0 job' = subst (λ d. StageInserts new m.0 (space job'.ns.now) d.now job'.stage) (sym same.1) (subst (λ n. StageInserts new m.0 (space n.now) job.documents.now job'.stage) (sym same.0) knows) in
+    (m.0, m.1, record { owner = nobody; plays = (refl, on.1, knows'); passes = subst (λ (x : Owner). Passes calls m.0 x nobody) (sym plays.0) m.2 })
 
 pub turned_follow : (old new : Awaited) (log log' : Told) (job job' : FollowPlayer) → FollowTurns old new log log' job.stage job job'.stage job' → Turns old new log log' (player.Follow job) (player.Follow job')
-turned_follow old new log log' job job' turned calls told o plays =
-    let m = turned calls told o plays in
-    (m.0, m.1, record { owner = m.2.owner; plays = m.2.knows; passes = m.2.passes })
+turned_follow old new log log' job job' turned calls told o (inl knows) =
+    let m = turned.watching calls told o knows in
+    (m.0, m.1, record { owner = m.2.owner; plays = inl m.2.knows; passes = m.2.passes })
+turned_follow old new log log' job job' turned calls told o (inr vain) =
+    let m = turned.vainly calls told vain.1 in
+    (m.0, m.1, record { owner = nobody; plays = inr (refl, m.2); passes = subst (λ (x : Owner). Passes calls m.0 x nobody) (sym vain.0) m.3 })
 
 holds_player : (awaited : Awaited) (calls : List Call) (p : Player) (o : Owner) → Plays awaited calls p o → Holds calls o
 holds_player awaited calls (player.Insert job) o plays = subst (Holds calls) (sym plays.0) (holds_nobody calls)
-holds_player awaited calls (player.Follow job) o plays = subst (Holds calls) (sym plays.owns) plays.knows.owned
+holds_player awaited calls (player.Follow job) o (inl knows) = subst (Holds calls) (sym knows.owns) knows.knows.owned
+holds_player awaited calls (player.Follow job) o (inr vain) = subst (Holds calls) (sym vain.0) (holds_nobody calls)
 holds_player awaited calls player.Put o plays = subst (Holds calls) (sym plays) (holds_nobody calls)
 holds_player awaited calls player.Get o plays = subst (Holds calls) (sym plays) (holds_nobody calls)
 
@@ -119,9 +130,12 @@ pub turned_ready : (old new : Awaited) (log log' : Told) (p q p' : Player) → (
 turned_ready old new log log' p q p' knows turned calls told o plays = turned calls told o (knows old calls o plays)
 
 -- what differs at most in the room for answers knows the same
-pub same_knows : (f f' : FollowPlayer) → IsSameFollow f f' → (awaited : Awaited) (calls : List Call) (o : Owner) → FollowKnows awaited calls f.stage f o → FollowKnows awaited calls f'.stage f' o
-same_knows f f' same awaited calls o k =
-    subst (λ s. FollowKnows awaited calls s f' o) (sym same.stage_same) (parts_knows awaited calls f.stage f f' o (record { watched = same.watched_same; opened = same.opened_same; answers = same.answers_same; token = same.token_same }) k)
+same_parts : (f f' : FollowPlayer) → IsSameFollow f f' → SameParts f f'
+same_parts f f' same = record { watched = same.watched_same; opened = same.opened_same; answers = same.answers_same; token = same.token_same }
+
+pub same_knows : (f f' : FollowPlayer) → IsSameFollow f f' → (awaited : Awaited) (calls : List Call) (o : Owner) → Plays awaited calls (player.Follow f) o → Plays awaited calls (player.Follow f') o
+same_knows f f' same awaited calls o (inl k) = inl (subst (λ s. FollowKnows awaited calls s f' o) (sym same.stage_same) (parts_knows awaited calls f.stage f f' o (same_parts f f' same) k))
+same_knows f f' same awaited calls o (inr v) = inr (v.0, subst (λ s. FollowsNothing awaited calls s f') (sym same.stage_same) (vain_parts awaited calls f.stage f f' (same_parts f f' same) v.1))
 
 -- ---- at first
 
@@ -135,10 +149,18 @@ get_mapped f [] i z h = absurd cc
 get_mapped f (y ∷ ys) zero z h = (y, same_some (f y) z h)
 get_mapped f (y ∷ ys) (suc i) z h = get_mapped f ys i z h
 
+-- whether a follow watches something
+abbrev decided : FollowPlayer → Type 0
+decided job = ((w : Watch) × (start : Start) × IsWatched job.watched w start) ⊎ IsUnwatched job.watched
+
+abbrev owner_by : (job : FollowPlayer) → decided job → Owner
+owner_by job (inl watched) = record { ids = pos 0 ∷ pos 0 ∷ []; coming = None ∷ [] }
+owner_by job (inr none) = nobody
+
 -- what a job is to the others before it has done anything
 abbrev first_owner : Player → Owner
 first_owner (player.Insert job) = nobody
-first_owner (player.Follow job) = record { ids = pos 0 ∷ pos 0 ∷ []; coming = None ∷ [] }
+first_owner (player.Follow job) = owner_by job (watch_or_nothing (target job.watched.target.now) (begin job.watched.start.now) (filter_in job.watched))
 first_owner player.Put = nobody
 first_owner player.Get = nobody
 
@@ -152,9 +174,13 @@ owns_zero =
       coming = λ k of. elim of [ inl e ↦ let bad : None ≡ Some k = e in absurd cc | inr none ↦ none ];
     }
 
+owns_by : (job : FollowPlayer) (d : decided job) → OwnsNothing (owner_by job d)
+owns_by job (inl watched) = owns_zero
+owns_by job (inr none) = owns_none
+
 owns_first : (p : Player) → OwnsNothing (first_owner p)
 owns_first (player.Insert job) = owns_none
-owns_first (player.Follow job) = owns_zero
+owns_first (player.Follow job) = owns_by job (watch_or_nothing (target job.watched.target.now) (begin job.watched.start.now) (filter_in job.watched))
 owns_first player.Put = owns_none
 owns_first player.Get = owns_none
 
@@ -175,39 +201,39 @@ at_first awaited calls (stage.Open stream) p w start is unfinished nothing watch
 at_first awaited calls (stage.Closes closing) p w start is unfinished nothing watched = absurd cc
 at_first awaited calls stage.Ended p w start is unfinished nothing watched = absurd cc
 
-watched_by : (t : Task) (job : FollowPlayer) → Does t (player.Follow job) → Watches t → (w : Watch) × (start : Start) × IsWatched job.watched w start
-watched_by (plan.insert ns docs) job does watches = absurd does
-watched_by (plan.follow on calls start filter batch) job does watches =
-    (watches.0, watches.1, subst (λ f. IsWatch (target job.watched.target.now) (begin job.watched.start.now) f watches.0 watches.1) (sym does.2) (subst (λ b. IsWatch (target job.watched.target.now) b filter watches.0 watches.1) (sym does.1) (subst (λ u. IsWatch u start filter watches.0 watches.1) (sym does.0) watches.2)))
-watched_by (plan.put db bucket name id chunk pieces) job does watches = absurd does
-watched_by (plan.get db bucket id read) job does watches = absurd does
+vain_first : (awaited : Awaited) (calls : List Call) (s : Stage) (p : FollowPlayer) → s ≡ stage.Unopened → IsUnfinished p.opened → HasNothing p → IsUnwatched p.watched → FollowsNothing awaited calls s p
+vain_first awaited calls stage.Unopened p is unfinished nothing none =
+    record { unwatched = none; vain = tt; in_order = (unfinished, nothing); never = λ given. absurd (unfinished_not_given p.opened unfinished given) }
+vain_first awaited calls (stage.Opens opening) p is unfinished nothing none = absurd cc
+vain_first awaited calls (stage.Open stream) p is unfinished nothing none = absurd cc
+vain_first awaited calls (stage.Closes closing) p is unfinished nothing none = absurd cc
+vain_first awaited calls stage.Ended p is unfinished nothing none = absurd cc
 
-plays_first : (awaited : Awaited) (calls : List Call) (t : Task) (p : Player) → IsFirst p → Does t p → Watches t → Plays awaited calls p (first_owner p)
-plays_first awaited calls t (player.Insert job) first does watches = (refl, first)
-plays_first awaited calls t (player.Follow job) first does watches = let w = watched_by t job does watches in at_first awaited calls job.stage job w.0 w.1 first.0 first.1 first.2 w.2
-plays_first awaited calls t player.Put first does watches = refl
-plays_first awaited calls t player.Get first does watches = refl
+plays_by : (awaited : Awaited) (calls : List Call) (job : FollowPlayer) (d : decided job) → IsFirst (player.Follow job) → Plays awaited calls (player.Follow job) (owner_by job d)
+plays_by awaited calls job (inl w) first = inl (at_first awaited calls job.stage job w.0 w.1 first.0 first.1 first.2 w.2)
+plays_by awaited calls job (inr none) first = inr (refl, vain_first awaited calls job.stage job first.0 first.1 first.2 none)
 
-get_length : {A B : Type 0} (xs : List A) (ys : List B) → length ys ≡ length xs → (i : ℕ) (y : B) → slice_get ys i ≡ Some y → (x : A) × (slice_get xs i ≡ Some x)
+plays_first : (awaited : Awaited) (calls : List Call) (p : Player) → IsFirst p → Plays awaited calls p (first_owner p)
+plays_first awaited calls (player.Insert job) first = (refl, subst (λ s. IsPlainInsert s) (sym first) tt, subst (λ s. StageInserts awaited calls (space job.ns.now) job.documents.now s) (sym first) tt)
+plays_first awaited calls (player.Follow job) first = plays_by awaited calls job (watch_or_nothing (target job.watched.target.now) (begin job.watched.start.now) (filter_in job.watched)) first
+plays_first awaited calls player.Put first = refl
+plays_first awaited calls player.Get first = refl
+
+pub get_length : {A B : Type 0} (xs : List A) (ys : List B) → length ys ≡ length xs → (i : ℕ) (y : B) → slice_get ys i ≡ Some y → (x : A) × (slice_get xs i ≡ Some x)
 get_length xs [] same i y h = absurd cc
 get_length [] (z ∷ zs) same i y h = absurd cc
 get_length (x ∷ xs) (z ∷ zs) same zero y h = (x, refl)
 get_length (x ∷ xs) (z ∷ zs) same (suc i) y h = get_length xs zs (omega (arith, same)) i y h
 
-task_at : (tasks : List Task) (players : List Player) → length players ≡ length tasks → (i : ℕ) (p : Player) → slice_get players i ≡ Some p → (t : Task) × (slice_get tasks i ≡ Some t)
-task_at tasks players same i p h = get_length tasks players same i p h
-
 -- Jobs that have done nothing know what they should, whatever was called before.
-pub knowing_first : (awaited : Awaited) (log : Told) (tasks : List Task) (players : List Player) → length players ≡ length tasks → AreFirst players → DoTasks tasks players → AllWatch tasks → Knowing awaited log log players
-knowing_first awaited log tasks players count first does watch calls e = (
+pub knowing_first : (awaited : Awaited) (log : Told) (players : List Player) → AreFirst players → Knowing awaited log log players
+knowing_first awaited log players first calls e = (
   calls,
   e,
   record {
     owners = map first_owner players;
     apart = apart_at_first calls (map first_owner players) (λ i o h. let x = get_mapped first_owner players i o h in subst OwnsNothing x.1 (owns_first x.0));
-    each = λ i p h.
-        let t = task_at tasks players count i p h in
-        record { owner = first_owner p; there = get_map first_owner players i p h; plays = plays_first awaited calls t.0 p (first i p h) (does i t.0 p t.1 h) (watch i t.0 t.1) };
+    each = λ i p h. record { owner = first_owner p; there = get_map first_owner players i p h; plays = plays_first awaited calls p (first i p h) };
   },
   λ made. made,
 )
@@ -215,19 +241,29 @@ knowing_first awaited log tasks players count first does watch calls e = (
 -- ---- at the end
 
 outcome_of_task : (awaited : Awaited) (calls : List Call) (t : Task) (p : Player) (r : Outcome) (o : Owner) → Does t p → OutcomeOf p r → Plays awaited calls p o → OutcomeFollowed calls t r
-outcome_of_task awaited calls (plan.insert ns docs) p r o does is plays = tt
+outcome_of_task awaited calls (plan.insert ns docs) (player.Insert job) r o does is plays =
+    subst (λ (x : Outcome). OutcomeFollowed calls (plan.insert ns docs) x) (sym is)
+    (subst (λ d. EndInserts calls ns d (end_of job.stage)) does.1 (subst (λ a. EndInserts calls a job.documents.now (end_of job.stage)) does.0 (stage_ends awaited calls (space job.ns.now) job.documents.now job.stage plays.2)))
+outcome_of_task awaited calls (plan.insert ns docs) (player.Follow job) r o does is plays = absurd does
+outcome_of_task awaited calls (plan.insert ns docs) player.Put r o does is plays = absurd does
+outcome_of_task awaited calls (plan.insert ns docs) player.Get r o does is plays = absurd does
 outcome_of_task awaited calls (plan.put db bucket name id chunk pieces) p r o does is plays = tt
 outcome_of_task awaited calls (plan.get db bucket id read) p r o does is plays = tt
 outcome_of_task awaited calls (plan.follow on count start filter batch) (player.Insert job) r o does is plays = absurd does
 outcome_of_task awaited calls (plan.follow on count start filter batch) player.Put r o does is plays = absurd does
 outcome_of_task awaited calls (plan.follow on count start filter batch) player.Get r o does is plays = absurd does
-outcome_of_task awaited calls (plan.follow on count start filter batch) (player.Follow job) r o does is plays =
-    subst (λ (x : Outcome). OutcomeFollowed calls (plan.follow on count start filter batch) x) (sym is) (
+outcome_of_task awaited calls (plan.follow on count start filter batch) (player.Follow job) r o does is (inl plays) =
+    subst (λ (x : Outcome). OutcomeFollowed calls (plan.follow on count start filter batch) x) (sym is) (inl (
       plays.watch,
       plays.start,
       subst (λ f. IsWatch on start f plays.watch plays.start) does.2 (subst (λ b. IsWatch on b (filter_in job.watched) plays.watch plays.start) does.1 (subst (λ u. IsWatch u (begin job.watched.start.now) (filter_in job.watched) plays.watch plays.start) does.0 plays.watches)),
       outcome_followed awaited calls job.stage job o plays,
-    )
+    ))
+outcome_of_task awaited calls (plan.follow on count start filter batch) (player.Follow job) r o does is (inr vain) =
+    subst (λ (x : Outcome). OutcomeFollowed calls (plan.follow on count start filter batch) x) (sym is) (inr (
+      subst (λ f. WatchesNothing on start f) does.2 (subst (λ b. WatchesNothing on b (filter_in job.watched)) does.1 (subst (λ u. WatchesNothing u (begin job.watched.start.now) (filter_in job.watched)) does.0 vain.1.unwatched)),
+      outcome_vain awaited calls job.stage job vain.1,
+    ))
 
 -- What the jobs of a run know at its end says what became of them.
 pub all_followed : (awaited : Awaited) (log log' : Told) (tasks : List Task) (players : List Player) (outcomes : List Outcome) → length outcomes ≡ length players → Knowing awaited log log' players → DoTasks tasks players → OutcomesOf players outcomes → AllFollowed log log' tasks outcomes
@@ -245,11 +281,11 @@ all_followed awaited log log' tasks players outcomes count knowing does of calls
 -- ---- tasks
 
 -- an insert does the same task, however far it has come
-pub same_insert : (a b : InsertPlayer) → IsSameTask (player.Insert a) (player.Insert b)
-same_insert a b (plan.insert ns docs) does = does
-same_insert a b (plan.follow on calls start filter batch) does = does
-same_insert a b (plan.put db bucket name id chunk pieces) does = does
-same_insert a b (plan.get db bucket id read) does = does
+pub same_insert : (a b : InsertPlayer) → IsSameInsert a b → IsSameTask (player.Insert a) (player.Insert b)
+same_insert a b same (plan.insert ns docs) does = (ap (λ n. space n.now) same.0 ∙ does.0, ap (λ d. d.now) same.1 ∙ does.1)
+same_insert a b same (plan.follow on calls start filter batch) does = does
+same_insert a b same (plan.put db bucket name id chunk pieces) does = does
+same_insert a b same (plan.get db bucket id read) does = does
 
 pub same_watch : (a b : FollowPlayer) → b.watched ≡ a.watched → IsSameTask (player.Follow a) (player.Follow b)
 same_watch a b same (plan.insert ns docs) does = does
@@ -307,28 +343,25 @@ made_more players rest rest' outcomes p r is made of =
 pub made_all : (players rest : List Player) (outcomes : List Outcome) → rest ≡ [] → Made players rest outcomes → OutcomesOf players outcomes
 made_all players rest outcomes is made = subst (λ ps. OutcomesOf ps outcomes) (sym (made.whole ∙ ap (λ l. made.gone ++ l) is ∙ append-nil made.gone)) made.of
 
-pub same_count : (jobs : List Job) (players : List Player) → length players ≡ length jobs → length players ≡ length (tasks jobs)
-same_count jobs players same = same ∙ sym (length-map jobs task)
-
 -- what was played is as it should be, unless memory ran out
 pub played_so : (awaited : Awaited) (ts : List Task) (log log' : Told) (result : Result Played Error) (players : List Player) (count : ℕ) → IfOk result (λ p. length p.outcomes.items ≡ count) → IfOk result (λ p. OutcomesOf players p.outcomes.items)
-    → (AllWatch ts → Knowing awaited log log' players) → DoTasks ts players → count ≡ length players → IfOk result (λ p. AllWatch ts → AllFollowed log log' ts p.outcomes.items)
-played_so awaited ts log log' (Ok p) players count counted of knowing does same = λ watch. all_followed awaited log log' ts players p.outcomes.items (counted ∙ same) (knowing watch) does of
+    → Knowing awaited log log' players → DoTasks ts players → count ≡ length players → IfOk result (λ p. AllFollowed log log' ts p.outcomes.items)
+played_so awaited ts log log' (Ok p) players count counted of knowing does same = all_followed awaited log log' ts players p.outcomes.items (counted ∙ same) knowing does of
 played_so awaited ts log log' (Err e) players count counted of knowing does same = tt
 
-take_next : {A : Type 0} (xs : List A) (k : ℕ) (x : A) → slice_get xs k ≡ Some x → take (suc k) xs ≡ take k xs ++ x ∷ []
+pub take_next : {A : Type 0} (xs : List A) (k : ℕ) (x : A) → slice_get xs k ≡ Some x → take (suc k) xs ≡ take k xs ++ x ∷ []
 take_next [] k x h = absurd cc
 take_next (y ∷ ys) zero x h = ap (λ z. z ∷ []) (same_some y x h)
 take_next (y ∷ ys) (suc k) x h = ap (λ l. y ∷ l) (take_next ys k x h)
 
-one_more : (k : ℕ) → suc k ≡ k + 1
+pub one_more : (k : ℕ) → suc k ≡ k + 1
 one_more k = omega (arith)
 
-map_joined : {A B : Type 0} (f : A → B) (xs ys : List A) → map f (xs ++ ys) ≡ map f xs ++ map f ys
+pub map_joined : {A B : Type 0} (f : A → B) (xs ys : List A) → map f (xs ++ ys) ≡ map f xs ++ map f ys
 map_joined f [] ys = refl
 map_joined f (x ∷ xs) ys = ap (λ l. f x ∷ l) (map_joined f xs ys)
 
-length_take : {A : Type 0} (xs : List A) (k : ℕ) (x : A) → slice_get xs k ≡ Some x → length (take k xs) ≡ k
+pub length_take : {A : Type 0} (xs : List A) (k : ℕ) (x : A) → slice_get xs k ≡ Some x → length (take k xs) ≡ k
 length_take [] k x h = absurd cc
 length_take (y ∷ ys) zero x h = refl
 length_take (y ∷ ys) (suc k) x h = ap suc (length_take ys k x h)

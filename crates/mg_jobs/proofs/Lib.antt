@@ -7,6 +7,12 @@ pub mod Apart
 pub mod Tallies
 pub mod Orders
 pub mod Turning
+pub mod Watched
+pub mod Vainly
 pub mod Knowing
 pub mod Plainly
 pub mod Small
+pub mod Advancing
+pub mod Appending
+pub mod Appended
+pub mod Sendings

@@ -20,6 +20,7 @@ counted_seen old log log' n before pends pends' pended prompts p p' place seen c
     record {
       starts = started_seen n old log log' place seen counted.starts sees;
       pends = subst (λ m. PendedAs pended before m) (sym same) counted.pends;
+      never_less = omega (arith, same, counted.never_less);
       prompt = λ was. let r = counted.prompt was in (stays r.0, r.1);
     }
 

@@ -1,5 +1,5 @@
 -- The turns of follows: what they know stays so, whatever other jobs do.
-use Rattle.std.proofs.Common.{◌≡◌, ◌≢◌, ◌⊎◌, ℕ, zero, suc, ℤ, List, [], ◌∷◌, ◌++◌, Option, Some, None, refl, sym, ap, ◌∙◌, subst, inl, inr, append-nil, option_map}
+use Rattle.std.proofs.Common.{◌≡◌, ℕ, ℤ, List, [], ◌∷◌, ◌++◌, Option, Some, None, refl, sym, ap, ◌∙◌, subst, append-nil, option_map}
 use Rattle.mg_bson.specs.Tree.{Tree, Fields}
 use Rattle.mg_bson.specs.Raw.{fields}
 use Rattle.mg_link.specs.Exec.{Sending}
@@ -33,7 +33,7 @@ use Rattle.mg_change.specs.Openings.{IsOpening}
 use Rattle.mg_change.specs.declared.closing.Closing.{Closing}
 use Rattle.mg_change.specs.declared.opening.Opening.{Opening}
 use Rattle.mg_change.specs.declared.stream.ChangeStream.{ChangeStream}
-use Rattle.mg_jobs.specs.Follows.{EndsSo, FollowKnows, FollowTook, FollowTurns, Followed, FollowedOr, HasGiven, HasNothing, IsFailed, IsInOrder, IsUnfinished, IsWatched, StageAsks, closed_follow, ended_follow, follow_at, follow_by, events_of, token_at}
+use Rattle.mg_jobs.specs.Follows.{EndsSo, FollowKnows, FollowMoves, FollowedOr, HasGiven, HasNothing, IsFailed, IsInOrder, IsUnfinished, IsWatched, StageAsks, closed_follow, ended_follow, follow_at, follow_by, events_of, token_at}
 use Rattle.mg_jobs.specs.Playing.{stage_ticket}
 use Rattle.mg_jobs.specs.declared.outcome.Answer.{Answer}
 use Rattle.mg_jobs.specs.declared.outcome.Answer.TheVariants as answers
@@ -86,7 +86,7 @@ kept_follow awaited calls calls' s p o onward k =
 -- A stream that moved takes its follow along.
 pub took : (old new : Awaited) (log log' : Told) (s : Stage) (p : FollowPlayer) (s' : Stage) (p' : FollowPlayer) → p'.watched ≡ p.watched
     → ((w : Watch) (start : Start) → IsWatched p.watched w start → StageAsks s w start → IsInOrder p s → (opened : Option ℕ) → (opened' : Option ℕ) × Moved log log' (follow_by old s w start opened p) (follow_by new s' w start opened' p') × StageAsks s' w start × IsInOrder p' s')
-    → FollowTurns old new log log' s p s' p'
+    → FollowMoves old new log log' s p s' p'
 took old new log log' s p s' p' same moves calls told o k =
     let m = moves k.watch k.start k.watches k.asks k.in_order k.opened in
     let on = m.1 calls told in (
@@ -109,7 +109,7 @@ took old new log log' s p s' p' same moves calls told o k =
     )
 
 -- One part of a turn after another.
-pub took_on : (old mid new : Awaited) (log log_mid log' : Told) (s : Stage) (p : FollowPlayer) (s_mid : Stage) (p_mid : FollowPlayer) (s' : Stage) (p' : FollowPlayer) → FollowTurns old mid log log_mid s p s_mid p_mid → FollowTurns mid new log_mid log' s_mid p_mid s' p' → FollowTurns old new log log' s p s' p'
+pub took_on : (old mid new : Awaited) (log log_mid log' : Told) (s : Stage) (p : FollowPlayer) (s_mid : Stage) (p_mid : FollowPlayer) (s' : Stage) (p' : FollowPlayer) → FollowMoves old mid log log_mid s p s_mid p_mid → FollowMoves mid new log_mid log' s_mid p_mid s' p' → FollowMoves old new log log' s p s' p'
 took_on old mid new log log_mid log' s p s_mid p_mid s' p' first second calls told o k =
     let a = first calls told o k in
     let b = second a.0 a.1 a.2.owner a.2.knows in
@@ -171,7 +171,7 @@ parts_end ended.Unfinished p t same so = parts_nothing p t same so
 parts_end (ended.Gave x) p t same so = so
 parts_end (ended.Failed e) p t same so = parts_nothing p t same so
 
-parts_order : (s : Stage) (p t : FollowPlayer) → SameParts p t → IsInOrder p s → IsInOrder t s
+pub parts_order : (s : Stage) (p t : FollowPlayer) → SameParts p t → IsInOrder p s → IsInOrder t s
 parts_order stage.Unopened p t same order = (subst (λ o. IsUnfinished o) (sym same.opened) order.0, parts_nothing p t same order.1)
 parts_order (stage.Opens opening) p t same order = (subst (λ o. IsUnfinished o) (sym same.opened) order.0, parts_nothing p t same order.1)
 parts_order (stage.Open stream) p t same order = subst (λ o. HasGiven o) (sym same.opened) order
@@ -193,7 +193,7 @@ parts_knows awaited calls s p t o same k =
     }
 
 -- A turn whose stage was taken out before, and put back behind it.
-pub other_stage : (old new : Awaited) (log log' : Told) (s s0 : Stage) (p t : FollowPlayer) (s' : Stage) (q r : FollowPlayer) → s ≡ s0 → SameParts p t → SameParts q r → r.stage ≡ s' → FollowTurns old new log log' s t s' q → FollowTurns old new log log' s0 p r.stage r
+pub other_stage : (old new : Awaited) (log log' : Told) (s s0 : Stage) (p t : FollowPlayer) (s' : Stage) (q r : FollowPlayer) → s ≡ s0 → SameParts p t → SameParts q r → r.stage ≡ s' → FollowMoves old new log log' s t s' q → FollowMoves old new log log' s0 p r.stage r
 other_stage old new log log' s s0 p t s' q r from before behind at turned calls told o k =
     let m = turned calls told o (parts_knows old calls s p t o before (subst (λ x. FollowKnows old calls x p o) (sym from) k)) in
     (m.0, m.1, record { owner = m.2.owner; knows = subst (λ x. FollowKnows new m.0 x r m.2.owner) (sym at) (parts_knows new m.0 s' q r m.2.owner behind m.2.knows); passes = m.2.passes })
@@ -201,15 +201,15 @@ other_stage old new log log' s s0 p t s' q r from before behind at turned calls 
 -- ---- the arms of a turn
 
 -- nothing was sent, and the follow is the same
-pub took_same : (awaited : Awaited) (log log' : Told) (s : Stage) (p : FollowPlayer) → log' ≡ log → FollowTurns awaited awaited log log' s p s p
+pub took_same : (awaited : Awaited) (log log' : Told) (s : Stage) (p : FollowPlayer) → log' ≡ log → FollowMoves awaited awaited log log' s p s p
 took_same awaited log log' s p same calls told o k =
     (calls, same ∙ told, record { owner = o; knows = k; passes = passes_same calls o (subst (Holds calls) (sym k.owns) k.knows.owned) })
 
-nothing_kept : (p p' : FollowPlayer) → p'.answers.items ≡ p.answers.items → p'.token ≡ p.token → HasNothing p → HasNothing p'
+pub nothing_kept : (p p' : FollowPlayer) → p'.answers.items ≡ p.answers.items → p'.token ≡ p.token → HasNothing p → HasNothing p'
 nothing_kept p p' answers token nothing = record { no_answer = answers ∙ nothing.no_answer; no_token = token ∙ nothing.no_token }
 
 -- a follow whose opening failed
-never_opened : {A : Type 0} (o : Ended A) (p : FollowPlayer) → IsFailed o → HasNothing p → EndsSo o p
+pub never_opened : {A : Type 0} (o : Ended A) (p : FollowPlayer) → IsFailed o → HasNothing p → EndsSo o p
 never_opened ended.Unfinished p failed nothing = nothing
 never_opened (ended.Gave x) p failed nothing = absurd failed
 never_opened (ended.Failed e) p failed nothing = nothing
@@ -226,7 +226,7 @@ pub record KeepsNothing (p p' : FollowPlayer) : Type 0 where
   pub token : p'.token ≡ p.token
 
 -- The arguments of the watch were not built: nothing was sent.
-pub begin_failed : (awaited : Awaited) (log : Told) (p p' : FollowPlayer) → KeepsNothing p p' → IsFailed p'.opened → FollowTurns awaited awaited log log stage.Unopened p stage.Ended p'
+pub begin_failed : (awaited : Awaited) (log : Told) (p p' : FollowPlayer) → KeepsNothing p p' → IsFailed p'.opened → FollowMoves awaited awaited log log stage.Unopened p stage.Ended p'
 begin_failed awaited log p p' same failed =
     took awaited awaited log log stage.Unopened p stage.Ended p' same.watched
     (λ w start watched asks order opened. (
@@ -237,7 +237,7 @@ begin_failed awaited log p p' same failed =
     ))
 
 -- The watch is to be opened: nothing was sent yet.
-pub begins : (awaited : Awaited) (log : Told) (p : FollowPlayer) (opening : Opening) → ((w : Watch) (start : Start) → IsWatched p.watched w start → Asks opening.aggregate.args w start) → IsOpening opening.aggregate opening.exec → opening.exec ≡ None → FollowTurns awaited awaited log log stage.Unopened p (stage.Opens opening) p
+pub begins : (awaited : Awaited) (log : Told) (p : FollowPlayer) (opening : Opening) → ((w : Watch) (start : Start) → IsWatched p.watched w start → Asks opening.aggregate.args w start) → IsOpening opening.aggregate opening.exec → opening.exec ≡ None → FollowMoves awaited awaited log log stage.Unopened p (stage.Opens opening) p
 begins awaited log p opening asks sent none =
     took awaited awaited log log stage.Unopened p (stage.Opens opening) p refl
     (λ w start watched before order opened. (
@@ -249,14 +249,14 @@ begins awaited log p opening asks sent none =
 
 -- The reply to the opening pends.
 pub open_pends : (old new : Awaited) (log log' : Told) (p : FollowPlayer) (opening opening' : Opening) → opening'.aggregate.args ≡ opening.aggregate.args → (IsOpening opening.aggregate opening.exec → IsOpening opening'.aggregate opening'.exec)
-    → (IsOpening opening.aggregate opening.exec → (w : Watch) (start : Start) → Asks opening.aggregate.args w start → Moved log log' (opening_in old opening.exec w start) (opening_in new opening'.exec w start)) → FollowTurns old new log log' (stage.Opens opening) p (stage.Opens opening') p
+    → (IsOpening opening.aggregate opening.exec → (w : Watch) (start : Start) → Asks opening.aggregate.args w start → Moved log log' (opening_in old opening.exec w start) (opening_in new opening'.exec w start)) → FollowMoves old new log log' (stage.Opens opening) p (stage.Opens opening') p
 open_pends old new log log' p opening opening' args sent moves =
     took old new log log' (stage.Opens opening) p (stage.Opens opening') p refl
     (λ w start watched asks order opened. (opened, moves asks.1 w start asks.0, (subst (λ a. Asks a w start) (sym args) asks.0, sent asks.1), order))
 
 -- It failed.
 pub open_failed : (old new : Awaited) (log log' : Told) (p p' : FollowPlayer) (opening : Opening) → KeepsNothing p p' → IsFailed p'.opened
-    → (IsOpening opening.aggregate opening.exec → (w : Watch) (start : Start) → Asks opening.aggregate.args w start → Moved log log' (opening_in old opening.exec w start) (not_open w start)) → FollowTurns old new log log' (stage.Opens opening) p stage.Ended p'
+    → (IsOpening opening.aggregate opening.exec → (w : Watch) (start : Start) → Asks opening.aggregate.args w start → Moved log log' (opening_in old opening.exec w start) (not_open w start)) → FollowMoves old new log log' (stage.Opens opening) p stage.Ended p'
 open_failed old new log log' p p' opening same failed moves =
     took old new log log' (stage.Opens opening) p stage.Ended p' same.watched
     (λ w start watched asks order opened. (
@@ -268,7 +268,7 @@ open_failed old new log log' p p' opening same failed moves =
 
 -- The stream is open.
 pub open_done : (old new : Awaited) (log log' : Told) (p p' : FollowPlayer) (opening : Opening) (stream : ChangeStream) → KeepsNothing p p' → HasGiven p'.opened → stream.aggregate.args ≡ opening.aggregate.args
-    → (IsOpening opening.aggregate opening.exec → (w : Watch) (start : Start) → Asks opening.aggregate.args w start → (opened : Option ℕ) × Moved log log' (opening_in old opening.exec w start) (follow_of new w start stream opened [])) → FollowTurns old new log log' (stage.Opens opening) p (stage.Open stream) p'
+    → (IsOpening opening.aggregate opening.exec → (w : Watch) (start : Start) → Asks opening.aggregate.args w start → (opened : Option ℕ) × Moved log log' (opening_in old opening.exec w start) (follow_of new w start stream opened [])) → FollowMoves old new log log' (stage.Opens opening) p (stage.Open stream) p'
 open_done old new log log' p p' opening stream same given args moves =
     took old new log log' (stage.Opens opening) p (stage.Open stream) p' same.watched
     (λ w start watched asks order opened.
@@ -289,7 +289,7 @@ pub record KeepsOpen (p p' : FollowPlayer) : Type 0 where
 -- The stream is to be closed, and the follow has its token now.
 pub to_close : (awaited : Awaited) (log : Told) (p p' : FollowPlayer) (stream left : ChangeStream) (closing : Closing) → KeepsOpen p p' → p'.token ≡ token_of stream.aggregate.resume → left ≡ without_token stream
     → ((w : Watch) (start : Start) (opened : Option ℕ) (token : Option Tree) (answered : List Fields) → Moved log log (in_phase awaited left.phase (buffered left) left.batch_token (idle_by w start opened left.cursor.id token answered)) (closing_of awaited (idle_by w start opened left.cursor.id token answered) closing))
-    → FollowTurns awaited awaited log log (stage.Open stream) p (stage.Closes closing) p'
+    → FollowMoves awaited awaited log log (stage.Open stream) p (stage.Closes closing) p'
 to_close awaited log p p' stream left closing same token is moves =
     took awaited awaited log log (stage.Open stream) p (stage.Closes closing) p' same.watched
     (λ w start watched asks order opened.
@@ -306,7 +306,7 @@ to_close awaited log p p' stream left closing same token is moves =
 
 -- A call of the stream pends.
 pub call_pends : (old new : Awaited) (log log' : Told) (p : FollowPlayer) (stream stream' : ChangeStream) (told : List Fields) → told ≡ [] → stream'.aggregate.args ≡ stream.aggregate.args
-    → ((w : Watch) (start : Start) → Asks stream.aggregate.args w start → (opened : Option ℕ) (answered : List Fields) → Moved log log' (follow_of old w start stream opened answered) (follow_of new w start stream' opened (answered ++ told))) → FollowTurns old new log log' (stage.Open stream) p (stage.Open stream') p
+    → ((w : Watch) (start : Start) → Asks stream.aggregate.args w start → (opened : Option ℕ) (answered : List Fields) → Moved log log' (follow_of old w start stream opened answered) (follow_of new w start stream' opened (answered ++ told))) → FollowMoves old new log log' (stage.Open stream) p (stage.Open stream') p
 call_pends old new log log' p stream stream' told none args moves =
     took old new log log' (stage.Open stream) p (stage.Open stream') p refl
     (λ w start watched asks order opened.
@@ -325,7 +325,7 @@ events_joined (answers.Failed e ∷ xs) ys = events_joined xs ys
 
 -- A call of the stream answered.
 pub call_answers : (old new : Awaited) (log log' : Told) (p p' : FollowPlayer) (stream stream' : ChangeStream) (told : List Fields) (answer : Answer) → p'.watched ≡ p.watched → p'.opened ≡ p.opened → p'.answers.items ≡ p.answers.items ++ answer ∷ [] → told ≡ events_of (answer ∷ []) → stream'.aggregate.args ≡ stream.aggregate.args
-    → ((w : Watch) (start : Start) → Asks stream.aggregate.args w start → (opened : Option ℕ) (answered : List Fields) → Moved log log' (follow_of old w start stream opened answered) (follow_of new w start stream' opened (answered ++ told))) → FollowTurns old new log log' (stage.Open stream) p (stage.Open stream') p'
+    → ((w : Watch) (start : Start) → Asks stream.aggregate.args w start → (opened : Option ℕ) (answered : List Fields) → Moved log log' (follow_of old w start stream opened answered) (follow_of new w start stream' opened (answered ++ told))) → FollowMoves old new log log' (stage.Open stream) p (stage.Open stream') p'
 call_answers old new log log' p p' stream stream' told answer watched opened_same items same args moves =
     took old new log log' (stage.Open stream) p (stage.Open stream') p' watched
     (λ w start is asks order opened.
@@ -338,7 +338,7 @@ call_answers old new log log' p p' stream stream' told answer watched opened_sam
 
 -- The killing of its cursors pends.
 pub close_pends : (old new : Awaited) (log log' : Told) (p : FollowPlayer) (closing closing' : Closing)
-    → ((f : Follow) → Moved log log' (closing_of old f closing) (closing_of new f closing')) → FollowTurns old new log log' (stage.Closes closing) p (stage.Closes closing') p
+    → ((f : Follow) → Moved log log' (closing_of old f closing) (closing_of new f closing')) → FollowMoves old new log log' (stage.Closes closing) p (stage.Closes closing') p
 close_pends old new log log' p closing closing' moves =
     took old new log log' (stage.Closes closing) p (stage.Closes closing') p refl
     (λ w start watched asks order opened. (opened, moves (closed_follow w start opened p.token (events_of p.answers.items)), tt, order))
@@ -348,14 +348,14 @@ ended_closed ended.Unfinished w start opened token answered given = absurd given
 ended_closed (ended.Gave x) w start opened token answered given = refl
 ended_closed (ended.Failed e) w start opened token answered given = absurd given
 
-ends_given : {A : Type 0} (o : Ended A) (p : FollowPlayer) → HasGiven o → EndsSo o p
+pub ends_given : {A : Type 0} (o : Ended A) (p : FollowPlayer) → HasGiven o → EndsSo o p
 ends_given ended.Unfinished p given = absurd given
 ends_given (ended.Gave x) p given = tt
 ends_given (ended.Failed e) p given = absurd given
 
 -- The stream is closed, or its closing failed.
 pub close_ends : (old new : Awaited) (log log' : Told) (p p' : FollowPlayer) (closing : Closing) → KeepsOpen p p' → p'.token ≡ p.token
-    → ((f : Follow) → Moved log log' (closing_of old f closing) (closed f)) → FollowTurns old new log log' (stage.Closes closing) p stage.Ended p'
+    → ((f : Follow) → Moved log log' (closing_of old f closing) (closed f)) → FollowMoves old new log log' (stage.Closes closing) p stage.Ended p'
 close_ends old new log log' p p' closing same token moves =
     took old new log log' (stage.Closes closing) p stage.Ended p' same.watched
     (λ w start watched asks order opened.
@@ -427,5 +427,5 @@ pub closes_at_rest : (s left : ChangeStream) (c : Flight) → left ≡ without_t
 closes_at_rest s left c is rest quiet = quiet (subst (λ (x : ChangeStream). AtRest x.phase) (sym is) rest)
 
 -- a follow that has ended does nothing
-pub took_ended : (awaited : Awaited) (log : Told) (s : Stage) (p : FollowPlayer) → s ≡ stage.Ended → FollowTurns awaited awaited log log s p stage.Ended p
-took_ended awaited log s p is = subst (λ x. FollowTurns awaited awaited log log x p stage.Ended p) (sym is) (took_same awaited log log stage.Ended p refl)
+pub took_ended : (awaited : Awaited) (log : Told) (s : Stage) (p : FollowPlayer) → s ≡ stage.Ended → FollowMoves awaited awaited log log s p stage.Ended p
+took_ended awaited log s p is = subst (λ x. FollowMoves awaited awaited log log x p stage.Ended p) (sym is) (took_same awaited log log stage.Ended p refl)

@@ -1,5 +1,5 @@
 -- What is counted of a turn.
-use Rattle.std.specs.Prelude.{◌≡◌, ◌+◌, ℕ, Bool, true, false, Some, List, length}
+use Rattle.std.specs.Prelude.{◌≡◌, ◌+◌, ◌≤◌, ℕ, Bool, true, false, Some, List, length}
 use Rattle.mg_link.specs.Causes.{Rose}
 use Rattle.mg_link.specs.Link.{Told}
 use Rattle.mg_link.specs.Log.{Call}
@@ -21,4 +21,5 @@ StayedPrompt prompts prompts' pended = prompts → prompts' × (pended ≡ false
 pub record Counted (old new : Told) (started before now : ℕ) (pended : Bool) (prompts prompts' : Type 0) : Type 0 where
   pub starts : StartedBy started old new
   pub pends : PendedAs pended before now
+  pub never_less : before ≤ now
   pub prompt : StayedPrompt prompts prompts' pended

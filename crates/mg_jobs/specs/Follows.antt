@@ -1,21 +1,26 @@
 -- What a follow watches, and what it knows turn by turn.
-use Rattle.std.specs.Prelude.{◌≡◌, ◌++◌, ℕ, ℤ, pos, List, [], ◌∷◌, Option, Some, None, option_map, slice_get}
+use Rattle.std.specs.Prelude.{◌≡◌, Bool, true, ℕ, pos, List, [], ◌∷◌, Option, Some, None, option_and_then, option_map}
 use Rattle.mg_bson.specs.Tree.{Tree, document, Fields}
 use Rattle.mg_bson.specs.Literal.{◌⇒◌⨾◌, empty}
 use Rattle.mg_bson.specs.Raw.{fields}
-use Rattle.mg_link.specs.Commands.{as_database, filter_stages}
+use Rattle.mg_link.specs.Commands.{as_collection, as_database, filter_stages}
 use Rattle.mg_link.specs.Follow.{Follow, FollowsOn, Knows, owing, owner_of}
 use Rattle.mg_link.specs.Link.{Awaited, Told}
 use Rattle.mg_link.specs.Log.{Call}
 use Rattle.mg_link.specs.Namespace.{Target, database, collection, cluster, target}
-use Rattle.mg_link.specs.Owner.{Owner, Passes}
+use Rattle.mg_link.specs.declared.namespace.OperationTarget.{OperationTarget}
+use Rattle.mg_link.specs.declared.namespace.OperationTarget.TheVariants as targets
+use Rattle.mg_link.specs.Owner.{Owner, Passes, nobody}
 use Rattle.mg_link.specs.State.{Start, Watch, time_of}
 use Rattle.mg_link.specs.State as state
-use Rattle.mg_ops.specs.Naming.{IsNamed}
+use Rattle.mg_ops.specs.Aims.{aim}
+use Rattle.mg_ops.specs.Naming.{IsNamed, start_in}
+use Rattle.mg_ops.specs.declared.change_stream.WatchArgs.{WatchArgs}
 use Rattle.mg_change.specs.Closings.{closing_of}
 use Rattle.mg_change.specs.declared.event_poll.EventPoll.{EventPoll}
 use Rattle.mg_change.specs.declared.event_poll.EventPoll.TheVariants as polls
-use Rattle.mg_change.specs.Following.{Asks, event_told, follow_of, not_open, opening_in, token_of}
+use Rattle.mg_change.specs.Growths.{IsInFlight, StandsNowhere}
+use Rattle.mg_change.specs.Following.{Asks, AsksNothing, event_told, follow_of, not_open, opening_in, token_of}
 use Rattle.mg_change.specs.Openings.{IsOpening}
 use Rattle.mg_jobs.specs.Plan.{Begin, begin, nowhere, resume_after, start_after, at_time}
 use Rattle.mg_jobs.specs.declared.outcome.Answer.{Answer}
@@ -53,11 +58,36 @@ pub record IsWatch (on : Target) (start : Begin) (filter : Option Fields) (w : W
   pub by : filter_stages (stages_of filter) ≡ Some w.filter
   pub from_is : from ≡ start_of start
 
+-- nothing is watched: a name may not be, or the filter has no meaning, and no server takes the aggregate
+abbrev pub WatchesNothing : Target → Begin → Option Fields → Type 0
+WatchesNothing on start filter = (w : Watch) (from : Start) → IsWatch on start filter w from → ⊥
+
 abbrev pub filter_in : Watched → Option Fields
 filter_in v = option_map (λ d. d.now) v.filter
 
 abbrev pub IsWatched : Watched → Watch → Start → Type 0
 IsWatched v w from = IsWatch (target v.target.now) (begin v.start.now) (filter_in v) w from
+
+abbrev pub IsUnwatched : Watched → Type 0
+IsUnwatched v = WatchesNothing (target v.target.now) (begin v.start.now) (filter_in v)
+
+-- the target, where its names may be
+abbrev pub aimed : Target → Option Target
+aimed (collection space) = option_and_then (λ db. option_map (λ coll. collection (record { db = db; coll = coll })) (as_collection space.coll)) (as_database space.db)
+aimed (database db) = option_and_then (λ db. Some (database db)) (as_database db)
+aimed cluster = Some cluster
+
+-- the changes of all databases are asked for of the cluster alone
+abbrev pub all_changes : OperationTarget → Option Bool
+all_changes targets.Cluster = Some true
+all_changes (targets.Database db) = None
+all_changes (targets.Collection ns) = None
+
+-- the arguments of its aggregate are those of what is watched
+pub record IsArgsOf (v : Watched) (a : WatchArgs) : Type 0 where
+  pub aims : aim a.options (target a.target) ≡ aimed (target v.target.now)
+  pub stages : a.pipeline.items ≡ stages_of (filter_in v)
+  pub starts : start_in a.options ≡ Some (start_of (begin v.start.now))
 
 -- ---- what it has come to
 
@@ -159,10 +189,37 @@ pub record FollowTook (awaited : Awaited) (calls calls' : List Call) (s : Stage)
   pub knows : FollowKnows awaited calls' s p owner
   pub passes : Passes calls calls' o owner
 
--- A follow went from one stage to another: it goes on knowing, and leaves every other job alone.
-abbrev pub FollowTurns : Awaited → Awaited → Told → Told → Stage → FollowPlayer → Stage → FollowPlayer → Type 0
-FollowTurns old new log log' s p s' p' = (calls : List Call) → log ≡ Some calls → (o : Owner) → FollowKnows old calls s p o
+-- It went from one stage to another: it goes on knowing, and leaves every other job alone.
+abbrev pub FollowMoves : Awaited → Awaited → Told → Told → Stage → FollowPlayer → Stage → FollowPlayer → Type 0
+FollowMoves old new log log' s p s' p' = (calls : List Call) → log ≡ Some calls → (o : Owner) → FollowKnows old calls s p o
     → (calls' : List Call) × (log' ≡ Some calls') × FollowTook new calls calls' s' p' o
+
+-- ---- a follow that watches nothing
+
+-- the aggregate in flight asks for nothing
+abbrev pub IsInVain : Awaited → List Call → Stage → Type 0
+IsInVain awaited calls stage.Unopened = Unit {0}
+IsInVain awaited calls (stage.Opens opening) = AsksNothing opening.aggregate.args × IsOpening opening.aggregate opening.exec × IsInFlight awaited calls opening.exec
+IsInVain awaited calls (stage.Open stream) = Unit {0}
+IsInVain awaited calls (stage.Closes closing) = Unit {0}
+IsInVain awaited calls stage.Ended = Unit {0}
+
+-- over an honest link its stream is never opened
+pub record FollowsNothing (awaited : Awaited) (calls : List Call) (s : Stage) (p : FollowPlayer) : Type 0 where
+  pub unwatched : IsUnwatched p.watched
+  pub vain : IsInVain awaited calls s
+  pub in_order : IsInOrder p s
+  pub never : HasGiven p.opened → StandsNowhere calls
+
+-- It went from one stage to another, and leaves every other job alone.
+abbrev pub VainMoves : Awaited → Awaited → Told → Told → Stage → FollowPlayer → Stage → FollowPlayer → Type 0
+VainMoves old new log log' s p s' p' = (calls : List Call) → log ≡ Some calls → FollowsNothing old calls s p
+    → (calls' : List Call) × (log' ≡ Some calls') × FollowsNothing new calls' s' p' × Passes calls calls' nobody nobody
+
+-- A follow took a part of a turn, whatever it watches.
+pub record FollowTurns (old new : Awaited) (log log' : Told) (s : Stage) (p : FollowPlayer) (s' : Stage) (p' : FollowPlayer) : Type 0 where
+  pub watching : FollowMoves old new log log' s p s' p'
+  pub vainly : VainMoves old new log log' s p s' p'
 
 -- ---- what this comes to
 
@@ -182,6 +239,12 @@ token_at (stage.Opens opening) token = None
 token_at (stage.Open stream) token = token_of stream.aggregate.resume
 token_at (stage.Closes closing) token = token
 token_at stage.Ended token = token
+
+-- a follow that watches nothing answered nothing, and no honest server opened it
+abbrev pub NeverFollowed : {A : Type 0} → Ended A → List Call → List Fields → Option Tree → Type 0
+NeverFollowed ended.Unfinished calls answered token = (answered ≡ []) × (token ≡ None)
+NeverFollowed (ended.Gave x) calls answered token = StandsNowhere calls
+NeverFollowed (ended.Failed e) calls answered token = (answered ≡ []) × (token ≡ None)
 
 -- a follow that was opened followed, and any other answered nothing
 abbrev pub FollowedOr : {A : Type 0} → Ended A → List Call → Watch → Start → List Fields → Option Tree → Type 0

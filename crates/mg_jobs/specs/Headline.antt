@@ -1,17 +1,17 @@
 -- What the jobs of a run know of their server, and what their answers come to.
-use Rattle.std.specs.Prelude.{◌≡◌, ◌++◌, ℕ, List, Option, Some, None, length, slice_get}
-use Rattle.mg_bson.specs.Tree.{Fields}
+use Rattle.std.specs.Prelude.{◌≡◌, ◌⊎◌, ◌++◌, ℕ, List, Some, length, slice_get}
 use Rattle.mg_link.specs.Link.{Awaited, Told}
 use Rattle.mg_link.specs.Log.{Call}
-use Rattle.mg_link.specs.Namespace.{target}
+use Rattle.mg_link.specs.Namespace.{space, target}
 use Rattle.mg_link.specs.Owner.{Owner, AreApart, NamesItsOwn, Passes, nobody}
 use Rattle.mg_link.specs.State.{Start, Watch}
 use Rattle.mg_jobs.specs.Plan.{Task, begin, insert, follow, put, get}
-use Rattle.mg_jobs.specs.Follows.{FollowKnows, FollowedOr, HasNothing, IsUnfinished, IsWatch, events_of, filter_in, token_at}
-use Rattle.mg_jobs.specs.Playing.{IsOfInsert, IsPlainJob}
+use Rattle.mg_jobs.specs.Follows.{FollowKnows, FollowedOr, FollowsNothing, HasNothing, IsUnfinished, IsWatch, NeverFollowed, WatchesNothing, events_of, filter_in, token_at}
+use Rattle.mg_jobs.specs.Playing.{IsPlainJob, end_of}
+use Rattle.mg_jobs.specs.Underway.{EndInserts, InsertKnows}
+use Rattle.mg_jobs.specs.declared.player.InsertStage.TheVariants as inserts
 use Rattle.mg_jobs.specs.declared.outcome.Outcome.{Outcome}
 use Rattle.mg_jobs.specs.declared.outcome.Outcome.TheVariants as outcome
-use Rattle.mg_jobs.specs.declared.player.FollowPlayer.{FollowPlayer}
 use Rattle.mg_jobs.specs.declared.player.Stage.TheVariants as stage
 use Rattle.mg_jobs.specs.declared.run.Player.{Player}
 use Rattle.mg_jobs.specs.declared.run.Player.TheVariants as player
@@ -20,7 +20,7 @@ use Rattle.mg_jobs.specs.declared.run.Player.TheVariants as player
 
 -- the job does this task
 abbrev pub Does : Task → Player → Type 0
-Does (insert ns docs) (player.Insert job) = Unit {0}
+Does (insert ns docs) (player.Insert job) = (space job.ns.now ≡ ns) × (job.documents.now ≡ docs)
 Does (follow on calls start filter batch) (player.Follow job) = (target job.watched.target.now ≡ on) × (begin job.watched.start.now ≡ start) × (filter_in job.watched ≡ filter)
 Does (put db bucket name id chunk pieces) player.Put = Unit {0}
 Does (get db bucket id read) player.Get = Unit {0}
@@ -45,19 +45,9 @@ IsSameTask p p' = (t : Task) → Does t p → Does t p'
 abbrev pub DoTasks : List Task → List Player → Type 0
 DoTasks tasks players = (i : ℕ) (t : Task) (p : Player) → slice_get tasks i ≡ Some t → slice_get players i ≡ Some p → Does t p
 
--- a follow watches something: its target has a name that may be, and its filter has a meaning
-abbrev pub Watches : Task → Type 0
-Watches (insert ns docs) = Unit {0}
-Watches (follow on calls start filter batch) = (w : Watch) × (from : Start) × IsWatch on start filter w from
-Watches (put db bucket name id chunk pieces) = Unit {0}
-Watches (get db bucket id read) = Unit {0}
-
-abbrev pub AllWatch : List Task → Type 0
-AllWatch tasks = (i : ℕ) (t : Task) → slice_get tasks i ≡ Some t → Watches t
-
 -- the job has done nothing
 abbrev pub IsFirst : Player → Type 0
-IsFirst (player.Insert job) = IsPlainJob job
+IsFirst (player.Insert job) = job.stage ≡ inserts.Unsent
 IsFirst (player.Follow job) = (job.stage ≡ stage.Unopened) × IsUnfinished job.opened × HasNothing job
 IsFirst player.Put = Unit {0}
 IsFirst player.Get = Unit {0}
@@ -69,8 +59,8 @@ AreFirst players = (i : ℕ) (p : Player) → slice_get players i ≡ Some p →
 
 -- a job that is this to the others knows of its server what it should
 abbrev pub Plays : Awaited → List Call → Player → Owner → Type 0
-Plays awaited calls (player.Insert job) o = (o ≡ nobody) × IsPlainJob job
-Plays awaited calls (player.Follow job) o = FollowKnows awaited calls job.stage job o
+Plays awaited calls (player.Insert job) o = (o ≡ nobody) × IsPlainJob job × InsertKnows awaited calls job
+Plays awaited calls (player.Follow job) o = FollowKnows awaited calls job.stage job o ⊎ ((o ≡ nobody) × FollowsNothing awaited calls job.stage job)
 Plays awaited calls player.Put o = o ≡ nobody
 Plays awaited calls player.Get o = o ≡ nobody
 
@@ -104,7 +94,7 @@ Knowing awaited log log' players = (calls : List Call) → log ≡ Some calls �
 
 -- the outcome is that of the job
 abbrev pub OutcomeOf : Player → Outcome → Type 0
-OutcomeOf (player.Insert job) r = IsOfInsert r
+OutcomeOf (player.Insert job) r = r ≡ outcome.Insert (end_of job.stage)
 OutcomeOf (player.Follow job) r = r ≡ outcome.Follow job.opened job.answers (token_at job.stage job.token) job.alive job.closed
 OutcomeOf player.Put r = Unit {0}
 OutcomeOf player.Get r = Unit {0}
@@ -114,11 +104,16 @@ OutcomesOf players outcomes = (i : ℕ) (p : Player) (r : Outcome) → slice_get
 
 -- the outcome of a job is as its task says
 abbrev pub OutcomeFollowed : List Call → Task → Outcome → Type 0
-OutcomeFollowed calls (follow on count start filter batch) (outcome.Follow opened answers token alive closed) = (w : Watch) × (from : Start) × IsWatch on start filter w from × FollowedOr opened calls w from (events_of answers.items) token
+OutcomeFollowed calls (follow on count start filter batch) (outcome.Follow opened answers token alive closed) =
+    ((w : Watch) × (from : Start) × IsWatch on start filter w from × FollowedOr opened calls w from (events_of answers.items) token)
+    ⊎ (WatchesNothing on start filter × NeverFollowed opened calls (events_of answers.items) token)
 OutcomeFollowed calls (follow on count start filter batch) (outcome.Insert n) = ⊥
 OutcomeFollowed calls (follow on count start filter batch) (outcome.Put n) = ⊥
 OutcomeFollowed calls (follow on count start filter batch) (outcome.Get bytes read) = ⊥
-OutcomeFollowed calls (insert ns docs) r = Unit {0}
+OutcomeFollowed calls (insert ns docs) (outcome.Insert e) = EndInserts calls ns docs e
+OutcomeFollowed calls (insert ns docs) (outcome.Follow opened answers token alive closed) = ⊥
+OutcomeFollowed calls (insert ns docs) (outcome.Put n) = ⊥
+OutcomeFollowed calls (insert ns docs) (outcome.Get bytes read) = ⊥
 OutcomeFollowed calls (put db bucket name id chunk pieces) r = Unit {0}
 OutcomeFollowed calls (get db bucket id read) r = Unit {0}
 

@@ -4,7 +4,7 @@ use Rattle.mg_link.specs.Commands.{asked}
 use Rattle.mg_link.specs.Standing.{Names}
 use Rattle.mg_link.specs.declared.action.Step.{Step}
 use Rattle.mg_link.specs.declared.action.Step.TheVariants as step
-use Rattle.mg_link.specs.Causes.{Rose, RoseBy}
+use Rattle.mg_link.specs.Causes.{Rose}
 use Rattle.mg_link.specs.Exec.{ticket_of}
 use Rattle.mg_link.specs.declared.error.ErrorKind.TheVariants as kind
 use Rattle.mg_jobs.specs.declared.insert.Command.{Command}
@@ -27,10 +27,11 @@ heard_ticket (heard.Pending c) = ticket_of c.exec
 heard_ticket heard.Inserted = None
 heard_ticket (heard.Failed e) = None
 
+-- it pends just where the count of pending replies rose
 abbrev pub HeardPends : Heard → ℕ → ℕ → Type 0
-HeardPends (heard.Pending c) before now = RoseBy 1 before now
-HeardPends heard.Inserted before now = Unit {0}
-HeardPends (heard.Failed e) before now = Unit {0}
+HeardPends (heard.Pending c) before now = Rose before now
+HeardPends heard.Inserted before now = now ≡ before
+HeardPends (heard.Failed e) before now = now ≡ before
 
 abbrev pub HeardLost : Heard → ℕ → ℕ → Type 0
 HeardLost (heard.Pending c) before now = Unit {0}

@@ -13,3 +13,6 @@ pub mod Counts
 pub mod Runs
 pub mod Follows
 pub mod Headline
+pub mod Progress
+pub mod Appended
+pub mod Underway

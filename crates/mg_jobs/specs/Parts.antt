@@ -1,5 +1,5 @@
 -- What is read off one JSON value.
-use Rattle.std.specs.Prelude.{ℕ, ◌^◌, ◌&&◌, ◌||◌, ◌==◌, ℤ, pos, negsuc, List, [], ◌∷◌, Bool, true, false, not, Option, Some, None, option_and_then, Result, Ok, Err, nat_le, nat_lt, int_le, codes, if◌then◌else◌}
+use Rattle.std.specs.Prelude.{ℕ, ◌^◌, ◌&&◌, ◌||◌, ◌==◌, ℤ, pos, negsuc, List, [], ◌∷◌, Bool, true, false, not, Option, Some, None, option_and_then, Result, Ok, nat_le, nat_lt, int_le, if◌then◌else◌}
 use Rattle.std.specs.List.{list_all}
 use Rattle.std.specs.Fmt.{signed_decimal}
 use Rattle.std.specs.Result.{result_ok}
@@ -9,7 +9,7 @@ use Rattle.hex.specs.Hex.{decode_of, decode_sized}
 use Rattle.serde_json.specs.Data.{Data, null, boolean, number, string, array, object, Items, no_items, Members, no_members, member}
 use Rattle.serde_json.specs.Find.{get, as_array, as_object, as_str, as_number, as_u64, as_i64}
 use Rattle.mg_jobs.specs.declared.fault.Place.{Place}
-use Rattle.mg_jobs.specs.Reads.{◌>>=◌, found}
+use Rattle.mg_jobs.specs.Reads.{found}
 
 -- ---- objects
 

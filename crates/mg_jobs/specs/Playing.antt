@@ -4,25 +4,42 @@ use Rattle.mg_change.specs.Phases.{IsSound, ticket_in}
 use Rattle.mg_change.specs.Openings.{opening_ticket}
 use Rattle.mg_change.specs.Closings.{IsClosing, IsQuiet, closing_ticket}
 use Rattle.mg_jobs.specs.Inserts.{SendsPlain, insert_ticket}
-use Rattle.mg_jobs.specs.declared.outcome.Outcome.{Outcome}
-use Rattle.mg_jobs.specs.declared.outcome.Outcome.TheVariants as outcome
 use Rattle.mg_jobs.specs.declared.player.InsertPlayer.{InsertPlayer}
-use Rattle.mg_jobs.specs.declared.player.InsertPlayer.TheVariants as inserts
+use Rattle.mg_jobs.specs.declared.player.InsertStage.{InsertStage}
+use Rattle.mg_jobs.specs.declared.player.InsertStage.TheVariants as inserts
+use Rattle.mg_jobs.specs.declared.outcome.Ended.{Ended}
+use Rattle.mg_jobs.specs.declared.outcome.Ended.TheVariants as ended
 use Rattle.mg_jobs.specs.declared.player.FollowPlayer.{FollowPlayer}
 use Rattle.mg_jobs.specs.declared.player.Stage.{Stage}
 use Rattle.mg_jobs.specs.declared.player.Stage.TheVariants as stage
 
 -- the ticket that an insert holds
+abbrev pub inserts_ticket : InsertStage → Option ℕ
+inserts_ticket inserts.Unsent = None
+inserts_ticket (inserts.Goes inserting) = insert_ticket inserting
+inserts_ticket (inserts.Ended ended) = None
+
 abbrev pub player_ticket : InsertPlayer → Option ℕ
-player_ticket (inserts.Unsent ns documents) = None
-player_ticket (inserts.Goes inserting) = insert_ticket inserting
-player_ticket (inserts.Ended ended) = None
+player_ticket job = inserts_ticket job.stage
 
 -- an insert that sends nothing more
+abbrev pub inserts_ended : InsertStage → Bool
+inserts_ended inserts.Unsent = false
+inserts_ended (inserts.Goes inserting) = false
+inserts_ended (inserts.Ended ended) = true
+
 abbrev pub insert_ended : InsertPlayer → Bool
-insert_ended (inserts.Unsent ns documents) = false
-insert_ended (inserts.Goes inserting) = false
-insert_ended (inserts.Ended ended) = true
+insert_ended job = inserts_ended job.stage
+
+-- what an insert came to
+abbrev pub end_of : InsertStage → Ended ℕ
+end_of inserts.Unsent = ended.Unfinished
+end_of (inserts.Goes inserting) = ended.Unfinished
+end_of (inserts.Ended e) = e
+
+-- the two insert the same documents into the same collection
+abbrev pub IsSameInsert : InsertPlayer → InsertPlayer → Type 0
+IsSameInsert job job' = (job'.ns ≡ job.ns) × (job'.documents ≡ job.documents)
 
 -- the ticket that a follow holds
 abbrev pub stage_ticket : Stage → Option ℕ
@@ -64,14 +81,10 @@ pub record IsSameFollow (f f' : FollowPlayer) : Type 0 where
   pub closed_same : f'.closed ≡ f.closed
 
 -- what an insert has in flight names no cursor
-abbrev pub IsPlainJob : InsertPlayer → Type 0
-IsPlainJob (inserts.Unsent ns documents) = Unit {0}
-IsPlainJob (inserts.Goes inserting) = SendsPlain inserting
-IsPlainJob (inserts.Ended ended) = Unit {0}
+abbrev pub IsPlainInsert : InsertStage → Type 0
+IsPlainInsert inserts.Unsent = Unit {0}
+IsPlainInsert (inserts.Goes inserting) = SendsPlain inserting
+IsPlainInsert (inserts.Ended ended) = Unit {0}
 
--- the outcome is one of an insert
-abbrev pub IsOfInsert : Outcome → Type 0
-IsOfInsert (outcome.Insert count) = Unit {0}
-IsOfInsert (outcome.Follow opened answers token alive closed) = ⊥
-IsOfInsert (outcome.Put count) = ⊥
-IsOfInsert (outcome.Get bytes read) = ⊥
+abbrev pub IsPlainJob : InsertPlayer → Type 0
+IsPlainJob job = IsPlainInsert job.stage

@@ -1,10 +1,16 @@
 -- When the program ends with which status, and what it writes then.
-use Rattle.std.specs.Prelude.{◌≡◌, ◌⊎◌, ℕ, ◌<◌, ◌≤◌, List, [], ◌∷◌, ◌++◌, length, Bool, true, false, Option, Some, None, Ok, Err, codes, decimal}
+use Rattle.std.specs.Prelude.{◌≡◌, ◌⊎◌, slice_get, ℕ, ◌<◌, ◌≤◌, List, [], ◌∷◌, ◌++◌, length, Bool, true, false, Option, Some, None, Ok, Err, codes, decimal}
 use Rattle.std.specs.Str.{bytes_eq}
 use Rattle.std.specs.Io.KnownBytes.{Consumes, Appends}
 use Rattle.mg_link.specs.Causes.{Rose}
 use Rattle.mg_link.specs.Ends.{ReadWhole, TookFront, longest}
-use Rattle.mg_jobs.specs.Plan.{Plan, plan}
+use Rattle.mg_link.specs.Kept.{IsByRules, steps_of}
+use Rattle.mg_link.specs.Log.{Call}
+use Rattle.mg_link.specs.Owner.{NamesItsOwn}
+use Rattle.mg_link.specs.Standing.{Stands}
+use Rattle.mg_jobs.specs.Headline.{OutcomeFollowed}
+use Rattle.mg_jobs.specs.Plan.{Plan, Task, plan, tasks}
+use Rattle.mg_jobs.specs.declared.outcome.Outcome.{Outcome}
 use Rattle.mg_jobs.specs.Script.{script_of, missing}
 use Rattle.mg_jobs.specs.Places.{place_text}
 use Rattle.mg_jobs.specs.Text.{line, text_of}
@@ -51,8 +57,19 @@ ReadMissing old new n = (script : Plan) × ReadScript old new script × LacksJob
 
 -- ---- what came of the words and the input
 
+-- What the jobs of a run over one link came to: in every legal history in which the link's log stands each follow answered consecutive entries,
+-- the log names its own cursors only, and it stands in the history of the run's own store, whose steps are by the rules.
+pub record RunFollowed (run : Run) : Type 0 where
+  pub calls : List Call
+  pub log_is : run.logs.items ≡ calls ∷ []
+  pub by_rules : IsByRules run.store.history
+  pub stands : Stands calls (steps_of run.store.history)
+  pub followed : (i : ℕ) (t : Task) (r : Outcome) → slice_get (tasks run.script.jobs.items) i ≡ Some t → slice_get run.outcomes.items i ≡ Some r → OutcomeFollowed calls t r
+  pub own : NamesItsOwn calls
+
 -- the run is of the script that was read, over one link
 pub record Ran (old new : Option (List ℕ)) (run : Run) : Type 0 where
+  pub followed : RunFollowed run
   pub script : ReadScript old new (plan run.script)
   pub jobs : HasJobs (plan run.script)
   pub log : length run.logs.items ≡ 1

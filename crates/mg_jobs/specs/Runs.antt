@@ -1,7 +1,7 @@
 -- Jobs that share a link, turn by turn.
-use Rattle.std.specs.Prelude.{◌≡◌, ℕ, ℤ, Bool, true, false, ⊤, Option, Some, None, List, length, slice_get}
+use Rattle.std.specs.Prelude.{◌≡◌, ℕ, ℤ, Bool, true, false, Option, Some, None, List, length, slice_get}
 use Rattle.mg_link.specs.Acts.{IsOut, Tickets}
-use Rattle.mg_link.specs.Link.{Awaited, Later, Told}
+use Rattle.mg_link.specs.Link.{Awaited, Told}
 use Rattle.mg_jobs.specs.Counts.{Counted}
 use Rattle.mg_jobs.specs.Headline.{IsSameTask, Turns}
 use Rattle.mg_jobs.specs.Playing.{HasRoom, IsSameFollow, StageHolds, follow_ended, insert_ended, player_ticket, stage_ticket}

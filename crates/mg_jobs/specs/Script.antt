@@ -1,8 +1,8 @@
 -- The script that bytes are, or the place of the first fault.
-use Rattle.std.specs.Prelude.{ℕ, pos, ℤ, List, [], ◌∷◌, length, Bool, true, false, Option, Some, None, option_map, option_and_then, Result, Ok, Err, nat_le, nat_lt, codes, not, ◌&&◌, if◌then◌else◌}
+use Rattle.std.specs.Prelude.{ℕ, pos, ℤ, List, [], ◌∷◌, length, Bool, Option, Some, None, option_and_then, Result, Ok, Err, nat_le, nat_lt, codes, not, ◌&&◌, if◌then◌else◌}
 use Rattle.std.specs.Str.{is_utf8, bytes_eq}
 use Rattle.serde_json.specs.Data.{Data, Items}
-use Rattle.serde_json.specs.Find.{get, as_array, as_str}
+use Rattle.serde_json.specs.Find.{get, as_str}
 use Rattle.serde_json.specs.Events.{items_len}
 use Rattle.serde_json.specs.Read.{read}
 use Rattle.mg_bson.specs.Tree as bson

@@ -1,5 +1,5 @@
 -- The value of a document that a JSON value stands for.
-use Rattle.std.specs.Prelude.{ℕ, ◌&&◌, ℤ, pos, negsuc, int_le, List, [], ◌∷◌, Option, Some, None, option_and_then, Result, Ok, Err, codes, if◌then◌else◌}
+use Rattle.std.specs.Prelude.{ℕ, ◌&&◌, ℤ, pos, negsuc, int_le, List, [], ◌∷◌, Option, Some, None, option_and_then, Result, Ok, codes, if◌then◌else◌}
 use Rattle.std.specs.Result.{result_ok}
 use Rattle.std.specs.Str.{bytes_eq}
 use Rattle.serde_json.specs.Data.{Data, null, boolean, number, string, array, object, Items, no_items, item, Members, no_members, member}

@@ -1,5 +1,5 @@
 //! A link over which the commands of a turn are counted.
-ghost use Rattle.std.specs.Prelude.{◌≡◌, ℕ};
+ghost use Rattle.std.specs.Prelude.{◌≡◌, ℕ, nat_lt};
 ghost use Rattle.mg_link.specs.Link.{Told};
 ghost use Rattle.mg_jobs.specs.Counts.{Counted};
 
@@ -30,22 +30,24 @@ impl Began for Brand {
     ghost prompts = { ⊥ };
 }
 
-/// A link that counts what a turn does over it. To clauses it is the link behind it.
+/// A link that counts what a turn does over it. To clauses it is the link behind it, and how many of the turn's replies
+/// pended.
 pub(crate) struct Counting<L: Link, B: Began> {
     link: L,
     started: u64,
-    pended: bool,
+    pended: u64,
     began: PhantomData<B>,
 }
 
 impl<L: Link, B: Began> Model for Counting<L, B> {
+    ghost use Rattle.std.specs.Prelude.{ℕ, nat_lt};
     ghost use Rattle.mg_jobs.specs.Counts.{Counted};
 
-    ghost Value = { L };
+    ghost Value = { L × ℕ };
 
-    ghost view = { λ c. c.link };
+    ghost view = { λ c. (c.link, c.pended) };
 
-    ghost invariant = { λ c. Counted B.calls (L.log c.link) c.started B.pends (L.pends c.link) c.pended B.prompts (L.prompt c.link) };
+    ghost invariant = { λ c. Counted B.calls (L.log c.link) c.started B.pends (L.pends c.link) (nat_lt 0 c.pended) B.prompts (L.prompt c.link) };
 }
 
 impl<L: Link, B: Began> Counting<L, B> {
@@ -54,20 +56,22 @@ impl<L: Link, B: Began> Counting<L, B> {
         requires calls { L.log link ≡ B.calls }
         requires pends { L.pends link ≡ B.pends }
         requires prompts { B.prompts → L.prompt link }
-        ensures { result ≡ link }
+        ensures link { result.0 ≡ link }
+        ensures none { result.1 ≡ 0 }
     {
         Counting {
             link,
             started: 0,
-            pended: false,
+            pended: 0,
             began: PhantomData,
         }
     }
 
     /// The link, and what was counted.
     pub(crate) fn into_parts(self) -> (L, Turned)
-        ensures link { result.0 ≡ self }
-        ensures counted { Counted B.calls (L.log self) result.1.started B.pends (L.pends self) result.1.pended B.prompts (L.prompt self) }
+        ensures link { result.0 ≡ self.0 }
+        ensures counted { Counted B.calls (L.log self.0) result.1.started B.pends (L.pends self.0) result.1.pended B.prompts (L.prompt self.0) }
+        ensures pended { result.1.pended ≡ nat_lt 0 self.1 }
     {
         let Counting {
             link,
@@ -75,22 +79,28 @@ impl<L: Link, B: Began> Counting<L, B> {
             pended,
             began: _,
         } = self;
-        (link, Turned { started, pended })
+        (
+            link,
+            Turned {
+                started,
+                pended: pended > 0,
+            },
+        )
     }
 }
 
 impl<L: Link, B: Began> Link for Counting<L, B> {
-    ghost faults = { L.faults };
+    ghost faults = { λ c. L.faults c.0 };
 
-    ghost pends = { L.pends };
+    ghost pends = { λ c. c.1 };
 
-    ghost log = { L.log };
+    ghost log = { λ c. L.log c.0 };
 
-    ghost awaited = { L.awaited };
+    ghost awaited = { λ c. L.awaited c.0 };
 
-    ghost prompt = { L.prompt };
+    ghost prompt = { λ c. L.prompt c.0 };
 
-    ghost wire = { L.wire };
+    ghost wire = { λ c. L.wire c.0 };
 
     /// A command that could not be counted is not sent.
     fn start(&mut self, command: RawDocument<'_>) -> Result<Ticket, LinkError> {
@@ -113,7 +123,7 @@ impl<L: Link, B: Began> Link for Counting<L, B> {
     fn poll(&mut self, ticket: Ticket) -> Polled {
         match self.link.poll(ticket) {
             Polled::Pending(ticket) => {
-                self.pended = true;
+                self.pended = self.pended.saturating_add(1);
                 Polled::Pending(ticket)
             }
             Polled::Reply(bytes) => Polled::Reply(bytes),

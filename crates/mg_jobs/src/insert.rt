@@ -1,10 +1,13 @@
 //! The insert of a list of documents.
-ghost use Rattle.std.specs.Prelude.{◌≡◌, ◌≢◌, ◌<◌, ◌≤◌, None, length, IfErr, IfOk, IfSome};
-ghost use Rattle.mg_link.specs.Acts.{EndsAtOnce, FailsByFault, IsOut, PendsBy, Tickets, ticket_after};
+ghost use Rattle.std.specs.Prelude.{◌≡◌, ◌≢◌, ◌<◌, ◌≤◌, None, length, slice_get, IfErr, IfOk, IfSome};
+ghost use Rattle.std.specs.Option.{option_flatten};
+ghost use Rattle.mg_link.specs.Namespace.{space};
+ghost use Rattle.mg_link.specs.Acts.{EndsAtOnce, FailsByFault, IsOut, Pended, Tickets, ticket_after};
 ghost use Rattle.mg_link.specs.Exec.{ticket_of};
 ghost use Rattle.mg_link.specs.Link.{Later};
 ghost use Rattle.mg_link.proofs.Plain.{PassesPlain};
 ghost use Rattle.mg_jobs.specs.Inserts.{HeardAtOnce, HeardLost, HeardPends, HeardPlain, HeldPlain, IsPlain, NextFewer, NextNotIo, NextPlain, NextTicket, SendsPlain, StepPlain, heard_ticket, insert_ticket, left_of};
+ghost use Rattle.mg_jobs.specs.Underway.{AreDrawn, HearsSent, Inserts, IsBatch, IsDrawn, IsNextOf, IsSameList, IsStarted, SendsNext, with_id};
 
 use mg_bson::{Bson, BsonError, Document, ObjectId, to_bytes};
 use mg_link::{Action, Error, ErrorKind, Exec, IdSource, Link, Namespace, Retry, Step};
@@ -24,26 +27,35 @@ struct Batch {
     upto: usize,
 }
 
+/// Draws an id for a document that has none.
+fn drawn_for<I: IdSource>(ids: &mut I, document: &Document) -> Option<ObjectId>
+    ensures { IsDrawn document.now result }
+{
+    match document.get("_id") {
+        Some(_) => None,
+        None => Some(ids.next_id()),
+    }
+}
+
 /// Draws an id for each document that has none.
 fn draw<I: IdSource>(
     alloc: Global,
     ids: &mut I,
     documents: &[Document],
-) -> Result<Vec<Option<ObjectId>>, Error> {
+) -> Result<Vec<Option<ObjectId>>, Error>
+    ensures { IfOk result (λ drawn. AreDrawn documents.now drawn.items) }
+{
     let mut drawn = Vec::with_capacity(alloc, documents.len())?;
     for document in documents {
-        let id = match document.get("_id") {
-            Some(_) => None,
-            None => Some(ids.next_id()),
-        };
-        drawn.push(id)?;
+        drawn.push(drawn_for(ids, document))?;
     }
     Ok(drawn)
 }
 
 /// A copy of the document, with a drawn id as its first field.
 fn with_id(alloc: Global, document: &Document, id: Option<ObjectId>) -> Result<Document, Error>
-    ensures { IfErr result (λ e. e.kind ≢ ErrorKind.Io) }
+    ensures ok { IfOk result (λ d. d ≡ with_id id document.now) }
+    ensures err { IfErr result (λ e. e.kind ≢ ErrorKind.Io) }
 {
     let Some(id) = id else {
         let copy = document.clone()?;
@@ -69,6 +81,17 @@ fn length_of(alloc: Global, document: &Document) -> Result<Option<usize>, Error>
     }
 }
 
+/// The id that was drawn for the document at this place, where one was.
+fn id_at(drawn: &[Option<ObjectId>], place: usize) -> Option<ObjectId>
+    ensures { result ≡ option_flatten (slice_get drawn.now place) }
+{
+    if place < drawn.len() {
+        drawn[place]
+    } else {
+        None
+    }
+}
+
 /// The documents of the next command: as many as fit it, and at least one.
 fn batch_from(
     alloc: Global,
@@ -78,6 +101,7 @@ fn batch_from(
 ) -> Result<Batch, Error>
     requires { from < length documents.now }
     ensures further { IfOk result (λ b. (from < b.upto) × (b.upto ≤ length documents.now)) }
+    ensures these { IfOk result (λ b. IsBatch drawn.now documents.now from b.documents.items b.upto) }
     ensures err { IfErr result (λ e. e.kind ≢ ErrorKind.Io) }
 {
     let mut batch = Vec::new(alloc);
@@ -89,8 +113,7 @@ fn batch_from(
                 upto: i,
             });
         }
-        let id = drawn.get(i).copied().flatten();
-        let document = with_id(alloc, &documents[i], id)?;
+        let document = with_id(alloc, &documents[i], id_at(drawn, i))?;
         let length = length_of(alloc, &document)?.unwrap_or(usize::MAX);
         if length > room && i > from {
             return Ok(Batch {
@@ -148,7 +171,8 @@ impl<'a> Batches<'a> {
         ensures unsent { IfOk result (λ o. IfSome o (λ c. ticket_of c.exec ≡ None)) }
         ensures plain { IfOk result (λ o. IfSome o (λ c. IsPlain c.exec.command)) }
         ensures further { IfOk result (λ o. IfSome o (λ c. (self.old.upto < self.new.upto) × (self.old.upto < length self.old.documents.now))) }
-        ensures same { self.new.documents ≡ self.old.documents }
+        ensures same { IsSameList self.old self.new }
+        ensures next { IfOk result (λ o. IsNextOf self.old self.new o) }
         ensures err { IfErr result (λ e. e.kind ≢ ErrorKind.Io) }
     {
         if self.upto >= self.documents.len() {
@@ -170,6 +194,7 @@ impl<'a> Batches<'a> {
         ensures ticket { NextTicket waiting result }
         ensures plain { HeldPlain waiting → NextPlain result }
         ensures fewer { NextFewer (left_of self.old.documents.now self.old.upto waiting) (left_of self.new.documents.now self.new.upto None) result }
+        ensures sends { SendsNext self.old self.new waiting result }
         ensures err { NextNotIo result }
     {
         let Some(command) = waiting else {
@@ -187,6 +212,7 @@ impl<'a> Batches<'a> {
         requires { IsOut (L.awaited link.old) (ticket_of command.exec) }
         ensures tickets { Tickets (L.awaited link.old) (L.awaited link.new) (ticket_of command.exec) (heard_ticket result) }
         ensures plain { IsPlain command.exec.command → PassesPlain (L.log link.old) (L.log link.new) × HeardPlain result }
+        ensures sent { HearsSent (L.awaited link.old) (L.awaited link.new) (L.log link.old) (L.log link.new) command result }
         ensures pended { HeardPends result (L.pends link.old) (L.pends link.new) }
         ensures lost { HeardLost result (L.faults link.old) (L.faults link.new) }
         ensures prompt { L.prompt link.old → HeardAtOnce result }
@@ -224,6 +250,7 @@ impl<'a> Inserting<'a> {
     ) -> Result<Inserting<'a>, Error>
         ensures ticket { IfOk result (λ i. insert_ticket i ≡ None) }
         ensures unsent { IfOk result (λ i. i.command ≡ None) }
+        ensures started { IfOk result (λ i. IsStarted (space ns.now) documents.now i.batches) }
     {
         let drawn = draw(alloc, ids, documents)?;
         Ok(Inserting {
@@ -247,12 +274,15 @@ impl<'a> Action for Inserting<'a> {
     fn poll<L: Link>(self, link: &mut L) -> Step<Inserting<'a>, u64>
         requires { IsOut (L.awaited link.old) (insert_ticket self) }
         ensures tickets { Tickets (L.awaited link.old) (L.awaited link.new) (insert_ticket self.entry) (ticket_after insert_ticket result) }
-        ensures pended { PendsBy 1 result (L.pends link.old) (L.pends link.new) }
+        ensures pended { Pended result (L.pends link.old) (L.pends link.new) }
         ensures lost { FailsByFault result (L.faults link.old) (L.faults link.new) }
         ensures prompt { L.prompt link.old → EndsAtOnce result }
         ensures later { Later (L.faults link.old) (L.faults link.new) (L.pends link.old) (L.pends link.new)
             (L.wire link.old) (L.wire link.new) (L.prompt link.old) (L.prompt link.new) }
         ensures plain { SendsPlain self.entry → PassesPlain (L.log link.old) (L.log link.new) × StepPlain result }
+        // Where the log is told, calls of it inserted the documents in order, each with its `_id`, but for those of the command
+        // that is underway; and in the end all of them, whose number is given.
+        ensures inserts { Inserts (L.awaited link.old) (L.awaited link.new) (L.log link.old) (L.log link.new) self.entry result }
     {
         let Inserting {
             mut batches,

@@ -1,5 +1,13 @@
 //! What holds of the definitions.
-ghost use Rattle.std.specs.Prelude.{◌≡◌, ℕ, List, Option, Some};
+ghost use Rattle.std.specs.Prelude.{◌≡◌, ◌≤◌, ◌++◌, ℕ, suc, pos, List, Option, Some, length, take};
+ghost use Rattle.mg_bson.specs.Tree.{Fields};
+ghost use Rattle.mg_link.specs.History.{IsLegal, Step, state_of};
+ghost use Rattle.mg_link.specs.Log.{Call};
+ghost use Rattle.mg_link.specs.Namespace.{Space};
+ghost use Rattle.mg_link.specs.Owner.{IsGrown};
+ghost use Rattle.mg_link.specs.Standing.{Stands};
+ghost use Rattle.mg_link.specs.Step.{documents_of};
+ghost use Rattle.mg_jobs.specs.Appended.{Appended, InsertsAt};
 ghost use Rattle.mg_jobs.specs.declared.program.Ending.{Ending};
 ghost use Rattle.mg_jobs.specs.Program.{Caused, IsOf};
 
@@ -9,4 +17,19 @@ ghost use Rattle.mg_jobs.specs.Program.{Caused, IsOf};
 pub fn input_decides()
     ensures { (words : List (List ℕ)) (bytes : List ℕ) (new : Option (List ℕ)) (before now : ℕ) (ending : Ending)
         → Caused words (Some bytes) new before now ending → IsOf words bytes ending }
+{}
+
+/// Where a call of a log inserted documents, the state behind its step has them behind those that stood there before, in
+/// every legal history in which the log stands; and the reply told their number.
+pub fn inserts_append()
+    ensures { (calls : List Call) (history : List Step) (k : ℕ) (space : Space) (documents : List Fields)
+        → IsLegal history → Stands calls history → (i : InsertsAt calls k space documents)
+        → (p : ℕ) × (i.call.position ≡ Some p) × (i.count ≡ pos (length documents))
+        × ((state_of (take (suc p) history)).documents space ≡ Some (documents_of (state_of (take p history)) space ++ documents)) }
+{}
+
+/// What was appended stays so when the log grows.
+pub fn appended_stays()
+    ensures { (calls calls' : List Call) (space : Space) (documents : List Fields) (n : ℕ)
+        → IsGrown calls calls' → length calls ≤ length calls' → Appended calls space documents n → Appended calls' space documents n }
 {}

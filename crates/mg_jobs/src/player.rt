@@ -1,17 +1,21 @@
 //! Jobs that go on turn by turn.
-ghost use Rattle.std.specs.Prelude.{◌≡◌, ◌+◌, ◌<◌, ◌≤◌, ◌++◌, ◌∷◌, [], None, IfErr, IfOk, OnOk, option_map, vec_capacity, vec_len};
+ghost use Rattle.std.specs.Prelude.{◌≡◌, List, ◌+◌, ◌-◌, ◌<◌, ◌≤◌, ◌++◌, ◌∷◌, ℕ, Bool, [], None, Some, false, IfErr, IfOk, OnOk, option_map, vec_capacity, vec_len};
 ghost use Rattle.mg_link.specs.Acts.{IsOut, Tickets};
 ghost use Rattle.mg_link.specs.Errors.{plain};
 ghost use Rattle.mg_link.specs.declared.error.ErrorKind.TheVariants as kinds;
-ghost use Rattle.mg_link.specs.Link.{Later};
+ghost use Rattle.mg_link.specs.Link.{Awaited, Later};
+ghost use Rattle.mg_link.specs.Log.{Call};
+ghost use Rattle.mg_link.specs.Namespace.{space};
 ghost use Rattle.mg_change.specs.Closings.{closing_ticket};
 ghost use Rattle.mg_change.specs.Openings.{opening_ticket};
 ghost use Rattle.mg_change.specs.Phases.{AtRest, IsSound, ticket_in};
-ghost use Rattle.mg_jobs.specs.Follows.{FollowTurns, HasNothing, IsAnswer, IsUnfinished, IsWatched, stages_of, token_at};
+ghost use Rattle.mg_jobs.specs.Follows.{FollowTurns, HasNothing, IsAnswer, IsArgsOf, IsUnfinished, all_changes, stages_of, start_of, token_at};
 ghost use Rattle.mg_link.proofs.Plain.{PassesPlain};
-ghost use Rattle.mg_change.specs.Following.{Asks};
-ghost use Rattle.mg_jobs.specs.Inserts.{insert_ticket};
-ghost use Rattle.mg_jobs.specs.Playing.{HasRoom, IsOfInsert, IsPlainJob, IsSameFollow, StageHolds, follow_ended, insert_ended, player_ticket, stage_ticket};
+ghost use Rattle.mg_ops.specs.Naming.{start_in};
+ghost use Rattle.mg_jobs.specs.Plan.{begin};
+ghost use Rattle.mg_jobs.specs.Progress.{CloseGoes, FollowAt, FollowGoes, InsertAt, InsertGoes, InsertReady, RestGoes, came};
+ghost use Rattle.mg_jobs.specs.Playing.{HasRoom, IsPlainInsert, IsPlainJob, IsSameFollow, IsSameInsert, StageHolds, end_of, follow_ended, insert_ended, inserts_ticket, player_ticket, stage_ticket};
+ghost use Rattle.mg_jobs.specs.Underway.{InsertKnows, InsertTurns, StageInserts};
 
 use crate::insert::Inserting;
 use crate::outcome::{Answer, Ended, Outcome};
@@ -26,11 +30,19 @@ use std::mem;
 
 /// How far an insert has come.
 #[derive(Drop)]
-pub(crate) enum InsertPlayer<'a> {
+enum InsertStage<'a> {
     /// It has no ids yet.
-    Unsent(&'a Namespace, &'a [Document]),
+    Unsent,
     Goes(Inserting<'a>),
     Ended(Ended<u64>),
+}
+
+/// An insert that goes on.
+#[derive(Drop)]
+pub(crate) struct InsertPlayer<'a> {
+    ns: &'a Namespace,
+    documents: &'a [Document],
+    stage: InsertStage<'a>,
 }
 
 /// An insert with its ids, or its failure.
@@ -39,24 +51,62 @@ fn begun<'a, I: IdSource>(
     ids: &mut I,
     ns: &'a Namespace,
     documents: &'a [Document],
-) -> InsertPlayer<'a>
-    ensures ticket { player_ticket result ≡ None }
-    ensures plain { IsPlainJob result }
+) -> InsertStage<'a>
+    ensures ticket { inserts_ticket result ≡ None }
+    ensures plain { IsPlainInsert result }
+    ensures knows { (awaited : Awaited) (calls : List Call) → StageInserts awaited calls (space ns.now) documents.now result }
+    ensures at { (k : ℕ) → k ≡ 0 → InsertReady result k }
 {
     match Inserting::start(alloc, ids, ns, documents) {
-        Ok(inserting) => InsertPlayer::Goes(inserting),
-        Err(error) => InsertPlayer::Ended(Ended::Failed(error)),
+        Ok(inserting) => InsertStage::Goes(inserting),
+        Err(error) => InsertStage::Ended(Ended::Failed(error)),
+    }
+}
+
+impl<'a> InsertStage<'a> {
+    /// One turn: the insert goes on until a reply pends, or to its end.
+    fn go<L: Link>(self, link: &mut L) -> InsertStage<'a>
+        requires { IsOut (L.awaited link.old) (inserts_ticket self) }
+        ensures tickets { Tickets (L.awaited link.old) (L.awaited link.new) (inserts_ticket self.entry) (inserts_ticket result) }
+        ensures plain { IsPlainInsert self.entry → PassesPlain (L.log link.old) (L.log link.new) × IsPlainInsert result }
+        ensures inserts { InsertTurns (L.awaited link.old) (L.awaited link.new) (L.log link.old) (L.log link.new) self.entry result }
+        ensures comes { InsertGoes (L.pends link.old) (L.pends link.new) self.entry result }
+        ensures later { Later (L.faults link.old) (L.faults link.new) (L.pends link.old) (L.pends link.new)
+            (L.wire link.old) (L.wire link.new) (L.prompt link.old) (L.prompt link.new) }
+    {
+        match self {
+            InsertStage::Unsent => InsertStage::Unsent,
+            InsertStage::Goes(inserting) => match inserting.poll(link) {
+                Step::Pending(inserting) => InsertStage::Goes(inserting),
+                Step::Done(count) => InsertStage::Ended(Ended::Gave(count)),
+                Step::Failed(error) => InsertStage::Ended(Ended::Failed(error)),
+            },
+            InsertStage::Ended(ended) => InsertStage::Ended(ended),
+        }
     }
 }
 
 impl<'a> InsertPlayer<'a> {
+    /// An insert that has sent nothing.
+    pub(crate) fn new(ns: &'a Namespace, documents: &'a [Document]) -> InsertPlayer<'a>
+        ensures stage { result.stage ≡ InsertStage.Unsent }
+        ensures ns { result.ns ≡ ns.entry }
+        ensures documents { result.documents ≡ documents.entry }
+    {
+        InsertPlayer {
+            ns,
+            documents,
+            stage: InsertStage::Unsent,
+        }
+    }
+
     pub(crate) fn has_ended(&self) -> bool
         ensures { result ≡ insert_ended self.now }
     {
-        match self {
-            InsertPlayer::Unsent(_, _) => false,
-            InsertPlayer::Goes(_) => false,
-            InsertPlayer::Ended(_) => true,
+        match self.stage {
+            InsertStage::Unsent => false,
+            InsertStage::Goes(_) => false,
+            InsertStage::Ended(_) => true,
         }
     }
 
@@ -64,11 +114,14 @@ impl<'a> InsertPlayer<'a> {
     pub(crate) fn ready<I: IdSource>(&mut self, alloc: Global, ids: &mut I)
         ensures ticket { player_ticket self.new ≡ player_ticket self.old }
         ensures plain { IsPlainJob self.old → IsPlainJob self.new }
+        ensures at { (k : ℕ) → InsertAt self.old.stage k → InsertReady self.new.stage k }
+        ensures same { IsSameInsert self.old self.new }
+        ensures knows { (awaited : Awaited) (calls : List Call) → InsertKnows awaited calls self.old → InsertKnows awaited calls self.new }
     {
-        match mem::replace(self, InsertPlayer::Ended(Ended::Unfinished)) {
-            InsertPlayer::Unsent(ns, documents) => *self = begun(alloc, ids, ns, documents),
-            InsertPlayer::Goes(inserting) => *self = InsertPlayer::Goes(inserting),
-            InsertPlayer::Ended(ended) => *self = InsertPlayer::Ended(ended),
+        match mem::replace(&mut self.stage, InsertStage::Ended(Ended::Unfinished)) {
+            InsertStage::Unsent => self.stage = begun(alloc, ids, self.ns, self.documents),
+            InsertStage::Goes(inserting) => self.stage = InsertStage::Goes(inserting),
+            InsertStage::Ended(ended) => self.stage = InsertStage::Ended(ended),
         }
     }
 
@@ -77,27 +130,31 @@ impl<'a> InsertPlayer<'a> {
         requires { IsOut (L.awaited link.old) (player_ticket self) }
         ensures tickets { Tickets (L.awaited link.old) (L.awaited link.new) (player_ticket self.entry) (player_ticket result) }
         ensures plain { IsPlainJob self.entry → PassesPlain (L.log link.old) (L.log link.new) × IsPlainJob result }
+        ensures comes { InsertGoes (L.pends link.old) (L.pends link.new) self.entry.stage result.stage }
+        ensures same { IsSameInsert self.entry result }
+        ensures inserts { InsertTurns (L.awaited link.old) (L.awaited link.new) (L.log link.old) (L.log link.new) self.entry.stage result.stage }
         ensures later { Later (L.faults link.old) (L.faults link.new) (L.pends link.old) (L.pends link.new)
             (L.wire link.old) (L.wire link.new) (L.prompt link.old) (L.prompt link.new) }
     {
-        match self {
-            InsertPlayer::Unsent(ns, documents) => InsertPlayer::Unsent(ns, documents),
-            InsertPlayer::Goes(inserting) => match inserting.poll(link) {
-                Step::Pending(inserting) => InsertPlayer::Goes(inserting),
-                Step::Done(count) => InsertPlayer::Ended(Ended::Gave(count)),
-                Step::Failed(error) => InsertPlayer::Ended(Ended::Failed(error)),
-            },
-            InsertPlayer::Ended(ended) => InsertPlayer::Ended(ended),
+        let InsertPlayer {
+            ns,
+            documents,
+            stage,
+        } = self;
+        InsertPlayer {
+            ns,
+            documents,
+            stage: stage.go(link),
         }
     }
 
     pub(crate) fn into_outcome(self) -> Outcome
-        ensures { IsOfInsert result }
+        ensures { result ≡ Outcome.Insert (end_of self.entry.stage) }
     {
-        match self {
-            InsertPlayer::Unsent(_, _) => Outcome::Insert(Ended::Unfinished),
-            InsertPlayer::Goes(_) => Outcome::Insert(Ended::Unfinished),
-            InsertPlayer::Ended(ended) => Outcome::Insert(ended),
+        match self.stage {
+            InsertStage::Unsent => Outcome::Insert(Ended::Unfinished),
+            InsertStage::Goes(_) => Outcome::Insert(Ended::Unfinished),
+            InsertStage::Ended(ended) => Outcome::Insert(ended),
         }
     }
 }
@@ -124,22 +181,37 @@ fn pipeline_of(alloc: Global, filter: Option<&Document>) -> Result<Vec<Document>
     Ok(pipeline)
 }
 
-fn watch_args(alloc: Global, watched: Watched<'_>) -> Result<WatchArgs, Error>
-    ensures { IfOk result (λ args. (w : _) (start : _) → IsWatched watched.entry w start → Asks args w start) }
+/// The options of a watch that begins there.
+fn begun_at(start: &Start) -> Result<ChangeStreamOptions, Error>
+    ensures starts { IfOk result (λ o. start_in o ≡ Some (start_of (begin start.now))) }
 {
     let mut options = ChangeStreamOptions::default();
-    options.batch_size = watched.batch_size;
-    match watched.start {
+    match start {
         Start::Nowhere => {}
         Start::ResumeAfter(token) => options.resume_after = Some(token.clone()?),
         Start::StartAfter(token) => options.start_after = Some(token.clone()?),
         Start::At(time) => options.start_at_operation_time = Some(*time),
     }
-    match watched.target {
-        OperationTarget::Cluster => options.all_changes_for_cluster = Some(true),
-        OperationTarget::Database(_) => {}
-        OperationTarget::Collection(_) => {}
+    Ok(options)
+}
+
+/// Whether the changes of all databases are asked for.
+fn all_changes(target: &OperationTarget) -> Option<bool>
+    ensures { result ≡ all_changes (target.now) }
+{
+    match target {
+        OperationTarget::Cluster => Some(true),
+        OperationTarget::Database(_) => None,
+        OperationTarget::Collection(_) => None,
     }
+}
+
+fn watch_args(alloc: Global, watched: Watched<'_>) -> Result<WatchArgs, Error>
+    ensures { IfOk result (IsArgsOf watched.entry) }
+{
+    let mut options = begun_at(watched.start)?;
+    options.batch_size = watched.batch_size;
+    options.all_changes_for_cluster = all_changes(watched.target);
     Ok(WatchArgs {
         pipeline: pipeline_of(alloc, watched.filter)?,
         target: watched.target.clone()?,
@@ -179,6 +251,7 @@ impl<'a> FollowPlayer<'a> {
         ensures unfinished { IsUnfinished result.opened }
         ensures nothing { HasNothing result }
         ensures watched { result.watched ≡ watched.entry }
+        ensures at { FollowAt calls result.stage (came result) 0 false }
     {
         FollowPlayer {
             watched,
@@ -217,6 +290,7 @@ impl<'a> FollowPlayer<'a> {
         ensures holds { StageHolds (L.wire link.new) self.new.stage }
         ensures turned { FollowTurns (L.awaited link.old) (L.awaited link.new) (L.log link.old) (L.log link.new) self.old.stage self.old self.new.stage self.new }
         ensures watched { self.new.watched ≡ self.old.watched }
+        ensures comes { FollowGoes (L.pends link.old) (L.pends link.new) self.old.stage (came self.old) self.new.stage (came self.new) }
         ensures later { Later (L.faults link.old) (L.faults link.new) (L.pends link.old) (L.pends link.new)
             (L.wire link.old) (L.wire link.new) (L.prompt link.old) (L.prompt link.new) }
     {
@@ -234,6 +308,7 @@ impl<'a> FollowPlayer<'a> {
         ensures holds { StageHolds (L.wire link.new) result }
         ensures turned { FollowTurns (L.awaited link.old) (L.awaited link.new) (L.log link.old) (L.log link.new) stage self.old result self.new }
         ensures watched { self.new.watched ≡ self.old.watched }
+        ensures comes { FollowGoes (L.pends link.old) (L.pends link.new) stage (came self.old) result (came self.new) }
         ensures later { Later (L.faults link.old) (L.faults link.new) (L.pends link.old) (L.pends link.new)
             (L.wire link.old) (L.wire link.new) (L.prompt link.old) (L.prompt link.new) }
     {
@@ -252,6 +327,7 @@ impl<'a> FollowPlayer<'a> {
         ensures holds { StageHolds (L.wire link.new) result }
         ensures turned { FollowTurns (L.awaited link.old) (L.awaited link.new) (L.log link.old) (L.log link.new) Stage.Unopened self.old result self.new }
         ensures watched { self.new.watched ≡ self.old.watched }
+        ensures comes { FollowGoes (L.pends link.old) (L.pends link.new) Stage.Unopened (came self.old) result (came self.new) }
         ensures later { Later (L.faults link.old) (L.faults link.new) (L.pends link.old) (L.pends link.new)
             (L.wire link.old) (L.wire link.new) (L.prompt link.old) (L.prompt link.new) }
     {
@@ -270,6 +346,7 @@ impl<'a> FollowPlayer<'a> {
         ensures holds { StageHolds (L.wire link.new) result }
         ensures turned { FollowTurns (L.awaited link.old) (L.awaited link.new) (L.log link.old) (L.log link.new) (Stage.Opens opening) self.old result self.new }
         ensures watched { self.new.watched ≡ self.old.watched }
+        ensures comes { FollowGoes (L.pends link.old) (L.pends link.new) (Stage.Opens opening) (came self.old) result (came self.new) }
         ensures later { Later (L.faults link.old) (L.faults link.new) (L.pends link.old) (L.pends link.new)
             (L.wire link.old) (L.wire link.new) (L.prompt link.old) (L.prompt link.new) }
     {
@@ -296,6 +373,7 @@ impl<'a> FollowPlayer<'a> {
         ensures holds { StageHolds (L.wire link.new) result }
         ensures turned { FollowTurns (L.awaited link.old) (L.awaited link.new) (L.log link.old) (L.log link.new) (Stage.Open stream) self.old result self.new }
         ensures watched { self.new.watched ≡ self.old.watched }
+        ensures comes { RestGoes (L.pends link.old) (L.pends link.new) (came self.old) result (came self.new) }
         ensures later { Later (L.faults link.old) (L.faults link.new) (L.pends link.old) (L.pends link.new)
             (L.wire link.old) (L.wire link.new) (L.prompt link.old) (L.prompt link.new) }
     {
@@ -317,6 +395,7 @@ impl<'a> FollowPlayer<'a> {
         ensures holds { StageHolds (L.wire link.new) result }
         ensures turned { FollowTurns (L.awaited link.old) (L.awaited link.new) (L.log link.old) (L.log link.new) (Stage.Open stream) self.old result self.new }
         ensures watched { self.new.watched ≡ self.old.watched }
+        ensures comes { FollowGoes (L.pends link.old) (L.pends link.new) (Stage.Open stream) (came self.old) result (came self.new) }
         ensures later { Later (L.faults link.old) (L.faults link.new) (L.pends link.old) (L.pends link.new)
             (L.wire link.old) (L.wire link.new) (L.prompt link.old) (L.prompt link.new) }
     {
@@ -336,6 +415,8 @@ impl<'a> FollowPlayer<'a> {
         ensures answers { self.new.answers.items ≡ self.old.answers.items ++ answer ∷ [] }
         ensures opened { self.new.opened ≡ self.old.opened }
         ensures token { self.new.token ≡ self.old.token }
+        ensures closed { self.new.closed ≡ self.old.closed }
+        ensures left { self.new.left ≡ self.old.left - 1 }
         ensures watched { self.new.watched ≡ self.old.watched }
     {
         self.alive = stream.is_alive();
@@ -350,6 +431,7 @@ impl<'a> FollowPlayer<'a> {
         ensures holds { StageHolds (L.wire link.new) result }
         ensures turned { FollowTurns (L.awaited link.old) (L.awaited link.new) (L.log link.old) (L.log link.new) (Stage.Closes closing) self.old result self.new }
         ensures watched { self.new.watched ≡ self.old.watched }
+        ensures comes { CloseGoes (L.pends link.old) (L.pends link.new) (came self.old) result (came self.new) }
         ensures later { Later (L.faults link.old) (L.faults link.new) (L.pends link.old) (L.pends link.new)
             (L.wire link.old) (L.wire link.new) (L.prompt link.old) (L.prompt link.new) }
     {

@@ -9,7 +9,7 @@ ghost use Rattle.mg_jobs.specs.declared.program.Ending.{Ending};
 ghost use Rattle.mg_jobs.specs.Plan.{plan};
 ghost use Rattle.mg_jobs.specs.Places.{place_text};
 ghost use Rattle.mg_jobs.specs.Text.{line, text_of};
-ghost use Rattle.mg_jobs.specs.Program.{is_run, HasJobs, ReadNoScript, ReadTooMuch, ReadMissing, Ran, Caused, status_of, ending_text, run_of, Told};
+ghost use Rattle.mg_jobs.specs.Program.{Caused, HasJobs, Ran, ReadMissing, ReadNoScript, ReadTooMuch, RunFollowed, Told, ending_text, is_run, run_of, status_of};
 
 use crate::fates::small_copies;
 use crate::fault::{Place, ScriptError};
@@ -65,6 +65,7 @@ fn is_run(words: &[String]) -> bool
 fn run_script(alloc: Global, script: Script) -> Result<Run, Error>
     requires { HasJobs (plan script) }
     ensures script { IfOk result (λ r. plan r.script ≡ plan script) }
+    ensures followed { IfOk result RunFollowed }
     ensures log { IfOk result (λ r. length r.logs.items ≡ 1) }
     ensures turns { IfOk result (λ r. length r.turns.items ≡ 1) }
     ensures err { IfErr result (λ e. e ≡ plain kinds.OutOfMemory) }

@@ -1,5 +1,5 @@
 //! Jobs, run by a list of turns.
-ghost use Rattle.std.specs.Prelude.{◌≡◌, ◌≤◌, ◌<◌, ◌++◌, ◌∷◌, ◌⊎◌, ℕ, [], false, true, length, List, IfErr, IfOk, IfSome, OnErr, OnOk, Ok, Err, Some, vec_capacity, vec_len};
+ghost use Rattle.std.specs.Prelude.{◌≡◌, ◌≤◌, ◌<◌, ◌++◌, ◌∷◌, ◌⊎◌, ℕ, Bool, [], false, true, length, List, IfErr, IfOk, IfSome, OnErr, OnOk, Ok, Err, Some, vec_capacity, vec_len};
 ghost use Rattle.std.specs.List.{All, sum_by};
 ghost use Rattle.mg_link.specs.Errors.{plain};
 ghost use Rattle.mg_link.specs.Link.{Awaited, Later, Told};
@@ -7,8 +7,9 @@ ghost use Rattle.mg_jobs.specs.Counts.{Counted, StartedBy};
 ghost use Rattle.mg_jobs.specs.Runs.{AreNew, AreSameJobs, CanGo, Goes, IsNew, IsNoted, IsReady, IsSameJob, JobHolds, Stands, has_ended, idle, job_ended, job_ticket};
 ghost use Rattle.mg_link.specs.Log.{Call};
 ghost use Rattle.mg_link.specs.Owner.{Owner};
-ghost use Rattle.mg_jobs.specs.Headline.{AllFollowed, AllWatch, AreFirst, DoTasks, Does, IsFirst, IsSameTask, Knowing, OutcomeOf, OutcomesOf, Plays};
+ghost use Rattle.mg_jobs.specs.Headline.{AllFollowed, AreFirst, DoTasks, Does, IsFirst, IsSameTask, Knowing, OutcomeOf, OutcomesOf, Plays};
 ghost use Rattle.mg_jobs.specs.Plan.{Task, task, tasks};
+ghost use Rattle.mg_jobs.specs.Progress.{AllAt, AllPlayed, AllShow, GoesBy, IsAt, IsReadyAt, JobGoes, Shows, TurnsBy, calls_of};
 ghost use Rattle.mg_jobs.specs.Script.{first_missing};
 
 use crate::counting::{Began, Counting};
@@ -37,9 +38,10 @@ impl<'a> Player<'a> {
         ensures new { IsNew result }
         ensures first { IsFirst result }
         ensures task { Does (task job.now) result }
+        ensures at { IsAt (calls_of (task job.now)) result 0 false }
     {
         match job {
-            Job::Insert { ns, docs } => Player::Insert(InsertPlayer::Unsent(ns, docs.as_slice())),
+            Job::Insert { ns, docs } => Player::Insert(InsertPlayer::new(ns, docs.as_slice())),
             Job::Follow {
                 target,
                 calls,
@@ -78,6 +80,7 @@ impl<'a> Player<'a> {
         ensures ready { OnOk result (IsReady self.new) }
         ensures knows { (awaited : Awaited) (calls : List Call) (o : Owner) → Plays awaited calls self.old o → Plays awaited calls self.new o }
         ensures task { IsSameTask self.old self.new }
+        ensures at { (calls k : ℕ) (last : Bool) → IsAt calls self.old k last → IsReadyAt calls self.new k last }
         ensures same { OnErr result (IsSameJob self.old self.new) }
         ensures err { IfErr result (λ e. e ≡ plain ErrorKind.OutOfMemory) }
     {
@@ -97,6 +100,7 @@ impl<'a> Player<'a> {
         requires can { CanGo (L.awaited link.old) (L.wire link.old) self }
         requires ready { IsReady self }
         ensures goes { Goes (L.awaited link.old) (L.awaited link.new) (L.log link.old) (L.log link.new) (L.wire link.new) self.entry result }
+        ensures comes { JobGoes (L.pends link.old) (L.pends link.new) self.entry result }
         ensures later { Later (L.faults link.old) (L.faults link.new) (L.pends link.old) (L.pends link.new)
             (L.wire link.old) (L.wire link.new) (L.prompt link.old) (L.prompt link.new) }
     {
@@ -113,7 +117,8 @@ impl<'a> Player<'a> {
     }
 
     fn into_outcome(self, alloc: Global) -> Outcome
-        ensures { OutcomeOf self.entry result }
+        ensures of { OutcomeOf self.entry result }
+        ensures shows { Shows self.entry result }
     {
         match self {
             Player::Insert(insert) => insert.into_outcome(),
@@ -154,6 +159,7 @@ fn counted_since<'a, L: Link, B: Began>(link: L, turn: Turn<'a>) -> (L, Gone<'a>
     ensures later { Later (L.faults link) (L.faults result.0) (L.pends link) (L.pends result.0)
         (L.wire link) (L.wire result.0) (L.prompt link) (L.prompt result.0) }
     ensures noted { IsNoted result.1.note B.calls (L.log result.0) B.pends (L.pends result.0) B.prompts (L.prompt result.0) }
+    ensures comes { GoesBy result.1.note turn.entry.player result.1.player }
 {
     let Turn { alloc, player } = turn;
     let mut counting = Counting::<L, B>::new(link);
@@ -170,6 +176,7 @@ fn counted<'a, L: Link>(link: L, turn: Turn<'a>) -> (L, Gone<'a>)
     ensures later { Later (L.faults link) (L.faults result.0) (L.pends link) (L.pends result.0)
         (L.wire link) (L.wire result.0) (L.prompt link) (L.prompt result.0) }
     ensures noted { IsNoted result.1.note (L.log link) (L.log result.0) (L.pends link) (L.pends result.0) (L.prompt link) (L.prompt result.0) }
+    ensures comes { GoesBy result.1.note turn.entry.player result.1.player }
 {
     counted_since::<L, Brand>(link, turn)
 }
@@ -182,6 +189,7 @@ fn take_turn<'a, L: Link>(player: &mut Player<'a>, alloc: Global, link: &mut L) 
     ensures later { Later (L.faults link.old) (L.faults link.new) (L.pends link.old) (L.pends link.new)
         (L.wire link.old) (L.wire link.new) (L.prompt link.old) (L.prompt link.new) }
     ensures noted { IsNoted result (L.log link.old) (L.log link.new) (L.pends link.old) (L.pends link.new) (L.prompt link.old) (L.prompt link.new) }
+    ensures comes { GoesBy result player.old player.new }
 {
     let turn = Turn {
         alloc,
@@ -205,6 +213,7 @@ fn turn_of<'a, L: Link, I: IdSource>(
     ensures later { Later (L.faults link.old) (L.faults link.new) (L.pends link.old) (L.pends link.new)
         (L.wire link.old) (L.wire link.new) (L.prompt link.old) (L.prompt link.new) }
     ensures noted { IfOk result (λ n. IsNoted n (L.log link.old) (L.log link.new) (L.pends link.old) (L.pends link.new) (L.prompt link.old) (L.prompt link.new)) }
+    ensures comes { IfOk result (λ n. TurnsBy n player.old player.new) }
     ensures ended { has_ended player.old ≡ true → (result ≡ Ok idle) × (link.new ≡ link.old) × (player.new ≡ player.old) }
     ensures err { IfErr result (λ e. (e ≡ plain ErrorKind.OutOfMemory) × (link.new ≡ link.old) × IsSameJob player.old player.new) }
 {
@@ -256,6 +265,7 @@ impl<'a> Runner<'a> {
         ensures new { IfOk result (λ r. AreNew r.players.items) }
         ensures first { IfOk result (λ r. AreFirst r.players.items) }
         ensures tasks { IfOk result (λ r. DoTasks (tasks jobs.now) r.players.items) }
+        ensures at { IfOk result (λ r. AllAt (tasks jobs.now) [] [] r.players.items) }
         ensures jobs { IfOk result (λ r. length r.players.items ≡ length jobs.now) }
         ensures turns { IfOk result (λ r. r.turns.items ≡ []) }
         ensures stands { IfOk result (λ r. (awaited : _) (wire : _) → Stands awaited wire r) }
@@ -289,6 +299,9 @@ impl<'a> Runner<'a> {
         // The jobs go on knowing what they should, and none touches a cursor of another.
         ensures knowing { (begun : Told) → Knowing (L.awaited link.old) begun (L.log link.old) self.old.players.items → Knowing (L.awaited link.new) begun (L.log link.new) self.new.players.items }
         ensures tasks { (ts : List Task) → DoTasks ts self.old.players.items → DoTasks ts self.new.players.items }
+        // A turn that did not pend brings its job on, as its note says.
+        ensures rows { OnOk result ((ts : List Task) (order : List ℕ) → length order ≡ length self.old.turns.items → AllAt ts order self.old.turns.items self.old.players.items
+            → AllAt ts (order ++ job ∷ []) self.new.turns.items self.new.players.items) }
         // E15 just where the number names no job, and otherwise want of memory.
         ensures missing { length self.old.players.items ≤ job → result ≡ Err (plain (ErrorKind.NoSuchJob job)) }
         ensures err { IfErr result (λ e. ((e ≡ plain (ErrorKind.NoSuchJob job)) × (length self.old.players.items ≤ job)) ⊎ (e ≡ plain ErrorKind.OutOfMemory)) }
@@ -319,6 +332,7 @@ impl<'a> Runner<'a> {
     pub fn into_played(self) -> Result<Played, Error>
         ensures outcomes { IfOk result (λ p. length p.outcomes.items ≡ length self.entry.players.items) }
         ensures each { IfOk result (λ p. OutcomesOf self.entry.players.items p.outcomes.items) }
+        ensures shows { IfOk result (λ p. AllShow self.entry.players.items p.outcomes.items) }
         ensures turns { IfOk result (λ p. p.turns.items ≡ self.entry.turns.items) }
         ensures err { IfErr result (λ e. e ≡ plain ErrorKind.OutOfMemory) }
     {
@@ -354,6 +368,7 @@ fn play<L: Link, I: IdSource>(
     ensures jobs { length runner.new.players.items ≡ length runner.old.players.items }
     ensures knowing { (begun : Told) → Knowing (L.awaited link.old) begun (L.log link.old) runner.old.players.items → Knowing (L.awaited link.new) begun (L.log link.new) runner.new.players.items }
     ensures tasks { (ts : List Task) → DoTasks ts runner.old.players.items → DoTasks ts runner.new.players.items }
+    ensures rows { OnOk result ((ts : List Task) → AllAt ts [] [] runner.old.players.items → AllAt ts order.now runner.new.turns.items runner.new.players.items) }
     ensures err { IfErr result (λ e. e ≡ plain ErrorKind.OutOfMemory) }
 {
     for number in order {
@@ -379,7 +394,9 @@ pub fn run_jobs<L: Link, I: IdSource>(
     ensures err { IfErr result (λ e. ((n : ℕ) × (e ≡ plain (ErrorKind.NoSuchJob n)) × (first_missing (length jobs.now) order.now ≡ Some n)) ⊎ (e ≡ plain ErrorKind.OutOfMemory)) }
     // Each follow answers consecutive matching entries from its opening place on, each once, in order, just up to its token,
     // also after errors; and the run names its own cursors only.
-    ensures followed { IfOk result (λ p. AllWatch (tasks jobs.now) → AllFollowed (L.log link.old) (L.log link.new) (tasks jobs.now) p.outcomes.items) }
+    ensures followed { IfOk result (λ p. AllFollowed (L.log link.old) (L.log link.new) (tasks jobs.now) p.outcomes.items) }
+    // How far each job has come follows from the notes of its turns.
+    ensures rows { IfOk result (λ p. AllPlayed (tasks jobs.now) order.now p.turns.items p.outcomes.items) }
     // One outcome for each job, and one note for each turn.
     ensures outcomes { IfOk result (λ p. length p.outcomes.items ≡ length jobs.now) }
     ensures turns { IfOk result (λ p. length p.turns.items ≡ length order.now) }

@@ -1,4 +1,4 @@
-use Rattle.std.proofs.Common.{◌≡◌, map, take, ◌+◌, arith}
+use Rattle.std.proofs.Common.{arith}
 use Rattle.std.proofs.lemmas.Grind.{common_steps}
 use Rattle.mg_jobs.proofs.Small.{small_more}
 use Rattle.mg_jobs.proofs.fates.small_copies.Goals as goal

@@ -1,6 +1,6 @@
 use Rattle.std.proofs.Common.{◌≡◌, drop}
 use Rattle.serde_json.specs.View.{items_view}
-use Rattle.mg_jobs.specs.Plan.{piece, pieces}
+use Rattle.mg_jobs.specs.Plan.{pieces}
 use Rattle.mg_jobs.specs.Reads.{each}
 use Rattle.mg_jobs.specs.Parts.{bytes_at}
 use Rattle.mg_jobs.proofs.Steps.{with_list}

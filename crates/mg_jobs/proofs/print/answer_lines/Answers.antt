@@ -1,4 +1,4 @@
-use Rattle.std.proofs.Common.{◌++◌, string_bytes, ap, ◌∙◌, arith}
+use Rattle.std.proofs.Common.{◌++◌, string_bytes, arith}
 use Rattle.mg_jobs.specs.Text.{answers_text}
 use Rattle.mg_jobs.proofs.Lines.{answers_more, answers_all}
 use Rattle.mg_jobs.proofs.print.answer_lines.Goals as goal

@@ -1,6 +1,6 @@
-use Rattle.std.proofs.Common.{◌++◌, length, string_bytes, ap, ◌∙◌, arith}
+use Rattle.std.proofs.Common.{◌++◌, string_bytes, arith}
 use Rattle.std.proofs.lemmas.Result.{on_ok_weaker}
-use Rattle.mg_jobs.specs.Text.{spaced, open_line}
+use Rattle.mg_jobs.specs.Text.{spaced}
 use Rattle.mg_jobs.proofs.Lines.{spaced_more, opens}
 use Rattle.mg_jobs.proofs.print.open_line.Goals as goal
 

@@ -1,4 +1,4 @@
-use Rattle.std.proofs.Common.{string_bytes, ap, ◌∙◌, append_assoc, arith}
+use Rattle.std.proofs.Common.{string_bytes, ap, ◌∙◌, arith}
 use Rattle.mg_jobs.specs.Text.{outcomes_text, commands_of}
 use Rattle.mg_jobs.proofs.Lines.{outcomes_more, outcomes_all, ends}
 use Rattle.mg_jobs.proofs.print.text_of.Goals as goal

@@ -1,9 +1,12 @@
-use Rattle.std.proofs.Common.{◌≡◌, ◌+◌, ◌∷◌, [], List, false, ap, sym, ◌∙◌, subst, length, length-append}
+use Rattle.std.proofs.Common.{◌≡◌, ◌+◌, ◌∷◌, [], List, false, ap, arith, get_or, sym, take, ◌∙◌, subst, length, length-append}
 use Rattle.std.specs.List.{All, sum_by}
 use Rattle.std.proofs.lemmas.List.Elements.{All-append, All-cons, All-nil}
 use Rattle.mg_link.proofs.Onward.{later_on}
 use Rattle.mg_jobs.specs.Counts.{StartedBy}
 use Rattle.mg_jobs.specs.declared.outcome.Turned.{Turned}
+use Rattle.std.proofs.lemmas.Option.{slice_get-get_or}
+use Rattle.mg_jobs.proofs.Advancing.{at_next}
+use Rattle.mg_jobs.proofs.Knowing.{length_take}
 use Rattle.mg_jobs.proofs.Tallies.{started_more}
 use Rattle.mg_jobs.proofs.run.play.Goals as goal
 
@@ -13,6 +16,7 @@ returns-in_err-turn-clause-knowing g c = λ begun before. c.turn.ensures.knowing
 pub loop-number-preserved : goal.loop-number-preserved
 loop-number-preserved g c =
     let noted = c.in_ok-turn.ensures.noted in
+    let there = slice_get-get_or c.args.order.now c.loop-number.number-index 0 (omega (arith, c.loop-number-test.true)) in
     let xs = c.loop-number.runner.turns.items in
     record {
       stands = c.turn.ensures.stands;
@@ -24,5 +28,7 @@ loop-number-preserved g c =
           (All-append (λ (t : Turned). t.pended ≡ false) xs (noted.0 ∷ []) (c.loop-number.invariant.quiet prompt) (All-cons (λ (t : Turned). t.pended ≡ false) noted.0 [] (noted.2.prompt (c.loop-number.invariant.later.prompt prompt).stays).1 (All-nil (λ (t : Turned). t.pended ≡ false))));
       jobs = c.turn.ensures.jobs ∙ c.loop-number.invariant.jobs;
       knowing = λ begun before. c.turn.ensures.knowing begun (c.loop-number.invariant.knowing begun before);
+      rows = λ ts before. at_next ts c.args.order.now c.loop-number.number-index (get_or c.args.order.now c.loop-number.number-index 0) c.turn.new.self.turns.items c.turn.new.self.players.items there
+          (c.in_ok-turn.ensures.rows ts (take c.loop-number.number-index c.args.order.now) (length_take c.args.order.now c.loop-number.number-index (get_or c.args.order.now c.loop-number.number-index 0) there ∙ sym c.loop-number.invariant.turns) (c.loop-number.invariant.rows ts before));
       tasks = λ ts does. c.turn.ensures.tasks ts (c.loop-number.invariant.tasks ts does);
     }

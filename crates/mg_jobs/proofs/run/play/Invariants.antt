@@ -1,9 +1,10 @@
-use Rattle.std.proofs.Common.{◌≡◌, List, length, false}
+use Rattle.std.proofs.Common.{◌≡◌, List, [], length, take, false}
 use Rattle.std.specs.List.{All, sum_by}
 use Rattle.mg_link.specs.Link.{Later, Told}
 use Rattle.mg_jobs.specs.Counts.{StartedBy}
 use Rattle.mg_jobs.specs.Headline.{DoTasks, Knowing}
 use Rattle.mg_jobs.specs.Plan.{Task}
+use Rattle.mg_jobs.specs.Progress.{AllAt}
 use Rattle.mg_jobs.specs.Runs.{Stands}
 use Rattle.mg_jobs.specs.declared.outcome.Turned.{Turned}
 use Rattle.mg_jobs.proofs.run.play.Given as goal
@@ -17,5 +18,6 @@ invariant-loop-number g l = record {
   quiet : g.L.Link.prompt l.initial.link → All (λ (t : Turned). t.pended ≡ false) l.runner.turns.items;
   jobs : length l.runner.players.items ≡ length l.initial.runner.players.items;
   knowing : (begun : Told) → Knowing (g.L.Link.awaited l.initial.link) begun (g.L.Link.log l.initial.link) l.initial.runner.players.items → Knowing (g.L.Link.awaited l.link) begun (g.L.Link.log l.link) l.runner.players.items;
+  rows : (ts : List Task) → AllAt ts [] [] l.initial.runner.players.items → AllAt ts (take l.number-index l.fn.order) l.runner.turns.items l.runner.players.items;
   tasks : (ts : List Task) → DoTasks ts l.initial.runner.players.items → DoTasks ts l.runner.players.items;
 }

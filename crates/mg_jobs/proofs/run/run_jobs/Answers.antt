@@ -3,7 +3,8 @@ use Rattle.std.specs.List.{All}
 use Rattle.mg_jobs.specs.Script.{first_missing}
 use Rattle.mg_jobs.proofs.Orders.{none_missing}
 use Rattle.mg_jobs.specs.Plan.{tasks}
-use Rattle.mg_jobs.proofs.Knowing.{knowing_first, played_so, same_count}
+use Rattle.mg_jobs.proofs.Knowing.{knowing_first, played_so}
+use Rattle.mg_jobs.proofs.Advancing.{rows_so}
 use Rattle.mg_jobs.proofs.run.run_jobs.Goals as goal
 
 pub play-requires-clause-jobs : goal.play-requires-clause-jobs
@@ -13,5 +14,8 @@ play-requires-clause-jobs g c =
 
 pub returns-clause-followed : goal.returns-clause-followed
 returns-clause-followed g c = played_so _ (tasks c.args.jobs.now) _ _ c.into_played.result c.play.new.runner.players.items _ c.into_played.ensures.outcomes c.into_played.ensures.each
-    (λ watch. c.play.ensures.knowing _ (knowing_first _ _ (tasks c.args.jobs.now) c.in_ok-runner.runner.players.items (same_count c.args.jobs.now c.in_ok-runner.runner.players.items c.in_ok-runner.ensures.jobs) c.in_ok-runner.ensures.first c.in_ok-runner.ensures.tasks watch))
+    (c.play.ensures.knowing _ (knowing_first _ _ c.in_ok-runner.runner.players.items c.in_ok-runner.ensures.first))
     (c.play.ensures.tasks _ c.in_ok-runner.ensures.tasks) refl
+
+pub returns-clause-rows : goal.returns-clause-rows
+returns-clause-rows g c = rows_so (tasks c.args.jobs.now) c.args.order.now c.play.new.runner.players.items c.play.new.runner.turns.items c.into_played.result c.into_played.ensures.outcomes c.into_played.ensures.shows c.into_played.ensures.turns (c.play.ensures.tasks _ c.in_ok-runner.ensures.tasks) (c.in_ok-play.ensures.rows _ c.in_ok-runner.ensures.at)

@@ -1,8 +1,9 @@
-use Rattle.std.proofs.Common.{sym, subst}
+use Rattle.std.proofs.Common.{sym, subst, ◌∙◌}
 use Rattle.mg_link.specs.Acts.{IsOut, Tickets}
 use Rattle.mg_link.proofs.Onward.{tickets_same}
 use Rattle.mg_jobs.proofs.Knowing.{turned_not, turned_ready}
 use Rattle.mg_jobs.specs.Runs.{job_ticket}
+use Rattle.mg_jobs.proofs.Advancing.{over_turns}
 use Rattle.mg_jobs.proofs.run.turn_of.Goals as goal
 
 pub returns-then-has_ended-clause-goes : goal.returns-then-has_ended-clause-goes
@@ -34,3 +35,11 @@ returns-clause-goes g c = record {
   turned = turned_ready _ _ _ _ c.args.player.now c.ready.new.self c.take_turn.new.player c.in_ok-ready.ensures.knows c.take_turn.ensures.goes.turned;
   task = λ t does. c.take_turn.ensures.goes.task t (c.in_ok-ready.ensures.task t does);
 }
+
+pub returns-then-has_ended-clause-comes : goal.returns-then-has_ended-clause-comes
+returns-then-has_ended-clause-comes g c = over_turns c.args.player.now (sym c.has_ended.ensures ∙ c.if-has_ended.true)
+
+pub returns-clause-comes : goal.returns-clause-comes
+returns-clause-comes g c = λ calls k last at. c.take_turn.ensures.comes calls k last (c.in_ok-ready.ensures.at calls k last at)
+
+

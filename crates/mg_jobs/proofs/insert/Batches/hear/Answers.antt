@@ -2,6 +2,7 @@ use Rattle.std.proofs.Common.{refl, subst, sym}
 use Rattle.mg_link.proofs.Plain.{plain_ran}
 use Rattle.mg_jobs.specs.Inserts.{IsPlain}
 use Rattle.mg_jobs.proofs.Plainly.{same_command}
+use Rattle.mg_jobs.proofs.Sendings.{done_sent, failed_sent, pending_sent}
 use Rattle.mg_jobs.proofs.insert.Batches.hear.Goals as goal
 
 pub returns-in-Pending-clause-plain : goal.returns-in-Pending-clause-plain
@@ -18,3 +19,12 @@ returns-in-Ok-clause-plain g c = λ plain. (plain_ran c.args.command.exec.comman
 
 pub returns-clause-plain : goal.returns-clause-plain
 returns-clause-plain g c = λ plain. (plain_ran c.args.command.exec.command plain _ _ _ _ _ c.args.command.exec _ refl c.in-Done.ensures.runs, tt)
+
+pub returns-in-Pending-clause-sent : goal.returns-in-Pending-clause-sent
+returns-in-Pending-clause-sent g c = pending_sent _ _ _ _ _ c.args.command (record { exec = c.in-Pending.exec; insert = c.args.command.insert }) c.in-Pending.ensures.runs
+
+pub returns-in-Failed-clause-sent : goal.returns-in-Failed-clause-sent
+returns-in-Failed-clause-sent g c = failed_sent _ _ _ _ _ c.args.command c.in-Failed.error c.in-Failed.error c.in-Failed.ensures.runs
+
+pub returns-in-Ok-clause-sent : goal.returns-in-Ok-clause-sent
+returns-in-Ok-clause-sent g c = done_sent _ _ _ _ _ c.args.command c.in-Done.reply _ c.in-Ok.field-0 c.in-Done.ensures.runs c.in-Ok.ensures.ok

@@ -1,8 +1,21 @@
-use Rattle.std.proofs.Common.{ap, ◌∙◌}
+use Rattle.std.proofs.Common.{ap, ◌∙◌, subst}
 use Rattle.mg_bson.specs.Raw.{fields}
 use Rattle.mg_link.specs.Exec.{Sending}
+use Rattle.mg_link.specs.Namespace.{space}
+use Rattle.mg_ops.specs.Commands.{insert_command}
+use Rattle.mg_ops.proofs.Asking.{asks_to_insert}
+use Rattle.mg_jobs.specs.Underway.{IsBatch}
 use Rattle.mg_jobs.proofs.Plainly.{insert_names_none}
 use Rattle.mg_jobs.proofs.insert.Batches.next.Goals as goal
 
 pub returns-clause-plain : goal.returns-clause-plain
 returns-clause-plain c = insert_names_none c.start-exec.result.command _ _ (ap (λ (e : Sending). fields e.command) c.start-exec.ensures ∙ c.in_ok-command.ensures.read_back)
+
+pub returns-clause-next : goal.returns-clause-next
+returns-clause-next c =
+    let piece = c.in_ok-batch.batch.documents.items in (
+      piece,
+      subst (λ d. IsBatch d c.args.self.now.documents.now c.args.self.now.upto piece c.in_ok-batch.batch.upto) c.as_slice.ensures.value c.in_ok-batch.ensures.these,
+      λ named. asks_to_insert c.start-exec.result.command (space c.args.self.now.ns.now) piece named
+        (ap (λ (e : Sending). fields e.command) c.start-exec.ensures ∙ c.in_ok-command.ensures.read_back ∙ ap (λ s. insert_command s piece) c.in_ok-clone.ensures.cases),
+    )

@@ -3,12 +3,15 @@ use Rattle.mg_link.proofs.Onward.{later_on, later_same, tickets_on, tickets_same
 use Rattle.mg_link.proofs.Plain.{plain_on, plain_stayed}
 use Rattle.mg_jobs.specs.Inserts.{held}
 use Rattle.mg_jobs.proofs.Plainly.{tickets_from}
+use Rattle.mg_jobs.proofs.Sendings.{leads_failed, leads_finished, leads_inserted, leads_pending, leads_stopped}
 use Rattle.mg_jobs.proofs.insert.InsertingAction.poll.Goals as goal
 
 pub commands-init : goal.commands-init
 commands-init g c = record {
   tickets = tickets_same _ (held c.args.self.command) c.requires;
   plain = λ plain. (plain_stayed _ _ refl, plain);
+  pended = refl;
+  inserts = λ calls told at documents named has. (calls, told, has);
   later = later_same _ _ _ _;
 }
 
@@ -31,6 +34,8 @@ commands-preserved g c = record {
       let before = c.commands.invariant.plain plain in
       let heard = c.in-Inserted.ensures.plain (c.in-Send.ensures.plain before.1) in
       (plain_on _ _ _ before.0 heard.0, tt);
+  pended = c.in-Inserted.ensures.pended ∙ c.commands.invariant.pended;
+  inserts = leads_inserted _ _ _ _ c.args.self _ _ _ c.commands.invariant.inserts _ _ c.in-Send.next c.in-Send.ensures.sends c.in-Inserted.ensures.sent;
   later = later_on c.commands.invariant.later c.hear.ensures.later;
 }
 
@@ -42,3 +47,15 @@ returns-in-Failed-clause-plain g c = λ plain.
 
 pub returns-in-Failed-clause-tickets : goal.returns-in-Failed-clause-tickets
 returns-in-Failed-clause-tickets g c = tickets_on c.commands.invariant.tickets (tickets_from _ _ _ _ _ c.in-Send.ensures.ticket c.in-Failed.ensures.tickets)
+
+pub returns-in-Finished-clause-inserts : goal.returns-in-Finished-clause-inserts
+returns-in-Finished-clause-inserts g c = leads_finished _ _ _ _ c.args.self c.commands.batches c.current.new.self c.commands.command c.commands.invariant.inserts _ refl c.in-Finished.ensures.sends
+
+pub returns-in-Stopped-clause-inserts : goal.returns-in-Stopped-clause-inserts
+returns-in-Stopped-clause-inserts g c = leads_stopped _ _ _ _ c.args.self c.commands.batches c.commands.batches _ c.commands.invariant.inserts c.in-Stopped.error
+
+pub returns-in-Pending-clause-inserts : goal.returns-in-Pending-clause-inserts
+returns-in-Pending-clause-inserts g c = leads_pending _ _ _ _ c.args.self _ _ _ c.commands.invariant.inserts _ _ c.in-Send.next c.in-Send.ensures.sends c.in-Pending.waiting c.in-Pending.ensures.sent
+
+pub returns-in-Failed-clause-inserts : goal.returns-in-Failed-clause-inserts
+returns-in-Failed-clause-inserts g c = leads_failed _ _ _ _ c.args.self _ _ _ c.commands.invariant.inserts (g.L.Link.awaited c.hear.new.link) (g.L.Link.log c.hear.new.link) c.in-Send.next c.in-Send.ensures.sends c.in-Failed.error c.in-Failed.error c.in-Failed.ensures.sent

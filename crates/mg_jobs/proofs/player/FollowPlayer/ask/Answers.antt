@@ -1,8 +1,11 @@
-use Rattle.std.proofs.Common.{ap}
+use Rattle.std.proofs.Common.{ap, refl, length, length-append, ◌∷◌, [], ◌∙◌}
 use Rattle.mg_change.specs.Following.{event_told}
 use Rattle.mg_link.proofs.Onward.{tickets_on}
 use Rattle.mg_jobs.specs.declared.player.Stage.TheVariants as stage
 use Rattle.mg_jobs.proofs.Turning.{call_answers, call_pends, rests_after, took_on}
+use Rattle.mg_jobs.proofs.Vainly.{vain_call, vain_on}
+use Rattle.mg_jobs.proofs.Advancing.{ask_goes, ask_waits}
+use Rattle.mg_jobs.specs.Progress.{came}
 use Rattle.mg_jobs.proofs.player.FollowPlayer.ask.Goals as goal
 
 pub returns-in-Some-clause-tickets : goal.returns-in-Some-clause-tickets
@@ -13,10 +16,26 @@ go_on-requires-clause-rests g c = rests_after c.poll_next_if_any.result c.poll_n
 
 pub returns-in-Some-clause-turned : goal.returns-in-Some-clause-turned
 returns-in-Some-clause-turned g c =
-    took_on _ _ _ _ _ _ (stage.Open c.args.stream) c.args.self.now (stage.Open c.poll_next_if_any.new.self) c.take.new.self _ _
-    (call_answers _ _ _ _ c.args.self.now c.take.new.self c.args.stream c.poll_next_if_any.new.self (event_told c.poll_next_if_any.result) c.in-Some.answer c.take.ensures.watched c.take.ensures.opened c.take.ensures.answers c.in-Some.ensures.0 c.poll_next_if_any.ensures.args c.poll_next_if_any.ensures.moved)
-    c.go_on.ensures.turned
+    record {
+      watching =
+          took_on _ _ _ _ _ _ (stage.Open c.args.stream) c.args.self.now (stage.Open c.poll_next_if_any.new.self) c.take.new.self _ _
+          (call_answers _ _ _ _ c.args.self.now c.take.new.self c.args.stream c.poll_next_if_any.new.self (event_told c.poll_next_if_any.result) c.in-Some.answer c.take.ensures.watched c.take.ensures.opened c.take.ensures.answers c.in-Some.ensures.0 c.poll_next_if_any.ensures.args c.poll_next_if_any.ensures.moved)
+          c.go_on.ensures.turned.watching;
+      vainly =
+          vain_on _ _ _ _ _ _ (stage.Open c.args.stream) c.args.self.now (stage.Open c.poll_next_if_any.new.self) c.take.new.self _ _
+          (vain_call _ _ _ _ c.args.self.now c.take.new.self c.args.stream c.poll_next_if_any.new.self c.poll_next_if_any.ensures.sent.commands c.take.ensures.watched c.take.ensures.opened c.poll_next_if_any.ensures.sent.adds)
+          c.go_on.ensures.turned.vainly;
+    }
 
 pub returns-in-None-clause-turned : goal.returns-in-None-clause-turned
 returns-in-None-clause-turned g c =
-    call_pends _ _ _ _ c.args.self.now c.args.stream c.poll_next_if_any.new.self (event_told c.poll_next_if_any.result) (ap event_told c.in-None.ensures) c.poll_next_if_any.ensures.args c.poll_next_if_any.ensures.moved
+    record {
+      watching = call_pends _ _ _ _ c.args.self.now c.args.stream c.poll_next_if_any.new.self (event_told c.poll_next_if_any.result) (ap event_told c.in-None.ensures) c.poll_next_if_any.ensures.args c.poll_next_if_any.ensures.moved;
+      vainly = vain_call _ _ _ _ c.args.self.now c.args.self.now c.args.stream c.poll_next_if_any.new.self c.poll_next_if_any.ensures.sent.commands refl refl c.poll_next_if_any.ensures.sent.adds;
+    }
+
+pub returns-in-Some-clause-comes : goal.returns-in-Some-clause-comes
+returns-in-Some-clause-comes g c = ask_goes _ _ _ c.args.stream (came c.args.self.now) (came c.take.new.self) _ _ c.poll_next_if_any.result c.in-Some.ensures.1 c.poll_next_if_any.ensures.pended c.take.ensures.opened c.take.ensures.closed (ap length c.take.ensures.answers ∙ length-append c.args.self.now.answers.items (c.in-Some.answer ∷ [])) c.take.ensures.left c.go_on.ensures.comes
+
+pub returns-in-None-clause-comes : goal.returns-in-None-clause-comes
+returns-in-None-clause-comes g c = ask_waits _ _ c.args.stream c.poll_next_if_any.new.self _ c.poll_next_if_any.result c.in-None.ensures c.poll_next_if_any.ensures.pended

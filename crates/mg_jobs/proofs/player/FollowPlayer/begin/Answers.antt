@@ -1,15 +1,34 @@
 use Rattle.std.proofs.Common.{refl, subst, sym}
-use Rattle.mg_change.specs.Following.{Asks}
+use Rattle.mg_change.specs.Following.{Asks, AsksNothing}
 use Rattle.mg_jobs.specs.Follows.{IsFailed}
 use Rattle.mg_jobs.specs.declared.player.Stage.TheVariants as stage
 use Rattle.mg_jobs.proofs.Turning.{begin_failed, begins, took_on}
+use Rattle.mg_jobs.proofs.Vainly.{vain_begin_failed, vain_begins, vain_on}
+use Rattle.mg_jobs.proofs.Watched.{args_ask, args_ask_nothing}
+use Rattle.mg_jobs.proofs.Advancing.{never_open}
 use Rattle.mg_jobs.proofs.player.FollowPlayer.begin.Goals as goal
 
 pub returns-in-Ok-clause-turned : goal.returns-in-Ok-clause-turned
 returns-in-Ok-clause-turned g c =
-    took_on _ _ _ _ _ _ stage.Unopened c.args.self.now (stage.Opens c.new.result) c.args.self.now _ _
-    (begins _ _ c.args.self.now c.new.result (λ w start watched. subst (λ a. Asks a w start) (sym c.new.ensures.args) (c.in-Ok.ensures w start watched)) c.new.ensures.opening c.new.ensures.unsent)
-    c.open.ensures.turned
+    record {
+      watching =
+          took_on _ _ _ _ _ _ stage.Unopened c.args.self.now (stage.Opens c.new.result) c.args.self.now _ _
+          (begins _ _ c.args.self.now c.new.result (λ w start watched. subst (λ a. Asks a w start) (sym c.new.ensures.args) (args_ask c.args.self.now.watched c.in-Ok.args c.in-Ok.ensures w start watched)) c.new.ensures.opening c.new.ensures.unsent)
+          c.open.ensures.turned.watching;
+      vainly =
+          vain_on _ _ _ _ _ _ stage.Unopened c.args.self.now (stage.Opens c.new.result) c.args.self.now _ _
+          (vain_begins _ _ c.args.self.now c.new.result (λ none. subst (λ a. AsksNothing a) (sym c.new.ensures.args) (args_ask_nothing c.args.self.now.watched c.in-Ok.args c.in-Ok.ensures none)) c.new.ensures.opening c.new.ensures.unsent)
+          c.open.ensures.turned.vainly;
+    }
 
 pub returns-in-Err-clause-turned : goal.returns-in-Err-clause-turned
-returns-in-Err-clause-turned g c = begin_failed _ _ c.args.self.now _ (record { watched = refl; answers = refl; token = refl }) (subst (λ o. IsFailed o) (sym c.note.ensures) tt)
+returns-in-Err-clause-turned g c = record {
+  watching = begin_failed _ _ c.args.self.now _ (record { watched = refl; answers = refl; token = refl }) (subst (λ o. IsFailed o) (sym c.note.ensures) tt);
+  vainly = vain_begin_failed _ _ c.args.self.now _ (record { watched = refl; answers = refl; token = refl }) (subst (λ o. IsFailed o) (sym c.note.ensures) tt);
+}
+
+pub returns-in-Ok-clause-comes : goal.returns-in-Ok-clause-comes
+returns-in-Ok-clause-comes g c = c.open.ensures.comes
+
+pub returns-in-Err-clause-comes : goal.returns-in-Err-clause-comes
+returns-in-Err-clause-comes g c = never_open _ _ _ _ refl (subst (λ o. IsFailed o) (sym c.note.ensures) tt) refl refl

@@ -1,12 +1,18 @@
 use Rattle.std.proofs.Common.{refl, subst, sym}
 use Rattle.mg_link.proofs.Onward.{tickets_on}
-use Rattle.mg_jobs.specs.Follows.{HasGiven, IsFailed}
 use Rattle.mg_jobs.specs.declared.player.Stage.TheVariants as stage
 use Rattle.mg_jobs.proofs.Turning.{open_done, open_failed, open_pends, rest_out, tickets_rest, took_on}
+use Rattle.mg_jobs.proofs.Vainly.{vain_on, vain_open_done, vain_open_failed, vain_open_pends}
+use Rattle.mg_jobs.proofs.Advancing.{never_open, open_goes, open_waits}
+use Rattle.mg_jobs.specs.Progress.{came}
+use Rattle.mg_jobs.specs.Follows.{HasGiven, IsFailed}
 use Rattle.mg_jobs.proofs.player.FollowPlayer.open.Goals as goal
 
 pub returns-in-Pending-clause-turned : goal.returns-in-Pending-clause-turned
-returns-in-Pending-clause-turned g c = open_pends _ _ _ _ c.args.self.now c.args.opening c.in-Pending.opening c.in-Pending.ensures.keeps.1 c.in-Pending.ensures.keeps.0 c.in-Pending.ensures.moved
+returns-in-Pending-clause-turned g c = record {
+  watching = open_pends _ _ _ _ c.args.self.now c.args.opening c.in-Pending.opening c.in-Pending.ensures.keeps.1 c.in-Pending.ensures.keeps.0 c.in-Pending.ensures.moved;
+  vainly = vain_open_pends _ _ _ _ c.args.self.now c.args.opening c.in-Pending.opening c.in-Pending.ensures.keeps.1 c.in-Pending.ensures.keeps.0 c.in-Pending.ensures.vain;
+}
 
 pub go_on-requires-clause-held : goal.go_on-requires-clause-held
 go_on-requires-clause-held g c = rest_out _ c.in-Done.stream.phase c.in-Done.ensures.keeps.2
@@ -22,9 +28,28 @@ returns-in-Done-clause-tickets g c = tickets_on c.in-Done.ensures.tickets (ticke
 
 pub returns-in-Done-clause-turned : goal.returns-in-Done-clause-turned
 returns-in-Done-clause-turned g c =
-    took_on _ _ _ _ _ _ (stage.Opens c.args.opening) c.args.self.now (stage.Open c.in-Done.stream) _ _ _
-    (open_done _ _ _ _ c.args.self.now _ c.args.opening c.in-Done.stream (record { watched = refl; answers = refl; token = refl }) (subst (λ o. HasGiven o) (sym c.note.ensures) tt) c.in-Done.ensures.keeps.0 c.in-Done.ensures.moved)
-    c.go_on.ensures.turned
+    record {
+      watching =
+          took_on _ _ _ _ _ _ (stage.Opens c.args.opening) c.args.self.now (stage.Open c.in-Done.stream) _ _ _
+          (open_done _ _ _ _ c.args.self.now _ c.args.opening c.in-Done.stream (record { watched = refl; answers = refl; token = refl }) (subst (λ o. HasGiven o) (sym c.note.ensures) tt) c.in-Done.ensures.keeps.0 c.in-Done.ensures.moved)
+          c.go_on.ensures.turned.watching;
+      vainly =
+          vain_on _ _ _ _ _ _ (stage.Opens c.args.opening) c.args.self.now (stage.Open c.in-Done.stream) _ _ _
+          (vain_open_done _ _ _ _ c.args.self.now _ c.args.opening c.in-Done.stream (record { watched = refl; answers = refl; token = refl }) (subst (λ o. HasGiven o) (sym c.note.ensures) tt) c.in-Done.ensures.vain)
+          c.go_on.ensures.turned.vainly;
+    }
 
 pub returns-in-Failed-clause-turned : goal.returns-in-Failed-clause-turned
-returns-in-Failed-clause-turned g c = open_failed _ _ _ _ c.args.self.now _ c.args.opening (record { watched = refl; answers = refl; token = refl }) (subst (λ o. IsFailed o) (sym c.note-in-Failed.ensures) tt) c.in-Failed.ensures.moved
+returns-in-Failed-clause-turned g c = record {
+  watching = open_failed _ _ _ _ c.args.self.now _ c.args.opening (record { watched = refl; answers = refl; token = refl }) (subst (λ o. IsFailed o) (sym c.note-in-Failed.ensures) tt) c.in-Failed.ensures.moved;
+  vainly = vain_open_failed _ _ _ _ c.args.self.now _ c.args.opening c.in-Failed.error (record { watched = refl; answers = refl; token = refl }) (subst (λ o. IsFailed o) (sym c.note-in-Failed.ensures) tt) c.in-Failed.ensures.vain;
+}
+
+pub returns-in-Pending-clause-comes : goal.returns-in-Pending-clause-comes
+returns-in-Pending-clause-comes g c = open_waits _ _ c.args.opening c.in-Pending.opening _ c.in-Pending.ensures.pended
+
+pub returns-in-Done-clause-comes : goal.returns-in-Done-clause-comes
+returns-in-Done-clause-comes g c = open_goes _ _ _ c.args.opening (came c.args.self.now) _ _ _ c.in-Done.ensures.pended (subst (λ o. HasGiven o) (sym c.note.ensures) tt) refl refl refl c.go_on.ensures.comes
+
+pub returns-in-Failed-clause-comes : goal.returns-in-Failed-clause-comes
+returns-in-Failed-clause-comes g c = never_open _ _ _ _ c.in-Failed.ensures.pended (subst (λ o. IsFailed o) (sym c.note-in-Failed.ensures) tt) refl refl

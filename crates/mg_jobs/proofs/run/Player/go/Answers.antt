@@ -1,4 +1,4 @@
-use Rattle.std.proofs.Common.{None}
+use Rattle.std.proofs.Common.{None, false, refl}
 use Rattle.mg_link.proofs.Onward.{tickets_same}
 use Rattle.mg_jobs.specs.declared.run.Player.TheVariants as player
 use Rattle.mg_jobs.proofs.Knowing.{same_insert, same_watch, turned_follow, turned_insert, turned_not}
@@ -8,8 +8,8 @@ pub returns-in-Insert-clause-goes : goal.returns-in-Insert-clause-goes
 returns-in-Insert-clause-goes g c = rw c.in-Insert.is (record {
   tickets = c.go.ensures.tickets;
   holds = tt;
-  turned = turned_insert (g.L.Link.awaited c.args.link.now) (g.L.Link.awaited c.go.new.link) (g.L.Link.log c.args.link.now) (g.L.Link.log c.go.new.link) c.in-Insert.insert c.go.result c.go.ensures.plain;
-  task = same_insert c.in-Insert.insert c.go.result;
+  turned = turned_insert (g.L.Link.awaited c.args.link.now) (g.L.Link.awaited c.go.new.link) (g.L.Link.log c.args.link.now) (g.L.Link.log c.go.new.link) c.in-Insert.insert c.go.result c.go.ensures.plain c.go.ensures.same c.go.ensures.inserts;
+  task = same_insert c.in-Insert.insert c.go.result c.go.ensures.same;
 })
 
 pub returns-in-Follow-clause-goes : goal.returns-in-Follow-clause-goes
@@ -35,3 +35,15 @@ returns-in-Get-clause-goes g c = rw c.in-Get.is (record {
   turned = turned_not _ _ player.Get player.Get (λ calls o plays. plays);
   task = λ t does. does;
 })
+
+pub returns-in-Insert-clause-comes : goal.returns-in-Insert-clause-comes
+returns-in-Insert-clause-comes g c = rw c.in-Insert.is c.go.ensures.comes
+
+pub returns-in-Follow-clause-comes : goal.returns-in-Follow-clause-comes
+returns-in-Follow-clause-comes g c = rw c.in-Follow.is c.go-in-Follow.ensures.comes
+
+pub returns-in-Put-clause-comes : goal.returns-in-Put-clause-comes
+returns-in-Put-clause-comes g c = rw c.in-Put.is (false, refl, λ calls k last at. tt)
+
+pub returns-in-Get-clause-comes : goal.returns-in-Get-clause-comes
+returns-in-Get-clause-comes g c = rw c.in-Get.is (false, refl, λ calls k last at. tt)

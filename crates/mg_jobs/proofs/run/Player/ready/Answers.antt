@@ -1,12 +1,13 @@
 use Rattle.mg_jobs.proofs.Apart.{follow_same}
 use Rattle.mg_jobs.proofs.Knowing.{same_insert, same_knows, same_watch}
+use Rattle.mg_jobs.proofs.Advancing.{same_came}
 use Rattle.mg_jobs.proofs.run.Player.ready.Goals as goal
 
 pub returns-in-Insert-clause-knows : goal.returns-in-Insert-clause-knows
-returns-in-Insert-clause-knows g c = rw c.in-Insert.is (λ awaited calls o plays. (plays.0, c.ready.ensures.plain plays.1))
+returns-in-Insert-clause-knows g c = rw c.in-Insert.is (λ awaited calls o plays. (plays.0, c.ready.ensures.plain plays.1, c.ready.ensures.knows awaited calls plays.2))
 
 pub returns-in-Insert-clause-task : goal.returns-in-Insert-clause-task
-returns-in-Insert-clause-task g c = rw c.in-Insert.is (same_insert _ _)
+returns-in-Insert-clause-task g c = rw c.in-Insert.is (same_insert _ _ c.ready.ensures.same)
 
 pub returns-in-Follow-clause-same : goal.returns-in-Follow-clause-same
 returns-in-Follow-clause-same g c = rw c.in-Follow.is (follow_same _ _ _ c.ready-in-Follow.ensures.same)
@@ -16,3 +17,9 @@ returns-in-Follow-clause-knows g c = rw c.in-Follow.is (same_knows _ _ c.ready-i
 
 pub returns-in-Follow-clause-task : goal.returns-in-Follow-clause-task
 returns-in-Follow-clause-task g c = rw c.in-Follow.is (same_watch _ _ c.ready-in-Follow.ensures.same.watched_same)
+
+pub returns-in-Insert-clause-at : goal.returns-in-Insert-clause-at
+returns-in-Insert-clause-at g c = rw c.in-Insert.is (λ calls k last at. c.ready.ensures.at k at)
+
+pub returns-in-Follow-clause-at : goal.returns-in-Follow-clause-at
+returns-in-Follow-clause-at g c = rw c.in-Follow.is (same_came _ _ c.ready-in-Follow.ensures.same)

@@ -1,6 +1,7 @@
-use Rattle.std.proofs.Common.{◌≡◌, length, take}
+use Rattle.std.proofs.Common.{◌≡◌, [], length, take}
 use Rattle.mg_jobs.specs.Headline.{AreFirst, DoTasks}
 use Rattle.mg_jobs.specs.Plan.{tasks}
+use Rattle.mg_jobs.specs.Progress.{AllAt}
 use Rattle.mg_jobs.specs.Runs.{AreNew}
 use Rattle.mg_jobs.proofs.run.Runner.new.Given as goal
 
@@ -9,5 +10,6 @@ invariant-loop-job l = record {
   new : AreNew l.players.items;
   first : AreFirst l.players.items;
   does : DoTasks (tasks (take l.job-index l.fn.jobs)) l.players.items;
+  at : AllAt (tasks (take l.job-index l.fn.jobs)) [] [] l.players.items;
   count : length l.players.items ≡ l.job-index;
 }

@@ -1,5 +1,5 @@
-use Rattle.std.proofs.Common.{◌≡◌, ◌<◌, ◌++◌, ◌∷◌, [], length, true, Some, refl, sym, ap, ◌∙◌, subst, arith}
-use Rattle.std.specs.Prelude.{slice_get}
+use Rattle.std.proofs.Common.{◌≡◌, ◌<◌, ◌++◌, ◌∷◌, [], length, refl, sym, ap, ◌∙◌, subst, arith, List}
+use Rattle.std.specs.Prelude.{slice_set}
 use Rattle.std.proofs.lemmas.Option.{slice_get_read}
 use Rattle.std.proofs.lemmas.Result.{err_from_is_err_and}
 use Rattle.mg_jobs.specs.Runs.{IsSameJob, ended_at, idle}
@@ -7,6 +7,8 @@ use Rattle.mg_jobs.specs.declared.outcome.Turned.{Turned}
 use Rattle.mg_jobs.specs.declared.run.Player.{Player}
 use Rattle.mg_jobs.proofs.Apart.{apart_as, on_err, same_at, same_job, same_jobs, stands_after}
 use Rattle.mg_jobs.proofs.Knowing.{knowing_on, tasks_after}
+use Rattle.mg_jobs.proofs.Advancing.{at_after}
+use Rattle.mg_jobs.specs.Progress.{AllAt}
 use Rattle.mg_jobs.proofs.run.Runner.turn.Goals as goal
 
 pub returns-then-at-len-clause-same : goal.returns-then-at-len-clause-same
@@ -98,3 +100,11 @@ returns-clause-tasks g c =
     let within : c.args.job < length c.args.self.now.players.items = omega (arith, c.len.ensures, c.if-at-len.false) in
     let at = slice_get_read c.args.self.now.players.items (length c.args.self.now.players.items) c.args.job c.index_mut-player.result.now refl within c.index_mut-player.ensures.value in
     tasks_after c.args.self.now.players.items c.args.job c.index_mut-player.result.now c.turn_of.new.player at c.turn_of.ensures.goes.task
+
+pub returns-clause-rows : goal.returns-clause-rows
+returns-clause-rows g c = λ ts order same all.
+    let ok = c.args.self.now.players.ok.0 in
+    let within : c.args.job < length c.args.self.now.players.items = omega (arith, c.len.ensures, c.if-at-len.false) in
+    let at = slice_get_read c.args.self.now.players.items (length c.args.self.now.players.items) c.args.job c.index_mut-player.result.now refl within c.index_mut-player.ensures.value in
+    subst (λ (ns : List Turned). AllAt ts (order ++ c.args.job ∷ []) ns (slice_set c.args.self.now.players.items c.args.job c.turn_of.new.player)) (sym (c.push_reserved.ensures ∙ ap (λ l. l ++ c.in_ok-note.note ∷ []) c.in_ok-reserve.ensures.items))
+    (at_after order c.args.self.now.turns.items c.args.job c.in_ok-note.note same ts c.args.self.now.players.items c.index_mut-player.result.now c.turn_of.new.player at c.in_ok-note.ensures.comes all)

@@ -1,0 +1,333 @@
+-- How far jobs come, turn by turn.
+use Rattle.std.proofs.Common.{◌≡◌, ◌+◌, ◌-◌, ◌<◌, ◌≤◌, ◌⊎◌, ℕ, zero, suc, Bool, true, false, cond, List, [], ◌∷◌, ◌++◌, Some, Result, Ok, Err, refl, sym, ap, ◌∙◌, subst, inl, inr, length, take, arith, append_assoc, append-nil, length-append}
+use Rattle.std.specs.Prelude.{slice_get, slice_set, nat_eq, nat_lt, IfOk}
+use Rattle.std.proofs.lemmas.Bool.{cases_eq, eq-eqb, ne_eqb, lt-ltb}
+use Rattle.std.proofs.lemmas.List.{length-map}
+use Rattle.mg_link.specs.Causes.{Rose}
+use Rattle.mg_link.specs.declared.error.Error.{Error}
+use Rattle.mg_change.specs.Polls.{Pends}
+use Rattle.mg_change.specs.declared.closing.Closing.{Closing}
+use Rattle.mg_change.specs.declared.event_poll.EventPoll.{EventPoll}
+use Rattle.mg_change.specs.declared.event_poll.EventPoll.TheVariants as polls
+use Rattle.mg_change.specs.declared.opening.Opening.{Opening}
+use Rattle.mg_change.specs.declared.stream.ChangeStream.{ChangeStream}
+use Rattle.mg_jobs.specs.Counts.{PendedAs}
+use Rattle.mg_jobs.specs.Follows.{HasEnded, HasGiven, IsFailed, IsUnfinished}
+use Rattle.mg_jobs.specs.Headline.{DoTasks, Does}
+use Rattle.mg_jobs.specs.Plan as plan
+use Rattle.mg_jobs.specs.Plan.{Task, task, tasks}
+use Rattle.mg_jobs.specs.Playing.{IsSameFollow, end_of, follow_ended, inserts_ended}
+use Rattle.mg_jobs.specs.Progress.{AllAt, AllPlayed, AllShow, Came, CloseGoes, FollowAt, FollowGoes, FollowPlayed, GoesBy, InsertAt, InsertGoes, InsertPlayed, InsertReady, IsAt, IsFinished, IsPlayed, JobGoes, OpenPlayed, RestGoes, Shown, Shows, TurnsBy, calls_of, came, one_unless, pended_since, pends_last, turns_done}
+use Rattle.mg_jobs.specs.Runs.{has_ended, idle}
+use Rattle.mg_jobs.specs.declared.outcome.Ended.{Ended}
+use Rattle.mg_jobs.specs.declared.outcome.Ended.TheVariants as ended
+use Rattle.mg_jobs.specs.declared.outcome.Outcome.{Outcome}
+use Rattle.mg_jobs.specs.declared.outcome.Outcome.TheVariants as outcome
+use Rattle.mg_jobs.specs.declared.outcome.Played.{Played}
+use Rattle.mg_jobs.specs.declared.outcome.Turned.{Turned}
+use Rattle.mg_jobs.specs.declared.player.FollowPlayer.{FollowPlayer}
+use Rattle.mg_jobs.specs.declared.player.InsertStage.{InsertStage}
+use Rattle.mg_jobs.specs.declared.player.InsertStage.TheVariants as inserts
+use Rattle.mg_jobs.specs.declared.player.Stage.{Stage}
+use Rattle.mg_jobs.specs.declared.player.Stage.TheVariants as stage
+use Rattle.mg_jobs.specs.declared.run.Player.{Player}
+use Rattle.mg_jobs.specs.declared.run.Player.TheVariants as player
+use Rattle.mg_jobs.specs.declared.script.Job.{Job}
+use Rattle.mg_jobs.proofs.Apart.{get_set_other, get_set_same, same_some}
+use Rattle.mg_jobs.proofs.Knowing.{get_length, length_take, map_joined, one_more, take_next}
+
+-- ---- a follow
+
+pended_on : (pended : Bool) (old mid new : ℕ) → mid ≡ old → PendedAs pended mid new → PendedAs pended old new
+pended_on pended old mid new same h = subst (λ m. PendedAs pended m new) same h
+
+pub never_open : (before now : ℕ) (c c' : Came) → now ≡ before → IsFailed c'.opened → c'.closed ≡ c.closed → c'.answered ≡ c.answered → FollowGoes before now stage.Unopened c stage.Ended c'
+never_open before now c c' same failed closed answered = (false, same, λ calls k last at. inl (record {
+  opened = failed;
+  closed = subst (λ e. IsUnfinished e) (sym closed) at.closed;
+  no_answer = answered ∙ at.no_answer;
+  some = omega arith;
+}))
+
+pub open_waits : (before now : ℕ) (o o' : Opening) (c : Came) → Rose before now → FollowGoes before now (stage.Opens o) c (stage.Opens o') c
+open_waits before now o o' c rose = (true, rose, λ calls k last at. record {
+  none = omega (arith, at.none);
+  opened = at.opened;
+  closed = at.closed;
+  no_answer = at.no_answer;
+  all_left = at.all_left;
+})
+
+pub open_goes : (old mid new : ℕ) (o : Opening) (c c' c'' : Came) (s : Stage) → mid ≡ old → HasGiven c'.opened → c'.closed ≡ c.closed → c'.answered ≡ c.answered → c'.left ≡ c.left → RestGoes mid new c' s c'' → FollowGoes old new (stage.Opens o) c s c''
+open_goes old mid new o c c' c'' s same given closed answered left g = (g.0, pended_on g.0 old mid new same g.1, λ calls k last at. g.2 calls k last (record {
+  opened = given;
+  closed = subst (λ e. IsUnfinished e) (sym closed) at.closed;
+  answered = omega (arith, answered, at.no_answer, at.none);
+  rest = omega (arith, answered, left, at.no_answer, at.all_left);
+}))
+
+pub stays_open : (before : ℕ) (stream : ChangeStream) (c : Came) → 0 < c.left → RestGoes before before c (stage.Open stream) c
+stays_open before stream c more = (false, refl, λ calls k last at. record {
+  opened = at.opened;
+  closed = at.closed;
+  answered = omega (arith, at.answered);
+  rest = at.rest;
+  more = more;
+})
+
+pub goes_to_close : (before now : ℕ) (c c' : Came) (s : Stage) → c.left ≡ 0 → CloseGoes before now c s c' → RestGoes before now c s c'
+goes_to_close before now c c' s none g = (g.0, g.1, λ calls k last at. g.2 calls k last (record {
+  opened = at.opened;
+  closed = at.closed;
+  answered = omega (arith, at.rest, none);
+  all = omega (arith, at.rest, at.answered, none);
+}))
+
+pends_so : (poll : EventPoll) (before now : ℕ) → poll ≡ polls.Pending → Pends poll before now → Rose before now
+pends_so poll before now is h = subst (λ q. Pends q before now) is h
+
+pends_not : (poll : EventPoll) (before now : ℕ) → HasEnded poll → Pends poll before now → now ≡ before
+pends_not polls.Pending before now over h = absurd over
+pends_not (polls.Ready event) before now over h = h
+pends_not (polls.Failed e) before now over h = h
+
+pub ask_waits : (before now : ℕ) (stream stream' : ChangeStream) (c : Came) (poll : EventPoll) → poll ≡ polls.Pending → Pends poll before now → FollowGoes before now (stage.Open stream) c (stage.Open stream') c
+ask_waits before now stream stream' c poll is pended = (true, pends_so poll before now is pended, λ calls k last at. record {
+  opened = at.opened;
+  closed = at.closed;
+  answered = omega (arith, at.answered);
+  rest = at.rest;
+  more = at.more;
+})
+
+pub ask_goes : (old mid new : ℕ) (stream : ChangeStream) (c c' c'' : Came) (s : Stage) (poll : EventPoll) → HasEnded poll → Pends poll old mid → c'.opened ≡ c.opened → c'.closed ≡ c.closed → c'.answered ≡ c.answered + 1 → c'.left ≡ c.left - 1 → RestGoes mid new c' s c'' → FollowGoes old new (stage.Open stream) c s c''
+ask_goes old mid new stream c c' c'' s poll over pended opened closed answered left g = (g.0, pended_on g.0 old mid new (pends_not poll old mid over pended) g.1, λ calls k last at. g.2 calls k last (record {
+  opened = subst (λ e. HasGiven e) (sym opened) at.opened;
+  closed = subst (λ e. IsUnfinished e) (sym closed) at.closed;
+  answered = omega (arith, answered, at.answered);
+  rest = omega (arith, answered, left, at.rest, at.more);
+}))
+
+pub close_waits : (before now : ℕ) (closing : Closing) (c : Came) → Rose before now → CloseGoes before now c (stage.Closes closing) c
+close_waits before now closing c rose = (true, rose, λ calls k last at. (
+  record { opened = at.opened; closed = at.closed; answered = at.answered; all = omega (arith, at.all) },
+  refl,
+))
+
+pub close_done : (before now : ℕ) (c c' : Came) → now ≡ before → IsFinished c'.closed → c'.opened ≡ c.opened → c'.answered ≡ c.answered → CloseGoes before now c stage.Ended c'
+close_done before now c c' same finished opened answered = (false, same, λ calls k last at. inr (record {
+  opened = subst (λ e. HasGiven e) (sym opened) at.opened;
+  closed = finished;
+  answered = answered ∙ at.answered;
+  all = omega (arith, at.all);
+}))
+
+pub closing_goes : (before now : ℕ) (closing : Closing) (c c' : Came) (s : Stage) → CloseGoes before now c s c' → FollowGoes before now (stage.Closes closing) c s c'
+closing_goes before now closing c c' s g = (g.0, g.1, λ calls k last at. g.2 calls k last at.0)
+
+ended_on : (calls k : ℕ) (last last' : Bool) (c : Came) → FollowAt calls stage.Ended c k last → FollowAt calls stage.Ended c (k + 1) last'
+ended_on calls k last last' c at =
+    elim at [
+      | inl never ↦ inl (record { opened = never.opened; closed = never.closed; no_answer = never.no_answer; some = omega arith })
+      | inr closed ↦ inr (record { opened = closed.opened; closed = closed.closed; answered = closed.answered; all = omega (arith, closed.all) })
+    ]
+
+pub stays_ended : (before : ℕ) (c : Came) → FollowGoes before before stage.Ended c stage.Ended c
+stays_ended before c = (false, refl, λ calls k last at. ended_on calls k last false c at)
+
+pub same_came : (f f' : FollowPlayer) → IsSameFollow f f' → (calls k : ℕ) (last : Bool) → FollowAt calls f.stage (came f) k last → FollowAt calls f'.stage (came f') k last
+same_came f f' same calls k last at =
+    let is : came f' ≡ came f = cc (same.opened_same, same.closed_same, ap (λ xs. length xs) same.answers_same, same.left_same) in
+    subst (λ s. FollowAt calls s (came f') k last) (sym same.stage_same) (subst (λ c. FollowAt calls f.stage c k last) (sym is) at)
+
+-- ---- an insert
+
+pub insert_waits : (before now : ℕ) (p p' : InsertStage) → Rose before now → ((k : ℕ) → InsertReady p k → InsertAt p' k) → InsertGoes before now p p'
+insert_waits before now p p' rose so = (true, rose, λ calls k last at. subst (λ n. InsertAt p' n) (omega arith) (so k at))
+
+pub insert_done : (before now : ℕ) (p : InsertStage) (e : Ended ℕ) → now ≡ before → IsFinished e → InsertGoes before now p (inserts.Ended e)
+insert_done before now p e same finished = (false, same, λ calls k last at. (omega arith, finished))
+
+pub insert_over : (before : ℕ) (e : Ended ℕ) → InsertGoes before before (inserts.Ended e) (inserts.Ended e)
+insert_over before e = (false, refl, λ calls k last at. (omega arith, at))
+
+insert_stays : (k : ℕ) (p : InsertStage) → inserts_ended p ≡ true → InsertAt p k → InsertAt p (k + 1)
+insert_stays k inserts.Unsent over at = absurd cc
+insert_stays k (inserts.Goes inserting) over at = absurd cc
+insert_stays k (inserts.Ended e) over at = (omega arith, at.1)
+
+-- ---- a job
+
+follow_stays : (calls k : ℕ) (last : Bool) (s : Stage) (c : Came) → follow_ended s ≡ true → FollowAt calls s c k last → FollowAt calls s c (k + 1) false
+follow_stays calls k last stage.Unopened c over at = absurd cc
+follow_stays calls k last (stage.Opens opening) c over at = absurd cc
+follow_stays calls k last (stage.Open stream) c over at = absurd cc
+follow_stays calls k last (stage.Closes closing) c over at = absurd cc
+follow_stays calls k last stage.Ended c over at = ended_on calls k last false c at
+
+-- the turn of a job that has ended counts as one that did not pend
+pub over_turns : (p : Player) → has_ended p ≡ true → TurnsBy idle p p
+over_turns (player.Insert job) over calls k last at = insert_stays k job.stage over at
+over_turns (player.Follow job) over calls k last at = follow_stays calls k last job.stage (came job) over at
+over_turns player.Put over calls k last at = tt
+over_turns player.Get over calls k last at = tt
+
+counted_so : (pended : Bool) (now : ℕ) → PendedAs pended 0 now → nat_lt 0 now ≡ pended
+counted_so true now h = let some : 1 ≤ now = h in lt-ltb 0 now (omega (arith, some))
+counted_so false now h = ap (nat_lt 0) h
+
+-- over a link that counts from 0 the note is whether the turn pended
+pub noted_so : (before now : ℕ) (note : Turned) (p p' : Player) → before ≡ 0 → note.pended ≡ nat_lt 0 now → JobGoes before now p p' → GoesBy note p p'
+noted_so before now note p p' none is g calls k last at =
+    let same : note.pended ≡ g.0 = is ∙ counted_so g.0 now (subst (λ m. PendedAs g.0 m now) none g.1) in
+    subst (λ b. IsAt calls p' (k + one_unless b) b) (sym same) (g.2 calls k last at)
+
+-- ---- all jobs
+
+turns_more : (i n : ℕ) (note : Turned) (order : List ℕ) (notes : List Turned) → length order ≡ length notes → turns_done i (order ++ n ∷ []) (notes ++ note ∷ []) ≡ turns_done i order notes + cond (nat_eq i n) (one_unless note.pended) 0
+turns_more i n note [] [] same = omega arith
+turns_more i n note [] (x ∷ xs) same = absurd cc
+turns_more i n note (m ∷ order) [] same = absurd cc
+turns_more i n note (m ∷ order) (x ∷ xs) same = let more = turns_more i n note order xs (omega (arith, same)) in omega (arith, more)
+
+last_more : (last : Bool) (i n : ℕ) (note : Turned) (order : List ℕ) (notes : List Turned) → length order ≡ length notes → pended_since last i (order ++ n ∷ []) (notes ++ note ∷ []) ≡ cond (nat_eq i n) note.pended (pended_since last i order notes)
+last_more last i n note [] [] same = refl
+last_more last i n note [] (x ∷ xs) same = absurd cc
+last_more last i n note (m ∷ order) [] same = absurd cc
+last_more last i n note (m ∷ order) (x ∷ xs) same = last_more (cond (nat_eq i m) x.pended last) i n note order xs (omega (arith, same))
+
+module _ (order : List ℕ) (notes : List Turned) (k : ℕ) (note : Turned) (same : length order ≡ length notes) where
+  at_here : (i calls : ℕ) (p' : Player) → i ≡ k → IsAt calls p' (turns_done i order notes + one_unless note.pended) note.pended → IsAt calls p' (turns_done i (order ++ k ∷ []) (notes ++ note ∷ [])) (pends_last i (order ++ k ∷ []) (notes ++ note ∷ []))
+  at_here i calls p' e at =
+      let count : turns_done i (order ++ k ∷ []) (notes ++ note ∷ []) ≡ turns_done i order notes + one_unless note.pended = turns_more i k note order notes same ∙ ap (λ b. turns_done i order notes + cond b (one_unless note.pended) 0) (eq-eqb i k e) in
+      let newest : pends_last i (order ++ k ∷ []) (notes ++ note ∷ []) ≡ note.pended = last_more false i k note order notes same ∙ ap (λ b. cond b note.pended (pends_last i order notes)) (eq-eqb i k e) in
+      subst (λ n. IsAt calls p' n (pends_last i (order ++ k ∷ []) (notes ++ note ∷ []))) (sym count) (subst (λ b. IsAt calls p' (turns_done i order notes + one_unless note.pended) b) (sym newest) at)
+
+  at_other : (i calls : ℕ) (p : Player) → (i ≡ k → ⊥) → IsAt calls p (turns_done i order notes) (pends_last i order notes) → IsAt calls p (turns_done i (order ++ k ∷ []) (notes ++ note ∷ [])) (pends_last i (order ++ k ∷ []) (notes ++ note ∷ []))
+  at_other i calls p ne at =
+      let more = turns_more i k note order notes same ∙ ap (λ b. turns_done i order notes + cond b (one_unless note.pended) 0) (ne_eqb i k ne) in
+      let count : turns_done i (order ++ k ∷ []) (notes ++ note ∷ []) ≡ turns_done i order notes = omega (arith, more) in
+      let newest : pends_last i (order ++ k ∷ []) (notes ++ note ∷ []) ≡ pends_last i order notes = last_more false i k note order notes same ∙ ap (λ b. cond b note.pended (pends_last i order notes)) (ne_eqb i k ne) in
+      subst (λ n. IsAt calls p n (pends_last i (order ++ k ∷ []) (notes ++ note ∷ []))) (sym count) (subst (λ b. IsAt calls p (turns_done i order notes) b) (sym newest) at)
+
+  -- one job took a turn with a note
+  pub at_after : (ts : List Task) (players : List Player) (p p' : Player) → slice_get players k ≡ Some p → TurnsBy note p p' → AllAt ts order notes players → AllAt ts (order ++ k ∷ []) (notes ++ note ∷ []) (slice_set players k p')
+  at_after ts players p p' there turn all i t a ht ha =
+      elim (cases_eq i k) [
+        | inl e ↦
+            let here : slice_get players i ≡ Some p = ap (slice_get players) e ∙ there in
+            let is : p' ≡ a = same_some p' a (sym (get_set_same players k p p' there) ∙ ap (λ n. slice_get (slice_set players k p') n) (sym e) ∙ ha) in
+            subst (λ (x : Player). IsAt (calls_of t) x (turns_done i (order ++ k ∷ []) (notes ++ note ∷ [])) (pends_last i (order ++ k ∷ []) (notes ++ note ∷ []))) is (at_here i (calls_of t) p' e (turn (calls_of t) _ _ (all i t p ht here)))
+        | inr ne ↦ at_other i (calls_of t) a ne (all i t a ht (get_set_other players k i a p' ne ha))
+      ]
+
+pairs_more : {A B : Type 0} (R : A → B → Type 0) (xs : List A) (ys : List B) (x : A) (y : B) → length ys ≡ length xs → ((i : ℕ) (a : A) (b : B) → slice_get xs i ≡ Some a → slice_get ys i ≡ Some b → R a b) → R x y → (i : ℕ) (a : A) (b : B) → slice_get (xs ++ x ∷ []) i ≡ Some a → slice_get (ys ++ y ∷ []) i ≡ Some b → R a b
+pairs_more R [] [] x y same all is zero a b ha hb = subst (λ z. R a z) (same_some y b hb) (subst (λ z. R z y) (same_some x a ha) is)
+pairs_more R [] [] x y same all is (suc i) a b ha hb = absurd cc
+pairs_more R [] (w ∷ ws) x y same all is i a b ha hb = absurd cc
+pairs_more R (v ∷ vs) [] x y same all is i a b ha hb = absurd cc
+pairs_more R (v ∷ vs) (w ∷ ws) x y same all is zero a b ha hb = all zero a b ha hb
+pairs_more R (v ∷ vs) (w ∷ ws) x y same all is (suc i) a b ha hb = pairs_more R vs ws x y (omega (arith, same)) (λ j c d hc hd. all (suc j) c d hc hd) is i a b ha hb
+
+-- one new job more
+pub at_first_more : (jobs : List Job) (k : ℕ) (players : List Player) (job : Job) (p : Player) → slice_get jobs k ≡ Some job → length players ≡ k → AllAt (tasks (take k jobs)) [] [] players → IsAt (calls_of (task job)) p 0 false → AllAt (tasks (take (k + 1) jobs)) [] [] (players ++ p ∷ [])
+at_first_more jobs k players job p there count all is =
+    subst (λ ts. AllAt ts [] [] (players ++ p ∷ [])) (sym (ap (λ n. tasks (take n jobs)) (sym (one_more k)) ∙ ap tasks (take_next jobs k job there) ∙ map_joined task (take k jobs) (job ∷ [])))
+    (pairs_more (λ t q. IsAt (calls_of t) q 0 false) (tasks (take k jobs)) players (task job) p (count ∙ sym (length-map (take k jobs) task ∙ length_take jobs k job there)) all is)
+
+-- one number of the order more was gone through
+pub at_next : (ts : List Task) (order : List ℕ) (k n : ℕ) (notes : List Turned) (players : List Player) → slice_get order k ≡ Some n → AllAt ts (take k order ++ n ∷ []) notes players → AllAt ts (take (k + 1) order) notes players
+at_next ts order k n notes players there all = subst (λ ns. AllAt ts ns notes players) (sym (take_next order k n there) ∙ ap (λ m. take m order) (one_more k)) all
+
+pub shown_none : (players : List Player) → Shown players players []
+shown_none players = record { gone = []; whole = refl; count = refl; shows = λ i p r hp hr. absurd cc }
+
+pub shown_more : (players rest rest' : List Player) (outcomes : List Outcome) (p : Player) (r : Outcome) → rest ≡ p ∷ rest' → Shown players rest outcomes → Shows p r → Shown players rest' (outcomes ++ r ∷ [])
+shown_more players rest rest' outcomes p r is shown of =
+    record {
+      gone = shown.gone ++ p ∷ [];
+      whole = shown.whole ∙ ap (λ l. shown.gone ++ l) is ∙ sym (append_assoc shown.gone (p ∷ []) rest');
+      count = length-append shown.gone (p ∷ []) ∙ ap (λ n. n + 1) shown.count ∙ sym (length-append outcomes (r ∷ []));
+      shows = pairs_more Shows shown.gone outcomes p r (sym shown.count) shown.shows of;
+    }
+
+pub shown_all : (players rest : List Player) (outcomes : List Outcome) → rest ≡ [] → Shown players rest outcomes → AllShow players outcomes
+shown_all players rest outcomes is shown = subst (λ ps. AllShow ps outcomes) (sym (shown.whole ∙ ap (λ l. shown.gone ++ l) is ∙ append-nil shown.gone)) shown.shows
+
+-- ---- at the end
+
+insert_played : (k : ℕ) (p : InsertStage) (e : Ended ℕ) → e ≡ end_of p → InsertAt p k → InsertPlayed e k
+insert_played k inserts.Unsent e is at = subst (λ x. InsertPlayed x k) (sym is) at
+insert_played k (inserts.Goes inserting) e is at = subst (λ x. InsertPlayed x k) (sym is) at
+insert_played k (inserts.Ended f) e is at = subst (λ x. InsertPlayed x k) (sym is) (finished_so f at.0 at.1)
+  where
+    finished_so : (f : Ended ℕ) → 1 ≤ k → IsFinished f → InsertPlayed f k
+    finished_so ended.Unfinished some finished = absurd finished
+    finished_so (ended.Gave n) some finished = some
+    finished_so (ended.Failed x) some finished = some
+
+given_so : (opened closed : Ended (Unit {0})) (calls answered k : ℕ) (last : Bool) → HasGiven opened → OpenPlayed closed calls answered k last → FollowPlayed opened closed calls answered k last
+given_so ended.Unfinished closed calls answered k last given h = absurd given
+given_so (ended.Gave x) closed calls answered k last given h = h
+given_so (ended.Failed e) closed calls answered k last given h = absurd given
+
+not_open_so : (opened closed : Ended (Unit {0})) (calls answered k : ℕ) (last : Bool) → IsUnfinished opened → (k ≡ 0) × (answered ≡ 0) × IsUnfinished closed → FollowPlayed opened closed calls answered k last
+not_open_so ended.Unfinished closed calls answered k last un h = h
+not_open_so (ended.Gave x) closed calls answered k last un h = absurd un
+not_open_so (ended.Failed e) closed calls answered k last un h = absurd un
+
+failed_so : (opened closed : Ended (Unit {0})) (calls answered k : ℕ) (last : Bool) → IsFailed opened → (1 ≤ k) × (answered ≡ 0) × IsUnfinished closed → FollowPlayed opened closed calls answered k last
+failed_so ended.Unfinished closed calls answered k last failed h = absurd failed
+failed_so (ended.Gave x) closed calls answered k last failed h = absurd failed
+failed_so (ended.Failed e) closed calls answered k last failed h = h
+
+open_so : (closed : Ended (Unit {0})) (calls answered k : ℕ) (last : Bool) → IsUnfinished closed → ((answered + 1 ≡ k) × (answered < calls)) ⊎ ((answered ≡ calls) × (k ≡ calls) × (last ≡ true)) → OpenPlayed closed calls answered k last
+open_so ended.Unfinished calls answered k last un h = h
+open_so (ended.Gave x) calls answered k last un h = absurd un
+open_so (ended.Failed e) calls answered k last un h = absurd un
+
+closed_so : (closed : Ended (Unit {0})) (calls answered k : ℕ) (last : Bool) → IsFinished closed → (answered ≡ calls) × (calls + 1 ≤ k) → OpenPlayed closed calls answered k last
+closed_so ended.Unfinished calls answered k last finished h = absurd finished
+closed_so (ended.Gave x) calls answered k last finished h = h
+closed_so (ended.Failed e) calls answered k last finished h = h
+
+follow_played : (calls k : ℕ) (last : Bool) (s : Stage) (c : Came) → FollowAt calls s c k last → FollowPlayed c.opened c.closed calls c.answered k last
+follow_played calls k last stage.Unopened c at = not_open_so c.opened c.closed calls c.answered k last at.opened (at.none, at.no_answer, at.closed)
+follow_played calls k last (stage.Opens opening) c at = not_open_so c.opened c.closed calls c.answered k last at.opened (at.none, at.no_answer, at.closed)
+follow_played calls k last (stage.Open stream) c at = given_so c.opened c.closed calls c.answered k last at.opened (open_so c.closed calls c.answered k last at.closed (inl (at.answered, omega (arith, at.rest, at.more))))
+follow_played calls k last (stage.Closes closing) c at = given_so c.opened c.closed calls c.answered k last at.0.opened (open_so c.closed calls c.answered k last at.0.closed (inr (at.0.answered, at.0.all, at.1)))
+follow_played calls k last stage.Ended c at =
+    elim at [
+      | inl never ↦ failed_so c.opened c.closed calls c.answered k last never.opened (never.some, never.no_answer, never.closed)
+      | inr closed ↦ given_so c.opened c.closed calls c.answered k last closed.opened (closed_so c.closed calls c.answered k last closed.closed (closed.answered, closed.all))
+    ]
+
+played_at : (t : Task) (p : Player) (r : Outcome) (k : ℕ) (last : Bool) → Does t p → Shows p r → IsAt (calls_of t) p k last → IsPlayed t k last r
+played_at (plan.put db bucket name id chunk pieces) p r k last does shows at = tt
+played_at (plan.get db bucket id read) p r k last does shows at = tt
+played_at (plan.insert ns docs) (player.Follow job) r k last does shows at = absurd does
+played_at (plan.insert ns docs) player.Put r k last does shows at = absurd does
+played_at (plan.insert ns docs) player.Get r k last does shows at = absurd does
+played_at (plan.insert ns docs) (player.Insert job) (outcome.Insert e) k last does shows at = insert_played k job.stage e shows at
+played_at (plan.insert ns docs) (player.Insert job) (outcome.Follow opened answers token alive closed) k last does shows at = absurd shows
+played_at (plan.insert ns docs) (player.Insert job) (outcome.Put e) k last does shows at = absurd shows
+played_at (plan.insert ns docs) (player.Insert job) (outcome.Get bytes e) k last does shows at = absurd shows
+played_at (plan.follow on calls start filter batch) (player.Insert job) r k last does shows at = absurd does
+played_at (plan.follow on calls start filter batch) player.Put r k last does shows at = absurd does
+played_at (plan.follow on calls start filter batch) player.Get r k last does shows at = absurd does
+played_at (plan.follow on calls start filter batch) (player.Follow job) (outcome.Insert e) k last does shows at = absurd shows
+played_at (plan.follow on calls start filter batch) (player.Follow job) (outcome.Put e) k last does shows at = absurd shows
+played_at (plan.follow on calls start filter batch) (player.Follow job) (outcome.Get bytes e) k last does shows at = absurd shows
+played_at (plan.follow on calls start filter batch) (player.Follow job) (outcome.Follow opened answers token alive closed) k last does shows at =
+    subst (λ o. FollowPlayed o closed calls (length answers.items) k last) (sym shows.0) (subst (λ e. FollowPlayed job.opened e calls (length answers.items) k last) (sym shows.1) (subst (λ n. FollowPlayed job.opened job.closed calls n k last) (sym (ap (λ a. length a.items) shows.2)) (follow_played calls k last job.stage (came job) at)))
+
+-- where each job is by its turns says what became of it
+pub all_played : (ts : List Task) (order : List ℕ) (players : List Player) (notes : List Turned) (outcomes : List Outcome) → length outcomes ≡ length players → DoTasks ts players → AllAt ts order notes players → AllShow players outcomes → AllPlayed ts order notes outcomes
+all_played ts order players notes outcomes count does all shows i t r ht hr =
+    let p = get_length players outcomes count i r hr in
+    played_at t p.0 r _ _ (does i t p.0 ht p.1) (shows i p.0 r p.1 hr) (all i t p.0 ht p.1)
+
+-- the same of a run, unless memory ran out
+pub rows_so : (ts : List Task) (order : List ℕ) (players : List Player) (notes : List Turned) (result : Result Played Error) → IfOk result (λ p. length p.outcomes.items ≡ length players) → IfOk result (λ p. AllShow players p.outcomes.items) → IfOk result (λ p. p.turns.items ≡ notes) → DoTasks ts players → AllAt ts order notes players → IfOk result (λ p. AllPlayed ts order p.turns.items p.outcomes.items)
+rows_so ts order players notes (Ok p) count shows turns does all = subst (λ ns. AllPlayed ts order ns p.outcomes.items) (sym turns) (all_played ts order players notes p.outcomes.items count does all shows)
+rows_so ts order players notes (Err e) count shows turns does all = tt

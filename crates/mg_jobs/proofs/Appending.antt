@@ -1,0 +1,234 @@
+-- What the commands of an insert appended.
+use Rattle.std.proofs.Common.{◌≡◌, ℕ, ℤ, zero, suc, ◌+◌, ◌<◌, ◌≤◌, true, List, [], ◌∷◌, ◌++◌, length, Option, Some, None, refl, sym, ap, ◌∙◌, subst, inl, inr, take, arith, append_assoc, get_or}
+use Rattle.std.specs.Prelude.{slice_get, codes}
+use Rattle.std.specs.Option.{option_flatten}
+use Rattle.mg_bson.specs.Tree.{Tree, Fields}
+use Rattle.mg_bson.specs.Find.{get}
+use Rattle.mg_bson.specs.declared.object_id.ObjectId.{ObjectId}
+use Rattle.mg_link.specs.Commands.{asked, asks_insert, inserted, told}
+use Rattle.mg_link.specs.Exec.{Stage, unsent, first, second, Sending, Attempt, not_sent, waits, answered, Begins, GoesOn, Tries, Gives, Runs, IsSuccess, holding, ticket_at, ticket_of}
+use Rattle.mg_link.specs.Link.{Awaited, Told}
+use Rattle.mg_link.specs.Log.{Sight, waiting, reply, Call, see}
+use Rattle.mg_link.specs.Namespace.{Space}
+use Rattle.mg_link.specs.Owner.{IsGrown}
+use Rattle.mg_link.specs.declared.action.Step.{Step}
+use Rattle.mg_link.specs.declared.action.Step.TheVariants as step
+use Rattle.mg_link.proofs.Owners.{grown_push, grown_see}
+use Rattle.mg_link.proofs.Places.{get_seam, get_within}
+use Rattle.mg_jobs.specs.Appended.{IsWithId, AreWithIds, InsertsAt, Piece, ArePieces, InsertedBelow, Appended}
+use Rattle.mg_jobs.specs.Underway.{with_id, IsBatch, IsDrawn, AreDrawn, sent_of, Flies, Holding}
+
+-- ---- a log that grew
+
+pub inserts_grown : (calls calls' : List Call) (k : ℕ) (space : Space) (ds : List Fields) → IsGrown calls calls' → InsertsAt calls k space ds → InsertsAt calls' k space ds
+inserts_grown calls calls' k space ds grown i =
+    let g = grown.keeps k i.call i.found in
+    record { call = g.0; bytes = i.bytes; count = i.count; found = g.1; asks = ap asked g.2 ∙ i.asks; saw = g.4 i.bytes i.saw; tells = i.tells }
+
+pieces_grown : (calls calls' : List Call) (k : ℕ) (space : Space) (sent : List Fields) (ps : List Piece) → IsGrown calls calls' → ArePieces calls k space sent ps → ArePieces calls' k space sent ps
+pieces_grown calls calls' k space sent [] grown are = are
+pieces_grown calls calls' k space sent (p ∷ ps) grown are =
+    (are.0, inserts_grown calls calls' p.at space p.documents grown are.1, (are.2.0, are.2.1, pieces_grown calls calls' p.at space are.2.0 ps grown are.2.2))
+
+pieces_below : (calls : List Call) (k k' : ℕ) (space : Space) (sent : List Fields) (ps : List Piece) → k ≤ k' → ArePieces calls k space sent ps → ArePieces calls k' space sent ps
+pieces_below calls k k' space sent [] le are = are
+pieces_below calls k k' space sent (p ∷ ps) le are = let lt = are.0 in (omega arith, are.1, are.2)
+
+-- what was inserted stays so
+pub below_on : (calls calls' : List Call) (k k' : ℕ) (space : Space) (sent : List Fields) → IsGrown calls calls' → k ≤ k' → InsertedBelow calls k space sent → InsertedBelow calls' k' space sent
+below_on calls calls' k k' space sent grown le i =
+    record { pieces = i.pieces; are = pieces_below calls' k k' space sent i.pieces le (pieces_grown calls calls' k space sent i.pieces grown i.are) }
+
+pub below_none : (calls : List Call) (k : ℕ) (space : Space) (sent : List Fields) → sent ≡ [] → InsertedBelow calls k space sent
+below_none calls k space sent none = record { pieces = []; are = none }
+
+-- one piece more
+pub below_more : (calls : List Call) (k k' : ℕ) (space : Space) (before piece : List Fields) → k < k' → InsertedBelow calls k space before → InsertsAt calls k space piece → InsertedBelow calls k' space (before ++ piece)
+below_more calls k k' space before piece lt done i = record { pieces = record { at = k; documents = piece } ∷ done.pieces; are = (lt, i, (before, refl, done.are)) }
+
+-- What was appended stays so when the log grows.
+pub appended_grown : (calls calls' : List Call) (space : Space) (ds : List Fields) (n : ℕ) → IsGrown calls calls' → length calls ≤ length calls' → Appended calls space ds n → Appended calls' space ds n
+appended_grown calls calls' space ds n grown le a = record { count = a.count; sent = a.sent; ids = a.ids; stands = below_on calls calls' (length calls) (length calls') space a.sent grown le a.stands }
+
+-- ---- documents with ids
+
+id_of : (d : Fields) (o : Option Tree) → get (codes "_id") d ≡ o → (get (codes "_id") d ≡ None → ⊥) → IsWithId d d
+id_of d None is has = absurd (has is)
+id_of d (Some t) is has = inl (t, is, refl)
+
+one_with_id : (d : Fields) (o : Option ObjectId) → IsDrawn d o → IsWithId d (with_id o d)
+one_with_id d None drawn = id_of d (get (codes "_id") d) refl drawn
+one_with_id d (Some id) drawn = inr (drawn, id.0, refl)
+
+pub all_with_ids : (ds : List Fields) (os : List (Option ObjectId)) → AreDrawn ds os → AreWithIds ds (sent_of os ds)
+all_with_ids [] [] drawn = tt
+all_with_ids (d ∷ ds) (o ∷ os) drawn = (one_with_id d o drawn.0, all_with_ids ds os drawn.1)
+all_with_ids [] (o ∷ os) drawn = tt
+all_with_ids (d ∷ ds) [] drawn = absurd drawn
+
+pub drawn_more : (ds : List Fields) (os : List (Option ObjectId)) (d : Fields) (o : Option ObjectId) → AreDrawn ds os → IsDrawn d o → AreDrawn (ds ++ d ∷ []) (os ++ o ∷ [])
+drawn_more [] [] d o drawn is = (is, tt)
+drawn_more (e ∷ ds) (p ∷ os) d o drawn is = (drawn.0, drawn_more ds os d o drawn.1 is)
+drawn_more [] (p ∷ os) d o drawn is = absurd drawn
+drawn_more (e ∷ ds) [] d o drawn is = absurd drawn
+
+pub sent_length : (os : List (Option ObjectId)) (ds : List Fields) → length (sent_of os ds) ≡ length ds
+sent_length os [] = refl
+sent_length [] (d ∷ ds) = ap suc (sent_length [] ds)
+sent_length (o ∷ os) (d ∷ ds) = ap suc (sent_length os ds)
+
+pub sent_at : (os : List (Option ObjectId)) (ds : List Fields) (i : ℕ) (d : Fields) → slice_get ds i ≡ Some d → slice_get (sent_of os ds) i ≡ Some (with_id (option_flatten (slice_get os i)) d)
+sent_at os [] i d h = absurd cc
+sent_at [] (e ∷ ds) zero d h = h
+sent_at [] (e ∷ ds) (suc i) d h = sent_at [] ds i d h
+sent_at (o ∷ os) (e ∷ ds) zero d h = let same : e ≡ d = cc in ap (λ (x : Fields). Some (with_id o x)) same
+sent_at (o ∷ os) (e ∷ ds) (suc i) d h = sent_at os ds i d h
+
+pub take_more : {A : Type 0} (xs : List A) (k : ℕ) (x : A) → slice_get xs k ≡ Some x → take (suc k) xs ≡ take k xs ++ x ∷ []
+take_more [] k x h = absurd cc
+take_more (y ∷ ys) zero x h = let same : y ≡ x = cc in ap (λ z. z ∷ []) same
+take_more (y ∷ ys) (suc k) x h = ap (λ l. y ∷ l) (take_more ys k x h)
+
+pub take_whole : {A : Type 0} (xs : List A) (k : ℕ) → length xs ≤ k → take k xs ≡ xs
+take_whole [] zero le = refl
+take_whole [] (suc k) le = refl
+take_whole (x ∷ xs) zero le = absurd (omega arith)
+take_whole (x ∷ xs) (suc k) le = ap (λ l. x ∷ l) (take_whole xs k (omega arith))
+
+one_more : (k : ℕ) → suc k ≡ k + 1
+one_more k = omega arith
+
+pub drawn_step : (ds : List Fields) (os : List (Option ObjectId)) (k : ℕ) (d : Fields) (o : Option ObjectId) → slice_get ds k ≡ Some d → AreDrawn (take k ds) os → IsDrawn d o → AreDrawn (take (k + 1) ds) (os ++ o ∷ [])
+drawn_step ds os k d o at drawn is =
+    subst (λ (n : ℕ). AreDrawn (take n ds) (os ++ o ∷ [])) (one_more k) (subst (λ (l : List Fields). AreDrawn l (os ++ o ∷ [])) (sym (take_more ds k d at)) (drawn_more (take k ds) os d o drawn is))
+
+pub drawn_all : (ds : List Fields) (os : List (Option ObjectId)) (k : ℕ) → length ds ≤ k → AreDrawn (take k ds) os → AreDrawn ds os
+drawn_all ds os k le drawn = subst (λ (l : List Fields). AreDrawn l os) (take_whole ds k le) drawn
+
+pub at_of : {A : Type 0} (xs : List A) (i : ℕ) (x : A) → i < length xs → x ≡ get_or xs i x → slice_get xs i ≡ Some x
+at_of [] i x lt is = absurd (omega arith)
+at_of (y ∷ ys) zero x lt is = ap (λ z. Some z) (sym is)
+at_of (y ∷ ys) (suc i) x lt is = at_of ys i x (omega arith) is
+
+pub past_of : {A : Type 0} (xs : List A) (i : ℕ) → length xs ≤ i → slice_get xs i ≡ None
+past_of [] i le = refl
+past_of (y ∷ ys) zero le = absurd (omega arith)
+past_of (y ∷ ys) (suc i) le = past_of ys i (omega arith)
+
+-- one document more in a command
+pub batch_more : (drawn : List (Option ObjectId)) (ds : List Fields) (from : ℕ) (batch : List Fields) (i : ℕ) (d e : Fields) (o : Option ObjectId) → slice_get ds i ≡ Some d → o ≡ option_flatten (slice_get drawn i) → e ≡ with_id o d → IsBatch drawn ds from batch i → IsBatch drawn ds from (batch ++ e ∷ []) (i + 1)
+batch_more drawn ds from batch i d e o at is_id is b =
+    let all : List Fields = sent_of drawn ds in
+    let here : slice_get all i ≡ Some e = sent_at drawn ds i d at ∙ ap (λ (x : Option ObjectId). Some (with_id x d)) (sym is_id) ∙ ap (λ (x : Fields). Some x) (sym is) in
+    ap (λ (n : ℕ). take n all) (sym (one_more i)) ∙ take_more all i e here ∙ ap (λ (l : List Fields). l ++ e ∷ []) b ∙ append_assoc (take from all) batch (e ∷ [])
+
+-- ---- a command that goes on
+
+see_here : (k : ℕ) (seen : Sight) (calls : List Call) (call : Call) → slice_get calls k ≡ Some call → slice_get (see k seen calls) k ≡ Some (record call { seen = seen })
+see_here k seen [] call h = absurd cc
+see_here zero seen (c ∷ calls) call h = let same : c ≡ call = cc in ap (λ (x : Call). Some (record x { seen = seen })) same
+see_here (suc k) seen (c ∷ calls) call h = see_here k seen calls call h
+
+module _ (space : Space) (before piece : List Fields) where
+  -- what was inserted before is so still, and so is this piece where a reply that was seen tells of no failure
+  record Told_of (calls : List Call) (seen : Sight) : Type 0 where
+    base : InsertedBelow calls (length calls) space before
+    more : (bytes : List ℕ) (count : ℤ) → seen ≡ reply bytes → told (asks_insert space piece true) bytes ≡ inserted count [] → InsertedBelow calls (length calls) space (before ++ piece)
+
+  abbrev Tried : Awaited → List Call → Attempt → Type 0
+  Tried awaited calls not_sent = InsertedBelow calls (length calls) space before
+  Tried awaited calls (waits ticket) = Flies awaited calls space before piece ticket
+  Tried awaited calls (answered seen) = Told_of calls seen
+
+  abbrev Leads : Awaited → Told → Attempt → Type 0
+  Leads awaited log attempt = (calls : List Call) × (log ≡ Some calls) × Tried awaited calls attempt
+
+  flies_base : (awaited : Awaited) (calls : List Call) (ticket : ℕ) → Flies awaited calls space before piece ticket → InsertedBelow calls (length calls) space before
+  flies_base awaited calls ticket f =
+      let within = get_within calls f.place f.call f.found in
+      below_on calls calls f.place (length calls) space before (record { keeps = λ k c h. (c, h, refl, refl, λ bytes e. e) }) (omega arith) f.done
+
+  base_of : (awaited : Awaited) (calls : List Call) (attempt : Attempt) → Tried awaited calls attempt → InsertedBelow calls (length calls) space before
+  base_of awaited calls not_sent t = t
+  base_of awaited calls (waits ticket) t = flies_base awaited calls ticket t
+  base_of awaited calls (answered seen) t = t.base
+
+  heard_at : (calls : List Call) (k : ℕ) (call : Call) (seen : Sight) → slice_get calls k ≡ Some call → call.seen ≡ seen → asked call.command ≡ asks_insert space piece true → InsertedBelow calls k space before → Told_of calls seen
+  heard_at calls k call seen found saw asks done =
+      let within = get_within calls k call found in
+      record {
+        base = below_on calls calls k (length calls) space before (record { keeps = λ k c h. (c, h, refl, refl, λ bytes e. e) }) (omega arith) done;
+        more = λ bytes count is tells. below_more calls k (length calls) space before piece within done (record { call = call; bytes = bytes; count = count; found = found; asks = asks; saw = saw ∙ is; tells = tells });
+      }
+
+  module _ (command : List ℕ) (asks : asked command ≡ asks_insert space piece true) where
+    begins_sent : (old new : Awaited) (log log' : Told) (calls : List Call) (attempt : Attempt) → log ≡ Some calls → InsertedBelow calls (length calls) space before → Begins old new log log' command attempt → Leads new log' attempt
+    begins_sent old new log log' calls not_sent told done b = (calls, b.log_same ∙ told, done)
+    begins_sent old new log log' calls (waits ticket) told done b =
+        let add = b.adds calls told in
+        let call : Call = record { command = command; position = add.0; seen = waiting } in
+        (calls ++ call ∷ [], add.1, record {
+          place = length calls;
+          call = call;
+          at = b.place calls told;
+          found = get_seam calls [] call;
+          asks = asks;
+          done = below_on calls (calls ++ call ∷ []) (length calls) (length calls) space before (grown_push calls call) (omega arith) done;
+        })
+    begins_sent old new log log' calls (answered seen) told done b =
+        let add = b.adds calls told in
+        let call : Call = record { command = command; position = add.0; seen = seen } in
+        (calls ++ call ∷ [], add.1, heard_at (calls ++ call ∷ []) (length calls) call seen (get_seam calls [] call) refl asks
+          (below_on calls (calls ++ call ∷ []) (length calls) (length calls) space before (grown_push calls call) (omega arith) done))
+
+    goes_on_sent : (old new : Awaited) (log log' : Told) (calls : List Call) (ticket : ℕ) (attempt : Attempt) → log ≡ Some calls → Flies old calls space before piece ticket → GoesOn old new log log' ticket attempt → Leads new log' attempt
+    goes_on_sent old new log log' calls ticket not_sent told f g = absurd g
+    goes_on_sent old new log log' calls ticket (waits given) told f g =
+        (calls, g.log_same ∙ told, record { place = f.place; call = f.call; at = g.rest given ∙ ap old g.same ∙ f.at; found = f.found; asks = f.asks; done = f.done })
+    goes_on_sent old new log log' calls ticket (answered seen) told f g =
+        let s = g.sees calls told in
+        let one : f.place ≡ s.0 = (let a = f.at in let b = s.2 in cc) in
+        let there : slice_get calls f.place ≡ Some s.1 = ap (λ n. slice_get calls n) one ∙ s.3 in
+        let same : f.call ≡ s.1 = (let a = f.found in cc) in
+        let waits : f.call.seen ≡ waiting = ap (λ (x : Call). x.seen) same ∙ s.4 in
+        (see f.place seen calls, s.5 ∙ ap (λ n. Some (see n seen calls)) (sym one), heard_at (see f.place seen calls) f.place (record f.call { seen = seen }) seen (see_here f.place seen calls f.call f.found) refl f.asks
+          (below_on calls (see f.place seen calls) f.place f.place space before (grown_see f.place seen calls f.call f.found waits) (omega arith) f.done))
+
+    tries_sent : (old new : Awaited) (log log' : Told) (calls : List Call) (stage : Stage) (attempt : Attempt) → log ≡ Some calls → Holding old calls space before piece (ticket_at stage) → Tries old new log log' command stage attempt → Leads new log' attempt
+    tries_sent old new log log' calls unsent attempt told h t = begins_sent old new log log' calls attempt told h t
+    tries_sent old new log log' calls (first ticket) attempt told h t = goes_on_sent old new log log' calls ticket attempt told h t
+    tries_sent old new log log' calls (second ticket) attempt told h t = goes_on_sent old new log log' calls ticket attempt told h t
+
+  -- what a poll of the command leads to
+  abbrev pub Ran : Awaited → List Call → Step Sending (List ℕ) → Type 0
+  Ran awaited calls (step.Pending s) = Holding awaited calls space before piece (ticket_of s)
+  Ran awaited calls (step.Done bytes) = IsSuccess bytes × ((count : ℤ) → told (asks_insert space piece true) bytes ≡ inserted count [] → InsertedBelow calls (length calls) space (before ++ piece))
+  Ran awaited calls (step.Failed e) = Unit {0}
+
+  abbrev pub LeadsTo : Awaited → Told → Step Sending (List ℕ) → Type 0
+  LeadsTo awaited log result = (calls : List Call) × (log ≡ Some calls) × Ran awaited calls result
+
+  flies_held : (awaited : Awaited) (calls : List Call) (attempt : Attempt) (ticket : ℕ) (held : Option ℕ) → attempt ≡ waits ticket → held ≡ Some ticket → Tried awaited calls attempt → Holding awaited calls space before piece held
+  flies_held awaited calls attempt ticket held is is_held t = subst (Holding awaited calls space before piece) (sym is_held) (subst (Tried awaited calls) is t)
+
+  done_told : (awaited : Awaited) (calls : List Call) (attempt : Attempt) (bytes : List ℕ) → attempt ≡ answered (reply bytes) → Tried awaited calls attempt → (count : ℤ) → told (asks_insert space piece true) bytes ≡ inserted count [] → InsertedBelow calls (length calls) space (before ++ piece)
+  done_told awaited calls attempt bytes is t count tells = let h = subst (Tried awaited calls) is t in h.more bytes count refl tells
+
+  gives_sent : (awaited : Awaited) (log : Told) (attempt : Attempt) (wire : ℤ) (hold : ℕ → Sending) (result : Step Sending (List ℕ)) → ((ticket : ℕ) → ticket_of (hold ticket) ≡ Some ticket) → Gives attempt wire hold result → Leads awaited log attempt → LeadsTo awaited log result
+  gives_sent awaited log attempt wire hold (step.Pending s) holds g l = (l.0, l.1, flies_held awaited l.0 attempt g.0 (ticket_of s) g.1 (ap (λ (x : Sending). ticket_of x) g.2 ∙ holds g.0) l.2)
+  gives_sent awaited log attempt wire hold (step.Done bytes) holds g l = (l.0, l.1, (g.1, done_told awaited l.0 attempt bytes g.0 l.2))
+  gives_sent awaited log attempt wire hold (step.Failed e) holds g l = (l.0, l.1, tt)
+
+  held_at : (stage : Stage) (ticket : ℕ) → ticket_at (holding stage ticket) ≡ Some ticket
+  held_at unsent ticket = refl
+  held_at (first old) ticket = refl
+  held_at (second old) ticket = refl
+
+  -- A poll of a command that inserts this piece.
+  pub insert_ran : (old new : Awaited) (log log' : Told) (wire : ℤ) (s : Sending) (result : Step Sending (List ℕ)) (calls : List Call) → asked s.command ≡ asks_insert space piece true → log ≡ Some calls → Holding old calls space before piece (ticket_of s) → Runs old new log log' wire s result → LeadsTo new log' result
+  insert_ran old new log log' wire s result calls asks told h (inl once) =
+      gives_sent new log' once.attempt wire _ result (held_at s.stage) once.gives (tries_sent s.command asks old new log log' calls s.stage once.attempt told h once.tries)
+  insert_ran old new log log' wire s result calls asks told h (inr twice) =
+      let tried = tries_sent s.command asks old twice.between log twice.log_between calls s.stage twice.attempt told h twice.tries in
+      gives_sent new log' twice.again wire _ result (λ ticket. refl) twice.gives
+        (begins_sent s.command asks twice.between new twice.log_between log' tried.0 twice.again tried.1 (base_of twice.between tried.0 twice.attempt tried.2) twice.begins)

@@ -1,0 +1,40 @@
+use Rattle.std.proofs.Common.{false, refl}
+use Rattle.mg_link.proofs.Plain.{plain_stayed}
+use Rattle.mg_jobs.specs.declared.player.InsertStage.TheVariants as inserts
+use Rattle.mg_jobs.specs.declared.outcome.Ended.TheVariants as ended
+use Rattle.mg_jobs.proofs.Advancing.{insert_done, insert_over, insert_waits}
+use Rattle.mg_jobs.proofs.Sendings.{stage_done, stage_pending, stage_stays}
+use Rattle.mg_jobs.proofs.player.InsertStage.go.Goals as goal
+
+pub returns-in-Unsent-clause-plain : goal.returns-in-Unsent-clause-plain
+returns-in-Unsent-clause-plain g c = rw c.in-Unsent.is (λ plain. (plain_stayed _ _ refl, plain))
+
+pub returns-in-Ended-clause-plain : goal.returns-in-Ended-clause-plain
+returns-in-Ended-clause-plain g c = rw c.in-Ended.is (λ plain. (plain_stayed _ _ refl, plain))
+
+pub returns-in-Unsent-clause-inserts : goal.returns-in-Unsent-clause-inserts
+returns-in-Unsent-clause-inserts g c = rw c.in-Unsent.is (stage_stays (g.L.Link.awaited c.args.link.now) (g.L.Link.log c.args.link.now) inserts.Unsent)
+
+pub returns-in-Ended-clause-inserts : goal.returns-in-Ended-clause-inserts
+returns-in-Ended-clause-inserts g c = rw c.in-Ended.is (stage_stays (g.L.Link.awaited c.args.link.now) (g.L.Link.log c.args.link.now) (inserts.Ended c.in-Ended.ended))
+
+pub returns-in-Pending-clause-inserts : goal.returns-in-Pending-clause-inserts
+returns-in-Pending-clause-inserts g c = rw c.in-Goes.is (stage_pending (g.L.Link.awaited c.args.link.now) (g.L.Link.awaited c.poll.new.link) (g.L.Link.log c.args.link.now) (g.L.Link.log c.poll.new.link) c.in-Goes.inserting c.in-Pending.inserting c.in-Pending.ensures.inserts)
+
+pub returns-in-Done-clause-inserts : goal.returns-in-Done-clause-inserts
+returns-in-Done-clause-inserts g c = rw c.in-Goes.is (stage_done (g.L.Link.awaited c.args.link.now) (g.L.Link.awaited c.poll.new.link) (g.L.Link.log c.args.link.now) (g.L.Link.log c.poll.new.link) c.in-Goes.inserting c.in-Done.count c.in-Done.ensures.inserts)
+
+pub returns-in-Unsent-clause-comes : goal.returns-in-Unsent-clause-comes
+returns-in-Unsent-clause-comes g c = rw c.in-Unsent.is (false, refl, λ calls k last at. absurd at)
+
+pub returns-in-Pending-clause-comes : goal.returns-in-Pending-clause-comes
+returns-in-Pending-clause-comes g c = rw c.in-Goes.is (insert_waits _ _ (inserts.Goes c.in-Goes.inserting) (inserts.Goes c.in-Pending.inserting) c.in-Pending.ensures.pended (λ k at. at))
+
+pub returns-in-Done-clause-comes : goal.returns-in-Done-clause-comes
+returns-in-Done-clause-comes g c = rw c.in-Goes.is (insert_done _ _ (inserts.Goes c.in-Goes.inserting) (ended.Gave c.in-Done.count) c.in-Done.ensures.pended tt)
+
+pub returns-in-Failed-clause-comes : goal.returns-in-Failed-clause-comes
+returns-in-Failed-clause-comes g c = rw c.in-Goes.is (insert_done _ _ (inserts.Goes c.in-Goes.inserting) (ended.Failed c.in-Failed.error) c.in-Failed.ensures.pended tt)
+
+pub returns-in-Ended-clause-comes : goal.returns-in-Ended-clause-comes
+returns-in-Ended-clause-comes g c = rw c.in-Ended.is (insert_over _ _)

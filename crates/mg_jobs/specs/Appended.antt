@@ -1,0 +1,50 @@
+-- What an insert appended to its collection.
+use Rattle.std.specs.Prelude.{◌≡◌, ◌⊎◌, ◌<◌, ◌++◌, ℕ, ℤ, true, List, [], ◌∷◌, length, Some, None, codes, slice_get}
+use Rattle.mg_bson.specs.Tree.{Tree, object_id, Fields, field}
+use Rattle.mg_bson.specs.Find.{get}
+use Rattle.mg_link.specs.Commands.{asked, asks_insert, inserted, told}
+use Rattle.mg_link.specs.Log.{reply, Call}
+use Rattle.mg_link.specs.Namespace.{Space}
+
+-- what is sent for a document: the document itself where it has an `_id`, and otherwise the document behind an `_id` with a drawn id
+abbrev pub IsWithId : Fields → Fields → Type 0
+IsWithId d e = ((id : Tree) × (get (codes "_id") d ≡ Some id) × (e ≡ d)) ⊎ ((get (codes "_id") d ≡ None) × (id : List ℕ) × (e ≡ field (codes "_id") (object_id id) d))
+
+-- what is sent for a list of documents, each in its turn
+abbrev pub AreWithIds : List Fields → List Fields → Type 0
+AreWithIds [] [] = Unit {0}
+AreWithIds (d ∷ ds) (e ∷ es) = IsWithId d e × AreWithIds ds es
+AreWithIds [] (e ∷ es) = ⊥
+AreWithIds (d ∷ ds) [] = ⊥
+
+-- the call at this place asks for these documents to be inserted in order, and saw a reply that tells of no failure
+pub record InsertsAt (calls : List Call) (k : ℕ) (space : Space) (documents : List Fields) : Type 0 where
+  pub call : Call
+  pub bytes : List ℕ
+  pub count : ℤ
+  pub found : slice_get calls k ≡ Some call
+  pub asks : asked call.command ≡ asks_insert space documents true
+  pub saw : call.seen ≡ reply bytes
+  pub tells : told (asks_insert space documents true) bytes ≡ inserted count []
+
+-- some of the documents that were sent, with the place of the call that sent them
+pub record Piece : Type 0 where
+  pub at : ℕ
+  pub documents : List Fields
+
+-- what was sent is these pieces one behind the other, the last named first, each inserted by its call, and the places rise and are below this one
+abbrev pub ArePieces : List Call → ℕ → Space → List Fields → List Piece → Type 0
+ArePieces calls k space sent [] = sent ≡ []
+ArePieces calls k space sent (p ∷ ps) = (p.at < k) × InsertsAt calls p.at space p.documents × ((before : List Fields) × (sent ≡ before ++ p.documents) × ArePieces calls p.at space before ps)
+
+-- calls at rising places below this one inserted what was sent, one piece behind the other
+pub record InsertedBelow (calls : List Call) (k : ℕ) (space : Space) (sent : List Fields) : Type 0 where
+  pub pieces : List Piece
+  pub are : ArePieces calls k space sent pieces
+
+-- so many documents were appended in their order, each with its own `_id` or behind a drawn one
+pub record Appended (calls : List Call) (space : Space) (documents : List Fields) (n : ℕ) : Type 0 where
+  pub count : n ≡ length documents
+  pub sent : List Fields
+  pub ids : AreWithIds documents sent
+  pub stands : InsertedBelow calls (length calls) space sent

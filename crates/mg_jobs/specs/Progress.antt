@@ -1,0 +1,243 @@
+-- How far each job comes by its turns.
+use Rattle.std.specs.Prelude.{◌≡◌, ◌+◌, ◌<◌, ◌≤◌, ◌⊎◌, ℕ, Bool, true, false, cond, nat_eq, List, [], ◌∷◌, ◌++◌, length, Some, slice_get}
+use Rattle.mg_jobs.specs.Counts.{PendedAs}
+use Rattle.mg_jobs.specs.Follows.{HasGiven, IsFailed, IsUnfinished}
+use Rattle.mg_jobs.specs.Plan.{Task, insert, follow, put, get}
+use Rattle.mg_jobs.specs.Playing.{end_of}
+use Rattle.mg_jobs.specs.declared.outcome.Ended.{Ended}
+use Rattle.mg_jobs.specs.declared.outcome.Ended.TheVariants as ended
+use Rattle.mg_jobs.specs.declared.outcome.Outcome.{Outcome}
+use Rattle.mg_jobs.specs.declared.outcome.Outcome.TheVariants as outcome
+use Rattle.mg_jobs.specs.declared.outcome.Turned.{Turned}
+use Rattle.mg_jobs.specs.declared.player.FollowPlayer.{FollowPlayer}
+use Rattle.mg_jobs.specs.declared.player.InsertStage.{InsertStage}
+use Rattle.mg_jobs.specs.declared.player.InsertStage.TheVariants as inserts
+use Rattle.mg_jobs.specs.declared.player.Stage.{Stage}
+use Rattle.mg_jobs.specs.declared.player.Stage.TheVariants as stage
+use Rattle.mg_jobs.specs.declared.run.Player.{Player}
+use Rattle.mg_jobs.specs.declared.run.Player.TheVariants as player
+
+-- ---- what the notes say
+
+-- one where a turn did not pend
+abbrev pub one_unless : Bool → ℕ
+one_unless true = 0
+one_unless false = 1
+
+-- how many of the turns of job i did not pend
+abbrev pub turns_done : ℕ → List ℕ → List Turned → ℕ
+turns_done i [] notes = 0
+turns_done i (n ∷ order) [] = 0
+turns_done i (n ∷ order) (note ∷ notes) = cond (nat_eq i n) (one_unless note.pended) 0 + turns_done i order notes
+
+-- whether the newest of these turns of job i pended, or else the one before them
+abbrev pub pended_since : Bool → ℕ → List ℕ → List Turned → Bool
+pended_since last i [] notes = last
+pended_since last i (n ∷ order) [] = last
+pended_since last i (n ∷ order) (note ∷ notes) = pended_since (cond (nat_eq i n) note.pended last) i order notes
+
+-- whether the newest turn of job i pended, where it had one
+abbrev pub pends_last : ℕ → List ℕ → List Turned → Bool
+pends_last i order notes = pended_since false i order notes
+
+-- ---- what a job has come to
+
+-- it came to an end, good or bad
+abbrev pub IsFinished : {A : Type 0} → Ended A → Type 0
+IsFinished ended.Unfinished = ⊥
+IsFinished (ended.Gave x) = Unit {0}
+IsFinished (ended.Failed e) = Unit {0}
+
+-- an insert after so many turns that did not pend: it ends in the first of them
+abbrev pub InsertAt : InsertStage → ℕ → Type 0
+InsertAt inserts.Unsent k = k ≡ 0
+InsertAt (inserts.Goes inserting) k = k ≡ 0
+InsertAt (inserts.Ended e) k = (1 ≤ k) × IsFinished e
+
+-- an insert that drew its ids, which may have failed
+abbrev pub InsertReady : InsertStage → ℕ → Type 0
+InsertReady inserts.Unsent k = ⊥
+InsertReady (inserts.Goes inserting) k = k ≡ 0
+InsertReady (inserts.Ended e) k = IsFinished e
+
+-- what a follow has come to: its opening and its closing, how many calls were answered, and how many are left
+pub record Came : Type 0 where
+  pub opened : Ended (Unit {0})
+  pub closed : Ended (Unit {0})
+  pub answered : ℕ
+  pub left : ℕ
+
+abbrev pub came : FollowPlayer → Came
+came p = record { opened = p.opened; closed = p.closed; answered = length p.answers.items; left = p.left }
+
+-- its stream is not open yet
+pub record NotOpen (calls : ℕ) (c : Came) (k : ℕ) : Type 0 where
+  pub none : k ≡ 0
+  pub opened : IsUnfinished c.opened
+  pub closed : IsUnfinished c.closed
+  pub no_answer : c.answered ≡ 0
+  pub all_left : c.left ≡ calls
+
+-- its stream is open, and each turn behind the opening one answered a call
+pub record Rests (calls : ℕ) (c : Came) (k : ℕ) : Type 0 where
+  pub opened : HasGiven c.opened
+  pub closed : IsUnfinished c.closed
+  pub answered : c.answered ≡ k
+  pub rest : c.answered + c.left ≡ calls
+
+-- its stream is open, and calls are left
+pub record IsOpen (calls : ℕ) (c : Came) (k : ℕ) : Type 0 where
+  pub opened : HasGiven c.opened
+  pub closed : IsUnfinished c.closed
+  pub answered : c.answered + 1 ≡ k
+  pub rest : c.answered + c.left ≡ calls
+  pub more : 0 < c.left
+
+-- all calls are answered, and its stream is to be closed
+pub record Closes (calls : ℕ) (c : Came) (k : ℕ) : Type 0 where
+  pub opened : HasGiven c.opened
+  pub closed : IsUnfinished c.closed
+  pub answered : c.answered ≡ calls
+  pub all : k ≡ calls
+
+-- its stream could not be opened
+pub record NeverOpen (c : Came) (k : ℕ) : Type 0 where
+  pub opened : IsFailed c.opened
+  pub closed : IsUnfinished c.closed
+  pub no_answer : c.answered ≡ 0
+  pub some : 1 ≤ k
+
+-- all calls are answered, and its stream was closed
+pub record IsClosed (calls : ℕ) (c : Came) (k : ℕ) : Type 0 where
+  pub opened : HasGiven c.opened
+  pub closed : IsFinished c.closed
+  pub answered : c.answered ≡ calls
+  pub all : calls + 1 ≤ k
+
+-- a follow of so many calls at a stage, after k turns that did not pend
+abbrev pub FollowAt : ℕ → Stage → Came → ℕ → Bool → Type 0
+FollowAt calls stage.Unopened c k last = NotOpen calls c k
+FollowAt calls (stage.Opens opening) c k last = NotOpen calls c k
+FollowAt calls (stage.Open stream) c k last = IsOpen calls c k
+FollowAt calls (stage.Closes closing) c k last = Closes calls c k × (last ≡ true)
+FollowAt calls stage.Ended c k last = NeverOpen c k ⊎ IsClosed calls c k
+
+-- a job of so many calls, after k turns that did not pend
+abbrev pub IsAt : ℕ → Player → ℕ → Bool → Type 0
+IsAt calls (player.Insert job) k last = InsertAt job.stage k
+IsAt calls (player.Follow job) k last = FollowAt calls job.stage (came job) k last
+IsAt calls player.Put k last = Unit {0}
+IsAt calls player.Get k last = Unit {0}
+
+-- the same of a job that got what it needs for a turn
+abbrev pub IsReadyAt : ℕ → Player → ℕ → Bool → Type 0
+IsReadyAt calls (player.Insert job) k last = InsertReady job.stage k
+IsReadyAt calls (player.Follow job) k last = FollowAt calls job.stage (came job) k last
+IsReadyAt calls player.Put k last = Unit {0}
+IsReadyAt calls player.Get k last = Unit {0}
+
+-- the calls of a task
+abbrev pub calls_of : Task → ℕ
+calls_of (insert ns docs) = 0
+calls_of (follow on calls start filter batch) = calls
+calls_of (put db bucket name id chunk pieces) = 0
+calls_of (get db bucket id read) = 0
+
+-- each job is where its turns have brought it
+abbrev pub AllAt : List Task → List ℕ → List Turned → List Player → Type 0
+AllAt tasks order notes players = (i : ℕ) (t : Task) (p : Player) → slice_get tasks i ≡ Some t → slice_get players i ≡ Some p → IsAt (calls_of t) p (turns_done i order notes) (pends_last i order notes)
+
+-- ---- a turn
+
+-- from one state to the other, in a turn that pended just where the count of pending replies rose
+abbrev pub ComesTo : (ℕ → ℕ → Bool → Type 0) → (ℕ → ℕ → Bool → Type 0) → ℕ → ℕ → Type 0
+ComesTo P Q before now = (pended : Bool) × PendedAs pended before now × ((calls k : ℕ) (last : Bool) → P calls k last → Q calls (k + one_unless pended) pended)
+
+-- a turn takes a follow from one stage to another
+abbrev pub FollowGoes : ℕ → ℕ → Stage → Came → Stage → Came → Type 0
+FollowGoes before now s c s' c' = ComesTo (λ calls k last. FollowAt calls s c k last) (λ calls k last. FollowAt calls s' c' k last) before now
+
+-- the rest of a turn, behind the opening or behind an answered call
+abbrev pub RestGoes : ℕ → ℕ → Came → Stage → Came → Type 0
+RestGoes before now c s' c' = ComesTo (λ calls k last. Rests calls c k) (λ calls k last. FollowAt calls s' c' k last) before now
+
+-- the rest of a turn, which closes the stream
+abbrev pub CloseGoes : ℕ → ℕ → Came → Stage → Came → Type 0
+CloseGoes before now c s' c' = ComesTo (λ calls k last. Closes calls c k) (λ calls k last. FollowAt calls s' c' k last) before now
+
+-- a turn takes an insert on
+abbrev pub InsertGoes : ℕ → ℕ → InsertStage → InsertStage → Type 0
+InsertGoes before now p p' = ComesTo (λ calls k last. InsertReady p k) (λ calls k last. InsertAt p' k) before now
+
+-- a turn takes a job on
+abbrev pub JobGoes : ℕ → ℕ → Player → Player → Type 0
+JobGoes before now p p' = ComesTo (λ calls k last. IsReadyAt calls p k last) (λ calls k last. IsAt calls p' k last) before now
+
+-- a turn with this note took on a job that got what it needs
+abbrev pub GoesBy : Turned → Player → Player → Type 0
+GoesBy note p p' = (calls k : ℕ) (last : Bool) → IsReadyAt calls p k last → IsAt calls p' (k + one_unless note.pended) note.pended
+
+-- a turn with this note took on a job
+abbrev pub TurnsBy : Turned → Player → Player → Type 0
+TurnsBy note p p' = (calls k : ℕ) (last : Bool) → IsAt calls p k last → IsAt calls p' (k + one_unless note.pended) note.pended
+
+-- ---- what this comes to
+
+-- the outcome shows what the job has come to
+abbrev pub Shows : Player → Outcome → Type 0
+Shows (player.Insert job) (outcome.Insert e) = e ≡ end_of job.stage
+Shows (player.Insert job) (outcome.Follow opened answers token alive closed) = ⊥
+Shows (player.Insert job) (outcome.Put e) = ⊥
+Shows (player.Insert job) (outcome.Get bytes e) = ⊥
+Shows (player.Follow job) (outcome.Follow opened answers token alive closed) = (opened ≡ job.opened) × (closed ≡ job.closed) × (answers ≡ job.answers)
+Shows (player.Follow job) (outcome.Insert e) = ⊥
+Shows (player.Follow job) (outcome.Put e) = ⊥
+Shows (player.Follow job) (outcome.Get bytes e) = ⊥
+Shows player.Put r = Unit {0}
+Shows player.Get r = Unit {0}
+
+-- each outcome shows what its job has come to
+abbrev pub AllShow : List Player → List Outcome → Type 0
+AllShow players outcomes = (i : ℕ) (p : Player) (r : Outcome) → slice_get players i ≡ Some p → slice_get outcomes i ≡ Some r → Shows p r
+
+-- an insert is unfinished just where it had no turn that did not pend
+abbrev pub InsertPlayed : {A : Type 0} → Ended A → ℕ → Type 0
+InsertPlayed ended.Unfinished k = k ≡ 0
+InsertPlayed (ended.Gave x) k = 1 ≤ k
+InsertPlayed (ended.Failed e) k = 1 ≤ k
+
+-- an open follow: one call was answered in each turn behind the first, and the last of them, or the next, closes it
+abbrev pub OpenPlayed : {A : Type 0} → Ended A → ℕ → ℕ → ℕ → Bool → Type 0
+OpenPlayed ended.Unfinished calls answered k last = ((answered + 1 ≡ k) × (answered < calls)) ⊎ ((answered ≡ calls) × (k ≡ calls) × (last ≡ true))
+OpenPlayed (ended.Gave x) calls answered k last = (answered ≡ calls) × (calls + 1 ≤ k)
+OpenPlayed (ended.Failed e) calls answered k last = (answered ≡ calls) × (calls + 1 ≤ k)
+
+-- a follow is opened in its first turn that does not pend
+abbrev pub FollowPlayed : {A : Type 0} → Ended A → Ended A → ℕ → ℕ → ℕ → Bool → Type 0
+FollowPlayed ended.Unfinished closed calls answered k last = (k ≡ 0) × (answered ≡ 0) × IsUnfinished closed
+FollowPlayed (ended.Gave x) closed calls answered k last = OpenPlayed closed calls answered k last
+FollowPlayed (ended.Failed e) closed calls answered k last = (1 ≤ k) × (answered ≡ 0) × IsUnfinished closed
+
+-- a task comes to this outcome by k turns that did not pend, where its newest turn pended or not
+abbrev pub IsPlayed : Task → ℕ → Bool → Outcome → Type 0
+IsPlayed (insert ns docs) k last (outcome.Insert e) = InsertPlayed e k
+IsPlayed (insert ns docs) k last (outcome.Follow opened answers token alive closed) = ⊥
+IsPlayed (insert ns docs) k last (outcome.Put e) = ⊥
+IsPlayed (insert ns docs) k last (outcome.Get bytes e) = ⊥
+IsPlayed (follow on calls start filter batch) k last (outcome.Follow opened answers token alive closed) = FollowPlayed opened closed calls (length answers.items) k last
+IsPlayed (follow on calls start filter batch) k last (outcome.Insert e) = ⊥
+IsPlayed (follow on calls start filter batch) k last (outcome.Put e) = ⊥
+IsPlayed (follow on calls start filter batch) k last (outcome.Get bytes e) = ⊥
+IsPlayed (put db bucket name id chunk pieces) k last r = Unit {0}
+IsPlayed (get db bucket id read) k last r = Unit {0}
+
+-- each job's outcome is what its turns brought
+abbrev pub AllPlayed : List Task → List ℕ → List Turned → List Outcome → Type 0
+AllPlayed tasks order notes outcomes = (i : ℕ) (t : Task) (r : Outcome) → slice_get tasks i ≡ Some t → slice_get outcomes i ≡ Some r → IsPlayed t (turns_done i order notes) (pends_last i order notes) r
+
+-- the outcomes made so far show what the jobs gone through have come to
+pub record Shown (players rest : List Player) (outcomes : List Outcome) : Type 0 where
+  pub gone : List Player
+  pub whole : players ≡ gone ++ rest
+  pub count : length gone ≡ length outcomes
+  pub shows : AllShow gone outcomes
