@@ -42,46 +42,66 @@ pended_on : (pended : Bool) (old mid new : ℕ) → mid ≡ old → PendedAs pen
 pended_on pended old mid new same h = subst (λ m. PendedAs pended m new) same h
 
 pub never_open : (before now : ℕ) (c c' : Came) → now ≡ before → IsFailed c'.opened → c'.closed ≡ c.closed → c'.answered ≡ c.answered → FollowGoes before now stage.Unopened c stage.Ended c'
-never_open before now c c' same failed closed answered = (false, same, λ calls k last at. inl (record {
-  opened = failed;
-  closed = subst (λ e. IsUnfinished e) (sym closed) at.closed;
-  no_answer = answered ∙ at.no_answer;
-  some = omega arith;
-}))
+never_open before now c c' same failed closed answered = (
+  false,
+  same,
+  λ calls k last at. inl (record {
+    opened = failed;
+    closed = subst (λ e. IsUnfinished e) (sym closed) at.closed;
+    no_answer = answered ∙ at.no_answer;
+    some = omega arith;
+  }),
+)
 
 pub open_waits : (before now : ℕ) (o o' : Opening) (c : Came) → Rose before now → FollowGoes before now (stage.Opens o) c (stage.Opens o') c
-open_waits before now o o' c rose = (true, rose, λ calls k last at. record {
-  none = omega (arith, at.none);
-  opened = at.opened;
-  closed = at.closed;
-  no_answer = at.no_answer;
-  all_left = at.all_left;
-})
+open_waits before now o o' c rose = (
+  true,
+  rose,
+  λ calls k last at. record {
+    none = omega (arith, at.none);
+    opened = at.opened;
+    closed = at.closed;
+    no_answer = at.no_answer;
+    all_left = at.all_left;
+  },
+)
 
 pub open_goes : (old mid new : ℕ) (o : Opening) (c c' c'' : Came) (s : Stage) → mid ≡ old → HasGiven c'.opened → c'.closed ≡ c.closed → c'.answered ≡ c.answered → c'.left ≡ c.left → RestGoes mid new c' s c'' → FollowGoes old new (stage.Opens o) c s c''
-open_goes old mid new o c c' c'' s same given closed answered left g = (g.0, pended_on g.0 old mid new same g.1, λ calls k last at. g.2 calls k last (record {
-  opened = given;
-  closed = subst (λ e. IsUnfinished e) (sym closed) at.closed;
-  answered = omega (arith, answered, at.no_answer, at.none);
-  rest = omega (arith, answered, left, at.no_answer, at.all_left);
-}))
+open_goes old mid new o c c' c'' s same given closed answered left g = (
+  g.0,
+  pended_on g.0 old mid new same g.1,
+  λ calls k last at. g.2 calls k last (record {
+    opened = given;
+    closed = subst (λ e. IsUnfinished e) (sym closed) at.closed;
+    answered = omega (arith, answered, at.no_answer, at.none);
+    rest = omega (arith, answered, left, at.no_answer, at.all_left);
+  }),
+)
 
 pub stays_open : (before : ℕ) (stream : ChangeStream) (c : Came) → 0 < c.left → RestGoes before before c (stage.Open stream) c
-stays_open before stream c more = (false, refl, λ calls k last at. record {
-  opened = at.opened;
-  closed = at.closed;
-  answered = omega (arith, at.answered);
-  rest = at.rest;
-  more = more;
-})
+stays_open before stream c more = (
+  false,
+  refl,
+  λ calls k last at. record {
+    opened = at.opened;
+    closed = at.closed;
+    answered = omega (arith, at.answered);
+    rest = at.rest;
+    more = more;
+  },
+)
 
 pub goes_to_close : (before now : ℕ) (c c' : Came) (s : Stage) → c.left ≡ 0 → CloseGoes before now c s c' → RestGoes before now c s c'
-goes_to_close before now c c' s none g = (g.0, g.1, λ calls k last at. g.2 calls k last (record {
-  opened = at.opened;
-  closed = at.closed;
-  answered = omega (arith, at.rest, none);
-  all = omega (arith, at.rest, at.answered, none);
-}))
+goes_to_close before now c c' s none g = (
+  g.0,
+  g.1,
+  λ calls k last at. g.2 calls k last (record {
+    opened = at.opened;
+    closed = at.closed;
+    answered = omega (arith, at.rest, none);
+    all = omega (arith, at.rest, at.answered, none);
+  }),
+)
 
 pends_so : (poll : EventPoll) (before now : ℕ) → poll ≡ polls.Pending → Pends poll before now → Rose before now
 pends_so poll before now is h = subst (λ q. Pends q before now) is h
@@ -92,35 +112,51 @@ pends_not (polls.Ready event) before now over h = h
 pends_not (polls.Failed e) before now over h = h
 
 pub ask_waits : (before now : ℕ) (stream stream' : ChangeStream) (c : Came) (poll : EventPoll) → poll ≡ polls.Pending → Pends poll before now → FollowGoes before now (stage.Open stream) c (stage.Open stream') c
-ask_waits before now stream stream' c poll is pended = (true, pends_so poll before now is pended, λ calls k last at. record {
-  opened = at.opened;
-  closed = at.closed;
-  answered = omega (arith, at.answered);
-  rest = at.rest;
-  more = at.more;
-})
+ask_waits before now stream stream' c poll is pended = (
+  true,
+  pends_so poll before now is pended,
+  λ calls k last at. record {
+    opened = at.opened;
+    closed = at.closed;
+    answered = omega (arith, at.answered);
+    rest = at.rest;
+    more = at.more;
+  },
+)
 
 pub ask_goes : (old mid new : ℕ) (stream : ChangeStream) (c c' c'' : Came) (s : Stage) (poll : EventPoll) → HasEnded poll → Pends poll old mid → c'.opened ≡ c.opened → c'.closed ≡ c.closed → c'.answered ≡ c.answered + 1 → c'.left ≡ c.left - 1 → RestGoes mid new c' s c'' → FollowGoes old new (stage.Open stream) c s c''
-ask_goes old mid new stream c c' c'' s poll over pended opened closed answered left g = (g.0, pended_on g.0 old mid new (pends_not poll old mid over pended) g.1, λ calls k last at. g.2 calls k last (record {
-  opened = subst (λ e. HasGiven e) (sym opened) at.opened;
-  closed = subst (λ e. IsUnfinished e) (sym closed) at.closed;
-  answered = omega (arith, answered, at.answered);
-  rest = omega (arith, answered, left, at.rest, at.more);
-}))
+ask_goes old mid new stream c c' c'' s poll over pended opened closed answered left g = (
+  g.0,
+  pended_on g.0 old mid new (pends_not poll old mid over pended) g.1,
+  λ calls k last at. g.2 calls k last (record {
+    opened = subst (λ e. HasGiven e) (sym opened) at.opened;
+    closed = subst (λ e. IsUnfinished e) (sym closed) at.closed;
+    answered = omega (arith, answered, at.answered);
+    rest = omega (arith, answered, left, at.rest, at.more);
+  }),
+)
 
 pub close_waits : (before now : ℕ) (closing : Closing) (c : Came) → Rose before now → CloseGoes before now c (stage.Closes closing) c
-close_waits before now closing c rose = (true, rose, λ calls k last at. (
-  record { opened = at.opened; closed = at.closed; answered = at.answered; all = omega (arith, at.all) },
-  refl,
-))
+close_waits before now closing c rose = (
+  true,
+  rose,
+  λ calls k last at. (
+    record { opened = at.opened; closed = at.closed; answered = at.answered; all = omega (arith, at.all) },
+    refl,
+  ),
+)
 
 pub close_done : (before now : ℕ) (c c' : Came) → now ≡ before → IsFinished c'.closed → c'.opened ≡ c.opened → c'.answered ≡ c.answered → CloseGoes before now c stage.Ended c'
-close_done before now c c' same finished opened answered = (false, same, λ calls k last at. inr (record {
-  opened = subst (λ e. HasGiven e) (sym opened) at.opened;
-  closed = finished;
-  answered = answered ∙ at.answered;
-  all = omega (arith, at.all);
-}))
+close_done before now c c' same finished opened answered = (
+  false,
+  same,
+  λ calls k last at. inr (record {
+    opened = subst (λ e. HasGiven e) (sym opened) at.opened;
+    closed = finished;
+    answered = answered ∙ at.answered;
+    all = omega (arith, at.all);
+  }),
+)
 
 pub closing_goes : (before now : ℕ) (closing : Closing) (c c' : Came) (s : Stage) → CloseGoes before now c s c' → FollowGoes before now (stage.Closes closing) c s c'
 closing_goes before now closing c c' s g = (g.0, g.1, λ calls k last at. g.2 calls k last at.0)

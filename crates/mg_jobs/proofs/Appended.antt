@@ -43,9 +43,9 @@ inserts_append calls history k space ds legal stands i =
     let cut : take (suc p) history ≡ take p history ++ step ∷ [] = take_more history p step same.1 in
     let before : State = state_of (take p history) in
     let may : May before (asked step.command) (told_at step) step.made =
-        (legal_parts before step [] (legal_back nothing (take p history) (step ∷ []) (subst IsLegal cut (legal_take nothing (suc p) history legal)))).0 in
+    (legal_parts before step [] (legal_back nothing (take p history) (step ∷ []) (subst IsLegal cut (legal_take nothing (suc p) history legal)))).0 in
     let may' : May before (asks_insert space ds true) (inserted i.count []) step.made =
-        subst (λ (t : Told). May before (asks_insert space ds true) t step.made) tells (subst (λ (a : Asked). May before a (told_at step) step.made) asks may) in
+    subst (λ (t : Told). May before (asks_insert space ds true) t step.made) tells (subst (λ (a : Asked). May before a (told_at step) step.made) asks may) in
     let behind : state_of (take (suc p) history) ≡ next before (asks_insert space ds true) (inserted i.count []) step.made =
-        ap state_of cut ∙ state_one (take p history) step ∙ ap (λ (a : Asked). next before a (told_at step) step.made) asks ∙ ap (λ (t : Told). next before (asks_insert space ds true) t step.made) tells in
+    ap state_of cut ∙ state_one (take p history) step ∙ ap (λ (a : Asked). next before a (told_at step) step.made) asks ∙ ap (λ (t : Told). next before (asks_insert space ds true) t step.made) tells in
     (p, placed.1, inserted_count before space ds i.count step.made may', ap (λ (s : State). s.documents space) behind ∙ inserted_state before space ds i.count step.made)

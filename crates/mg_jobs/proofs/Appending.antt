@@ -166,20 +166,26 @@ module _ (space : Space) (before piece : List Fields) where
     begins_sent old new log log' calls not_sent told done b = (calls, b.log_same ∙ told, done)
     begins_sent old new log log' calls (waits ticket) told done b =
         let add = b.adds calls told in
-        let call : Call = record { command = command; position = add.0; seen = waiting } in
-        (calls ++ call ∷ [], add.1, record {
-          place = length calls;
-          call = call;
-          at = b.place calls told;
-          found = get_seam calls [] call;
-          asks = asks;
-          done = below_on calls (calls ++ call ∷ []) (length calls) (length calls) space before (grown_push calls call) (omega arith) done;
-        })
+        let call : Call = record { command = command; position = add.0; seen = waiting } in (
+          calls ++ call ∷ [],
+          add.1,
+          record {
+            place = length calls;
+            call = call;
+            at = b.place calls told;
+            found = get_seam calls [] call;
+            asks = asks;
+            done = below_on calls (calls ++ call ∷ []) (length calls) (length calls) space before (grown_push calls call) (omega arith) done;
+          },
+        )
     begins_sent old new log log' calls (answered seen) told done b =
         let add = b.adds calls told in
-        let call : Call = record { command = command; position = add.0; seen = seen } in
-        (calls ++ call ∷ [], add.1, heard_at (calls ++ call ∷ []) (length calls) call seen (get_seam calls [] call) refl asks
-          (below_on calls (calls ++ call ∷ []) (length calls) (length calls) space before (grown_push calls call) (omega arith) done))
+        let call : Call = record { command = command; position = add.0; seen = seen } in (
+          calls ++ call ∷ [],
+          add.1,
+          heard_at (calls ++ call ∷ []) (length calls) call seen (get_seam calls [] call) refl asks
+              (below_on calls (calls ++ call ∷ []) (length calls) (length calls) space before (grown_push calls call) (omega arith) done),
+        )
 
     goes_on_sent : (old new : Awaited) (log log' : Told) (calls : List Call) (ticket : ℕ) (attempt : Attempt) → log ≡ Some calls → Flies old calls space before piece ticket → GoesOn old new log log' ticket attempt → Leads new log' attempt
     goes_on_sent old new log log' calls ticket not_sent told f g = absurd g
@@ -190,9 +196,12 @@ module _ (space : Space) (before piece : List Fields) where
         let one : f.place ≡ s.0 = (let a = f.at in let b = s.2 in cc) in
         let there : slice_get calls f.place ≡ Some s.1 = ap (λ n. slice_get calls n) one ∙ s.3 in
         let same : f.call ≡ s.1 = (let a = f.found in cc) in
-        let waits : f.call.seen ≡ waiting = ap (λ (x : Call). x.seen) same ∙ s.4 in
-        (see f.place seen calls, s.5 ∙ ap (λ n. Some (see n seen calls)) (sym one), heard_at (see f.place seen calls) f.place (record f.call { seen = seen }) seen (see_here f.place seen calls f.call f.found) refl f.asks
-          (below_on calls (see f.place seen calls) f.place f.place space before (grown_see f.place seen calls f.call f.found waits) (omega arith) f.done))
+        let waits : f.call.seen ≡ waiting = ap (λ (x : Call). x.seen) same ∙ s.4 in (
+          see f.place seen calls,
+          s.5 ∙ ap (λ n. Some (see n seen calls)) (sym one),
+          heard_at (see f.place seen calls) f.place (record f.call { seen = seen }) seen (see_here f.place seen calls f.call f.found) refl f.asks
+              (below_on calls (see f.place seen calls) f.place f.place space before (grown_see f.place seen calls f.call f.found waits) (omega arith) f.done),
+        )
 
     tries_sent : (old new : Awaited) (log log' : Told) (calls : List Call) (stage : Stage) (attempt : Attempt) → log ≡ Some calls → Holding old calls space before piece (ticket_at stage) → Tries old new log log' command stage attempt → Leads new log' attempt
     tries_sent old new log log' calls unsent attempt told h t = begins_sent old new log log' calls attempt told h t
@@ -231,4 +240,4 @@ module _ (space : Space) (before piece : List Fields) where
   insert_ran old new log log' wire s result calls asks told h (inr twice) =
       let tried = tries_sent s.command asks old twice.between log twice.log_between calls s.stage twice.attempt told h twice.tries in
       gives_sent new log' twice.again wire _ result (λ ticket. refl) twice.gives
-        (begins_sent s.command asks twice.between new twice.log_between log' tried.0 twice.again tried.1 (base_of twice.between tried.0 twice.attempt tried.2) twice.begins)
+      (begins_sent s.command asks twice.between new twice.log_between log' tried.0 twice.again tried.1 (base_of twice.between tried.0 twice.attempt tried.2) twice.begins)

@@ -65,13 +65,15 @@ next_none b b' same n awaited calls at ds named i =
     let kept = list_same awaited calls at ds b b' None same i in
     let l : length (sent_of b.drawn.items ds) ≡ length ds = sent_length b.drawn.items ds in
     let m : length b.documents.now ≡ length ds = ap (λ (x : List Fields). length x) i.documents_are in
-    let le = n.1 in
-    (record {
-      count = refl;
-      sent = sent_of b.drawn.items ds;
-      ids = all_with_ids ds b.drawn.items i.drawn;
-      stands = subst (λ (s : List Fields). InsertedBelow calls (length calls) at s) (take_whole (sent_of b.drawn.items ds) b.upto (omega (arith, l, m, le))) i.sent;
-    }, kept.1)
+    let le = n.1 in (
+      record {
+        count = refl;
+        sent = sent_of b.drawn.items ds;
+        ids = all_with_ids ds b.drawn.items i.drawn;
+        stands = subst (λ (s : List Fields). InsertedBelow calls (length calls) at s) (take_whole (sent_of b.drawn.items ds) b.upto (omega (arith, l, m, le))) i.sent;
+      },
+      kept.1,
+    )
 
 pub next_some : (b b' : Batches) (c : Command) → IsSameList b b' → ticket_of c.exec ≡ None → IsNextOf b b' (Some c) → SendsNext b b' None (next.Send c)
 next_some b b' c same unsent n awaited calls at ds named i =

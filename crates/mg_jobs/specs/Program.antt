@@ -10,6 +10,9 @@ use Rattle.mg_link.specs.Owner.{NamesItsOwn}
 use Rattle.mg_link.specs.Standing.{Stands}
 use Rattle.mg_jobs.specs.Headline.{OutcomeFollowed}
 use Rattle.mg_jobs.specs.Plan.{Plan, Task, plan, tasks}
+use Rattle.mg_jobs.specs.Plan as plans
+use Rattle.mg_store.specs.InMemory.{AreAsFates}
+use Rattle.mg_store.specs.declared.fate.Fate.{Fate}
 use Rattle.mg_jobs.specs.declared.outcome.Outcome.{Outcome}
 use Rattle.mg_jobs.specs.Script.{script_of, missing}
 use Rattle.mg_jobs.specs.Places.{place_text}
@@ -58,7 +61,8 @@ ReadMissing old new n = (script : Plan) × ReadScript old new script × LacksJob
 -- ---- what came of the words and the input
 
 -- What the jobs of a run over one link came to: in every legal history in which the link's log stands each follow answered consecutive entries,
--- the log names its own cursors only, and it stands in the history of the run's own store, whose steps are by the rules.
+-- the log names its own cursors only, it stands in the history of the run's own store, whose steps are by the rules, and each of its calls is
+-- as the fate of its number in the script says.
 pub record RunFollowed (run : Run) : Type 0 where
   pub calls : List Call
   pub log_is : run.logs.items ≡ calls ∷ []
@@ -66,6 +70,10 @@ pub record RunFollowed (run : Run) : Type 0 where
   pub stands : Stands calls (steps_of run.store.history)
   pub followed : (i : ℕ) (t : Task) (r : Outcome) → slice_get (tasks run.script.jobs.items) i ≡ Some t → slice_get run.outcomes.items i ≡ Some r → OutcomeFollowed calls t r
   pub own : NamesItsOwn calls
+  pub fates : List Fate
+  pub fates_are : plans.fates fates ≡ plans.fates run.script.fates.items
+  pub pended : List ℕ
+  pub as_fates : AreAsFates run.store.history fates calls pended
 
 -- the run is of the script that was read, over one link
 pub record Ran (old new : Option (List ℕ)) (run : Run) : Type 0 where

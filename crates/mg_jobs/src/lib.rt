@@ -2,6 +2,7 @@
 #![tactic(auto)]
 
 mod counting;
+mod fated;
 mod fates;
 mod fault;
 mod insert;

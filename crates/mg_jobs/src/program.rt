@@ -1,5 +1,5 @@
 //! The program, from the words of its command line to its status.
-ghost use Rattle.std.specs.Prelude.{◌≡◌, ◌⊎◌, ◌++◌, ℕ, Some, None, map, length, codes, decimal, false, string_bytes, IfErr, IfOk, IfSome, IsSomeAnd};
+ghost use Rattle.std.specs.Prelude.{◌≡◌, ◌⊎◌, ◌++◌, [], ℕ, Some, None, map, length, codes, decimal, false, string_bytes, IfErr, IfOk, IfSome, IsSomeAnd};
 ghost use Rattle.std.specs.Io.KnownBytes.{Appends};
 ghost use Rattle.mg_link.specs.Causes.{Rose};
 ghost use Rattle.mg_link.specs.Errors.{plain};
@@ -7,10 +7,12 @@ ghost use Rattle.mg_link.specs.declared.error.ErrorKind.TheVariants as kinds;
 ghost use Rattle.mg_jobs.specs.declared.fault.Place.{Place};
 ghost use Rattle.mg_jobs.specs.declared.program.Ending.{Ending};
 ghost use Rattle.mg_jobs.specs.Plan.{plan};
+ghost use Rattle.mg_jobs.specs.Plan as plans;
 ghost use Rattle.mg_jobs.specs.Places.{place_text};
 ghost use Rattle.mg_jobs.specs.Text.{line, text_of};
 ghost use Rattle.mg_jobs.specs.Program.{Caused, HasJobs, Ran, ReadMissing, ReadNoScript, ReadTooMuch, RunFollowed, Told, ending_text, is_run, run_of, status_of};
 
+use crate::fated::{Fated, FatedLink};
 use crate::fates::small_copies;
 use crate::fault::{Place, ScriptError};
 use crate::outcome::Run;
@@ -21,6 +23,7 @@ use crate::script::Script;
 use mg_link::{CountedIds, Error, InputError, Sink, Source, read_all, write_all};
 use mg_store::{MemLink, Store};
 use std::alloc::Global;
+use std::marker::Brand;
 
 /// What the program did.
 #[derive(Drop)]
@@ -61,9 +64,12 @@ fn is_run(words: &[String]) -> bool
     }
 }
 
-/// Runs the jobs of a script over an empty store.
-fn run_script(alloc: Global, script: Script) -> Result<Run, Error>
-    requires { HasJobs (plan script) }
+/// Runs the jobs of a script over a link that was not used.
+fn run_over<F: Fated>(alloc: Global, script: Script, link: MemLink) -> Result<Run, Error>
+    requires jobs { HasJobs (plan script) }
+    requires unused { link.calls ≡ [] }
+    requires fated { link.fates ≡ F.fates }
+    requires fates { plans.fates F.fates ≡ plans.fates script.fates.items }
     ensures script { IfOk result (λ r. plan r.script ≡ plan script) }
     ensures followed { IfOk result RunFollowed }
     ensures log { IfOk result (λ r. length r.logs.items ≡ 1) }
@@ -71,9 +77,8 @@ fn run_script(alloc: Global, script: Script) -> Result<Run, Error>
     ensures err { IfErr result (λ e. e ≡ plain kinds.OutOfMemory) }
 {
     let [a, b, c] = script.ids;
-    let fates = small_copies(alloc, script.fates.as_slice())?;
-    let mut link = MemLink::new(alloc, Store::new(alloc), fates, script.wire);
     let mut ids = CountedIds::new([a, b, c, 0]);
+    let mut link = FatedLink::<F>::new(link);
     let played = run_jobs(
         alloc,
         &mut link,
@@ -82,7 +87,7 @@ fn run_script(alloc: Global, script: Script) -> Result<Run, Error>
         script.jobs.as_slice(),
         script.order.as_slice(),
     )?;
-    let (store, log) = link.into_parts();
+    let (store, log) = link.into_link().into_parts();
     let logs = vec![in alloc; log]?;
     let turns = vec![in alloc; played.turns]?;
     Ok(Run {
@@ -92,6 +97,20 @@ fn run_script(alloc: Global, script: Script) -> Result<Run, Error>
         logs,
         turns,
     })
+}
+
+/// Runs the jobs of a script over an empty store.
+fn run_script(alloc: Global, script: Script) -> Result<Run, Error>
+    requires { HasJobs (plan script) }
+    ensures script { IfOk result (λ r. plan r.script ≡ plan script) }
+    ensures followed { IfOk result RunFollowed }
+    ensures log { IfOk result (λ r. length r.logs.items ≡ 1) }
+    ensures turns { IfOk result (λ r. length r.turns.items ≡ 1) }
+    ensures err { IfErr result (λ e. e ≡ plain kinds.OutOfMemory) }
+{
+    let fates = small_copies(alloc, script.fates.as_slice())?;
+    let link = MemLink::new(alloc, Store::new(alloc), fates, script.wire);
+    run_over::<Brand>(alloc, script, link)
 }
 
 /// Reads the script and runs it.

@@ -41,5 +41,3 @@ returns-then-has_ended-clause-comes g c = over_turns c.args.player.now (sym c.ha
 
 pub returns-clause-comes : goal.returns-clause-comes
 returns-clause-comes g c = λ calls k last at. c.take_turn.ensures.comes calls k last (c.in_ok-ready.ensures.at calls k last at)
-
-

@@ -17,5 +17,5 @@ returns-clause-next c =
       piece,
       subst (λ d. IsBatch d c.args.self.now.documents.now c.args.self.now.upto piece c.in_ok-batch.batch.upto) c.as_slice.ensures.value c.in_ok-batch.ensures.these,
       λ named. asks_to_insert c.start-exec.result.command (space c.args.self.now.ns.now) piece named
-        (ap (λ (e : Sending). fields e.command) c.start-exec.ensures ∙ c.in_ok-command.ensures.read_back ∙ ap (λ s. insert_command s piece) c.in_ok-clone.ensures.cases),
+          (ap (λ (e : Sending). fields e.command) c.start-exec.ensures ∙ c.in_ok-command.ensures.read_back ∙ ap (λ s. insert_command s piece) c.in_ok-clone.ensures.cases),
     )

@@ -1,0 +1,30 @@
+use Rattle.std.proofs.Common.{◌≡◌, List, [], ◌∷◌, Some, ap, sym, ◌∙◌, subst}
+use Rattle.std.specs.Prelude.{slice_get}
+use Rattle.mg_link.specs.Kept.{IsByRules, steps_of}
+use Rattle.mg_link.specs.Standing.{Stands}
+use Rattle.mg_link.proofs.Owners.{same_some}
+use Rattle.mg_link.proofs.Runs.{names_none_at_first}
+use Rattle.mg_store.specs.InMemory.{AreAsFates}
+use Rattle.mg_jobs.specs.Plan.{tasks}
+use Rattle.mg_jobs.proofs.program.run_over.Goals as goal
+
+pub returns-clause-followed : goal.returns-clause-followed
+returns-clause-followed g c =
+    let f = c.in_ok-played.ensures.followed [] (ap (λ m. Some m.calls) c.new-link.ensures ∙ ap Some c.requires.unused) in
+    let link = c.into_link.result in
+    let calls = ap (λ m. m.calls) c.into_link.ensures.link ∙ same_some c.run_jobs.new.link.calls f.0 f.1 in
+    let stored = sym c.into_parts-store.ensures.store in
+    record {
+      calls = f.0;
+      log_is = c.in_ok-logs.ensures.items ∙ ap (λ l. l ∷ []) (c.into_parts-store.ensures.calls ∙ calls);
+      by_rules = subst (λ h. IsByRules h) (ap (λ s. s.history) c.store.view_is) c.store.invariant.by_rules;
+      stands = subst (λ l. Stands l (steps_of c.into_parts-store.result.0.history)) calls (subst (λ s. Stands link.calls (steps_of s.history)) stored c.into_parts-store.ensures.stands);
+      followed = λ i t r ht hr. f.2 i t r (ap (λ l. slice_get (tasks l) i) c.as_slice.ensures.value ∙ ht) hr;
+      own = f.3 names_none_at_first;
+      fates = g.F.Fated.fates;
+      fates_are = c.requires.fates;
+      pended = link.pended;
+      as_fates = subst (λ l. AreAsFates c.into_parts-store.result.0.history g.F.Fated.fates l link.pended) calls
+          (subst (λ fates. AreAsFates c.into_parts-store.result.0.history fates link.calls link.pended) c.into_link.ensures.fates
+          (subst (λ s. AreAsFates s.history link.fates link.calls link.pended) stored c.into_parts-store.ensures.fates));
+    }
