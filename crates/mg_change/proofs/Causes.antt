@@ -1,31 +1,34 @@
--- What the answers of a change stream are caused by.
-use Rattle.std.proofs.Common.{◌≡◌, ℕ, zero, suc, ℤ, true, false, List, [], ◌∷◌, ◌++◌, length, Option, Some, None, Ok, refl, sym, ap, ◌∙◌, subst, inl, inr}
-use Rattle.std.specs.Prelude.{slice_get, ◌⊎◌}
-use Rattle.mg_bson.specs.Tree.{Fields, Items}
+-- What the answers of a change stream are caused by, step by step.
+use Rattle.std.proofs.Common.{◌≡◌, ℕ, ◌≤◌, ℤ, pos, Bool, true, false, List, [], ◌∷◌, length, map, Option, Some, None, Ok, refl, sym, ap, ◌∙◌, subst, inl, inr, arith}
+use Rattle.std.specs.Prelude.{◌⊎◌}
+use Rattle.mg_bson.specs.Tree.{Tree, Fields, Items}
 use Rattle.mg_bson.specs.Raw.{fields}
 use Rattle.mg_bson.specs.Reading.{doc}
-use Rattle.mg_link.specs.Exec.{Stage, ticket_at, ticket_of, unsent, first, second, Sending, Attempt, not_sent, waits, answered, Begins, FailsBy, FailsByReply, GoesOn, Runs, Tries}
-use Rattle.mg_link.specs.Errors.{plain}
-use Rattle.mg_link.specs.Link.{Awaited, Told, Adds, Sees}
-use Rattle.mg_link.specs.Log.{Sight, waiting, reply, fault, memory, Call, see}
+use Rattle.mg_link.specs.Errors.{plain, command_code}
+use Rattle.mg_link.specs.Exec.{FailsByReply, Runs, Stage, unsent, Sending}
+use Rattle.mg_link.specs.Link.{Awaited, Told}
+use Rattle.mg_link.specs.Log.{Sight, reply, fault, Call}
+use Rattle.mg_link.specs.Namespace.{space}
+use Rattle.mg_link.specs.Resumable.{is_resumable}
 use Rattle.mg_link.specs.declared.action.Step.{Step}
 use Rattle.mg_link.specs.declared.action.Step.TheVariants as step
 use Rattle.mg_link.specs.declared.error.Error.{Error}
+use Rattle.mg_link.specs.declared.error.ErrorKind.{ErrorKind}
 use Rattle.mg_link.specs.declared.error.ErrorKind.TheVariants as kind
-use Rattle.mg_link.proofs.Places.{get_seam}
+use Rattle.mg_link.specs.declared.error.Malformed.TheVariants as malformed
+use Rattle.mg_ops.specs.Commands.{get_more_command}
+use Rattle.mg_ops.specs.Cursors.{BreaksIn, Opens, batch_at}
+use Rattle.mg_ops.specs.Failing.{CannotBeSent, FailsBy}
 use Rattle.mg_ops.specs.declared.aggregate.ChangeStreamAggregate.{ChangeStreamAggregate}
 use Rattle.mg_ops.specs.declared.cursor_reply.CursorInformation.{CursorInformation}
-use Rattle.mg_link.specs.Namespace.{space}
-use Rattle.mg_ops.specs.Commands.{get_more_command}
-use Rattle.mg_change.specs.Causes.{Batch, BreaksBatch, CannotBuild, FailCause, HasBadItem, HeardReply, IsSpoilt, Keeps, KillCause, TakeCause, bad_item, more_in, no_batch, placed, resumption_in, CallCaused, Caused, Fails, GoneOn, HasResumed, Heard, HeardMore, HeardResumption, IsIdle, MayAsk, Next, Over, PollCause, Reply, Resumption, Since, StepCause, Stays, broken, came, cannot_ask, cannot_resume, fresh, lost, more, no_id, no_memory, opening, over, refused, refused_more, resumption, spoiled}
-use Rattle.mg_change.specs.Following.{buffered}
-use Rattle.mg_change.specs.Phases.{Carries, IsAsking, resuming_command}
-use Rattle.mg_link.specs.Resumable.{is_resumable}
-use Rattle.mg_link.specs.declared.error.ErrorKind.{ErrorKind}
-use Rattle.mg_link.specs.declared.error.Malformed.TheVariants as malformed
-use Rattle.mg_ops.specs.Cursors.{BreaksIn, batch_at}
-use Rattle.mg_ops.specs.Failing.{FailsBy as FailsFor}
+use Rattle.mg_ops.specs.declared.cursor_reply.CursorSpecification.{CursorSpecification}
 use Rattle.mg_ops.specs.declared.get_more.GetMore.{GetMore}
+use Rattle.mg_change.specs.Batches.{HoldsBatch}
+use Rattle.mg_change.specs.Calls.{Failed, Flies, HeardBy, HeardLast, Past, by_fault, by_memory, by_reply, past_of}
+use Rattle.mg_change.specs.Causes.{Breaks, BreaksBatch, ByPhase, CallCame, CallCaused, CallEmpty, CallFailed, CallFails, CannotBuild, FailCause, FailLeads, Has, HasBadItem, IsSettled, IsStart, KillCause, Killed, Leaves, MoreFails, MoreLeads, Next, OweLeads, Replied, Resumed, ResumeLeads, Resumes, SoFar, Standing, StepCalled, StepCame, StepCaused, StepLeads, TakeCause, TellsCursor, again, bad_item, broken, came, came_empty, cannot_ask, cannot_resume, ended, first_broken, first_in, leaves, left, lost, more, more_command, more_failed, no_batch, no_id, no_memory, none, none_left, old_command, opening, owed, owes_in, refused, refused_more, remembered_by, remembered_empty, renewed, resume_command, same, standing_of, token_behind, told, tried, unbuilt}
+use Rattle.mg_change.specs.Following.{buffered}
+use Rattle.mg_change.specs.Phases.{AtRest, Carries, IsAsking, IsKilling, left_with, remembering, resuming_command}
+use Rattle.mg_change.specs.Polls.{ends_cursor}
 use Rattle.mg_change.specs.declared.counts.Counts.{Counts}
 use Rattle.mg_change.specs.declared.event_poll.EventPoll.{EventPoll}
 use Rattle.mg_change.specs.declared.event_poll.EventPoll.TheVariants as poll
@@ -34,516 +37,600 @@ use Rattle.mg_change.specs.declared.event_poll.Stepped.TheVariants as stepped
 use Rattle.mg_change.specs.declared.stream.ChangeStream.{ChangeStream}
 use Rattle.mg_change.specs.declared.stream.Phase.{Phase}
 use Rattle.mg_change.specs.declared.stream.Phase.TheVariants as phase
+use Rattle.mg_change.proofs.Calls.{Ran, request_ran}
+use Rattle.mg_change.proofs.Growing.{leaves_grows, resumed_grows, resumes_grows}
 
--- ---- what was seen stays
+-- ---- errors
 
-same_some : {A : Type 0} (x y : A) → Some x ≡ Some y → x ≡ y
-same_some x y h = cc
+-- a stream resumes after it
+abbrev resumes : Error → Bool
+resumes e = is_resumable e.kind e.labels e.wire_version
 
-get_front : {A : Type 0} (xs ys : List A) (k : ℕ) (x : A) → slice_get xs k ≡ Some x → slice_get (xs ++ ys) k ≡ Some x
-get_front [] ys k x h = absurd cc
-get_front (y ∷ xs) ys zero x h = h
-get_front (y ∷ xs) ys (suc k) x h = get_front xs ys k x h
+not_both : (b : Bool) → b ≡ true → b ≡ false → ⊥
+not_both b so not = let bad : true ≡ false = sym so ∙ not in cc
 
--- a list has nothing at its length
-get_end : {A : Type 0} (xs : List A) (x : A) → slice_get xs (length xs) ≡ Some x → ⊥
-get_end [] x h = cc
-get_end (y ∷ xs) x h = get_end xs x h
+memory_stays : (e : Error) → e.kind ≡ kind.OutOfMemory → resumes e ≡ false
+memory_stays e is = ap (λ (k : ErrorKind). is_resumable k e.labels e.wire_version) is
 
-see_here : (k : ℕ) (seen : Sight) (calls : List Call) (call : Call) → slice_get calls k ≡ Some call → slice_get (see k seen calls) k ≡ Some (record call { seen = seen })
-see_here k seen [] call h = absurd cc
-see_here zero seen (c ∷ calls) call h = ap (λ (d : Call). Some (record d { seen = seen })) (same_some c call h)
-see_here (suc k) seen (c ∷ calls) call h = see_here k seen calls call h
+plain_resumes : (e : Error) (k : ErrorKind) → e ≡ plain k → is_resumable k [] None ≡ true → resumes e ≡ true
+plain_resumes e k is so = ap (λ (x : Error). is_resumable x.kind x.labels x.wire_version) is ∙ so
 
--- only the call at this place is changed
-see_keeps : (k : ℕ) (seen : Sight) (calls : List Call) (call : Call) → slice_get calls k ≡ Some call → call.seen ≡ waiting → Keeps calls (see k seen calls)
-see_keeps k seen [] call found here j c h = absurd cc
-see_keeps zero seen (d ∷ calls) call found here zero c h =
-    let same : d ≡ c = same_some d c h in
-    (record d { seen = seen }, refl, ap (λ (x : Call). x.command) same, λ saw. absurd (saw (ap (λ (x : Call). x.seen) (same_some c call (sym h ∙ found)) ∙ here)))
-see_keeps zero seen (d ∷ calls) call found here (suc j) c h = (c, h, refl, λ saw. refl)
-see_keeps (suc k) seen (d ∷ calls) call found here zero c h = (c, h, refl, λ saw. refl)
-see_keeps (suc k) seen (d ∷ calls) call found here (suc j) c h = see_keeps k seen calls call found here j c h
+kind_of_plain : (e : Error) (k : ErrorKind) → e ≡ plain k → e.kind ≡ k
+kind_of_plain e k is = ap (λ (x : Error). x.kind) is
 
-keeps_on : (a b c : List Call) → Keeps a b → Keeps b c → Keeps a c
-keeps_on a b c p q place call there =
-    let x = p place call there in
-    let y = q place x.0 x.1 in
-    (y.0, y.1, y.2 ∙ x.2, λ saw. let same = x.3 saw in y.3 (λ e. saw (ap (λ (d : Call). d.seen) (sym same) ∙ e)) ∙ same)
+batch_resumes : (said : Fields) (e : Error) → BreaksBatch said e → resumes e ≡ true
+batch_resumes said e (no_batch how at is) = plain_resumes e (kind.InvalidResponse how) is refl
+batch_resumes said e (bad_item batch at has) = plain_resumes e (kind.InvalidResponse malformed.BadItem) has.1 refl
 
-pub stays_same : (log log' : Told) → log' ≡ log → Stays log log'
-stays_same log log' same calls told = (calls, same ∙ told, λ place call there. (call, there, refl, λ saw. refl))
-
-pub stays_on : (log mid log' : Told) → Stays log mid → Stays mid log' → Stays log log'
-stays_on log mid log' p q calls told =
-    let x = p calls told in
-    let y = q x.0 x.1 in
-    (y.0, y.1, keeps_on calls x.0 y.0 x.2 y.2)
-
-stays_adds : (log log' : Told) (command : List ℕ) (seen : Sight) → Adds log log' command seen → Stays log log'
-stays_adds log log' command seen adds calls told =
-    let add = adds calls told in
-    let call : Call = record { command = command; position = add.0; seen = seen } in
-    (calls ++ call ∷ [], add.1, λ place c there. (c, get_front calls (call ∷ []) place c there, refl, λ saw. refl))
-
-stays_sees : (log log' : Told) (place : Option ℕ) (seen : Sight) → Sees log log' place seen → Stays log log'
-stays_sees log log' place seen sees calls told = let s = sees calls told in (see s.0 seen calls, s.5, see_keeps s.0 seen calls s.1 s.3 s.4)
-
-stays_begun : (old new : Awaited) (log log' : Told) (command : List ℕ) (attempt : Attempt) → Begins old new log log' command attempt → Stays log log'
-stays_begun old new log log' command not_sent b = stays_same log log' b.log_same
-stays_begun old new log log' command (waits ticket) b = stays_adds log log' command waiting b.adds
-stays_begun old new log log' command (answered seen) b = stays_adds log log' command seen b.adds
-
-stays_gone_on : (old new : Awaited) (log log' : Told) (ticket : ℕ) (attempt : Attempt) → GoesOn old new log log' ticket attempt → Stays log log'
-stays_gone_on old new log log' ticket not_sent g = absurd g
-stays_gone_on old new log log' ticket (waits given) g = stays_same log log' g.log_same
-stays_gone_on old new log log' ticket (answered seen) g = stays_sees log log' (old ticket) seen g.sees
-
-stays_tried : (old new : Awaited) (log log' : Told) (command : List ℕ) (stage : Stage) (attempt : Attempt) → Tries old new log log' command stage attempt → Stays log log'
-stays_tried old new log log' command unsent attempt t = stays_begun old new log log' command attempt t
-stays_tried old new log log' command (first ticket) attempt t = stays_gone_on old new log log' ticket attempt t
-stays_tried old new log log' command (second ticket) attempt t = stays_gone_on old new log log' ticket attempt t
-
-pub stays_ran : (old new : Awaited) (log log' : Told) (wire : ℤ) (s : Sending) (result : Step Sending (List ℕ)) → Runs old new log log' wire s result → Stays log log'
-stays_ran old new log log' wire s result (inl once) = stays_tried old new log log' s.command s.stage once.attempt once.tries
-stays_ran old new log log' wire s result (inr twice) =
-    stays_on log twice.log_between log'
-    (stays_tried old twice.between log twice.log_between s.command s.stage twice.attempt twice.tries)
-    (stays_begun twice.between new twice.log_between log' s.command twice.again twice.begins)
-
--- ---- what is heard
-
-none_by : (o : Option Call) → ((call : Call) → o ≡ Some call → ⊥) → o ≡ None
-none_by None h = refl
-none_by (Some call) h = absurd (h call refl)
-
--- a call that was not there later was not there before
-absent_before : (calls calls' : List Call) (place : ℕ) → Keeps calls calls' → slice_get calls' place ≡ None → slice_get calls place ≡ None
-absent_before calls calls' place keeps none =
-    none_by (slice_get calls place) (λ call there. let bad : Some (keeps place call there).0 ≡ None = sym (keeps place call there).1 ∙ none in cc)
-
--- in a later part of a poll, before which nothing was in flight for it
-pub heard_on : (log mid log' : Told) (flight left : Option ℕ) (command : Fields) (seen : Sight) → left ≡ None → Stays log mid → Heard mid log' left command seen → Heard log log' flight command seen
-heard_on log mid log' flight left command seen none stays h calls told =
-    let x = stays calls told in
-    let y = h x.0 x.1 in
-    let i = y.2 in (
-      y.0,
-      y.1,
-      record {
-        place = i.place;
-        call = i.call;
-        there = i.there;
-        has_seen = i.has_seen;
-        whose = elim i.whose [
-          | inl sent ↦ inl (record { absent = absent_before calls x.0 i.place x.2 sent.absent; command_is = sent.command_is })
-          | inr was ↦ absurd (let bad : None ≡ Some i.place = sym none ∙ was.here in cc)
-        ];
-      },
-    )
-
--- in an earlier part of a poll
-pub heard_still : (log mid log' : Told) (flight : Option ℕ) (command : Fields) (seen : Sight) → (seen ≡ waiting → ⊥) → Heard log mid flight command seen → Stays mid log' → Heard log log' flight command seen
-heard_still log mid log' flight command seen answer h stays calls told =
-    let x = h calls told in
-    let i = x.2 in
-    let y = stays x.0 x.1 in
-    let z = y.2 i.place i.call i.there in
-    let same : z.0 ≡ i.call = z.3 (λ e. answer (sym i.has_seen ∙ e)) in (
-      y.0,
-      y.1,
-      record {
-        place = i.place;
-        call = i.call;
-        there = z.1 ∙ ap (λ (c : Call). Some c) same;
-        has_seen = i.has_seen;
-        whose = i.whose;
-      },
-    )
-
-heard_adds : (log log' : Told) (flight : Option ℕ) (command : List ℕ) (seen : Sight) → Adds log log' command seen → Heard log log' flight (fields command) seen
-heard_adds log log' flight command seen adds calls told =
-    let add = adds calls told in
-    let call : Call = record { command = command; position = add.0; seen = seen } in (
-      calls ++ call ∷ [],
-      add.1,
-      record {
-        place = length calls;
-        call = call;
-        there = get_seam calls [] call;
-        has_seen = refl;
-        whose = inl (record { absent = none_by (slice_get calls (length calls)) (get_end calls); command_is = refl });
-      },
-    )
-
-heard_sees : (log log' : Told) (place : Option ℕ) (command : Fields) (seen : Sight) → Sees log log' place seen → Heard log log' place command seen
-heard_sees log log' place command seen sees calls told =
-    let s = sees calls told in (
-      see s.0 seen calls,
-      s.5,
-      record {
-        place = s.0;
-        call = record s.1 { seen = seen };
-        there = see_here s.0 seen calls s.1 s.3;
-        has_seen = refl;
-        whose = inr (record { here = s.2; old = s.1; there = s.3; waited = s.4; same = refl });
-      },
-    )
-
-heard_tried : (old new : Awaited) (log log' : Told) (command : List ℕ) (stage : Stage) (seen : Sight) → Tries old new log log' command stage (answered seen) → Heard log log' (placed old (ticket_at stage)) (fields command) seen
-heard_tried old new log log' command unsent seen t = heard_adds log log' None command seen t.adds
-heard_tried old new log log' command (first ticket) seen t = heard_sees log log' (old ticket) (fields command) seen t.sees
-heard_tried old new log log' command (second ticket) seen t = heard_sees log log' (old ticket) (fields command) seen t.sees
-
--- why a request failed, by what was heard
-pub data Failed (log log' : Told) (flight : Option ℕ) (command : Fields) (wire : ℤ) (e : Error) : Type 0 where
-  by_memory : e ≡ plain kind.OutOfMemory → Failed log log' flight command wire e
-  by_fault : e ≡ plain kind.Io → Heard log log' flight command fault → Failed log log' flight command wire e
-  by_reply : (bytes : List ℕ) → Heard log log' flight command (reply bytes) → FailsByReply (doc bytes) wire e → Failed log log' flight command wire e
-
-failed_by : (log log' : Told) (flight : Option ℕ) (command : Fields) (wire : ℤ) (e : Error) (attempt : Attempt) → ((seen : Sight) → attempt ≡ answered seen → Heard log log' flight command seen) → FailsBy attempt wire e → Failed log log' flight command wire e
-failed_by log log' flight command wire e not_sent heard by = by_memory by
-failed_by log log' flight command wire e (waits ticket) heard by = absurd by
-failed_by log log' flight command wire e (answered waiting) heard by = absurd by
-failed_by log log' flight command wire e (answered (reply bytes)) heard by = by_reply bytes (heard (reply bytes) refl) by
-failed_by log log' flight command wire e (answered fault) heard by = by_fault by (heard fault refl)
-failed_by log log' flight command wire e (answered memory) heard by = by_memory by
-
-module _ (old new : Awaited) (log log' : Told) (wire : ℤ) (s : Sending) where
-  once_heard : (attempt : Attempt) (seen : Sight) → Tries old new log log' s.command s.stage attempt → attempt ≡ answered seen → Heard log log' (placed old (ticket_of s)) (fields s.command) seen
-  once_heard attempt seen t is = heard_tried old new log log' s.command s.stage seen (subst (λ (a : Attempt). Tries old new log log' s.command s.stage a) is t)
-
-  again_heard : (between : Awaited) (mid : Told) (attempt again : Attempt) (seen : Sight) → Tries old between log mid s.command s.stage attempt → Begins between new mid log' s.command again → again ≡ answered seen → Heard log log' (placed old (ticket_of s)) (fields s.command) seen
-  again_heard between mid attempt again seen t b is =
-      heard_on log mid log' (placed old (ticket_of s)) None (fields s.command) seen refl (stays_tried old between log mid s.command s.stage attempt t)
-      (heard_tried between new mid log' s.command unsent seen (subst (λ (a : Attempt). Begins between new mid log' s.command a) is b))
-
-  pub ran_failed : (e : Error) → Runs old new log log' wire s (step.Failed e) → Failed log log' (placed old (ticket_of s)) (fields s.command) wire e
-  ran_failed e (inl once) = failed_by log log' _ (fields s.command) wire e once.attempt (λ seen is. once_heard once.attempt seen once.tries is) once.gives
-  ran_failed e (inr twice) = failed_by log log' _ (fields s.command) wire e twice.again (λ seen is. again_heard twice.between twice.log_between twice.attempt twice.again seen twice.tries twice.begins is) twice.gives
-
-  pub ran_done : (bytes : List ℕ) → Runs old new log log' wire s (step.Done bytes) → Heard log log' (placed old (ticket_of s)) (fields s.command) (reply bytes)
-  ran_done bytes (inl once) = once_heard once.attempt (reply bytes) once.tries once.gives.0
-  ran_done bytes (inr twice) = again_heard twice.between twice.log_between twice.attempt twice.again (reply bytes) twice.tries twice.begins twice.gives.0
-
--- ---- one part of a poll after another
-
-idle_asks : (q : Phase) → IsIdle q → MayAsk q
-idle_asks phase.Taken idle = tt
-idle_asks phase.Rest idle = tt
-idle_asks (phase.First held) idle = absurd idle
-idle_asks phase.Fresh idle = absurd idle
-idle_asks (phase.Asking get_more exec) idle = absurd idle
-idle_asks phase.Owing idle = absurd idle
-idle_asks (phase.Resuming exec) idle = absurd idle
-idle_asks (phase.Killing exec gone held) idle = absurd idle
-idle_asks (phase.Resumed held) idle = absurd idle
-
-module _ (old between : Awaited) (log mid log' : Told) (wire : ℤ) (p : Phase) (s t : ChangeStream) (before : Stays log mid) (after : Stays mid log') (same : t.aggregate ≡ s.aggregate) where
-  heard_first : (flight : Option ℕ) (command : Fields) (seen : Sight) → (seen ≡ waiting → ⊥) → Heard log mid flight command seen → Heard log log' flight command seen
-  heard_first flight command seen answer h = heard_still log mid log' flight command seen answer h after
-
-  -- what the first part heard
-  resumption_still : (bytes : List ℕ) → Resumption (over old log mid wire p s) bytes → Resumption (over old log log' wire p s) bytes
-  resumption_still bytes (inl held) = inl held
-  resumption_still bytes (inr h) = inr (heard_first (resumption_in old p) (resuming_command s.aggregate wire) (reply bytes) (λ e. cc) h)
-
-  reply_still : (bytes : List ℕ) → Reply (over old log mid wire p s) bytes → Reply (over old log log' wire p s) bytes
-  reply_still bytes (opening is) = opening is
-  reply_still bytes (resumption r) = resumption (resumption_still bytes r)
-  reply_still bytes (more h) = more (record { asks = h.asks; heard = heard_first (more_in old p) _ (reply bytes) (λ e. cc) h.heard })
-
-  batch_still : (events : List Fields) → Batch (over old log mid wire p s) events → Batch (over old log log' wire p s) events
-  batch_still events (fresh is e) = fresh is e
-  batch_still events (came bytes r e) = came bytes (reply_still bytes r) e
-
-  pub since_still : (q : Phase) (c : CursorInformation) (events : List Fields) → Since (over old log mid wire p s) q c events → Since (over old log log' wire p s) q c events
-  since_still phase.Taken c events h = h
-  since_still phase.Rest c events h = h
-  since_still (phase.First held) c events h = h
-  since_still phase.Fresh c events h = batch_still events h
-  since_still (phase.Asking get_more exec) c events h = h
-  since_still phase.Owing c events h = h
-  since_still (phase.Resuming exec) c events h = h
-  since_still (phase.Killing exec gone held) c events h = resumption_still held h
-  since_still (phase.Resumed held) c events h = resumption_still held h
-
-  -- what the second part heard: nothing was in flight between them
-  no_resumption : (q : Phase) (c : CursorInformation) (events : List Fields) → Since (over old log mid wire p s) q c events → resumption_in between q ≡ None
-  no_resumption phase.Taken c events h = refl
-  no_resumption phase.Rest c events h = refl
-  no_resumption (phase.First held) c events h = refl
-  no_resumption phase.Fresh c events h = refl
-  no_resumption (phase.Asking get_more exec) c events h = refl
-  no_resumption phase.Owing c events h = refl
-  no_resumption (phase.Resuming exec) c events h = ap (placed between) h
-  no_resumption (phase.Killing exec gone held) c events h = refl
-  no_resumption (phase.Resumed held) c events h = refl
-
-  no_more : (q : Phase) (c : CursorInformation) (events : List Fields) → Since (over old log mid wire p s) q c events → more_in between q ≡ None
-  no_more phase.Taken c events h = refl
-  no_more phase.Rest c events h = refl
-  no_more (phase.First held) c events h = refl
-  no_more phase.Fresh c events h = refl
-  no_more (phase.Asking get_more exec) c events h = ap (placed between) h.2
-  no_more phase.Owing c events h = refl
-  no_more (phase.Resuming exec) c events h = refl
-  no_more (phase.Killing exec gone held) c events h = refl
-  no_more (phase.Resumed held) c events h = refl
-
-  resumption_heard : (seen : Sight) (q : Phase) → resumption_in between q ≡ None → HeardResumption (over between mid log' wire q t) seen → HeardResumption (over old log log' wire p s) seen
-  resumption_heard seen q none h = heard_on log mid log' (resumption_in old p) (resumption_in between q) (resuming_command s.aggregate wire) seen none before (subst (λ (a : ChangeStreamAggregate). Heard mid log' (resumption_in between q) (resuming_command a wire) seen) same h)
-
-  -- what was in hand between them
-  resumption_between : (q : Phase) (c : CursorInformation) (events : List Fields) (bytes : List ℕ) → Since (over old log mid wire p s) q c events → HasResumed q bytes → Resumption (over old log log' wire p s) bytes
-  resumption_between phase.Taken c events bytes h has = absurd has
-  resumption_between phase.Rest c events bytes h has = absurd has
-  resumption_between (phase.First held) c events bytes h has = absurd has
-  resumption_between phase.Fresh c events bytes h has = absurd has
-  resumption_between (phase.Asking get_more exec) c events bytes h has = absurd has
-  resumption_between phase.Owing c events bytes h has = absurd has
-  resumption_between (phase.Resuming exec) c events bytes h has = absurd has
-  resumption_between (phase.Killing exec gone held) c events bytes h has = subst (λ (b : List ℕ). Resumption (over old log log' wire p s) b) has (resumption_still held h)
-  resumption_between (phase.Resumed held) c events bytes h has = subst (λ (b : List ℕ). Resumption (over old log log' wire p s) b) has (resumption_still held h)
-
-  idle_between : (q : Phase) (c : CursorInformation) (events : List Fields) → Since (over old log mid wire p s) q c events → IsIdle q → ⊥
-  idle_between phase.Taken c events h idle = h
-  idle_between phase.Rest c events h idle = h
-  idle_between (phase.First held) c events h idle = idle
-  idle_between phase.Fresh c events h idle = idle
-  idle_between (phase.Asking get_more exec) c events h idle = idle
-  idle_between phase.Owing c events h idle = idle
-  idle_between (phase.Resuming exec) c events h idle = idle
-  idle_between (phase.Killing exec gone held) c events h idle = idle
-  idle_between (phase.Resumed held) c events h idle = idle
-
-  asks_between : (q : Phase) (c : CursorInformation) (events : List Fields) → Since (over old log mid wire p s) q c events → MayAsk q → MayAsk p × (c ≡ s.cursor)
-  asks_between phase.Taken c events h asks = absurd h
-  asks_between phase.Rest c events h asks = absurd h
-  asks_between (phase.First held) c events h asks = absurd asks
-  asks_between phase.Fresh c events h asks = absurd asks
-  asks_between (phase.Asking get_more exec) c events h asks = (idle_asks p h.0, h.1)
-  asks_between phase.Owing c events h asks = absurd asks
-  asks_between (phase.Resuming exec) c events h asks = absurd asks
-  asks_between (phase.Killing exec gone held) c events h asks = absurd asks
-  asks_between (phase.Resumed held) c events h asks = absurd asks
-
-  fresh_between : (q : Phase) (c : CursorInformation) (events : List Fields) → Since (over old log mid wire p s) q c events → q ≡ phase.Fresh → Batch (over old log log' wire p s) events
-  fresh_between q c events h is = batch_still events (subst (λ (x : Phase). Since (over old log mid wire p s) x c events) is h)
-
-  opening_between : (q : Phase) (c : CursorInformation) (events : List Fields) (bytes : List ℕ) → Since (over old log mid wire p s) q c events → q ≡ phase.First bytes → ⊥
-  opening_between q c events bytes h is = subst (λ (x : Phase). Since (over old log mid wire p s) x c events) is h
-
-  module _ (q : Phase) (since : Since (over old log mid wire p s) q t.cursor (buffered t)) where
-    more_heard : (seen : Sight) → HeardMore (over between mid log' wire q t) seen → HeardMore (over old log log' wire p s) seen
-    more_heard seen h =
-        let a = asks_between q t.cursor (buffered t) since h.asks in
-        record { asks = a.0; heard = heard_on log mid log' (more_in old p) (more_in between q) _ seen (no_more q t.cursor (buffered t) since) before (subst (λ (c : CursorInformation). Heard mid log' (more_in between q) (get_more_command c.id (space c.ns) c.batch_size) seen) a.1 h.heard) }
-
-    resumption_on : (bytes : List ℕ) → Resumption (over between mid log' wire q t) bytes → Resumption (over old log log' wire p s) bytes
-    resumption_on bytes (inl held) = resumption_between q t.cursor (buffered t) bytes since held
-    resumption_on bytes (inr h) = inr (resumption_heard (reply bytes) q (no_resumption q t.cursor (buffered t) since) h)
-
-    reply_on : (bytes : List ℕ) → Reply (over between mid log' wire q t) bytes → Reply (over old log log' wire p s) bytes
-    reply_on bytes (opening is) = absurd (opening_between q t.cursor (buffered t) bytes since is)
-    reply_on bytes (resumption r) = resumption (resumption_on bytes r)
-    reply_on bytes (more h) = more (more_heard (reply bytes) h)
-
-    batch_on : (events : List Fields) → Batch (over between mid log' wire q t) events → Batch (over old log log' wire p s) events
-    batch_on events (fresh is e) = subst (λ (l : List Fields). Batch (over old log log' wire p s) l) (sym e) (fresh_between q t.cursor (buffered t) since is)
-    batch_on events (came bytes r e) = came bytes (reply_on bytes r) e
-
-    next_on : (events : List Fields) → Next (over between mid log' wire q t) events → Next (over old log log' wire p s) events
-    next_on events (inl idle) = absurd (idle_between q t.cursor (buffered t) since idle.0)
-    next_on events (inr batch) = inr (batch_on events batch)
-
-    fails_on : (e : Error) → Fails (over between mid log' wire q t) e → Fails (over old log log' wire p s) e
-    fails_on e (no_memory room) = no_memory room
-    fails_on e (lost is h) = lost is (resumption_heard fault q (no_resumption q t.cursor (buffered t) since) h)
-    fails_on e (refused bytes h by) = refused bytes (resumption_heard (reply bytes) q (no_resumption q t.cursor (buffered t) since) h) by
-    fails_on e (refused_more bytes h by good) = refused_more bytes (more_heard (reply bytes) h) by good
-    fails_on e (broken bytes h by) = broken bytes (resumption_heard (reply bytes) q (no_resumption q t.cursor (buffered t) since) h) by
-    fails_on e (spoiled bytes r by) = spoiled bytes (resumption_on bytes r) by
-    fails_on e (no_id events n lacks is) = no_id events (next_on events n) lacks is
-    fails_on e (cannot_ask idle by) = absurd (idle_between q t.cursor (buffered t) since idle)
-    fails_on e (cannot_resume by) = cannot_resume (subst (λ (a : ChangeStreamAggregate). CannotBuild a.args.options.batch_size (resuming_command a wire) e) same by)
-
-    since_on : (r : Phase) (c : CursorInformation) (events : List Fields) → Since (over between mid log' wire q t) r c events → Since (over old log log' wire p s) r c events
-    since_on phase.Taken c events h = absurd h
-    since_on phase.Rest c events h = absurd h
-    since_on (phase.First held) c events h = absurd h
-    since_on phase.Fresh c events h = batch_on events h
-    since_on (phase.Asking get_more exec) c events h = absurd (idle_between q t.cursor (buffered t) since h.0)
-    since_on phase.Owing c events h = tt
-    since_on (phase.Resuming exec) c events h = h
-    since_on (phase.Killing exec gone held) c events h = resumption_on held h
-    since_on (phase.Resumed held) c events h = resumption_on held h
-
-    poll_on : (s' : ChangeStream) (r : EventPoll) → PollCause (over between mid log' wire q t) s' r → PollCause (over old log log' wire p s) s' r
-    poll_on s' poll.Pending h = tt
-    poll_on s' (poll.Ready None) (inl ended) = inl ended
-    poll_on s' (poll.Ready None) (inr batch) = inr (batch_on [] batch)
-    poll_on s' (poll.Ready (Some event)) h = tt
-    poll_on s' (poll.Failed e) h = fails_on e h
-
-    cause_on : (s' : ChangeStream) (r : Stepped) → StepCause (over between mid log' wire q t) s' r → StepCause (over old log log' wire p s) s' r
-    cause_on s' stepped.Goes h = record { same = h.same ∙ same; since = since_on s'.phase s'.cursor (buffered s') h.since }
-    cause_on s' (stepped.Gives a) h = poll_on s' a h
-
-pub caused_on : (old between : Awaited) (log mid log' : Told) (wire wire' : ℤ) (p : Phase) (s t s' : ChangeStream) (r : Stepped) → wire' ≡ wire → Caused old log mid wire p s t stepped.Goes → Caused between mid log' wire' t.phase t s' r → Caused old log log' wire p s s' r
-caused_on old between log mid log' wire wire' p s t s' r at a b =
-    record {
-      stays = stays_on log mid log' a.stays b.stays;
-      cause = cause_on old between log mid log' wire p s t a.stays b.stays a.cause.same t.phase a.cause.since s' r (subst (λ (w : ℤ). StepCause (over between mid log' w t.phase t) s' r) at b.cause);
-    }
-
--- no step yet
-pub record NotYet (old now : Awaited) (log log' : Told) (wire wire' : ℤ) (s s' : ChangeStream) : Type 0 where
-  pub awaits : now ≡ old
-  pub logged : log' ≡ log
-  pub at : wire' ≡ wire
-  pub stream : s' ≡ s
-
--- the first step, or one more
-pub caused_next : (old between : Awaited) (log mid log' : Told) (wire wire' : ℤ) (s t s' : ChangeStream) (r : Stepped) → wire' ≡ wire → NotYet old between log mid wire wire' s t ⊎ Caused old log mid wire s.phase s t stepped.Goes → Caused between mid log' wire' t.phase t s' r → Caused old log log' wire s.phase s s' r
-caused_next old between log mid log' wire wire' s t s' r at (inl none) b =
-    subst (λ (x : ChangeStream). Caused old log log' wire x.phase x s' r) none.stream
-    (subst (λ (w : ℤ). Caused old log log' w t.phase t s' r) none.at
-    (subst (λ (l : Told). Caused old l log' wire' t.phase t s' r) none.logged
-    (subst (λ (a : Awaited). Caused a mid log' wire' t.phase t s' r) none.awaits b)))
-caused_next old between log mid log' wire wire' s t s' r at (inr a) b = caused_on old between log mid log' wire wire' s.phase s t s' r at a b
-
-poll_counting : (o : Over) (t : ChangeStream) (c : Counts) (r : EventPoll) → PollCause o t r → PollCause o (record t { counts = c }) r
-poll_counting o t c poll.Pending h = tt
-poll_counting o t c (poll.Ready None) h = h
-poll_counting o t c (poll.Ready (Some event)) h = tt
-poll_counting o t c (poll.Failed e) h = h
-
--- a call that has ended
-pub caused_counting : (old : Awaited) (log log' : Told) (wire : ℤ) (s t t' : ChangeStream) (r : EventPoll) → t' ≡ record t { counts = t'.counts } → Caused old log log' wire s.phase s t (stepped.Gives r) → CallCaused old log log' wire s t' r
-caused_counting old log log' wire s t t' r is h =
-    subst (λ (x : ChangeStream). CallCaused old log log' wire s x r) (sym is)
-    (record { stays = h.stays; cause = poll_counting (over old log log' wire s.phase s) t t'.counts r h.cause })
-
--- ---- steps
-
--- without a link
-pub caused_quietly : (old : Awaited) (log : Told) (wire : ℤ) (p q : Phase) (s s' : ChangeStream) (r : Stepped) → s.phase ≡ p → StepCause (over old log log wire p (record s { phase = q })) s' r → Caused old log log wire s.phase s s' r
-caused_quietly old log wire p q s s' r is h = record { stays = stays_same log log refl; cause = subst (λ (x : Phase). StepCause (over old log log wire x s) s' r) (sym is) h }
-
-pub caused_taken : (old : Awaited) (log log' : Told) (wire : ℤ) (p q : Phase) (s s' : ChangeStream) (r : Stepped) → s.phase ≡ p → Caused old log log' wire p (record s { phase = q }) s' r → Caused old log log' wire s.phase s s' r
-caused_taken old log log' wire p q s s' r is h = record { stays = h.stays; cause = subst (λ (x : Phase). StepCause (over old log log' wire x s) s' r) (sym is) h.cause }
-
--- an event is taken
-pub take_causes : (o : Over) (s' : ChangeStream) (events : List Fields) (r : EventPoll) → Next o events → TakeCause events r → PollCause o s' r
-take_causes o s' events poll.Pending next h = tt
-take_causes o s' events (poll.Ready None) next h = absurd h
-take_causes o s' events (poll.Ready (Some event)) next h = tt
-take_causes o s' events (poll.Failed e) next (inl room) = no_memory room
-take_causes o s' events (poll.Failed e) next (inr lacks) = no_id events next lacks.1 lacks.0
-
--- a batch is lost
-owing_since : (o : Over) (s s' : ChangeStream) → s.aggregate ≡ o.aggregate → (s'.aggregate ≡ s.aggregate) × (s'.phase ≡ phase.Owing) → GoneOn o s'
-owing_since o s s' same h = record { same = h.0 ∙ same; since = subst (λ (q : Phase). Since o q s'.cursor (buffered s')) (sym h.1) tt }
-
-not_resumed : (e : Error) (k : ErrorKind) → e ≡ plain k → is_resumable k [] None ≡ true → is_resumable e.kind e.labels e.wire_version ≡ false → ⊥
-not_resumed e k is resumes final =
-    let bad : true ≡ false = sym resumes ∙ ap (λ (x : Error). is_resumable x.kind x.labels x.wire_version) (sym is) ∙ final in cc
-
-spoilt_fails : (o : Over) (e e' : Error) → IsSpoilt e → e' ≡ e → is_resumable e'.kind e'.labels e'.wire_version ≡ false → Fails o e'
-spoilt_fails o e e' (inl room) is final = no_memory (ap (λ (x : Error). x.kind) is ∙ room)
-spoilt_fails o e e' (inr how) is final = absurd (not_resumed e' (kind.InvalidResponse how.0) (is ∙ how.1) refl final)
-
-pub lose_causes : (o : Over) (s s' : ChangeStream) (e : Error) (r : Stepped) → s.aggregate ≡ o.aggregate → IsSpoilt e → FailCause e s s' r → StepCause o s' r
-lose_causes o s s' e stepped.Goes same spoilt h = owing_since o s s' same h
-lose_causes o s s' e (stepped.Gives poll.Pending) same spoilt h = tt
-lose_causes o s s' e (stepped.Gives (poll.Ready event)) same spoilt h = absurd h
-lose_causes o s s' e (stepped.Gives (poll.Failed f)) same spoilt h = spoilt_fails o e f spoilt h.0 h.1
-
--- a getMore failed
-more_failed : (o : Over) (command : List ℕ) (e f : Error) → MayAsk o.at → fields command ≡ get_more_command o.cursor.id (space o.cursor.ns) o.cursor.batch_size → Failed o.log o.log' (more_in o.awaited o.at) (fields command) o.wire e → f ≡ e → is_resumable f.kind f.labels f.wire_version ≡ false → Fails o f
-more_failed o command e f asks is (by_memory room) same final = no_memory (ap (λ (x : Error). x.kind) (same ∙ room))
-more_failed o command e f asks is (by_fault io heard) same final = absurd (not_resumed f kind.Io (same ∙ io) refl final)
-more_failed o command e f asks is (by_reply bytes heard by) same final =
-    refused_more bytes (record { asks = asks; heard = subst (λ (c : Fields). Heard o.log o.log' (more_in o.awaited o.at) c (reply bytes)) is heard }) (subst (λ (x : Error). FailsByReply (doc bytes) o.wire x) (sym same) by) final
-
-module _ (old new : Awaited) (log log' : Told) (wire : ℤ) (s : ChangeStream) (get_more : GetMore) (exec : Sending) (asking : IsAsking s exec) where
-  pub asking_waits : (exec' : Sending) (s' : ChangeStream) → Runs old new log log' wire exec (step.Pending exec') → Caused old log log' wire (phase.Asking get_more exec) s s' (stepped.Gives poll.Pending)
-  asking_waits exec' s' runs = record { stays = stays_ran old new log log' wire exec (step.Pending exec') runs; cause = tt }
-
-  pub asking_came : (bytes : List ℕ) (s' : ChangeStream) (r : Stepped) → Runs old new log log' wire exec (step.Done bytes) → (Reply (over old log log' wire (phase.Asking get_more exec) s) bytes → StepCause (over old log log' wire (phase.Asking get_more exec) s) s' r) → Caused old log log' wire (phase.Asking get_more exec) s s' r
-  asking_came bytes s' r runs h =
-      record {
-        stays = stays_ran old new log log' wire exec (step.Done bytes) runs;
-        cause = h (more (record { asks = tt; heard = subst (λ (c : Fields). Heard log log' (placed old (ticket_of exec)) c (reply bytes)) asking.carries.command_is (ran_done old new log log' wire exec bytes runs) }));
-      }
-
-  fail_causes : (e : Error) (s' : ChangeStream) (r : Stepped) → Failed log log' (placed old (ticket_of exec)) (fields exec.command) wire e → FailCause e s s' r → StepCause (over old log log' wire (phase.Asking get_more exec) s) s' r
-  fail_causes e s' stepped.Goes failed h = owing_since (over old log log' wire (phase.Asking get_more exec) s) s s' refl h
-  fail_causes e s' (stepped.Gives poll.Pending) failed h = tt
-  fail_causes e s' (stepped.Gives (poll.Ready event)) failed h = absurd h
-  fail_causes e s' (stepped.Gives (poll.Failed f)) failed h = more_failed (over old log log' wire (phase.Asking get_more exec) s) exec.command e f tt asking.carries.command_is failed h.0 h.1
-
-  pub asking_failed : (e : Error) (s' : ChangeStream) (r : Stepped) → Runs old new log log' wire exec (step.Failed e) → FailCause e s s' r → Caused old log log' wire (phase.Asking get_more exec) s s' r
-  asking_failed e s' r runs h =
-      record { stays = stays_ran old new log log' wire exec (step.Failed e) runs; cause = fail_causes e s' r (ran_failed old new log log' wire exec e runs) h }
-
--- a resumption
-pub owing_fails : (old : Awaited) (log : Told) (w wire : ℤ) (s s' : ChangeStream) (e : Error) → w ≡ wire → FailsFor (CannotBuild s.aggregate.args.options.batch_size (resuming_command s.aggregate wire)) e → Fails (over old log log w phase.Owing s) e
-owing_fails old log w wire s s' e same (inl room) = no_memory (ap (λ (x : Error). x.kind) room)
-owing_fails old log w wire s s' e same (inr by) = cannot_resume (subst (λ (v : ℤ). CannotBuild s.aggregate.args.options.batch_size (resuming_command s.aggregate v) e) (sym same) by)
-
-module _ (old new : Awaited) (log log' : Told) (wire : ℤ) (s : ChangeStream) (exec : Sending) (carries : Carries exec (resuming_command s.aggregate wire) true) where
-  pub resuming_waits : (exec' : Sending) (s' : ChangeStream) → Runs old new log log' wire exec (step.Pending exec') → Caused old log log' wire (phase.Resuming exec) s s' (stepped.Gives poll.Pending)
-  resuming_waits exec' s' runs = record { stays = stays_ran old new log log' wire exec (step.Pending exec') runs; cause = tt }
-
-  heard_as : (seen : Sight) → Heard log log' (placed old (ticket_of exec)) (fields exec.command) seen → HeardResumption (over old log log' wire (phase.Resuming exec) s) seen
-  heard_as seen h = subst (λ (c : Fields). Heard log log' (placed old (ticket_of exec)) c seen) carries.command_is h
-
-  pub resuming_came : (bytes : List ℕ) (s' : ChangeStream) (r : Stepped) → Runs old new log log' wire exec (step.Done bytes) → (HeardResumption (over old log log' wire (phase.Resuming exec) s) (reply bytes) → StepCause (over old log log' wire (phase.Resuming exec) s) s' r) → Caused old log log' wire (phase.Resuming exec) s s' r
-  resuming_came bytes s' r runs h =
-      record { stays = stays_ran old new log log' wire exec (step.Done bytes) runs; cause = h (heard_as (reply bytes) (ran_done old new log log' wire exec bytes runs)) }
-
-  failed_as : (e : Error) → Failed log log' (placed old (ticket_of exec)) (fields exec.command) wire e → Fails (over old log log' wire (phase.Resuming exec) s) e
-  failed_as e (by_memory room) = no_memory (ap (λ (x : Error). x.kind) room)
-  failed_as e (by_fault io heard) = lost io (heard_as fault heard)
-  failed_as e (by_reply bytes heard by) = refused bytes (heard_as (reply bytes) heard) by
-
-  pub resuming_failed : (e : Error) (s' : ChangeStream) → Runs old new log log' wire exec (step.Failed e) → Caused old log log' wire (phase.Resuming exec) s s' (stepped.Gives (poll.Failed e))
-  resuming_failed e s' runs =
-      record { stays = stays_ran old new log log' wire exec (step.Failed e) runs; cause = failed_as e (ran_failed old new log log' wire exec e runs) }
-
--- the reply to its aggregate breaks the grammar
-pub opening_broken : (o : Over) (bytes : List ℕ) (e : Error) → HeardReply o bytes → FailsFor (BreaksIn (fields bytes)) e → Fails o e
-opening_broken o bytes e heard (inl room) = no_memory (ap (λ (x : Error). x.kind) room)
-opening_broken o bytes e heard (inr by) = broken bytes heard by
-
--- its batch is none
-pub batch_broken : (o : Over) (bytes : List ℕ) (e : Error) → Resumption o bytes → FailsFor (BreaksBatch (fields bytes)) e → Fails o e
-batch_broken o bytes e heard (inl room) = no_memory (ap (λ (x : Error). x.kind) room)
-batch_broken o bytes e heard (inr by) = spoiled bytes heard by
-
-pub batch_spoilt : (said : Fields) (e : Error) → FailsFor (BreaksBatch said) e → IsSpoilt e
-batch_spoilt said e (inl room) = inl (ap (λ (x : Error). x.kind) room)
-batch_spoilt said e (inr (no_batch how at is)) = inr (how, is)
-batch_spoilt said e (inr (bad_item batch at has)) = inr (malformed.BadItem, has.1)
-
--- a killCursors
-killed_causes : (o : Over) (held : List ℕ) (s s' : ChangeStream) (r : Stepped) → s.aggregate ≡ o.aggregate → Resumption o held → KillCause held s s' r → StepCause o s' r
-killed_causes o held s s' stepped.Goes same has h = record { same = h.0 ∙ same; since = subst (λ (q : Phase). Since o q s'.cursor (buffered s')) (sym h.1) has }
-killed_causes o held s s' (stepped.Gives poll.Pending) same has h = tt
-killed_causes o held s s' (stepped.Gives (poll.Ready event)) same has h = absurd h
-killed_causes o held s s' (stepped.Gives (poll.Failed e)) same has h = no_memory h
-
-module _ (old new : Awaited) (log log' : Told) (wire : ℤ) (s : ChangeStream) (exec : Sending) (id : ℤ) (held : List ℕ) where
-  pub killing_waits : (result : Step Sending (List ℕ)) (s' : ChangeStream) → Runs old new log log' wire exec result → Caused old log log' wire (phase.Killing exec id held) s s' (stepped.Gives poll.Pending)
-  killing_waits result s' runs = record { stays = stays_ran old new log log' wire exec result runs; cause = tt }
-
-  pub killing_ended : (result : Step Sending (List ℕ)) (s' : ChangeStream) (r : Stepped) → Runs old new log log' wire exec result → KillCause held s s' r → Caused old log log' wire (phase.Killing exec id held) s s' r
-  killing_ended result s' r runs h =
-      record { stays = stays_ran old new log log' wire exec result runs; cause = killed_causes (over old log log' wire (phase.Killing exec id held) s) held s s' r refl (inl refl) h }
+breaks_resumes : (said : Fields) (e : Error) → Breaks said e → resumes e ≡ true
+breaks_resumes said e (inl breaks) = plain_resumes e (kind.InvalidResponse breaks.how) breaks.error refl
+breaks_resumes said e (inr breaks) = batch_resumes said e breaks
 
 -- an item of a batch that was found is no document
-pub items_break : (said : Fields) (batch : Items) → batch_at said ≡ Ok batch → (e : Error) → FailsFor (HasBadItem batch) e → FailsFor (BreaksBatch said) e
+pub items_break : (said : Fields) (batch : Items) → batch_at said ≡ Ok batch → (e : Error) → FailsBy (HasBadItem batch) e → FailsBy (BreaksBatch said) e
 items_break said batch at e (inl room) = inl room
 items_break said batch at e (inr bad) = inr (bad_item batch at bad)
+
+cursor_breaks : (said : Fields) (e : Error) → FailsBy (BreaksIn said) e → FailsBy (Breaks said) e
+cursor_breaks said e (inl room) = inl room
+cursor_breaks said e (inr breaks) = inr (inl breaks)
+
+-- an error that is no want of memory has its cause
+cannot_by : (cause : Error → Type 0) (e : Error) → FailsBy cause e → (e.kind ≡ kind.OutOfMemory → ⊥) → cause e
+cannot_by cause e (inl room) not = absurd (not (kind_of_plain e kind.OutOfMemory room))
+cannot_by cause e (inr by) not = by
+
+pub batch_breaks : (said : Fields) (e : Error) → FailsBy (BreaksBatch said) e → FailsBy (Breaks said) e
+batch_breaks said e (inl room) = inl room
+batch_breaks said e (inr breaks) = inr (inr breaks)
+
+-- ---- requests
+
+heard_by : (past : Past) (command : Fields) (retries : Bool) (seen : Sight) → HeardLast past command retries seen → HeardBy past command seen
+heard_by past command retries seen h = record { place = h.place; heard = h.heard }
+
+-- a killCursors that failed was tried, or memory ran out
+kill_tried : (past : Past) (old : CursorInformation) (e : Error) → Failed past (old_command old) false e → (e.kind ≡ kind.OutOfMemory → ⊥) → Killed past old
+kill_tried past old e (by_memory is) not = absurd (not (kind_of_plain e kind.OutOfMemory is))
+kill_tried past old e (by_fault is heard) not = tried fault (λ waits. cc) (heard_by past (old_command old) false fault heard)
+kill_tried past old e (by_reply bytes heard by) not = tried (reply bytes) (λ waits. cc) (heard_by past (old_command old) false (reply bytes) heard)
+
+-- ---- events
+
+next_by : (past : Past) (at : Standing) (es es' : List Fields) (c c' : CursorInformation) (upto upto' : Option Tree) → es' ≡ es → c' ≡ c → upto' ≡ upto → Next past at es c upto → Next past at es' c' upto'
+next_by past at es es' c c' upto upto' events cursor token next =
+    subst (λ (l : List Fields). Next past at l c' upto') (sym events)
+    (subst (λ (d : CursorInformation). Next past at es d upto') (sym cursor)
+    (subst (λ (t : Option Tree). Next past at es c t) (sym token) next))
+
+replied_has : (past : Past) (at : Standing) (resumed : Bool) (bytes : List ℕ) (c : CursorInformation) (upto : Option Tree) → Replied past at resumed bytes c upto → Has past at c
+replied_has past at resumed bytes c upto (opening not first cursor token) = leaves (same cursor)
+replied_has past at resumed bytes c upto (more not heard tells) = leaves (told bytes upto heard tells)
+replied_has past at resumed bytes c upto (again is r old stays killed) = renewed bytes upto r
+
+next_has : (past : Past) (at : Standing) (es : List Fields) (c : CursorInformation) (upto : Option Tree) → Next past at es c upto → Has past at c
+next_has past at es c upto (left quits looked events cursor token) = leaves (same cursor)
+next_has past at es c upto (came resumed bytes replied holds) = replied_has past at resumed bytes c upto replied
+
+has_by : (past : Past) (at : Standing) (c c' : CursorInformation) → c' ≡ c → Has past at c → Has past at c'
+has_by past at c c' cursor has = subst (λ (d : CursorInformation). Has past at d) (sym cursor) has
+
+settled : (s : ChangeStream) → s.phase ≡ phase.Rest → IsSettled (standing_of s)
+settled s is = record { quits = ap owes_in is; looked = ap first_in is }
+
+-- ---- steps without a link
+
+module _ (awaited : Awaited) (past : Past) (at : Standing) where
+  -- the next event is taken
+  took : (resumed : Bool) (s s' : ChangeStream) (r : EventPoll) → s.aggregate ≡ at.aggregate → Next past at (buffered s) s.cursor s.batch_token → s'.phase ≡ phase.Rest → TakeCause s s' r → StepCame awaited past at resumed s' (stepped.Gives r)
+  took resumed s s' poll.Pending kept next rests h = absurd h
+  took resumed s s' (poll.Ready None) kept next rests h = absurd h
+  took resumed s s' (poll.Ready (Some event)) kept next rests h =
+      record {
+        upto = s.batch_token;
+        next = next_by past at (buffered s) (fields event ∷ buffered s') s.cursor s'.cursor s.batch_token s.batch_token (sym h.whole) h.cursor refl next;
+        id = h.id;
+        has = h.has;
+        remembers = h.remembers ∙ ap (remembered_by (token_behind (buffered s') s.batch_token h.id) true) kept;
+        behind = h.behind;
+        settled = settled s' rests;
+      }
+  took resumed s s' (poll.Failed e) kept next rests (inl h) =
+      record {
+        why = no_memory h.room (inr (record { next = next_by past at (buffered s) (buffered s') s.cursor s'.cursor s.batch_token s'.batch_token h.events h.cursor h.upto next; settled = settled s' rests }));
+        token = h.aggregate ∙ kept;
+        cursor = has_by past at s.cursor s'.cursor h.cursor (next_has past at (buffered s) s.cursor s.batch_token next);
+      }
+  took resumed s s' (poll.Failed e) kept next rests (inr h) =
+      record {
+        why = no_id h.event s.batch_token (next_by past at (buffered s) (h.event ∷ buffered s') s.cursor s'.cursor s.batch_token s.batch_token (sym h.whole) h.cursor refl next) h.lacks h.error h.upto (settled s' rests);
+        token = h.aggregate ∙ kept;
+        cursor = has_by past at s.cursor s'.cursor h.cursor (next_has past at (buffered s) s.cursor s.batch_token next);
+      }
+
+  -- at rest
+  start_in : (s : ChangeStream) (p : Phase) → IsStart at s → IsStart at (record s { phase = p })
+  start_in s p start = record { quits = start.quits; looked = start.looked; cursor = start.cursor; events = start.events; upto = start.upto }
+
+  next_at : (s : ChangeStream) → IsStart at s → Next past at (buffered s) s.cursor s.batch_token
+  next_at s start = left start.quits start.looked start.events start.cursor start.upto
+
+  none_at : (s : ChangeStream) → s.buffer.items ≡ [] → IsStart at s → at.events ≡ []
+  none_at s empty start = sym start.events ∙ ap (map fields) empty
+
+  module _ (resumed : Bool) (s : ChangeStream) (far : SoFar awaited past at resumed phase.Rest s) where
+    pub rest_takes : (s' : ChangeStream) (r : EventPoll) → s'.phase ≡ phase.Rest → TakeCause s s' r → StepCame awaited past at resumed s' (stepped.Gives r)
+    rest_takes s' r rests h = took resumed s s' r far.same (next_at s far.by.1) rests h
+
+    pub rest_ends : s.buffer.items ≡ [] → s.cursor.id ≡ pos 0 → CallEmpty past at (standing_of (record s { phase = phase.Rest })) resumed
+    rest_ends empty over =
+        let start = far.by.1 in
+        record {
+          why = none_left far.by.0 start.quits start.looked (none_at s empty start) (ap (λ (c : CursorInformation). c.id) (sym start.cursor) ∙ over) far.same start.cursor;
+          empty = ap (map fields) empty;
+          settled = record { quits = refl; looked = refl };
+        }
+
+    pub rest_asks : (get_more : GetMore) (exec : Sending) → s.buffer.items ≡ [] → exec.stage ≡ unsent → SoFar awaited past at resumed (phase.Asking get_more exec) (record s { phase = phase.Asking get_more exec })
+    rest_asks get_more exec empty not_sent =
+        record {
+          same = far.same;
+          by = (far.by.0, start_in s (phase.Asking get_more exec) far.by.1, none_at s empty far.by.1, subst (λ (stage : Stage). Flies awaited past (more_command at) stage) (sym not_sent) tt);
+        }
+
+    rest_cannot : (e : Error) → s.buffer.items ≡ [] → FailsBy (CannotBuild s.cursor.batch_size (get_more_command s.cursor.id (space s.cursor.ns) s.cursor.batch_size)) e → CallFails past at (standing_of (record s { phase = phase.Rest })) e
+    rest_cannot e empty (inl room) = no_memory (kind_of_plain e kind.OutOfMemory room) (inr (record { next = next_at s far.by.1; settled = record { quits = refl; looked = refl } }))
+    rest_cannot e empty (inr by) =
+        cannot_ask (none_at s empty far.by.1) (subst (λ (c : CursorInformation). CannotBuild c.batch_size (get_more_command c.id (space c.ns) c.batch_size) e) far.by.1.cursor by)
+        (record { next = next_at s far.by.1; settled = record { quits = refl; looked = refl } })
+
+    pub rest_fails : (e : Error) → s.buffer.items ≡ [] → FailsBy (CannotBuild s.cursor.batch_size (get_more_command s.cursor.id (space s.cursor.ns) s.cursor.batch_size)) e → CallFailed past at (standing_of (record s { phase = phase.Rest })) e
+    rest_fails e empty by = record { why = rest_cannot e empty by; token = far.same; cursor = leaves (same far.by.1.cursor) }
+
+  -- a batch is lost
+  owes_so_far : (s : ChangeStream) → s.aggregate ≡ at.aggregate → Leaves past at s.cursor → Resumes past at → SoFar awaited past at false phase.Owing (record s { phase = phase.Owing })
+  owes_so_far s kept stays why = record { same = kept; by = (refl, why, stays) }
+
+  owes_failed : (s : ChangeStream) (e : Error) → s.aggregate ≡ at.aggregate → Leaves past at s.cursor → e.kind ≡ kind.OutOfMemory → CallFailed past at (standing_of (record s { phase = phase.Owing })) e
+  owes_failed s e kept stays room = record { why = no_memory room (inl refl); token = kept; cursor = leaves stays }
+
+  loses : (s : ChangeStream) (e : Error) (r : Stepped) → s.aggregate ≡ at.aggregate → Leaves past at s.cursor → (resumes e ≡ true → Resumes past at) → (resumes e ≡ false → e.kind ≡ kind.OutOfMemory) → FailCause e r → StepCame awaited past at false (record s { phase = phase.Owing }) r
+  loses s e stepped.Goes kept stays why room h = owes_so_far s kept stays (why h)
+  loses s e (stepped.Gives poll.Pending) kept stays why room h = absurd h
+  loses s e (stepped.Gives (poll.Ready event)) kept stays why room h = absurd h
+  loses s e (stepped.Gives (poll.Failed f)) kept stays why room h =
+      owes_failed s f kept stays (ap (λ (x : Error). x.kind) h.0 ∙ room (subst (λ (x : Error). resumes x ≡ false) h.0 h.1))
+
+  -- that breaks the grammar
+  broken_loses : (cause : Error → Type 0) (s : ChangeStream) (e : Error) (r : Stepped) → s.aggregate ≡ at.aggregate → Leaves past at s.cursor → (cause e → (resumes e ≡ true) × Resumes past at) → FailsBy cause e → FailCause e r → StepCame awaited past at false (record s { phase = phase.Owing }) r
+  broken_loses cause s e r kept stays why (inl room) h =
+      loses s e r kept stays (λ so. absurd (not_both (resumes e) so (memory_stays e (kind_of_plain e kind.OutOfMemory room)))) (λ not. kind_of_plain e kind.OutOfMemory room) h
+  broken_loses cause s e r kept stays why (inr by) h = loses s e r kept stays (λ so. (why by).1) (λ not. absurd (not_both (resumes e) (why by).0 not)) h
+
+  -- the batch of the opening
+  module _ (resumed : Bool) (s : ChangeStream) (bytes : List ℕ) (far : SoFar awaited past at resumed (phase.First bytes) s) where
+    pub first_came : (t : ChangeStream) → HoldsBatch (fields bytes) (map fields t.buffer.items) → SoFar awaited past at resumed phase.Fresh (record s { buffer = t.buffer; phase = phase.Fresh })
+    first_came t holds = record { same = far.same; by = record { bytes = bytes; replied = opening far.by.0 far.by.1 far.by.2 far.by.3; holds = holds } }
+
+    pub first_lost : (s' : ChangeStream) (e : Error) (r : Stepped) → FailsBy (BreaksBatch (fields bytes)) e → s' ≡ record s { phase = phase.Owing } → FailCause e r → StepCame awaited past at resumed s' r
+    first_lost s' e r by is h =
+        subst (λ (b : Bool). StepCame awaited past at b s' r) (sym far.by.0)
+        (subst (λ (t : ChangeStream). StepCame awaited past at false t r) (sym is)
+        (broken_loses (BreaksBatch (fields bytes)) s e r far.same (same far.by.2) (λ breaks. (batch_resumes (fields bytes) e breaks, first_broken bytes e far.by.1 breaks)) by h))
+
+  -- a batch is in hand
+  module _ (resumed : Bool) (s : ChangeStream) (far : SoFar awaited past at resumed phase.Fresh s) where
+    pub fresh_takes : (s' : ChangeStream) (r : EventPoll) → s'.phase ≡ phase.Rest → TakeCause s s' r → StepCame awaited past at resumed s' (stepped.Gives r)
+    fresh_takes s' r rests h = took resumed s s' r far.same (came resumed far.by.bytes far.by.replied far.by.holds) rests h
+
+    fresh_ends : (s' : ChangeStream) → s.buffer.items ≡ [] → s'.phase ≡ phase.Rest → s'.cursor ≡ s.cursor → s'.buffer ≡ s.buffer → s'.aggregate ≡ remembered_empty s.batch_token s.aggregate → CallEmpty past at (standing_of s') resumed
+    fresh_ends s' empty rests cursor buffer remembers =
+        record {
+          why = came_empty far.by.bytes s.batch_token (subst (λ (c : CursorInformation). Replied past at resumed far.by.bytes c s.batch_token) (sym cursor) far.by.replied)
+              (subst (λ (es : List (List ℕ)). HoldsBatch (fields far.by.bytes) (map fields es)) empty far.by.holds) (remembers ∙ ap (remembered_empty s.batch_token) far.same);
+          empty = ap (λ b. map fields b.items) buffer ∙ ap (map fields) empty;
+          settled = settled s' rests;
+        }
+
+    pub fresh_token : (s' : ChangeStream) (token : Tree) (rest : Option Tree) → s.buffer.items ≡ [] → s.batch_token ≡ Some token → s' ≡ remembering token false (record s { batch_token = rest; phase = phase.Rest }) → CallEmpty past at (standing_of s') resumed
+    fresh_token s' token rest empty has is =
+        subst (λ (t : ChangeStream). CallEmpty past at (standing_of t) resumed) (sym is)
+        (fresh_ends (remembering token false (record s { batch_token = rest; phase = phase.Rest })) empty refl refl refl (ap (λ (o : Option Tree). remembered_empty o s.aggregate) (sym has)))
+
+    pub fresh_none : (s' : ChangeStream) (rest : Option Tree) → s.buffer.items ≡ [] → s.batch_token ≡ None → s' ≡ record s { batch_token = rest; phase = phase.Rest } → CallEmpty past at (standing_of s') resumed
+    fresh_none s' rest empty lacks is =
+        subst (λ (t : ChangeStream). CallEmpty past at (standing_of t) resumed) (sym is)
+        (fresh_ends (record s { batch_token = rest; phase = phase.Rest }) empty refl refl refl (ap (λ (o : Option Tree). remembered_empty o s.aggregate) (sym lacks)))
+
+  -- ---- a getMore
+
+  -- the reply came
+  pub more_kept : (s t : ChangeStream) (bytes : List ℕ) → t.aggregate ≡ s.aggregate → TellsCursor bytes s.cursor.batch_size t.cursor t.batch_token → HoldsBatch (fields bytes) (buffered t)
+      → s.aggregate ≡ at.aggregate → s.cursor ≡ at.cursor → HeardBy past (more_command at) (reply bytes) → SoFar awaited past at false phase.Fresh (record t { phase = phase.Fresh })
+  more_kept s t bytes stays tells holds kept cursor heard =
+      record {
+        same = stays ∙ kept;
+        by = record {
+          bytes = bytes;
+          replied = more refl heard (subst (λ (c : CursorInformation). TellsCursor bytes c.batch_size t.cursor t.batch_token) cursor tells);
+          holds = holds;
+        };
+      }
+
+  more_stays : (s t : ChangeStream) (bytes : List ℕ) → (t.cursor ≡ s.cursor) ⊎ ((upto : Option Tree) × TellsCursor bytes s.cursor.batch_size t.cursor upto) → s.cursor ≡ at.cursor → HeardBy past (more_command at) (reply bytes) → Leaves past at t.cursor
+  more_stays s t bytes (inl is) cursor heard = same (is ∙ cursor)
+  more_stays s t bytes (inr tells) cursor heard = told bytes tells.0 heard (subst (λ (c : CursorInformation). TellsCursor bytes c.batch_size t.cursor tells.0) cursor tells.1)
+
+  pub more_lost : (s t s' : ChangeStream) (bytes : List ℕ) (e : Error) (r : Stepped) → t.aggregate ≡ s.aggregate → (t.cursor ≡ s.cursor) ⊎ ((upto : Option Tree) × TellsCursor bytes s.cursor.batch_size t.cursor upto) → FailsBy (Breaks (fields bytes)) e → s' ≡ record t { phase = phase.Owing } → FailCause e r
+      → s.aggregate ≡ at.aggregate → s.cursor ≡ at.cursor → HeardBy past (more_command at) (reply bytes) → StepCame awaited past at false s' r
+  more_lost s t s' bytes e r stays cursors by is h kept cursor heard =
+      subst (λ (x : ChangeStream). StepCame awaited past at false x r) (sym is)
+      (broken_loses (Breaks (fields bytes)) t e r (stays ∙ kept) (more_stays s t bytes cursors cursor heard)
+      (λ breaks. let so = breaks_resumes (fields bytes) e breaks in (so, more_failed e (broken bytes heard breaks) so)) by h)
+
+  -- it failed
+  not_ended : (s : ChangeStream) (e : Error) (k : ErrorKind) → s.cursor ≡ at.cursor → e.kind ≡ k → ends_cursor (command_code k) ≡ false → (left_with s (ends_cursor (command_code e.kind))).cursor ≡ at.cursor
+  not_ended s e k cursor is lives = ap (λ (x : ErrorKind). (left_with s (ends_cursor (command_code x))).cursor) is ∙ ap (λ (b : Bool). (left_with s b).cursor) lives ∙ cursor
+
+  refused_stays : (s : ChangeStream) (e : Error) (bytes : List ℕ) (ends : Bool) → ends_cursor (command_code e.kind) ≡ ends → s.cursor ≡ at.cursor → HeardBy past (more_command at) (reply bytes) → FailsByReply (doc bytes) past.wire e → Leaves past at (left_with s ends).cursor
+  refused_stays s e bytes true is cursor heard by = ended bytes e heard by is (ap (λ (c : CursorInformation). record c { id = pos 0 }) cursor)
+  refused_stays s e bytes false is cursor heard by = same cursor
+
+  failed_stays : (s : ChangeStream) (e : Error) → s.cursor ≡ at.cursor → Failed past (more_command at) false e → Leaves past at (left_with s (ends_cursor (command_code e.kind))).cursor
+  failed_stays s e cursor (by_memory is) = same (not_ended s e kind.OutOfMemory cursor (kind_of_plain e kind.OutOfMemory is) refl)
+  failed_stays s e cursor (by_fault is heard) = same (not_ended s e kind.Io cursor (kind_of_plain e kind.Io is) refl)
+  failed_stays s e cursor (by_reply bytes heard by) = refused_stays s e bytes (ends_cursor (command_code e.kind)) refl cursor (heard_by past (more_command at) false (reply bytes) heard) by
+
+  more_fails : (e : Error) → Failed past (more_command at) false e → resumes e ≡ true → MoreFails past at e
+  more_fails e (by_memory is) so = absurd (not_both (resumes e) so (memory_stays e (kind_of_plain e kind.OutOfMemory is)))
+  more_fails e (by_fault is heard) so = lost is (heard_by past (more_command at) false fault heard)
+  more_fails e (by_reply bytes heard by) so = refused bytes (heard_by past (more_command at) false (reply bytes) heard) by
+
+  pub failed_lost : (s t s' : ChangeStream) (e : Error) (r : Stepped) → t ≡ left_with s (ends_cursor (command_code e.kind)) → s' ≡ record t { phase = phase.Owing } → (resumes e ≡ false → e.kind ≡ kind.OutOfMemory) → FailCause e r
+      → s.aggregate ≡ at.aggregate → IsStart at s → Failed past (more_command at) false e → StepCame awaited past at false s' r
+  failed_lost s t s' e r notes is room h kept start failed =
+      subst (λ (x : ChangeStream). StepCame awaited past at false x r) (sym (is ∙ ap (λ (x : ChangeStream). record x { phase = phase.Owing }) notes))
+      (loses (left_with s (ends_cursor (command_code e.kind))) e r kept (failed_stays s e start.cursor failed) (λ so. more_failed e (more_fails e failed so) so) room h)
+
+  -- for good
+  more_refused : (s : ChangeStream) (e : Error) → s.buffer.items ≡ [] → IsStart at s → at.events ≡ [] → resumes e ≡ false → (e.kind ≡ kind.OutOfMemory → ⊥) → Failed past (more_command at) false e → CallFails past at (standing_of (record (left_with s (ends_cursor (command_code e.kind))) { phase = phase.Rest })) e
+  more_refused s e empty start over not room (by_memory is) = absurd (room (kind_of_plain e kind.OutOfMemory is))
+  more_refused s e empty start over not room (by_fault is heard) = absurd (not_both (resumes e) (plain_resumes e kind.Io is refl) not)
+  more_refused s e empty start over not room (by_reply bytes heard by) =
+      refused_more bytes (record { quits = start.quits; looked = start.looked }) over (heard_by past (more_command at) false (reply bytes) heard) by not (ap (map fields) empty) (record { quits = refl; looked = refl })
+
+  pub failed_rests : (s t : ChangeStream) (e : Error) → t ≡ left_with s (ends_cursor (command_code e.kind)) → s.buffer.items ≡ [] → resumes e ≡ false → (e.kind ≡ kind.OutOfMemory → ⊥)
+      → s.aggregate ≡ at.aggregate → IsStart at s → at.events ≡ [] → Failed past (more_command at) false e → CallFailed past at (standing_of (record t { phase = phase.Rest })) e
+  failed_rests s t e notes empty not room kept start over failed =
+      subst (λ (x : ChangeStream). CallFailed past at (standing_of (record x { phase = phase.Rest })) e) (sym notes)
+      (record { why = more_refused s e empty start over not room failed; token = kept; cursor = leaves (failed_stays s e start.cursor failed) })
+
+  -- ---- a resumption
+
+  -- its aggregate is to be sent
+  pub owing_asks : (resumed : Bool) (s : ChangeStream) (exec : Sending) → exec.stage ≡ unsent → SoFar awaited past at resumed phase.Owing s → SoFar awaited past at resumed (phase.Resuming exec) (record s { phase = phase.Resuming exec })
+  owing_asks resumed s exec not_sent far =
+      record { same = far.same; by = (far.by.0, far.by.1, far.by.2, subst (λ (stage : Stage). Flies awaited past (resume_command past.wire at) stage) (sym not_sent) tt) }
+
+  cannot_again : (s : ChangeStream) (e : Error) → FailsBy (CannotBuild s.aggregate.args.options.batch_size (resuming_command s.aggregate past.wire)) e → s.aggregate ≡ at.aggregate → Resumes past at → CallFails past at (standing_of (record s { phase = phase.Owing })) e
+  cannot_again s e (inl room) kept why = no_memory (kind_of_plain e kind.OutOfMemory room) (inl refl)
+  cannot_again s e (inr by) kept why = cannot_resume refl why (subst (λ (a : ChangeStreamAggregate). CannotBuild a.args.options.batch_size (resuming_command a past.wire) e) kept by)
+
+  pub owing_fails : (resumed : Bool) (s : ChangeStream) (e : Error) → FailsBy (CannotBuild s.aggregate.args.options.batch_size (resuming_command s.aggregate past.wire)) e → SoFar awaited past at resumed phase.Owing s → CallFailed past at (standing_of (record s { phase = phase.Owing })) e
+  owing_fails resumed s e by far = record { why = cannot_again s e by far.same far.by.1; token = far.same; cursor = leaves far.by.2 }
+
+  -- it failed
+  again_fails : (s : ChangeStream) (e : Error) → Resumes past at → Failed past (resume_command past.wire at) true e → CallFails past at (standing_of (record s { phase = phase.Owing })) e
+  again_fails s e why (by_memory is) = no_memory (kind_of_plain e kind.OutOfMemory is) (inl refl)
+  again_fails s e why (by_fault is heard) = lost refl why is heard
+  again_fails s e why (by_reply bytes heard by) = refused bytes refl why heard by
+
+  -- the reply to it came
+  pub resumed_by : (s : ChangeStream) (bytes : List ℕ) (out : CursorSpecification) → Opens s.aggregate.args.options.batch_size bytes out → s.aggregate ≡ at.aggregate → Resumes past at → HeardBy past (resume_command past.wire at) (reply bytes) → Resumed past at out.initial_reply out.info out.post_batch_resume_token
+  resumed_by s bytes out opens kept why heard =
+      subst (λ (b : List ℕ). Resumed past at b out.info out.post_batch_resume_token) (sym opens.whole)
+      (record { why = why; heard = heard; tells = record { batch = opens.batch; says = opens.says; size_is = opens.size_is ∙ ap (λ (a : ChangeStreamAggregate). a.args.options.batch_size) kept } })
+
+  reply_breaks : (s : ChangeStream) (bytes : List ℕ) (e : Error) → FailsBy (Breaks (fields bytes)) e → Resumes past at → HeardBy past (resume_command past.wire at) (reply bytes) → CallFails past at (standing_of (record s { phase = phase.Owing })) e
+  reply_breaks s bytes e (inl room) why heard = no_memory (kind_of_plain e kind.OutOfMemory room) (inl refl)
+  reply_breaks s bytes e (inr by) why heard = broken bytes refl why heard by
+
+  pub resumption_breaks : (s : ChangeStream) (bytes : List ℕ) (e : Error) → FailsBy (BreaksIn (fields bytes)) e → s.aggregate ≡ at.aggregate → Resumes past at → Leaves past at s.cursor → HeardBy past (resume_command past.wire at) (reply bytes) → CallFailed past at (standing_of (record s { phase = phase.Owing })) e
+  resumption_breaks s bytes e by kept why stays heard = record { why = reply_breaks s bytes e (cursor_breaks (fields bytes) e by) why heard; token = kept; cursor = leaves stays }
+
+  -- the old cursor is not killed
+  kill_failed : (s s' : ChangeStream) (e : Error) (r : Stepped) (bytes : List ℕ) → s.aggregate ≡ at.aggregate → Resumed past at bytes s.cursor s.batch_token → (old : CursorInformation) → Leaves past at old → ((e.kind ≡ kind.OutOfMemory → ⊥) → Killed past old) → KillCause e bytes s s' r → StepCame awaited past at false s' r
+  kill_failed s s' e stepped.Goes bytes kept new old stays killed h =
+      subst (λ (x : ChangeStream). SoFar awaited past at false x.phase x) (sym h.0) (record { same = kept; by = (refl, again refl new old stays (killed h.1)) })
+  kill_failed s s' e (stepped.Gives poll.Pending) bytes kept new old stays killed h = absurd h.1
+  kill_failed s s' e (stepped.Gives (poll.Ready event)) bytes kept new old stays killed h = absurd h.1
+  kill_failed s s' e (stepped.Gives (poll.Failed f)) bytes kept new old stays killed h =
+      subst (λ (x : ChangeStream). CallFailed past at (standing_of x) f) (sym h.0) (record { why = no_memory h.1 (inl refl); token = kept; cursor = renewed bytes s.batch_token new })
+
+  -- its cursor replaces the old one
+  module _ (s : ChangeStream) (out : CursorSpecification) (d old : CursorInformation) (is : d ≡ out.info) (before : old ≡ s.cursor) (kept : s.aggregate ≡ at.aggregate) (stays : Leaves past at s.cursor) (new : Resumed past at out.initial_reply out.info out.post_batch_resume_token) where
+    new_by : Resumed past at out.initial_reply d out.post_batch_resume_token
+    new_by = subst (λ (c : CursorInformation). Resumed past at out.initial_reply c out.post_batch_resume_token) (sym is) new
+
+    left_old : Leaves past at old
+    left_old = subst (λ (c : CursorInformation). Leaves past at c) (sym before) stays
+
+    gone_so_far : Killed past old → SoFar awaited past at false (phase.Resumed out.initial_reply) (record s { cursor = d; batch_token = out.post_batch_resume_token; phase = phase.Resumed out.initial_reply })
+    gone_so_far killed = record { same = kept; by = (refl, again refl new_by old left_old killed) }
+
+    pub replace_none : old.id ≡ pos 0 → SoFar awaited past at false (phase.Resumed out.initial_reply) (record s { cursor = d; batch_token = out.post_batch_resume_token; phase = phase.Resumed out.initial_reply })
+    replace_none over = gone_so_far (none over)
+
+    pub replace_kills : (exec : Sending) (id : ℤ) → old.id ≡ id → fields exec.command ≡ old_command old → exec.stage ≡ unsent → SoFar awaited past at false (phase.Killing exec id out.initial_reply) (record s { cursor = d; batch_token = out.post_batch_resume_token; phase = phase.Killing exec id out.initial_reply })
+    replace_kills exec id named command not_sent =
+        record {
+          same = kept;
+          by = (refl, old, record { left = left_old; named = named; resumed = new_by }, command, subst (λ (stage : Stage). Flies awaited past (old_command old) stage) (sym not_sent) tt);
+        }
+
+    -- or is not killed
+    pub replace_failed : (s' : ChangeStream) (e : Error) (r : Stepped) → FailsBy (CannotBeSent (old_command old)) e → KillCause e out.initial_reply (record s { cursor = d; batch_token = out.post_batch_resume_token }) s' r → StepCame awaited past at false s' r
+    replace_failed s' e r by h = kill_failed (record s { cursor = d; batch_token = out.post_batch_resume_token }) s' e r out.initial_reply kept new_by old left_old (λ not. unbuilt e (cannot_by (CannotBeSent (old_command old)) e by not)) h
+
+  -- the batch of a resumption
+  resumed_in : (c : CursorInformation) (bytes : List ℕ) (upto : Option Tree) → Replied past at true bytes c upto → Resumed past at bytes c upto
+  resumed_in c bytes upto (opening not first cursor token) = absurd cc
+  resumed_in c bytes upto (more not heard tells) = absurd cc
+  resumed_in c bytes upto (again is r old stays killed) = r
+
+  module _ (resumed : Bool) (s : ChangeStream) (bytes : List ℕ) (far : SoFar awaited past at resumed (phase.Resumed bytes) s) where
+    pub resumed_came : (t : ChangeStream) → HoldsBatch (fields bytes) (map fields t.buffer.items) → SoFar awaited past at true phase.Fresh (record s { buffer = t.buffer; phase = phase.Fresh })
+    resumed_came t holds = record { same = far.same; by = record { bytes = bytes; replied = far.by.1; holds = holds } }
+
+    pub resumed_breaks : (e : Error) → FailsBy (BreaksBatch (fields bytes)) e → CallFailed past at (standing_of (record s { phase = phase.Owing })) e
+    resumed_breaks e by =
+        let r = resumed_in s.cursor bytes s.batch_token far.by.1 in
+        record { why = reply_breaks s bytes e (batch_breaks (fields bytes) e by) r.why r.heard; token = far.same; cursor = renewed bytes s.batch_token r }
+
+  -- neither the phase that was taken out nor the counts tell how far a call has come
+  start_by : (s : ChangeStream) (q : Phase) (c : Counts) → IsStart at s → IsStart at (record s { phase = q; counts = c })
+  start_by s q c start = record { quits = start.quits; looked = start.looked; cursor = start.cursor; events = start.events; upto = start.upto }
+
+  phase_by : (resumed : Bool) (p : Phase) (s : ChangeStream) (q : Phase) (c : Counts) → ByPhase awaited past at resumed p s → ByPhase awaited past at resumed p (record s { phase = q; counts = c })
+  phase_by resumed phase.Taken s q c by = (by.0, start_by s q c by.1)
+  phase_by resumed phase.Rest s q c by = (by.0, start_by s q c by.1)
+  phase_by resumed (phase.First bytes) s q c by = by
+  phase_by resumed phase.Fresh s q c by = record { bytes = by.bytes; replied = by.replied; holds = by.holds }
+  phase_by resumed (phase.Asking get_more exec) s q c by = (by.0, start_by s q c by.1, by.2, by.3)
+  phase_by resumed phase.Owing s q c by = by
+  phase_by resumed (phase.Resuming exec) s q c by = by
+  phase_by resumed (phase.Killing exec id bytes) s q c by = (by.0, by.1, record { left = by.2.left; named = by.2.named; resumed = by.2.resumed }, by.3, by.4)
+  phase_by resumed (phase.Resumed bytes) s q c by = by
+
+  pub so_far_by : (resumed : Bool) (p : Phase) (s : ChangeStream) (q : Phase) (c : Counts) → SoFar awaited past at resumed p s → SoFar awaited past at resumed p (record s { phase = q; counts = c })
+  so_far_by resumed p s q c far = record { same = far.same; by = phase_by resumed p s q c far.by }
+
+-- a stream between two calls begins a call
+begins_in : (awaited : Awaited) (past : Past) (p : Phase) (s : ChangeStream) → AtRest p → ByPhase awaited past (standing_of (record s { phase = p })) false p (record s { phase = p })
+begins_in awaited past phase.Taken s rests = absurd rests
+begins_in awaited past phase.Rest s rests = (refl, record { quits = refl; looked = refl; cursor = refl; events = refl; upto = refl })
+begins_in awaited past (phase.First bytes) s rests = (refl, refl, refl, refl)
+begins_in awaited past phase.Fresh s rests = absurd rests
+begins_in awaited past (phase.Asking get_more exec) s rests = absurd rests
+begins_in awaited past phase.Owing s rests = (refl, owed refl, same refl)
+begins_in awaited past (phase.Resuming exec) s rests = absurd rests
+begins_in awaited past (phase.Killing exec id bytes) s rests = absurd rests
+begins_in awaited past (phase.Resumed bytes) s rests = absurd rests
+
+pub begins : (awaited : Awaited) (past : Past) (s : ChangeStream) → AtRest s.phase → SoFar awaited past (standing_of s) false s.phase s
+begins awaited past s rests = record { same = refl; by = begins_in awaited past s.phase s rests }
+
+-- ---- steps with a link
+
+-- a command that waits is the one that was sent
+command_stays : (old new : Awaited) (log log' : Told) (wire : ℤ) (s s' : Sending) → Runs old new log log' wire s (step.Pending s') → s'.command ≡ s.command
+command_stays old new log log' wire s s' (inl once) = ap (λ (x : Sending). x.command) once.gives.2
+command_stays old new log log' wire s s' (inr twice) = ap (λ (x : Sending). x.command) twice.gives.2
+
+module _ (old new : Awaited) (log log' : Told) (wire : ℤ) (s : ChangeStream) where
+  -- a getMore
+  module _ (get_more : GetMore) (exec : Sending) (asking : IsAsking s exec) where
+    asked : (result : Step Sending (List ℕ)) → Runs old new log log' wire exec result → (calls : List Call) → log ≡ Some calls → (places : List ℕ) (since : ℕ) (at : Standing) (resumed : Bool) → since ≤ length calls → SoFar old (past_of places since calls wire) at resumed (phase.Asking get_more exec) s
+        → Ran new places since calls log' wire (more_command at) false result
+    asked result runs calls logged places since at resumed room far =
+        request_ran old new log log' wire exec (more_command at) false result (asking.carries.command_is ∙ ap (λ (c : CursorInformation). get_more_command c.id (space c.ns) c.batch_size) far.by.1.cursor) asking.carries.retries_is runs
+        calls logged places since room far.by.3
+
+    pub asking_waits : (get_more' : GetMore) (exec' : Sending) → Runs old new log log' wire exec (step.Pending exec') → StepCaused old new log log' wire (phase.Asking get_more exec) s (record s { phase = phase.Asking get_more' exec' }) (stepped.Gives poll.Pending)
+    asking_waits get_more' exec' runs = λ calls logged places since at resumed room far.
+        let ran = asked (step.Pending exec') runs calls logged places since at resumed room far in
+        let past = past_of places since ran.calls' wire in
+        record {
+          calls = ran.calls';
+          told = ran.told;
+          room = ran.room;
+          came = record { same = far.same; by = (refl, start_in new past at s (phase.Asking get_more' exec') far.by.1, far.by.2, ran.came) };
+        }
+
+    pub asking_came : (bytes : List ℕ) (s' : ChangeStream) (r : Stepped) → Runs old new log log' wire exec (step.Done bytes) → MoreLeads bytes s s' r → StepCaused old new log log' wire (phase.Asking get_more exec) s s' r
+    asking_came bytes s' r runs leads = λ calls logged places since at resumed room far.
+        let ran = asked (step.Done bytes) runs calls logged places since at resumed room far in
+        let past = past_of places since ran.calls' wire in
+        record {
+          calls = ran.calls';
+          told = ran.told;
+          room = ran.room;
+          came = subst (λ (b : Bool). StepCame new past at b s' r) (sym far.by.0) (leads new past at far.same far.by.1.cursor (heard_by past (more_command at) false (reply bytes) ran.came));
+        }
+
+    pub asking_failed : (e : Error) (s' : ChangeStream) (r : Stepped) → Runs old new log log' wire exec (step.Failed e) → FailLeads e s s' r → StepCaused old new log log' wire (phase.Asking get_more exec) s s' r
+    asking_failed e s' r runs leads = λ calls logged places since at resumed room far.
+        let ran = asked (step.Failed e) runs calls logged places since at resumed room far in
+        let past = past_of places since ran.calls' wire in
+        record {
+          calls = ran.calls';
+          told = ran.told;
+          room = ran.room;
+          came = subst (λ (b : Bool). StepCame new past at b s' r) (sym far.by.0) (leads new past at far.same far.by.1 far.by.2 ran.came);
+        }
+
+  -- a resumption
+  module _ (exec : Sending) (carries : Carries exec (resuming_command s.aggregate wire) true) where
+    asked_again : (result : Step Sending (List ℕ)) → Runs old new log log' wire exec result → (calls : List Call) → log ≡ Some calls → (places : List ℕ) (since : ℕ) (at : Standing) (resumed : Bool) → since ≤ length calls → SoFar old (past_of places since calls wire) at resumed (phase.Resuming exec) s
+        → Ran new places since calls log' wire (resume_command wire at) true result
+    asked_again result runs calls logged places since at resumed room far =
+        request_ran old new log log' wire exec (resume_command wire at) true result (carries.command_is ∙ ap (λ (a : ChangeStreamAggregate). resuming_command a wire) far.same) carries.retries_is runs calls logged places since room far.by.3
+
+    pub resuming_waits : (exec' : Sending) → Runs old new log log' wire exec (step.Pending exec') → StepCaused old new log log' wire (phase.Resuming exec) s (record s { phase = phase.Resuming exec' }) (stepped.Gives poll.Pending)
+    resuming_waits exec' runs = λ calls logged places since at resumed room far.
+        let ran = asked_again (step.Pending exec') runs calls logged places since at resumed room far in
+        let before = past_of places since calls wire in
+        let past = past_of places since ran.calls' wire in
+        record {
+          calls = ran.calls';
+          told = ran.told;
+          room = ran.room;
+          came = record { same = far.same; by = (refl, resumes_grows before past ran.grows at far.by.1, leaves_grows before past ran.grows at s.cursor far.by.2, ran.came) };
+        }
+
+    pub resuming_came : (bytes : List ℕ) (s' : ChangeStream) (r : Stepped) → Runs old new log log' wire exec (step.Done bytes) → ResumeLeads bytes s s' r → StepCaused old new log log' wire (phase.Resuming exec) s s' r
+    resuming_came bytes s' r runs leads = λ calls logged places since at resumed room far.
+        let ran = asked_again (step.Done bytes) runs calls logged places since at resumed room far in
+        let before = past_of places since calls wire in
+        let past = past_of places since ran.calls' wire in
+        record {
+          calls = ran.calls';
+          told = ran.told;
+          room = ran.room;
+          came = subst (λ (b : Bool). StepCame new past at b s' r) (sym far.by.0)
+              (leads new past at far.same (resumes_grows before past ran.grows at far.by.1) (leaves_grows before past ran.grows at s.cursor far.by.2) (heard_by past (resume_command wire at) true (reply bytes) ran.came));
+        }
+
+    pub resuming_failed : (e : Error) → Runs old new log log' wire exec (step.Failed e) → StepCaused old new log log' wire (phase.Resuming exec) s (record s { phase = phase.Owing }) (stepped.Gives (poll.Failed e))
+    resuming_failed e runs = λ calls logged places since at resumed room far.
+        let ran = asked_again (step.Failed e) runs calls logged places since at resumed room far in
+        let before = past_of places since calls wire in
+        let past = past_of places since ran.calls' wire in
+        record {
+          calls = ran.calls';
+          told = ran.told;
+          room = ran.room;
+          came = record {
+            why = again_fails new past at s e (resumes_grows before past ran.grows at far.by.1) ran.came;
+            token = far.same;
+            cursor = leaves (leaves_grows before past ran.grows at s.cursor far.by.2);
+          };
+        }
+
+  -- the killing of the cursor before it
+  module _ (exec : Sending) (id : ℤ) (bytes : List ℕ) (killing : IsKilling id exec) where
+    killing_ran : (result : Step Sending (List ℕ)) → Runs old new log log' wire exec result → (calls : List Call) → log ≡ Some calls → (places : List ℕ) (since : ℕ) (at : Standing) (resumed : Bool) → since ≤ length calls → (far : SoFar old (past_of places since calls wire) at resumed (phase.Killing exec id bytes) s)
+        → Ran new places since calls log' wire (old_command far.by.1) false result
+    killing_ran result runs calls logged places since at resumed room far = request_ran old new log log' wire exec (old_command far.by.1) false result far.by.3 killing.carries.retries_is runs calls logged places since room far.by.4
+
+    pub killing_waits : (exec' : Sending) (id' : ℤ) → id' ≡ id → Runs old new log log' wire exec (step.Pending exec') → StepCaused old new log log' wire (phase.Killing exec id bytes) s (record s { phase = phase.Killing exec' id' bytes }) (stepped.Gives poll.Pending)
+    killing_waits exec' id' is runs = λ calls logged places since at resumed room far.
+        let ran = killing_ran (step.Pending exec') runs calls logged places since at resumed room far in
+        let before = past_of places since calls wire in
+        let past = past_of places since ran.calls' wire in
+        record {
+          calls = ran.calls';
+          told = ran.told;
+          room = ran.room;
+          came = record {
+            same = far.same;
+            by = (
+              refl,
+              far.by.1,
+              record { left = leaves_grows before past ran.grows at far.by.1 far.by.2.left; named = far.by.2.named ∙ sym is; resumed = resumed_grows before past ran.grows at bytes s.cursor s.batch_token far.by.2.resumed },
+              ap fields (command_stays old new log log' wire exec exec' runs) ∙ far.by.3,
+              ran.came,
+            );
+          };
+        }
+
+    pub killing_came : (said : List ℕ) → Runs old new log log' wire exec (step.Done said) → StepCaused old new log log' wire (phase.Killing exec id bytes) s (record s { phase = phase.Resumed bytes }) stepped.Goes
+    killing_came said runs = λ calls logged places since at resumed room far.
+        let ran = killing_ran (step.Done said) runs calls logged places since at resumed room far in
+        let before = past_of places since calls wire in
+        let past = past_of places since ran.calls' wire in
+        record {
+          calls = ran.calls';
+          told = ran.told;
+          room = ran.room;
+          came = record {
+            same = far.same;
+            by = (
+              far.by.0,
+              again refl (resumed_grows before past ran.grows at bytes s.cursor s.batch_token far.by.2.resumed) far.by.1 (leaves_grows before past ran.grows at far.by.1 far.by.2.left)
+                  (tried (reply said) (λ waits. cc) (heard_by past (old_command far.by.1) false (reply said) ran.came)),
+            );
+          };
+        }
+
+    pub killing_failed : (e : Error) (s' : ChangeStream) (r : Stepped) → Runs old new log log' wire exec (step.Failed e) → KillCause e bytes s s' r → StepCaused old new log log' wire (phase.Killing exec id bytes) s s' r
+    killing_failed e s' r runs h = λ calls logged places since at resumed room far.
+        let ran = killing_ran (step.Failed e) runs calls logged places since at resumed room far in
+        let before = past_of places since calls wire in
+        let past = past_of places since ran.calls' wire in
+        record {
+          calls = ran.calls';
+          told = ran.told;
+          room = ran.room;
+          came = subst (λ (b : Bool). StepCame new past at b s' r) (sym far.by.0)
+              (kill_failed new past at s s' e r bytes far.same (resumed_grows before past ran.grows at bytes s.cursor s.batch_token far.by.2.resumed) far.by.1 (leaves_grows before past ran.grows at far.by.1 far.by.2.left)
+              (kill_tried past far.by.1 e ran.came) h);
+        }
+
+-- ---- steps of a poll
+
+-- from the phase that was taken out
+pub caused_taken : (old new : Awaited) (log log' : Told) (wire : ℤ) (p q : Phase) (s s' : ChangeStream) (r : Stepped) → s.phase ≡ p → StepCaused old new log log' wire p (record s { phase = q }) s' r → StepCaused old new log log' wire s.phase s s' r
+caused_taken old new log log' wire p q s s' r is h =
+    subst (λ (x : Phase). StepCaused old new log log' wire x s s' r) (sym is)
+    (λ calls logged places since at resumed room far. h calls logged places since at resumed room (so_far_by old (past_of places since calls wire) at resumed p s q s.counts far))
+
+-- without a link
+quietly : (old : Awaited) (log : Told) (wire : ℤ) (p : Phase) (s s' : ChangeStream) (r : Stepped) → StepLeads p s s' r → StepCaused old old log log wire p s s' r
+quietly old log wire p s s' r h = λ calls logged places since at resumed room far. record { calls = calls; told = logged; room = room; came = h old (past_of places since calls wire) at resumed far }
+
+pub caused_quietly : (old : Awaited) (log : Told) (wire : ℤ) (p q : Phase) (s s' : ChangeStream) (r : Stepped) → s.phase ≡ p → StepLeads p (record s { phase = q }) s' r → StepCaused old old log log wire s.phase s s' r
+caused_quietly old log wire p q s s' r is h = caused_taken old old log log wire p q s s' r is (quietly old log wire p (record s { phase = q }) s' r h)
+
+pub caused_owing : (old : Awaited) (log : Told) (wire wire' : ℤ) (q : Phase) (s s' : ChangeStream) (r : Stepped) → s.phase ≡ phase.Owing → wire ≡ wire' → OweLeads wire' (record s { phase = q }) s' r → StepCaused old old log log wire s.phase s s' r
+caused_owing old log wire wire' q s s' r is at_wire h =
+    caused_taken old old log log wire phase.Owing q s s' r is
+    (λ calls logged places since at resumed room far. record { calls = calls; told = logged; room = room; came = h old (past_of places since calls wire) at resumed at_wire far })
+
+-- a phase that was taken out is rest
+pub from_rest : (s s' : ChangeStream) (r : Stepped) → StepLeads phase.Rest s s' r → StepLeads phase.Taken s s' r
+from_rest s s' r h = λ awaited past at resumed far. h awaited past at resumed (record { same = far.same; by = far.by })
+
+-- ---- polls
+
+-- how far the steps of a poll have come
+abbrev pub Went : Awaited → Awaited → Told → Told → ℤ → ChangeStream → ChangeStream → Type 0
+Went old new log log' wire s s' = (calls : List Call) → log ≡ Some calls → (places : List ℕ) (at : Standing) → SoFar old (past_of places (length calls) calls wire) at false s.phase s
+    → (resumed : Bool) × StepCalled new places (length calls) log' wire at resumed s' stepped.Goes
+
+pub went_none : (old : Awaited) (log : Told) (wire : ℤ) (s : ChangeStream) → Went old old log log wire s s
+went_none old log wire s = λ calls logged places at far. (false, record { calls = calls; told = logged; room = omega arith; came = far })
+
+call_came : (awaited : Awaited) (past : Past) (at : Standing) (resumed : Bool) (s : ChangeStream) (c : Counts) (r : EventPoll) → StepCame awaited past at resumed s (stepped.Gives r) → CallCame awaited past at (record s { counts = c }) r
+call_came awaited past at resumed s c poll.Pending h = so_far_by awaited past at false s.phase s s.phase c h
+call_came awaited past at resumed s c (poll.Ready None) h = (resumed, h)
+call_came awaited past at resumed s c (poll.Ready (Some event)) h = h
+call_came awaited past at resumed s c (poll.Failed e) h = h
+
+module _ (old between new : Awaited) (log mid log' : Told) (wire wire' : ℤ) (s t s' : ChangeStream) (at_wire : wire' ≡ wire) (before : Went old between log mid wire s t) where
+  stepped_on : (r : Stepped) → StepCaused between new mid log' wire' t.phase t s' r → (calls : List Call) → log ≡ Some calls → (places : List ℕ) (at : Standing) → SoFar old (past_of places (length calls) calls wire) at false s.phase s
+      → (resumed : Bool) × StepCalled new places (length calls) log' wire at resumed s' r
+  stepped_on r h calls logged places at far =
+      let x = before calls logged places at far in
+      let h' = subst (λ (w : ℤ). StepCaused between new mid log' w t.phase t s' r) at_wire h in
+      (_, h' x.1.calls x.1.told places (length calls) at x.0 x.1.room x.1.came)
+
+  pub went_on : StepCaused between new mid log' wire' t.phase t s' stepped.Goes → Went old new log log' wire s s'
+  went_on h = stepped_on stepped.Goes h
+
+  -- the call pends, or has ended
+  pub went_last : (t' : ChangeStream) (r : EventPoll) → t' ≡ record s' { counts = t'.counts } → StepCaused between new mid log' wire' t.phase t s' (stepped.Gives r) → CallCaused old new log log' wire s t' r
+  went_last t' r is h = λ calls logged places at far.
+      let x = stepped_on (stepped.Gives r) h calls logged places at far in
+      let past = past_of places (length calls) x.1.calls wire in
+      (x.1.calls, x.1.told, subst (λ (u : ChangeStream). CallCame new past at u r) (sym is) (call_came new past at x.0 s' t'.counts r x.1.came))

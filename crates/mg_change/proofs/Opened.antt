@@ -96,9 +96,15 @@ saved_by false p q r o time is = saved_if (p || q || r) o time is
 pub saved_for : (o : ChangeStreamOptions) (wire : ℤ) (is_empty has_token : Bool) (time : Option Timestamp) → SavedFor o (saved_time o wire is_empty has_token time)
 saved_for o wire is_empty has_token time = saved_by (has_start o) (int_lt wire times_from) (not is_empty) has_token o time refl
 
+-- two that remember the same are one
+pub known_by : (d e : ChangeStreamData) → d.initial_operation_time ≡ e.initial_operation_time → d.resume_token ≡ e.resume_token → d.document_returned ≡ e.document_returned → d ≡ e
+known_by d e time token returned =
+    ap (λ (t : _). record d { initial_operation_time = t }) time ∙ ap (λ (t : _). record { initial_operation_time = e.initial_operation_time; resume_token = t; document_returned = d.document_returned }) token
+    ∙ ap (λ (b : _). record { initial_operation_time = e.initial_operation_time; resume_token = e.resume_token; document_returned = b }) returned
+
 -- the stream of an opening is sound
-pub opened_sound : (a : WatchArgs) (bytes : List ℕ) (s : ChangeStream) → IsOpened a bytes s → (wire : ℤ) → IsSound wire s
-opened_sound a bytes s o wire = record { kept = o.kept; sends = subst (Sends wire s) (sym o.phase_is) tt }
+pub opened_sound : (a : WatchArgs) (version : ℤ) (bytes : List ℕ) (s : ChangeStream) → IsOpened a version bytes s → (wire : ℤ) → IsSound wire s
+opened_sound a version bytes s o wire = record { kept = o.kept; sends = subst (Sends wire s) (sym o.phase_is) tt }
 
 -- ---- the command
 
@@ -137,17 +143,17 @@ next_keeps a wire exec e (step.Failed x) next k = tt
 abbrev cursor_read : ChangeStream → Items → Cursor
 cursor_read s batch = record { id = s.cursor.id; space = space s.cursor.ns; token = s.batch_token; batch = batch }
 
-opened_by : (mid log' : Told) (awaited : Awaited) (a : WatchArgs) (w : Watch) (start : Start) (place : Option ℕ) (bytes : List ℕ) (s : ChangeStream) (o : IsOpened a bytes s) (events : Option (List Fields)) → documents_in o.batch ≡ events → Asks a w start → IsSuccess bytes → Sees mid log' place (reply bytes)
+opened_by : (mid log' : Told) (awaited : Awaited) (a : WatchArgs) (w : Watch) (start : Start) (place : Option ℕ) (version : ℤ) (bytes : List ℕ) (s : ChangeStream) (o : IsOpened a version bytes s) (events : Option (List Fields)) → documents_in o.batch ≡ events → Asks a w start → IsSuccess bytes → Sees mid log' place (reply bytes)
     → Moved mid log' (waits_at w start place) (follow_in awaited (phase.First bytes) w start s place [])
-opened_by mid log' awaited a w start place bytes s o None has asks success sees =
+opened_by mid log' awaited a w start place version bytes s o None has asks success sees =
     let c = cursor_read s o.batch in
     let none : batch_of (fields bytes) ≡ None = batch_read (fields bytes) c o.says ∙ ap (option_map (batch_as c)) has in
     start_garbled mid log' (waits_at w start place) place bytes s.cursor.id (events_in bytes) s.batch_token (token_of s.aggregate.resume) refl (watch_spoiled w start bytes success none) sees
-opened_by mid log' awaited a w start place bytes s o (Some events) has asks success sees =
+opened_by mid log' awaited a w start place version bytes s o (Some events) has asks success sees =
     let c = cursor_read s o.batch in
     let some : batch_of (fields bytes) ≡ Some (batch_as c events) = batch_read (fields bytes) c o.says ∙ ap (option_map (batch_as c)) has in
     let heard = start_heard mid log' (waits_at w start place) place bytes (batch_as c events) refl (record { success = success; batch_is = some }) sees in
-    let token = o.begins ∙ first_behind a.options start o.batch events o.is_empty s.batch_token asks.from has o.empty in
+    let token = ap token_of o.known ∙ first_behind a.options start o.batch events o.is_empty s.batch_token asks.from has o.empty in
     let ahead : events_in bytes ≡ events = events_read bytes c o.says ∙ ap (λ (d : Option (List Fields)). unwrap_or d []) has in
     let f : Follow = opened_with (waits_at w start place) place (batch_as c events) in
     let with_ahead : Moved mid log' (waits_at w start place) (record f { ahead = events_in bytes }) = subst (λ (es : List Fields). Moved mid log' (waits_at w start place) (record f { ahead = es })) (sym ahead) heard in
@@ -182,9 +188,9 @@ module _ (a : WatchArgs) (w : Watch) (start : Start) (old new : Awaited) (log lo
   opening_lost bytes runs = (ran s.command (not_open w start) (waits_at w start) (opened_with (not_open w start)) (opening_request s.command (not_open w start) asks_so) old new log log' wire s (step.Done bytes) refl runs).0
 
   -- A reply came, and a stream was made of it.
-  pub opening_came : (bytes : List ℕ) (stream : ChangeStream) → IsOpened a bytes stream → Runs old new log log' wire s (step.Done bytes) → (opened : Option ℕ) × Moved log log' (opening_in old (Some s) w start) (follow_of new w start stream opened [])
-  opening_came bytes stream o runs =
+  pub opening_came : (version : ℤ) (bytes : List ℕ) (stream : ChangeStream) → IsOpened a version bytes stream → Runs old new log log' wire s (step.Done bytes) → (opened : Option ℕ) × Moved log log' (opening_in old (Some s) w start) (follow_of new w start stream opened [])
+  opening_came version bytes stream o runs =
       let c = came s.command (not_open w start) (waits_at w start) (opened_with (not_open w start)) (opening_request s.command (not_open w start) asks_so) old new log log' wire s bytes refl runs in
-      let last = opened_by c.mid log' new a w start c.place bytes stream o (documents_in o.batch) refl asks c.success c.sees in
+      let last = opened_by c.mid log' new a w start c.place version bytes stream o (documents_in o.batch) refl asks c.success c.sees in
       let here = subst (λ (p : Phase). Moved c.mid log' (waits_at w start c.place) (follow_in new p w start stream c.place [])) (sym o.phase_is) last in
       (c.place, moved log c.mid log' (opening_in old (Some s) w start) (waits_at w start c.place) (follow_of new w start stream c.place []) c.out here)

@@ -1,10 +1,10 @@
 -- What the answers of an opening are caused by.
-use Rattle.std.proofs.Common.{◌≡◌, ℕ, ℤ, List, true, Option, Some, None, refl, sym, ap, subst, inl, inr}
-use Rattle.mg_bson.specs.Tree.{Fields}
+use Rattle.std.proofs.Common.{refl, sym, ◌∙◌, ◌≡◌, ℕ, ℤ, true, List, length, Option, Some, None, ap, subst, inl, inr, arith}
 use Rattle.mg_bson.specs.Raw.{fields}
-use Rattle.mg_link.specs.Exec.{Sending, Runs, ticket_at, ticket_of}
+use Rattle.mg_bson.specs.Reading.{doc}
+use Rattle.mg_link.specs.Exec.{Runs, Sending, Stage}
 use Rattle.mg_link.specs.Link.{Awaited, Told}
-use Rattle.mg_link.specs.Log.{Sight, reply, fault}
+use Rattle.mg_link.specs.Log.{reply}
 use Rattle.mg_link.specs.declared.action.Step.{Step}
 use Rattle.mg_link.specs.declared.action.Step.TheVariants as step
 use Rattle.mg_link.specs.declared.error.Error.{Error}
@@ -13,84 +13,108 @@ use Rattle.mg_ops.specs.Failing.{FailsBy}
 use Rattle.mg_ops.specs.declared.aggregate.ChangeStreamAggregate.{ChangeStreamAggregate}
 use Rattle.mg_ops.specs.declared.change_stream.ChangeStreamData.{ChangeStreamData}
 use Rattle.mg_ops.specs.declared.change_stream.WatchArgs.{WatchArgs}
-use Rattle.mg_change.specs.Causes.{CannotBuild, Heard, placed}
-use Rattle.mg_change.specs.OpeningCauses.{HeardOpening, OpeningCause, OpeningCaused, OpeningFails, Over, broken, cannot_open, lost, no_memory, refused}
-use Rattle.mg_change.specs.Openings.{IsNextSent, exec_ticket, opening_command}
+use Rattle.mg_change.specs.Calls.{Came, Failed, Flies, Grows, HeardLast, Past, by_fault, by_memory, by_reply, past_of}
+use Rattle.mg_change.specs.Causes.{CannotBuild, Standing, first_in, standing_of}
+use Rattle.mg_change.specs.OpeningCauses.{Opened, OpeningCame, OpeningCaused, OpeningFails, OpensSoFar, broken, cannot_open, lost, no_memory, refused}
+use Rattle.mg_change.specs.Openings.{IsNextSent, IsOpened, exec_ticket, first_known, opening_command}
 use Rattle.mg_change.specs.Phases.{Carries, resuming_command}
 use Rattle.mg_change.specs.declared.opening.Opening.{Opening}
 use Rattle.mg_change.specs.declared.stream.ChangeStream.{ChangeStream}
-use Rattle.mg_change.specs.declared.stream.Phase.TheVariants as phase
-use Rattle.mg_change.proofs.Causes.{Failed, by_fault, by_memory, by_reply, ran_done, ran_failed, stays_ran, stays_same}
+use Rattle.mg_change.proofs.Calls.{request_ran}
+use Rattle.mg_change.proofs.Growing.{by_reply_grows, flies_grows, last_fault, last_reply}
 
-abbrev over : WatchArgs → Awaited → Told → Told → ℤ → Option Sending → Over
-over a old log log' wire exec = record { awaited = old; log = log; log' = log'; wire = wire; args = a; exec = exec }
+-- ---- its request
+
+opened_by : (past : Past) (a : WatchArgs) (version : ℤ) (bytes : List ℕ) (s : ChangeStream) → version ≡ past.wire → IsOpened a version bytes s → HeardLast past (opening_command a) true (reply bytes) → Opened past a (standing_of s)
+opened_by past a version bytes s at is heard = record {
+  args_are = is.args_is;
+  bytes = bytes;
+  heard = heard;
+  in_hand = ap first_in is.phase_is;
+  tells = record { batch = is.batch; says = is.says; size_is = is.size_is };
+  is_empty = is.is_empty;
+  empty = is.empty;
+  time = is.time;
+  time_is = is.time_is;
+  known = subst (λ (w : ℤ). s.aggregate.resume ≡ Some (first_known a w is.is_empty s.batch_token is.time)) at is.known;
+}
+
+lost_by : (past : Past) (a : WatchArgs) (bytes : List ℕ) (e : Error) → FailsBy (BreaksIn (fields bytes)) e → HeardLast past (opening_command a) true (reply bytes) → OpeningFails past a e
+lost_by past a bytes e (inl room) heard = no_memory (ap (λ (x : Error). x.kind) room)
+lost_by past a bytes e (inr by) heard = broken bytes heard by
+
+failed_by : (past : Past) (a : WatchArgs) (e : Error) → Failed past (opening_command a) true e → OpeningFails past a e
+failed_by past a e (by_memory room) = no_memory (ap (λ (x : Error). x.kind) room)
+failed_by past a e (by_fault io heard) = lost io heard
+failed_by past a e (by_reply bytes heard by) = refused bytes heard by
 
 module _ (a : WatchArgs) (old new : Awaited) (log log' : Told) (wire : ℤ) (exec : Sending) (carries : Carries exec (opening_command a) true) where
-  -- It waits still.
-  pub opening_waits : (result : Step Sending (List ℕ)) (o : Opening) → Runs old new log log' wire exec result → OpeningCaused old log log' wire a (Some exec) (step.Pending o)
-  opening_waits result o runs = record { stays = stays_ran old new log log' wire exec result runs; cause = tt }
+  -- by what came of its request
+  opening_led : (sent : Step Sending (List ℕ)) (result : Step Opening ChangeStream) → ((past : Past) → past.wire ≡ wire → Came new past (opening_command a) true sent → OpeningCame new past a result)
+      → Runs old new log log' wire exec sent → OpeningCaused old new log log' wire a (Some exec) result
+  opening_led sent result leads runs calls told places flies =
+      let r = request_ran old new log log' wire exec (opening_command a) true sent carries.command_is carries.retries_is runs calls told places (length calls) (omega arith) flies in
+      (r.calls', r.told, leads (past_of places (length calls) r.calls' wire) refl r.came)
 
-  heard_as : (seen : Sight) → Heard log log' (placed old (ticket_of exec)) (fields exec.command) seen → HeardOpening (over a old log log' wire (Some exec)) seen
-  heard_as seen h = subst (λ (c : Fields). Heard log log' (placed old (ticket_of exec)) c seen) carries.command_is h
+  -- It waits still.
+  pub opening_waits : (sent : Sending) (o : Opening) → o.exec ≡ Some sent → Runs old new log log' wire exec (step.Pending sent) → OpeningCaused old new log log' wire a (Some exec) (step.Pending o)
+  opening_waits sent o is runs = opening_led (step.Pending sent) (step.Pending o) (λ past at flies. subst (λ (x : Option Sending). OpensSoFar new past a x) (sym is) flies) runs
 
   -- Its reply came.
-  pub opening_came : (bytes : List ℕ) (s : ChangeStream) → s.phase ≡ phase.First bytes → Runs old new log log' wire exec (step.Done bytes) → OpeningCaused old log log' wire a (Some exec) (step.Done s)
-  opening_came bytes s is runs =
-      record {
-        stays = stays_ran old new log log' wire exec (step.Done bytes) runs;
-        cause = record { bytes = bytes; heard = heard_as (reply bytes) (ran_done old new log log' wire exec bytes runs); in_hand = is };
-      }
-
-  broken_by : (bytes : List ℕ) (e : Error) → HeardOpening (over a old log log' wire (Some exec)) (reply bytes) → FailsBy (BreaksIn (fields bytes)) e → OpeningFails (over a old log log' wire (Some exec)) e
-  broken_by bytes e heard (inl room) = no_memory (ap (λ (x : Error). x.kind) room)
-  broken_by bytes e heard (inr by) = broken bytes heard by
+  pub opening_came : (version : ℤ) (bytes : List ℕ) (s : ChangeStream) → version ≡ wire → IsOpened a version bytes s → Runs old new log log' wire exec (step.Done bytes) → OpeningCaused old new log log' wire a (Some exec) (step.Done s)
+  opening_came version bytes s same is runs = opening_led (step.Done bytes) (step.Done s) (λ past at heard. opened_by past a version bytes s (same ∙ sym at) is heard) runs
 
   -- It was not read.
-  pub opening_lost : (bytes : List ℕ) (e : Error) → FailsBy (BreaksIn (fields bytes)) e → Runs old new log log' wire exec (step.Done bytes) → OpeningCaused old log log' wire a (Some exec) (step.Failed e)
-  opening_lost bytes e by runs =
-      record {
-        stays = stays_ran old new log log' wire exec (step.Done bytes) runs;
-        cause = broken_by bytes e (heard_as (reply bytes) (ran_done old new log log' wire exec bytes runs)) by;
-      }
-
-  failed_as : (e : Error) → Failed log log' (placed old (ticket_of exec)) (fields exec.command) wire e → OpeningFails (over a old log log' wire (Some exec)) e
-  failed_as e (by_memory room) = no_memory (ap (λ (x : Error). x.kind) room)
-  failed_as e (by_fault io heard) = lost io (heard_as fault heard)
-  failed_as e (by_reply bytes heard by) = refused bytes (heard_as (reply bytes) heard) by
+  pub opening_lost : (bytes : List ℕ) (e : Error) → FailsBy (BreaksIn (fields bytes)) e → Runs old new log log' wire exec (step.Done bytes) → OpeningCaused old new log log' wire a (Some exec) (step.Failed e)
+  opening_lost bytes e by runs = opening_led (step.Done bytes) (step.Failed e) (λ past at heard. lost_by past a bytes e by heard) runs
 
   -- It failed.
-  pub opening_failed : (e : Error) → Runs old new log log' wire exec (step.Failed e) → OpeningCaused old log log' wire a (Some exec) (step.Failed e)
-  opening_failed e runs =
-      record { stays = stays_ran old new log log' wire exec (step.Failed e) runs; cause = failed_as e (ran_failed old new log log' wire exec e runs) }
+  pub opening_failed : (e : Error) → Runs old new log log' wire exec (step.Failed e) → OpeningCaused old new log log' wire a (Some exec) (step.Failed e)
+  opening_failed e runs = opening_led (step.Failed e) (step.Failed e) (λ past at fails. failed_by past a e fails) runs
+
+-- ---- before it
 
 -- what is sent next was not sent yet, or is in flight
-next_ticket : (a : ChangeStreamAggregate) (wire : ℤ) (exec : Option Sending) (e : Sending) → IsNextSent a wire exec e → ticket_of e ≡ exec_ticket exec
-next_ticket a wire None e next = ap ticket_at next.0
-next_ticket a wire (Some sent) e next = ap ticket_of next
+next_flies : (awaited : Awaited) (past : Past) (a : ChangeStreamAggregate) (wire : ℤ) (exec : Option Sending) (e : Sending) → IsNextSent a wire exec e → OpensSoFar awaited past a.args exec → OpensSoFar awaited past a.args (Some e)
+next_flies awaited past a wire None e next so_far = subst (λ (stage : Stage). Flies awaited past (opening_command a.args) stage) (sym next.0) tt
+next_flies awaited past a wire (Some sent) e next so_far = subst (λ (x : Sending). Flies awaited past (opening_command a.args) x.stage) (sym next) so_far
 
-module _ (a : WatchArgs) (old : Awaited) (log log' : Told) (wire : ℤ) (exec : Option Sending) (e : Sending) (same : ticket_of e ≡ exec_ticket exec) where
-  heard_next : (seen : Sight) → HeardOpening (over a old log log' wire (Some e)) seen → HeardOpening (over a old log log' wire exec) seen
-  heard_next seen h = subst (λ (t : Option ℕ). Heard log log' (placed old t) (opening_command a) seen) same h
+pub next_caused : (a : ChangeStreamAggregate) (old new : Awaited) (log log' : Told) (wire wire' : ℤ) (exec : Option Sending) (e : Sending) (result : Step Opening ChangeStream) → IsNextSent a wire' exec e → OpeningCaused old new log log' wire a.args (Some e) result → OpeningCaused old new log log' wire a.args exec result
+next_caused a old new log log' wire wire' exec e result next h calls told places so_far = h calls told places (next_flies old (past_of places (length calls) calls wire) a wire' exec e next so_far)
 
-  cause_next : (result : Step Opening ChangeStream) → OpeningCause (over a old log log' wire (Some e)) result → OpeningCause (over a old log log' wire exec) result
-  cause_next (step.Pending o) h = tt
-  cause_next (step.Done s) h = record { bytes = h.bytes; heard = heard_next (reply h.bytes) h.heard; in_hand = h.in_hand }
-  cause_next (step.Failed f) (no_memory room) = no_memory room
-  cause_next (step.Failed f) (lost io h) = lost io (heard_next fault h)
-  cause_next (step.Failed f) (refused bytes h by) = refused bytes (heard_next (reply bytes) h) by
-  cause_next (step.Failed f) (broken bytes h by) = broken bytes (heard_next (reply bytes) h) by
-  cause_next (step.Failed f) (cannot_open none by) = absurd (let bad : Some e ≡ None = none in cc)
-
-pub next_caused : (a : ChangeStreamAggregate) (old : Awaited) (log log' : Told) (wire wire' : ℤ) (exec : Option Sending) (e : Sending) (result : Step Opening ChangeStream) → IsNextSent a wire' exec e → OpeningCaused old log log' wire a.args (Some e) result → OpeningCaused old log log' wire a.args exec result
-next_caused a old log log' wire wire' exec e result next h =
-    record { stays = h.stays; cause = cause_next a.args old log log' wire exec e (next_ticket a wire' exec e next) result h.cause }
-
-built_by : (a : ChangeStreamAggregate) (o : Over) (wire : ℤ) (e : Error) → o.args ≡ a.args → o.exec ≡ None → (known : Option ChangeStreamData) → known ≡ None → FailsBy (CannotBuild a.args.options.batch_size (resuming_command (record a { resume = known }) wire)) e → OpeningFails o e
-built_by a o wire e args unsent known first (inl room) = no_memory (ap (λ (x : Error). x.kind) room)
-built_by a o wire e args unsent (Some data_known) first (inr by) = absurd (let bad : Some data_known ≡ None = first in cc)
-built_by a o wire e args unsent None first (inr by) = cannot_open unsent (subst (λ (w : WatchArgs). CannotBuild w.options.batch_size (opening_command w) e) (sym args) by)
+built_by : (past : Past) (a : ChangeStreamAggregate) (wire : ℤ) (e : Error) (known : Option ChangeStreamData) → known ≡ None → FailsBy (CannotBuild a.args.options.batch_size (resuming_command (record a { resume = known }) wire)) e → OpeningFails past a.args e
+built_by past a wire e known first (inl room) = no_memory (ap (λ (x : Error). x.kind) room)
+built_by past a wire e (Some data_known) first (inr by) = absurd (let bad : Some data_known ≡ None = first in cc)
+built_by past a wire e None first (inr by) = cannot_open by
 
 -- nothing was sent
-pub opening_unsent : (a : ChangeStreamAggregate) (old : Awaited) (log : Told) (wire wire' : ℤ) (exec : Option Sending) (e : Error) → a.resume ≡ None → exec ≡ None → FailsBy (CannotBuild a.args.options.batch_size (resuming_command a wire')) e → OpeningCaused old log log wire a.args exec (step.Failed e)
-opening_unsent a old log wire wire' exec e first unsent by =
-    record { stays = stays_same log log refl; cause = built_by a (over a.args old log log wire exec) wire' e refl unsent a.resume first by }
+pub opening_unsent : (a : ChangeStreamAggregate) (old new : Awaited) (log : Told) (wire wire' : ℤ) (exec : Option Sending) (e : Error) → a.resume ≡ None → FailsBy (CannotBuild a.args.options.batch_size (resuming_command a wire')) e → OpeningCaused old new log log wire a.args exec (step.Failed e)
+opening_unsent a old new log wire wire' exec e first by calls told places so_far = (calls, told, built_by (past_of places (length calls) calls wire) a wire' e a.resume first by)
+
+-- ---- a later time
+
+pub opens_grows : (awaited awaited' : Awaited) (past past' : Past) (a : WatchArgs) (exec : Option Sending) → Grows past past' → ((n : ℕ) → exec_ticket exec ≡ Some n → awaited' n ≡ awaited n) → OpensSoFar awaited past a exec → OpensSoFar awaited' past' a exec
+opens_grows awaited awaited' past past' a None grows tickets h = tt
+opens_grows awaited awaited' past past' a (Some exec) grows tickets h = flies_grows past past' grows awaited awaited' (opening_command a) exec.stage tickets h
+
+pub opened_grows : (past past' : Past) (a : WatchArgs) (at : Standing) → Grows past past' → Opened past a at → Opened past' a at
+opened_grows past past' a at grows o =
+    record {
+      args_are = o.args_are;
+      bytes = o.bytes;
+      heard = last_reply past past' grows (opening_command a) true o.bytes o.heard;
+      in_hand = o.in_hand;
+      tells = o.tells;
+      is_empty = o.is_empty;
+      empty = o.empty;
+      time = o.time;
+      time_is = o.time_is;
+      known = subst (λ (w : ℤ). at.aggregate.resume ≡ Some (first_known a w o.is_empty at.upto o.time)) (sym grows.wire) o.known;
+    }
+
+pub opening_fails_grows : (past past' : Past) (a : WatchArgs) (e : Error) → Grows past past' → OpeningFails past a e → OpeningFails past' a e
+opening_fails_grows past past' a e grows (no_memory room) = no_memory room
+opening_fails_grows past past' a e grows (lost io heard) = lost io (last_fault past past' grows (opening_command a) true heard)
+opening_fails_grows past past' a e grows (refused bytes heard by) = refused bytes (last_reply past past' grows (opening_command a) true bytes heard) (by_reply_grows past past' grows (doc bytes) e by)
+opening_fails_grows past past' a e grows (broken bytes heard by) = broken bytes (last_reply past past' grows (opening_command a) true bytes heard) by
+opening_fails_grows past past' a e grows (cannot_open by) = cannot_open by

@@ -21,8 +21,8 @@ use Rattle.mg_change.specs.declared.stream.Phase.TheVariants as phase
 
 -- What holds behind a step holds of what the call does, where it holds of going on and of giving up.
 sought : (P : Stepped → Type 0) (c d : Counts) (over : Bool) (s r : Stepped) → Seeks c d over s r → P s → P stepped.Goes → P (stepped.Gives (poll.Failed (plain kind.EmptyBatches))) → P r
-sought P c d over stepped.Goes r h p goes fails = subst P (sym h.goes) goes
-sought P c d over (stepped.Gives poll.Pending) r h p goes fails = subst P (sym h) p
+sought P c d over stepped.Goes r h p goes fails = subst P (sym h.same) goes
+sought P c d over (stepped.Gives poll.Pending) r h p goes fails = subst P (sym h.same) p
 sought P c d true (stepped.Gives (poll.Ready None)) r h p goes fails = subst P (sym h) p
 sought P c d false (stepped.Gives (poll.Ready None)) r (inl h) p goes fails = subst P (sym h.goes) goes
 sought P c d false (stepped.Gives (poll.Ready None)) r (inr h) p goes fails = subst P (sym h.fails) fails
@@ -30,8 +30,8 @@ sought P c d over (stepped.Gives (poll.Ready (Some event))) r h p goes fails = s
 sought P c d over (stepped.Gives (poll.Failed e)) r h p goes fails = subst P (sym h) p
 
 pends_by : (c d : Counts) (over : Bool) (s r : Stepped) (n m : ℕ) → Seeks c d over s r → StepPends s n m → StepPends r n m
-pends_by c d over stepped.Goes r n m h p = subst (λ x. StepPends x n m) (sym h.goes) p
-pends_by c d over (stepped.Gives poll.Pending) r n m h p = subst (λ x. StepPends x n m) (sym h) p
+pends_by c d over stepped.Goes r n m h p = subst (λ x. StepPends x n m) (sym h.same) p
+pends_by c d over (stepped.Gives poll.Pending) r n m h p = subst (λ x. StepPends x n m) (sym h.same) p
 pends_by c d true (stepped.Gives (poll.Ready None)) r n m h p = subst (λ x. StepPends x n m) (sym h) p
 pends_by c d false (stepped.Gives (poll.Ready None)) r n m (inl h) p = subst (λ x. StepPends x n m) (sym h.goes) p
 pends_by c d false (stepped.Gives (poll.Ready None)) r n m (inr h) p = subst (λ x. StepPends x n m) (sym h.fails) p
@@ -50,8 +50,8 @@ module _ (c d : Counts) (over : Bool) (s r : Stepped) (seeks : Seeks c d over s 
 
 -- where the call fails the stream rests, as where nothing was there
 pub rests_so : (c d : Counts) (over : Bool) (s r : Stepped) (t : ChangeStream) → Seeks c d over s r → StepSpends s t → StepRests s t.phase → StepRests r t.phase
-rests_so c d over stepped.Goes r t h spends p = subst (λ x. StepRests x t.phase) (sym h.goes) tt
-rests_so c d over (stepped.Gives poll.Pending) r t h spends p = subst (λ x. StepRests x t.phase) (sym h) p
+rests_so c d over stepped.Goes r t h spends p = subst (λ x. StepRests x t.phase) (sym h.same) tt
+rests_so c d over (stepped.Gives poll.Pending) r t h spends p = subst (λ x. StepRests x t.phase) (sym h.same) p
 rests_so c d true (stepped.Gives (poll.Ready None)) r t h spends p = subst (λ x. StepRests x t.phase) (sym h) p
 rests_so c d false (stepped.Gives (poll.Ready None)) r t (inl h) spends p = subst (λ x. StepRests x t.phase) (sym h.goes) tt
 rests_so c d false (stepped.Gives (poll.Ready None)) r t (inr h) spends p = subst (λ x. StepRests x t.phase) (sym h.fails) p
@@ -60,8 +60,8 @@ rests_so c d over (stepped.Gives (poll.Failed e)) r t h spends p = subst (λ x. 
 
 -- nothing is answered only where the cursor is over
 pub ends_so : (c d : Counts) (over : Bool) (s r : Stepped) (t : ChangeStream) → Seeks c d over s r → (IsTrue over ↔ (t.cursor.id ≡ pos 0)) → StepSpends s t → StepEnds r t
-ends_so c d over stepped.Goes r t h is spends = subst (λ x. StepEnds x t) (sym h.goes) tt
-ends_so c d over (stepped.Gives poll.Pending) r t h is spends = subst (λ x. StepEnds x t) (sym h) tt
+ends_so c d over stepped.Goes r t h is spends = subst (λ x. StepEnds x t) (sym h.same) tt
+ends_so c d over (stepped.Gives poll.Pending) r t h is spends = subst (λ x. StepEnds x t) (sym h.same) tt
 ends_so c d true (stepped.Gives (poll.Ready None)) r t h is spends = subst (λ x. StepEnds x t) (sym h) (record { closed = is.0 refl; spent = spends })
 ends_so c d false (stepped.Gives (poll.Ready None)) r t (inl h) is spends = subst (λ x. StepEnds x t) (sym h.goes) tt
 ends_so c d false (stepped.Gives (poll.Ready None)) r t (inr h) is spends = subst (λ x. StepEnds x t) (sym h.fails) tt
@@ -70,8 +70,8 @@ ends_so c d over (stepped.Gives (poll.Failed e)) r t h is spends = subst (λ x. 
 
 -- what is answered is the same
 told_so : (c d : Counts) (over : Bool) (s r : Stepped) → Seeks c d over s r → step_told s ≡ step_told r
-told_so c d over stepped.Goes r h = subst (λ x. [] ≡ step_told x) (sym h.goes) refl
-told_so c d over (stepped.Gives poll.Pending) r h = subst (λ x. [] ≡ step_told x) (sym h) refl
+told_so c d over stepped.Goes r h = subst (λ x. [] ≡ step_told x) (sym h.same) refl
+told_so c d over (stepped.Gives poll.Pending) r h = subst (λ x. [] ≡ step_told x) (sym h.same) refl
 told_so c d true (stepped.Gives (poll.Ready None)) r h = subst (λ x. [] ≡ step_told x) (sym h) refl
 told_so c d false (stepped.Gives (poll.Ready None)) r (inl h) = subst (λ x. [] ≡ step_told x) (sym h.goes) refl
 told_so c d false (stepped.Gives (poll.Ready None)) r (inr h) = subst (λ x. [] ≡ step_told x) (sym h.fails) refl
@@ -92,9 +92,9 @@ rested m n j less = omega arith
 
 pub falls_so : (c d : Counts) (over : Bool) (s r : Stepped) (p : Phase) (t : ChangeStream) → Seeks c d over s r → StepSpends s t → Falls s (rank p) (rank t.phase) → Falls r (left_in c p) (left_in d t.phase)
 falls_so c d over stepped.Goes r p t h spends falls =
-    subst (λ x. Falls x (left_in c p) (left_in d t.phase)) (sym h.goes)
-    (let a = h.empty in let b = h.resumptions in omega arith)
-falls_so c d over (stepped.Gives poll.Pending) r p t h spends falls = subst (λ x. Falls x (left_in c p) (left_in d t.phase)) (sym h) tt
+    subst (λ x. Falls x (left_in c p) (left_in d t.phase)) (sym h.same)
+    (subst (λ (x : Counts). left_in x t.phase < left_in c p) (sym h.counts) (omega arith))
+falls_so c d over (stepped.Gives poll.Pending) r p t h spends falls = subst (λ x. Falls x (left_in c p) (left_in d t.phase)) (sym h.same) tt
 falls_so c d true (stepped.Gives (poll.Ready None)) r p t h spends falls = subst (λ x. Falls x (left_in c p) (left_in d t.phase)) (sym h) tt
 falls_so c d false (stepped.Gives (poll.Ready None)) r p t (inl h) spends falls =
     subst (λ x. Falls x (left_in c p) (left_in d t.phase)) (sym h.goes)

@@ -13,11 +13,12 @@ use Rattle.mg_link.specs.declared.action.Step.{Step}
 use Rattle.mg_link.specs.declared.action.Step.TheVariants as step
 use Rattle.mg_link.specs.declared.error.Error.{Error}
 use Rattle.mg_ops.specs.declared.aggregate.ChangeStreamAggregate.{ChangeStreamAggregate}
+use Rattle.mg_ops.specs.declared.change_stream.WatchArgs.{WatchArgs}
 use Rattle.mg_ops.specs.declared.cursor_reply.CursorInformation.{CursorInformation}
 use Rattle.mg_ops.specs.declared.get_more.GetMore.{GetMore}
 use Rattle.mg_change.specs.Phases.{Carries, IsAsking, IsKilling, resuming_command}
 use Rattle.mg_change.specs.Polls.{IsStepAtOnce}
-use Rattle.mg_change.specs.Sent.{Falling, IsAt, Keeps, KillsOne, Quiet, Sent, StepKeeps, StepSent, asking_places, commands_of, killing_places, places, resuming_places, step_places}
+use Rattle.mg_change.specs.Sent.{AreSought, Falling, IsAt, IsSought, Keeps, KillsOne, Quiet, SeekSent, Sent, StepKeeps, StepSent, asking_places, asks, commands_of, killing_places, kills, places, resumes, resuming_places, step_places}
 use Rattle.mg_change.specs.declared.event_poll.EventPoll.TheVariants as poll
 use Rattle.mg_change.specs.declared.event_poll.Stepped.{Stepped}
 use Rattle.mg_change.specs.declared.event_poll.Stepped.TheVariants as stepped
@@ -327,3 +328,31 @@ module _ (old new : Awaited) (log log' : Told) (wire : ℤ) (s : ChangeStream) (
   pub killing_goes_on : (result : Step Sending (List ℕ)) (s' : ChangeStream) (r : Stepped) → Runs old new log log' wire exec result → Quiet 0 s s' r → IsStepAtOnce r → StepSent log log' wire (phase.Killing exec id bytes) s s' r
   killing_goes_on result s' r runs quiet at_once =
       sent_then log log' wire (phase.Killing exec id bytes) 0 s s' r (kill_sent (IsAt s.cursor s.aggregate wire) old new log log' wire exec killing.carries.retries_is result kills_one runs) quiet at_once
+
+-- ---- a call that seeks an event
+
+sought_at : (c : CursorInformation) (a : ChangeStreamAggregate) (wire : ℤ) (place : ℕ) (command : Fields) → IsAt c a wire place command → IsSought a.args wire command
+sought_at c a wire zero command h = kills h
+sought_at c a wire (suc zero) command h = resumes a refl h
+sought_at c a wire (suc (suc zero)) command h = resumes a refl h
+sought_at c a wire (suc (suc (suc zero))) command h = asks c h
+sought_at c a wire (suc (suc (suc (suc place)))) command h = absurd h
+
+all_sought : (c : CursorInformation) (a : ChangeStreamAggregate) (wire : ℤ) (n : ℕ) (cs : List Fields) (m : ℕ) → Falling (IsAt c a wire) n cs m → AreSought a.args wire cs
+all_sought c a wire n [] m f = tt
+all_sought c a wire n (x ∷ cs) m f = (sought_at c a wire f.0 x f.2, all_sought c a wire f.0 cs m f.3)
+
+both_sought : (args : WatchArgs) (wire : ℤ) (cs ds : List Fields) → AreSought args wire cs → AreSought args wire ds → AreSought args wire (cs ++ ds)
+both_sought args wire [] ds p q = q
+both_sought args wire (x ∷ cs) ds p q = (p.0, both_sought args wire cs ds p.1 q)
+
+pub seek_sent_none : (log : Told) (wire : ℤ) (args : WatchArgs) → SeekSent log log wire args
+seek_sent_none log wire args = record { commands = []; adds = sent_none log log refl; sought = tt }
+
+pub seek_sent_step : (log log' : Told) (wire : ℤ) (p : Phase) (s s' : ChangeStream) (r : Stepped) → StepSent log log' wire p s s' r → SeekSent log log' wire s.aggregate.args
+seek_sent_step log log' wire p s s' r a = record { commands = a.commands; adds = a.adds; sought = all_sought s.cursor s.aggregate wire (places p) a.commands (step_places r s'.phase) a.falling }
+
+pub seek_sent_on : (log mid log' : Told) (wire wire' : ℤ) (args args' : WatchArgs) → wire' ≡ wire → args' ≡ args → SeekSent log mid wire args → SeekSent mid log' wire' args' → SeekSent log log' wire args
+seek_sent_on log mid log' wire wire' args args' same at a b =
+    let later : AreSought args wire b.commands = subst (λ (x : WatchArgs). AreSought x wire b.commands) at (subst (λ (w : ℤ). AreSought args' w b.commands) same b.sought) in
+    record { commands = a.commands ++ b.commands; adds = sent_on log mid log' a.commands b.commands a.adds b.adds; sought = both_sought args wire a.commands b.commands a.sought later }

@@ -1,12 +1,12 @@
--- What the answers of a change stream are caused by.
-use Rattle.std.specs.Prelude.{◌≡◌, ◌⊎◌, slice_get, codes, false, ℕ, ℤ, pos, List, [], ◌∷◌, Option, Some, None, Result, Ok, Err}
-use Rattle.mg_bson.specs.Tree.{Fields, Items}
+-- What the answers of a change stream are caused by, over all polls of a call.
+use Rattle.std.specs.Prelude.{◌≡◌, ◌≢◌, ◌⊎◌, ◌≤◌, ◌||◌, codes, false, true, ℕ, ℤ, pos, Bool, List, [], ◌∷◌, length, Option, Some, None, option_map, Result, Ok, Err}
+use Rattle.mg_bson.specs.Tree.{Tree, Fields, Items}
 use Rattle.mg_bson.specs.Find.{get}
 use Rattle.mg_bson.specs.Raw.{fields}
 use Rattle.mg_bson.specs.Reading.{doc}
 use Rattle.mg_link.specs.Commands.{documents_in}
-use Rattle.mg_link.specs.Errors.{plain}
-use Rattle.mg_link.specs.Exec.{FailsByReply, ticket_of}
+use Rattle.mg_link.specs.Errors.{plain, command_code}
+use Rattle.mg_link.specs.Exec.{FailsByReply}
 use Rattle.mg_link.specs.Link.{Awaited, Told}
 use Rattle.mg_link.specs.Log.{Sight, waiting, reply, fault, Call}
 use Rattle.mg_link.specs.Namespace.{space}
@@ -15,14 +15,17 @@ use Rattle.mg_link.specs.declared.error.Error.{Error}
 use Rattle.mg_link.specs.declared.error.ErrorKind.TheVariants as kind
 use Rattle.mg_link.specs.declared.error.Malformed.{Malformed}
 use Rattle.mg_link.specs.declared.error.Malformed.TheVariants as malformed
-use Rattle.mg_ops.specs.Commands.{get_more_command}
-use Rattle.mg_ops.specs.Cursors.{BreaksIn, batch_at}
+use Rattle.mg_ops.specs.Commands.{get_more_command, kill_command}
+use Rattle.mg_ops.specs.Cursors.{BreaksIn, batch_at, cursor_of}
 use Rattle.mg_ops.specs.Failing.{CannotBeSent, HasBadSize}
 use Rattle.mg_ops.specs.declared.aggregate.ChangeStreamAggregate.{ChangeStreamAggregate}
 use Rattle.mg_ops.specs.declared.cursor_reply.CursorInformation.{CursorInformation}
+use Rattle.mg_ops.specs.declared.cursor_reply.CursorSpecification.{CursorSpecification}
 use Rattle.mg_change.specs.Batches.{HoldsBatch}
+use Rattle.mg_change.specs.Calls.{Failed, Flies, HeardBy, HeardLast, Past, past_of}
 use Rattle.mg_change.specs.Following.{buffered}
-use Rattle.mg_change.specs.Phases.{resuming_command}
+use Rattle.mg_change.specs.Phases.{remembered, resuming_command}
+use Rattle.mg_change.specs.Polls.{ends_cursor}
 use Rattle.mg_change.specs.declared.event_poll.EventPoll.{EventPoll}
 use Rattle.mg_change.specs.declared.event_poll.EventPoll.TheVariants as poll
 use Rattle.mg_change.specs.declared.event_poll.Stepped.{Stepped}
@@ -31,282 +34,382 @@ use Rattle.mg_change.specs.declared.stream.ChangeStream.{ChangeStream}
 use Rattle.mg_change.specs.declared.stream.Phase.{Phase}
 use Rattle.mg_change.specs.declared.stream.Phase.TheVariants as phase
 
--- ---- what is heard
+-- ---- between two calls
 
--- the call is new, and has this command
-pub record IsSent (calls : List Call) (place : ℕ) (call : Call) (command : Fields) : Type 0 where
-  pub absent : slice_get calls place ≡ None
-  pub command_is : fields call.command ≡ command
-
--- it is the call in flight, which waited still
-pub record WasInFlight (calls : List Call) (place : ℕ) (call : Call) (flight : Option ℕ) : Type 0 where
-  pub here : flight ≡ Some place
-  pub old : Call
-  pub there : slice_get calls place ≡ Some old
-  pub waited : old.seen ≡ waiting
-  pub same : call.command ≡ old.command
-
--- a call has seen this: one with this command that is new, or the one that was in flight for it at this place
-pub record HeardIn (calls calls' : List Call) (flight : Option ℕ) (command : Fields) (seen : Sight) : Type 0 where
-  pub place : ℕ
-  pub call : Call
-  pub there : slice_get calls' place ≡ Some call
-  pub has_seen : call.seen ≡ seen
-  pub whose : IsSent calls place call command ⊎ WasInFlight calls place call flight
-
--- over a log that is told this was heard as the answer to this command
-abbrev pub Heard : Told → Told → Option ℕ → Fields → Sight → Type 0
-Heard log log' flight command seen = (calls : List Call) → log ≡ Some calls → (calls' : List Call) × (log' ≡ Some calls') × HeardIn calls calls' flight command seen
-
--- each call keeps its place and its command; one that has seen its answer stays as it is
-abbrev pub Keeps : List Call → List Call → Type 0
-Keeps calls calls' = (place : ℕ) (call : Call) → slice_get calls place ≡ Some call → (call' : Call) × (slice_get calls' place ≡ Some call') × (call'.command ≡ call.command) × ((call.seen ≡ waiting → ⊥) → call' ≡ call)
-
--- the same of logs that are told
-abbrev pub Stays : Told → Told → Type 0
-Stays log log' = (calls : List Call) → log ≡ Some calls → (calls' : List Call) × (log' ≡ Some calls') × Keeps calls calls'
-
--- ---- a poll, as causes speak of it
-
--- what its link awaited and the log before it, the log behind it, the wire version, and the stream before it
-pub record Over : Type 0 where
-  pub awaited : Awaited
-  pub log : Told
-  pub log' : Told
-  pub wire : ℤ
-  pub at : Phase
+-- how a stream stands between two of its calls
+pub record Standing : Type 0 where
+  -- the aggregate that resumes it, with what it remembers
   pub aggregate : ChangeStreamAggregate
+  -- its cursor, whose id is 0 where the server holds none
   pub cursor : CursorInformation
+  -- the events that it received and has not answered, and the token behind the last of them
   pub events : List Fields
+  pub upto : Option Tree
+  -- the reply to its opening, where the batch in it was not looked at
+  pub first : Option (List ℕ)
+  -- whether a resumption is owed
+  pub owes : Bool
 
--- a poll of a stream from this phase
-abbrev pub over : Awaited → Told → Told → ℤ → Phase → ChangeStream → Over
-over awaited log log' wire p s = record { awaited = awaited; log = log; log' = log'; wire = wire; at = p; aggregate = s.aggregate; cursor = s.cursor; events = buffered s }
+-- the reply to the opening that is in hand
+abbrev pub first_in : Phase → Option (List ℕ)
+first_in phase.Taken = None
+first_in phase.Rest = None
+first_in (phase.First bytes) = Some bytes
+first_in phase.Fresh = None
+first_in (phase.Asking get_more exec) = None
+first_in phase.Owing = None
+first_in (phase.Resuming exec) = None
+first_in (phase.Killing exec old bytes) = None
+first_in (phase.Resumed bytes) = None
 
--- nothing is in flight, and nothing but the buffer is in hand
-abbrev pub IsIdle : Phase → Type 0
-IsIdle phase.Taken = Unit {0}
-IsIdle phase.Rest = Unit {0}
-IsIdle (phase.First held) = ⊥
-IsIdle phase.Fresh = ⊥
-IsIdle (phase.Asking get_more exec) = ⊥
-IsIdle phase.Owing = ⊥
-IsIdle (phase.Resuming exec) = ⊥
-IsIdle (phase.Killing exec old held) = ⊥
-IsIdle (phase.Resumed held) = ⊥
+abbrev pub owes_in : Phase → Bool
+owes_in phase.Taken = false
+owes_in phase.Rest = false
+owes_in (phase.First bytes) = false
+owes_in phase.Fresh = false
+owes_in (phase.Asking get_more exec) = false
+owes_in phase.Owing = true
+owes_in (phase.Resuming exec) = true
+owes_in (phase.Killing exec old bytes) = false
+owes_in (phase.Resumed bytes) = false
 
--- the place in the log of the call of a ticket
-abbrev pub placed : Awaited → Option ℕ → Option ℕ
-placed awaited None = None
-placed awaited (Some ticket) = awaited ticket
+abbrev pub standing_of : ChangeStream → Standing
+standing_of s = record { aggregate = s.aggregate; cursor = s.cursor; events = buffered s; upto = s.batch_token; first = first_in s.phase; owes = owes_in s.phase }
 
--- the getMore in flight stands there
-abbrev pub more_in : Awaited → Phase → Option ℕ
-more_in awaited (phase.Asking get_more exec) = placed awaited (ticket_of exec)
-more_in awaited phase.Taken = None
-more_in awaited phase.Rest = None
-more_in awaited (phase.First held) = None
-more_in awaited phase.Fresh = None
-more_in awaited phase.Owing = None
-more_in awaited (phase.Resuming exec) = None
-more_in awaited (phase.Killing exec old held) = None
-more_in awaited (phase.Resumed held) = None
+-- ---- the commands of a call
 
--- the aggregate of a resumption in flight stands there
-abbrev pub resumption_in : Awaited → Phase → Option ℕ
-resumption_in awaited (phase.Resuming exec) = placed awaited (ticket_of exec)
-resumption_in awaited phase.Taken = None
-resumption_in awaited phase.Rest = None
-resumption_in awaited (phase.First held) = None
-resumption_in awaited phase.Fresh = None
-resumption_in awaited (phase.Asking get_more exec) = None
-resumption_in awaited phase.Owing = None
-resumption_in awaited (phase.Killing exec old held) = None
-resumption_in awaited (phase.Resumed held) = None
+-- the getMore of its cursor
+abbrev pub more_command : Standing → Fields
+more_command at = get_more_command at.cursor.id (space at.cursor.ns) at.cursor.batch_size
 
--- a getMore of the cursor is in flight, or may be sent
-abbrev pub MayAsk : Phase → Type 0
-MayAsk phase.Taken = Unit {0}
-MayAsk phase.Rest = Unit {0}
-MayAsk (phase.First held) = ⊥
-MayAsk phase.Fresh = ⊥
-MayAsk (phase.Asking get_more exec) = Unit {0}
-MayAsk phase.Owing = ⊥
-MayAsk (phase.Resuming exec) = ⊥
-MayAsk (phase.Killing exec old held) = ⊥
-MayAsk (phase.Resumed held) = ⊥
+-- the aggregate that resumes it
+abbrev pub resume_command : ℤ → Standing → Fields
+resume_command wire at = resuming_command at.aggregate wire
 
--- this reply to the aggregate of a resumption is in hand
-abbrev pub HasResumed : Phase → List ℕ → Type 0
-HasResumed phase.Taken bytes = ⊥
-HasResumed phase.Rest bytes = ⊥
-HasResumed (phase.First held) bytes = ⊥
-HasResumed phase.Fresh bytes = ⊥
-HasResumed (phase.Asking get_more exec) bytes = ⊥
-HasResumed phase.Owing bytes = ⊥
-HasResumed (phase.Resuming exec) bytes = ⊥
-HasResumed (phase.Killing exec old held) bytes = held ≡ bytes
-HasResumed (phase.Resumed held) bytes = held ≡ bytes
+-- the killing of a cursor that a resumption replaced
+abbrev pub old_command : CursorInformation → Fields
+old_command c = kill_command (space c.ns) (c.id ∷ [])
 
--- the poll heard this as the answer to the aggregate that resumes the stream
-abbrev pub HeardResumption : Over → Sight → Type 0
-HeardResumption o seen = Heard o.log o.log' (resumption_in o.awaited o.at) (resuming_command o.aggregate o.wire) seen
+-- ---- replies
 
--- this reply to it
-abbrev pub HeardReply : Over → List ℕ → Type 0
-HeardReply o bytes = HeardResumption o (reply bytes)
-
--- the poll heard this as the answer to the getMore of the cursor
-pub record HeardMore (o : Over) (seen : Sight) : Type 0 where
-  pub asks : MayAsk o.at
-  pub heard : Heard o.log o.log' (more_in o.awaited o.at) (get_more_command o.cursor.id (space o.cursor.ns) o.cursor.batch_size) seen
-
--- the reply to the aggregate of a resumption, in hand before the poll or heard by it
-abbrev pub Resumption : Over → List ℕ → Type 0
-Resumption o bytes = HasResumed o.at bytes ⊎ HeardReply o bytes
-
--- a reply with a batch: that to the opening, to a resumption, or to a getMore
-pub data Reply (o : Over) (bytes : List ℕ) : Type 0 where
-  opening : o.at ≡ phase.First bytes → Reply o bytes
-  resumption : Resumption o bytes → Reply o bytes
-  more : HeardMore o (reply bytes) → Reply o bytes
-
--- the events of a batch that nothing was answered from: it was in the buffer before the poll, or its reply came
-pub data Batch (o : Over) (events : List Fields) : Type 0 where
-  fresh : o.at ≡ phase.Fresh → events ≡ o.events → Batch o events
-  came : (bytes : List ℕ) → Reply o bytes → HoldsBatch (fields bytes) events → Batch o events
-
--- the events that are next: what is left of a batch, or those of a new one
-abbrev pub Next : Over → List Fields → Type 0
-Next o events = (IsIdle o.at × (events ≡ o.events)) ⊎ Batch o events
-
--- ---- failures
-
--- the first event has no `_id`
-abbrev pub FirstLacksId : List Fields → Type 0
-FirstLacksId [] = ⊥
-FirstLacksId (event ∷ events) = get (codes "_id") event ≡ None
-
--- an item is no document
+-- a reply has no batch, or an item of it is no document
 abbrev pub HasBadItem : Items → Error → Type 0
 HasBadItem batch e = (documents_in batch ≡ None) × (e ≡ plain (kind.InvalidResponse malformed.BadItem))
 
--- a reply has no batch, or an item of it is no document
 pub data BreaksBatch (said : Fields) (e : Error) : Type 0 where
   no_batch : (how : Malformed) → batch_at said ≡ Err how → e ≡ plain (kind.InvalidResponse how) → BreaksBatch said e
   bad_item : (batch : Items) → batch_at said ≡ Ok batch → HasBadItem batch e → BreaksBatch said e
+
+-- a reply breaks the grammar of a cursor, or has no batch of documents
+abbrev pub Breaks : Fields → Error → Type 0
+Breaks said e = BreaksIn said e ⊎ BreaksBatch said e
+
+-- the cursor, for batches of this size, and the token behind the batch are those that the reply tells
+pub record TellsCursor (bytes : List ℕ) (size : Option ℕ) (c : CursorInformation) (upto : Option Tree) : Type 0 where
+  pub batch : Items
+  pub says : cursor_of (fields bytes) ≡ Ok (record { id = c.id; space = space c.ns; token = upto; batch = batch })
+  pub size_is : c.batch_size ≡ size
+
+-- why a getMore brought no batch
+pub data MoreFails (past : Past) (at : Standing) (e : Error) : Type 0 where
+  lost : e ≡ plain kind.Io → HeardBy past (more_command at) fault → MoreFails past at e
+  refused : (bytes : List ℕ) → HeardBy past (more_command at) (reply bytes) → FailsByReply (doc bytes) past.wire e → MoreFails past at e
+  broken : (bytes : List ℕ) → HeardBy past (more_command at) (reply bytes) → Breaks (fields bytes) e → MoreFails past at e
+
+-- why the stream resumes: it was owed as the call began, or the failure in this call is one after which a stream resumes
+pub data Resumes (past : Past) (at : Standing) : Type 0 where
+  owed : at.owes ≡ true → Resumes past at
+  more_failed : (e : Error) → MoreFails past at e → is_resumable e.kind e.labels e.wire_version ≡ true → Resumes past at
+  first_broken : (bytes : List ℕ) (e : Error) → at.first ≡ Some bytes → BreaksBatch (fields bytes) e → Resumes past at
+
+-- the cursor of a stream that resumes: its own still, the one that the reply to its getMore tells, or none where the server said so
+pub data Leaves (past : Past) (at : Standing) (c : CursorInformation) : Type 0 where
+  same : c ≡ at.cursor → Leaves past at c
+  told : (bytes : List ℕ) (upto : Option Tree) → HeardBy past (more_command at) (reply bytes) → TellsCursor bytes at.cursor.batch_size c upto → Leaves past at c
+  ended : (bytes : List ℕ) (e : Error) → HeardBy past (more_command at) (reply bytes) → FailsByReply (doc bytes) past.wire e → ends_cursor (command_code e.kind) ≡ true → c ≡ record at.cursor { id = pos 0 } → Leaves past at c
+
+-- what came of the cursor that a resumption replaced: there was none, its killCursors was answered, or that could not be built
+pub data Killed (past : Past) (old : CursorInformation) : Type 0 where
+  none : old.id ≡ pos 0 → Killed past old
+  tried : (seen : Sight) → (seen ≡ waiting → ⊥) → HeardBy past (old_command old) seen → Killed past old
+  unbuilt : (e : Error) → CannotBeSent (old_command old) e → Killed past old
+
+-- the reply to the aggregate of a resumption, and the cursor that it gave
+pub record Resumed (past : Past) (at : Standing) (bytes : List ℕ) (c : CursorInformation) (upto : Option Tree) : Type 0 where
+  pub why : Resumes past at
+  pub heard : HeardBy past (resume_command past.wire at) (reply bytes)
+  pub tells : TellsCursor bytes at.aggregate.args.options.batch_size c upto
+
+-- a reply with a batch, whether it is that of a resumption, and the cursor of the stream behind it
+pub data Replied (past : Past) (at : Standing) (resumed : Bool) (bytes : List ℕ) (c : CursorInformation) (upto : Option Tree) : Type 0 where
+  -- to the opening, in the first call
+  opening : resumed ≡ false → at.first ≡ Some bytes → c ≡ at.cursor → upto ≡ at.upto → Replied past at resumed bytes c upto
+  -- to the getMore of the cursor
+  more : resumed ≡ false → HeardBy past (more_command at) (reply bytes) → TellsCursor bytes at.cursor.batch_size c upto → Replied past at resumed bytes c upto
+  -- to the aggregate of a resumption, which kills the cursor before it
+  again : resumed ≡ true → Resumed past at bytes c upto → (old : CursorInformation) → Leaves past at old → Killed past old → Replied past at resumed bytes c upto
+
+-- ---- a call that goes on
+
+-- nothing was sent and nothing is in hand but the buffer
+pub record IsStart (at : Standing) (s : ChangeStream) : Type 0 where
+  pub quits : at.owes ≡ false
+  pub looked : at.first ≡ None
+  pub cursor : s.cursor ≡ at.cursor
+  pub events : buffered s ≡ at.events
+  pub upto : s.batch_token ≡ at.upto
+
+-- a batch is in hand that nothing was answered from
+pub record IsFresh (past : Past) (at : Standing) (resumed : Bool) (s : ChangeStream) : Type 0 where
+  pub bytes : List ℕ
+  pub replied : Replied past at resumed bytes s.cursor s.batch_token
+  pub holds : HoldsBatch (fields bytes) (buffered s)
+
+-- the cursor before a resumption is being killed
+pub record IsKilled (past : Past) (at : Standing) (id : ℤ) (bytes : List ℕ) (s : ChangeStream) (old : CursorInformation) : Type 0 where
+  pub left : Leaves past at old
+  pub named : old.id ≡ id
+  pub resumed : Resumed past at bytes s.cursor s.batch_token
+
+-- how far a call has come, by its phase
+abbrev pub ByPhase : Awaited → Past → Standing → Bool → Phase → ChangeStream → Type 0
+ByPhase awaited past at resumed phase.Taken s = (resumed ≡ false) × IsStart at s
+ByPhase awaited past at resumed phase.Rest s = (resumed ≡ false) × IsStart at s
+ByPhase awaited past at resumed (phase.First bytes) s = (resumed ≡ false) × (at.first ≡ Some bytes) × (s.cursor ≡ at.cursor) × (s.batch_token ≡ at.upto)
+ByPhase awaited past at resumed phase.Fresh s = IsFresh past at resumed s
+ByPhase awaited past at resumed (phase.Asking get_more exec) s = (resumed ≡ false) × IsStart at s × (at.events ≡ []) × Flies awaited past (more_command at) exec.stage
+ByPhase awaited past at resumed phase.Owing s = (resumed ≡ false) × Resumes past at × Leaves past at s.cursor
+ByPhase awaited past at resumed (phase.Resuming exec) s = (resumed ≡ false) × Resumes past at × Leaves past at s.cursor × Flies awaited past (resume_command past.wire at) exec.stage
+ByPhase awaited past at resumed (phase.Killing exec id bytes) s = (resumed ≡ false) × (old : CursorInformation) × IsKilled past at id bytes s old × (fields exec.command ≡ old_command old) × Flies awaited past (old_command old) exec.stage
+ByPhase awaited past at resumed (phase.Resumed bytes) s = (resumed ≡ false) × Replied past at true bytes s.cursor s.batch_token
+
+-- What a call has come to that began where its stream stood so; `resumed` says whether the batch in hand is that of a resumption.
+pub record SoFar (awaited : Awaited) (past : Past) (at : Standing) (resumed : Bool) (p : Phase) (s : ChangeStream) : Type 0 where
+  pub same : s.aggregate ≡ at.aggregate
+  pub by : ByPhase awaited past at resumed p s
+
+-- ---- answers
+
+-- the events that are next: what is left of a batch, or those of a new one; with the cursor, and the token behind them
+pub data Next (past : Past) (at : Standing) (events : List Fields) (c : CursorInformation) (upto : Option Tree) : Type 0 where
+  left : at.owes ≡ false → at.first ≡ None → events ≡ at.events → c ≡ at.cursor → upto ≡ at.upto → Next past at events c upto
+  came : (resumed : Bool) (bytes : List ℕ) → Replied past at resumed bytes c upto → HoldsBatch (fields bytes) events → Next past at events c upto
+
+-- with a new token
+abbrev pub remembered_by : Tree → Bool → ChangeStreamAggregate → ChangeStreamAggregate
+remembered_by token returned a = record a { resume = option_map (remembered token returned) a.resume }
+
+-- the token behind an event: that of the batch behind the last one, else its own
+abbrev pub token_behind : List Fields → Option Tree → Tree → Tree
+token_behind [] (Some token) id = token
+token_behind [] None id = id
+token_behind (e ∷ es) upto id = id
+
+-- behind an empty batch
+abbrev pub remembered_empty : Option Tree → ChangeStreamAggregate → ChangeStreamAggregate
+remembered_empty (Some token) a = remembered_by token false a
+remembered_empty None a = a
+
+-- nothing is owed, and the batch of the opening was looked at
+pub record IsSettled (after : Standing) : Type 0 where
+  pub quits : after.owes ≡ false
+  pub looked : after.first ≡ None
+
+-- the next event is answered
+pub record CallGave (past : Past) (at after : Standing) (event : Fields) : Type 0 where
+  pub upto : Option Tree
+  pub next : Next past at (event ∷ after.events) after.cursor upto
+  pub id : Tree
+  pub has : get (codes "_id") event ≡ Some id
+  pub remembers : after.aggregate ≡ remembered_by (token_behind after.events upto id) true at.aggregate
+  pub behind : (after.events ≢ []) → after.upto ≡ upto
+  pub settled : IsSettled after
+
+-- nothing is there: a batch came empty, by a resumption or not, or the server holds no cursor
+pub data CallNone (past : Past) (at after : Standing) (resumed : Bool) : Type 0 where
+  came_empty : (bytes : List ℕ) (upto : Option Tree) → Replied past at resumed bytes after.cursor upto → HoldsBatch (fields bytes) [] → after.aggregate ≡ remembered_empty upto at.aggregate → CallNone past at after resumed
+  none_left : resumed ≡ false → at.owes ≡ false → at.first ≡ None → at.events ≡ [] → at.cursor.id ≡ pos 0 → after.aggregate ≡ at.aggregate → after.cursor ≡ at.cursor → CallNone past at after resumed
+
+-- everything that was received is answered
+pub record CallEmpty (past : Past) (at after : Standing) (resumed : Bool) : Type 0 where
+  pub why : CallNone past at after resumed
+  pub empty : after.events ≡ []
+  pub settled : IsSettled after
 
 -- a command cannot be built: the size of its batch is none, or it passes the limits of documents
 abbrev pub CannotBuild : Option ℕ → Fields → Error → Type 0
 CannotBuild size command e = HasBadSize size e ⊎ CannotBeSent command e
 
--- why a poll fails
-pub data Fails (o : Over) (e : Error) : Type 0 where
+-- the events that were next stay
+pub record Stays (past : Past) (at after : Standing) : Type 0 where
+  pub next : Next past at after.events after.cursor after.upto
+  pub settled : IsSettled after
+
+-- why a call fails, and what stands then: a resumption is owed, or the events stay that were not answered
+pub data CallFails (past : Past) (at after : Standing) (e : Error) : Type 0 where
   -- memory ran out
-  no_memory : e.kind ≡ kind.OutOfMemory → Fails o e
-  -- the aggregate of a resumption was lost; a getMore that is lost is followed by a resumption
-  lost : e ≡ plain kind.Io → HeardResumption o fault → Fails o e
-  -- the reply to that aggregate is no success
-  refused : (bytes : List ℕ) → HeardReply o bytes → FailsByReply (doc bytes) o.wire e → Fails o e
-  -- the reply to a getMore is no success, and nothing is to be resumed
-  refused_more : (bytes : List ℕ) → HeardMore o (reply bytes) → FailsByReply (doc bytes) o.wire e → is_resumable e.kind e.labels e.wire_version ≡ false → Fails o e
-  -- the reply to that aggregate breaks the grammar of a cursor
-  broken : (bytes : List ℕ) → HeardReply o bytes → BreaksIn (fields bytes) e → Fails o e
-  -- its batch is none
-  spoiled : (bytes : List ℕ) → Resumption o bytes → BreaksBatch (fields bytes) e → Fails o e
-  -- the next event names no place to resume from
-  no_id : (events : List Fields) → Next o events → FirstLacksId events → e ≡ plain kind.MissingResumeToken → Fails o e
-  -- the getMore of the cursor cannot be built
-  cannot_ask : IsIdle o.at → CannotBuild o.cursor.batch_size (get_more_command o.cursor.id (space o.cursor.ns) o.cursor.batch_size) e → Fails o e
-  -- the aggregate of a resumption cannot be built
-  cannot_resume : CannotBuild o.aggregate.args.options.batch_size (resuming_command o.aggregate o.wire) e → Fails o e
+  no_memory : e.kind ≡ kind.OutOfMemory → (after.owes ≡ true) ⊎ Stays past at after → CallFails past at after e
+  -- the aggregate of a resumption was lost, twice
+  lost : after.owes ≡ true → Resumes past at → e ≡ plain kind.Io → HeardLast past (resume_command past.wire at) true fault → CallFails past at after e
+  -- the reply to it is no success
+  refused : (bytes : List ℕ) → after.owes ≡ true → Resumes past at → HeardLast past (resume_command past.wire at) true (reply bytes) → FailsByReply (doc bytes) past.wire e → CallFails past at after e
+  -- the reply to it breaks the grammar
+  broken : (bytes : List ℕ) → after.owes ≡ true → Resumes past at → HeardBy past (resume_command past.wire at) (reply bytes) → Breaks (fields bytes) e → CallFails past at after e
+  -- it cannot be built
+  cannot_resume : after.owes ≡ true → Resumes past at → CannotBuild at.aggregate.args.options.batch_size (resume_command past.wire at) e → CallFails past at after e
+  -- the reply to the getMore is no success, and nothing is to be resumed
+  refused_more : (bytes : List ℕ) → IsSettled at → at.events ≡ [] → HeardBy past (more_command at) (reply bytes) → FailsByReply (doc bytes) past.wire e → is_resumable e.kind e.labels e.wire_version ≡ false → after.events ≡ [] → IsSettled after → CallFails past at after e
+  -- the getMore cannot be built
+  cannot_ask : at.events ≡ [] → CannotBuild at.cursor.batch_size (more_command at) e → Stays past at after → CallFails past at after e
+  -- the next event names no place to resume from; it is passed over
+  no_id : (event : Fields) (upto : Option Tree) → Next past at (event ∷ after.events) after.cursor upto → get (codes "_id") event ≡ None → e ≡ plain kind.MissingResumeToken → after.upto ≡ upto → IsSettled after → CallFails past at after e
 
--- ---- answers
+-- the cursor of a stream behind a call that failed
+pub data Has (past : Past) (at : Standing) (c : CursorInformation) : Type 0 where
+  leaves : Leaves past at c → Has past at c
+  renewed : (bytes : List ℕ) (upto : Option Tree) → Resumed past at bytes c upto → Has past at c
 
--- why a poll answers that nothing is there: the server holds no cursor, or a batch came empty
-abbrev pub IsNothing : Over → ChangeStream → Type 0
-IsNothing o s' = (s'.cursor.id ≡ pos 0) ⊎ Batch o []
+-- the stream keeps its token
+pub record CallFailed (past : Past) (at after : Standing) (e : Error) : Type 0 where
+  pub why : CallFails past at after e
+  pub token : after.aggregate ≡ at.aggregate
+  pub cursor : Has past at after.cursor
 
--- where a call has come to by steps, and what it has got so far
-abbrev pub Since : Over → Phase → CursorInformation → List Fields → Type 0
-Since o phase.Taken cursor events = ⊥
-Since o phase.Rest cursor events = ⊥
-Since o (phase.First held) cursor events = ⊥
-Since o phase.Fresh cursor events = Batch o events
-Since o (phase.Asking get_more exec) cursor events = IsIdle o.at × (cursor ≡ o.cursor) × (ticket_of exec ≡ None)
-Since o phase.Owing cursor events = Unit {0}
-Since o (phase.Resuming exec) cursor events = ticket_of exec ≡ None
-Since o (phase.Killing exec old held) cursor events = Resumption o held
-Since o (phase.Resumed held) cursor events = Resumption o held
+-- A call that has ended: what it answered, how its stream stood before it, and how it stands behind it.
+abbrev pub Called : Past → Standing → Standing → EventPoll → Type 0
+Called past at after poll.Pending = ⊥
+Called past at after (poll.Ready None) = (resumed : Bool) × CallEmpty past at after resumed
+Called past at after (poll.Ready (Some event)) = CallGave past at after (fields event)
+Called past at after (poll.Failed e) = CallFailed past at after e
 
--- a step that goes on leaves what the stream resumes by
-pub record GoneOn (o : Over) (s' : ChangeStream) : Type 0 where
-  pub same : s'.aggregate ≡ o.aggregate
-  pub since : Since o s'.phase s'.cursor (buffered s')
+-- what a poll comes to: the call goes on, or has ended
+abbrev pub CallCame : Awaited → Past → Standing → ChangeStream → EventPoll → Type 0
+CallCame awaited past at s poll.Pending = SoFar awaited past at false s.phase s
+CallCame awaited past at s (poll.Ready event) = Called past at (standing_of s) (poll.Ready event)
+CallCame awaited past at s (poll.Failed e) = Called past at (standing_of s) (poll.Failed e)
 
--- what an answer is caused by
-abbrev pub PollCause : Over → ChangeStream → EventPoll → Type 0
-PollCause o s' poll.Pending = Unit {0}
-PollCause o s' (poll.Ready None) = IsNothing o s'
-PollCause o s' (poll.Ready (Some event)) = Unit {0}
-PollCause o s' (poll.Failed e) = Fails o e
+-- the same of a step, which may go on; of a call that ends with nothing it is known whether its batch is that of a resumption
+abbrev pub StepCame : Awaited → Past → Standing → Bool → ChangeStream → Stepped → Type 0
+StepCame awaited past at resumed s stepped.Goes = SoFar awaited past at resumed s.phase s
+StepCame awaited past at resumed s (stepped.Gives poll.Pending) = SoFar awaited past at false s.phase s
+StepCame awaited past at resumed s (stepped.Gives (poll.Ready None)) = CallEmpty past at (standing_of s) resumed
+StepCame awaited past at resumed s (stepped.Gives (poll.Ready (Some event))) = CallGave past at (standing_of s) (fields event)
+StepCame awaited past at resumed s (stepped.Gives (poll.Failed e)) = CallFailed past at (standing_of s) e
 
--- the same of a step, which may go on
-abbrev pub StepCause : Over → ChangeStream → Stepped → Type 0
-StepCause o s' stepped.Goes = GoneOn o s'
-StepCause o s' (stepped.Gives p) = PollCause o s' p
+-- ---- polls, where the log is told
 
--- what a step was caused by, where what was seen stays
-pub record Caused (awaited : Awaited) (log log' : Told) (wire : ℤ) (p : Phase) (s s' : ChangeStream) (r : Stepped) : Type 0 where
-  pub stays : Stays log log'
-  pub cause : StepCause (over awaited log log' wire p s) s' r
+-- what a step of a poll comes to that sends from this place on
+pub record StepCalled (awaited : Awaited) (places : List ℕ) (since : ℕ) (log : Told) (wire : ℤ) (at : Standing) (resumed : Bool) (s : ChangeStream) (r : Stepped) : Type 0 where
+  pub calls : List Call
+  pub told : log ≡ Some calls
+  pub room : since ≤ length calls
+  pub came : StepCame awaited (past_of places since calls wire) at resumed s r
 
--- the same of a poll
-pub record CallCaused (awaited : Awaited) (log log' : Told) (wire : ℤ) (s s' : ChangeStream) (r : EventPoll) : Type 0 where
-  pub stays : Stays log log'
-  pub cause : PollCause (over awaited log log' wire s.phase s) s' r
+-- by whether it looked at the batch of a resumption
+abbrev pub is_resumed : Phase → Bool
+is_resumed phase.Taken = false
+is_resumed phase.Rest = false
+is_resumed (phase.First bytes) = false
+is_resumed phase.Fresh = false
+is_resumed (phase.Asking get_more exec) = false
+is_resumed phase.Owing = false
+is_resumed (phase.Resuming exec) = false
+is_resumed (phase.Killing exec old bytes) = false
+is_resumed (phase.Resumed bytes) = true
 
--- ---- steps without a link
+-- A step from this phase led a call on.
+abbrev pub StepCaused : Awaited → Awaited → Told → Told → ℤ → Phase → ChangeStream → ChangeStream → Stepped → Type 0
+StepCaused old new log log' wire p s s' r = (calls : List Call) → log ≡ Some calls → (places : List ℕ) (since : ℕ) (at : Standing) (resumed : Bool) → since ≤ length calls → SoFar old (past_of places since calls wire) at resumed p s
+    → StepCalled new places since log' wire at (is_resumed p || resumed) s' r
 
--- why no event is taken: memory ran out, or the first one has no `_id`
-abbrev pub LacksToken : List Fields → Error → Type 0
-LacksToken events e = (e.kind ≡ kind.OutOfMemory) ⊎ ((e ≡ plain kind.MissingResumeToken) × FirstLacksId events)
+-- the same of a step without a link
+abbrev pub StepLeads : Phase → ChangeStream → ChangeStream → Stepped → Type 0
+StepLeads p s s' r = (awaited : Awaited) (past : Past) (at : Standing) (resumed : Bool) → SoFar awaited past at resumed p s → StepCame awaited past at (is_resumed p || resumed) s' r
 
--- why the first event of some is answered, or is not
-abbrev pub PopCause : List Fields → Result (Option (List ℕ)) Error → Type 0
-PopCause events (Ok None) = ⊥
-PopCause events (Ok (Some event)) = Unit {0}
-PopCause events (Err e) = LacksToken events e
+-- A poll led a call on that had sent at these places before: it goes on, or has ended, with its cause.
+abbrev pub CallCaused : Awaited → Awaited → Told → Told → ℤ → ChangeStream → ChangeStream → EventPoll → Type 0
+CallCaused old new log log' wire s s' r = (calls : List Call) → log ≡ Some calls → (places : List ℕ) (at : Standing) → SoFar old (past_of places (length calls) calls wire) at false s.phase s
+    → (calls' : List Call) × (log' ≡ Some calls') × CallCame new (past_of places (length calls) calls' wire) at s' r
+
+-- ---- parts of steps
+
+-- the first event was taken out of the buffer; the last one leaves the token of its batch, where there is one
+pub record Popped (s s' : ChangeStream) (event : Fields) : Type 0 where
+  pub whole : buffered s ≡ event ∷ buffered s'
+  pub id : Tree
+  pub has : get (codes "_id") event ≡ Some id
+  pub remembers : s'.aggregate ≡ remembered_by (token_behind (buffered s') s.batch_token id) true s.aggregate
+  pub cursor : s'.cursor ≡ s.cursor
+  pub behind : buffered s' ≢ [] → s'.batch_token ≡ s.batch_token
+
+-- memory ran out, and nothing has changed
+pub record Unpopped (s s' : ChangeStream) (e : Error) : Type 0 where
+  pub room : e.kind ≡ kind.OutOfMemory
+  pub aggregate : s'.aggregate ≡ s.aggregate
+  pub cursor : s'.cursor ≡ s.cursor
+  pub events : buffered s' ≡ buffered s
+  pub upto : s'.batch_token ≡ s.batch_token
+
+-- the first event has no `_id`, and is passed over
+pub record Passed (s s' : ChangeStream) (e : Error) : Type 0 where
+  pub event : Fields
+  pub whole : buffered s ≡ event ∷ buffered s'
+  pub lacks : get (codes "_id") event ≡ None
+  pub error : e ≡ plain kind.MissingResumeToken
+  pub aggregate : s'.aggregate ≡ s.aggregate
+  pub cursor : s'.cursor ≡ s.cursor
+  pub upto : s'.batch_token ≡ s.batch_token
+
+abbrev pub PopCause : ChangeStream → ChangeStream → Result (Option (List ℕ)) Error → Type 0
+PopCause s s' (Ok None) = ⊥
+PopCause s s' (Ok (Some event)) = Popped s s' (fields event)
+PopCause s s' (Err e) = Unpopped s s' e ⊎ Passed s s' e
 
 -- the same of the poll that answers it
-abbrev pub TakeCause : List Fields → EventPoll → Type 0
-TakeCause events poll.Pending = Unit {0}
-TakeCause events (poll.Ready None) = ⊥
-TakeCause events (poll.Ready (Some event)) = Unit {0}
-TakeCause events (poll.Failed e) = LacksToken events e
+abbrev pub TakeCause : ChangeStream → ChangeStream → EventPoll → Type 0
+TakeCause s s' poll.Pending = ⊥
+TakeCause s s' (poll.Ready None) = ⊥
+TakeCause s s' (poll.Ready (Some event)) = Popped s s' (fields event)
+TakeCause s s' (poll.Failed e) = Unpopped s s' e ⊎ Passed s s' e
 
--- a failure is passed on just as it is, where nothing is to be resumed
+-- a failure is passed on just as it is, where nothing is to be resumed now
 abbrev pub PassedOn : Error → EventPoll → Type 0
-PassedOn error poll.Pending = Unit {0}
+PassedOn error poll.Pending = ⊥
 PassedOn error (poll.Ready event) = ⊥
 PassedOn error (poll.Failed e) = (e ≡ error) × (is_resumable e.kind e.labels e.wire_version ≡ false)
 
--- or the stream is to resume
-abbrev pub FailCause : Error → ChangeStream → ChangeStream → Stepped → Type 0
-FailCause error s s' stepped.Goes = (s'.aggregate ≡ s.aggregate) × (s'.phase ≡ phase.Owing)
-FailCause error s s' (stepped.Gives p) = PassedOn error p
+-- or the stream resumes
+abbrev pub FailCause : Error → Stepped → Type 0
+FailCause error stepped.Goes = is_resumable error.kind error.labels error.wire_version ≡ true
+FailCause error (stepped.Gives p) = PassedOn error p
 
 -- a failed killCursors is passed over, but for want of memory
 abbrev pub WantsMemory : EventPoll → Type 0
-WantsMemory poll.Pending = Unit {0}
+WantsMemory poll.Pending = ⊥
 WantsMemory (poll.Ready event) = ⊥
 WantsMemory (poll.Failed e) = e.kind ≡ kind.OutOfMemory
 
 -- the batch that came stays in hand
-abbrev pub KillCause : List ℕ → ChangeStream → ChangeStream → Stepped → Type 0
-KillCause held s s' stepped.Goes = (s'.aggregate ≡ s.aggregate) × (s'.phase ≡ phase.Resumed held)
-KillCause held s s' (stepped.Gives p) = WantsMemory p
+abbrev pub KillCause : Error → List ℕ → ChangeStream → ChangeStream → Stepped → Type 0
+KillCause e held s s' stepped.Goes = (s' ≡ record s { phase = phase.Resumed held }) × (e.kind ≡ kind.OutOfMemory → ⊥)
+KillCause e held s s' (stepped.Gives p) = (s' ≡ record s { phase = phase.Owing }) × WantsMemory p
 
--- a reply to a getMore that is read no further: memory ran out, or it breaks its grammar
-abbrev pub IsSpoilt : Error → Type 0
-IsSpoilt e = (e.kind ≡ kind.OutOfMemory) ⊎ ((how : Malformed) × (e ≡ plain (kind.InvalidResponse how)))
+-- behind the reply to a getMore
+abbrev pub MoreLeads : List ℕ → ChangeStream → ChangeStream → Stepped → Type 0
+MoreLeads bytes s s' r = (awaited : Awaited) (past : Past) (at : Standing) → s.aggregate ≡ at.aggregate → s.cursor ≡ at.cursor → HeardBy past (more_command at) (reply bytes) → StepCame awaited past at false s' r
+
+-- behind a getMore that failed
+abbrev pub FailLeads : Error → ChangeStream → ChangeStream → Stepped → Type 0
+FailLeads e s s' r = (awaited : Awaited) (past : Past) (at : Standing) → s.aggregate ≡ at.aggregate → IsStart at s → at.events ≡ [] → Failed past (more_command at) false e → StepCame awaited past at false s' r
+
+-- behind the reply to the aggregate of a resumption
+abbrev pub ResumeLeads : List ℕ → ChangeStream → ChangeStream → Stepped → Type 0
+ResumeLeads bytes s s' r = (awaited : Awaited) (past : Past) (at : Standing) → s.aggregate ≡ at.aggregate → Resumes past at → Leaves past at s.cursor → HeardBy past (resume_command past.wire at) (reply bytes) → StepCame awaited past at false s' r
+
+-- with the cursor of that reply
+abbrev pub ReplaceLeads : CursorSpecification → ChangeStream → ChangeStream → Stepped → Type 0
+ReplaceLeads out s s' r = (awaited : Awaited) (past : Past) (at : Standing) → s.aggregate ≡ at.aggregate → Leaves past at s.cursor → Resumed past at out.initial_reply out.info out.post_batch_resume_token → StepCame awaited past at false s' r
+
+-- with the aggregate of a resumption to be sent at this wire version
+abbrev pub OweLeads : ℤ → ChangeStream → ChangeStream → Stepped → Type 0
+OweLeads wire s s' r = (awaited : Awaited) (past : Past) (at : Standing) (resumed : Bool) → past.wire ≡ wire → SoFar awaited past at resumed phase.Owing s → StepCame awaited past at resumed s' r

@@ -1,62 +1,63 @@
--- What the answers of an opening are caused by.
-use Rattle.std.specs.Prelude.{◌≡◌, ℕ, ℤ, List, Option, None}
+-- What the answers of an opening are caused by, over all its polls.
+use Rattle.std.specs.Prelude.{◌≡◌, ◌↔◌, IsTrue, Bool, true, ℕ, ℤ, List, length, Option, Some, None, option_map}
+use Rattle.mg_bson.specs.Tree.{no_items}
 use Rattle.mg_bson.specs.Raw.{fields}
 use Rattle.mg_bson.specs.Reading.{doc}
 use Rattle.mg_link.specs.Errors.{plain}
 use Rattle.mg_link.specs.Exec.{FailsByReply, Sending}
 use Rattle.mg_link.specs.Link.{Awaited, Told}
-use Rattle.mg_link.specs.Log.{Sight, reply, fault}
+use Rattle.mg_link.specs.Log.{reply, fault, Call}
 use Rattle.mg_link.specs.declared.action.Step.{Step}
 use Rattle.mg_link.specs.declared.action.Step.TheVariants as step
 use Rattle.mg_link.specs.declared.error.Error.{Error}
 use Rattle.mg_link.specs.declared.error.ErrorKind.TheVariants as kind
-use Rattle.mg_ops.specs.Cursors.{BreaksIn}
+use Rattle.mg_ops.specs.Cursors.{BreaksIn, operation_time, time_parts}
 use Rattle.mg_ops.specs.declared.change_stream.WatchArgs.{WatchArgs}
-use Rattle.mg_change.specs.Causes.{CannotBuild, Heard, Stays, placed}
-use Rattle.mg_change.specs.Openings.{exec_ticket, opening_command}
+use Rattle.mg_bson.specs.declared.tree.Timestamp.{Timestamp}
+use Rattle.mg_change.specs.Calls.{Flies, HeardLast, Past, past_of}
+use Rattle.mg_change.specs.Causes.{CannotBuild, Standing, TellsCursor, standing_of}
+use Rattle.mg_change.specs.Openings.{first_known, opening_command}
 use Rattle.mg_change.specs.declared.opening.Opening.{Opening}
 use Rattle.mg_change.specs.declared.stream.ChangeStream.{ChangeStream}
-use Rattle.mg_change.specs.declared.stream.Phase.TheVariants as phase
 
--- a poll of an opening: what its link awaited, the logs, the wire version, the arguments and what was in flight
-pub record Over : Type 0 where
-  pub awaited : Awaited
-  pub log : Told
-  pub log' : Told
-  pub wire : ℤ
-  pub args : WatchArgs
-  pub exec : Option Sending
-
--- the poll heard this as the answer to the aggregate of the arguments
-abbrev pub HeardOpening : Over → Sight → Type 0
-HeardOpening o seen = Heard o.log o.log' (placed o.awaited (exec_ticket o.exec)) (opening_command o.args) seen
+-- how far an opening has come
+abbrev pub OpensSoFar : Awaited → Past → WatchArgs → Option Sending → Type 0
+OpensSoFar awaited past args None = Unit {0}
+OpensSoFar awaited past args (Some exec) = Flies awaited past (opening_command args) exec.stage
 
 -- why an opening fails
-pub data OpeningFails (o : Over) (e : Error) : Type 0 where
+pub data OpeningFails (past : Past) (args : WatchArgs) (e : Error) : Type 0 where
   -- memory ran out
-  no_memory : e.kind ≡ kind.OutOfMemory → OpeningFails o e
-  -- its aggregate was lost
-  lost : e ≡ plain kind.Io → HeardOpening o fault → OpeningFails o e
+  no_memory : e.kind ≡ kind.OutOfMemory → OpeningFails past args e
+  -- its aggregate was lost, twice
+  lost : e ≡ plain kind.Io → HeardLast past (opening_command args) true fault → OpeningFails past args e
   -- the reply to it is no success
-  refused : (bytes : List ℕ) → HeardOpening o (reply bytes) → FailsByReply (doc bytes) o.wire e → OpeningFails o e
+  refused : (bytes : List ℕ) → HeardLast past (opening_command args) true (reply bytes) → FailsByReply (doc bytes) past.wire e → OpeningFails past args e
   -- the reply to it breaks the grammar of a cursor
-  broken : (bytes : List ℕ) → HeardOpening o (reply bytes) → BreaksIn (fields bytes) e → OpeningFails o e
+  broken : (bytes : List ℕ) → HeardLast past (opening_command args) true (reply bytes) → BreaksIn (fields bytes) e → OpeningFails past args e
   -- it cannot be built
-  cannot_open : o.exec ≡ None → CannotBuild o.args.options.batch_size (opening_command o.args) e → OpeningFails o e
+  cannot_open : CannotBuild args.options.batch_size (opening_command args) e → OpeningFails past args e
 
--- the stream has the reply that was heard in hand
-pub record Answered (o : Over) (s : ChangeStream) : Type 0 where
+-- the stream that was opened: the reply is in hand, its cursor is the stream's, and the stream remembers what a new one does
+pub record Opened (past : Past) (args : WatchArgs) (first : Standing) : Type 0 where
+  pub args_are : first.aggregate.args ≡ args
   pub bytes : List ℕ
-  pub heard : HeardOpening o (reply bytes)
-  pub in_hand : s.phase ≡ phase.First bytes
+  pub heard : HeardLast past (opening_command args) true (reply bytes)
+  pub in_hand : first.first ≡ Some bytes
+  pub tells : TellsCursor bytes args.options.batch_size first.cursor first.upto
+  pub is_empty : Bool
+  pub empty : IsTrue is_empty ↔ (tells.batch ≡ no_items)
+  pub time : Option Timestamp
+  pub time_is : option_map time_parts time ≡ operation_time (fields bytes)
+  pub known : first.aggregate.resume ≡ Some (first_known args past.wire is_empty first.upto time)
 
--- what an answer of an opening is caused by
-abbrev pub OpeningCause : Over → Step Opening ChangeStream → Type 0
-OpeningCause o (step.Pending opening) = Unit {0}
-OpeningCause o (step.Done s) = Answered o s
-OpeningCause o (step.Failed e) = OpeningFails o e
+-- what a poll of an opening comes to
+abbrev pub OpeningCame : Awaited → Past → WatchArgs → Step Opening ChangeStream → Type 0
+OpeningCame awaited past args (step.Pending o) = OpensSoFar awaited past args o.exec
+OpeningCame awaited past args (step.Done s) = Opened past args (standing_of s)
+OpeningCame awaited past args (step.Failed e) = OpeningFails past args e
 
--- and what was seen stays
-pub record OpeningCaused (awaited : Awaited) (log log' : Told) (wire : ℤ) (args : WatchArgs) (exec : Option Sending) (result : Step Opening ChangeStream) : Type 0 where
-  pub stays : Stays log log'
-  pub cause : OpeningCause (record { awaited = awaited; log = log; log' = log'; wire = wire; args = args; exec = exec }) result
+-- A poll led an opening on that had sent at these places before.
+abbrev pub OpeningCaused : Awaited → Awaited → Told → Told → ℤ → WatchArgs → Option Sending → Step Opening ChangeStream → Type 0
+OpeningCaused old new log log' wire args exec result = (calls : List Call) → log ≡ Some calls → (places : List ℕ) → OpensSoFar old (past_of places (length calls) calls wire) args exec
+    → (calls' : List Call) × (log' ≡ Some calls') × OpeningCame new (past_of places (length calls) calls' wire) args result

@@ -1,6 +1,6 @@
 -- The opening of a change stream.
-use Rattle.std.specs.Prelude.{◌≡◌, ◌↔◌, IsTrue, ℕ, ℤ, List, [], Bool, true, Option, Some, None, Ok}
-use Rattle.mg_bson.specs.Tree.{Fields, Items, no_items}
+use Rattle.std.specs.Prelude.{◌≡◌, ◌↔◌, IsTrue, ℕ, ℤ, List, [], Bool, true, false, Option, Some, None, option_map, is_some, Ok}
+use Rattle.mg_bson.specs.Tree.{Tree, Fields, Items, no_items}
 use Rattle.mg_bson.specs.Raw.{fields}
 use Rattle.mg_link.specs.Exec.{Sending, unsent, ticket_of}
 use Rattle.mg_link.specs.Follow.{Follow, Moved}
@@ -11,13 +11,17 @@ use Rattle.mg_link.specs.declared.action.Step.{Step}
 use Rattle.mg_link.specs.declared.action.Step.TheVariants as step
 use Rattle.mg_options.specs.Tokens.{first_token}
 use Rattle.mg_ops.specs.Commands.{watch_command}
-use Rattle.mg_ops.specs.Cursors.{cursor_of}
+use Rattle.mg_ops.specs.Cursors.{cursor_of, operation_time, time_parts}
+use Rattle.mg_ops.specs.Resuming.{saved_time}
 use Rattle.mg_ops.specs.declared.aggregate.ChangeStreamAggregate.{ChangeStreamAggregate}
+use Rattle.mg_ops.specs.declared.change_stream.ChangeStreamData.{ChangeStreamData}
 use Rattle.mg_ops.specs.declared.change_stream.WatchArgs.{WatchArgs}
+use Rattle.mg_bson.specs.declared.tree.Timestamp.{Timestamp}
 use Rattle.mg_change.specs.declared.opening.Opening.{Opening}
 use Rattle.mg_change.specs.declared.stream.ChangeStream.{ChangeStream}
 use Rattle.mg_change.specs.declared.stream.Phase.TheVariants as phase
-use Rattle.mg_change.specs.Following.{follow_of, not_open, opening_in, token_of}
+use Rattle.mg_change.specs.Following.{follow_of, not_open, opening_in}
+use Rattle.mg_change.specs.Rows.{no_counts}
 use Rattle.mg_change.specs.Phases.{AtRest, Carries, IsKept, IsSound, resuming_command}
 
 abbrev pub exec_ticket : Option Sending → Option ℕ
@@ -46,21 +50,33 @@ abbrev pub IsNextSent : ChangeStreamAggregate → ℤ → Option Sending → Sen
 IsNextSent a wire None exec = (exec.stage ≡ unsent) × Carries exec (resuming_command a wire) true
 IsNextSent a wire (Some sent) exec = exec ≡ sent
 
--- a stream that was made of the reply to its opening
-pub record IsOpened (args : WatchArgs) (reply : List ℕ) (s : ChangeStream) : Type 0 where
+-- what a new stream remembers: the first token, and else the time of the reply to its opening
+abbrev pub first_known : WatchArgs → ℤ → Bool → Option Tree → Option Timestamp → ChangeStreamData
+first_known args wire is_empty upto time = record {
+  initial_operation_time = saved_time args.options wire is_empty (is_some upto) time;
+  resume_token = first_token args.options.start_after args.options.resume_after is_empty upto;
+  document_returned = false;
+}
+
+-- a stream that was made of the reply to its opening, over a link of this wire version
+pub record IsOpened (args : WatchArgs) (wire : ℤ) (reply : List ℕ) (s : ChangeStream) : Type 0 where
   pub phase_is : s.phase ≡ phase.First reply
   pub args_is : s.aggregate.args ≡ args
   pub batch : Items
   pub says : cursor_of (fields reply) ≡ Ok (record { id = s.cursor.id; space = space s.cursor.ns; token = s.batch_token; batch = batch })
+  pub size_is : s.cursor.batch_size ≡ args.options.batch_size
   pub is_empty : Bool
   pub empty : IsTrue is_empty ↔ (batch ≡ no_items)
-  pub begins : token_of s.aggregate.resume ≡ first_token args.options.start_after args.options.resume_after is_empty s.batch_token
+  pub time : Option Timestamp
+  pub time_is : option_map time_parts time ≡ operation_time (fields reply)
+  pub known : s.aggregate.resume ≡ Some (first_known args wire is_empty s.batch_token time)
   pub kept : IsKept s.aggregate s.cursor
+  pub counts_are : s.counts ≡ no_counts
 
 -- what every poll of an opening keeps
 abbrev pub OpeningKeeps : ChangeStreamAggregate → Option Sending → Step Opening ChangeStream → Type 0
 OpeningKeeps a exec (step.Pending o) = (IsOpening a exec → IsOpening o.aggregate o.exec) × (o.aggregate.args ≡ a.args)
-OpeningKeeps a exec (step.Done s) = (s.aggregate.args ≡ a.args) × ((wire : ℤ) → IsSound wire s) × AtRest s.phase
+OpeningKeeps a exec (step.Done s) = (s.aggregate.args ≡ a.args) × ((wire : ℤ) → IsSound wire s) × AtRest s.phase × (s.counts ≡ no_counts)
 OpeningKeeps a exec (step.Failed e) = Unit {0}
 
 -- where a watch is behind a poll of its opening

@@ -124,14 +124,14 @@ pub record IsSound (wire : ℤ) (s : ChangeStream) : Type 0 where
   pub kept : IsKept s.aggregate s.cursor
   pub sends : Sends wire s s.phase
 
--- nothing is in flight
+-- between two calls: nothing is in flight, and no batch but that of the opening waits to be looked at
 abbrev pub AtRest : Phase → Type 0
-AtRest phase.Taken = Unit {0}
+AtRest phase.Taken = ⊥
 AtRest phase.Rest = Unit {0}
 AtRest (phase.First reply) = Unit {0}
-AtRest phase.Fresh = Unit {0}
+AtRest phase.Fresh = ⊥
 AtRest (phase.Asking get_more exec) = ⊥
 AtRest phase.Owing = Unit {0}
 AtRest (phase.Resuming exec) = ⊥
 AtRest (phase.Killing exec old reply) = ⊥
-AtRest (phase.Resumed reply) = Unit {0}
+AtRest (phase.Resumed reply) = ⊥

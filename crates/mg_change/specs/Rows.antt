@@ -1,5 +1,5 @@
 -- What a call that seeks an event may get in vain.
-use Rattle.std.specs.Prelude.{◌≡◌, ◌<◌, ◌≤◌, ◌+◌, ◌-◌, ◌*◌, ◌⊎◌, ℕ, pos, Bool, true, false, Option, Some, None}
+use Rattle.std.specs.Prelude.{◌≡◌, ◌<◌, ◌≤◌, ◌+◌, ◌-◌, ◌*◌, ◌⊎◌, ◌||◌, ℕ, pos, Bool, true, false, Option, Some, None}
 use Rattle.mg_link.specs.Errors.{plain}
 use Rattle.mg_link.specs.declared.error.ErrorKind.TheVariants as kind
 use Rattle.mg_change.specs.Following.{IsSpent}
@@ -15,6 +15,14 @@ use Rattle.mg_change.specs.declared.stream.Phase.{Phase}
 -- nothing was got
 abbrev pub no_counts : Counts
 no_counts = record { empty = 0; resumptions = 0; resumed = false }
+
+-- behind a step that looked at the batch of a resumption, or did not
+abbrev pub looking : Bool → Counts → Counts
+looking resumes c = record c { resumed = resumes || c.resumed }
+
+-- while nothing of a resumption is in hand
+abbrev pub in_row : Counts → Counts
+in_row c = record c { resumed = false }
 
 -- one more empty reply, by a resumption or not; the thousandth is too many
 pub record CountsResumption (c d : Counts) : Type 0 where
@@ -52,28 +60,27 @@ SeeksBeyond true c d r = r ≡ stepped.Gives (poll.Ready None)
 SeeksBeyond false c d r = GoesOn c d r ⊎ GivesUp c r
 
 -- the counts stay
-pub record Stays (c d : Counts) (r : Stepped) : Type 0 where
-  pub goes : r ≡ stepped.Goes
-  pub empty : d.empty ≡ c.empty
-  pub resumptions : d.resumptions ≡ c.resumptions
+pub record Stays (c d : Counts) (q r : Stepped) : Type 0 where
+  pub same : r ≡ q
+  pub counts : d ≡ c
 
--- what a call does behind a step of its stream, by whether its cursor is over
+-- What a call does behind a step of its stream, by whether its cursor is over. The counts tell whether the batch in hand came by a resumption.
 abbrev pub Seeks : Counts → Counts → Bool → Stepped → Stepped → Type 0
-Seeks c d over stepped.Goes r = Stays c d r
-Seeks c d over (stepped.Gives poll.Pending) r = r ≡ stepped.Gives poll.Pending
+Seeks c d over stepped.Goes r = Stays c d stepped.Goes r
+Seeks c d over (stepped.Gives poll.Pending) r = Stays c d (stepped.Gives poll.Pending) r
 Seeks c d over (stepped.Gives (poll.Ready None)) r = SeeksBeyond over c d r
 Seeks c d over (stepped.Gives (poll.Ready (Some event))) r = r ≡ stepped.Gives (poll.Ready (Some event))
 Seeks c d over (stepped.Gives (poll.Failed e)) r = r ≡ stepped.Gives (poll.Failed e)
 
 -- what is kept of the counts behind a poll
 abbrev pub KeptBy : EventPoll → Counts → Counts → Type 0
-KeptBy poll.Pending c d = d ≡ c
+KeptBy poll.Pending c d = d ≡ in_row c
 KeptBy (poll.Ready event) c d = d ≡ no_counts
 KeptBy (poll.Failed e) c d = d ≡ no_counts
 
--- a call that has ended leaves no counts
+-- a call that has ended leaves no counts; while one pends nothing of a resumption is in hand
 abbrev pub CountsAfter : EventPoll → Counts → Type 0
-CountsAfter poll.Pending c = Unit {0}
+CountsAfter poll.Pending c = c.resumed ≡ false
 CountsAfter (poll.Ready event) c = c ≡ no_counts
 CountsAfter (poll.Failed e) c = c ≡ no_counts
 

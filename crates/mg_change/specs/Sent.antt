@@ -9,6 +9,7 @@ use Rattle.mg_link.specs.Owner.{Onward, nobody}
 use Rattle.mg_link.specs.Namespace.{Space, space}
 use Rattle.mg_ops.specs.Commands.{get_more_command, kill_command}
 use Rattle.mg_ops.specs.declared.aggregate.ChangeStreamAggregate.{ChangeStreamAggregate}
+use Rattle.mg_ops.specs.declared.change_stream.WatchArgs.{WatchArgs}
 use Rattle.mg_ops.specs.declared.cursor_reply.CursorInformation.{CursorInformation}
 use Rattle.mg_change.specs.Phases.{resuming_command}
 use Rattle.mg_change.specs.declared.event_poll.EventPoll.{EventPoll}
@@ -113,3 +114,21 @@ CallSent log log' wire s s' r = StepSent log log' wire s.phase s s' (stepped.Giv
 abbrev pub Quiet : ℕ → ChangeStream → ChangeStream → Stepped → Type 0
 Quiet n s s' stepped.Goes = (places s'.phase ≤ n) × Keeps s s'
 Quiet n s s' (stepped.Gives p) = Unit {0}
+
+-- ---- a call that seeks an event
+
+-- its commands: the getMore of a cursor, the aggregate that resumes the stream, or the killing of one cursor
+pub data IsSought (args : WatchArgs) (wire : ℤ) (command : Fields) : Type 0 where
+  asks : (c : CursorInformation) → command ≡ get_more_command c.id (space c.ns) c.batch_size → IsSought args wire command
+  resumes : (a : ChangeStreamAggregate) → a.args ≡ args → command ≡ resuming_command a wire → IsSought args wire command
+  kills : KillsOne command → IsSought args wire command
+
+abbrev pub AreSought : WatchArgs → ℤ → List Fields → Type 0
+AreSought args wire [] = Unit {0}
+AreSought args wire (command ∷ commands) = IsSought args wire command × AreSought args wire commands
+
+-- it sent such commands only
+pub record SeekSent (log log' : Told) (wire : ℤ) (args : WatchArgs) : Type 0 where
+  pub commands : List Fields
+  pub adds : Sent log log' commands
+  pub sought : AreSought args wire commands

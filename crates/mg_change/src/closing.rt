@@ -4,14 +4,14 @@ ghost use Rattle.mg_link.specs.Acts.{EndsAtOnce, FailsByFault, IsOut, Pended, Ti
 ghost use Rattle.mg_link.specs.Exec.{ticket_of};
 ghost use Rattle.mg_link.specs.Link.{Later};
 ghost use Rattle.mg_link.specs.Follow.{Follow, Moved};
-ghost use Rattle.std.specs.Prelude.{List, Option, ℤ, ◌≤◌, true};
+ghost use Rattle.std.specs.Prelude.{List, Option, ℤ, pos, ◌≤◌, true};
 ghost use Rattle.mg_link.specs.State.{Start, Watch};
 ghost use Rattle.mg_bson.specs.Tree.{Fields, Tree};
 ghost use Rattle.mg_link.specs.Link.{Awaited, Told};
 ghost use Rattle.mg_change.specs.Growths.{Grows};
-ghost use Rattle.mg_change.specs.Closings.{Closes, FailLeaves, IsClosing, IsLanded, IsLast, IsMore, IsOlder, IsQuiet, KillRan, KillsAll, Knew, KnewBy, Lands, Leaves, MoreLeaves, QuietAfter, ResumeLeaves, closes_to, closing_in, closing_of, closing_ticket, flight_in, flight_ticket, ids_left, landing_of, left_of};
-ghost use Rattle.mg_change.specs.Causes.{placed};
-ghost use Rattle.mg_change.specs.ClosingCauses.{ClosingCaused, KillCaused, Landed, Landing, WantsMemory};
+ghost use Rattle.mg_change.specs.Closings.{Closes, FailLeaves, IsClosing, IsLanded, IsLast, IsMore, IsOlder, IsQuiet, KillRan, KillsAll, Knew, KnewBy, Lands, Leaves, MoreLeaves, QuietAfter, ResumeLeaves, closes_to, closing_in, closing_of, closing_ticket, flight_in, ids_left, landing_of, left_of};
+ghost use Rattle.mg_change.specs.Calls.{Stays};
+ghost use Rattle.mg_change.specs.ClosingCauses.{ClosingCaused, KillCaused, LandCaused, WantsMemory};
 ghost use Rattle.mg_change.specs.Following.{buffered, idle_by, in_phase};
 ghost use Rattle.mg_link.specs.Errors.{plain};
 ghost use Rattle.mg_link.specs.declared.error.ErrorKind.TheVariants as kind;
@@ -65,6 +65,8 @@ impl ChangeStream {
     pub fn close(self) -> Closing
         ensures ticket { closing_ticket result ≡ ticket_in self.phase }
         ensures aggregate { result.remains.aggregate ≡ self.aggregate }
+        ensures remains { (result.remains.cursor ≡ self.cursor) × (result.remains.opened ≡ pos 0) }
+        ensures flight { result.flight ≡ flight_in self.phase }
         ensures quiet { AtRest self.phase → IsQuiet result.flight }
         ensures closing { (wire : ℤ) → IsSound wire self → IsClosing wire result.remains result.flight }
         // Its token may have been handed out.
@@ -185,7 +187,8 @@ fn land_more<L: Link>(
     ensures lands { IsKept remains.aggregate remains.cursor → IsMore remains exec → Lands (L.wire link.new) remains.aggregate result }
     ensures moved { IsKept remains.aggregate remains.cursor → IsMore remains exec → (f : Follow)
         → Moved (L.log link.old) (L.log link.new) (closing_in (L.awaited link.old) (Flight.More get_more exec) (left_of f remains)) (landing_of (L.awaited link.new) f result) }
-    ensures caused { Landing (L.log link.old) (L.log link.new) result }
+    ensures stays { Stays (L.log link.old) (L.log link.new) }
+    ensures memory { WantsMemory result }
 {
     match exec.poll(link) {
         Step::Pending(exec) => Step::Pending(Closing {
@@ -209,7 +212,8 @@ fn land_resumption<L: Link>(link: &mut L, remains: Remains, exec: Exec) -> Step<
     ensures lands { IsKept remains.aggregate remains.cursor → Carries exec (resuming_command remains.aggregate (L.wire link.old)) true → Lands (L.wire link.new) remains.aggregate result }
     ensures moved { IsKept remains.aggregate remains.cursor → Carries exec (resuming_command remains.aggregate (L.wire link.old)) true → (f : Follow) → Knew remains.aggregate f
         → Moved (L.log link.old) (L.log link.new) (closing_in (L.awaited link.old) (Flight.Resumption exec) (left_of f remains)) (landing_of (L.awaited link.new) f result) }
-    ensures caused { Landing (L.log link.old) (L.log link.new) result }
+    ensures stays { Stays (L.log link.old) (L.log link.new) }
+    ensures memory { WantsMemory result }
 {
     match exec.poll(link) {
         Step::Pending(exec) => Step::Pending(Closing {
@@ -238,7 +242,8 @@ fn land_older<L: Link>(
     ensures lands { IsKept remains.aggregate remains.cursor → IsOlder remains old exec → Lands (L.wire link.new) remains.aggregate result }
     ensures moved { IsOlder remains old exec → (f : Follow)
         → Moved (L.log link.old) (L.log link.new) (closing_in (L.awaited link.old) (Flight.Older exec old) (left_of f remains)) (landing_of (L.awaited link.new) f result) }
-    ensures caused { Landing (L.log link.old) (L.log link.new) result }
+    ensures stays { Stays (L.log link.old) (L.log link.new) }
+    ensures memory { WantsMemory result }
 {
     match exec.poll(link) {
         Step::Pending(exec) => Step::Pending(Closing {
@@ -280,7 +285,8 @@ fn wait<L: Link>(link: &mut L, remains: Remains, exec: Exec) -> Step<Closing, ()
     ensures closes { IsKept remains.aggregate remains.cursor → IsLast remains exec → Closes (L.wire link.new) remains.aggregate result }
     ensures moved { IsLast remains exec → (f : Follow)
         → Moved (L.log link.old) (L.log link.new) (left_of f remains) (closes_to (L.awaited link.new) f result) }
-    ensures caused { IsLast remains exec → KillCaused (L.log link.old) (L.log link.new) (placed (L.awaited link.old) (ticket_of exec)) (L.wire link.old) remains result }
+    ensures stays { Stays (L.log link.old) (L.log link.new) }
+    ensures caused { IsLast remains exec → KillCaused (L.awaited link.old) (L.awaited link.new) (L.log link.old) (L.log link.new) (L.wire link.old) remains (Flight.Last exec) result }
 {
     match exec.poll(link) {
         Step::Pending(exec) => Step::Pending(Closing {
@@ -304,7 +310,8 @@ fn kill_all<L: Link>(link: &mut L, remains: Remains) -> Step<Closing, ()>
     ensures quiet { QuietAfter result }
     ensures closes { IsKept remains.aggregate remains.cursor → Closes (L.wire link.new) remains.aggregate result }
     ensures moved { (f : Follow) → Moved (L.log link.old) (L.log link.new) (left_of f remains) (closes_to (L.awaited link.new) f result) }
-    ensures caused { KillCaused (L.log link.old) (L.log link.new) None (L.wire link.old) remains result }
+    ensures stays { Stays (L.log link.old) (L.log link.new) }
+    ensures caused { KillCaused (L.awaited link.old) (L.awaited link.new) (L.log link.old) (L.log link.new) (L.wire link.old) remains Flight.Landed result }
 {
     let ids = match ids_of(remains.alloc, remains.cursor.id, remains.opened) {
         Ok(ids) => ids,
@@ -331,7 +338,8 @@ fn go_on<L: Link>(link: &mut L, landing: Step<Closing, Remains>) -> Step<Closing
     ensures sends { (r : Remains) → landing ≡ Step.Done r → KillsAll (L.awaited link.old) (L.awaited link.new) (L.log link.old) (L.log link.new) (L.wire link.old) r result }
     ensures closes { (a : ChangeStreamAggregate) → Lands (L.wire link.old) a landing → Closes (L.wire link.new) a result }
     ensures moved { (f : Follow) → Moved (L.log link.old) (L.log link.new) (landing_of (L.awaited link.old) f landing) (closes_to (L.awaited link.new) f result) }
-    ensures caused { (log : Told) → Landing log (L.log link.old) landing → Landed log (L.log link.new) (L.wire link.old) result }
+    ensures stays { Stays (L.log link.old) (L.log link.new) }
+    ensures caused { WantsMemory landing → (log : Told) → Stays log (L.log link.old) → LandCaused (L.awaited link.new) log (L.log link.new) (L.wire link.old) result }
 {
     match landing {
         Step::Pending(closing) => Step::Pending(closing),
@@ -361,7 +369,8 @@ impl Action for Closing {
         ensures closes { IsClosing (L.wire link.old) self.remains self.flight → Closes (L.wire link.new) self.remains.aggregate result }
         ensures moved { IsClosing (L.wire link.old) self.remains self.flight → (f : Follow) → KnewBy self.flight self.remains.aggregate f
             → Moved (L.log link.old) (L.log link.new) (closing_of (L.awaited link.old) f self) (closes_to (L.awaited link.new) f result) }
-        ensures caused { IsClosing (L.wire link.old) self.remains self.flight → ClosingCaused (L.awaited link.old) (L.log link.old) (L.log link.new) (L.wire link.old) self.remains self.flight result }
+        ensures stays { Stays (L.log link.old) (L.log link.new) }
+        ensures caused { IsClosing (L.wire link.old) self.remains self.flight → ClosingCaused (L.awaited link.old) (L.awaited link.new) (L.log link.old) (L.log link.new) (L.wire link.old) self.remains self.flight result }
     {
         let Closing { remains, flight } = self;
         match flight {

@@ -68,6 +68,7 @@ pub(crate) fn kill_one(alloc: Global, cursor: &CursorInformation, wire: i32) -> 
     ensures stage { IfOk result (λ e. e.stage ≡ unsent) }
     ensures command { IfOk result (λ e. Carries e (kill_command (space cursor.now.ns) (cursor.now.id ∷ [])) false) }
     ensures err { IfErr result IsNotIo }
+    ensures fails { IfErr result (λ e. FailsBy (CannotBeSent (kill_command (space cursor.now.ns) (cursor.now.id ∷ []))) e) }
 {
     let mut ids = Vec::new(alloc);
     ids.push(cursor.id)?;

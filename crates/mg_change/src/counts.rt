@@ -1,6 +1,6 @@
 //! What a call that seeks an event got in vain.
 ghost use Rattle.std.specs.Prelude.{◌≡◌, None};
-ghost use Rattle.mg_change.specs.Rows.{Counted, KeptBy, Seeks, no_counts};
+ghost use Rattle.mg_change.specs.Rows.{Counted, KeptBy, Seeks, looking, no_counts};
 ghost use Rattle.mg_change.specs.declared.event_poll.EventPoll.TheVariants as poll;
 ghost use Rattle.mg_change.specs.declared.event_poll.Stepped.TheVariants as stepped;
 
@@ -60,15 +60,14 @@ impl Counts {
         }
     }
 
-    // What the call does behind a step of its stream: an empty reply of an open cursor answers nothing.
+    // What the call does behind a step of its stream, which may have looked at the batch of a resumption: an empty reply of
+    // an open cursor answers nothing.
     pub(crate) fn after(&mut self, resumes: bool, over: bool, stepped: Stepped) -> Stepped
-        ensures { Seeks self.old self.new over stepped result }
+        ensures { Seeks (looking resumes self.old) self.new over stepped result }
     {
+        self.resumed = resumes || self.resumed;
         match stepped {
-            Stepped::Goes => {
-                self.resumed = self.resumed || resumes;
-                Stepped::Goes
-            }
+            Stepped::Goes => Stepped::Goes,
             Stepped::Gives(EventPoll::Ready(None)) => self.after_none(over),
             Stepped::Gives(poll) => Stepped::Gives(poll),
         }
@@ -90,12 +89,15 @@ impl Counts {
         }
     }
 
-    // What is kept behind a poll: a call that has ended leaves none.
+    // What is kept behind a poll: a call that has ended leaves none. While a reply pends no batch is in hand.
     pub(crate) fn kept(self, poll: &EventPoll) -> Counts
         ensures { KeptBy poll.now self result }
     {
         match poll {
-            EventPoll::Pending => self,
+            EventPoll::Pending => Counts {
+                resumed: false,
+                ..self
+            },
             _ => Counts::none(),
         }
     }

@@ -6,11 +6,12 @@ ghost use Rattle.mg_link.specs.Link.{Later};
 ghost use Rattle.mg_link.specs.State.{Start, Watch};
 ghost use Rattle.mg_options.specs.Tokens.{first_token};
 ghost use Rattle.mg_ops.specs.Resuming.{saved_time};
-ghost use Rattle.std.specs.Prelude.{is_some};
+ghost use Rattle.std.specs.Prelude.{false, is_some};
 ghost use Rattle.mg_change.specs.Following.{Asks, AsksNothing, opening_in};
 ghost use Rattle.mg_change.specs.Growths.{OpensInVain};
 ghost use Rattle.mg_change.specs.Polls.{IsNotIo};
 ghost use Rattle.mg_change.specs.OpeningSends.{OpeningSent};
+ghost use Rattle.mg_change.specs.Calls.{Stays};
 ghost use Rattle.mg_change.specs.OpeningCauses.{OpeningCaused};
 ghost use Rattle.mg_change.specs.Causes.{CannotBuild};
 ghost use Rattle.mg_change.specs.Phases.{resuming_command};
@@ -52,6 +53,7 @@ fn data_of(
 ) -> Result<ChangeStreamData, Error>
     ensures token { IfOk result (λ d. d.resume_token ≡ first_token options.now.start_after options.now.resume_after opened.now.is_empty opened.now.post_batch_resume_token) }
     ensures time { IfOk result (λ d. d.initial_operation_time ≡ saved_time options.now wire opened.now.is_empty (is_some opened.now.post_batch_resume_token) time) }
+    ensures returned { IfOk result (λ d. d.document_returned ≡ false) }
     ensures err { IfErr result IsNotIo }
     ensures room { IfErr result (λ e. e ≡ plain kind.OutOfMemory) }
 {
@@ -75,7 +77,7 @@ fn stream_of(
     wire: i32,
     reply: RawDocumentBuf,
 ) -> Result<ChangeStream, Error>
-    ensures ok { IfOk result (λ s. IsOpened aggregate.args reply s) }
+    ensures ok { IfOk result (λ s. IsOpened aggregate.args wire reply s) }
     ensures err { IfErr result IsNotIo }
     ensures fails { IfErr result (λ e. FailsBy (BreaksIn (fields reply)) e) }
 {
@@ -131,7 +133,8 @@ fn wait<L: Link>(
         → OpeningMoves (L.awaited link.new) (L.log link.old) (L.log link.new) (opening_in (L.awaited link.old) (Some exec) w start) w start result }
     ensures sent { IsOpening aggregate (Some exec) → OpeningSent aggregate.args (L.log link.old) (L.log link.new) (Some exec) result }
     ensures vain { IsOpening aggregate (Some exec) → AsksNothing aggregate.args → OpensInVain (L.awaited link.old) (L.awaited link.new) (L.log link.old) (L.log link.new) (Some exec) result }
-    ensures caused { IsOpening aggregate (Some exec) → OpeningCaused (L.awaited link.old) (L.log link.old) (L.log link.new) (L.wire link.old) aggregate.args (Some exec) result }
+    ensures stays { Stays (L.log link.old) (L.log link.new) }
+    ensures caused { IsOpening aggregate (Some exec) → OpeningCaused (L.awaited link.old) (L.awaited link.new) (L.log link.old) (L.log link.new) (L.wire link.old) aggregate.args (Some exec) result }
 {
     match exec.poll(link) {
         Step::Pending(exec) => Step::Pending(Opening {
@@ -183,7 +186,8 @@ impl Action for Opening {
             → OpeningMoves (L.awaited link.new) (L.log link.old) (L.log link.new) (opening_in (L.awaited link.old) self.exec w start) w start result }
         ensures sent { IsOpening self.aggregate self.exec → OpeningSent self.aggregate.args (L.log link.old) (L.log link.new) self.exec result }
         ensures vain { IsOpening self.aggregate self.exec → AsksNothing self.aggregate.args → OpensInVain (L.awaited link.old) (L.awaited link.new) (L.log link.old) (L.log link.new) self.exec result }
-        ensures caused { IsOpening self.aggregate self.exec → OpeningCaused (L.awaited link.old) (L.log link.old) (L.log link.new) (L.wire link.old) self.aggregate.args self.exec result }
+        ensures stays { Stays (L.log link.old) (L.log link.new) }
+        ensures caused { IsOpening self.aggregate self.exec → OpeningCaused (L.awaited link.old) (L.awaited link.new) (L.log link.old) (L.log link.new) (L.wire link.old) self.aggregate.args self.exec result }
     {
         let Opening {
             alloc,

@@ -14,11 +14,14 @@ ghost use Rattle.mg_ops.specs.Naming.{IsNamed};
 ghost use Rattle.mg_change.specs.Following.{Asks, Passes, Pops, Spends, StepSpends, Turned, Turns, buffered, event_told, follow_of, popped_told, step_told, token_of};
 ghost use Rattle.mg_change.specs.Phases.{Carries, IsAsking, IsKept, IsKilling, IsResuming, IsSound, left_with, rank, remembering, resuming_command, ticket_in, without_token};
 ghost use Rattle.mg_change.specs.Polls.{Falls, IsAtOnce, IsNotIo, IsStepAtOnce, Loses, Pends, RestsAfter, StepLoses, StepPends, StepRests, ends_cursor};
-ghost use Rattle.mg_change.specs.Sent.{CallSent, Quiet, StepSent};
-ghost use Rattle.mg_change.specs.Causes.{CallCaused, Caused, FailCause, HeardReply, IsIdle, IsSpoilt, KillCause, PopCause, Reply, Resumption, StepCause, TakeCause, over};
-ghost use Rattle.mg_change.specs.SeekCauses.{SeekCaused, StepSought};
+ghost use Rattle.mg_change.specs.Sent.{CallSent, Quiet, SeekSent, StepSent};
+ghost use Rattle.mg_change.specs.Causes.{Breaks, CallCaused, FailCause, FailLeads, KillCause, MoreLeads, OweLeads, PopCause, ReplaceLeads, ResumeLeads, StepCaused, StepLeads, TakeCause, TellsCursor, is_resumed, remembered_by, token_behind};
+ghost use Rattle.mg_ops.specs.Failing.{FailsBy};
+ghost use Rattle.mg_bson.specs.Tree.{Tree};
+ghost use Rattle.mg_change.specs.Calls.{Stays};
+ghost use Rattle.mg_change.specs.SeekCauses.{SeekCaused, SeekSteps};
 ghost use Rattle.mg_link.specs.Link.{Awaited, Told};
-ghost use Rattle.mg_change.specs.Rows.{CountsAfter, Ends, StepEnds, left_in};
+ghost use Rattle.mg_change.specs.Rows.{CountsAfter, Ends, KeptBy, StepEnds, left_in};
 ghost use Rattle.mg_change.specs.Replies.{FailTurns, MoreTurns, Replaces, ResumeTurns};
 
 use crate::batch::{batch_of, id_of};
@@ -99,7 +102,8 @@ impl ChangeStream {
         ensures args { self.new.aggregate.args ≡ self.old.aggregate.args }
         ensures rests { RestsAfter result self.new.phase }
         ensures sent { CallSent (L.log link.old) (L.log link.new) (L.wire link.old) self.old self.new result }
-        ensures caused { CallCaused (L.awaited link.old) (L.log link.old) (L.log link.new) (L.wire link.old) self.old self.new result }
+        ensures stays { Stays (L.log link.old) (L.log link.new) }
+        ensures caused { CallCaused (L.awaited link.old) (L.awaited link.new) (L.log link.old) (L.log link.new) (L.wire link.old) self.old self.new result }
         ensures counts { CountsAfter result self.new.counts }
     {
         'steps: loop {
@@ -134,7 +138,9 @@ impl ChangeStream {
             (follow_of (L.awaited link.new) w start self.new opened (answered ++ event_told result)) }
         ensures args { self.new.aggregate.args ≡ self.old.aggregate.args }
         ensures rests { RestsAfter result self.new.phase }
-        ensures caused { SeekCaused (L.awaited link.old) (L.log link.old) (L.log link.new) (L.wire link.old) self.old self.new result }
+        ensures sent { SeekSent (L.log link.old) (L.log link.new) (L.wire link.old) self.old.aggregate.args }
+        ensures stays { Stays (L.log link.old) (L.log link.new) }
+        ensures caused { SeekCaused (L.awaited link.old) (L.awaited link.new) (L.log link.old) (L.log link.new) (L.wire link.old) self.old self.new result }
         ensures counts { CountsAfter result self.new.counts }
     {
         let mut counts = self.counts;
@@ -150,6 +156,7 @@ impl ChangeStream {
     fn leave(&mut self, counts: Counts, poll: EventPoll) -> EventPoll
         ensures answer { result ≡ poll }
         ensures stays { self.new ≡ record self.old { counts = self.new.counts } }
+        ensures kept { KeptBy poll counts self.new.counts }
         ensures counts { CountsAfter result self.new.counts }
     {
         self.counts = counts.kept(&poll);
@@ -171,11 +178,20 @@ impl ChangeStream {
         ensures rests { StepRests result self.new.phase }
         ensures ended { StepEnds result self.new }
         ensures turned { Turned (L.awaited link.old) (L.awaited link.new) (L.log link.old) (L.log link.new) self.old.phase self.old self.new (step_told result) }
-        ensures caused { StepSought (L.awaited link.old) (L.log link.old) (L.log link.new) (L.wire link.old) self.old self.new result }
+        ensures sent { SeekSent (L.log link.old) (L.log link.new) (L.wire link.old) self.old.aggregate.args }
+        ensures stays { Stays (L.log link.old) (L.log link.new) }
+        ensures caused { SeekSteps (L.awaited link.old) (L.awaited link.new) (L.log link.old) (L.log link.new) (L.wire link.old) self.old counts.old self.new counts.new result }
     {
-        let resumes = matches!(self.phase, Phase::Resumed(_));
+        let resumes = self.resumes();
         let stepped = self.advance(link);
         counts.after(resumes, self.is_over(), stepped)
+    }
+
+    // Whether the batch of a resumption is looked at next.
+    fn resumes(&self) -> bool
+        ensures { result ≡ is_resumed self.now.phase }
+    {
+        matches!(self.phase, Phase::Resumed(_))
     }
 
     // Whether the server holds no cursor of the stream.
@@ -233,7 +249,8 @@ impl ChangeStream {
         ensures spent { StepSpends result self.new }
         ensures turned { Turned (L.awaited link.old) (L.awaited link.new) (L.log link.old) (L.log link.new) self.old.phase self.old self.new (step_told result) }
         ensures sent { StepSent (L.log link.old) (L.log link.new) (L.wire link.old) self.old.phase self.old self.new result }
-        ensures caused { Caused (L.awaited link.old) (L.log link.old) (L.log link.new) (L.wire link.old) self.old.phase self.old self.new result }
+        ensures stays { Stays (L.log link.old) (L.log link.new) }
+        ensures caused { StepCaused (L.awaited link.old) (L.awaited link.new) (L.log link.old) (L.log link.new) (L.wire link.old) self.old.phase self.old self.new result }
     {
         let wire = link.wire_version();
         match mem::replace(&mut self.phase, Phase::Taken) {
@@ -263,7 +280,7 @@ impl ChangeStream {
         ensures spent { StepSpends result self.new }
         ensures turned { Turns Phase.Rest self.old self.new (step_told result) }
         ensures quiet { Quiet 4 self.old self.new result }
-        ensures caused { (awaited : Awaited) (log : Told) (w : ℤ) (p : Phase) → IsIdle p → StepCause (over awaited log log w p self.old) self.new result }
+        ensures caused { StepLeads Phase.Rest self.old self.new result }
     {
         if !self.buffer.is_empty() {
             return Stepped::Gives(self.take());
@@ -298,7 +315,7 @@ impl ChangeStream {
         ensures spent { StepSpends result self.new }
         ensures turned { Turns (Phase.First reply) self.old self.new (step_told result) }
         ensures quiet { Quiet 3 self.old self.new result }
-        ensures caused { (awaited : Awaited) (log : Told) (w : ℤ) → StepCause (over awaited log log w (Phase.First reply) self.old) self.new result }
+        ensures caused { StepLeads (Phase.First reply) self.old self.new result }
     {
         match batch_of(self.alloc, &reply.as_raw()) {
             Ok(documents) => {
@@ -321,7 +338,7 @@ impl ChangeStream {
         ensures spent { StepSpends result self.new }
         ensures told { step_told result ≡ [] }
         ensures quiet { Quiet 3 self.old self.new result }
-        ensures passed { FailCause error self.old self.new result }
+        ensures passed { FailCause error result }
     {
         self.phase = Phase::Owing;
         if error.is_resumable() {
@@ -345,7 +362,7 @@ impl ChangeStream {
         ensures spent { StepSpends result self.new }
         ensures turned { Turns Phase.Fresh self.old self.new (step_told result) }
         ensures quiet { Quiet 0 self.old self.new result }
-        ensures caused { (awaited : Awaited) (log : Told) (w : ℤ) → StepCause (over awaited log log w Phase.Fresh self.old) self.new result }
+        ensures caused { StepLeads Phase.Fresh self.old self.new result }
     {
         if !self.buffer.is_empty() {
             return Stepped::Gives(self.take());
@@ -375,7 +392,8 @@ impl ChangeStream {
         ensures spent { StepSpends result self.new }
         ensures turned { Turned (L.awaited link.old) (L.awaited link.new) (L.log link.old) (L.log link.new) (Phase.Asking get_more exec) self.old self.new (step_told result) }
         ensures sent { StepSent (L.log link.old) (L.log link.new) (L.wire link.old) (Phase.Asking get_more exec) self.old self.new result }
-        ensures caused { Caused (L.awaited link.old) (L.log link.old) (L.log link.new) (L.wire link.old) (Phase.Asking get_more exec) self.old self.new result }
+        ensures stays { Stays (L.log link.old) (L.log link.new) }
+        ensures caused { StepCaused (L.awaited link.old) (L.awaited link.new) (L.log link.old) (L.log link.new) (L.wire link.old) (Phase.Asking get_more exec) self.old self.new result }
     {
         match exec.poll(link) {
             Step::Pending(exec) => {
@@ -401,7 +419,7 @@ impl ChangeStream {
         ensures spent { StepSpends result self.new }
         ensures turned { MoreTurns reply self.old self.new (step_told result) }
         ensures quiet { Quiet 3 self.old self.new result }
-        ensures caused { (awaited : Awaited) (log log' : Told) (w : ℤ) (p : Phase) → Reply (over awaited log log' w p self.old) reply → StepCause (over awaited log log' w p self.old) self.new result }
+        ensures caused { MoreLeads reply self.old self.new result }
     {
         match self.keep(get_more, reply) {
             Ok(()) => {
@@ -421,7 +439,9 @@ impl ChangeStream {
         ensures kept_turned { OnOk result (MoreTurns reply self.old (record self.new { phase = Phase.Fresh }) []) }
         ensures lost_turned { OnErr result (MoreTurns reply self.old (record self.new { phase = Phase.Owing }) []) }
         ensures aggregate { self.new.aggregate ≡ self.old.aggregate }
-        ensures spoilt { IfErr result IsSpoilt }
+        ensures fails { IfErr result (λ e. FailsBy (Breaks (fields reply)) e) }
+        ensures tells { OnOk result (TellsCursor reply self.old.cursor.batch_size self.new.cursor self.new.batch_token) }
+        ensures left { OnErr result ((self.new.cursor ≡ self.old.cursor) ⊎ ((upto : Option Tree) × TellsCursor reply self.old.cursor.batch_size self.new.cursor upto)) }
         ensures gave { OnOk result (HoldsBatch (fields reply) (buffered self.new)) }
     {
         let gave = get_more.read(self.alloc, reply)?;
@@ -447,7 +467,7 @@ impl ChangeStream {
         ensures spent { StepSpends result self.new }
         ensures turned { FailTurns error self.old self.new (step_told result) }
         ensures quiet { Quiet 3 self.old self.new result }
-        ensures passed { FailCause error self.old self.new result }
+        ensures caused { FailLeads error self.old self.new result }
     {
         self.note_end(&error);
         if !error.is_resumable() && !is_memory(&error) {
@@ -480,7 +500,7 @@ impl ChangeStream {
         ensures spent { StepSpends result self.new }
         ensures turned { Turns Phase.Owing self.old self.new (step_told result) }
         ensures quiet { Quiet 3 self.old self.new result }
-        ensures caused { (awaited : Awaited) (log : Told) (w : ℤ) → w ≡ wire → StepCause (over awaited log log w Phase.Owing self.old) self.new result }
+        ensures caused { OweLeads wire self.old self.new result }
     {
         match resume(self.alloc, &self.aggregate, wire) {
             Ok(exec) => {
@@ -512,7 +532,8 @@ impl ChangeStream {
         ensures spent { StepSpends result self.new }
         ensures turned { Turned (L.awaited link.old) (L.awaited link.new) (L.log link.old) (L.log link.new) (Phase.Resuming exec) self.old self.new (step_told result) }
         ensures sent { StepSent (L.log link.old) (L.log link.new) (L.wire link.old) (Phase.Resuming exec) self.old self.new result }
-        ensures caused { Caused (L.awaited link.old) (L.log link.old) (L.log link.new) (L.wire link.old) (Phase.Resuming exec) self.old self.new result }
+        ensures stays { Stays (L.log link.old) (L.log link.new) }
+        ensures caused { StepCaused (L.awaited link.old) (L.awaited link.new) (L.log link.old) (L.log link.new) (L.wire link.old) (Phase.Resuming exec) self.old self.new result }
     {
         match exec.poll(link) {
             Step::Pending(exec) => {
@@ -541,7 +562,7 @@ impl ChangeStream {
         ensures spent { StepSpends result self.new }
         ensures turned { ResumeTurns reply self.old self.new (step_told result) }
         ensures quiet { Quiet 1 self.old self.new result }
-        ensures caused { (awaited : Awaited) (log log' : Told) (w : ℤ) (p : Phase) → HeardReply (over awaited log log' w p self.old) reply → StepCause (over awaited log log' w p self.old) self.new result }
+        ensures caused { ResumeLeads reply self.old self.new result }
     {
         match self.aggregate.read(self.alloc, reply) {
             Ok((opened, _)) => self.replace(wire, opened),
@@ -567,7 +588,7 @@ impl ChangeStream {
         ensures spent { StepSpends result self.new }
         ensures turned { Replaces self.old opened self.new (step_told result) }
         ensures quiet { Quiet 1 self.old self.new result }
-        ensures caused { (awaited : Awaited) (log log' : Told) (w : ℤ) (p : Phase) → Resumption (over awaited log log' w p self.old) opened.initial_reply → StepCause (over awaited log log' w p self.old) self.new result }
+        ensures caused { ReplaceLeads opened self.old self.new result }
     {
         let CursorSpecification {
             info,
@@ -614,7 +635,8 @@ impl ChangeStream {
         ensures spent { StepSpends result self.new }
         ensures turned { Turned (L.awaited link.old) (L.awaited link.new) (L.log link.old) (L.log link.new) (Phase.Killing exec old reply) self.old self.new (step_told result) }
         ensures sent { StepSent (L.log link.old) (L.log link.new) (L.wire link.old) (Phase.Killing exec old reply) self.old self.new result }
-        ensures caused { Caused (L.awaited link.old) (L.log link.old) (L.log link.new) (L.wire link.old) (Phase.Killing exec old reply) self.old self.new result }
+        ensures stays { Stays (L.log link.old) (L.log link.new) }
+        ensures caused { StepCaused (L.awaited link.old) (L.awaited link.new) (L.log link.old) (L.log link.new) (L.wire link.old) (Phase.Killing exec old reply) self.old self.new result }
     {
         match exec.poll(link) {
             Step::Pending(exec) => {
@@ -643,7 +665,7 @@ impl ChangeStream {
         ensures spent { StepSpends result self.new }
         ensures turned { Turns (Phase.Resumed reply) self.old self.new (step_told result) }
         ensures quiet { Quiet 0 self.old self.new result }
-        ensures killed { KillCause reply self.old self.new result }
+        ensures killed { KillCause error reply self.old self.new result }
     {
         if is_memory(&error) {
             self.phase = Phase::Owing;
@@ -667,7 +689,7 @@ impl ChangeStream {
         ensures spent { StepSpends result self.new }
         ensures turned { Turns (Phase.Resumed reply) self.old self.new (step_told result) }
         ensures quiet { Quiet 0 self.old self.new result }
-        ensures caused { (awaited : Awaited) (log : Told) (w : ℤ) → StepCause (over awaited log log w (Phase.Resumed reply) self.old) self.new result }
+        ensures caused { StepLeads (Phase.Resumed reply) self.old self.new result }
     {
         match batch_of(self.alloc, &reply.as_raw()) {
             Ok(documents) => {
@@ -703,7 +725,7 @@ impl ChangeStream {
         ensures spent { Spends result self.new }
         ensures kept { IsKept self.new.aggregate self.new.cursor }
         ensures turned { self.old.buffer.items ≢ [] → Turns Phase.Fresh self.old self.new (event_told result) }
-        ensures caused { self.old.buffer.items ≢ [] → TakeCause (buffered self.old) result }
+        ensures caused { self.old.buffer.items ≢ [] → TakeCause self.old self.new result }
     {
         self.phase = Phase::Rest;
         match self.pop() {
@@ -721,7 +743,7 @@ impl ChangeStream {
         ensures err { IfErr result IsNotIo }
         ensures none { result ≡ Ok None → self.new.buffer.items ≡ [] }
         ensures turned { self.old.buffer.items ≢ [] → Pops self.old self.new (popped_told result) }
-        ensures caused { self.old.buffer.items ≢ [] → PopCause (buffered self.old) result }
+        ensures caused { self.old.buffer.items ≢ [] → PopCause self.old self.new result }
     {
         let Some(document) = self.buffer.front() else {
             return Ok(None);
@@ -743,6 +765,8 @@ impl ChangeStream {
         ensures phase { self.new.phase ≡ self.old.phase }
         ensures kept { IsKept self.new.aggregate self.new.cursor }
         ensures turned { Passes id self.old self.new }
+        ensures remembers { self.new.aggregate ≡ remembered_by (token_behind (buffered self.old) self.old.batch_token id) true self.old.aggregate }
+        ensures stays { (self.new.cursor ≡ self.old.cursor) × (self.new.buffer ≡ self.old.buffer) × (buffered self.old ≢ [] → self.new.batch_token ≡ self.old.batch_token) }
     {
         if self.buffer.is_empty() {
             let token = self.batch_token.take().unwrap_or(id);

@@ -6,6 +6,7 @@ use Rattle.mg_link.specs.declared.action.Step.{Step}
 use Rattle.mg_link.specs.declared.action.Step.TheVariants as step
 use Rattle.mg_change.specs.declared.closing.Closing.{Closing}
 use Rattle.mg_change.specs.declared.closing.Remains.{Remains}
+use Rattle.mg_change.proofs.Staying.{stays_same}
 use Rattle.mg_change.proofs.ClosingCauses as causes
 use Rattle.mg_change.proofs.closing.go_on.Goals as goal
 
@@ -35,12 +36,21 @@ returns-in-Done-clause-sends g c = λ r is.
     let same : c.in-Done.remains ≡ r = done_same c.in-Done.remains r (sym c.in-Done.is ∙ is) in
     subst (λ (x : Remains). KillsAll (g.L.Link.awaited c.args.link.now) (g.L.Link.awaited c.kill_all.new.link) (g.L.Link.log c.args.link.now) (g.L.Link.log c.kill_all.new.link) (g.L.Link.wire c.args.link.now) x c.kill_all.result) same c.kill_all.ensures.sends
 
+pub returns-in-Pending-clause-stays : goal.returns-in-Pending-clause-stays
+returns-in-Pending-clause-stays g c = stays_same (g.L.Link.log c.args.link.now) (g.L.Link.log c.args.link.now) refl
+
+pub returns-in-Done-clause-stays : goal.returns-in-Done-clause-stays
+returns-in-Done-clause-stays g c = c.kill_all.ensures.stays
+
+pub returns-in-Failed-clause-stays : goal.returns-in-Failed-clause-stays
+returns-in-Failed-clause-stays g c = stays_same (g.L.Link.log c.args.link.now) (g.L.Link.log c.args.link.now) refl
+
 pub returns-in-Pending-clause-caused : goal.returns-in-Pending-clause-caused
-returns-in-Pending-clause-caused g c = λ log landing. causes.waits_on log (g.L.Link.log c.args.link.now) (g.L.Link.wire c.args.link.now) c.args.landing c.in-Pending.closing c.in-Pending.is landing
+returns-in-Pending-clause-caused g c = λ memory log grows. causes.waits_on (g.L.Link.awaited c.args.link.now) log (g.L.Link.log c.args.link.now) (g.L.Link.wire c.args.link.now) c.args.landing c.in-Pending.closing c.in-Pending.is memory
 
 pub returns-in-Done-clause-caused : goal.returns-in-Done-clause-caused
-returns-in-Done-clause-caused g c = λ log landing.
-    causes.killed_later log (g.L.Link.log c.args.link.now) (g.L.Link.log c.kill_all.new.link) (g.L.Link.wire c.args.link.now) c.in-Done.remains landing.stays c.kill_all.result c.kill_all.ensures.caused
+returns-in-Done-clause-caused g c = λ memory log grows.
+    causes.killed_later (g.L.Link.awaited c.args.link.now) (g.L.Link.awaited c.kill_all.new.link) log (g.L.Link.log c.args.link.now) (g.L.Link.log c.kill_all.new.link) (g.L.Link.wire c.args.link.now) c.in-Done.remains grows c.kill_all.result c.kill_all.ensures.caused
 
 pub returns-in-Failed-clause-caused : goal.returns-in-Failed-clause-caused
-returns-in-Failed-clause-caused g c = λ log landing. causes.fails_on log (g.L.Link.log c.args.link.now) (g.L.Link.wire c.args.link.now) c.args.landing c.in-Failed.error c.in-Failed.is landing
+returns-in-Failed-clause-caused g c = λ memory log grows. causes.fails_on (g.L.Link.awaited c.args.link.now) log (g.L.Link.log c.args.link.now) (g.L.Link.wire c.args.link.now) c.args.landing c.in-Failed.error c.in-Failed.is memory

@@ -7,8 +7,8 @@ use Rattle.mg_ops.specs.Commands.{kill_command}
 use Rattle.mg_change.specs.Closings.{IsLast, ids_left}
 use Rattle.mg_change.specs.Phases.{Carries}
 use Rattle.mg_change.proofs.Closed.{dropped}
-use Rattle.mg_link.specs.Exec.{ticket_at}
-use Rattle.mg_change.specs.ClosingCauses.{no_memory}
+use Rattle.mg_link.specs.declared.error.Error.{Error}
+use Rattle.mg_change.proofs.Staying.{stays_same}
 use Rattle.mg_change.proofs.ClosingCauses as causes
 use Rattle.mg_change.proofs.closing.kill_all.Goals as goal
 use Rattle.mg_change.proofs.closing.kill_all.Goals.{After-wait}
@@ -66,15 +66,26 @@ returns-in-Ok-kill-clause-sends g c =
 pub returns-in-Err-kill-clause-sends : goal.returns-in-Err-kill-clause-sends
 returns-in-Err-kill-clause-sends g c = inl (refl, tt)
 
+pub returns-in-Err-clause-stays : goal.returns-in-Err-clause-stays
+returns-in-Err-clause-stays g c = stays_same (g.L.Link.log c.args.link.now) (g.L.Link.log c.args.link.now) refl
+
+pub returns-then-is_empty-clause-stays : goal.returns-then-is_empty-clause-stays
+returns-then-is_empty-clause-stays g c = stays_same (g.L.Link.log c.args.link.now) (g.L.Link.log c.args.link.now) refl
+
+pub returns-in-Ok-kill-clause-stays : goal.returns-in-Ok-kill-clause-stays
+returns-in-Ok-kill-clause-stays g c = c.wait.ensures.stays
+
+pub returns-in-Err-kill-clause-stays : goal.returns-in-Err-kill-clause-stays
+returns-in-Err-kill-clause-stays g c = stays_same (g.L.Link.log c.args.link.now) (g.L.Link.log c.args.link.now) refl
+
 pub returns-in-Err-clause-caused : goal.returns-in-Err-clause-caused
-returns-in-Err-clause-caused g c = causes.kill_no_memory (g.L.Link.log c.args.link.now) (g.L.Link.wire c.args.link.now) c.args.remains c.in-Err.error _ c.in-Err.ensures.room (no_memory refl)
+returns-in-Err-clause-caused g c = causes.kill_no_memory (g.L.Link.awaited c.args.link.now) (g.L.Link.awaited c.args.link.now) (g.L.Link.log c.args.link.now) (g.L.Link.wire c.args.link.now) c.args.remains c.in-Err.error (ap (λ (e : Error). e.kind) c.in-Err.ensures.room)
 
 pub returns-then-is_empty-clause-caused : goal.returns-then-is_empty-clause-caused
-returns-then-is_empty-clause-caused g c = causes.kill_none (g.L.Link.log c.args.link.now) (g.L.Link.wire c.args.link.now) c.args.remains _ (sym (ids_same c.args.remains.cursor.id c.args.remains.opened c.in-Ok.ids.items (search rules) (search rules) c.in-Ok.ensures.ok) ∙ no_ids c.in-Ok.ids.items c.in-Ok.ids.len c.is_empty.result c.in-Ok.ids.ok.0 c.is_empty.ensures c.if-is_empty.true)
+returns-then-is_empty-clause-caused g c = causes.kill_none (g.L.Link.awaited c.args.link.now) (g.L.Link.awaited c.args.link.now) (g.L.Link.log c.args.link.now) (g.L.Link.wire c.args.link.now) c.args.remains (sym (ids_same c.args.remains.cursor.id c.args.remains.opened c.in-Ok.ids.items (search rules) (search rules) c.in-Ok.ensures.ok) ∙ no_ids c.in-Ok.ids.items c.in-Ok.ids.len c.is_empty.result c.in-Ok.ids.ok.0 c.is_empty.ensures c.if-is_empty.true)
 
 pub returns-in-Ok-kill-clause-caused : goal.returns-in-Ok-kill-clause-caused
-returns-in-Ok-kill-clause-caused g c =
-    causes.kill_new (g.L.Link.awaited c.args.link.now) (g.L.Link.log c.args.link.now) (g.L.Link.log c.wait.new.link) (g.L.Link.wire c.args.link.now) c.args.remains c.in-Ok-kill.exec c.wait.result (ap ticket_at c.in-Ok-kill.ensures.stage) (c.wait.ensures.caused (kills g c))
+returns-in-Ok-kill-clause-caused g c = causes.kill_new (g.L.Link.awaited c.args.link.now) (g.L.Link.awaited c.wait.new.link) (g.L.Link.log c.args.link.now) (g.L.Link.log c.wait.new.link) (g.L.Link.wire c.args.link.now) c.args.remains c.in-Ok-kill.exec c.wait.result c.in-Ok-kill.ensures.stage (c.wait.ensures.caused (kills g c))
 
 pub returns-in-Err-kill-clause-caused : goal.returns-in-Err-kill-clause-caused
-returns-in-Err-kill-clause-caused g c = causes.kill_unbuilt (g.L.Link.log c.args.link.now) (g.L.Link.wire c.args.link.now) c.args.remains c.in-Ok.ids.items c.in-Err-kill.error (ids_same c.args.remains.cursor.id c.args.remains.opened c.in-Ok.ids.items (search rules) (search rules) c.in-Ok.ensures.ok) c.in-Err-kill.ensures.fails
+returns-in-Err-kill-clause-caused g c = causes.kill_unbuilt (g.L.Link.awaited c.args.link.now) (g.L.Link.awaited c.args.link.now) (g.L.Link.log c.args.link.now) (g.L.Link.wire c.args.link.now) c.args.remains c.in-Ok.ids.items c.in-Err-kill.error (ids_same c.args.remains.cursor.id c.args.remains.opened c.in-Ok.ids.items (search rules) (search rules) c.in-Ok.ensures.ok) c.in-Err-kill.ensures.fails

@@ -3,7 +3,7 @@ use Rattle.mg_link.specs.Namespace.{space}
 use Rattle.mg_ops.specs.Commands.{get_more_command}
 use Rattle.mg_change.proofs.Garbled.{carries_on, still_waits}
 use Rattle.mg_change.proofs.Closed.{fail_lands, fail_to, more_flown, more_lands, more_to}
-use Rattle.mg_change.proofs.ClosingCauses as causes
+use Rattle.mg_change.proofs.Staying.{stays_ran}
 use Rattle.mg_change.proofs.closing.land_more.Goals as goal
 
 pub returns-in-Pending-clause-lands : goal.returns-in-Pending-clause-lands
@@ -30,11 +30,11 @@ returns-in-Failed-clause-lands g c = λ kept is. fail_lands _ c.args.remains c.m
 pub returns-in-Failed-clause-moved : goal.returns-in-Failed-clause-moved
 returns-in-Failed-clause-moved g c = λ kept is f. fail_to _ _ _ _ f c.args.remains c.more_failed.result c.more_failed.ensures.leaves (more_flown _ _ _ _ _ f c.args.remains c.args.exec _ c.in-Failed.ensures.runs c.args.get_more kept is).lost
 
-pub returns-in-Pending-clause-caused : goal.returns-in-Pending-clause-caused
-returns-in-Pending-clause-caused g c = causes.lands (g.L.Link.awaited c.args.link.now) (g.L.Link.awaited c.poll.new.link) (g.L.Link.log c.args.link.now) (g.L.Link.log c.poll.new.link) (g.L.Link.wire c.args.link.now) c.args.exec c.poll.result _ c.poll.ensures.runs tt
+pub returns-in-Pending-clause-stays : goal.returns-in-Pending-clause-stays
+returns-in-Pending-clause-stays g c = stays_ran (g.L.Link.awaited c.args.link.now) (g.L.Link.awaited c.poll.new.link) (g.L.Link.log c.args.link.now) (g.L.Link.log c.poll.new.link) (g.L.Link.wire c.args.link.now) c.args.exec c.poll.result c.poll.ensures.runs
 
-pub returns-in-Done-clause-caused : goal.returns-in-Done-clause-caused
-returns-in-Done-clause-caused g c = causes.lands (g.L.Link.awaited c.args.link.now) (g.L.Link.awaited c.poll.new.link) (g.L.Link.log c.args.link.now) (g.L.Link.log c.poll.new.link) (g.L.Link.wire c.args.link.now) c.args.exec c.poll.result _ c.poll.ensures.runs c.more_came.ensures.memory
+pub returns-in-Done-clause-stays : goal.returns-in-Done-clause-stays
+returns-in-Done-clause-stays g c = stays_ran (g.L.Link.awaited c.args.link.now) (g.L.Link.awaited c.poll.new.link) (g.L.Link.log c.args.link.now) (g.L.Link.log c.poll.new.link) (g.L.Link.wire c.args.link.now) c.args.exec c.poll.result c.poll.ensures.runs
 
-pub returns-in-Failed-clause-caused : goal.returns-in-Failed-clause-caused
-returns-in-Failed-clause-caused g c = causes.lands (g.L.Link.awaited c.args.link.now) (g.L.Link.awaited c.poll.new.link) (g.L.Link.log c.args.link.now) (g.L.Link.log c.poll.new.link) (g.L.Link.wire c.args.link.now) c.args.exec c.poll.result _ c.poll.ensures.runs c.more_failed.ensures.memory
+pub returns-in-Failed-clause-stays : goal.returns-in-Failed-clause-stays
+returns-in-Failed-clause-stays g c = stays_ran (g.L.Link.awaited c.args.link.now) (g.L.Link.awaited c.poll.new.link) (g.L.Link.log c.args.link.now) (g.L.Link.log c.poll.new.link) (g.L.Link.wire c.args.link.now) c.args.exec c.poll.result c.poll.ensures.runs

@@ -3,7 +3,7 @@ use Rattle.std.proofs.Common.{refl, w64, rules}
 use Rattle.std.proofs.lemmas.Int.{to_z-of_z}
 use Rattle.mg_change.proofs.Garbled.{still_waits}
 use Rattle.mg_change.proofs.Closed.{lost_lands, lost_to, older_ran, older_still, older_waits}
-use Rattle.mg_change.proofs.ClosingCauses as causes
+use Rattle.mg_change.proofs.Staying.{stays_ran}
 use Rattle.mg_change.proofs.closing.land_older.Goals as goal
 
 pub returns-in-Pending-clause-lands : goal.returns-in-Pending-clause-lands
@@ -27,11 +27,11 @@ returns-clause-lands g c = λ kept is. lost_lands _ c.args.remains c.passed.resu
 pub returns-clause-moved : goal.returns-clause-moved
 returns-clause-moved g c = λ is f. lost_to _ _ _ _ f c.args.remains c.passed.result c.passed.ensures.leaves (older_ran _ _ _ _ _ f c.args.remains c.args.exec _ c.poll.ensures.runs c.args.old is)
 
-pub returns-in-Pending-clause-caused : goal.returns-in-Pending-clause-caused
-returns-in-Pending-clause-caused g c = causes.lands (g.L.Link.awaited c.args.link.now) (g.L.Link.awaited c.poll.new.link) (g.L.Link.log c.args.link.now) (g.L.Link.log c.poll.new.link) (g.L.Link.wire c.args.link.now) c.args.exec c.poll.result _ c.poll.ensures.runs tt
+pub returns-in-Pending-clause-stays : goal.returns-in-Pending-clause-stays
+returns-in-Pending-clause-stays g c = stays_ran (g.L.Link.awaited c.args.link.now) (g.L.Link.awaited c.poll.new.link) (g.L.Link.log c.args.link.now) (g.L.Link.log c.poll.new.link) (g.L.Link.wire c.args.link.now) c.args.exec c.poll.result c.poll.ensures.runs
 
-pub returns-in-Done-clause-caused : goal.returns-in-Done-clause-caused
-returns-in-Done-clause-caused g c = causes.lands (g.L.Link.awaited c.args.link.now) (g.L.Link.awaited c.poll.new.link) (g.L.Link.log c.args.link.now) (g.L.Link.log c.poll.new.link) (g.L.Link.wire c.args.link.now) c.args.exec c.poll.result _ c.poll.ensures.runs tt
+pub returns-in-Done-clause-stays : goal.returns-in-Done-clause-stays
+returns-in-Done-clause-stays g c = stays_ran (g.L.Link.awaited c.args.link.now) (g.L.Link.awaited c.poll.new.link) (g.L.Link.log c.args.link.now) (g.L.Link.log c.poll.new.link) (g.L.Link.wire c.args.link.now) c.args.exec c.poll.result c.poll.ensures.runs
 
-pub returns-clause-caused : goal.returns-clause-caused
-returns-clause-caused g c = causes.lands (g.L.Link.awaited c.args.link.now) (g.L.Link.awaited c.poll.new.link) (g.L.Link.log c.args.link.now) (g.L.Link.log c.poll.new.link) (g.L.Link.wire c.args.link.now) c.args.exec c.poll.result _ c.poll.ensures.runs c.passed.ensures.memory
+pub returns-clause-stays : goal.returns-clause-stays
+returns-clause-stays g c = stays_ran (g.L.Link.awaited c.args.link.now) (g.L.Link.awaited c.poll.new.link) (g.L.Link.log c.args.link.now) (g.L.Link.log c.poll.new.link) (g.L.Link.wire c.args.link.now) c.args.exec c.poll.result c.poll.ensures.runs

@@ -2,7 +2,7 @@ use Rattle.std.proofs.Common.{ℤ, refl, true, subst, sym}
 use Rattle.mg_change.specs.Phases.{Carries, resuming_command}
 use Rattle.mg_change.proofs.Garbled.{carries_on, still_waits}
 use Rattle.mg_change.proofs.Closed.{lost_lands, lost_to, resumption_flown, resumption_lands, resumption_to}
-use Rattle.mg_change.proofs.ClosingCauses as causes
+use Rattle.mg_change.proofs.Staying.{stays_ran}
 use Rattle.mg_change.proofs.closing.land_resumption.Goals as goal
 
 pub returns-in-Pending-clause-lands : goal.returns-in-Pending-clause-lands
@@ -28,11 +28,11 @@ returns-in-Failed-clause-lands g c = λ kept is. lost_lands _ c.args.remains c.p
 pub returns-in-Failed-clause-moved : goal.returns-in-Failed-clause-moved
 returns-in-Failed-clause-moved g c = λ kept is f knew. lost_to _ _ _ _ f c.args.remains c.passed.result c.passed.ensures.leaves (resumption_flown _ _ _ _ _ f c.args.remains c.args.exec _ c.in-Failed.ensures.runs kept is knew)
 
-pub returns-in-Pending-clause-caused : goal.returns-in-Pending-clause-caused
-returns-in-Pending-clause-caused g c = causes.lands (g.L.Link.awaited c.args.link.now) (g.L.Link.awaited c.poll.new.link) (g.L.Link.log c.args.link.now) (g.L.Link.log c.poll.new.link) (g.L.Link.wire c.args.link.now) c.args.exec c.poll.result _ c.poll.ensures.runs tt
+pub returns-in-Pending-clause-stays : goal.returns-in-Pending-clause-stays
+returns-in-Pending-clause-stays g c = stays_ran (g.L.Link.awaited c.args.link.now) (g.L.Link.awaited c.poll.new.link) (g.L.Link.log c.args.link.now) (g.L.Link.log c.poll.new.link) (g.L.Link.wire c.args.link.now) c.args.exec c.poll.result c.poll.ensures.runs
 
-pub returns-in-Done-clause-caused : goal.returns-in-Done-clause-caused
-returns-in-Done-clause-caused g c = causes.lands (g.L.Link.awaited c.args.link.now) (g.L.Link.awaited c.poll.new.link) (g.L.Link.log c.args.link.now) (g.L.Link.log c.poll.new.link) (g.L.Link.wire c.args.link.now) c.args.exec c.poll.result _ c.poll.ensures.runs c.resumption_came.ensures.memory
+pub returns-in-Done-clause-stays : goal.returns-in-Done-clause-stays
+returns-in-Done-clause-stays g c = stays_ran (g.L.Link.awaited c.args.link.now) (g.L.Link.awaited c.poll.new.link) (g.L.Link.log c.args.link.now) (g.L.Link.log c.poll.new.link) (g.L.Link.wire c.args.link.now) c.args.exec c.poll.result c.poll.ensures.runs
 
-pub returns-in-Failed-clause-caused : goal.returns-in-Failed-clause-caused
-returns-in-Failed-clause-caused g c = causes.lands (g.L.Link.awaited c.args.link.now) (g.L.Link.awaited c.poll.new.link) (g.L.Link.log c.args.link.now) (g.L.Link.log c.poll.new.link) (g.L.Link.wire c.args.link.now) c.args.exec c.poll.result _ c.poll.ensures.runs c.passed.ensures.memory
+pub returns-in-Failed-clause-stays : goal.returns-in-Failed-clause-stays
+returns-in-Failed-clause-stays g c = stays_ran (g.L.Link.awaited c.args.link.now) (g.L.Link.awaited c.poll.new.link) (g.L.Link.log c.args.link.now) (g.L.Link.log c.poll.new.link) (g.L.Link.wire c.args.link.now) c.args.exec c.poll.result c.poll.ensures.runs

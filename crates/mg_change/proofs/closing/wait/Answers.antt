@@ -6,6 +6,7 @@ use Rattle.mg_link.proofs.Moves.{moved}
 use Rattle.mg_change.specs.Closings.{closed, ids_left, left_of}
 use Rattle.mg_change.proofs.Garbled.{carries_on, still_waits}
 use Rattle.mg_change.proofs.Closed.{dropped, last_ran}
+use Rattle.mg_change.proofs.Staying.{stays_ran}
 use Rattle.mg_change.proofs.ClosingCauses as causes
 use Rattle.mg_change.proofs.closing.wait.Goals as goal
 
@@ -35,11 +36,20 @@ returns-in-Done-clause-sends g c = record { came = step.Done c.in-Done._reply; r
 pub returns-in-Failed-clause-sends : goal.returns-in-Failed-clause-sends
 returns-in-Failed-clause-sends g c = record { came = step.Failed c.in-Failed.error; runs = c.in-Failed.ensures.runs; answers = refl }
 
+pub returns-in-Pending-clause-stays : goal.returns-in-Pending-clause-stays
+returns-in-Pending-clause-stays g c = stays_ran (g.L.Link.awaited c.args.link.now) (g.L.Link.awaited c.poll.new.link) (g.L.Link.log c.args.link.now) (g.L.Link.log c.poll.new.link) (g.L.Link.wire c.args.link.now) c.args.exec c.poll.result c.poll.ensures.runs
+
+pub returns-in-Done-clause-stays : goal.returns-in-Done-clause-stays
+returns-in-Done-clause-stays g c = stays_ran (g.L.Link.awaited c.args.link.now) (g.L.Link.awaited c.poll.new.link) (g.L.Link.log c.args.link.now) (g.L.Link.log c.poll.new.link) (g.L.Link.wire c.args.link.now) c.args.exec c.poll.result c.poll.ensures.runs
+
+pub returns-in-Failed-clause-stays : goal.returns-in-Failed-clause-stays
+returns-in-Failed-clause-stays g c = stays_ran (g.L.Link.awaited c.args.link.now) (g.L.Link.awaited c.poll.new.link) (g.L.Link.log c.args.link.now) (g.L.Link.log c.poll.new.link) (g.L.Link.wire c.args.link.now) c.args.exec c.poll.result c.poll.ensures.runs
+
 pub returns-in-Pending-clause-caused : goal.returns-in-Pending-clause-caused
-returns-in-Pending-clause-caused g c = λ is. causes.kill_waits (g.L.Link.awaited c.args.link.now) (g.L.Link.awaited c.poll.new.link) (g.L.Link.log c.args.link.now) (g.L.Link.log c.poll.new.link) (g.L.Link.wire c.args.link.now) c.args.remains c.args.exec is c.poll.result _ c.poll.ensures.runs
+returns-in-Pending-clause-caused g c = λ is. causes.kill_waits (g.L.Link.awaited c.args.link.now) (g.L.Link.awaited c.poll.new.link) (g.L.Link.log c.args.link.now) (g.L.Link.log c.poll.new.link) (g.L.Link.wire c.args.link.now) c.args.remains c.args.exec is c.in-Pending.exec c.in-Pending.ensures.runs
 
 pub returns-in-Done-clause-caused : goal.returns-in-Done-clause-caused
-returns-in-Done-clause-caused g c = λ is. causes.kill_done (g.L.Link.awaited c.args.link.now) (g.L.Link.awaited c.poll.new.link) (g.L.Link.log c.args.link.now) (g.L.Link.log c.poll.new.link) (g.L.Link.wire c.args.link.now) c.args.remains c.args.exec is c.in-Done._reply _ (causes.ran_success (g.L.Link.awaited c.args.link.now) (g.L.Link.awaited c.poll.new.link) (g.L.Link.log c.args.link.now) (g.L.Link.log c.poll.new.link) (g.L.Link.wire c.args.link.now) c.args.exec c.in-Done._reply c.in-Done.ensures.runs) c.in-Done.ensures.runs
+returns-in-Done-clause-caused g c = λ is. causes.kill_done (g.L.Link.awaited c.args.link.now) (g.L.Link.awaited c.poll.new.link) (g.L.Link.log c.args.link.now) (g.L.Link.log c.poll.new.link) (g.L.Link.wire c.args.link.now) c.args.remains c.args.exec is c.in-Done._reply c.in-Done.ensures.runs
 
 pub returns-in-Failed-clause-caused : goal.returns-in-Failed-clause-caused
 returns-in-Failed-clause-caused g c = λ is. causes.kill_fails (g.L.Link.awaited c.args.link.now) (g.L.Link.awaited c.poll.new.link) (g.L.Link.log c.args.link.now) (g.L.Link.log c.poll.new.link) (g.L.Link.wire c.args.link.now) c.args.remains c.args.exec is c.in-Failed.error c.in-Failed.ensures.runs

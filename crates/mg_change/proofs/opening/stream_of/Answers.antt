@@ -6,7 +6,10 @@ use Rattle.mg_ops.specs.Resuming.{saved_time}
 use Rattle.mg_bson.specs.Raw.{fields}
 use Rattle.mg_change.specs.Phases.{SavedFor}
 use Rattle.mg_change.specs.declared.stream.Phase.TheVariants as phase
-use Rattle.mg_change.proofs.Opened.{saved_for}
+use Rattle.mg_change.proofs.Opened.{known_by, saved_for}
+use Rattle.mg_change.specs.Openings.{first_known}
+use Rattle.mg_ops.specs.declared.change_stream.ChangeStreamData.{ChangeStreamData}
+use Rattle.std.specs.Prelude.{Some}
 use Rattle.mg_change.proofs.Reading.{named_read}
 use Rattle.mg_change.proofs.opening.stream_of.Goals as goal
 
@@ -21,11 +24,15 @@ returns-clause-ok c =
       args_is = refl;
       batch = o.batch;
       says = o.says;
+      size_is = o.size_is;
       is_empty = c.in_ok-opened.opened.is_empty;
       empty = o.first;
-      begins = c.in_ok-data.ensures.token;
+      time = c.in_ok-opened.time;
+      time_is = c.in_ok-opened.ensures.ok.time;
+      known = ap (λ (d : ChangeStreamData). Some d) (known_by c.in_ok-data.data (first_known c.args.aggregate.args c.args.wire c.in_ok-opened.opened.is_empty c.in_ok-opened.opened.post_batch_resume_token c.in_ok-opened.time) time c.in_ok-data.ensures.token c.in_ok-data.ensures.returned);
       kept = record {
         saved = subst (SavedFor c.args.aggregate.args.options) (sym time) (saved_for c.args.aggregate.args.options c.args.wire c.in_ok-opened.opened.is_empty (is_some c.in_ok-opened.opened.post_batch_resume_token) c.in_ok-opened.time);
         named = named_read (fields c.args.reply) _ o.says;
       };
+      counts_are = c.none.ensures;
     }

@@ -7,6 +7,7 @@ use Rattle.mg_change.specs.declared.closing.Flight.{Flight}
 use Rattle.mg_change.specs.declared.closing.Flight.TheVariants as flight
 use Rattle.mg_change.proofs.Growths.{grows_kills, grows_ran}
 use Rattle.mg_change.proofs.Closed.{closes_on, flies_as, tickets_through}
+use Rattle.mg_change.proofs.Staying.{stays_on}
 use Rattle.mg_change.proofs.ClosingCauses as causes
 use Rattle.mg_change.proofs.closing.ClosingAction.poll.Goals as goal
 use Rattle.mg_change.proofs.closing.ClosingAction.poll.Goals.{After-go_on-in-Older}
@@ -29,6 +30,9 @@ returns-in-More-clause-moved g c = λ is f knew.
     let p = flight.More c.in-More.get_more c.in-More.exec in
     closes_on _ _ _ _ _ _ f c.args.self.remains p c.args.self.flight c.land_more-landing.result c.go_on.result c.in-More.is
     (c.land_more-landing.ensures.moved is.kept (flies_as _ c.args.self.remains p c.args.self.flight c.in-More.is is.flies) f) (c.go_on.ensures.moved f)
+
+pub returns-in-Resumption-clause-tickets : goal.returns-in-Resumption-clause-tickets
+returns-in-Resumption-clause-tickets g c = tickets_through _ _ _ (flight.Resumption c.in-Resumption.exec) c.args.self.flight _ _ c.in-Resumption.is c.land_resumption-landing.ensures.tickets c.go_on-in-Resumption.ensures.tickets
 
 pub returns-in-Resumption-clause-closes : goal.returns-in-Resumption-clause-closes
 returns-in-Resumption-clause-closes g c = λ is.
@@ -92,27 +96,42 @@ returns-in-Older-clause-grows g c = λ q. absurd (subst (λ (x : Flight). IsQuie
 pub returns-in-Last-clause-grows : goal.returns-in-Last-clause-grows
 returns-in-Last-clause-grows g c = λ q. grows_ran _ _ _ _ _ c.in-Last.exec c.wait.ensures.sends.came c.wait.ensures.sends.runs
 
+pub returns-in-Landed-clause-stays : goal.returns-in-Landed-clause-stays
+returns-in-Landed-clause-stays g c = c.kill_all.ensures.stays
+
+pub returns-in-More-clause-stays : goal.returns-in-More-clause-stays
+returns-in-More-clause-stays g c = stays_on (g.L.Link.log c.args.link.now) (g.L.Link.log c.land_more-landing.new.link) (g.L.Link.log c.go_on.new.link) c.land_more-landing.ensures.stays c.go_on.ensures.stays
+
+pub returns-in-Resumption-clause-stays : goal.returns-in-Resumption-clause-stays
+returns-in-Resumption-clause-stays g c = stays_on (g.L.Link.log c.args.link.now) (g.L.Link.log c.land_resumption-landing.new.link) (g.L.Link.log c.go_on-in-Resumption.new.link) c.land_resumption-landing.ensures.stays c.go_on-in-Resumption.ensures.stays
+
+pub returns-in-Older-clause-stays : goal.returns-in-Older-clause-stays
+returns-in-Older-clause-stays g c = stays_on (g.L.Link.log c.args.link.now) (g.L.Link.log c.land_older-landing.new.link) (g.L.Link.log c.go_on-in-Older.new.link) c.land_older-landing.ensures.stays c.go_on-in-Older.ensures.stays
+
+pub returns-in-Last-clause-stays : goal.returns-in-Last-clause-stays
+returns-in-Last-clause-stays g c = c.wait.ensures.stays
+
 pub returns-in-Landed-clause-caused : goal.returns-in-Landed-clause-caused
 returns-in-Landed-clause-caused g c = λ is.
-    causes.flight_is (g.L.Link.awaited c.args.link.now) (g.L.Link.log c.args.link.now) (g.L.Link.log c.kill_all.new.link) (g.L.Link.wire c.args.link.now) c.args.self.remains flight.Landed c.args.self.flight c.kill_all.result c.in-Landed.is c.kill_all.ensures.caused
+    causes.flight_is (g.L.Link.awaited c.args.link.now) (g.L.Link.awaited c.kill_all.new.link) (g.L.Link.log c.args.link.now) (g.L.Link.log c.kill_all.new.link) (g.L.Link.wire c.args.link.now) c.args.self.remains flight.Landed c.args.self.flight c.kill_all.result c.in-Landed.is c.kill_all.ensures.caused
 
 pub returns-in-More-clause-caused : goal.returns-in-More-clause-caused
 returns-in-More-clause-caused g c = λ is.
-    causes.flight_is (g.L.Link.awaited c.args.link.now) (g.L.Link.log c.args.link.now) (g.L.Link.log c.go_on.new.link) (g.L.Link.wire c.args.link.now) c.args.self.remains (flight.More c.in-More.get_more c.in-More.exec) c.args.self.flight c.go_on.result c.in-More.is
-    (causes.landed_at (g.L.Link.log c.args.link.now) (g.L.Link.log c.go_on.new.link) (g.L.Link.wire c.args.link.now) _ c.go_on.result c.land_more-landing.ensures.later.wire (c.go_on.ensures.caused (g.L.Link.log c.args.link.now) c.land_more-landing.ensures.caused))
+    causes.flight_is (g.L.Link.awaited c.args.link.now) (g.L.Link.awaited c.go_on.new.link) (g.L.Link.log c.args.link.now) (g.L.Link.log c.go_on.new.link) (g.L.Link.wire c.args.link.now) c.args.self.remains (flight.More c.in-More.get_more c.in-More.exec) c.args.self.flight c.go_on.result c.in-More.is
+    (causes.landed_at (g.L.Link.awaited c.go_on.new.link) (g.L.Link.log c.args.link.now) (g.L.Link.log c.go_on.new.link) (g.L.Link.wire c.args.link.now) _ c.go_on.result c.land_more-landing.ensures.later.wire (c.go_on.ensures.caused c.land_more-landing.ensures.memory (g.L.Link.log c.args.link.now) c.land_more-landing.ensures.stays))
 
 pub returns-in-Resumption-clause-caused : goal.returns-in-Resumption-clause-caused
 returns-in-Resumption-clause-caused g c = λ is.
-    causes.flight_is (g.L.Link.awaited c.args.link.now) (g.L.Link.log c.args.link.now) (g.L.Link.log c.go_on-in-Resumption.new.link) (g.L.Link.wire c.args.link.now) c.args.self.remains (flight.Resumption c.in-Resumption.exec) c.args.self.flight c.go_on-in-Resumption.result c.in-Resumption.is
-    (causes.landed_at (g.L.Link.log c.args.link.now) (g.L.Link.log c.go_on-in-Resumption.new.link) (g.L.Link.wire c.args.link.now) _ c.go_on-in-Resumption.result c.land_resumption-landing.ensures.later.wire (c.go_on-in-Resumption.ensures.caused (g.L.Link.log c.args.link.now) c.land_resumption-landing.ensures.caused))
+    causes.flight_is (g.L.Link.awaited c.args.link.now) (g.L.Link.awaited c.go_on-in-Resumption.new.link) (g.L.Link.log c.args.link.now) (g.L.Link.log c.go_on-in-Resumption.new.link) (g.L.Link.wire c.args.link.now) c.args.self.remains (flight.Resumption c.in-Resumption.exec) c.args.self.flight c.go_on-in-Resumption.result c.in-Resumption.is
+    (causes.landed_at (g.L.Link.awaited c.go_on-in-Resumption.new.link) (g.L.Link.log c.args.link.now) (g.L.Link.log c.go_on-in-Resumption.new.link) (g.L.Link.wire c.args.link.now) _ c.go_on-in-Resumption.result c.land_resumption-landing.ensures.later.wire (c.go_on-in-Resumption.ensures.caused c.land_resumption-landing.ensures.memory (g.L.Link.log c.args.link.now) c.land_resumption-landing.ensures.stays))
 
 pub returns-in-Older-clause-caused : goal.returns-in-Older-clause-caused
 returns-in-Older-clause-caused g c = λ is.
-    causes.flight_is (g.L.Link.awaited c.args.link.now) (g.L.Link.log c.args.link.now) (g.L.Link.log c.go_on-in-Older.new.link) (g.L.Link.wire c.args.link.now) c.args.self.remains (older_flight g c) c.args.self.flight c.go_on-in-Older.result (older_is g c)
-    (causes.landed_at (g.L.Link.log c.args.link.now) (g.L.Link.log c.go_on-in-Older.new.link) (g.L.Link.wire c.args.link.now) _ c.go_on-in-Older.result c.land_older-landing.ensures.later.wire (c.go_on-in-Older.ensures.caused (g.L.Link.log c.args.link.now) c.land_older-landing.ensures.caused))
+    causes.flight_is (g.L.Link.awaited c.args.link.now) (g.L.Link.awaited c.go_on-in-Older.new.link) (g.L.Link.log c.args.link.now) (g.L.Link.log c.go_on-in-Older.new.link) (g.L.Link.wire c.args.link.now) c.args.self.remains (older_flight g c) c.args.self.flight c.go_on-in-Older.result (older_is g c)
+    (causes.landed_at (g.L.Link.awaited c.go_on-in-Older.new.link) (g.L.Link.log c.args.link.now) (g.L.Link.log c.go_on-in-Older.new.link) (g.L.Link.wire c.args.link.now) _ c.go_on-in-Older.result c.land_older-landing.ensures.later.wire (c.go_on-in-Older.ensures.caused c.land_older-landing.ensures.memory (g.L.Link.log c.args.link.now) c.land_older-landing.ensures.stays))
 
 pub returns-in-Last-clause-caused : goal.returns-in-Last-clause-caused
 returns-in-Last-clause-caused g c = λ is.
     let p = flight.Last c.in-Last.exec in
-    causes.flight_is (g.L.Link.awaited c.args.link.now) (g.L.Link.log c.args.link.now) (g.L.Link.log c.wait.new.link) (g.L.Link.wire c.args.link.now) c.args.self.remains p c.args.self.flight c.wait.result c.in-Last.is
+    causes.flight_is (g.L.Link.awaited c.args.link.now) (g.L.Link.awaited c.wait.new.link) (g.L.Link.log c.args.link.now) (g.L.Link.log c.wait.new.link) (g.L.Link.wire c.args.link.now) c.args.self.remains p c.args.self.flight c.wait.result c.in-Last.is
     (c.wait.ensures.caused (flies_as _ c.args.self.remains p c.args.self.flight c.in-Last.is is.flies))

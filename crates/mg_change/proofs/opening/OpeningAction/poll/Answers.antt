@@ -7,6 +7,7 @@ use Rattle.mg_change.specs.Openings.{OpeningMoves}
 use Rattle.mg_change.proofs.Opened.{next_follow, next_keeps, next_opening}
 use Rattle.mg_change.proofs.OpeningSends as sends
 use Rattle.mg_change.proofs.Vain.{next_vain, vainly_unsent}
+use Rattle.mg_change.proofs.Staying.{stays_same}
 use Rattle.mg_change.proofs.OpeningCauses as causes
 use Rattle.mg_change.proofs.opening.OpeningAction.poll.Goals as goal
 
@@ -40,11 +41,17 @@ returns-in-Ok-clause-vain g c = λ o none.
 pub returns-in-Err-clause-vain : goal.returns-in-Err-clause-vain
 returns-in-Err-clause-vain g c = λ o none. vainly_unsent c.args.self.exec (g.L.Link.awaited c.args.link.now) (g.L.Link.log c.args.link.now) c.in-Err.error
 
+pub returns-in-Ok-clause-stays : goal.returns-in-Ok-clause-stays
+returns-in-Ok-clause-stays g c = c.wait.ensures.stays
+
+pub returns-in-Err-clause-stays : goal.returns-in-Err-clause-stays
+returns-in-Err-clause-stays g c = stays_same (g.L.Link.log c.args.link.now) (g.L.Link.log c.args.link.now) refl
+
 pub returns-in-Ok-clause-caused : goal.returns-in-Ok-clause-caused
 returns-in-Ok-clause-caused g c = λ o.
-    causes.next_caused c.args.self.aggregate (g.L.Link.awaited c.args.link.now) (g.L.Link.log c.args.link.now) (g.L.Link.log c.wait.new.link) (g.L.Link.wire c.args.link.now) _ c.args.self.exec c.in-Ok.exec c.wait.result c.in-Ok.ensures.ok
+    causes.next_caused c.args.self.aggregate (g.L.Link.awaited c.args.link.now) (g.L.Link.awaited c.wait.new.link) (g.L.Link.log c.args.link.now) (g.L.Link.log c.wait.new.link) (g.L.Link.wire c.args.link.now) _ c.args.self.exec c.in-Ok.exec c.wait.result c.in-Ok.ensures.ok
     (c.wait.ensures.caused (next_opening c.args.self.aggregate _ c.args.self.exec c.in-Ok.exec c.in-Ok.ensures.ok o))
 
 pub returns-in-Err-clause-caused : goal.returns-in-Err-clause-caused
 returns-in-Err-clause-caused g c = λ o.
-    causes.opening_unsent c.args.self.aggregate (g.L.Link.awaited c.args.link.now) (g.L.Link.log c.args.link.now) (g.L.Link.wire c.args.link.now) _ c.args.self.exec c.in-Err.error o.first c.in-Err.ensures.none c.in-Err.ensures.fails
+    causes.opening_unsent c.args.self.aggregate (g.L.Link.awaited c.args.link.now) (g.L.Link.awaited c.args.link.now) (g.L.Link.log c.args.link.now) (g.L.Link.wire c.args.link.now) _ c.args.self.exec c.in-Err.error o.first c.in-Err.ensures.fails

@@ -1,12 +1,31 @@
 use mir.Val.{SFits}
-use Rattle.std.proofs.Common.{rules, ◌≡◌, ℤ, sym, ap, ◌∙◌, w32, w64, to_z, of_z}
+use Rattle.std.proofs.Common.{rules, ◌≡◌, ℤ, refl, sym, ap, ◌∙◌, w32, w64, to_z, of_z}
 use Rattle.std.proofs.lemmas.Int.{to_z-of_z}
 use Rattle.mg_change.specs.Following.{step_told}
 use Rattle.mg_change.specs.declared.stream.Phase.TheVariants as phase
 use Rattle.mg_change.proofs.Hearing as hearing
 use Rattle.mg_change.proofs.Sent as sending
+use Rattle.mg_change.proofs.Staying as staying
 use Rattle.mg_change.proofs.Causes as causes
 use Rattle.mg_change.proofs.stream.ChangeStream.advance.Goals as goal
+
+pub returns-in-Taken-clause-stays : goal.returns-in-Taken-clause-stays
+returns-in-Taken-clause-stays g c = staying.stays_same (g.L.Link.log c.args.link.now) (g.L.Link.log c.args.link.now) refl
+
+pub returns-in-Rest-clause-stays : goal.returns-in-Rest-clause-stays
+returns-in-Rest-clause-stays g c = staying.stays_same (g.L.Link.log c.args.link.now) (g.L.Link.log c.args.link.now) refl
+
+pub returns-in-First-clause-stays : goal.returns-in-First-clause-stays
+returns-in-First-clause-stays g c = staying.stays_same (g.L.Link.log c.args.link.now) (g.L.Link.log c.args.link.now) refl
+
+pub returns-in-Fresh-clause-stays : goal.returns-in-Fresh-clause-stays
+returns-in-Fresh-clause-stays g c = staying.stays_same (g.L.Link.log c.args.link.now) (g.L.Link.log c.args.link.now) refl
+
+pub returns-in-Owing-clause-stays : goal.returns-in-Owing-clause-stays
+returns-in-Owing-clause-stays g c = staying.stays_same (g.L.Link.log c.args.link.now) (g.L.Link.log c.args.link.now) refl
+
+pub returns-in-Resumed-clause-stays : goal.returns-in-Resumed-clause-stays
+returns-in-Resumed-clause-stays g c = staying.stays_same (g.L.Link.log c.args.link.now) (g.L.Link.log c.args.link.now) refl
 
 pub returns-in-Taken-clause-turned : goal.returns-in-Taken-clause-turned
 returns-in-Taken-clause-turned g c = hearing.no_call (g.L.Link.awaited c.args.link.now) (g.L.Link.log c.args.link.now) phase.Taken c.replace.new.dest c.args.self.now c.rest.new.self (step_told c.rest.result) (sym c.in-Taken.ensures.value) (hearing.from_rest _ _ _ c.rest.ensures.turned)
@@ -82,38 +101,39 @@ returns-in-Killing-clause-sent g c =
     (sym c.in-Killing.ensures.value ∙ ap (λ (n : ℤ). phase.Killing c.in-Killing.exec n c.in-Killing.reply) (sym same)) c.killing.ensures.sent
 
 pub returns-in-Taken-clause-caused : goal.returns-in-Taken-clause-caused
-returns-in-Taken-clause-caused g c = causes.caused_quietly (g.L.Link.awaited c.args.link.now) (g.L.Link.log c.args.link.now) (g.L.Link.wire c.args.link.now) phase.Taken c.replace.new.dest c.args.self.now c.rest.new.self c.rest.result (sym c.in-Taken.ensures.value) (c.rest.ensures.caused (g.L.Link.awaited c.args.link.now) (g.L.Link.log c.args.link.now) (g.L.Link.wire c.args.link.now) phase.Taken tt)
+returns-in-Taken-clause-caused g c = causes.caused_quietly (g.L.Link.awaited c.args.link.now) (g.L.Link.log c.args.link.now) (g.L.Link.wire c.args.link.now) phase.Taken c.replace.new.dest c.args.self.now c.rest.new.self c.rest.result (sym c.in-Taken.ensures.value) (causes.from_rest _ c.rest.new.self c.rest.result c.rest.ensures.caused)
 
 pub returns-in-Rest-clause-caused : goal.returns-in-Rest-clause-caused
-returns-in-Rest-clause-caused g c = causes.caused_quietly (g.L.Link.awaited c.args.link.now) (g.L.Link.log c.args.link.now) (g.L.Link.wire c.args.link.now) phase.Rest c.replace.new.dest c.args.self.now c.rest-in-Rest.new.self c.rest-in-Rest.result (sym c.in-Rest.ensures.value) (c.rest-in-Rest.ensures.caused (g.L.Link.awaited c.args.link.now) (g.L.Link.log c.args.link.now) (g.L.Link.wire c.args.link.now) phase.Rest tt)
+returns-in-Rest-clause-caused g c = causes.caused_quietly (g.L.Link.awaited c.args.link.now) (g.L.Link.log c.args.link.now) (g.L.Link.wire c.args.link.now) phase.Rest c.replace.new.dest c.args.self.now c.rest-in-Rest.new.self c.rest-in-Rest.result (sym c.in-Rest.ensures.value) c.rest-in-Rest.ensures.caused
 
 pub returns-in-First-clause-caused : goal.returns-in-First-clause-caused
-returns-in-First-clause-caused g c = causes.caused_quietly (g.L.Link.awaited c.args.link.now) (g.L.Link.log c.args.link.now) (g.L.Link.wire c.args.link.now) (phase.First c.in-First.reply) c.replace.new.dest c.args.self.now c.first.new.self c.first.result (sym c.in-First.ensures.value) (c.first.ensures.caused (g.L.Link.awaited c.args.link.now) (g.L.Link.log c.args.link.now) (g.L.Link.wire c.args.link.now))
+returns-in-First-clause-caused g c = causes.caused_quietly (g.L.Link.awaited c.args.link.now) (g.L.Link.log c.args.link.now) (g.L.Link.wire c.args.link.now) (phase.First c.in-First.reply) c.replace.new.dest c.args.self.now c.first.new.self c.first.result (sym c.in-First.ensures.value) c.first.ensures.caused
 
 pub returns-in-Fresh-clause-caused : goal.returns-in-Fresh-clause-caused
-returns-in-Fresh-clause-caused g c = causes.caused_quietly (g.L.Link.awaited c.args.link.now) (g.L.Link.log c.args.link.now) (g.L.Link.wire c.args.link.now) phase.Fresh c.replace.new.dest c.args.self.now c.fresh.new.self c.fresh.result (sym c.in-Fresh.ensures.value) (c.fresh.ensures.caused (g.L.Link.awaited c.args.link.now) (g.L.Link.log c.args.link.now) (g.L.Link.wire c.args.link.now))
+returns-in-Fresh-clause-caused g c = causes.caused_quietly (g.L.Link.awaited c.args.link.now) (g.L.Link.log c.args.link.now) (g.L.Link.wire c.args.link.now) phase.Fresh c.replace.new.dest c.args.self.now c.fresh.new.self c.fresh.result (sym c.in-Fresh.ensures.value) c.fresh.ensures.caused
 
 pub returns-in-Owing-clause-caused : goal.returns-in-Owing-clause-caused
 returns-in-Owing-clause-caused g c =
     let fits : SFits w32 c.wire_version-wire.result = search rules in
-    causes.caused_quietly (g.L.Link.awaited c.args.link.now) (g.L.Link.log c.args.link.now) (g.L.Link.wire c.args.link.now) phase.Owing c.replace.new.dest c.args.self.now c.owing.new.self c.owing.result (sym c.in-Owing.ensures.value) (c.owing.ensures.caused (g.L.Link.awaited c.args.link.now) (g.L.Link.log c.args.link.now) (g.L.Link.wire c.args.link.now) (sym c.wire_version-wire.ensures ∙ sym (to_z-of_z w32 c.wire_version-wire.result fits)))
+    causes.caused_owing (g.L.Link.awaited c.args.link.now) (g.L.Link.log c.args.link.now) (g.L.Link.wire c.args.link.now) (to_z w32 (of_z w32 c.wire_version-wire.result)) c.replace.new.dest c.args.self.now c.owing.new.self c.owing.result (sym c.in-Owing.ensures.value)
+    (sym c.wire_version-wire.ensures ∙ sym (to_z-of_z w32 c.wire_version-wire.result fits)) c.owing.ensures.caused
 
 pub returns-in-Resumed-clause-caused : goal.returns-in-Resumed-clause-caused
-returns-in-Resumed-clause-caused g c = causes.caused_quietly (g.L.Link.awaited c.args.link.now) (g.L.Link.log c.args.link.now) (g.L.Link.wire c.args.link.now) (phase.Resumed c.in-Resumed.reply) c.replace.new.dest c.args.self.now c.resumed.new.self c.resumed.result (sym c.in-Resumed.ensures.value) (c.resumed.ensures.caused (g.L.Link.awaited c.args.link.now) (g.L.Link.log c.args.link.now) (g.L.Link.wire c.args.link.now))
+returns-in-Resumed-clause-caused g c = causes.caused_quietly (g.L.Link.awaited c.args.link.now) (g.L.Link.log c.args.link.now) (g.L.Link.wire c.args.link.now) (phase.Resumed c.in-Resumed.reply) c.replace.new.dest c.args.self.now c.resumed.new.self c.resumed.result (sym c.in-Resumed.ensures.value) c.resumed.ensures.caused
 
 pub returns-in-Asking-clause-caused : goal.returns-in-Asking-clause-caused
 returns-in-Asking-clause-caused g c =
-    causes.caused_taken (g.L.Link.awaited c.args.link.now) (g.L.Link.log c.args.link.now) (g.L.Link.log c.asking.new.link) (g.L.Link.wire c.args.link.now) (phase.Asking c.in-Asking.get_more c.in-Asking.exec) c.replace.new.dest c.args.self.now c.asking.new.self c.asking.result
+    causes.caused_taken (g.L.Link.awaited c.args.link.now) (g.L.Link.awaited c.asking.new.link) (g.L.Link.log c.args.link.now) (g.L.Link.log c.asking.new.link) (g.L.Link.wire c.args.link.now) (phase.Asking c.in-Asking.get_more c.in-Asking.exec) c.replace.new.dest c.args.self.now c.asking.new.self c.asking.result
     (sym c.in-Asking.ensures.value) c.asking.ensures.caused
 
 pub returns-in-Resuming-clause-caused : goal.returns-in-Resuming-clause-caused
 returns-in-Resuming-clause-caused g c =
-    causes.caused_taken (g.L.Link.awaited c.args.link.now) (g.L.Link.log c.args.link.now) (g.L.Link.log c.resuming.new.link) (g.L.Link.wire c.args.link.now) (phase.Resuming c.in-Resuming.exec) c.replace.new.dest c.args.self.now c.resuming.new.self c.resuming.result
+    causes.caused_taken (g.L.Link.awaited c.args.link.now) (g.L.Link.awaited c.resuming.new.link) (g.L.Link.log c.args.link.now) (g.L.Link.log c.resuming.new.link) (g.L.Link.wire c.args.link.now) (phase.Resuming c.in-Resuming.exec) c.replace.new.dest c.args.self.now c.resuming.new.self c.resuming.result
     (sym c.in-Resuming.ensures.value) c.resuming.ensures.caused
 
 pub returns-in-Killing-clause-caused : goal.returns-in-Killing-clause-caused
 returns-in-Killing-clause-caused g c =
     let fits : SFits w64 c.in-Killing.old = search rules in
     let same : to_z w64 (of_z w64 c.in-Killing.old) ≡ c.in-Killing.old = to_z-of_z w64 c.in-Killing.old fits in
-    causes.caused_taken (g.L.Link.awaited c.args.link.now) (g.L.Link.log c.args.link.now) (g.L.Link.log c.killing.new.link) (g.L.Link.wire c.args.link.now) (phase.Killing c.in-Killing.exec (to_z w64 (of_z w64 c.in-Killing.old)) c.in-Killing.reply) c.replace.new.dest c.args.self.now c.killing.new.self c.killing.result
+    causes.caused_taken (g.L.Link.awaited c.args.link.now) (g.L.Link.awaited c.killing.new.link) (g.L.Link.log c.args.link.now) (g.L.Link.log c.killing.new.link) (g.L.Link.wire c.args.link.now) (phase.Killing c.in-Killing.exec (to_z w64 (of_z w64 c.in-Killing.old)) c.in-Killing.reply) c.replace.new.dest c.args.self.now c.killing.new.self c.killing.result
     (sym c.in-Killing.ensures.value ∙ ap (λ (n : ℤ). phase.Killing c.in-Killing.exec n c.in-Killing.reply) (sym same)) c.killing.ensures.caused

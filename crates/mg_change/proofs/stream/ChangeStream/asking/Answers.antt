@@ -1,9 +1,18 @@
 use Rattle.mg_change.specs.Following.{step_told}
 use Rattle.mg_change.proofs.Hearing as hearing
 use Rattle.mg_change.proofs.Sent as sending
-use Rattle.mg_change.specs.declared.stream.Phase.TheVariants as phase
+use Rattle.mg_change.proofs.Staying as staying
 use Rattle.mg_change.proofs.Causes as causes
 use Rattle.mg_change.proofs.stream.ChangeStream.asking.Goals as goal
+
+pub returns-in-Pending-clause-stays : goal.returns-in-Pending-clause-stays
+returns-in-Pending-clause-stays g c = staying.stays_ran (g.L.Link.awaited c.args.link.now) (g.L.Link.awaited c.poll.new.link) (g.L.Link.log c.args.link.now) (g.L.Link.log c.poll.new.link) (g.L.Link.wire c.args.link.now) c.args.exec c.poll.result c.poll.ensures.runs
+
+pub returns-in-Done-clause-stays : goal.returns-in-Done-clause-stays
+returns-in-Done-clause-stays g c = staying.stays_ran (g.L.Link.awaited c.args.link.now) (g.L.Link.awaited c.poll.new.link) (g.L.Link.log c.args.link.now) (g.L.Link.log c.poll.new.link) (g.L.Link.wire c.args.link.now) c.args.exec c.poll.result c.poll.ensures.runs
+
+pub returns-in-Failed-clause-stays : goal.returns-in-Failed-clause-stays
+returns-in-Failed-clause-stays g c = staying.stays_ran (g.L.Link.awaited c.args.link.now) (g.L.Link.awaited c.poll.new.link) (g.L.Link.log c.args.link.now) (g.L.Link.log c.poll.new.link) (g.L.Link.wire c.args.link.now) c.args.exec c.poll.result c.poll.ensures.runs
 
 pub returns-in-Pending-clause-turned : goal.returns-in-Pending-clause-turned
 returns-in-Pending-clause-turned g c = hearing.asking_waits (g.L.Link.awaited c.args.link.now) (g.L.Link.awaited c.poll.new.link) (g.L.Link.log c.args.link.now) (g.L.Link.log c.poll.new.link) (g.L.Link.wire c.args.link.now) c.args.self.now c.args.get_more c.args.exec c.requires.asking c.requires.kept c.args.get_more c.in-Pending.exec c.in-Pending.ensures.runs
@@ -30,12 +39,10 @@ pub returns-in-Failed-clause-sent : goal.returns-in-Failed-clause-sent
 returns-in-Failed-clause-sent g c = sending.asking_goes_on (g.L.Link.awaited c.args.link.now) (g.L.Link.awaited c.poll.new.link) (g.L.Link.log c.args.link.now) (g.L.Link.log c.poll.new.link) (g.L.Link.wire c.args.link.now) c.args.self.now c.args.get_more c.args.exec c.requires.asking c.poll.result c.more_failed.new.self c.more_failed.result c.poll.ensures.runs c.more_failed.ensures.quiet c.more_failed.ensures.at_once
 
 pub returns-in-Pending-clause-caused : goal.returns-in-Pending-clause-caused
-returns-in-Pending-clause-caused g c = causes.asking_waits (g.L.Link.awaited c.args.link.now) (g.L.Link.awaited c.poll.new.link) (g.L.Link.log c.args.link.now) (g.L.Link.log c.poll.new.link) (g.L.Link.wire c.args.link.now) c.args.self.now c.args.get_more c.args.exec c.requires.asking c.in-Pending.exec _ c.in-Pending.ensures.runs
+returns-in-Pending-clause-caused g c = causes.asking_waits (g.L.Link.awaited c.args.link.now) (g.L.Link.awaited c.poll.new.link) (g.L.Link.log c.args.link.now) (g.L.Link.log c.poll.new.link) (g.L.Link.wire c.args.link.now) c.args.self.now c.args.get_more c.args.exec c.requires.asking c.args.get_more c.in-Pending.exec c.in-Pending.ensures.runs
 
 pub returns-in-Done-clause-caused : goal.returns-in-Done-clause-caused
-returns-in-Done-clause-caused g c =
-    causes.asking_came (g.L.Link.awaited c.args.link.now) (g.L.Link.awaited c.poll.new.link) (g.L.Link.log c.args.link.now) (g.L.Link.log c.poll.new.link) (g.L.Link.wire c.args.link.now) c.args.self.now c.args.get_more c.args.exec c.requires.asking c.in-Done.reply c.more_came.new.self c.more_came.result c.in-Done.ensures.runs
-    (λ from. c.more_came.ensures.caused (g.L.Link.awaited c.args.link.now) (g.L.Link.log c.args.link.now) (g.L.Link.log c.poll.new.link) (g.L.Link.wire c.args.link.now) (phase.Asking c.args.get_more c.args.exec) from)
+returns-in-Done-clause-caused g c = causes.asking_came (g.L.Link.awaited c.args.link.now) (g.L.Link.awaited c.poll.new.link) (g.L.Link.log c.args.link.now) (g.L.Link.log c.poll.new.link) (g.L.Link.wire c.args.link.now) c.args.self.now c.args.get_more c.args.exec c.requires.asking c.in-Done.reply c.more_came.new.self c.more_came.result c.in-Done.ensures.runs c.more_came.ensures.caused
 
 pub returns-in-Failed-clause-caused : goal.returns-in-Failed-clause-caused
-returns-in-Failed-clause-caused g c = causes.asking_failed (g.L.Link.awaited c.args.link.now) (g.L.Link.awaited c.poll.new.link) (g.L.Link.log c.args.link.now) (g.L.Link.log c.poll.new.link) (g.L.Link.wire c.args.link.now) c.args.self.now c.args.get_more c.args.exec c.requires.asking c.in-Failed.error c.more_failed.new.self c.more_failed.result c.in-Failed.ensures.runs c.more_failed.ensures.passed
+returns-in-Failed-clause-caused g c = causes.asking_failed (g.L.Link.awaited c.args.link.now) (g.L.Link.awaited c.poll.new.link) (g.L.Link.log c.args.link.now) (g.L.Link.log c.poll.new.link) (g.L.Link.wire c.args.link.now) c.args.self.now c.args.get_more c.args.exec c.requires.asking c.in-Failed.error c.more_failed.new.self c.more_failed.result c.in-Failed.ensures.runs c.more_failed.ensures.caused

@@ -1,11 +1,9 @@
-use Rattle.std.proofs.Common.{◌≡◌, [], sym, ◌∙◌, subst}
-use Rattle.mg_change.specs.Following.{Turns, buffered}
+use Rattle.std.proofs.Common.{◌≡◌, ◌≢◌, [], sym, ◌∙◌, subst}
+use Rattle.mg_change.specs.Following.{Turns}
 use Rattle.mg_change.specs.declared.stream.ChangeStream.{ChangeStream}
 use Rattle.mg_change.specs.declared.stream.Phase.TheVariants as phase
 use Rattle.mg_change.proofs.Turning as turning
 use Rattle.mg_change.proofs.Causes as causes
-use Rattle.mg_change.specs.Causes.{fresh, over}
-use Rattle.std.proofs.Common.{◌≢◌, refl, inr}
 use Rattle.mg_change.proofs.stream.ChangeStream.fresh.Goals as goal
 use Rattle.mg_change.proofs.stream.ChangeStream.fresh.Goals.{in-Some, in_default}
 
@@ -18,6 +16,14 @@ returns-clause-turned c =
     ]
 
 pub returns-then-not-is_empty-clause-caused : goal.returns-then-not-is_empty-clause-caused
-returns-then-not-is_empty-clause-caused c = λ awaited log w.
+returns-then-not-is_empty-clause-caused c = λ awaited past at resumed far.
     let some : c.args.self.now.buffer.items ≢ [] = turning.some_items c.args.self.now.buffer.items c.args.self.now.buffer.len c.is_empty.result c.args.self.now.buffer.ok.0 c.is_empty.ensures c.if-not-is_empty.true in
-    causes.take_causes (over awaited log log w phase.Fresh c.args.self.now) c.take.new.self (buffered c.args.self.now) c.take.result (inr (fresh refl refl)) (c.take.ensures.caused some)
+    causes.fresh_takes awaited past at resumed c.args.self.now far c.take.new.self c.take.result c.take.ensures.phase (c.take.ensures.caused some)
+
+pub returns-clause-caused : goal.returns-clause-caused
+returns-clause-caused c = λ awaited past at resumed far.
+    let empty : c.args.self.now.buffer.items ≡ [] = turning.no_items c.args.self.now.buffer.items c.args.self.now.buffer.len c.is_empty.result c.args.self.now.buffer.ok.0 c.is_empty.ensures c.if-not-is_empty.false in
+    elim c.match-take.branch [
+      | in-Some w ↦ causes.fresh_token awaited past at resumed c.args.self.now far c.match-take.self w.in-Some.token _ empty (sym c.take-2.ensures.value ∙ w.in-Some.is) (w.self-is ∙ w.remember.ensures)
+      | in_default w ↦ causes.fresh_none awaited past at resumed c.args.self.now far c.match-take.self _ empty (sym c.take-2.ensures.value ∙ w.in_default.is) w.self-is
+    ]

@@ -1,9 +1,13 @@
 use mir.Val.{SFits}
 use Rattle.std.proofs.Common.{rules, ◌≡◌, ℕ, List, Result, Ok, Err, map, subst, w64, to_z, of_z}
 use Rattle.std.proofs.lemmas.Int.{to_z-of_z}
+use Rattle.std.proofs.lemmas.Result.{err_from_is_err_and}
 use Rattle.std.specs.Result.{OnErr}
 use Rattle.mg_bson.specs.Raw.{fields}
 use Rattle.mg_change.specs.Batches.{HoldsBatch}
+use Rattle.mg_ops.specs.Failing.{FailsBy}
+use Rattle.mg_change.specs.Causes.{BreaksBatch}
+use Rattle.mg_change.proofs.Causes as causes
 use Rattle.mg_change.proofs.Hearing as hearing
 use Rattle.mg_change.proofs.stream.ChangeStream.keep.Goals as goal
 
@@ -34,3 +38,9 @@ pub returns-clause-gave : goal.returns-clause-gave
 returns-clause-gave c =
     subst (λ (b : List ℕ). HoldsBatch (fields b) (map fields c.in_ok-self.field-0.items)) c.in_ok-gave.ensures.ok.whole
     (subst (λ (b : List ℕ). HoldsBatch (fields b) (map fields c.in_ok-self.field-0.items)) c.as_raw.ensures c.in_ok-self.ensures.ok)
+
+pub returns-in_err-self-clause-fails : goal.returns-in_err-self-clause-fails
+returns-in_err-self-clause-fails c =
+    let p = err_from_is_err_and c.from_residual-in_err-self.result c.from_residual-in_err-self.ensures.1 in
+    let fails = subst (λ (b : List ℕ). FailsBy (BreaksBatch (fields b)) c.in_err-self.field-0.0) c.in_ok-gave.ensures.ok.whole (subst (λ (b : List ℕ). FailsBy (BreaksBatch (fields b)) c.in_err-self.field-0.0) c.as_raw.ensures c.in_err-self.ensures.fails) in
+    rw (p.1, p.2) (causes.batch_breaks (fields c.args.reply) c.in_err-self.field-0.0 fails)

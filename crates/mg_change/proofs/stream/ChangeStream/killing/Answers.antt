@@ -4,9 +4,18 @@ use Rattle.mg_change.specs.Following.{step_told}
 use Rattle.mg_change.proofs.Hearing as hearing
 use Rattle.mg_change.proofs.Turning as turning
 use Rattle.mg_change.proofs.Sent as sending
-use Rattle.std.proofs.Common.{refl}
+use Rattle.mg_change.proofs.Staying as staying
 use Rattle.mg_change.proofs.Causes as causes
 use Rattle.mg_change.proofs.stream.ChangeStream.killing.Goals as goal
+
+pub returns-in-Pending-clause-stays : goal.returns-in-Pending-clause-stays
+returns-in-Pending-clause-stays g c = staying.stays_ran (g.L.Link.awaited c.args.link.now) (g.L.Link.awaited c.poll.new.link) (g.L.Link.log c.args.link.now) (g.L.Link.log c.poll.new.link) (g.L.Link.wire c.args.link.now) c.args.exec c.poll.result c.poll.ensures.runs
+
+pub returns-in-Done-clause-stays : goal.returns-in-Done-clause-stays
+returns-in-Done-clause-stays g c = staying.stays_ran (g.L.Link.awaited c.args.link.now) (g.L.Link.awaited c.poll.new.link) (g.L.Link.log c.args.link.now) (g.L.Link.log c.poll.new.link) (g.L.Link.wire c.args.link.now) c.args.exec c.poll.result c.poll.ensures.runs
+
+pub returns-clause-stays : goal.returns-clause-stays
+returns-clause-stays g c = staying.stays_ran (g.L.Link.awaited c.args.link.now) (g.L.Link.awaited c.poll.new.link) (g.L.Link.log c.args.link.now) (g.L.Link.log c.poll.new.link) (g.L.Link.wire c.args.link.now) c.args.exec c.poll.result c.poll.ensures.runs
 
 pub returns-in-Pending-clause-turned : goal.returns-in-Pending-clause-turned
 returns-in-Pending-clause-turned g c = hearing.killing_waits (g.L.Link.awaited c.args.link.now) (g.L.Link.awaited c.poll.new.link) (g.L.Link.log c.args.link.now) (g.L.Link.log c.poll.new.link) (g.L.Link.wire c.args.link.now) c.args.self.now c.args.exec c.args.old c.args.reply c.requires.killing c.in-Pending.exec (to_z w64 (of_z w64 c.args.old)) (to_z-of_z w64 c.args.old c.ranges.old) c.in-Pending.ensures.runs
@@ -34,10 +43,10 @@ pub returns-clause-sent : goal.returns-clause-sent
 returns-clause-sent g c = sending.killing_goes_on (g.L.Link.awaited c.args.link.now) (g.L.Link.awaited c.poll.new.link) (g.L.Link.log c.args.link.now) (g.L.Link.log c.poll.new.link) (g.L.Link.wire c.args.link.now) c.args.self.now c.args.exec c.args.old c.args.reply c.requires.killing c.poll.result c.kill_failed.new.self c.kill_failed.result c.poll.ensures.runs c.kill_failed.ensures.quiet c.kill_failed.ensures.at_once
 
 pub returns-in-Pending-clause-caused : goal.returns-in-Pending-clause-caused
-returns-in-Pending-clause-caused g c = causes.killing_waits (g.L.Link.awaited c.args.link.now) (g.L.Link.awaited c.poll.new.link) (g.L.Link.log c.args.link.now) (g.L.Link.log c.poll.new.link) (g.L.Link.wire c.args.link.now) c.args.self.now c.args.exec c.args.old c.args.reply c.poll.result _ c.poll.ensures.runs
+returns-in-Pending-clause-caused g c = causes.killing_waits (g.L.Link.awaited c.args.link.now) (g.L.Link.awaited c.poll.new.link) (g.L.Link.log c.args.link.now) (g.L.Link.log c.poll.new.link) (g.L.Link.wire c.args.link.now) c.args.self.now c.args.exec c.args.old c.args.reply c.requires.killing c.in-Pending.exec (to_z w64 (of_z w64 c.args.old)) (to_z-of_z w64 c.args.old c.ranges.old) c.in-Pending.ensures.runs
 
 pub returns-in-Done-clause-caused : goal.returns-in-Done-clause-caused
-returns-in-Done-clause-caused g c = causes.killing_ended (g.L.Link.awaited c.args.link.now) (g.L.Link.awaited c.poll.new.link) (g.L.Link.log c.args.link.now) (g.L.Link.log c.poll.new.link) (g.L.Link.wire c.args.link.now) c.args.self.now c.args.exec c.args.old c.args.reply c.poll.result _ _ c.poll.ensures.runs (refl, refl)
+returns-in-Done-clause-caused g c = causes.killing_came (g.L.Link.awaited c.args.link.now) (g.L.Link.awaited c.poll.new.link) (g.L.Link.log c.args.link.now) (g.L.Link.log c.poll.new.link) (g.L.Link.wire c.args.link.now) c.args.self.now c.args.exec c.args.old c.args.reply c.requires.killing _ c.in-Done.ensures.runs
 
 pub returns-clause-caused : goal.returns-clause-caused
-returns-clause-caused g c = causes.killing_ended (g.L.Link.awaited c.args.link.now) (g.L.Link.awaited c.poll.new.link) (g.L.Link.log c.args.link.now) (g.L.Link.log c.poll.new.link) (g.L.Link.wire c.args.link.now) c.args.self.now c.args.exec c.args.old c.args.reply c.poll.result c.kill_failed.new.self c.kill_failed.result c.poll.ensures.runs c.kill_failed.ensures.killed
+returns-clause-caused g c = causes.killing_failed (g.L.Link.awaited c.args.link.now) (g.L.Link.awaited c.poll.new.link) (g.L.Link.log c.args.link.now) (g.L.Link.log c.poll.new.link) (g.L.Link.wire c.args.link.now) c.args.self.now c.args.exec c.args.old c.args.reply c.requires.killing c.in-Failed.error c.kill_failed.new.self c.kill_failed.result c.in-Failed.ensures.runs c.kill_failed.ensures.killed

@@ -3,7 +3,7 @@ use Rattle.mg_change.specs.declared.stream.ChangeStream.{ChangeStream}
 use Rattle.mg_change.specs.declared.event_poll.Stepped.TheVariants as stepped
 use Rattle.mg_change.specs.declared.stream.Phase.TheVariants as phase
 use Rattle.mg_change.proofs.Sent as sending
-use Rattle.mg_change.specs.Causes.{came}
+use Rattle.mg_change.proofs.Causes as causes
 use Rattle.mg_change.proofs.stream.ChangeStream.more_came.Goals as goal
 
 pub returns-in-Ok-clause-quiet : goal.returns-in-Ok-clause-quiet
@@ -16,4 +16,9 @@ returns-in-Err-clause-quiet c =
     (ap (λ (s : ChangeStream). s.aggregate) c.lose.ensures.owes ∙ c.keep.ensures.aggregate)
 
 pub returns-in-Ok-clause-caused : goal.returns-in-Ok-clause-caused
-returns-in-Ok-clause-caused c = λ awaited log log' w p from. record { same = c.keep.ensures.aggregate; since = came c.args.reply from c.in-Ok.ensures.gave }
+returns-in-Ok-clause-caused c = λ awaited past at kept cursor heard.
+    causes.more_kept awaited past at c.args.self.now c.keep.new.self c.args.reply c.keep.ensures.aggregate c.in-Ok.ensures.tells c.in-Ok.ensures.gave kept cursor heard
+
+pub returns-in-Err-clause-caused : goal.returns-in-Err-clause-caused
+returns-in-Err-clause-caused c = λ awaited past at kept cursor heard.
+    causes.more_lost awaited past at c.args.self.now c.keep.new.self c.lose.new.self c.args.reply c.in-Err.error c.lose.result c.keep.ensures.aggregate c.in-Err.ensures.left c.in-Err.ensures.fails c.lose.ensures.owes c.lose.ensures.passed kept cursor heard

@@ -6,6 +6,8 @@ use Rattle.mg_link.proofs.Onward.{later_on, later_same, tickets_on, tickets_same
 use Rattle.mg_change.specs.Phases.{ticket_in}
 use Rattle.mg_change.proofs.Hearing as hearing
 use Rattle.mg_change.proofs.Seeking as seeking
+use Rattle.mg_change.proofs.Sent as sending
+use Rattle.mg_change.proofs.Staying as staying
 use Rattle.mg_change.specs.SeekCauses.{SeekCaused}
 use Rattle.mg_change.proofs.SeekCauses as causes
 use Rattle.mg_change.proofs.stream.ChangeStream.poll_next.Goals as goal
@@ -18,6 +20,8 @@ steps-init g c =
       pended = refl;
       sound = c.requires.sound;
       turned = hearing.turned_none (g.L.Link.awaited c.args.link.now) (g.L.Link.log c.args.link.now) c.args.self.now;
+      sent = sending.seek_sent_none (g.L.Link.log c.args.link.now) (g.L.Link.wire c.args.link.now) c.args.self.now.aggregate.args;
+      stays = staying.stays_same (g.L.Link.log c.args.link.now) (g.L.Link.log c.args.link.now) refl;
       caused = causes.sought_start (g.L.Link.awaited c.args.link.now) (g.L.Link.log c.args.link.now) (g.L.Link.wire c.args.link.now) c.args.self.now;
     }
 
@@ -32,9 +36,13 @@ steps-preserved g c =
           hearing.turned_on (g.L.Link.awaited c.args.link.now) (g.L.Link.awaited c.steps.link) (g.L.Link.awaited c.seek.new.link)
           (g.L.Link.log c.args.link.now) (g.L.Link.log c.steps.link) (g.L.Link.log c.seek.new.link)
           c.args.self.now c.steps.self c.seek.new.self [] c.steps.invariant.turned c.in-Goes.ensures.turned;
+      sent =
+          sending.seek_sent_on (g.L.Link.log c.args.link.now) (g.L.Link.log c.steps.link) (g.L.Link.log c.seek.new.link) (g.L.Link.wire c.args.link.now) (g.L.Link.wire c.steps.link)
+          c.args.self.now.aggregate.args c.steps.self.aggregate.args c.steps.invariant.later.wire c.steps.invariant.turned.args c.steps.invariant.sent c.in-Goes.ensures.sent;
+      stays = staying.stays_on (g.L.Link.log c.args.link.now) (g.L.Link.log c.steps.link) (g.L.Link.log c.seek.new.link) c.steps.invariant.stays c.in-Goes.ensures.stays;
       caused =
-          causes.sought_on (g.L.Link.awaited c.args.link.now) (g.L.Link.awaited c.steps.link) (g.L.Link.log c.args.link.now) (g.L.Link.log c.steps.link) (g.L.Link.wire c.args.link.now) (g.L.Link.wire c.steps.link) c.args.self.now c.steps.self c.steps.invariant.later.wire c.steps.invariant.caused
-          (g.L.Link.awaited c.seek.new.link) (g.L.Link.log c.seek.new.link) (g.L.Link.wire c.seek.new.link) c.seek.new.self (c.in-Goes.ensures.later.wire ∙ c.steps.invariant.later.wire) c.in-Goes.ensures.caused;
+          causes.sought_on (g.L.Link.awaited c.args.link.now) (g.L.Link.awaited c.steps.link) (g.L.Link.awaited c.seek.new.link) (g.L.Link.log c.args.link.now) (g.L.Link.log c.steps.link) (g.L.Link.log c.seek.new.link)
+          (g.L.Link.wire c.args.link.now) (g.L.Link.wire c.steps.link) c.args.self.now c.steps.self c.seek.new.self c.steps.counts c.seek.new.counts c.steps.invariant.later.wire c.in-Goes.ensures.stays c.steps.invariant.caused c.in-Goes.ensures.caused;
     }
 
 pub returns-in-Gives-clause-sound : goal.returns-in-Gives-clause-sound
@@ -54,8 +62,17 @@ returns-in-Gives-clause-moved g c =
     c.args.self.now.phase c.args.self.now c.seek.new.self c.leave.new.self (event_told c.in-Gives.poll) c.leave.ensures.stays t in
     (subst (λ p. Turned (g.L.Link.awaited c.args.link.now) (g.L.Link.awaited c.seek.new.link) (g.L.Link.log c.args.link.now) (g.L.Link.log c.seek.new.link) c.args.self.now.phase c.args.self.now c.leave.new.self (event_told p)) (sym c.leave.ensures.answer) u).moved
 
+pub returns-in-Gives-clause-sent : goal.returns-in-Gives-clause-sent
+returns-in-Gives-clause-sent g c =
+    sending.seek_sent_on (g.L.Link.log c.args.link.now) (g.L.Link.log c.steps.link) (g.L.Link.log c.seek.new.link) (g.L.Link.wire c.args.link.now) (g.L.Link.wire c.steps.link)
+    c.args.self.now.aggregate.args c.steps.self.aggregate.args c.steps.invariant.later.wire c.steps.invariant.turned.args c.steps.invariant.sent c.in-Gives.ensures.sent
+
+pub returns-in-Gives-clause-stays : goal.returns-in-Gives-clause-stays
+returns-in-Gives-clause-stays g c = staying.stays_on (g.L.Link.log c.args.link.now) (g.L.Link.log c.steps.link) (g.L.Link.log c.seek.new.link) c.steps.invariant.stays c.in-Gives.ensures.stays
+
 pub returns-in-Gives-clause-caused : goal.returns-in-Gives-clause-caused
 returns-in-Gives-clause-caused g c =
-    subst (λ p. SeekCaused (g.L.Link.awaited c.args.link.now) (g.L.Link.log c.args.link.now) (g.L.Link.log c.seek.new.link) (g.L.Link.wire c.args.link.now) c.args.self.now c.leave.new.self p) (sym c.leave.ensures.answer)
-    (causes.sought_last (g.L.Link.awaited c.args.link.now) (g.L.Link.awaited c.steps.link) (g.L.Link.log c.args.link.now) (g.L.Link.log c.steps.link) (g.L.Link.wire c.args.link.now) (g.L.Link.wire c.steps.link) c.args.self.now c.steps.self c.steps.invariant.later.wire c.steps.invariant.caused
-    (g.L.Link.log c.seek.new.link) c.seek.new.self c.leave.new.self c.in-Gives.poll c.leave.ensures.stays c.in-Gives.ensures.caused)
+    subst (λ p. SeekCaused (g.L.Link.awaited c.args.link.now) (g.L.Link.awaited c.seek.new.link) (g.L.Link.log c.args.link.now) (g.L.Link.log c.seek.new.link) (g.L.Link.wire c.args.link.now) c.args.self.now c.leave.new.self p) (sym c.leave.ensures.answer)
+    (causes.sought_last (g.L.Link.awaited c.args.link.now) (g.L.Link.awaited c.steps.link) (g.L.Link.awaited c.seek.new.link) (g.L.Link.log c.args.link.now) (g.L.Link.log c.steps.link) (g.L.Link.log c.seek.new.link)
+    (g.L.Link.wire c.args.link.now) (g.L.Link.wire c.steps.link) c.args.self.now c.steps.self c.seek.new.self c.steps.counts c.seek.new.counts c.steps.invariant.later.wire c.in-Gives.ensures.stays c.steps.invariant.caused
+    c.leave.new.self c.in-Gives.poll c.leave.ensures.stays c.leave.ensures.kept c.in-Gives.ensures.caused)

@@ -1,4 +1,4 @@
-use Rattle.std.proofs.Common.{◌∙◌, [], refl, sym, subst, inl, inr}
+use Rattle.std.proofs.Common.{◌∙◌, [], refl, sym, subst}
 use Rattle.mg_change.specs.Following.{Spends, Turned, event_told}
 use Rattle.mg_change.specs.Sent.{CallSent}
 use Rattle.mg_link.proofs.Onward.{later_on, later_same, tickets_on, tickets_same}
@@ -7,6 +7,7 @@ use Rattle.mg_change.specs.declared.event_poll.Stepped.TheVariants as stepped
 use Rattle.mg_change.proofs.Hearing as hearing
 use Rattle.mg_change.proofs.Seeking as seeking
 use Rattle.mg_change.proofs.Sent as sending
+use Rattle.mg_change.proofs.Staying as staying
 use Rattle.mg_change.specs.Causes.{CallCaused}
 use Rattle.mg_change.proofs.Causes as causes
 use Rattle.mg_change.proofs.stream.ChangeStream.poll_next_if_any.Goals as goal
@@ -20,7 +21,8 @@ steps-init g c =
       sound = c.requires.sound;
       turned = hearing.turned_none (g.L.Link.awaited c.args.link.now) (g.L.Link.log c.args.link.now) c.args.self.now;
       sent = sending.sent_nothing (g.L.Link.log c.args.link.now) (g.L.Link.wire c.args.link.now) c.args.self.now;
-      caused = inl (record { awaits = refl; logged = refl; at = refl; stream = refl });
+      stays = staying.stays_same (g.L.Link.log c.args.link.now) (g.L.Link.log c.args.link.now) refl;
+      caused = causes.went_none (g.L.Link.awaited c.args.link.now) (g.L.Link.log c.args.link.now) (g.L.Link.wire c.args.link.now) c.args.self.now;
     }
 
 pub steps-preserved : goal.steps-preserved
@@ -37,9 +39,10 @@ steps-preserved g c =
       sent =
           sending.sent_more (g.L.Link.log c.args.link.now) (g.L.Link.log c.steps.link) (g.L.Link.log c.advance.new.link) (g.L.Link.wire c.args.link.now) (g.L.Link.wire c.steps.link)
           c.args.self.now.phase c.args.self.now c.steps.self c.advance.new.self stepped.Goes c.steps.invariant.later.wire c.steps.invariant.sent c.in-Goes.ensures.sent;
+      stays = staying.stays_on (g.L.Link.log c.args.link.now) (g.L.Link.log c.steps.link) (g.L.Link.log c.advance.new.link) c.steps.invariant.stays c.in-Goes.ensures.stays;
       caused =
-          inr (causes.caused_next (g.L.Link.awaited c.args.link.now) (g.L.Link.awaited c.steps.link) (g.L.Link.log c.args.link.now) (g.L.Link.log c.steps.link) (g.L.Link.log c.advance.new.link) (g.L.Link.wire c.args.link.now) (g.L.Link.wire c.steps.link)
-          c.args.self.now c.steps.self c.advance.new.self stepped.Goes c.steps.invariant.later.wire c.steps.invariant.caused c.in-Goes.ensures.caused);
+          causes.went_on (g.L.Link.awaited c.args.link.now) (g.L.Link.awaited c.steps.link) (g.L.Link.awaited c.advance.new.link) (g.L.Link.log c.args.link.now) (g.L.Link.log c.steps.link) (g.L.Link.log c.advance.new.link) (g.L.Link.wire c.args.link.now) (g.L.Link.wire c.steps.link)
+          c.args.self.now c.steps.self c.advance.new.self c.steps.invariant.later.wire c.steps.invariant.caused c.in-Goes.ensures.caused;
     }
 
 pub returns-in-Gives-clause-sound : goal.returns-in-Gives-clause-sound
@@ -66,9 +69,11 @@ returns-in-Gives-clause-sent g c =
     subst (λ p. CallSent (g.L.Link.log c.args.link.now) (g.L.Link.log c.advance.new.link) (g.L.Link.wire c.args.link.now) c.args.self.now c.leave.new.self p) (sym c.leave.ensures.answer)
     (seeking.sent_counting (g.L.Link.log c.args.link.now) (g.L.Link.log c.advance.new.link) (g.L.Link.wire c.args.link.now) c.args.self.now c.advance.new.self c.leave.new.self c.in-Gives.poll c.leave.ensures.stays t)
 
+pub returns-in-Gives-clause-stays : goal.returns-in-Gives-clause-stays
+returns-in-Gives-clause-stays g c = staying.stays_on (g.L.Link.log c.args.link.now) (g.L.Link.log c.steps.link) (g.L.Link.log c.advance.new.link) c.steps.invariant.stays c.in-Gives.ensures.stays
+
 pub returns-in-Gives-clause-caused : goal.returns-in-Gives-clause-caused
 returns-in-Gives-clause-caused g c =
-    let t = causes.caused_next (g.L.Link.awaited c.args.link.now) (g.L.Link.awaited c.steps.link) (g.L.Link.log c.args.link.now) (g.L.Link.log c.steps.link) (g.L.Link.log c.advance.new.link) (g.L.Link.wire c.args.link.now) (g.L.Link.wire c.steps.link)
-    c.args.self.now c.steps.self c.advance.new.self (stepped.Gives c.in-Gives.poll) c.steps.invariant.later.wire c.steps.invariant.caused c.in-Gives.ensures.caused in
-    subst (λ p. CallCaused (g.L.Link.awaited c.args.link.now) (g.L.Link.log c.args.link.now) (g.L.Link.log c.advance.new.link) (g.L.Link.wire c.args.link.now) c.args.self.now c.leave.new.self p) (sym c.leave.ensures.answer)
-    (causes.caused_counting (g.L.Link.awaited c.args.link.now) (g.L.Link.log c.args.link.now) (g.L.Link.log c.advance.new.link) (g.L.Link.wire c.args.link.now) c.args.self.now c.advance.new.self c.leave.new.self c.in-Gives.poll c.leave.ensures.stays t)
+    subst (λ p. CallCaused (g.L.Link.awaited c.args.link.now) (g.L.Link.awaited c.advance.new.link) (g.L.Link.log c.args.link.now) (g.L.Link.log c.advance.new.link) (g.L.Link.wire c.args.link.now) c.args.self.now c.leave.new.self p) (sym c.leave.ensures.answer)
+    (causes.went_last (g.L.Link.awaited c.args.link.now) (g.L.Link.awaited c.steps.link) (g.L.Link.awaited c.advance.new.link) (g.L.Link.log c.args.link.now) (g.L.Link.log c.steps.link) (g.L.Link.log c.advance.new.link) (g.L.Link.wire c.args.link.now) (g.L.Link.wire c.steps.link)
+    c.args.self.now c.steps.self c.advance.new.self c.steps.invariant.later.wire c.steps.invariant.caused c.leave.new.self c.in-Gives.poll c.leave.ensures.stays c.in-Gives.ensures.caused)

@@ -1,9 +1,8 @@
 use Rattle.std.proofs.Common.{◌≡◌, []}
-use Rattle.std.specs.Prelude.{◌⊎◌}
-use Rattle.mg_change.specs.Causes.{Caused}
-use Rattle.mg_change.proofs.Causes.{NotYet}
+use Rattle.mg_change.proofs.Causes.{Went}
 use Rattle.mg_link.specs.Acts.{Tickets}
 use Rattle.mg_link.specs.Link.{Later}
+use Rattle.mg_change.specs.Calls.{Stays}
 use Rattle.mg_change.specs.Following.{Turned}
 use Rattle.mg_change.specs.Sent.{StepSent}
 use Rattle.mg_change.specs.declared.event_poll.Stepped.TheVariants as stepped
@@ -18,8 +17,8 @@ invariant-steps g l = record {
   sound : IsSound (g.L.Link.wire l.link) l.self;
   turned : Turned (g.L.Link.awaited l.fn.link) (g.L.Link.awaited l.link) (g.L.Link.log l.fn.link) (g.L.Link.log l.link) l.fn.self.phase l.fn.self l.self [];
   sent : StepSent (g.L.Link.log l.fn.link) (g.L.Link.log l.link) (g.L.Link.wire l.fn.link) l.fn.self.phase l.fn.self l.self stepped.Goes;
-  caused : NotYet (g.L.Link.awaited l.fn.link) (g.L.Link.awaited l.link) (g.L.Link.log l.fn.link) (g.L.Link.log l.link) (g.L.Link.wire l.fn.link) (g.L.Link.wire l.link) l.fn.self l.self
-      ⊎ Caused (g.L.Link.awaited l.fn.link) (g.L.Link.log l.fn.link) (g.L.Link.log l.link) (g.L.Link.wire l.fn.link) l.fn.self.phase l.fn.self l.self stepped.Goes;
+  stays : Stays (g.L.Link.log l.fn.link) (g.L.Link.log l.link);
+  caused : Went (g.L.Link.awaited l.fn.link) (g.L.Link.awaited l.link) (g.L.Link.log l.fn.link) (g.L.Link.log l.link) (g.L.Link.wire l.fn.link) l.fn.self l.self;
 }
 
 abbrev pub decreases-steps : goal.decreases-steps

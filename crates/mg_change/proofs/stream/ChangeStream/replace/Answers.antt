@@ -5,6 +5,7 @@ use Rattle.mg_link.specs.Namespace.{space}
 use Rattle.mg_ops.specs.Naming.{IsNamed}
 use Rattle.mg_ops.specs.declared.cursor_reply.CursorInformation.{CursorInformation}
 use Rattle.mg_change.specs.Following.{step_told}
+use Rattle.mg_change.proofs.Causes as causes
 use Rattle.mg_change.proofs.Turning as turning
 use Rattle.mg_change.proofs.stream.ChangeStream.replace.Goals as goal
 
@@ -31,3 +32,20 @@ returns-in-Ok-clause-turned c =
 
 pub returns-clause-turned : goal.returns-clause-turned
 returns-clause-turned c = turning.replaces_failed c.args.self.now c.kill_failed.new.self c.args.opened c.replace-old.new.dest (step_told c.kill_failed.result) c.replace-old.ensures.after c.kill_failed.ensures.turned
+
+pub returns-then-old-eq0-clause-caused : goal.returns-then-old-eq0-clause-caused
+returns-then-old-eq0-clause-caused c = λ awaited past at kept stays new.
+    let fits : SFits w64 c.replace-old.result.id = search rules in
+    let over : c.replace-old.result.id ≡ pos 0 = sym (to_z-of_z w64 c.replace-old.result.id fits) ∙ ap (to_z w64) c.if-old-eq0.true in
+    causes.replace_none awaited past at c.args.self.now c.args.opened c.replace-old.new.dest c.replace-old.result c.replace-old.ensures.after c.replace-old.ensures.value kept stays new over
+
+pub returns-in-Ok-clause-caused : goal.returns-in-Ok-clause-caused
+returns-in-Ok-clause-caused c = λ awaited past at kept stays new.
+    let fits : SFits w64 c.replace-old.result.id = search rules in
+    causes.replace_kills awaited past at c.args.self.now c.args.opened c.replace-old.new.dest c.replace-old.result c.replace-old.ensures.after c.replace-old.ensures.value kept stays new
+    c.in-Ok.exec (to_z w64 (of_z w64 c.replace-old.result.id)) (sym (to_z-of_z w64 c.replace-old.result.id fits)) c.in-Ok.ensures.command.command_is c.in-Ok.ensures.stage
+
+pub returns-clause-caused : goal.returns-clause-caused
+returns-clause-caused c = λ awaited past at kept stays new.
+    causes.replace_failed awaited past at c.args.self.now c.args.opened c.replace-old.new.dest c.replace-old.result c.replace-old.ensures.after c.replace-old.ensures.value kept stays new
+    c.kill_failed.new.self c.in-Err.error c.kill_failed.result c.in-Err.ensures.fails c.kill_failed.ensures.killed

@@ -3,9 +3,7 @@ use Rattle.mg_bson.specs.Raw.{fields}
 use Rattle.mg_change.specs.Batches.{HoldsBatch}
 use Rattle.mg_change.proofs.Turning as turning
 use Rattle.mg_change.proofs.Causes as causes
-use Rattle.mg_change.specs.Causes.{BreaksBatch, came, over, resumption}
-use Rattle.std.proofs.Common.{refl, inl}
-use Rattle.mg_change.specs.declared.stream.Phase.TheVariants as phase
+use Rattle.mg_change.specs.Causes.{BreaksBatch}
 use Rattle.mg_ops.specs.Failing.{FailsBy}
 use Rattle.mg_change.proofs.stream.ChangeStream.resumed.Goals as goal
 
@@ -17,13 +15,11 @@ pub returns-clause-turned : goal.returns-clause-turned
 returns-clause-turned c = turning.resumed_lost c.args.self.now c.args.reply
 
 pub returns-in-Ok-clause-caused : goal.returns-in-Ok-clause-caused
-returns-in-Ok-clause-caused c = λ awaited log w.
-    record {
-      same = refl;
-      since = came c.args.reply (resumption (inl refl)) (subst (λ (b : List ℕ). HoldsBatch (fields b) (map fields c.in-Ok.documents.items)) c.as_raw.ensures c.in-Ok.ensures.ok);
-    }
+returns-in-Ok-clause-caused c = λ awaited past at resumed far.
+    causes.resumed_came awaited past at resumed c.args.self.now c.args.reply far (record c.args.self.now { buffer = c.in-Ok.documents })
+    (subst (λ (b : List ℕ). HoldsBatch (fields b) (map fields c.in-Ok.documents.items)) c.as_raw.ensures c.in-Ok.ensures.ok)
 
 pub returns-clause-caused : goal.returns-clause-caused
-returns-clause-caused c = λ awaited log w.
-    causes.batch_broken (over awaited log log w (phase.Resumed c.args.reply) c.args.self.now) c.args.reply c.in-Err.error (inl refl)
+returns-clause-caused c = λ awaited past at resumed far.
+    causes.resumed_breaks awaited past at resumed c.args.self.now c.args.reply far c.in-Err.error
     (subst (λ (b : List ℕ). FailsBy (BreaksBatch (fields b)) c.in-Err.error) c.as_raw.ensures c.in-Err.ensures.fails)

@@ -3,8 +3,6 @@ use Rattle.mg_change.specs.Following.{step_told}
 use Rattle.mg_change.proofs.Hearing as hearing
 use Rattle.mg_change.proofs.Reading as reading
 use Rattle.mg_change.proofs.Causes as causes
-use Rattle.mg_change.specs.Causes.{Resumption, over}
-use Rattle.std.proofs.Common.{ℕ, List, sym, subst, inr}
 use Rattle.mg_change.proofs.stream.ChangeStream.resumption_came.Goals as goal
 
 pub replace-requires-clause-named : goal.replace-requires-clause-named
@@ -15,9 +13,8 @@ returns-in-Ok-clause-turned c =
     hearing.resume_read c.args.self.now.aggregate.args.options.batch_size c.args.reply c.args.self.now c.replace.new.self c.in-Ok.opened (step_told c.replace.result) c.in-Ok.ensures.ok.opens.batch c.in-Ok.ensures.ok.opens.says c.in-Ok.ensures.ok.opens.whole c.replace.ensures.turned
 
 pub returns-in-Ok-clause-caused : goal.returns-in-Ok-clause-caused
-returns-in-Ok-clause-caused c = λ awaited log log' w p heard.
-    c.replace.ensures.caused awaited log log' w p
-    (subst (λ (b : List ℕ). Resumption (over awaited log log' w p c.args.self.now) b) (sym c.in-Ok.ensures.ok.opens.whole) (inr heard))
+returns-in-Ok-clause-caused c = λ awaited past at kept why stays heard.
+    c.replace.ensures.caused awaited past at kept stays (causes.resumed_by awaited past at c.args.self.now c.args.reply c.in-Ok.opened c.in-Ok.ensures.ok.opens kept why heard)
 
 pub returns-in-Err-clause-caused : goal.returns-in-Err-clause-caused
-returns-in-Err-clause-caused c = λ awaited log log' w p heard. causes.opening_broken (over awaited log log' w p c.args.self.now) c.args.reply c.in-Err.error heard c.in-Err.ensures.err
+returns-in-Err-clause-caused c = λ awaited past at kept why stays heard. causes.resumption_breaks awaited past at c.args.self.now c.args.reply c.in-Err.error c.in-Err.ensures.err kept why stays heard

@@ -1,0 +1,204 @@
+-- What a call had heard and had in flight it has still at a later time.
+use Rattle.std.proofs.Common.{◌≡◌, ℕ, ℤ, Bool, true, List, ◌∷◌, Option, Some, None, refl, sym, ap, ◌∙◌, subst, inl, inr}
+use Rattle.mg_bson.specs.Tree.{Tree, Fields}
+use Rattle.mg_bson.specs.Raw.{fields}
+use Rattle.mg_bson.specs.Reading.{doc}
+use Rattle.mg_link.specs.Exec.{FailsByReply, Sending, Stage, ticket_at, ticket_of, unsent, first, second}
+use Rattle.mg_link.specs.Link.{Awaited}
+use Rattle.mg_link.specs.Log.{Sight, waiting, reply, fault, Call}
+use Rattle.mg_link.specs.Retry.{is_retried}
+use Rattle.mg_link.specs.declared.error.Error.{Error}
+use Rattle.mg_ops.specs.declared.cursor_reply.CursorInformation.{CursorInformation}
+use Rattle.mg_change.specs.Calls.{Failed, Flies, Grows, HeardAt, HeardBy, HeardLast, IsRetried, Past, WaitsAt, by_fault, by_memory, by_reply}
+use Rattle.mg_change.specs.Causes.{ByPhase, CallEmpty, CallFailed, CallFails, CallGave, CallNone, Called, CannotBuild, Has, Killed, Leaves, MoreFails, Next, Replied, Resumed, Resumes, SoFar, Standing, Stays, again, broken, came, came_empty, cannot_ask, cannot_resume, ended, first_broken, leaves, left, lost, more, more_command, more_failed, no_id, no_memory, none, none_left, old_command, opening, owed, refused, refused_more, renewed, resume_command, same, told, tried, unbuilt}
+use Rattle.mg_change.specs.Phases.{ticket_in}
+use Rattle.mg_change.specs.declared.event_poll.EventPoll.{EventPoll}
+use Rattle.mg_change.specs.declared.event_poll.EventPoll.TheVariants as poll
+use Rattle.mg_change.specs.declared.stream.ChangeStream.{ChangeStream}
+use Rattle.mg_change.specs.declared.stream.Phase.{Phase}
+use Rattle.mg_change.specs.declared.stream.Phase.TheVariants as phase
+
+module _ (past past' : Past) (grows : Grows past past') where
+  -- ---- what was heard
+
+  pub heard_at_grows : (place : ℕ) (command : Fields) (seen : Sight) → (seen ≡ waiting → ⊥) → HeardAt past place command seen → HeardAt past' place command seen
+  heard_at_grows place command seen answer h =
+      let kept = grows.keeps place h.call h.there in
+      let stays : kept.0 ≡ h.call = kept.3 (λ e. answer (sym h.has_seen ∙ e)) in
+      record {
+        own = grows.own place h.call h.there h.own;
+        call = kept.0;
+        there = kept.1;
+        command_is = ap fields kept.2 ∙ h.command_is;
+        has_seen = ap (λ (c : Call). c.seen) stays ∙ h.has_seen;
+      }
+
+  pub retried_grows : (place : ℕ) (command : Fields) → IsRetried past place command → IsRetried past' place command
+  retried_grows place command r =
+      let answer : r.seen ≡ waiting → ⊥ = λ e. let bad : is_retried waiting ≡ true = sym (ap is_retried e) ∙ r.passes in cc in
+      record { earlier = r.earlier; before = r.before; seen = r.seen; heard = heard_at_grows r.earlier command r.seen answer r.heard; passes = r.passes }
+
+  -- ---- what is in flight
+
+  waits_grows : (awaited awaited' : Awaited) (ticket : ℕ) (command : Fields) (place : ℕ) → awaited' ticket ≡ awaited ticket → WaitsAt awaited past ticket command place → WaitsAt awaited' past' ticket command place
+  waits_grows awaited awaited' ticket command place ticket_same w =
+      let kept = grows.keeps place w.call w.there in
+      record { at = ticket_same ∙ w.at; own = grows.own place w.call w.there w.own; call = kept.0; there = kept.1; command_is = ap fields kept.2 ∙ w.command_is }
+
+  pub flies_grows : (awaited awaited' : Awaited) (command : Fields) (stage : Stage) → ((n : ℕ) → ticket_at stage ≡ Some n → awaited' n ≡ awaited n) → Flies awaited past command stage → Flies awaited' past' command stage
+  flies_grows awaited awaited' command unsent tickets f = tt
+  flies_grows awaited awaited' command (first ticket) tickets f = (f.0, waits_grows awaited awaited' ticket command f.0 (tickets ticket refl) f.1)
+  flies_grows awaited awaited' command (second ticket) tickets f = (f.0, waits_grows awaited awaited' ticket command f.0 (tickets ticket refl) f.1, retried_grows f.0 command f.2)
+
+module _ (past past' : Past) (grows : Grows past past') where
+  -- ---- requests
+
+  pub heard_grows : (command : Fields) (seen : Sight) → (seen ≡ waiting → ⊥) → HeardBy past command seen → HeardBy past' command seen
+  heard_grows command seen answer h = record { place = h.place; heard = heard_at_grows past past' grows h.place command seen answer h.heard }
+
+  pub last_grows : (command : Fields) (retries : Bool) (seen : Sight) → (seen ≡ waiting → ⊥) → HeardLast past command retries seen → HeardLast past' command retries seen
+  last_grows command retries seen answer h = record {
+    place = h.place;
+    heard = heard_at_grows past past' grows h.place command seen answer h.heard;
+    last = elim h.last [ inl once ↦ inl once | inr twice ↦ inr (retried_grows past past' grows h.place command twice) ];
+  }
+
+  heard_reply : (command : Fields) (bytes : List ℕ) → HeardBy past command (reply bytes) → HeardBy past' command (reply bytes)
+  heard_reply command bytes h = heard_grows command (reply bytes) (λ e. cc) h
+
+  pub last_reply : (command : Fields) (retries : Bool) (bytes : List ℕ) → HeardLast past command retries (reply bytes) → HeardLast past' command retries (reply bytes)
+  last_reply command retries bytes h = last_grows command retries (reply bytes) (λ e. cc) h
+
+  heard_fault : (command : Fields) → HeardBy past command fault → HeardBy past' command fault
+  heard_fault command h = heard_grows command fault (λ e. cc) h
+
+  pub last_fault : (command : Fields) (retries : Bool) → HeardLast past command retries fault → HeardLast past' command retries fault
+  last_fault command retries h = last_grows command retries fault (λ e. cc) h
+
+  pub by_reply_grows : (said : Option Fields) (e : Error) → FailsByReply said past.wire e → FailsByReply said past'.wire e
+  by_reply_grows said e h = subst (λ (w : ℤ). FailsByReply said w e) (sym grows.wire) h
+
+  pub failed_grows : (command : Fields) (retries : Bool) (e : Error) → Failed past command retries e → Failed past' command retries e
+  failed_grows command retries e (by_memory room) = by_memory room
+  failed_grows command retries e (by_fault io h) = by_fault io (last_fault command retries h)
+  failed_grows command retries e (by_reply bytes h by) = by_reply bytes (last_reply command retries bytes h) (by_reply_grows (doc bytes) e by)
+
+  -- ---- a call of a stream
+
+  pub more_fails_grows : (at : Standing) (e : Error) → MoreFails past at e → MoreFails past' at e
+  more_fails_grows at e (lost io h) = lost io (heard_fault (more_command at) h)
+  more_fails_grows at e (refused bytes h by) = refused bytes (heard_reply (more_command at) bytes h) (by_reply_grows (doc bytes) e by)
+  more_fails_grows at e (broken bytes h by) = broken bytes (heard_reply (more_command at) bytes h) by
+
+  pub resumes_grows : (at : Standing) → Resumes past at → Resumes past' at
+  resumes_grows at (owed is) = owed is
+  resumes_grows at (more_failed e why is) = more_failed e (more_fails_grows at e why) is
+  resumes_grows at (first_broken bytes e in_hand by) = first_broken bytes e in_hand by
+
+  pub leaves_grows : (at : Standing) (c : CursorInformation) → Leaves past at c → Leaves past' at c
+  leaves_grows at c (same is) = same is
+  leaves_grows at c (told bytes upto h tells) = told bytes upto (heard_reply (more_command at) bytes h) tells
+  leaves_grows at c (ended bytes e h by ends is) = ended bytes e (heard_reply (more_command at) bytes h) (by_reply_grows (doc bytes) e by) ends is
+
+  pub killed_grows : (old : CursorInformation) → Killed past old → Killed past' old
+  killed_grows old (none is) = none is
+  killed_grows old (tried seen answer h) = tried seen answer (heard_grows (old_command old) seen answer h)
+  killed_grows old (unbuilt e by) = unbuilt e by
+
+  pub resumed_grows : (at : Standing) (bytes : List ℕ) (c : CursorInformation) (upto : Option Tree) → Resumed past at bytes c upto → Resumed past' at bytes c upto
+  resumed_grows at bytes c upto r = record {
+    why = resumes_grows at r.why;
+    heard = subst (λ (w : ℤ). HeardBy past' (resume_command w at) (reply bytes)) (sym grows.wire) (heard_reply (resume_command past.wire at) bytes r.heard);
+    tells = r.tells;
+  }
+
+  pub replied_grows : (at : Standing) (by_resumption : Bool) (bytes : List ℕ) (c : CursorInformation) (upto : Option Tree) → Replied past at by_resumption bytes c upto → Replied past' at by_resumption bytes c upto
+  replied_grows at by_resumption bytes c upto (opening none_yet in_hand cursor behind) = opening none_yet in_hand cursor behind
+  replied_grows at by_resumption bytes c upto (more none_yet h tells) = more none_yet (heard_reply (more_command at) bytes h) tells
+  replied_grows at by_resumption bytes c upto (again is r old left_so gone) = again is (resumed_grows at bytes c upto r) old (leaves_grows at old left_so) (killed_grows old gone)
+
+  pub next_grows : (at : Standing) (events : List Fields) (c : CursorInformation) (upto : Option Tree) → Next past at events c upto → Next past' at events c upto
+  next_grows at events c upto (left quits looked is cursor behind) = left quits looked is cursor behind
+  next_grows at events c upto (came by_resumption bytes replied holds) = came by_resumption bytes (replied_grows at by_resumption bytes c upto replied) holds
+
+  pub gave_grows : (at after : Standing) (event : Fields) → CallGave past at after event → CallGave past' at after event
+  gave_grows at after event g = record {
+    upto = g.upto;
+    next = next_grows at (event ∷ after.events) after.cursor g.upto g.next;
+    id = g.id;
+    has = g.has;
+    remembers = g.remembers;
+    behind = g.behind;
+    settled = g.settled;
+  }
+
+  none_grows : (at after : Standing) (by_resumption : Bool) → CallNone past at after by_resumption → CallNone past' at after by_resumption
+  none_grows at after by_resumption (came_empty bytes upto replied holds remembers) = came_empty bytes upto (replied_grows at by_resumption bytes after.cursor upto replied) holds remembers
+  none_grows at after by_resumption (none_left none_yet quits looked empty over aggregate cursor) = none_left none_yet quits looked empty over aggregate cursor
+
+  pub empty_grows : (at after : Standing) (by_resumption : Bool) → CallEmpty past at after by_resumption → CallEmpty past' at after by_resumption
+  empty_grows at after by_resumption e = record { why = none_grows at after by_resumption e.why; empty = e.empty; settled = e.settled }
+
+  pub stays_grows : (at after : Standing) → Stays past at after → Stays past' at after
+  stays_grows at after s = record { next = next_grows at after.events after.cursor after.upto s.next; settled = s.settled }
+
+  resume_last : (at : Standing) (seen : Sight) → (seen ≡ waiting → ⊥) → HeardLast past (resume_command past.wire at) true seen → HeardLast past' (resume_command past'.wire at) true seen
+  resume_last at seen answer h = subst (λ (w : ℤ). HeardLast past' (resume_command w at) true seen) (sym grows.wire) (last_grows (resume_command past.wire at) true seen answer h)
+
+  call_fails_grows : (at after : Standing) (e : Error) → CallFails past at after e → CallFails past' at after e
+  call_fails_grows at after e (no_memory room stands) = no_memory room (elim stands [ inl owes ↦ inl owes | inr stays ↦ inr (stays_grows at after stays) ])
+  call_fails_grows at after e (lost owes why io h) = lost owes (resumes_grows at why) io (resume_last at fault (λ f. cc) h)
+  call_fails_grows at after e (refused bytes owes why h by) = refused bytes owes (resumes_grows at why) (resume_last at (reply bytes) (λ f. cc) h) (by_reply_grows (doc bytes) e by)
+  call_fails_grows at after e (broken bytes owes why h by) =
+      broken bytes owes (resumes_grows at why) (subst (λ (w : ℤ). HeardBy past' (resume_command w at) (reply bytes)) (sym grows.wire) (heard_reply (resume_command past.wire at) bytes h)) by
+  call_fails_grows at after e (cannot_resume owes why by) = cannot_resume owes (resumes_grows at why) (subst (λ (w : ℤ). CannotBuild at.aggregate.args.options.batch_size (resume_command w at) e) (sym grows.wire) by)
+  call_fails_grows at after e (refused_more bytes settled empty h by stays none_after settles) = refused_more bytes settled empty (heard_reply (more_command at) bytes h) (by_reply_grows (doc bytes) e by) stays none_after settles
+  call_fails_grows at after e (cannot_ask empty by stays) = cannot_ask empty by (stays_grows at after stays)
+  call_fails_grows at after e (no_id event upto next lacks is behind settles) = no_id event upto (next_grows at (event ∷ after.events) after.cursor upto next) lacks is behind settles
+
+  has_grows : (at : Standing) (c : CursorInformation) → Has past at c → Has past' at c
+  has_grows at c (leaves h) = leaves (leaves_grows at c h)
+  has_grows at c (renewed bytes upto r) = renewed bytes upto (resumed_grows at bytes c upto r)
+
+  pub call_failed_grows : (at after : Standing) (e : Error) → CallFailed past at after e → CallFailed past' at after e
+  call_failed_grows at after e f = record { why = call_fails_grows at after e f.why; token = f.token; cursor = has_grows at after.cursor f.cursor }
+
+pub called_grows : (past past' : Past) (at after : Standing) (r : EventPoll) → Grows past past' → Called past at after r → Called past' at after r
+called_grows past past' at after poll.Pending grows h = absurd h
+called_grows past past' at after (poll.Ready None) grows h = (h.0, empty_grows past past' grows at after h.0 h.1)
+called_grows past past' at after (poll.Ready (Some event)) grows h = gave_grows past past' grows at after (fields event) h
+called_grows past past' at after (poll.Failed e) grows h = call_failed_grows past past' grows at after e h
+
+-- ---- how far a call has come
+
+module _ (awaited awaited' : Awaited) (past past' : Past) (grows : Grows past past') (at : Standing) (by_resumption : Bool) (s : ChangeStream) where
+  killing_grows : (exec : Sending) (id : ℤ) (bytes : List ℕ) → ((n : ℕ) → ticket_of exec ≡ Some n → awaited' n ≡ awaited n) → ByPhase awaited past at by_resumption (phase.Killing exec id bytes) s → ByPhase awaited' past' at by_resumption (phase.Killing exec id bytes) s
+  killing_grows exec id bytes tickets h = (
+    h.0,
+    h.1,
+    record { left = leaves_grows past past' grows at h.1 h.2.left; named = h.2.named; resumed = resumed_grows past past' grows at bytes s.cursor s.batch_token h.2.resumed },
+    h.3,
+    flies_grows past past' grows awaited awaited' (old_command h.1) exec.stage tickets h.4,
+  )
+
+  resuming_grows : (exec : Sending) → ((n : ℕ) → ticket_of exec ≡ Some n → awaited' n ≡ awaited n) → ByPhase awaited past at by_resumption (phase.Resuming exec) s → ByPhase awaited' past' at by_resumption (phase.Resuming exec) s
+  resuming_grows exec tickets h = (
+    h.0,
+    resumes_grows past past' grows at h.1,
+    leaves_grows past past' grows at s.cursor h.2,
+    subst (λ (w : ℤ). Flies awaited' past' (resume_command w at) exec.stage) (sym grows.wire) (flies_grows past past' grows awaited awaited' (resume_command past.wire at) exec.stage tickets h.3),
+  )
+
+  phase_grows : (p : Phase) → ((n : ℕ) → ticket_in p ≡ Some n → awaited' n ≡ awaited n) → ByPhase awaited past at by_resumption p s → ByPhase awaited' past' at by_resumption p s
+  phase_grows phase.Taken tickets h = h
+  phase_grows phase.Rest tickets h = h
+  phase_grows (phase.First bytes) tickets h = h
+  phase_grows phase.Fresh tickets h = record { bytes = h.bytes; replied = replied_grows past past' grows at by_resumption h.bytes s.cursor s.batch_token h.replied; holds = h.holds }
+  phase_grows (phase.Asking get_more exec) tickets h = (h.0, h.1, h.2, flies_grows past past' grows awaited awaited' (more_command at) exec.stage tickets h.3)
+  phase_grows phase.Owing tickets h = (h.0, resumes_grows past past' grows at h.1, leaves_grows past past' grows at s.cursor h.2)
+  phase_grows (phase.Resuming exec) tickets h = resuming_grows exec tickets h
+  phase_grows (phase.Killing exec id bytes) tickets h = killing_grows exec id bytes tickets h
+  phase_grows (phase.Resumed bytes) tickets h = (h.0, replied_grows past past' grows at true bytes s.cursor s.batch_token h.1)
+
+pub so_far_grows : (awaited awaited' : Awaited) (past past' : Past) (at : Standing) (by_resumption : Bool) (p : Phase) (s : ChangeStream) → Grows past past' → ((n : ℕ) → ticket_in p ≡ Some n → awaited' n ≡ awaited n) → SoFar awaited past at by_resumption p s → SoFar awaited' past' at by_resumption p s
+so_far_grows awaited awaited' past past' at by_resumption p s grows tickets h = record { same = h.same; by = phase_grows awaited awaited' past past' grows at by_resumption s p tickets h.by }
