@@ -1,6 +1,11 @@
 //! The program `jobs`: the two ends of the process, and the top call between them.
 #![tactic(auto)]
 
+#[cfg(test)]
+mod grammar_tests;
+#[cfg(test)]
+mod tests;
+
 use mg_jobs::{StdSink, StdSource, run_program};
 use mg_link::write_all;
 use std::alloc::AllocError;

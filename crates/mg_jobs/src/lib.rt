@@ -29,8 +29,3 @@ pub use program::{Ending, Finished, run_program};
 pub use run::{Runner, run_jobs};
 pub use script::{Job, Script, Start};
 pub use value::value_from_json;
-
-#[cfg(test)]
-mod grammar_tests;
-#[cfg(test)]
-mod tests;

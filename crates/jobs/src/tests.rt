@@ -1,8 +1,8 @@
-use super::*;
 use mg_bson::{
     Array, Binary, Bson, BsonError, CodeWithScope, DateTime, DbPointer, Document, ObjectId, Regex,
     Timestamp,
 };
+use mg_jobs::{MemSink, MemSource, json_text, run_program};
 use std::alloc::{AllocError, Global};
 use std::test::Fail;
 

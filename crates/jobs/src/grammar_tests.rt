@@ -1,4 +1,4 @@
-use super::*;
+use mg_jobs::{ScriptError, json_text, parse_script, value_from_json};
 use serde_json::Value;
 use std::alloc::{AllocError, Global};
 use std::test::Fail;
