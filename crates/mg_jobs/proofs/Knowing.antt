@@ -290,7 +290,7 @@ same_insert a b same (plan.get db bucket id read) does = does
 pub same_watch : (a b : FollowPlayer) → b.watched ≡ a.watched → IsSameTask (player.Follow a) (player.Follow b)
 same_watch a b same (plan.insert ns docs) does = does
 same_watch a b same (plan.follow on calls start filter batch) does =
-    subst (λ v. (target v.target.now ≡ on) × (begin v.start.now ≡ start) × (filter_in v ≡ filter)) (sym same) does
+    subst (λ v. (target v.target.now ≡ on) × (begin v.start.now ≡ start) × (filter_in v ≡ filter) × (v.batch_size ≡ batch)) (sym same) does
 same_watch a b same (plan.put db bucket name id chunk pieces) does = does
 same_watch a b same (plan.get db bucket id read) does = does
 

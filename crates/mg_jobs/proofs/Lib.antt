@@ -16,3 +16,9 @@ pub mod Advancing
 pub mod Appending
 pub mod Appended
 pub mod Sendings
+pub mod Telling
+pub mod Told
+pub mod Prompting
+pub mod Batches
+pub mod Completing
+pub mod InsertCauses

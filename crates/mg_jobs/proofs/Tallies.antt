@@ -6,6 +6,7 @@ use Rattle.mg_jobs.specs.declared.outcome.Turned.{Turned}
 use Rattle.mg_link.specs.Link.{Sees, Told}
 use Rattle.mg_link.specs.Log.{Sight, see}
 use Rattle.mg_link.proofs.Outs.{length-see}
+use Rattle.mg_change.proofs.Staying.{stays_on, stays_sees}
 use Rattle.mg_jobs.specs.Counts.{Counted, PendedAs, StartedBy}
 
 started_seen : (n : ℕ) (old log log' : Told) (place : Option ℕ) (seen : Sight) → StartedBy n old log → Sees log log' place seen → StartedBy n old log'
@@ -19,6 +20,7 @@ pub counted_seen : (old log log' : Told) (n before pends pends' : ℕ) (pended :
 counted_seen old log log' n before pends pends' pended prompts p p' place seen counted sees same stays =
     record {
       starts = started_seen n old log log' place seen counted.starts sees;
+      stays = stays_on old log log' counted.stays (stays_sees log log' place seen sees);
       pends = subst (λ m. PendedAs pended before m) (sym same) counted.pends;
       never_less = omega (arith, same, counted.never_less);
       prompt = λ was. let r = counted.prompt was in (stays r.0, r.1);

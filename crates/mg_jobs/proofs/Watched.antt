@@ -14,7 +14,8 @@ use Rattle.mg_ops.specs.Aims.{aim}
 use Rattle.mg_ops.specs.declared.change_stream.WatchArgs.{WatchArgs}
 use Rattle.mg_change.specs.Following.{Asks, AsksNothing}
 use Rattle.mg_jobs.specs.Plan.{Begin, begin}
-use Rattle.mg_jobs.specs.Follows.{IsArgsOf, all_changes, IsTarget, IsUnwatched, IsWatch, IsWatched, WatchesNothing, aimed, stages_of, start_of}
+use Rattle.mg_jobs.specs.Follows.{IsArgsOf, all_changes, all_changes_of, begun_options, filter_in, IsTarget, IsUnwatched, IsWatch, IsWatched, WatchesNothing, aimed, stages_of, start_of}
+use Rattle.mg_jobs.specs.Telling.{IsWatchArgs}
 use Rattle.mg_jobs.specs.declared.player.Watched.{Watched}
 
 -- ---- names
@@ -104,3 +105,17 @@ aimed_so o targets.Cluster e = ap (λ (b : Option Bool). whole_target (unwrap_or
 
 pub aimed_as : (o : ChangeStreamOptions) (t : OperationTarget) (u : Target) → o.all_changes_for_cluster ≡ all_changes t → u ≡ target t → aim o u ≡ aimed (target t)
 aimed_as o t u e is = ap (aim o) is ∙ aimed_so o t e
+
+changes_as : (t : OperationTarget) → all_changes t ≡ all_changes_of (target t)
+changes_as (targets.Database db) = refl
+changes_as (targets.Collection ns) = refl
+changes_as targets.Cluster = refl
+
+-- the arguments are just those of what is watched
+pub args_made : (v : Watched) (a : WatchArgs) (o : ChangeStreamOptions) → target a.target ≡ target v.target.now → a.pipeline.items ≡ stages_of (filter_in v) → o ≡ begun_options (begin v.start.now) → (b : Option Bool) → b ≡ all_changes v.target.now → a.options ≡ record o { all_changes_for_cluster = b; batch_size = v.batch_size } → IsWatchArgs v a
+args_made v a o on stages begun b changes options =
+    record {
+      target_is = on;
+      stages = stages;
+      options_are = options ∙ ap (λ (x : ChangeStreamOptions). record x { all_changes_for_cluster = b; batch_size = v.batch_size }) begun ∙ ap (λ (c : Option Bool). record (begun_options (begin v.start.now)) { all_changes_for_cluster = c; batch_size = v.batch_size }) (changes ∙ changes_as v.target.now);
+    }

@@ -3,6 +3,7 @@ use Rattle.std.specs.Prelude.{◌≡◌, ◌+◌, ◌≤◌, ℕ, Bool, true, fa
 use Rattle.mg_link.specs.Causes.{Rose}
 use Rattle.mg_link.specs.Link.{Told}
 use Rattle.mg_link.specs.Log.{Call}
+use Rattle.mg_change.specs.Calls.{Stays}
 
 -- so many commands were started between two states of a log, where it is told
 abbrev pub StartedBy : ℕ → Told → Told → Type 0
@@ -20,6 +21,7 @@ StayedPrompt prompts prompts' pended = prompts → prompts' × (pended ≡ false
 -- what was counted since a turn began is true of the link
 pub record Counted (old new : Told) (started before now : ℕ) (pended : Bool) (prompts prompts' : Type 0) : Type 0 where
   pub starts : StartedBy started old new
+  pub stays : Stays old new
   pub pends : PendedAs pended before now
   pub never_less : before ≤ now
   pub prompt : StayedPrompt prompts prompts' pended

@@ -16,6 +16,7 @@ use Rattle.mg_link.specs.State as state
 use Rattle.mg_ops.specs.Aims.{aim}
 use Rattle.mg_ops.specs.Naming.{IsNamed, start_in}
 use Rattle.mg_ops.specs.declared.change_stream.WatchArgs.{WatchArgs}
+use Rattle.mg_options.specs.declared.change_stream.ChangeStreamOptions.{ChangeStreamOptions}
 use Rattle.mg_change.specs.Closings.{closing_of}
 use Rattle.mg_change.specs.declared.event_poll.EventPoll.{EventPoll}
 use Rattle.mg_change.specs.declared.event_poll.EventPoll.TheVariants as polls
@@ -83,6 +84,29 @@ all_changes targets.Cluster = Some true
 all_changes (targets.Database db) = None
 all_changes (targets.Collection ns) = None
 
+-- the changes of all databases are asked for of the cluster alone
+abbrev pub all_changes_of : Target → Option Bool
+all_changes_of (collection space) = None
+all_changes_of (database db) = None
+all_changes_of cluster = Some true
+
+-- the options of a watch that begins there, and says nothing else
+abbrev pub begun_options : Begin → ChangeStreamOptions
+begun_options nowhere = record { resume_after = None; start_at_operation_time = None; start_after = None; all_changes_for_cluster = None; batch_size = None }
+begun_options (resume_after token) = record { resume_after = Some token; start_at_operation_time = None; start_after = None; all_changes_for_cluster = None; batch_size = None }
+begun_options (start_after token) = record { resume_after = None; start_at_operation_time = None; start_after = Some token; all_changes_for_cluster = None; batch_size = None }
+begun_options (at_time seconds increment) = record { resume_after = None; start_at_operation_time = Some (record { time = seconds; increment = increment }); start_after = None; all_changes_for_cluster = None; batch_size = None }
+
+-- the options of a watch: where it starts, and the size of its batches
+abbrev pub options_of : Target → Begin → Option ℕ → ChangeStreamOptions
+options_of on start batch = record (begun_options start) { all_changes_for_cluster = all_changes_of on; batch_size = batch }
+
+-- these are the arguments of a watch
+pub record IsArgsFor (on : Target) (start : Begin) (filter : Option Fields) (batch : Option ℕ) (a : WatchArgs) : Type 0 where
+  pub target_is : target a.target ≡ on
+  pub stages : a.pipeline.items ≡ stages_of filter
+  pub options_are : a.options ≡ options_of on start batch
+
 -- the arguments of its aggregate are those of what is watched
 pub record IsArgsOf (v : Watched) (a : WatchArgs) : Type 0 where
   pub aims : aim a.options (target a.target) ≡ aimed (target v.target.now)
@@ -104,10 +128,16 @@ HasEnded polls.Pending = ⊥
 HasEnded (polls.Ready event) = Unit {0}
 HasEnded (polls.Failed e) = Unit {0}
 
+-- the answer to a call
+abbrev pub poll_of : Answer → EventPoll
+poll_of (answers.Event event) = polls.Ready (Some event)
+poll_of answers.Nothing = polls.Ready None
+poll_of (answers.Failed e) = polls.Failed e
+
 -- what is kept of the answer to a call: nothing while it pends
 abbrev pub IsAnswer : EventPoll → Option Answer → Type 0
 IsAnswer poll None = poll ≡ polls.Pending
-IsAnswer poll (Some answer) = (event_told poll ≡ events_of (answer ∷ [])) × HasEnded poll
+IsAnswer poll (Some answer) = (event_told poll ≡ events_of (answer ∷ [])) × HasEnded poll × (poll ≡ poll_of answer)
 
 -- a stream that is closed, or is being closed
 abbrev pub closed_follow : Watch → Start → Option ℕ → Option Tree → List Fields → Follow

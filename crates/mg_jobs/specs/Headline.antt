@@ -21,7 +21,7 @@ use Rattle.mg_jobs.specs.declared.run.Player.TheVariants as player
 -- the job does this task
 abbrev pub Does : Task → Player → Type 0
 Does (insert ns docs) (player.Insert job) = (space job.ns.now ≡ ns) × (job.documents.now ≡ docs)
-Does (follow on calls start filter batch) (player.Follow job) = (target job.watched.target.now ≡ on) × (begin job.watched.start.now ≡ start) × (filter_in job.watched ≡ filter)
+Does (follow on calls start filter batch) (player.Follow job) = (target job.watched.target.now ≡ on) × (begin job.watched.start.now ≡ start) × (filter_in job.watched ≡ filter) × (job.watched.batch_size ≡ batch)
 Does (put db bucket name id chunk pieces) player.Put = Unit {0}
 Does (get db bucket id read) player.Get = Unit {0}
 Does (insert ns docs) (player.Follow job) = ⊥

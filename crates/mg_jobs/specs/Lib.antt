@@ -16,3 +16,7 @@ pub mod Headline
 pub mod Progress
 pub mod Appended
 pub mod Underway
+pub mod Causes
+pub mod Telling
+pub mod Completing
+pub mod InsertCauses

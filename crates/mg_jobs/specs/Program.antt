@@ -1,5 +1,6 @@
 -- When the program ends with which status, and what it writes then.
-use Rattle.std.specs.Prelude.{◌≡◌, ◌⊎◌, slice_get, ℕ, ◌<◌, ◌≤◌, List, [], ◌∷◌, ◌++◌, length, Bool, true, false, Option, Some, None, Ok, Err, codes, decimal}
+use Rattle.std.specs.Prelude.{◌≡◌, ◌⊎◌, slice_get, ℕ, ◌<◌, ◌≤◌, List, [], ◌∷◌, ◌++◌, length, Bool, true, false, Option, Some, None, Ok, Err, Vec, codes, decimal}
+use Rattle.std.specs.declared.alloc.Global.{Global}
 use Rattle.std.specs.Str.{bytes_eq}
 use Rattle.std.specs.Io.KnownBytes.{Consumes, Appends}
 use Rattle.mg_link.specs.Causes.{Rose}
@@ -8,12 +9,14 @@ use Rattle.mg_link.specs.Kept.{IsByRules, steps_of}
 use Rattle.mg_link.specs.Log.{Call}
 use Rattle.mg_link.specs.Owner.{NamesItsOwn}
 use Rattle.mg_link.specs.Standing.{Stands}
+use Rattle.mg_jobs.specs.Causes.{OutcomeCaused, course}
 use Rattle.mg_jobs.specs.Headline.{OutcomeFollowed}
 use Rattle.mg_jobs.specs.Plan.{Plan, Task, plan, tasks}
 use Rattle.mg_jobs.specs.Plan as plans
 use Rattle.mg_store.specs.InMemory.{AreAsFates}
 use Rattle.mg_store.specs.declared.fate.Fate.{Fate}
 use Rattle.mg_jobs.specs.declared.outcome.Outcome.{Outcome}
+use Rattle.mg_jobs.specs.declared.outcome.Turned.{Turned}
 use Rattle.mg_jobs.specs.Script.{script_of, missing}
 use Rattle.mg_jobs.specs.Places.{place_text}
 use Rattle.mg_jobs.specs.Text.{line, text_of}
@@ -61,8 +64,8 @@ ReadMissing old new n = (script : Plan) × ReadScript old new script × LacksJob
 -- ---- what came of the words and the input
 
 -- What the jobs of a run over one link came to: in every legal history in which the link's log stands each follow answered consecutive entries,
--- the log names its own cursors only, it stands in the history of the run's own store, whose steps are by the rules, and each of its calls is
--- as the fate of its number in the script says.
+-- the log names its own cursors only, each answer of a follow has its cause among the commands of its own turns, the log stands in the history of
+-- the run's own store, whose steps are by the rules, and each of its calls is as the fate of its number in the script says.
 pub record RunFollowed (run : Run) : Type 0 where
   pub calls : List Call
   pub log_is : run.logs.items ≡ calls ∷ []
@@ -70,6 +73,9 @@ pub record RunFollowed (run : Run) : Type 0 where
   pub stands : Stands calls (steps_of run.store.history)
   pub followed : (i : ℕ) (t : Task) (r : Outcome) → slice_get (tasks run.script.jobs.items) i ≡ Some t → slice_get run.outcomes.items i ≡ Some r → OutcomeFollowed calls t r
   pub own : NamesItsOwn calls
+  pub turns : Vec Turned Global
+  pub turns_are : run.turns.items ≡ turns ∷ []
+  pub caused : (i : ℕ) (t : Task) (r : Outcome) → slice_get (tasks run.script.jobs.items) i ≡ Some t → slice_get run.outcomes.items i ≡ Some r → OutcomeCaused (course [] run.script.order.items turns.items) i calls run.script.wire t r
   pub fates : List Fate
   pub fates_are : plans.fates fates ≡ plans.fates run.script.fates.items
   pub pended : List ℕ

@@ -5,6 +5,7 @@ use Rattle.mg_link.specs.Link.{Awaited, Told}
 use Rattle.mg_jobs.specs.Counts.{Counted}
 use Rattle.mg_jobs.specs.Headline.{IsSameTask, Turns}
 use Rattle.mg_jobs.specs.Playing.{HasRoom, IsSameFollow, StageHolds, follow_ended, insert_ended, player_ticket, stage_ticket}
+use Rattle.mg_jobs.specs.Telling.{JobTells}
 use Rattle.mg_jobs.specs.declared.outcome.Turned.{Turned}
 use Rattle.mg_jobs.specs.declared.player.FollowPlayer.{FollowPlayer}
 use Rattle.mg_jobs.specs.declared.run.Player.{Player}
@@ -55,11 +56,12 @@ pub record CanGo (awaited : Awaited) (wire : ℤ) (p : Player) : Type 0 where
 
 -- ---- a turn
 
--- what a turn does to its job, to the link's tickets and to what the job knows of its server
+-- what a turn does to its job, to the link's tickets, and to what the job knows of its server and can tell of its causes
 pub record Goes (old new : Awaited) (log log' : Told) (wire : ℤ) (p p' : Player) : Type 0 where
   pub tickets : Tickets old new (job_ticket p) (job_ticket p')
   pub holds : JobHolds wire p'
   pub turned : Turns old new log log' p p'
+  pub told : JobTells old new log log' wire p p'
   pub task : IsSameTask p p'
 
 -- the note is true of the turn

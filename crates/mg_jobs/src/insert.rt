@@ -1,13 +1,18 @@
 //! The insert of a list of documents.
-ghost use Rattle.std.specs.Prelude.{◌≡◌, ◌≢◌, ◌<◌, ◌≤◌, None, length, slice_get, IfErr, IfOk, IfSome};
+ghost use Rattle.std.specs.Prelude.{◌≡◌, ◌≢◌, ◌<◌, ◌≤◌, ◌+◌, None, length, slice_get, IfErr, IfOk, IfSome};
 ghost use Rattle.std.specs.Option.{option_flatten};
 ghost use Rattle.mg_link.specs.Namespace.{space};
 ghost use Rattle.mg_link.specs.Acts.{EndsAtOnce, FailsByFault, IsOut, Pended, Tickets, ticket_after};
 ghost use Rattle.mg_link.specs.Exec.{ticket_of};
 ghost use Rattle.mg_link.specs.Link.{Later};
+ghost use Rattle.mg_link.specs.Errors.{plain};
+ghost use Rattle.mg_link.specs.declared.error.ErrorKind.TheVariants as kinds;
 ghost use Rattle.mg_link.proofs.Plain.{PassesPlain};
+ghost use Rattle.mg_ops.specs.Failing.{CannotBeSent, FailsBy};
+ghost use Rattle.mg_ops.specs.Limits.{max_documents};
+ghost use Rattle.mg_jobs.specs.InsertCauses.{CannotEncode, CannotGoOn, FitTogether, HearsCaused, InsertCaused, IsBuilt, IsLength, NextCaused};
 ghost use Rattle.mg_jobs.specs.Inserts.{HeardAtOnce, HeardLost, HeardPends, HeardPlain, HeldPlain, IsPlain, NextFewer, NextNotIo, NextPlain, NextTicket, SendsPlain, StepPlain, heard_ticket, insert_ticket, left_of};
-ghost use Rattle.mg_jobs.specs.Underway.{AreDrawn, HearsSent, Inserts, IsBatch, IsDrawn, IsNextOf, IsSameList, IsStarted, SendsNext, with_id};
+ghost use Rattle.mg_jobs.specs.Underway.{AreDrawn, HearsSent, Inserts, IsBatch, IsDrawn, IsNextOf, IsSameList, IsStarted, SendsNext, sent_of, with_id};
 
 use mg_bson::{Bson, BsonError, Document, ObjectId, to_bytes};
 use mg_link::{Action, Error, ErrorKind, Exec, IdSource, Link, Namespace, Retry, Step};
@@ -56,6 +61,7 @@ fn draw<I: IdSource>(
 fn with_id(alloc: Global, document: &Document, id: Option<ObjectId>) -> Result<Document, Error>
     ensures ok { IfOk result (λ d. d ≡ with_id id document.now) }
     ensures err { IfErr result (λ e. e.kind ≢ ErrorKind.Io) }
+    ensures fails { IfErr result (λ e. e ≡ plain kinds.OutOfMemory) }
 {
     let Some(id) = id else {
         let copy = document.clone()?;
@@ -72,7 +78,9 @@ fn with_id(alloc: Global, document: &Document, id: Option<ObjectId>) -> Result<D
 
 /// The length of a document in bytes, or none where it is longer than any document may be.
 fn length_of(alloc: Global, document: &Document) -> Result<Option<usize>, Error>
-    ensures { IfErr result (λ e. e.kind ≢ ErrorKind.Io) }
+    ensures ok { IfOk result (λ length. IsLength document.now length) }
+    ensures err { IfErr result (λ e. e.kind ≢ ErrorKind.Io) }
+    ensures fails { IfErr result (λ e. FailsBy (CannotBeSent document.now) e) }
 {
     match to_bytes(alloc, document) {
         Ok(bytes) => Ok(Some(bytes.as_bytes().len())),
@@ -101,8 +109,11 @@ fn batch_from(
 ) -> Result<Batch, Error>
     requires { from < length documents.now }
     ensures further { IfOk result (λ b. (from < b.upto) × (b.upto ≤ length documents.now)) }
+    ensures few { IfOk result (λ b. b.upto ≤ from + max_documents) }
+    ensures together { IfOk result (λ b. FitTogether b.documents.items) }
     ensures these { IfOk result (λ b. IsBatch drawn.now documents.now from b.documents.items b.upto) }
     ensures err { IfErr result (λ e. e.kind ≢ ErrorKind.Io) }
+    ensures fails { IfErr result (λ e. FailsBy (CannotEncode (sent_of drawn.now documents.now)) e) }
 {
     let mut batch = Vec::new(alloc);
     let mut room = MAX_BATCH;
@@ -173,7 +184,9 @@ impl<'a> Batches<'a> {
         ensures further { IfOk result (λ o. IfSome o (λ c. (self.old.upto < self.new.upto) × (self.old.upto < length self.old.documents.now))) }
         ensures same { IsSameList self.old self.new }
         ensures next { IfOk result (λ o. IsNextOf self.old self.new o) }
+        ensures built { IfOk result (λ o. IfSome o (λ c. IsBuilt self.old self.new.upto c)) }
         ensures err { IfErr result (λ e. e.kind ≢ ErrorKind.Io) }
+        ensures fails { IfErr result (λ e. FailsBy (CannotGoOn self.old) e) }
     {
         if self.upto >= self.documents.len() {
             return Ok(None);
@@ -196,6 +209,7 @@ impl<'a> Batches<'a> {
         ensures fewer { NextFewer (left_of self.old.documents.now self.old.upto waiting) (left_of self.new.documents.now self.new.upto None) result }
         ensures sends { SendsNext self.old self.new waiting result }
         ensures err { NextNotIo result }
+        ensures caused { NextCaused self.old self.new waiting result }
     {
         let Some(command) = waiting else {
             return match self.next(wire) {
@@ -213,6 +227,7 @@ impl<'a> Batches<'a> {
         ensures tickets { Tickets (L.awaited link.old) (L.awaited link.new) (ticket_of command.exec) (heard_ticket result) }
         ensures plain { IsPlain command.exec.command → PassesPlain (L.log link.old) (L.log link.new) × HeardPlain result }
         ensures sent { HearsSent (L.awaited link.old) (L.awaited link.new) (L.log link.old) (L.log link.new) command result }
+        ensures caused { HearsCaused (L.awaited link.old) (L.awaited link.new) (L.log link.old) (L.log link.new) (L.wire link.old) command result }
         ensures pended { HeardPends result (L.pends link.old) (L.pends link.new) }
         ensures lost { HeardLost result (L.faults link.old) (L.faults link.new) }
         ensures prompt { L.prompt link.old → HeardAtOnce result }
@@ -283,6 +298,9 @@ impl<'a> Action for Inserting<'a> {
         // Where the log is told, calls of it inserted the documents in order, each with its `_id`, but for those of the command
         // that is underway; and in the end all of them, whose number is given.
         ensures inserts { Inserts (L.awaited link.old) (L.awaited link.new) (L.log link.old) (L.log link.new) self.entry result }
+        // Where the log is told, an error is want of memory, or has its cause in the reply to one of its commands, in one that was
+        // lost, or in documents that cannot be sent.
+        ensures caused { InsertCaused (L.awaited link.old) (L.awaited link.new) (L.log link.old) (L.log link.new) (L.wire link.old) self.entry result }
     {
         let Inserting {
             mut batches,

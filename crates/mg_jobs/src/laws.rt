@@ -1,5 +1,5 @@
 //! What holds of the definitions.
-ghost use Rattle.std.specs.Prelude.{◌≡◌, ◌≤◌, ◌++◌, ℕ, suc, pos, List, Option, Some, length, take};
+ghost use Rattle.std.specs.Prelude.{◌≡◌, ◌≤◌, ◌++◌, ℕ, ℤ, suc, pos, List, Option, Some, length, take};
 ghost use Rattle.mg_bson.specs.Tree.{Fields};
 ghost use Rattle.mg_link.specs.History.{IsLegal, Step, state_of};
 ghost use Rattle.mg_link.specs.Log.{Call};
@@ -8,8 +8,13 @@ ghost use Rattle.mg_link.specs.Owner.{IsGrown};
 ghost use Rattle.mg_link.specs.Standing.{Stands};
 ghost use Rattle.mg_link.specs.Step.{documents_of};
 ghost use Rattle.mg_jobs.specs.Appended.{Appended, InsertsAt};
+ghost use Rattle.mg_jobs.specs.Causes.{Course, OutcomeCaused};
+ghost use Rattle.mg_jobs.specs.Completing.{Faultless, OutcomeWell};
+ghost use Rattle.mg_jobs.specs.Plan.{Task};
+ghost use Rattle.mg_jobs.specs.declared.outcome.Outcome.{Outcome};
 ghost use Rattle.mg_jobs.specs.declared.program.Ending.{Ending};
 ghost use Rattle.mg_jobs.specs.Program.{Caused, IsOf};
+ghost use Rattle.mg_jobs.specs.Progress.{IsPlayed, pends_last, turns_done};
 
 /// Where it is known what is left in a source, this decides what came of it: each ending that is not a failed read or
 /// want of memory comes exactly where the bytes are too many, or no script with this first fault, or a script whose order
@@ -32,4 +37,15 @@ pub fn inserts_append()
 pub fn appended_stays()
     ensures { (calls calls' : List Call) (space : Space) (documents : List Fields) (n : ℕ)
         → IsGrown calls calls' → length calls ≤ length calls' → Appended calls space documents n → Appended calls' space documents n }
+{}
+
+/// A follow ends well where its link loses nothing and its server holds nothing back. Of a follow whose outcome has the
+/// causes that the run tells, that came as far as its turns brought it, and that had one turn more than calls that did
+/// not pend: where no call of the run saw a fault, and the log stands in a legal history that answered the job's
+/// commands at once and refused none, all its calls were answered, each with an event or with nothing, and its stream was
+/// closed. What may still fail is excused: memory ran out, or a command passes the limits of documents.
+pub fn follows_end_well()
+    ensures { (c : Course) (i : ℕ) (begun calls : List Call) (wire : ℤ) (t : Task) (r : Outcome)
+        → length begun ≡ c.begun → Faultless begun calls → OutcomeCaused c i calls wire t r
+        → IsPlayed t (turns_done i c.order c.notes) (pends_last i c.order c.notes) r → OutcomeWell c i calls t r }
 {}

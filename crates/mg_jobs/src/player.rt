@@ -1,5 +1,5 @@
 //! Jobs that go on turn by turn.
-ghost use Rattle.std.specs.Prelude.{◌≡◌, List, ◌+◌, ◌-◌, ◌<◌, ◌≤◌, ◌++◌, ◌∷◌, ℕ, Bool, [], None, Some, false, IfErr, IfOk, OnOk, option_map, vec_capacity, vec_len};
+ghost use Rattle.std.specs.Prelude.{◌≡◌, ◌≢◌, ◌↔◌, ◌⊎◌, IsTrue, pos, List, ◌+◌, ◌-◌, ◌<◌, ◌≤◌, ◌++◌, ◌∷◌, ℕ, Bool, [], None, Some, false, IfErr, IfOk, OnOk, option_map, vec_capacity, vec_len};
 ghost use Rattle.mg_link.specs.Acts.{IsOut, Tickets};
 ghost use Rattle.mg_link.specs.Errors.{plain};
 ghost use Rattle.mg_link.specs.declared.error.ErrorKind.TheVariants as kinds;
@@ -8,13 +8,14 @@ ghost use Rattle.mg_link.specs.Log.{Call};
 ghost use Rattle.mg_link.specs.Namespace.{space};
 ghost use Rattle.mg_change.specs.Closings.{closing_ticket};
 ghost use Rattle.mg_change.specs.Openings.{opening_ticket};
-ghost use Rattle.mg_change.specs.Phases.{AtRest, IsSound, ticket_in};
-ghost use Rattle.mg_jobs.specs.Follows.{FollowTurns, HasNothing, IsAnswer, IsArgsOf, IsUnfinished, all_changes, stages_of, start_of, token_at};
+ghost use Rattle.mg_change.specs.Phases.{AtRest, IsResuming, IsSound, ticket_in};
+ghost use Rattle.mg_jobs.specs.Follows.{FollowTurns, HasNothing, IsAnswer, IsArgsOf, IsUnfinished, all_changes, begun_options, stages_of, start_of, token_at};
 ghost use Rattle.mg_link.proofs.Plain.{PassesPlain};
 ghost use Rattle.mg_ops.specs.Naming.{start_in};
 ghost use Rattle.mg_jobs.specs.Plan.{begin};
 ghost use Rattle.mg_jobs.specs.Progress.{CloseGoes, FollowAt, FollowGoes, InsertAt, InsertGoes, InsertReady, RestGoes, came};
 ghost use Rattle.mg_jobs.specs.Playing.{HasRoom, IsPlainInsert, IsPlainJob, IsSameFollow, IsSameInsert, StageHolds, end_of, follow_ended, insert_ended, inserts_ticket, player_ticket, stage_ticket};
+ghost use Rattle.mg_jobs.specs.Telling.{FollowTells, IsWatchArgs, RestTells, kept};
 ghost use Rattle.mg_jobs.specs.Underway.{InsertKnows, InsertTurns, StageInserts};
 
 use crate::insert::Inserting;
@@ -170,7 +171,8 @@ pub(crate) struct Watched<'a> {
 
 /// The stages behind the one that opens the watch.
 fn pipeline_of(alloc: Global, filter: Option<&Document>) -> Result<Vec<Document>, Error>
-    ensures { IfOk result (λ stages. stages.items ≡ stages_of (option_map (λ d. d.now) filter.entry)) }
+    ensures stages { IfOk result (λ stages. stages.items ≡ stages_of (option_map (λ d. d.now) filter.entry)) }
+    ensures err { IfErr result (λ e. e ≡ plain kinds.OutOfMemory) }
 {
     let mut pipeline = Vec::new(alloc);
     if let Some(filter) = filter {
@@ -184,6 +186,8 @@ fn pipeline_of(alloc: Global, filter: Option<&Document>) -> Result<Vec<Document>
 /// The options of a watch that begins there.
 fn begun_at(start: &Start) -> Result<ChangeStreamOptions, Error>
     ensures starts { IfOk result (λ o. start_in o ≡ Some (start_of (begin start.now))) }
+    ensures begun { IfOk result (λ o. o ≡ begun_options (begin start.now)) }
+    ensures err { IfErr result (λ e. e ≡ plain kinds.OutOfMemory) }
 {
     let mut options = ChangeStreamOptions::default();
     match start {
@@ -207,7 +211,9 @@ fn all_changes(target: &OperationTarget) -> Option<bool>
 }
 
 fn watch_args(alloc: Global, watched: Watched<'_>) -> Result<WatchArgs, Error>
-    ensures { IfOk result (IsArgsOf watched.entry) }
+    ensures asks { IfOk result (IsArgsOf watched.entry) }
+    ensures args { IfOk result (IsWatchArgs watched.entry) }
+    ensures err { IfErr result (λ e. e ≡ plain kinds.OutOfMemory) }
 {
     let mut options = begun_at(watched.start)?;
     options.batch_size = watched.batch_size;
@@ -289,6 +295,7 @@ impl<'a> FollowPlayer<'a> {
         ensures tickets { Tickets (L.awaited link.old) (L.awaited link.new) (stage_ticket self.old.stage) (stage_ticket self.new.stage) }
         ensures holds { StageHolds (L.wire link.new) self.new.stage }
         ensures turned { FollowTurns (L.awaited link.old) (L.awaited link.new) (L.log link.old) (L.log link.new) self.old.stage self.old self.new.stage self.new }
+        ensures told { FollowTells (L.awaited link.old) (L.awaited link.new) (L.log link.old) (L.log link.new) (L.wire link.old) self.old.stage (kept self.old) self.new.stage (kept self.new) }
         ensures watched { self.new.watched ≡ self.old.watched }
         ensures comes { FollowGoes (L.pends link.old) (L.pends link.new) self.old.stage (came self.old) self.new.stage (came self.new) }
         ensures later { Later (L.faults link.old) (L.faults link.new) (L.pends link.old) (L.pends link.new)
@@ -307,6 +314,7 @@ impl<'a> FollowPlayer<'a> {
         ensures tickets { Tickets (L.awaited link.old) (L.awaited link.new) (stage_ticket stage) (stage_ticket result) }
         ensures holds { StageHolds (L.wire link.new) result }
         ensures turned { FollowTurns (L.awaited link.old) (L.awaited link.new) (L.log link.old) (L.log link.new) stage self.old result self.new }
+        ensures told { FollowTells (L.awaited link.old) (L.awaited link.new) (L.log link.old) (L.log link.new) (L.wire link.old) stage (kept self.old) result (kept self.new) }
         ensures watched { self.new.watched ≡ self.old.watched }
         ensures comes { FollowGoes (L.pends link.old) (L.pends link.new) stage (came self.old) result (came self.new) }
         ensures later { Later (L.faults link.old) (L.faults link.new) (L.pends link.old) (L.pends link.new)
@@ -326,6 +334,7 @@ impl<'a> FollowPlayer<'a> {
         ensures tickets { Tickets (L.awaited link.old) (L.awaited link.new) None (stage_ticket result) }
         ensures holds { StageHolds (L.wire link.new) result }
         ensures turned { FollowTurns (L.awaited link.old) (L.awaited link.new) (L.log link.old) (L.log link.new) Stage.Unopened self.old result self.new }
+        ensures told { FollowTells (L.awaited link.old) (L.awaited link.new) (L.log link.old) (L.log link.new) (L.wire link.old) Stage.Unopened (kept self.old) result (kept self.new) }
         ensures watched { self.new.watched ≡ self.old.watched }
         ensures comes { FollowGoes (L.pends link.old) (L.pends link.new) Stage.Unopened (came self.old) result (came self.new) }
         ensures later { Later (L.faults link.old) (L.faults link.new) (L.pends link.old) (L.pends link.new)
@@ -345,6 +354,7 @@ impl<'a> FollowPlayer<'a> {
         ensures tickets { Tickets (L.awaited link.old) (L.awaited link.new) (opening_ticket opening) (stage_ticket result) }
         ensures holds { StageHolds (L.wire link.new) result }
         ensures turned { FollowTurns (L.awaited link.old) (L.awaited link.new) (L.log link.old) (L.log link.new) (Stage.Opens opening) self.old result self.new }
+        ensures told { FollowTells (L.awaited link.old) (L.awaited link.new) (L.log link.old) (L.log link.new) (L.wire link.old) (Stage.Opens opening) (kept self.old) result (kept self.new) }
         ensures watched { self.new.watched ≡ self.old.watched }
         ensures comes { FollowGoes (L.pends link.old) (L.pends link.new) (Stage.Opens opening) (came self.old) result (came self.new) }
         ensures later { Later (L.faults link.old) (L.faults link.new) (L.pends link.old) (L.pends link.new)
@@ -372,6 +382,7 @@ impl<'a> FollowPlayer<'a> {
         ensures tickets { Tickets (L.awaited link.old) (L.awaited link.new) (ticket_in stream.phase) (stage_ticket result) }
         ensures holds { StageHolds (L.wire link.new) result }
         ensures turned { FollowTurns (L.awaited link.old) (L.awaited link.new) (L.log link.old) (L.log link.new) (Stage.Open stream) self.old result self.new }
+        ensures told { RestTells (L.awaited link.new) (L.log link.old) (L.log link.new) (L.wire link.old) stream (kept self.old) result (kept self.new) }
         ensures watched { self.new.watched ≡ self.old.watched }
         ensures comes { RestGoes (L.pends link.old) (L.pends link.new) (came self.old) result (came self.new) }
         ensures later { Later (L.faults link.old) (L.faults link.new) (L.pends link.old) (L.pends link.new)
@@ -394,6 +405,7 @@ impl<'a> FollowPlayer<'a> {
         ensures tickets { Tickets (L.awaited link.old) (L.awaited link.new) (ticket_in stream.phase) (stage_ticket result) }
         ensures holds { StageHolds (L.wire link.new) result }
         ensures turned { FollowTurns (L.awaited link.old) (L.awaited link.new) (L.log link.old) (L.log link.new) (Stage.Open stream) self.old result self.new }
+        ensures told { FollowTells (L.awaited link.old) (L.awaited link.new) (L.log link.old) (L.log link.new) (L.wire link.old) (Stage.Open stream) (kept self.old) result (kept self.new) }
         ensures watched { self.new.watched ≡ self.old.watched }
         ensures comes { FollowGoes (L.pends link.old) (L.pends link.new) (Stage.Open stream) (came self.old) result (came self.new) }
         ensures later { Later (L.faults link.old) (L.faults link.new) (L.pends link.old) (L.pends link.new)
@@ -416,6 +428,7 @@ impl<'a> FollowPlayer<'a> {
         ensures opened { self.new.opened ≡ self.old.opened }
         ensures token { self.new.token ≡ self.old.token }
         ensures closed { self.new.closed ≡ self.old.closed }
+        ensures alive { IsTrue self.new.alive ↔ ((stream.now.cursor.id ≢ pos 0) ⊎ IsResuming stream.now.phase) }
         ensures left { self.new.left ≡ self.old.left - 1 }
         ensures watched { self.new.watched ≡ self.old.watched }
     {
@@ -430,6 +443,7 @@ impl<'a> FollowPlayer<'a> {
         ensures tickets { Tickets (L.awaited link.old) (L.awaited link.new) (closing_ticket closing) (stage_ticket result) }
         ensures holds { StageHolds (L.wire link.new) result }
         ensures turned { FollowTurns (L.awaited link.old) (L.awaited link.new) (L.log link.old) (L.log link.new) (Stage.Closes closing) self.old result self.new }
+        ensures told { FollowTells (L.awaited link.old) (L.awaited link.new) (L.log link.old) (L.log link.new) (L.wire link.old) (Stage.Closes closing) (kept self.old) result (kept self.new) }
         ensures watched { self.new.watched ≡ self.old.watched }
         ensures comes { CloseGoes (L.pends link.old) (L.pends link.new) (came self.old) result (came self.new) }
         ensures later { Later (L.faults link.old) (L.faults link.new) (L.pends link.old) (L.pends link.new)

@@ -70,6 +70,7 @@ fn run_over<F: Fated>(alloc: Global, script: Script, link: MemLink) -> Result<Ru
     requires unused { link.calls ≡ [] }
     requires fated { link.fates ≡ F.fates }
     requires fates { plans.fates F.fates ≡ plans.fates script.fates.items }
+    requires wire { link.wire ≡ script.wire }
     ensures script { IfOk result (λ r. plan r.script ≡ plan script) }
     ensures followed { IfOk result RunFollowed }
     ensures log { IfOk result (λ r. length r.logs.items ≡ 1) }

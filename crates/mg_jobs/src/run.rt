@@ -10,7 +10,9 @@ ghost use Rattle.mg_link.specs.Owner.{Owner};
 ghost use Rattle.mg_jobs.specs.Headline.{AllFollowed, AreFirst, DoTasks, Does, IsFirst, IsSameTask, Knowing, OutcomeOf, OutcomesOf, Plays};
 ghost use Rattle.mg_jobs.specs.Plan.{Task, task, tasks};
 ghost use Rattle.mg_jobs.specs.Progress.{AllAt, AllPlayed, AllShow, GoesBy, IsAt, IsReadyAt, JobGoes, Shows, TurnsBy, calls_of};
+ghost use Rattle.mg_jobs.specs.Causes.{AllCaused};
 ghost use Rattle.mg_jobs.specs.Script.{first_missing};
+ghost use Rattle.mg_jobs.specs.Telling.{AllTell, IsSameTeller};
 
 use crate::counting::{Began, Counting};
 use crate::outcome::{Ended, Outcome, Played, Turned};
@@ -82,6 +84,7 @@ impl<'a> Player<'a> {
         ensures task { IsSameTask self.old self.new }
         ensures at { (calls k : ℕ) (last : Bool) → IsAt calls self.old k last → IsReadyAt calls self.new k last }
         ensures same { OnErr result (IsSameJob self.old self.new) }
+        ensures teller { IsSameTeller self.old self.new }
         ensures err { IfErr result (λ e. e ≡ plain ErrorKind.OutOfMemory) }
     {
         match self {
@@ -302,6 +305,10 @@ impl<'a> Runner<'a> {
         // A turn that did not pend brings its job on, as its note says.
         ensures rows { OnOk result ((ts : List Task) (order : List ℕ) → length order ≡ length self.old.turns.items → AllAt ts order self.old.turns.items self.old.players.items
             → AllAt ts (order ++ job ∷ []) self.new.turns.items self.new.players.items) }
+        // Each follow goes on telling what caused its answers.
+        ensures told { OnOk result ((begun : Told) (ts : List Task) (order : List ℕ) → length order ≡ length self.old.turns.items → AllAt ts order self.old.turns.items self.old.players.items
+            → AllTell (L.awaited link.old) begun (L.log link.old) (L.wire link.old) ts order self.old.turns.items self.old.players.items
+            → AllTell (L.awaited link.new) begun (L.log link.new) (L.wire link.new) ts (order ++ job ∷ []) self.new.turns.items self.new.players.items) }
         // E15 just where the number names no job, and otherwise want of memory.
         ensures missing { length self.old.players.items ≤ job → result ≡ Err (plain (ErrorKind.NoSuchJob job)) }
         ensures err { IfErr result (λ e. ((e ≡ plain (ErrorKind.NoSuchJob job)) × (length self.old.players.items ≤ job)) ⊎ (e ≡ plain ErrorKind.OutOfMemory)) }
@@ -369,6 +376,8 @@ fn play<L: Link, I: IdSource>(
     ensures knowing { (begun : Told) → Knowing (L.awaited link.old) begun (L.log link.old) runner.old.players.items → Knowing (L.awaited link.new) begun (L.log link.new) runner.new.players.items }
     ensures tasks { (ts : List Task) → DoTasks ts runner.old.players.items → DoTasks ts runner.new.players.items }
     ensures rows { OnOk result ((ts : List Task) → AllAt ts [] [] runner.old.players.items → AllAt ts order.now runner.new.turns.items runner.new.players.items) }
+    ensures told { OnOk result ((begun : Told) (ts : List Task) → AllAt ts [] [] runner.old.players.items → AllTell (L.awaited link.old) begun (L.log link.old) (L.wire link.old) ts [] [] runner.old.players.items
+        → AllTell (L.awaited link.new) begun (L.log link.new) (L.wire link.new) ts order.now runner.new.turns.items runner.new.players.items) }
     ensures err { IfErr result (λ e. e ≡ plain ErrorKind.OutOfMemory) }
 {
     for number in order {
@@ -397,6 +406,8 @@ pub fn run_jobs<L: Link, I: IdSource>(
     ensures followed { IfOk result (λ p. AllFollowed (L.log link.old) (L.log link.new) (tasks jobs.now) p.outcomes.items) }
     // How far each job has come follows from the notes of its turns.
     ensures rows { IfOk result (λ p. AllPlayed (tasks jobs.now) order.now p.turns.items p.outcomes.items) }
+    // Each answer of a follow has its cause among the commands of its own turns.
+    ensures caused { IfOk result (λ p. AllCaused (L.log link.old) (L.log link.new) (L.wire link.old) (tasks jobs.now) order.now p.turns.items p.outcomes.items) }
     // One outcome for each job, and one note for each turn.
     ensures outcomes { IfOk result (λ p. length p.outcomes.items ≡ length jobs.now) }
     ensures turns { IfOk result (λ p. length p.turns.items ≡ length order.now) }

@@ -1,16 +1,23 @@
-use Rattle.std.proofs.Common.{◌≡◌, List, [], ◌∷◌, Some, ap, sym, ◌∙◌, subst}
+use Rattle.std.proofs.Common.{◌≡◌, ℕ, ℤ, List, [], ◌∷◌, Some, ap, sym, ◌∙◌, subst}
 use Rattle.std.specs.Prelude.{slice_get}
 use Rattle.mg_link.specs.Kept.{IsByRules, steps_of}
+use Rattle.mg_link.specs.Log.{Call}
 use Rattle.mg_link.specs.Standing.{Stands}
 use Rattle.mg_link.proofs.Owners.{same_some}
 use Rattle.mg_link.proofs.Runs.{names_none_at_first}
 use Rattle.mg_store.specs.InMemory.{AreAsFates}
+use Rattle.mg_jobs.specs.Causes.{OutcomeCaused, course}
 use Rattle.mg_jobs.specs.Plan.{tasks}
 use Rattle.mg_jobs.proofs.program.run_over.Goals as goal
 
 pub returns-clause-followed : goal.returns-clause-followed
 returns-clause-followed g c =
-    let f = c.in_ok-played.ensures.followed [] (ap (λ m. Some m.calls) c.new-link.ensures ∙ ap Some c.requires.unused) in
+    let begins = ap (λ m. Some m.calls) c.new-link.ensures ∙ ap Some c.requires.unused in
+    let f = c.in_ok-played.ensures.followed [] begins in
+    let told = c.in_ok-played.ensures.caused [] begins in
+    let same : told.0 ≡ f.0 = same_some told.0 f.0 (sym told.1 ∙ f.1) in
+    let wire = ap (λ m. m.wire) c.new-link.ensures ∙ c.requires.wire in
+    let jobs = c.as_slice.ensures.value in
     let link = c.into_link.result in
     let calls = ap (λ m. m.calls) c.into_link.ensures.link ∙ same_some c.run_jobs.new.link.calls f.0 f.1 in
     let stored = sym c.into_parts-store.ensures.store in
@@ -19,8 +26,14 @@ returns-clause-followed g c =
       log_is = c.in_ok-logs.ensures.items ∙ ap (λ l. l ∷ []) (c.into_parts-store.ensures.calls ∙ calls);
       by_rules = subst (λ h. IsByRules h) (ap (λ s. s.history) c.store.view_is) c.store.invariant.by_rules;
       stands = subst (λ l. Stands l (steps_of c.into_parts-store.result.0.history)) calls (subst (λ s. Stands link.calls (steps_of s.history)) stored c.into_parts-store.ensures.stands);
-      followed = λ i t r ht hr. f.2 i t r (ap (λ l. slice_get (tasks l) i) c.as_slice.ensures.value ∙ ht) hr;
+      followed = λ i t r ht hr. f.2 i t r (ap (λ l. slice_get (tasks l) i) jobs ∙ ht) hr;
       own = f.3 names_none_at_first;
+      turns = c.in_ok-played.played.turns;
+      turns_are = c.in_ok-turns.ensures.items;
+      caused = λ i t r ht hr.
+          subst (λ (w : ℤ). OutcomeCaused (course [] c.args.script.order.items c.in_ok-played.played.turns.items) i f.0 w t r) wire
+          (subst (λ (l : List Call). OutcomeCaused (course [] c.args.script.order.items c.in_ok-played.played.turns.items) i l c.new-link.result.wire t r) same
+          (subst (λ (o : List ℕ). OutcomeCaused (course [] o c.in_ok-played.played.turns.items) i told.0 c.new-link.result.wire t r) c.as_slice-2.ensures.value (told.2 i t r (ap (λ l. slice_get (tasks l) i) jobs ∙ ht) hr)));
       fates = g.F.Fated.fates;
       fates_are = c.requires.fates;
       pended = link.pended;

@@ -8,6 +8,7 @@ use Rattle.std.proofs.lemmas.Option.{slice_get-get_or}
 use Rattle.mg_jobs.proofs.Advancing.{at_next}
 use Rattle.mg_jobs.proofs.Knowing.{length_take}
 use Rattle.mg_jobs.proofs.Tallies.{started_more}
+use Rattle.mg_jobs.proofs.Told.{tell_next, tell_whole}
 use Rattle.mg_jobs.proofs.run.play.Goals as goal
 
 pub returns-in_err-turn-clause-knowing : goal.returns-in_err-turn-clause-knowing
@@ -30,5 +31,11 @@ loop-number-preserved g c =
       knowing = λ begun before. c.turn.ensures.knowing begun (c.loop-number.invariant.knowing begun before);
       rows = λ ts before. at_next ts c.args.order.now c.loop-number.number-index (get_or c.args.order.now c.loop-number.number-index 0) c.turn.new.self.turns.items c.turn.new.self.players.items there
           (c.in_ok-turn.ensures.rows ts (take c.loop-number.number-index c.args.order.now) (length_take c.args.order.now c.loop-number.number-index (get_or c.args.order.now c.loop-number.number-index 0) there ∙ sym c.loop-number.invariant.turns) (c.loop-number.invariant.rows ts before));
+      told = λ begun ts first before. tell_next (g.L.Link.awaited c.turn.new.link) begun (g.L.Link.log c.turn.new.link) (g.L.Link.wire c.turn.new.link) ts c.args.order.now c.loop-number.number-index (get_or c.args.order.now c.loop-number.number-index 0) c.turn.new.self.turns.items c.turn.new.self.players.items there
+          (c.in_ok-turn.ensures.told begun ts (take c.loop-number.number-index c.args.order.now) (length_take c.args.order.now c.loop-number.number-index (get_or c.args.order.now c.loop-number.number-index 0) there ∙ sym c.loop-number.invariant.turns) (c.loop-number.invariant.rows ts first) (c.loop-number.invariant.told begun ts first before));
       tasks = λ ts does. c.turn.ensures.tasks ts (c.loop-number.invariant.tasks ts does);
     }
+
+pub returns-clause-told : goal.returns-clause-told
+returns-clause-told g c = λ begun ts first before.
+    tell_whole (g.L.Link.awaited c.loop-number.link) begun (g.L.Link.log c.loop-number.link) (g.L.Link.wire c.loop-number.link) ts c.args.order.now c.loop-number.number-index c.loop-number.runner.turns.items c.loop-number.runner.players.items (omega (arith, c.loop-number-test.false)) (c.loop-number.invariant.told begun ts first before)

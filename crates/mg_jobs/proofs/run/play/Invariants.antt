@@ -6,6 +6,7 @@ use Rattle.mg_jobs.specs.Headline.{DoTasks, Knowing}
 use Rattle.mg_jobs.specs.Plan.{Task}
 use Rattle.mg_jobs.specs.Progress.{AllAt}
 use Rattle.mg_jobs.specs.Runs.{Stands}
+use Rattle.mg_jobs.specs.Telling.{AllTell}
 use Rattle.mg_jobs.specs.declared.outcome.Turned.{Turned}
 use Rattle.mg_jobs.proofs.run.play.Given as goal
 
@@ -19,5 +20,7 @@ invariant-loop-number g l = record {
   jobs : length l.runner.players.items ≡ length l.initial.runner.players.items;
   knowing : (begun : Told) → Knowing (g.L.Link.awaited l.initial.link) begun (g.L.Link.log l.initial.link) l.initial.runner.players.items → Knowing (g.L.Link.awaited l.link) begun (g.L.Link.log l.link) l.runner.players.items;
   rows : (ts : List Task) → AllAt ts [] [] l.initial.runner.players.items → AllAt ts (take l.number-index l.fn.order) l.runner.turns.items l.runner.players.items;
+  told : (begun : Told) (ts : List Task) → AllAt ts [] [] l.initial.runner.players.items → AllTell (g.L.Link.awaited l.initial.link) begun (g.L.Link.log l.initial.link) (g.L.Link.wire l.initial.link) ts [] [] l.initial.runner.players.items
+      → AllTell (g.L.Link.awaited l.link) begun (g.L.Link.log l.link) (g.L.Link.wire l.link) ts (take l.number-index l.fn.order) l.runner.turns.items l.runner.players.items;
   tasks : (ts : List Task) → DoTasks ts l.initial.runner.players.items → DoTasks ts l.runner.players.items;
 }

@@ -5,6 +5,7 @@ use Rattle.mg_jobs.proofs.Orders.{none_missing}
 use Rattle.mg_jobs.specs.Plan.{tasks}
 use Rattle.mg_jobs.proofs.Knowing.{knowing_first, played_so}
 use Rattle.mg_jobs.proofs.Advancing.{rows_so}
+use Rattle.mg_jobs.proofs.Told.{caused_so, tell_as, tell_first}
 use Rattle.mg_jobs.proofs.run.run_jobs.Goals as goal
 
 pub play-requires-clause-jobs : goal.play-requires-clause-jobs
@@ -19,3 +20,10 @@ returns-clause-followed g c = played_so _ (tasks c.args.jobs.now) _ _ c.into_pla
 
 pub returns-clause-rows : goal.returns-clause-rows
 returns-clause-rows g c = rows_so (tasks c.args.jobs.now) c.args.order.now c.play.new.runner.players.items c.play.new.runner.turns.items c.into_played.result c.into_played.ensures.outcomes c.into_played.ensures.shows c.into_played.ensures.turns (c.play.ensures.tasks _ c.in_ok-runner.ensures.tasks) (c.in_ok-play.ensures.rows _ c.in_ok-runner.ensures.at)
+
+pub returns-clause-caused : goal.returns-clause-caused
+returns-clause-caused g c =
+    caused_so _ _ _ _ (tasks c.args.jobs.now) c.args.order.now c.play.new.runner.turns.items c.play.new.runner.players.items c.into_played.result c.into_played.ensures.outcomes c.into_played.ensures.each c.into_played.ensures.turns
+    (tell_as _ _ _ _ _ (tasks c.args.jobs.now) c.args.order.now c.play.new.runner.turns.items c.play.new.runner.players.items (sym c.play.ensures.later.wire)
+    (c.in_ok-play.ensures.told (g.L.Link.log c.args.link.now) (tasks c.args.jobs.now) c.in_ok-runner.ensures.at (tell_first _ _ _ (tasks c.args.jobs.now) c.in_ok-runner.runner.players.items c.in_ok-runner.ensures.first)))
+    (c.in_ok-play.ensures.rows _ c.in_ok-runner.ensures.at) (c.play.ensures.tasks _ c.in_ok-runner.ensures.tasks)

@@ -4,6 +4,7 @@ use Rattle.mg_link.proofs.Onward.{tickets_same}
 use Rattle.mg_jobs.proofs.Knowing.{turned_not, turned_ready}
 use Rattle.mg_jobs.specs.Runs.{job_ticket}
 use Rattle.mg_jobs.proofs.Advancing.{over_turns}
+use Rattle.mg_jobs.proofs.Told.{ready_tells, same_tells, teller_same}
 use Rattle.mg_jobs.proofs.run.turn_of.Goals as goal
 
 pub returns-then-has_ended-clause-goes : goal.returns-then-has_ended-clause-goes
@@ -11,6 +12,7 @@ returns-then-has_ended-clause-goes g c = record {
   tickets = tickets_same _ _ c.requires.out;
   holds = c.requires.holds;
   turned = turned_not _ _ c.args.player.now c.args.player.now (λ calls o plays. plays);
+  told = same_tells _ _ _ c.args.player.now c.args.player.now (teller_same c.args.player.now);
   task = λ t does. does;
 }
 
@@ -19,6 +21,7 @@ returns-in_err-ready-clause-goes g c = record {
   tickets = subst (λ t. Tickets (g.L.Link.awaited c.args.link.now) (g.L.Link.awaited c.args.link.now) (job_ticket c.args.player.now) t) (sym c.ready.ensures.ticket) (tickets_same _ _ c.requires.out);
   holds = c.ready.ensures.holds _ c.requires.holds;
   turned = turned_not _ _ c.args.player.now c.ready.new.self (c.ready.ensures.knows _);
+  told = same_tells _ _ _ c.args.player.now c.ready.new.self c.ready.ensures.teller;
   task = c.ready.ensures.task;
 }
 
@@ -33,6 +36,7 @@ returns-clause-goes g c = record {
   tickets = subst (λ t. Tickets (g.L.Link.awaited c.args.link.now) (g.L.Link.awaited c.take_turn.new.link) t (job_ticket c.take_turn.new.player)) c.in_ok-ready.ensures.ticket c.take_turn.ensures.goes.tickets;
   holds = c.take_turn.ensures.goes.holds;
   turned = turned_ready _ _ _ _ c.args.player.now c.ready.new.self c.take_turn.new.player c.in_ok-ready.ensures.knows c.take_turn.ensures.goes.turned;
+  told = ready_tells _ _ _ _ _ c.args.player.now c.ready.new.self c.take_turn.new.player c.in_ok-ready.ensures.teller c.take_turn.ensures.goes.told;
   task = λ t does. c.take_turn.ensures.goes.task t (c.in_ok-ready.ensures.task t does);
 }
 

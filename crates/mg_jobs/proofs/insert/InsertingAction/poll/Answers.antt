@@ -1,7 +1,8 @@
-use Rattle.std.proofs.Common.{refl, sym, ◌∙◌}
+use Rattle.std.proofs.Common.{length, refl, sym, ◌∙◌, arith}
 use Rattle.mg_link.proofs.Onward.{later_on, later_same, tickets_on, tickets_same}
 use Rattle.mg_link.proofs.Plain.{plain_on, plain_stayed}
 use Rattle.mg_jobs.specs.Inserts.{held}
+use Rattle.mg_jobs.proofs.InsertCauses.{led_failed, led_finished, led_inserted, led_pending, led_stopped}
 use Rattle.mg_jobs.proofs.Plainly.{tickets_from}
 use Rattle.mg_jobs.proofs.Sendings.{leads_failed, leads_finished, leads_inserted, leads_pending, leads_stopped}
 use Rattle.mg_jobs.proofs.insert.InsertingAction.poll.Goals as goal
@@ -12,6 +13,7 @@ commands-init g c = record {
   plain = λ plain. (plain_stayed _ _ refl, plain);
   pended = refl;
   inserts = λ calls told at documents named has. (calls, told, has);
+  caused = λ calls told places at documents has. (calls, told, omega arith, has);
   later = later_same _ _ _ _;
 }
 
@@ -36,6 +38,7 @@ commands-preserved g c = record {
       (plain_on _ _ _ before.0 heard.0, tt);
   pended = c.in-Inserted.ensures.pended ∙ c.commands.invariant.pended;
   inserts = leads_inserted _ _ _ _ c.args.self _ _ _ c.commands.invariant.inserts _ _ c.in-Send.next c.in-Send.ensures.sends c.in-Inserted.ensures.sent;
+  caused = led_inserted _ _ _ _ _ c.args.self _ _ _ c.commands.invariant.caused _ _ _ c.commands.invariant.later.wire c.in-Send.next c.in-Send.ensures.caused c.in-Inserted.ensures.caused;
   later = later_on c.commands.invariant.later c.hear.ensures.later;
 }
 
@@ -59,3 +62,15 @@ returns-in-Pending-clause-inserts g c = leads_pending _ _ _ _ c.args.self _ _ _ 
 
 pub returns-in-Failed-clause-inserts : goal.returns-in-Failed-clause-inserts
 returns-in-Failed-clause-inserts g c = leads_failed _ _ _ _ c.args.self _ _ _ c.commands.invariant.inserts (g.L.Link.awaited c.hear.new.link) (g.L.Link.log c.hear.new.link) c.in-Send.next c.in-Send.ensures.sends c.in-Failed.error c.in-Failed.error c.in-Failed.ensures.sent
+
+pub returns-in-Finished-clause-caused : goal.returns-in-Finished-clause-caused
+returns-in-Finished-clause-caused g c = led_finished _ _ _ _ _ c.args.self c.commands.batches c.current.new.self c.commands.command c.commands.invariant.caused (length c.current.new.self.documents.now)
+
+pub returns-in-Stopped-clause-caused : goal.returns-in-Stopped-clause-caused
+returns-in-Stopped-clause-caused g c = led_stopped _ _ _ _ _ c.args.self c.commands.batches c.current.new.self c.commands.command c.commands.invariant.caused c.in-Stopped.error c.in-Stopped.ensures.caused
+
+pub returns-in-Pending-clause-caused : goal.returns-in-Pending-clause-caused
+returns-in-Pending-clause-caused g c = led_pending _ _ _ _ _ c.args.self _ _ _ c.commands.invariant.caused _ _ _ c.commands.invariant.later.wire c.in-Send.next c.in-Send.ensures.caused c.in-Pending.waiting c.in-Pending.ensures.caused
+
+pub returns-in-Failed-clause-caused : goal.returns-in-Failed-clause-caused
+returns-in-Failed-clause-caused g c = led_failed _ _ _ _ _ c.args.self _ _ _ c.commands.invariant.caused (g.L.Link.awaited c.hear.new.link) _ _ c.commands.invariant.later.wire c.in-Send.next c.in-Send.ensures.caused c.in-Failed.error c.in-Failed.ensures.caused

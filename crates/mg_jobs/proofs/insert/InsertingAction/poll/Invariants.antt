@@ -2,6 +2,7 @@ use Rattle.std.proofs.Common.{◌≡◌}
 use Rattle.mg_link.specs.Acts.{Tickets}
 use Rattle.mg_link.specs.Link.{Later}
 use Rattle.mg_link.proofs.Plain.{PassesPlain}
+use Rattle.mg_jobs.specs.InsertCauses.{LeadsCaused}
 use Rattle.mg_jobs.specs.Inserts.{HeldPlain, SendsPlain, held, insert_ticket, left_of}
 use Rattle.mg_jobs.specs.Underway.{LeadsOn}
 use Rattle.mg_jobs.proofs.insert.InsertingAction.poll.Given as goal
@@ -12,6 +13,7 @@ invariant-commands g l = record {
   plain : SendsPlain l.fn.self → PassesPlain (g.L.Link.log l.fn.link) (g.L.Link.log l.link) × HeldPlain l.command;
   pended : g.L.Link.pends l.link ≡ g.L.Link.pends l.fn.link;
   inserts : LeadsOn (g.L.Link.awaited l.fn.link) (g.L.Link.awaited l.link) (g.L.Link.log l.fn.link) (g.L.Link.log l.link) l.fn.self l.batches l.command;
+  caused : LeadsCaused (g.L.Link.awaited l.fn.link) (g.L.Link.awaited l.link) (g.L.Link.log l.fn.link) (g.L.Link.log l.link) (g.L.Link.wire l.fn.link) l.fn.self l.batches l.command;
   later : Later (g.L.Link.faults l.fn.link) (g.L.Link.faults l.link) (g.L.Link.pends l.fn.link) (g.L.Link.pends l.link) (g.L.Link.wire l.fn.link) (g.L.Link.wire l.link) (g.L.Link.prompt l.fn.link) (g.L.Link.prompt l.link);
 }
 

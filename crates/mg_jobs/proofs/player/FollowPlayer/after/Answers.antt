@@ -1,6 +1,9 @@
 use Rattle.mg_jobs.proofs.Turning.{took_ended}
 use Rattle.mg_jobs.proofs.Vainly.{vain_ended}
 use Rattle.mg_jobs.proofs.Advancing.{closing_goes, stays_ended}
+use Rattle.mg_jobs.proofs.Telling.{tells_same}
+use Rattle.mg_jobs.specs.Telling.{kept}
+use Rattle.mg_jobs.specs.declared.player.Stage.TheVariants as stage
 use Rattle.mg_jobs.proofs.player.FollowPlayer.after.Goals as goal
 
 pub returns-in-Ended-clause-turned : goal.returns-in-Ended-clause-turned
@@ -20,3 +23,18 @@ returns-in-Opens-clause-comes g c = rw c.in-Opens.is c.open.ensures.comes
 
 pub returns-in-Open-clause-comes : goal.returns-in-Open-clause-comes
 returns-in-Open-clause-comes g c = rw c.in-Open.is c.ask.ensures.comes
+
+pub returns-in-Unopened-clause-told : goal.returns-in-Unopened-clause-told
+returns-in-Unopened-clause-told g c = rw c.in-Unopened.is c.begin.ensures.told
+
+pub returns-in-Opens-clause-told : goal.returns-in-Opens-clause-told
+returns-in-Opens-clause-told g c = rw c.in-Opens.is c.open.ensures.told
+
+pub returns-in-Open-clause-told : goal.returns-in-Open-clause-told
+returns-in-Open-clause-told g c = rw c.in-Open.is c.ask.ensures.told
+
+pub returns-in-Closes-clause-told : goal.returns-in-Closes-clause-told
+returns-in-Closes-clause-told g c = rw c.in-Closes.is c.close.ensures.told
+
+pub returns-in-Ended-clause-told : goal.returns-in-Ended-clause-told
+returns-in-Ended-clause-told g c = rw c.in-Ended.is (tells_same _ _ _ stage.Ended (kept c.args.self.now))

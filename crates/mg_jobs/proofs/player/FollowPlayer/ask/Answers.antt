@@ -5,7 +5,9 @@ use Rattle.mg_jobs.specs.declared.player.Stage.TheVariants as stage
 use Rattle.mg_jobs.proofs.Turning.{call_answers, call_pends, rests_after, took_on}
 use Rattle.mg_jobs.proofs.Vainly.{vain_call, vain_on}
 use Rattle.mg_jobs.proofs.Advancing.{ask_goes, ask_waits}
+use Rattle.mg_jobs.proofs.Telling.{call_answers_tells, call_waits_tells}
 use Rattle.mg_jobs.specs.Progress.{came}
+use Rattle.mg_jobs.specs.Telling.{kept}
 use Rattle.mg_jobs.proofs.player.FollowPlayer.ask.Goals as goal
 
 pub returns-in-Some-clause-tickets : goal.returns-in-Some-clause-tickets
@@ -39,3 +41,11 @@ returns-in-Some-clause-comes g c = ask_goes _ _ _ c.args.stream (came c.args.sel
 
 pub returns-in-None-clause-comes : goal.returns-in-None-clause-comes
 returns-in-None-clause-comes g c = ask_waits _ _ c.args.stream c.poll_next_if_any.new.self _ c.poll_next_if_any.result c.in-None.ensures c.poll_next_if_any.ensures.pended
+
+pub returns-in-Some-clause-told : goal.returns-in-Some-clause-told
+returns-in-Some-clause-told g c =
+    call_answers_tells _ _ _ _ _ _ _ _ (kept c.args.self.now) (kept c.take.new.self) c.args.stream c.poll_next_if_any.new.self c.poll_next_if_any.result c.in-Some.answer _ _ c.go_on.ensures.told
+    c.take.ensures.watched c.take.ensures.opened c.take.ensures.answers c.take.ensures.alive c.poll_next_if_any.ensures.later.wire c.in-Some.ensures.2 c.poll_next_if_any.ensures.stays c.poll_next_if_any.ensures.caused
+
+pub returns-in-None-clause-told : goal.returns-in-None-clause-told
+returns-in-None-clause-told g c = call_waits_tells _ _ _ _ _ (kept c.args.self.now) c.args.stream c.poll_next_if_any.new.self c.poll_next_if_any.result c.in-None.ensures c.poll_next_if_any.ensures.stays c.poll_next_if_any.ensures.caused

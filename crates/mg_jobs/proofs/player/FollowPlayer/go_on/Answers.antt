@@ -3,6 +3,8 @@ use Rattle.mg_jobs.specs.declared.player.Stage.TheVariants as stage
 use Rattle.mg_jobs.proofs.Turning.{closes_at_rest, sound_without, to_close, took_on, took_same}
 use Rattle.mg_jobs.proofs.Vainly.{vain_on, vain_same, vain_to_close}
 use Rattle.mg_jobs.proofs.Advancing.{goes_to_close, stays_open}
+use Rattle.mg_jobs.proofs.Telling.{rest_closes_tells, rest_stays_tells}
+use Rattle.mg_jobs.specs.Telling.{kept}
 use Rattle.mg_jobs.proofs.player.FollowPlayer.go_on.Goals as goal
 
 pub returns-then-self-gt0-clause-turned : goal.returns-then-self-gt0-clause-turned
@@ -35,3 +37,11 @@ returns-then-self-gt0-clause-comes g c = stays_open _ c.args.stream _ (omega (ar
 
 pub returns-clause-comes : goal.returns-clause-comes
 returns-clause-comes g c = goes_to_close _ _ _ _ _ (omega (arith, c.if-self-gt0.false)) c.close.ensures.comes
+
+pub returns-then-self-gt0-clause-told : goal.returns-then-self-gt0-clause-told
+returns-then-self-gt0-clause-told g c = rest_stays_tells _ _ _ c.args.stream (kept c.args.self.now) c.requires.rests
+
+pub returns-clause-told : goal.returns-clause-told
+returns-clause-told g c =
+    rest_closes_tells _ _ _ _ _ c.args.stream c.take_token.new.self (kept c.args.self.now) c.take_token.result c.close-closing.result _ _ c.requires.rests c.take_token.ensures.rest c.take_token.ensures.token
+    c.close-closing.ensures.remains.0 c.close-closing.ensures.remains.1 c.close-closing.ensures.flight c.close.ensures.told

@@ -4,7 +4,9 @@ use Rattle.mg_jobs.specs.declared.player.Stage.TheVariants as stage
 use Rattle.mg_jobs.proofs.Turning.{open_done, open_failed, open_pends, rest_out, tickets_rest, took_on}
 use Rattle.mg_jobs.proofs.Vainly.{vain_on, vain_open_done, vain_open_failed, vain_open_pends}
 use Rattle.mg_jobs.proofs.Advancing.{never_open, open_goes, open_waits}
+use Rattle.mg_jobs.proofs.Telling.{open_done_tells, open_fails_tells, open_waits_tells}
 use Rattle.mg_jobs.specs.Progress.{came}
+use Rattle.mg_jobs.specs.Telling.{kept}
 use Rattle.mg_jobs.specs.Follows.{HasGiven, IsFailed}
 use Rattle.mg_jobs.proofs.player.FollowPlayer.open.Goals as goal
 
@@ -53,3 +55,14 @@ returns-in-Done-clause-comes g c = open_goes _ _ _ c.args.opening (came c.args.s
 
 pub returns-in-Failed-clause-comes : goal.returns-in-Failed-clause-comes
 returns-in-Failed-clause-comes g c = never_open _ _ _ _ c.in-Failed.ensures.pended (subst (λ o. IsFailed o) (sym c.note-in-Failed.ensures) tt) refl refl
+
+pub returns-in-Pending-clause-told : goal.returns-in-Pending-clause-told
+returns-in-Pending-clause-told g c = open_waits_tells _ _ _ _ _ (kept c.args.self.now) c.args.opening c.in-Pending.opening c.in-Pending.ensures.keeps.1 c.in-Pending.ensures.keeps.0 c.in-Pending.ensures.stays c.in-Pending.ensures.caused
+
+pub returns-in-Done-clause-told : goal.returns-in-Done-clause-told
+returns-in-Done-clause-told g c =
+    open_done_tells _ (g.L.Link.awaited c.poll.new.link) _ _ _ _ _ _ (kept c.args.self.now) (record (kept c.args.self.now) { opened = c.note.new.slot; alive = c.is_alive-self.result }) c.args.opening c.in-Done.stream _ _ c.go_on.ensures.told refl (subst (λ o. HasGiven o) (sym c.note.ensures) tt) refl c.is_alive-self.ensures c.in-Done.ensures.later.wire
+    c.in-Done.ensures.stays c.in-Done.ensures.caused
+
+pub returns-in-Failed-clause-told : goal.returns-in-Failed-clause-told
+returns-in-Failed-clause-told g c = open_fails_tells _ _ _ _ _ (kept c.args.self.now) _ c.args.opening c.in-Failed.error refl c.note-in-Failed.ensures c.in-Failed.ensures.stays c.in-Failed.ensures.caused

@@ -1,6 +1,7 @@
 use Rattle.mg_jobs.proofs.Apart.{follow_same}
 use Rattle.mg_jobs.proofs.Knowing.{same_insert, same_knows, same_watch}
 use Rattle.mg_jobs.proofs.Advancing.{same_came}
+use Rattle.mg_jobs.proofs.Told.{follow_teller}
 use Rattle.mg_jobs.proofs.run.Player.ready.Goals as goal
 
 pub returns-in-Insert-clause-knows : goal.returns-in-Insert-clause-knows
@@ -23,3 +24,15 @@ returns-in-Insert-clause-at g c = rw c.in-Insert.is (λ calls k last at. c.ready
 
 pub returns-in-Follow-clause-at : goal.returns-in-Follow-clause-at
 returns-in-Follow-clause-at g c = rw c.in-Follow.is (same_came _ _ c.ready-in-Follow.ensures.same)
+
+pub returns-in-Insert-clause-teller : goal.returns-in-Insert-clause-teller
+returns-in-Insert-clause-teller g c = rw c.in-Insert.is tt
+
+pub returns-in-Follow-clause-teller : goal.returns-in-Follow-clause-teller
+returns-in-Follow-clause-teller g c = rw c.in-Follow.is (follow_teller _ _ c.ready-in-Follow.ensures.same)
+
+pub returns-in-Put-clause-teller : goal.returns-in-Put-clause-teller
+returns-in-Put-clause-teller g c = rw c.in-Put.is tt
+
+pub returns-in-Get-clause-teller : goal.returns-in-Get-clause-teller
+returns-in-Get-clause-teller g c = rw c.in-Get.is tt

@@ -1,0 +1,593 @@
+-- What a follow tells goes on to hold, turn by turn.
+use Rattle.std.proofs.Common.{◌≡◌, ◌⊎◌, ◌+◌, ◌-◌, ◌≤◌, ◌<◌, ℕ, zero, suc, ℤ, pos, Bool, true, false, List, [], ◌∷◌, ◌++◌, length, Option, Some, None, refl, sym, ap, ◌∙◌, subst, inl, inr, arith, length-append}
+use Rattle.std.specs.Prelude.{◌≢◌, ◌↔◌, IsTrue, slice_get}
+use Rattle.mg_bson.specs.Tree.{Tree}
+use Rattle.mg_link.specs.Exec.{Sending}
+use Rattle.mg_link.specs.Link.{Awaited, Told}
+use Rattle.mg_link.specs.Log.{Call}
+use Rattle.mg_link.specs.Owner.{IsOf}
+use Rattle.mg_link.specs.declared.action.Step.{Step}
+use Rattle.mg_link.specs.declared.action.Step.TheVariants as step
+use Rattle.mg_link.specs.declared.error.Error.{Error}
+use Rattle.mg_link.specs.declared.error.ErrorKind.TheVariants as kind
+use Rattle.mg_link.proofs.Places.{get_within}
+use Rattle.mg_ops.specs.declared.change_stream.WatchArgs.{WatchArgs}
+use Rattle.mg_ops.specs.declared.cursor_reply.CursorInformation.{CursorInformation}
+use Rattle.mg_change.specs.Calls.{Grows, Keeps, Past, Stays, past_of}
+use Rattle.mg_change.specs.Causes.{CallCame, CallCaused, Called, SoFar, Standing, first_in, owes_in, standing_of}
+use Rattle.mg_change.specs.ClosingCauses.{ClosingCaused, KillCame, KillCaused, KillDone, KillFails, KillsSoFar}
+use Rattle.mg_change.specs.Closings.{flight_in}
+use Rattle.mg_change.specs.Following.{token_of}
+use Rattle.mg_change.specs.OpeningCauses.{OpeningCaused, OpeningFails, OpensSoFar}
+use Rattle.mg_change.specs.Openings.{IsOpening}
+use Rattle.mg_change.specs.Phases.{AtRest, IsResuming, without_token}
+use Rattle.mg_change.specs.declared.closing.Closing.{Closing}
+use Rattle.mg_change.specs.declared.closing.Flight.{Flight}
+use Rattle.mg_change.specs.declared.closing.Flight.TheVariants as flight
+use Rattle.mg_change.specs.declared.closing.Remains.{Remains}
+use Rattle.mg_change.specs.declared.event_poll.EventPoll.{EventPoll}
+use Rattle.mg_change.specs.declared.event_poll.EventPoll.TheVariants as polls
+use Rattle.mg_change.specs.declared.opening.Opening.{Opening}
+use Rattle.mg_change.specs.declared.stream.ChangeStream.{ChangeStream}
+use Rattle.mg_change.specs.declared.stream.Phase.{Phase}
+use Rattle.mg_change.specs.declared.stream.Phase.TheVariants as phase
+use Rattle.mg_change.proofs.Growing.{called_grows, so_far_grows}
+use Rattle.mg_change.proofs.Calls.{same_keeps}
+use Rattle.mg_change.proofs.Causes.{begins}
+use Rattle.mg_change.proofs.ClosingCauses.{kill_done_grows, kill_fails_grows, kills_grows}
+use Rattle.mg_change.proofs.OpeningCauses.{opened_grows, opening_fails_grows, opens_grows}
+use Rattle.mg_jobs.specs.Causes.{Answered, ClosedBy, IsAlive, OwesAlone, sent_at}
+use Rattle.mg_jobs.specs.Follows.{HasGiven, poll_of}
+use Rattle.mg_jobs.specs.Playing.{stage_ticket}
+use Rattle.mg_jobs.specs.Telling.{Extends, FollowTells, IsNow, IsOpened, IsWatchArgs, Kept, Places, RestTells, Tell, Tells, TellsEnd, TellsFailed, TellsOpen, number}
+use Rattle.mg_jobs.specs.declared.outcome.Answer.{Answer}
+use Rattle.mg_jobs.specs.declared.outcome.Answer.TheVariants as answers
+use Rattle.mg_jobs.specs.declared.outcome.Ended.{Ended}
+use Rattle.mg_jobs.specs.declared.outcome.Ended.TheVariants as ended
+use Rattle.mg_jobs.specs.declared.player.Stage.{Stage}
+use Rattle.mg_jobs.specs.declared.player.Stage.TheVariants as stage
+use Rattle.mg_jobs.specs.declared.player.Watched.{Watched}
+
+-- ---- places
+
+-- so many places, from one on
+abbrev pub places_from : ℕ → ℕ → List ℕ
+places_from at zero = []
+places_from at (suc n) = at ∷ places_from (suc at) n
+
+-- places, and those from one on, up to another
+abbrev pub sent_since : List ℕ → ℕ → ℕ → List ℕ
+sent_since places from upto = places ++ places_from from (upto - from)
+
+is_from : (at n place : ℕ) → IsOf (places_from at n) place → (at ≤ place) × (place < at + n)
+is_from at zero place of = absurd of
+is_from at (suc n) place (inl e) = (omega (arith, e), omega (arith, e))
+is_from at (suc n) place (inr of) = let r = is_from (suc at) n place of in let low = r.0 in let high = r.1 in (omega (arith, low), omega (arith, high))
+
+at_or_behind : (a b : ℕ) → a ≤ b → (a ≡ b) ⊎ (suc a ≤ b)
+at_or_behind zero zero h = inl refl
+at_or_behind zero (suc b) h = inr (omega arith)
+at_or_behind (suc a) zero h = absurd (omega arith)
+at_or_behind (suc a) (suc b) h = elim (at_or_behind a b (omega arith)) [ inl e ↦ inl (ap suc e) | inr behind ↦ inr (omega (arith, behind)) ]
+
+from_is : (at n place : ℕ) → at ≤ place → place < at + n → IsOf (places_from at n) place
+from_is at zero place low high = absurd (omega arith)
+from_is at (suc n) place low high = elim (at_or_behind at place low) [ inl e ↦ inl e | inr behind ↦ inr (from_is (suc at) n place behind (omega arith)) ]
+
+in_first : {A : Type 0} (xs ys : List A) (x : A) → IsOf xs x → IsOf (xs ++ ys) x
+in_first [] ys x of = absurd of
+in_first (y ∷ xs) ys x (inl e) = inl e
+in_first (y ∷ xs) ys x (inr of) = inr (in_first xs ys x of)
+
+in_second : {A : Type 0} (xs ys : List A) (x : A) → IsOf ys x → IsOf (xs ++ ys) x
+in_second [] ys x of = of
+in_second (y ∷ xs) ys x of = inr (in_second xs ys x of)
+
+in_either : {A : Type 0} (xs ys : List A) (x : A) → IsOf (xs ++ ys) x → IsOf xs x ⊎ IsOf ys x
+in_either [] ys x of = inr of
+in_either (y ∷ xs) ys x (inl e) = inl (inl e)
+in_either (y ∷ xs) ys x (inr of) = elim (in_either xs ys x of) [ inl a ↦ inl (inr a) | inr b ↦ inr b ]
+
+since_is : (places : List ℕ) (from upto place : ℕ) → from ≤ upto → IsOf (sent_since places from upto) place → IsOf places place ⊎ ((from ≤ place) × (place < upto))
+since_is places from upto place room of =
+    elim (in_either places (places_from from (upto - from)) place of) [
+      | inl before ↦ inl before
+      | inr now ↦ let r = is_from from (upto - from) place now in let low = r.0 in let high = r.1 in inr (low, omega (arith, high, room))
+    ]
+
+is_since : (places : List ℕ) (from upto place : ℕ) → from ≤ place → place < upto → IsOf (sent_since places from upto) place
+is_since places from upto place low high = in_second places (places_from from (upto - from)) place (from_is from (upto - from) place low (omega arith))
+
+-- ---- logs
+
+tail_keeps : (c d : Call) (calls calls' : List Call) → Keeps (c ∷ calls) (d ∷ calls') → Keeps calls calls'
+tail_keeps c d calls calls' keeps place call there = keeps (suc place) call there
+
+pub keeps_longer : (calls calls' : List Call) → Keeps calls calls' → length calls ≤ length calls'
+keeps_longer [] calls' keeps = omega arith
+keeps_longer (c ∷ calls) [] keeps = let first = keeps zero c refl in absurd (let bad : None ≡ Some first.0 = first.1 in cc)
+keeps_longer (c ∷ calls) (d ∷ calls') keeps = let more = keeps_longer calls calls' (tail_keeps c d calls calls' keeps) in omega (arith, more)
+
+-- what was sent at these places is told so by a later log
+grows_later : (places : List ℕ) (calls calls' : List Call) (wire : ℤ) → Keeps calls calls' → Grows (sent_at places calls wire) (sent_at places calls' wire)
+grows_later places calls calls' wire keeps =
+    record {
+      own = λ place call there own. elim own [ inl of ↦ inl of | inr beyond ↦ absurd (let within = get_within calls place call there in omega (arith, beyond, within)) ];
+      keeps = keeps;
+      wire = refl;
+    }
+
+-- what a poll sent is told by the places from which on it sent
+grows_ended : (places : List ℕ) (since : ℕ) (calls : List Call) (wire : ℤ) → Grows (past_of places since calls wire) (sent_at (sent_since places since (length calls)) calls wire)
+grows_ended places since calls wire =
+    record {
+      own = λ place call there own. elim own [
+        | inl of ↦ inl (in_first places (places_from since (length calls - since)) place of)
+        | inr low ↦ inl (is_since places since (length calls) place low (get_within calls place call there))
+      ];
+      keeps = same_keeps calls;
+      wire = refl;
+    }
+
+-- ---- answered calls
+
+pub answered_later : (calls calls' : List Call) (wire : ℤ) → Keeps calls calls' → (owns : List (List ℕ)) (said : List Answer) (first last : Standing) → Answered calls wire first owns said last → Answered calls' wire first owns said last
+answered_later calls calls' wire keeps [] [] first last a = a
+answered_later calls calls' wire keeps (places ∷ owns) (answer ∷ said) first last a =
+    (a.0, called_grows (sent_at places calls wire) (sent_at places calls' wire) first a.0 (poll_of answer) (grows_later places calls calls' wire keeps) a.1, a.2, answered_later calls calls' wire keeps owns said a.0 last a.3)
+answered_later calls calls' wire keeps [] (answer ∷ said) first last a = absurd a
+answered_later calls calls' wire keeps (places ∷ owns) [] first last a = absurd a
+
+answered_more : (calls : List Call) (wire : ℤ) (owns : List (List ℕ)) (said : List Answer) (first mid last : Standing) (places : List ℕ) (answer : Answer) → Answered calls wire first owns said mid → Called (sent_at places calls wire) mid last (poll_of answer) → OwesAlone last → Answered calls wire first (owns ++ places ∷ []) (said ++ answer ∷ []) last
+answered_more calls wire [] [] first mid last places answer a called alone = (last, subst (λ (x : Standing). Called (sent_at places calls wire) x last (poll_of answer)) a called, alone, refl)
+answered_more calls wire (own ∷ owns) (other ∷ said) first mid last places answer a called alone = (a.0, a.1, a.2, answered_more calls wire owns said a.0 mid last places answer a.3 called alone)
+answered_more calls wire [] (other ∷ said) first mid last places answer a called alone = absurd a
+answered_more calls wire (own ∷ owns) [] first mid last places answer a called alone = absurd a
+
+answered_count : (calls : List Call) (wire : ℤ) (owns : List (List ℕ)) (said : List Answer) (first last : Standing) → Answered calls wire first owns said last → length owns ≡ length said
+answered_count calls wire [] [] first last a = refl
+answered_count calls wire (own ∷ owns) (answer ∷ said) first last a = ap suc (answered_count calls wire owns said a.0 last a.3)
+answered_count calls wire [] (answer ∷ said) first last a = absurd a
+answered_count calls wire (own ∷ owns) [] first last a = absurd a
+
+-- ---- what others do
+
+open_later : (calls calls' : List Call) (wire : ℤ) (opened : List ℕ) (owns : List (List ℕ)) (v : Watched) (o : Ended (Unit {0})) (said : List Answer) (alive : Bool) (last : Standing) → Keeps calls calls' → TellsOpen calls wire opened owns v o said alive last → TellsOpen calls' wire opened owns v o said alive last
+open_later calls calls' wire opened owns v o said alive last keeps t =
+    record {
+      given = t.given;
+      args = t.args;
+      args_are = t.args_are;
+      first = t.first;
+      opened = opened_grows (sent_at opened calls wire) (sent_at opened calls' wire) t.args t.first (grows_later opened calls calls' wire keeps) t.opened;
+      answered = answered_later calls calls' wire keeps owns said t.first last t.answered;
+      alive_is = t.alive_is;
+    }
+
+closed_by_later : {A : Type 0} (past past' : Past) (last : Standing) (closed : Ended A) → Grows past past' → ClosedBy past last closed → ClosedBy past' last closed
+closed_by_later past past' last ended.Unfinished grows c = tt
+closed_by_later past past' last (ended.Gave x) grows c = kill_done_grows past past' grows last.cursor (pos 0) c
+closed_by_later past past' last (ended.Failed e) grows c = kill_fails_grows past past' grows last.cursor (pos 0) e c
+
+end_later : {A : Type 0} (calls calls' : List Call) (wire : ℤ) (q : Places) (k : Kept) (o : Ended A) → Keeps calls calls' → TellsEnd calls wire q k o → TellsEnd calls' wire q k o
+end_later calls calls' wire q k ended.Unfinished keeps t = tt
+end_later calls calls' wire q k (ended.Gave x) keeps t =
+    (t.0, open_later calls calls' wire q.opened q.owns k.watched k.opened k.said k.alive t.0 keeps t.1, t.2, closed_by_later (sent_at q.now calls wire) (sent_at q.now calls' wire) t.0 k.closed (grows_later q.now calls calls' wire keeps) t.3)
+end_later calls calls' wire q k (ended.Failed e) keeps (inl room) = inl room
+end_later calls calls' wire q k (ended.Failed e) keeps (inr t) =
+    inr (record { args = t.args; args_are = t.args_are; fails = opening_fails_grows (sent_at q.opened calls wire) (sent_at q.opened calls' wire) t.args e (grows_later q.opened calls calls' wire keeps) t.fails })
+
+-- Where its own ticket goes with the same call, a follow tells in a later log what it told.
+pub tells_later : (old new : Awaited) (calls calls' : List Call) (wire : ℤ) (q : Places) (s : Stage) (k : Kept) → Keeps calls calls' → ((m : ℕ) → stage_ticket s ≡ Some m → new m ≡ old m) → Tells old calls wire q s k → Tells new calls' wire q s k
+tells_later old new calls calls' wire q stage.Unopened k keeps same t = t
+tells_later old new calls calls' wire q (stage.Opens opening) k keeps same t =
+    (t.0, t.1, t.2, opens_grows old new (sent_at q.now calls wire) (sent_at q.now calls' wire) opening.aggregate.args opening.exec (grows_later q.now calls calls' wire keeps) same t.3)
+tells_later old new calls calls' wire q (stage.Open stream) k keeps same t = (
+  t.0,
+  open_later calls calls' wire q.opened q.owns k.watched k.opened k.said k.alive t.0 keeps t.1,
+  so_far_grows old new (sent_at q.now calls wire) (sent_at q.now calls' wire) t.0 false stream.phase stream (grows_later q.now calls calls' wire keeps) same t.2,
+)
+tells_later old new calls calls' wire q (stage.Closes closing) k keeps same t = (
+  t.0,
+  open_later calls calls' wire q.opened q.owns k.watched k.opened k.said k.alive t.0 keeps t.1,
+  t.2,
+  t.3,
+  t.4,
+  kills_grows (sent_at q.now calls wire) (sent_at q.now calls' wire) (grows_later q.now calls calls' wire keeps) t.0.cursor (pos 0) old new closing.flight same t.5,
+)
+tells_later old new calls calls' wire q stage.Ended k keeps same t = end_later calls calls' wire q k k.opened keeps t
+
+-- ---- parts of turns
+
+now_on : (q q' : Places) (from mid upto place : ℕ) → from ≤ mid → mid ≤ upto → ((p : ℕ) → IsOf q'.now p → IsNow q from mid p) → IsNow q' mid upto place → IsNow q from upto place
+now_on q q' from mid upto place room room' first now =
+    elim now [
+      | inl of ↦ elim (first place of) [ inl before ↦ inl before | inr range ↦ let low = range.0 in let high = range.1 in inr (low, omega (arith, high, room')) ]
+      | inr range ↦ let low = range.0 in let high = range.1 in inr (omega (arith, low, room), high)
+    ]
+
+now_wider : (q : Places) (from mid upto place : ℕ) → mid ≤ upto → IsNow q from mid place → IsNow q from upto place
+now_wider q from mid upto place room now = elim now [ inl of ↦ inl of | inr range ↦ let low = range.0 in let high = range.1 in inr (low, omega (arith, high, room)) ]
+
+extends_on : (q q' q'' : Places) (n n'' from mid upto : ℕ) → from ≤ mid → mid ≤ upto → Extends q q' n n from mid → Extends q' q'' n n'' mid upto → Extends q q'' n n'' from upto
+extends_on q q' q'' n n'' from mid upto room room' a b =
+    let first : (p : ℕ) → IsOf q'.now p → IsNow q from mid p = λ p of. (a.now p of).1 in
+    record {
+      opened = λ place of. elim (b.opened place of) [
+        | inl before ↦ elim (a.opened place before) [ inl sooner ↦ inl sooner | inr now ↦ inr (now.0, now_wider q from mid upto place room' now.1) ]
+        | inr now ↦ inr (now.0, now_on q q' from mid upto place room room' first now.1)
+      ];
+      owns = λ k own there. elim (b.owns k own there) [
+        | inl before ↦ elim (a.owns k own before) [ inl sooner ↦ inl sooner | inr now ↦ inr (now.0, λ place of. now_wider q from mid upto place room' (now.1 place of)) ]
+        | inr now ↦ inr (now.0, λ place of. now_on q q' from mid upto place room room' first (now.1 place of))
+      ];
+      now = λ place of. let r = b.now place of in (r.0, now_on q q' from mid upto place room room' first r.1);
+    }
+
+-- the rest of a turn behind a part of it
+tell_on : (new : Awaited) (calls : List Call) (wire : ℤ) (q q' : Places) (n from mid : ℕ) (s : Stage) (k : Kept) → from ≤ mid → Extends q q' n n from mid → Tell new calls wire q' n mid s k → Tell new calls wire q n from s k
+tell_on new calls wire q q' n from mid s k room extends t =
+    record {
+      longer = let more = t.longer in omega (arith, more, room);
+      places = t.places;
+      tells = t.tells;
+      extends = extends_on q q' t.places n (number s k) from mid (length calls) room t.longer extends t.extends;
+    }
+
+-- nothing was sent, and what goes on does so
+extends_same : (q : Places) (n from : ℕ) → Extends q q n n from from
+extends_same q n from = record { opened = λ place of. inl of; owns = λ k own there. inl there; now = λ place of. (refl, inl of) }
+
+-- nothing goes on
+extends_rest : (q : Places) (n n' from : ℕ) → q.now ≡ [] → Extends q q n n' from from
+extends_rest q n n' from none = record { opened = λ place of. inl of; owns = λ k own there. inl there; now = λ place of. absurd (subst (λ (l : List ℕ). IsOf l place) none of) }
+
+-- what goes on sent more
+abbrev pub going_on : Places → ℕ → ℕ → Places
+going_on q from upto = record q { now = sent_since q.now from upto }
+
+extends_going : (q : Places) (n n' from upto : ℕ) → n' ≡ n → from ≤ upto → Extends q (going_on q from upto) n n' from upto
+extends_going q n n' from upto same room = record { opened = λ place of. inl of; owns = λ k own there. inl there; now = λ place of. (same, since_is q.now from upto place room of) }
+
+-- the opening has ended
+abbrev pub opened_by : Places → ℕ → ℕ → Places
+opened_by q from upto = record { opened = sent_since q.now from upto; owns = []; now = [] }
+
+extends_opened : (q : Places) (n n' from upto : ℕ) → n ≡ 0 → from ≤ upto → Extends q (opened_by q from upto) n n' from upto
+extends_opened q n n' from upto first room = record { opened = λ place of. inr (first, since_is q.now from upto place room of); owns = λ k own there. absurd cc; now = λ place of. absurd of }
+
+-- a call has ended
+abbrev pub answered_by : Places → ℕ → ℕ → Places
+answered_by q from upto = record { opened = q.opened; owns = q.owns ++ sent_since q.now from upto ∷ []; now = [] }
+
+get_last : {A : Type 0} (xs : List A) (y : A) (i : ℕ) (x : A) → slice_get (xs ++ y ∷ []) i ≡ Some x → (slice_get xs i ≡ Some x) ⊎ ((i ≡ length xs) × (y ≡ x))
+get_last [] y zero x h = inr (refl, cc)
+get_last [] y (suc i) x h = absurd cc
+get_last (z ∷ xs) y zero x h = inl h
+get_last (z ∷ xs) y (suc i) x h = elim (get_last xs y i x h) [ inl before ↦ inl before | inr last ↦ inr (ap suc last.0, last.1) ]
+
+extends_answered : (q : Places) (n n' from upto : ℕ) → n ≡ suc (length q.owns) → from ≤ upto → Extends q (answered_by q from upto) n n' from upto
+extends_answered q n n' from upto count room =
+    record {
+      opened = λ place of. inl of;
+      owns = λ k own there. elim (get_last q.owns (sent_since q.now from upto) k own there) [
+        | inl before ↦ inl before
+        | inr last ↦ inr (ap suc last.0 ∙ sym count, λ place of. since_is q.now from upto place room (subst (λ (l : List ℕ). IsOf l place) (sym last.1) of))
+      ];
+      now = λ place of. absurd of;
+    }
+
+-- ---- the arms of a turn
+
+same_told : (log : Told) (calls calls' : List Call) → log ≡ Some calls → log ≡ Some calls' → calls ≡ calls'
+same_told log calls calls' told told' = let e : Some calls ≡ Some calls' = sym told ∙ told' in cc
+
+keeps_to : (log log' : Told) (calls calls' : List Call) → log ≡ Some calls → log' ≡ Some calls' → Stays log log' → Keeps calls calls'
+keeps_to log log' calls calls' told told' stays = let s = stays calls told in subst (λ (c : List Call). Keeps calls c) (same_told log' s.0 calls' s.1 told') s.2
+
+-- nothing was sent
+tell_same : (awaited : Awaited) (log : Told) (wire : ℤ) (calls calls' : List Call) → log ≡ Some calls → log ≡ Some calls' → (q : Places) (n : ℕ) (s : Stage) (k : Kept) → Tells awaited calls wire q s k → Extends q q n (number s k) (length calls) (length calls) → Tell awaited calls' wire q n (length calls) s k
+tell_same awaited log wire calls calls' told told' q n s k t extends =
+    subst (λ (c : List Call). Tell awaited c wire q n (length calls) s k) (same_told log calls calls' told told') (record { longer = omega arith; places = q; tells = t; extends = extends })
+
+pub tells_same : (awaited : Awaited) (log : Told) (wire : ℤ) (s : Stage) (k : Kept) → FollowTells awaited awaited log log wire s k s k
+tells_same awaited log wire s k calls calls' told told' q t = tell_same awaited log wire calls calls' told told' q (number s k) s k t (extends_same q (number s k) (length calls))
+
+-- the same stage by another name
+pub tells_at : (old new : Awaited) (log log' : Told) (wire : ℤ) (s s0 : Stage) (k : Kept) (s' s1 : Stage) (k' : Kept) → s ≡ s0 → s1 ≡ s' → FollowTells old new log log' wire s k s' k' → FollowTells old new log log' wire s0 k s1 k'
+tells_at old new log log' wire s s0 k s' s1 k' from to told = subst (λ (x : Stage). FollowTells old new log log' wire s0 k x k') (sym to) (subst (λ (x : Stage). FollowTells old new log log' wire x k s' k') from told)
+
+-- the same wire version by another name
+pub tells_over : (old new : Awaited) (log log' : Told) (wire wire' : ℤ) (s : Stage) (k : Kept) (s' : Stage) (k' : Kept) → wire' ≡ wire → FollowTells old new log log' wire s k s' k' → FollowTells old new log log' wire' s k s' k'
+tells_over old new log log' wire wire' s k s' k' same told = subst (λ (w : ℤ). FollowTells old new log log' w s k s' k') (sym same) told
+
+-- The opening begins.
+pub begin_tells : (old new : Awaited) (log log' : Told) (wire : ℤ) (k : Kept) (opening : Opening) (s' : Stage) (k' : Kept) → IsWatchArgs k.watched opening.aggregate.args → IsOpening opening.aggregate opening.exec → opening.exec ≡ None
+    → FollowTells old new log log' wire (stage.Opens opening) k s' k' → FollowTells old new log log' wire stage.Unopened k s' k'
+begin_tells old new log log' wire k opening s' k' args opens unsent rest calls calls' told told' q t =
+    rest calls calls' told told' q (t.0, args, opens, subst (λ (x : Option Sending). OpensSoFar old (sent_at q.now calls wire) opening.aggregate.args x) (sym unsent) tt)
+
+-- Memory ran out before it.
+pub begin_fails : (awaited : Awaited) (log : Told) (wire : ℤ) (k k' : Kept) (e : Error) → k'.opened ≡ ended.Failed e → e.kind ≡ kind.OutOfMemory → FollowTells awaited awaited log log wire stage.Unopened k stage.Ended k'
+begin_fails awaited log wire k k' e failed room calls calls' told told' q t =
+    tell_same awaited log wire calls calls' told told' q 0 stage.Ended k' (subst (λ (o : Ended (Unit {0})). TellsEnd calls wire q k' o) (sym failed) (inl room)) (extends_rest q 0 (length k'.said) (length calls) t.1)
+
+-- The reply to the opening pends.
+pub open_waits_tells : (old new : Awaited) (log log' : Told) (wire : ℤ) (k : Kept) (opening opening' : Opening) → opening'.aggregate.args ≡ opening.aggregate.args → (IsOpening opening.aggregate opening.exec → IsOpening opening'.aggregate opening'.exec)
+    → Stays log log' → (IsOpening opening.aggregate opening.exec → OpeningCaused old new log log' wire opening.aggregate.args opening.exec (step.Pending opening'))
+    → FollowTells old new log log' wire (stage.Opens opening) k (stage.Opens opening') k
+open_waits_tells old new log log' wire k opening opening' args opens stays caused calls calls' told told' q t =
+    let args_of = opening.aggregate.args in
+    let keeps = keeps_to log log' calls calls' told told' stays in
+    let room = keeps_longer calls calls' keeps in
+    let r = caused t.2 calls told q.now t.3 in
+    let came : OpensSoFar new (past_of q.now (length calls) calls' wire) args_of opening'.exec = subst (λ (c : List Call). OpensSoFar new (past_of q.now (length calls) c wire) args_of opening'.exec) (same_told log' r.0 calls' r.1 told') r.2 in
+    let later = sent_at (sent_since q.now (length calls) (length calls')) calls' wire in
+    record {
+      longer = room;
+      places = going_on q (length calls) (length calls');
+      tells = (
+        t.0,
+        subst (λ (a : WatchArgs). IsWatchArgs k.watched a) (sym args) t.1,
+        opens t.2,
+        subst (λ (a : WatchArgs). OpensSoFar new later a opening'.exec) (sym args)
+            (opens_grows new new (past_of q.now (length calls) calls' wire) later args_of opening'.exec (grows_ended q.now (length calls) calls' wire) (λ m e. refl) came),
+      );
+      extends = extends_going q 0 0 (length calls) (length calls') refl room;
+    }
+
+-- It failed.
+pub open_fails_tells : (old new : Awaited) (log log' : Told) (wire : ℤ) (k k' : Kept) (opening : Opening) (e : Error) → k'.watched ≡ k.watched → k'.opened ≡ ended.Failed e
+    → Stays log log' → (IsOpening opening.aggregate opening.exec → OpeningCaused old new log log' wire opening.aggregate.args opening.exec (step.Failed e))
+    → FollowTells old new log log' wire (stage.Opens opening) k stage.Ended k'
+open_fails_tells old new log log' wire k k' opening e watched failed stays caused calls calls' told told' q t =
+    let args_of = opening.aggregate.args in
+    let keeps = keeps_to log log' calls calls' told told' stays in
+    let room = keeps_longer calls calls' keeps in
+    let r = caused t.2 calls told q.now t.3 in
+    let fails : OpeningFails (past_of q.now (length calls) calls' wire) args_of e = subst (λ (c : List Call). OpeningFails (past_of q.now (length calls) c wire) args_of e) (same_told log' r.0 calls' r.1 told') r.2 in
+    let q' = opened_by q (length calls) (length calls') in
+    let so : TellsFailed calls' wire q'.opened k'.watched e = record {
+      args = args_of;
+      args_are = subst (λ (v : Watched). IsWatchArgs v args_of) (sym watched) t.1;
+      fails = opening_fails_grows (past_of q.now (length calls) calls' wire) (sent_at q'.opened calls' wire) args_of e (grows_ended q.now (length calls) calls' wire) fails;
+    } in
+    record {
+      longer = room;
+      places = q';
+      tells = subst (λ (o : Ended (Unit {0})). TellsEnd calls' wire q' k' o) (sym failed) (inr so);
+      extends = extends_opened q 0 (length k'.said) (length calls) (length calls') refl room;
+    }
+
+resuming_owes : (p : Phase) → IsResuming p → owes_in p ≡ true
+resuming_owes phase.Taken is = absurd is
+resuming_owes phase.Rest is = absurd is
+resuming_owes (phase.First bytes) is = absurd is
+resuming_owes phase.Fresh is = absurd is
+resuming_owes (phase.Asking get_more exec) is = absurd is
+resuming_owes phase.Owing is = refl
+resuming_owes (phase.Resuming exec) is = refl
+resuming_owes (phase.Killing exec id bytes) is = absurd is
+resuming_owes (phase.Resumed bytes) is = absurd is
+
+owes_resuming : (p : Phase) → owes_in p ≡ true → IsResuming p
+owes_resuming phase.Taken is = absurd cc
+owes_resuming phase.Rest is = absurd cc
+owes_resuming (phase.First bytes) is = absurd cc
+owes_resuming phase.Fresh is = absurd cc
+owes_resuming (phase.Asking get_more exec) is = absurd cc
+owes_resuming phase.Owing is = tt
+owes_resuming (phase.Resuming exec) is = tt
+owes_resuming (phase.Killing exec id bytes) is = absurd cc
+owes_resuming (phase.Resumed bytes) is = absurd cc
+
+-- what owes has no reply to its opening in hand
+owes_alone : (p : Phase) → owes_in p ≡ true → first_in p ≡ None
+owes_alone phase.Taken owes = refl
+owes_alone phase.Rest owes = refl
+owes_alone (phase.First bytes) owes = absurd cc
+owes_alone phase.Fresh owes = refl
+owes_alone (phase.Asking get_more exec) owes = refl
+owes_alone phase.Owing owes = refl
+owes_alone (phase.Resuming exec) owes = refl
+owes_alone (phase.Killing exec old bytes) owes = refl
+owes_alone (phase.Resumed bytes) owes = refl
+
+-- what a stream says of itself, by how it stands
+abbrev pub SaysAlive : Bool → ChangeStream → Type 0
+SaysAlive alive s = IsTrue alive ↔ ((s.cursor.id ≢ pos 0) ⊎ IsResuming s.phase)
+
+alive_as : (alive : Bool) (s : ChangeStream) → SaysAlive alive s → IsTrue alive ↔ IsAlive (standing_of s)
+alive_as alive s says = (
+  λ is. elim (says.0 is) [ inl held ↦ inl held | inr resuming ↦ inr (resuming_owes s.phase resuming) ],
+  λ is. says.1 (elim is [ inl held ↦ inl held | inr owes ↦ inr (owes_resuming s.phase owes) ]),
+)
+
+-- The stream is open; the rest of the turn follows.
+pub open_done_tells : (old mid new : Awaited) (log log_mid log' : Told) (wire wire_mid : ℤ) (k k1 : Kept) (opening : Opening) (stream : ChangeStream) (s' : Stage) (k' : Kept) → RestTells new log_mid log' wire_mid stream k1 s' k' → k1.watched ≡ k.watched → HasGiven k1.opened → k1.said ≡ k.said → SaysAlive k1.alive stream → wire_mid ≡ wire
+    → Stays log log_mid → (IsOpening opening.aggregate opening.exec → OpeningCaused old mid log log_mid wire opening.aggregate.args opening.exec (step.Done stream))
+    → FollowTells old new log log' wire (stage.Opens opening) k s' k'
+open_done_tells old mid new log log_mid log' wire wire_mid k k1 opening stream s' k' rest watched given said alive same stays caused calls calls' told told' q t =
+    let args_of = opening.aggregate.args in
+    let r = caused t.2 calls told q.now t.3 in
+    let keeps = keeps_to log log_mid calls r.0 told r.1 stays in
+    let room = keeps_longer calls r.0 keeps in
+    let q1 = opened_by q (length calls) (length r.0) in
+    let none : k1.said ≡ [] = said ∙ t.0.1 in
+    let opened : TellsOpen r.0 wire q1.opened [] k1.watched k1.opened k1.said k1.alive (standing_of stream) = record {
+      given = given;
+      args = args_of;
+      args_are = subst (λ (v : Watched). IsWatchArgs v args_of) (sym watched) t.1;
+      first = standing_of stream;
+      opened = opened_grows (past_of q.now (length calls) r.0 wire) (sent_at q1.opened r.0 wire) args_of (standing_of stream) (grows_ended q.now (length calls) r.0 wire) r.2;
+      answered = subst (λ (l : List Answer). Answered r.0 wire (standing_of stream) [] l (standing_of stream)) (sym none) refl;
+      alive_is = alive_as k1.alive stream alive;
+    } in
+    let ends : Tell new calls' wire q1 (length k1.said) (length r.0) s' k' = subst (λ (w : ℤ). IsOpened r.0 w q1 k1 (standing_of stream) → Tell new calls' w q1 (length k1.said) (length r.0) s' k') same (rest r.0 calls' r.1 told' q1 refl) opened in
+    tell_on new calls' wire q q1 0 (length calls) (length r.0) s' k' room (extends_opened q 0 0 (length calls) (length r.0) refl room) (subst (λ (n : ℕ). Tell new calls' wire q1 n (length r.0) s' k') (ap length none) ends)
+
+-- A call of the stream pends.
+pub call_waits_tells : (old new : Awaited) (log log' : Told) (wire : ℤ) (k : Kept) (s s1 : ChangeStream) (r : EventPoll) → r ≡ polls.Pending → Stays log log' → CallCaused old new log log' wire s s1 r → FollowTells old new log log' wire (stage.Open s) k (stage.Open s1) k
+call_waits_tells old new log log' wire k s s1 r pends stays caused calls calls' told told' q t =
+    let keeps = keeps_to log log' calls calls' told told' stays in
+    let room = keeps_longer calls calls' keeps in
+    let at = t.0 in
+    let c = subst (λ (x : EventPoll). CallCaused old new log log' wire s s1 x) pends caused calls told q.now at t.2 in
+    let so_far : SoFar new (past_of q.now (length calls) calls' wire) at false s1.phase s1 = subst (λ (l : List Call). SoFar new (past_of q.now (length calls) l wire) at false s1.phase s1) (same_told log' c.0 calls' c.1 told') c.2 in
+    let later = sent_at (sent_since q.now (length calls) (length calls')) calls' wire in
+    record {
+      longer = room;
+      places = going_on q (length calls) (length calls');
+      tells = (
+        at,
+        open_later calls calls' wire q.opened q.owns k.watched k.opened k.said k.alive at keeps t.1,
+        so_far_grows new new (past_of q.now (length calls) calls' wire) later at false s1.phase s1 (grows_ended q.now (length calls) calls' wire) (λ m e. refl) so_far,
+      );
+      extends = extends_going q (suc (length k.said)) (suc (length k.said)) (length calls) (length calls') refl room;
+    }
+
+came_called : (awaited : Awaited) (past : Past) (at : Standing) (s : ChangeStream) (answer : Answer) → CallCame awaited past at s (poll_of answer) → Called past at (standing_of s) (poll_of answer)
+came_called awaited past at s (answers.Event event) came = came
+came_called awaited past at s answers.Nothing came = came
+came_called awaited past at s (answers.Failed e) came = came
+
+-- A call of the stream answered; the rest of the turn follows.
+pub call_answers_tells : (old mid new : Awaited) (log log_mid log' : Told) (wire wire_mid : ℤ) (k k1 : Kept) (s s1 : ChangeStream) (r : EventPoll) (answer : Answer) (s' : Stage) (k' : Kept) → RestTells new log_mid log' wire_mid s1 k1 s' k' → k1.watched ≡ k.watched → k1.opened ≡ k.opened → k1.said ≡ k.said ++ answer ∷ [] → SaysAlive k1.alive s1 → wire_mid ≡ wire → r ≡ poll_of answer → Stays log log_mid
+    → CallCaused old mid log log_mid wire s s1 r → FollowTells old new log log' wire (stage.Open s) k s' k'
+call_answers_tells old mid new log log_mid log' wire wire_mid k k1 s s1 r answer s' k' rest watched given said alive same is stays caused calls calls' told told' q t =
+    let at = t.0 in
+    let c = subst (λ (x : EventPoll). CallCaused old mid log log_mid wire s s1 x) is caused calls told q.now at t.2 in
+    let keeps = keeps_to log log_mid calls c.0 told c.1 stays in
+    let room = keeps_longer calls c.0 keeps in
+    let own = sent_since q.now (length calls) (length c.0) in
+    let q1 = answered_by q (length calls) (length c.0) in
+    let after = standing_of s1 in
+    let before = open_later calls c.0 wire q.opened q.owns k.watched k.opened k.said k.alive at keeps t.1 in
+    let called : Called (sent_at own c.0 wire) at after (poll_of answer) = called_grows (past_of q.now (length calls) c.0 wire) (sent_at own c.0 wire) at after (poll_of answer) (grows_ended q.now (length calls) c.0 wire) (came_called mid (past_of q.now (length calls) c.0 wire) at s1 answer c.2) in
+    let opened : TellsOpen c.0 wire q1.opened q1.owns k1.watched k1.opened k1.said k1.alive after = record {
+      given = subst (λ (o : Ended (Unit {0})). HasGiven o) (sym given) before.given;
+      args = before.args;
+      args_are = subst (λ (v : Watched). IsWatchArgs v before.args) (sym watched) before.args_are;
+      first = before.first;
+      opened = before.opened;
+      answered = subst (λ (l : List Answer). Answered c.0 wire before.first q1.owns l after) (sym said) (answered_more c.0 wire q.owns k.said before.first at after own answer before.answered called (owes_alone s1.phase));
+      alive_is = alive_as k1.alive s1 alive;
+    } in
+    let count : length k1.said ≡ suc (length k.said) = (let joined = length-append k.said (answer ∷ []) in omega (arith, ap length said, joined)) in
+    let ends : Tell new calls' wire q1 (length k1.said) (length c.0) s' k' = subst (λ (w : ℤ). IsOpened c.0 w q1 k1 after → Tell new calls' w q1 (length k1.said) (length c.0) s' k') same (rest c.0 calls' c.1 told' q1 refl) opened in
+    tell_on new calls' wire q q1 (suc (length k.said)) (length calls) (length c.0) s' k' room
+    (extends_answered q (suc (length k.said)) (suc (length k.said)) (length calls) (length c.0) (ap suc (sym (answered_count calls wire q.owns k.said t.1.first at t.1.answered))) room)
+    (subst (λ (n : ℕ). Tell new calls' wire q1 n (length c.0) s' k') count ends)
+
+-- The stream is kept for its next call.
+pub rest_stays_tells : (awaited : Awaited) (log : Told) (wire : ℤ) (stream : ChangeStream) (k : Kept) → AtRest stream.phase → RestTells awaited log log wire stream k (stage.Open stream) k
+rest_stays_tells awaited log wire stream k rest calls calls' told told' q none t =
+    tell_same awaited log wire calls calls' told told' q (length k.said) (stage.Open stream) k
+    (standing_of stream, t, begins awaited (sent_at q.now calls wire) stream rest)
+    (extends_rest q (length k.said) (suc (length k.said)) (length calls) none)
+
+-- nothing is in flight in a stream at rest
+kills_at_rest : (awaited : Awaited) (past : Past) (c : CursorInformation) (opened : ℤ) (p : Phase) → AtRest p → KillsSoFar awaited past c opened (flight_in p)
+kills_at_rest awaited past c opened phase.Taken rest = absurd rest
+kills_at_rest awaited past c opened phase.Rest rest = tt
+kills_at_rest awaited past c opened (phase.First bytes) rest = tt
+kills_at_rest awaited past c opened phase.Fresh rest = absurd rest
+kills_at_rest awaited past c opened (phase.Asking get_more exec) rest = absurd rest
+kills_at_rest awaited past c opened phase.Owing rest = tt
+kills_at_rest awaited past c opened (phase.Resuming exec) rest = absurd rest
+kills_at_rest awaited past c opened (phase.Killing exec id bytes) rest = absurd rest
+kills_at_rest awaited past c opened (phase.Resumed bytes) rest = absurd rest
+
+-- The stream is closed in the same turn, and its token was handed out.
+pub rest_closes_tells : (awaited new : Awaited) (log log' : Told) (wire : ℤ) (stream left : ChangeStream) (k : Kept) (token : Option Tree) (closing : Closing) (s' : Stage) (k' : Kept) → AtRest stream.phase → left ≡ without_token stream → token ≡ token_of stream.aggregate.resume
+    → closing.remains.cursor ≡ left.cursor → closing.remains.opened ≡ pos 0 → closing.flight ≡ flight_in left.phase
+    → FollowTells awaited new log log' wire (stage.Closes closing) (record k { token = token }) s' k' → RestTells new log log' wire stream k s' k'
+rest_closes_tells awaited new log log' wire stream left k token closing s' k' rest is handed cursor opened flying closes calls calls' told told' q none t =
+    let same : closing.flight ≡ flight_in stream.phase = flying ∙ ap (λ (x : ChangeStream). flight_in x.phase) is in
+    closes calls calls' told told' q (
+      standing_of stream,
+      t,
+      handed,
+      cursor ∙ ap (λ (x : ChangeStream). x.cursor) is,
+      opened,
+      subst (λ (f : Flight). KillsSoFar awaited (sent_at q.now calls wire) stream.cursor (pos 0) f) (sym same) (kills_at_rest awaited (sent_at q.now calls wire) stream.cursor (pos 0) stream.phase rest),
+    )
+
+-- a closing of a stream at rest kills what is left, and nothing else
+kills_only : {T : Type 0} (old new : Awaited) (log log' : Told) (wire : ℤ) (past : Past) (c : CursorInformation) (opened : ℤ) (r : Remains) (f : Flight) (result : Step Closing T) → KillsSoFar old past c opened f → ClosingCaused old new log log' wire r f result → KillCaused old new log log' wire r f result
+kills_only old new log log' wire past c opened r flight.Landed result so caused = caused
+kills_only old new log log' wire past c opened r (flight.More get_more exec) result so caused = absurd so
+kills_only old new log log' wire past c opened r (flight.Resumption exec) result so caused = absurd so
+kills_only old new log log' wire past c opened r (flight.Older exec id) result so caused = absurd so
+kills_only old new log log' wire past c opened r (flight.Last exec) result so caused = caused
+
+kill_as : (awaited : Awaited) (past : Past) (f : Flight) (c d : CursorInformation) (opened opened' : ℤ) → c ≡ d → opened ≡ opened' → KillsSoFar awaited past c opened f → KillsSoFar awaited past d opened' f
+kill_as awaited past f c d opened opened' cursor same h = subst (λ (o : ℤ). KillsSoFar awaited past d o f) same (subst (λ (x : CursorInformation). KillsSoFar awaited past x opened f) cursor h)
+
+-- what a poll of a closing comes to
+kill_came : {T : Type 0} (old new : Awaited) (log log' : Told) (wire : ℤ) (closing : Closing) (result : Step Closing T) (k : Kept) → ClosingCaused old new log log' wire closing.remains closing.flight result → (calls calls' : List Call) → log ≡ Some calls → log' ≡ Some calls'
+    → (q : Places) → (t : Tells old calls wire q (stage.Closes closing) k) → KillCame new (past_of q.now (length calls) calls' wire) closing.remains result
+kill_came old new log log' wire closing result k caused calls calls' told told' q t =
+    let past = past_of q.now (length calls) calls wire in
+    let r = kills_only old new log log' wire past t.0.cursor (pos 0) closing.remains closing.flight result t.5 caused calls told q.now (kill_as old past closing.flight t.0.cursor closing.remains.cursor (pos 0) closing.remains.opened (sym t.3) (sym t.4) t.5) in
+    subst (λ (c : List Call). KillCame new (past_of q.now (length calls) c wire) closing.remains result) (same_told log' r.0 calls' r.1 told') r.2
+
+-- The killing of its cursor pends.
+pub close_waits_tells : (old new : Awaited) (log log' : Told) (wire : ℤ) (k : Kept) (closing closing' : Closing) → Stays log log' → ClosingCaused {T = Unit {0}} old new log log' wire closing.remains closing.flight (step.Pending closing')
+    → FollowTells old new log log' wire (stage.Closes closing) k (stage.Closes closing') k
+close_waits_tells old new log log' wire k closing closing' stays caused calls calls' told told' q t =
+    let keeps = keeps_to log log' calls calls' told told' stays in
+    let room = keeps_longer calls calls' keeps in
+    let came = kill_came {T = Unit {0}} old new log log' wire closing (step.Pending closing') k caused calls calls' told told' q t in
+    let past = past_of q.now (length calls) calls' wire in
+    let later = sent_at (sent_since q.now (length calls) (length calls')) calls' wire in
+    record {
+      longer = room;
+      places = going_on q (length calls) (length calls');
+      tells = (
+        t.0,
+        open_later calls calls' wire q.opened q.owns k.watched k.opened k.said k.alive t.0 keeps t.1,
+        t.2,
+        ap (λ (r : Remains). r.cursor) came.0 ∙ t.3,
+        ap (λ (r : Remains). r.opened) came.0 ∙ t.4,
+        kills_grows past later (grows_ended q.now (length calls) calls' wire) t.0.cursor (pos 0) new new closing'.flight (λ m e. refl) (kill_as new past closing'.flight closing.remains.cursor t.0.cursor closing.remains.opened (pos 0) t.3 t.4 came.1),
+      );
+      extends = extends_going q (length k.said) (length k.said) (length calls) (length calls') refl room;
+    }
+
+given_end : {A : Type 0} (calls : List Call) (wire : ℤ) (q : Places) (k : Kept) (o : Ended A) → HasGiven o → (last : Standing) × IsOpened calls wire q k last × (k.token ≡ token_of last.aggregate.resume) × ClosedBy (sent_at q.now calls wire) last k.closed → TellsEnd calls wire q k o
+given_end calls wire q k ended.Unfinished given t = absurd given
+given_end calls wire q k (ended.Gave x) given t = t
+given_end calls wire q k (ended.Failed e) given t = absurd given
+
+-- It ended so.
+close_ends_tells : (old new : Awaited) (log log' : Told) (wire : ℤ) (k : Kept) (closed : Ended (Unit {0})) (closing : Closing) (result : Step Closing (Unit {0})) → Stays log log' → ClosingCaused old new log log' wire closing.remains closing.flight result
+    → ((past : Past) (last : Standing) → closing.remains.cursor ≡ last.cursor → closing.remains.opened ≡ pos 0 → KillCame new past closing.remains result → ClosedBy past last closed)
+    → FollowTells old new log log' wire (stage.Closes closing) k stage.Ended (record k { closed = closed })
+close_ends_tells old new log log' wire k closed closing result stays caused by calls calls' told told' q t =
+    let keeps = keeps_to log log' calls calls' told told' stays in
+    let room = keeps_longer calls calls' keeps in
+    let past = past_of q.now (length calls) calls' wire in
+    let q' = going_on q (length calls) (length calls') in
+    let came = by past t.0 t.3 t.4 (kill_came {T = Unit {0}} old new log log' wire closing result k caused calls calls' told told' q t) in
+    let opened = open_later calls calls' wire q.opened q.owns k.watched k.opened k.said k.alive t.0 keeps t.1 in
+    record {
+      longer = room;
+      places = q';
+      tells = given_end calls' wire q' (record k { closed = closed }) k.opened opened.given (t.0, opened, t.2, closed_by_later past (sent_at q'.now calls' wire) t.0 closed (grows_ended q.now (length calls) calls' wire) came);
+      extends = extends_going q (length k.said) (length k.said) (length calls) (length calls') refl room;
+    }
+
+-- The stream is closed.
+pub close_done_tells : (old new : Awaited) (log log' : Told) (wire : ℤ) (k : Kept) (closed : Ended (Unit {0})) (closing : Closing) → closed ≡ ended.Gave tt → Stays log log' → ClosingCaused {T = Unit {0}} old new log log' wire closing.remains closing.flight (step.Done tt)
+    → FollowTells old new log log' wire (stage.Closes closing) k stage.Ended (record k { closed = closed })
+close_done_tells old new log log' wire k closed closing is stays caused =
+    close_ends_tells old new log log' wire k closed closing (step.Done tt) stays caused
+    (λ past last cursor opened done. subst (λ (o : Ended (Unit {0})). ClosedBy past last o) (sym is) (subst (λ (x : ℤ). KillDone past last.cursor x) opened (subst (λ (c : CursorInformation). KillDone past c closing.remains.opened) cursor done)))
+
+-- The closing failed.
+pub close_fails_tells : (old new : Awaited) (log log' : Told) (wire : ℤ) (k : Kept) (closed : Ended (Unit {0})) (closing : Closing) (e : Error) → closed ≡ ended.Failed e → Stays log log' → ClosingCaused {T = Unit {0}} old new log log' wire closing.remains closing.flight (step.Failed e)
+    → FollowTells old new log log' wire (stage.Closes closing) k stage.Ended (record k { closed = closed })
+close_fails_tells old new log log' wire k closed closing e is stays caused =
+    close_ends_tells old new log log' wire k closed closing (step.Failed e) stays caused
+    (λ past last cursor opened fails. subst (λ (o : Ended (Unit {0})). ClosedBy past last o) (sym is) (subst (λ (x : ℤ). KillFails past last.cursor x e) opened (subst (λ (c : CursorInformation). KillFails past c closing.remains.opened e) cursor fails)))

@@ -1,0 +1,135 @@
+-- What the answers of jobs are caused by: the causes of their calls, by the turns in which these sent their commands.
+use Rattle.std.specs.Prelude.{◌≡◌, ◌≢◌, ◌↔◌, ◌⊎◌, ◌<◌, ◌≤◌, ◌+◌, ◌++◌, IsTrue, true, Bool, ℕ, suc, ℤ, pos, List, [], ◌∷◌, length, Option, Some, None, slice_get}
+use Rattle.std.specs.List.{sum_by}
+use Rattle.mg_bson.specs.Tree.{Tree, Fields}
+use Rattle.mg_link.specs.Link.{Told}
+use Rattle.mg_link.specs.Log.{Call}
+use Rattle.mg_link.specs.Namespace.{Target}
+use Rattle.mg_link.specs.Owner.{IsOf}
+use Rattle.mg_link.specs.declared.error.Error.{Error}
+use Rattle.mg_link.specs.declared.error.ErrorKind.TheVariants as kind
+use Rattle.mg_ops.specs.declared.change_stream.WatchArgs.{WatchArgs}
+use Rattle.mg_change.specs.Calls.{Past, past_of}
+use Rattle.mg_change.specs.Causes.{Called, Standing}
+use Rattle.mg_change.specs.ClosingCauses.{KillDone, KillFails}
+use Rattle.mg_change.specs.Following.{token_of}
+use Rattle.mg_change.specs.OpeningCauses.{Opened, OpeningFails}
+use Rattle.mg_jobs.specs.Follows.{IsArgsFor, poll_of}
+use Rattle.mg_jobs.specs.Plan.{Begin, Task, insert, follow, put, get}
+use Rattle.mg_jobs.specs.Progress.{turns_done}
+use Rattle.mg_jobs.specs.declared.outcome.Answer.{Answer}
+use Rattle.mg_jobs.specs.declared.outcome.Ended.{Ended}
+use Rattle.mg_jobs.specs.declared.outcome.Ended.TheVariants as ended
+use Rattle.mg_jobs.specs.declared.outcome.Outcome.{Outcome}
+use Rattle.mg_jobs.specs.declared.outcome.Outcome.TheVariants as outcome
+use Rattle.mg_jobs.specs.declared.outcome.Turned.{Turned}
+
+-- ---- which call sent what
+
+-- the turns of a run: how many calls the log had as it began, whose turns these are, and their notes
+pub record Course : Type 0 where
+  pub begun : ℕ
+  pub order : List ℕ
+  pub notes : List Turned
+
+abbrev pub course : List Call → List ℕ → List Turned → Course
+course calls order notes = record { begun = length calls; order = order; notes = notes }
+
+-- At this place of the log stands a command that job i sent in a turn before which so many turns of it did not pend. So many calls of it had ended.
+pub record SentIn (c : Course) (i k place : ℕ) : Type 0 where
+  pub before : List ℕ
+  pub after : List ℕ
+  pub order_is : c.order ≡ before ++ i ∷ after
+  pub noted : List Turned
+  pub note : Turned
+  pub later : List Turned
+  pub notes_are : c.notes ≡ noted ++ note ∷ later
+  pub abreast : length noted ≡ length before
+  pub done : turns_done i before noted ≡ k
+  pub from : c.begun + sum_by (λ t. t.started) noted ≤ place
+  pub upto : place < c.begun + sum_by (λ t. t.started) noted + note.started
+
+abbrev pub AllSentIn : Course → ℕ → ℕ → List ℕ → Type 0
+AllSentIn c i k places = (place : ℕ) → IsOf places place → SentIn c i k place
+
+-- what a call has behind it whose commands stand at these places of the log
+abbrev pub sent_at : List ℕ → List Call → ℤ → Past
+sent_at places calls wire = past_of places (length calls) calls wire
+
+-- ---- a follow
+
+-- where a resumption is owed no reply to the opening is in hand
+abbrev pub OwesAlone : Standing → Type 0
+OwesAlone s = s.owes ≡ true → s.first ≡ None
+
+-- The calls of a stream, one behind the other: at which places each sent its commands, what it answered with its cause, and how the stream stood
+-- before the first of them and behind the last.
+abbrev pub Answered : List Call → ℤ → Standing → List (List ℕ) → List Answer → Standing → Type 0
+Answered calls wire at [] [] last = last ≡ at
+Answered calls wire at (places ∷ owns) (answer ∷ said) last = (after : Standing) × Called (sent_at places calls wire) at after (poll_of answer) × OwesAlone after × Answered calls wire after owns said last
+Answered calls wire at [] (answer ∷ said) last = ⊥
+Answered calls wire at (places ∷ owns) [] last = ⊥
+
+-- the opening, and then each call, sent its commands in its turns
+pub record Answers (c : Course) (i : ℕ) (calls : List Call) (wire : ℤ) (args : WatchArgs) (said : List Answer) (last : Standing) : Type 0 where
+  pub first : Standing
+  pub places : List ℕ
+  pub sent : AllSentIn c i 0 places
+  pub opened : Opened (sent_at places calls wire) args first
+  pub owns : List (List ℕ)
+  pub sent_each : (k : ℕ) (own : List ℕ) → slice_get owns k ≡ Some own → AllSentIn c i (suc k) own
+  pub answered : Answered calls wire first owns said last
+
+-- the closing sent its command behind the last call, or in the same turn
+abbrev pub ClosedBy : {A : Type 0} → Past → Standing → Ended A → Type 0
+ClosedBy past last ended.Unfinished = Unit {0}
+ClosedBy past last (ended.Gave x) = KillDone past last.cursor (pos 0)
+ClosedBy past last (ended.Failed e) = KillFails past last.cursor (pos 0) e
+
+pub record Closed {A : Type 0} (c : Course) (i k : ℕ) (calls : List Call) (wire : ℤ) (last : Standing) (closed : Ended A) : Type 0 where
+  pub places : List ℕ
+  pub sent : AllSentIn c i k places
+  pub by : ClosedBy (sent_at places calls wire) last closed
+
+-- the stream has more: the server holds its cursor, or a resumption is owed
+abbrev pub IsAlive : Standing → Type 0
+IsAlive s = (s.cursor.id ≢ pos 0) ⊎ (s.owes ≡ true)
+
+-- a follow whose stream was opened: each answer has its cause, and the token, and whether it is alive, are those behind the last of them
+pub record OpenCaused {A : Type 0} (c : Course) (i : ℕ) (calls : List Call) (wire : ℤ) (on : Target) (start : Begin) (filter : Option Fields) (batch : Option ℕ) (said : List Answer) (token : Option Tree) (alive : Bool) (closed : Ended A) : Type 0 where
+  pub args : WatchArgs
+  pub args_are : IsArgsFor on start filter batch args
+  pub last : Standing
+  pub answers : Answers c i calls wire args said last
+  pub token_is : token ≡ token_of last.aggregate.resume
+  pub alive_is : IsTrue alive ↔ IsAlive last
+  pub close : Closed c i (length said) calls wire last closed
+
+-- one whose stream was not: its opening has failed, or memory ran out before
+pub record OpenFailed (c : Course) (i : ℕ) (calls : List Call) (wire : ℤ) (on : Target) (start : Begin) (filter : Option Fields) (batch : Option ℕ) (e : Error) : Type 0 where
+  pub args : WatchArgs
+  pub args_are : IsArgsFor on start filter batch args
+  pub places : List ℕ
+  pub sent : AllSentIn c i 0 places
+  pub fails : OpeningFails (sent_at places calls wire) args e
+
+abbrev pub FollowCaused : {A B : Type 0} → Course → ℕ → List Call → ℤ → Target → Begin → Option Fields → Option ℕ → Ended A → List Answer → Option Tree → Bool → Ended B → Type 0
+FollowCaused c i calls wire on start filter batch ended.Unfinished said token alive closed = Unit {0}
+FollowCaused c i calls wire on start filter batch (ended.Gave x) said token alive closed = OpenCaused c i calls wire on start filter batch said token alive closed
+FollowCaused c i calls wire on start filter batch (ended.Failed e) said token alive closed = (e.kind ≡ kind.OutOfMemory) ⊎ OpenFailed c i calls wire on start filter batch e
+
+-- ---- all jobs
+
+abbrev pub OutcomeCaused : Course → ℕ → List Call → ℤ → Task → Outcome → Type 0
+OutcomeCaused c i calls wire (follow on count start filter batch) (outcome.Follow opened said token alive closed) = FollowCaused c i calls wire on start filter batch opened said.items token alive closed
+OutcomeCaused c i calls wire (follow on count start filter batch) (outcome.Insert n) = ⊥
+OutcomeCaused c i calls wire (follow on count start filter batch) (outcome.Put n) = ⊥
+OutcomeCaused c i calls wire (follow on count start filter batch) (outcome.Get bytes read) = ⊥
+OutcomeCaused c i calls wire (insert ns docs) r = Unit {0}
+OutcomeCaused c i calls wire (put db bucket name id chunk pieces) r = Unit {0}
+OutcomeCaused c i calls wire (get db bucket id read) r = Unit {0}
+
+-- Over a link that tells its log, each job's outcome has its causes among the commands of its own turns.
+abbrev pub AllCaused : Told → Told → ℤ → List Task → List ℕ → List Turned → List Outcome → Type 0
+AllCaused log log' wire tasks order notes outcomes = (calls : List Call) → log ≡ Some calls → (calls' : List Call) × (log' ≡ Some calls')
+    × ((i : ℕ) (t : Task) (r : Outcome) → slice_get tasks i ≡ Some t → slice_get outcomes i ≡ Some r → OutcomeCaused (course calls order notes) i calls' wire t r)

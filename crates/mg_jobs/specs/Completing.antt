@@ -1,0 +1,103 @@
+-- What follows come to over a link that loses nothing, where their server holds nothing back.
+use Rattle.std.specs.Prelude.{◌≡◌, ◌⊎◌, ◌≤◌, Contains, ℕ, suc, ℤ, List, [], ◌∷◌, length, Some, slice_get}
+use Rattle.mg_bson.specs.Tree.{Fields}
+use Rattle.mg_link.specs.History.{Step, IsLegal}
+use Rattle.mg_link.specs.Link.{Told}
+use Rattle.mg_link.specs.Log.{fault, Call}
+use Rattle.mg_link.specs.Namespace.{Space}
+use Rattle.mg_link.specs.Prompt.{IsPrompt}
+use Rattle.mg_link.specs.Standing.{Stands}
+use Rattle.mg_link.specs.declared.error.Error.{Error}
+use Rattle.mg_link.specs.declared.error.ErrorKind.TheVariants as kind
+use Rattle.mg_ops.specs.Commands.{get_more_command, kill_command}
+use Rattle.mg_ops.specs.Failing.{CannotBeSent}
+use Rattle.mg_ops.specs.Limits.{SizePasses}
+use Rattle.mg_ops.specs.declared.aggregate.ChangeStreamAggregate.{ChangeStreamAggregate}
+use Rattle.mg_ops.specs.declared.change_stream.WatchArgs.{WatchArgs}
+use Rattle.mg_change.specs.Openings.{opening_command}
+use Rattle.mg_change.specs.Phases.{resuming_command}
+use Rattle.mg_jobs.specs.Causes.{Course, SentIn}
+use Rattle.mg_jobs.specs.Follows.{IsArgsFor}
+use Rattle.mg_jobs.specs.Plan.{Task, insert, follow, put, get}
+use Rattle.mg_jobs.specs.Progress.{turns_done}
+use Rattle.mg_jobs.specs.declared.outcome.Answer.{Answer}
+use Rattle.mg_jobs.specs.declared.outcome.Answer.TheVariants as answers
+use Rattle.mg_jobs.specs.declared.outcome.Ended.{Ended}
+use Rattle.mg_jobs.specs.declared.outcome.Ended.TheVariants as ended
+use Rattle.mg_jobs.specs.declared.outcome.Outcome.{Outcome}
+use Rattle.mg_jobs.specs.declared.outcome.Outcome.TheVariants as outcome
+
+-- ---- a link that loses nothing
+
+-- a call that has seen a fault had seen it before
+abbrev pub Faultless : List Call → List Call → Type 0
+Faultless calls calls' = (place : ℕ) (call : Call) → slice_get calls' place ≡ Some call → call.seen ≡ fault → slice_get calls place ≡ Some call
+
+-- where the logs are told
+abbrev pub LosesNothing : Told → Told → Type 0
+LosesNothing log log' = (calls : List Call) → log ≡ Some calls → (calls' : List Call) × (log' ≡ Some calls') × Faultless calls calls'
+
+-- ---- a server that holds nothing back
+
+-- the positions are those of the steps of job i, and perhaps others
+abbrev pub HasPositions : Course → ℕ → List Call → List ℕ → Type 0
+HasPositions c i calls own = (k place : ℕ) (call : Call) (position : ℕ) → SentIn c i k place → slice_get calls place ≡ Some call → call.position ≡ Some position → Contains own position
+
+-- the log stands in this history, in which the job's steps were answered at once and none was refused
+pub record AnswersWell (c : Course) (i : ℕ) (calls : List Call) : Type 0 where
+  pub history : List Step
+  pub legal : IsLegal history
+  pub stands : Stands calls history
+  pub own : List ℕ
+  pub positions : HasPositions c i calls own
+  pub prompt : IsPrompt own history
+
+-- ---- what a follow comes to
+
+-- a command that a follow with such arguments may have to send
+pub data IsCommandOf (are_its : WatchArgs → Type 0) (command : Fields) : Type 0 where
+  opens : (args : WatchArgs) → are_its args → command ≡ opening_command args → IsCommandOf are_its command
+  resumes : (a : ChangeStreamAggregate) (wire : ℤ) → are_its a.args → command ≡ resuming_command a wire → IsCommandOf are_its command
+  asks : (args : WatchArgs) → are_its args → (id : ℤ) (space : Space) → command ≡ get_more_command id space args.options.batch_size → IsCommandOf are_its command
+  kills : (space : Space) (ids : List ℤ) → command ≡ kill_command space ids → IsCommandOf are_its command
+
+-- memory ran out, or a command that was to be sent passes the limits of documents
+abbrev pub IsExcused : (WatchArgs → Type 0) → Error → Type 0
+IsExcused are_its e = (e.kind ≡ kind.OutOfMemory) ⊎ ((command : Fields) × IsCommandOf are_its command × CannotBeSent command e)
+
+abbrev pub EndsWell : {A : Type 0} → (WatchArgs → Type 0) → Ended A → Type 0
+EndsWell are_its ended.Unfinished = ⊥
+EndsWell are_its (ended.Gave x) = Unit {0}
+EndsWell are_its (ended.Failed e) = IsExcused are_its e
+
+-- each answer is an event, or that nothing is there
+abbrev pub AnswerWell : (WatchArgs → Type 0) → Answer → Type 0
+AnswerWell are_its (answers.Event event) = Unit {0}
+AnswerWell are_its answers.Nothing = Unit {0}
+AnswerWell are_its (answers.Failed e) = IsExcused are_its e
+
+abbrev pub AnswersAreWell : (WatchArgs → Type 0) → List Answer → Type 0
+AnswersAreWell are_its [] = Unit {0}
+AnswersAreWell are_its (answer ∷ more) = AnswersAreWell are_its more × AnswerWell are_its answer
+
+-- all calls were answered, and the stream was closed
+pub record CallsWell {A : Type 0} (are_its : WatchArgs → Type 0) (count : ℕ) (said : List Answer) (closed : Ended A) : Type 0 where
+  pub all : length said ≡ count
+  pub answered : AnswersAreWell are_its said
+  pub closes : EndsWell are_its closed
+
+-- the stream was opened, or that is excused
+abbrev pub FollowWell : {A B : Type 0} → (WatchArgs → Type 0) → ℕ → Ended A → List Answer → Ended B → Type 0
+FollowWell are_its count ended.Unfinished said closed = ⊥
+FollowWell are_its count (ended.Gave x) said closed = CallsWell are_its count said closed
+FollowWell are_its count (ended.Failed e) said closed = IsExcused are_its e
+
+-- a follow with a size of batches that may be, and one turn more than calls that did not pend, ends well
+abbrev pub OutcomeWell : Course → ℕ → List Call → Task → Outcome → Type 0
+OutcomeWell c i calls (follow on count start filter batch) (outcome.Follow opened said token alive closed) = AnswersWell c i calls → (SizePasses batch → ⊥) → suc count ≤ turns_done i c.order c.notes → FollowWell (IsArgsFor on start filter batch) count opened said.items closed
+OutcomeWell c i calls (follow on count start filter batch) (outcome.Insert n) = ⊥
+OutcomeWell c i calls (follow on count start filter batch) (outcome.Put n) = ⊥
+OutcomeWell c i calls (follow on count start filter batch) (outcome.Get bytes read) = ⊥
+OutcomeWell c i calls (insert ns docs) r = Unit {0}
+OutcomeWell c i calls (put db bucket name id chunk pieces) r = Unit {0}
+OutcomeWell c i calls (get db bucket id read) r = Unit {0}
