@@ -1,5 +1,5 @@
 -- How far jobs come, turn by turn.
-use Rattle.std.proofs.Common.{◌≡◌, ◌+◌, ◌-◌, ◌<◌, ◌≤◌, ◌⊎◌, ℕ, zero, suc, Bool, true, false, cond, List, [], ◌∷◌, ◌++◌, Some, Result, Ok, Err, refl, sym, ap, ◌∙◌, subst, inl, inr, length, take, arith, append_assoc, append-nil, length-append}
+use Rattle.std.proofs.Common.{◌≡◌, ◌+◌, ◌-◌, ◌<◌, ◌≤◌, ◌⊎◌, ℕ, zero, suc, Bool, true, false, cond, List, [], ◌∷◌, ◌++◌, Some, Result, Ok, Err, refl, sym, ap, ◌∙◌, subst, inl, inr, length, take, arith}
 use Rattle.std.specs.Prelude.{slice_get, slice_set, nat_eq, nat_lt, IfOk}
 use Rattle.std.proofs.lemmas.Bool.{cases_eq, eq-eqb, ne_eqb, lt-ltb}
 use Rattle.std.proofs.lemmas.List.{length-map}
@@ -13,16 +13,15 @@ use Rattle.mg_change.specs.declared.opening.Opening.{Opening}
 use Rattle.mg_change.specs.declared.stream.ChangeStream.{ChangeStream}
 use Rattle.mg_jobs.specs.Counts.{PendedAs}
 use Rattle.mg_jobs.specs.Follows.{HasEnded, HasGiven, IsFailed, IsUnfinished}
-use Rattle.mg_jobs.specs.Headline.{DoTasks, Does}
+use Rattle.mg_jobs.specs.Headline.{DoTasks, Does, OutcomeOf, OutcomesOf}
 use Rattle.mg_jobs.specs.Plan as plan
 use Rattle.mg_jobs.specs.Plan.{Task, task, tasks}
 use Rattle.mg_jobs.specs.Playing.{IsSameFollow, end_of, follow_ended, inserts_ended}
-use Rattle.mg_jobs.specs.Progress.{AllAt, AllPlayed, AllShow, Came, CloseGoes, FollowAt, FollowGoes, FollowPlayed, GoesBy, InsertAt, InsertGoes, InsertPlayed, InsertReady, IsAt, IsFinished, IsPlayed, JobGoes, OpenPlayed, RestGoes, Shown, Shows, TurnsBy, calls_of, came, one_unless, pended_since, pends_last, turns_done}
+use Rattle.mg_jobs.specs.Progress.{AllAt, AllPlayed, Came, CloseGoes, FollowAt, FollowGoes, FollowPlayed, GoesBy, InsertAt, InsertGoes, InsertPlayed, InsertReady, IsAt, IsFinished, IsPlayed, JobGoes, OpenPlayed, RestGoes, TurnsBy, calls_of, came, one_unless, pended_since, pends_last, turns_done}
 use Rattle.mg_jobs.specs.Runs.{has_ended, idle}
 use Rattle.mg_jobs.specs.declared.outcome.Ended.{Ended}
 use Rattle.mg_jobs.specs.declared.outcome.Ended.TheVariants as ended
 use Rattle.mg_jobs.specs.declared.outcome.Outcome.{Outcome}
-use Rattle.mg_jobs.specs.declared.outcome.Outcome.TheVariants as outcome
 use Rattle.mg_jobs.specs.declared.outcome.Played.{Played}
 use Rattle.mg_jobs.specs.declared.outcome.Turned.{Turned}
 use Rattle.mg_jobs.specs.declared.player.FollowPlayer.{FollowPlayer}
@@ -275,32 +274,14 @@ at_first_more jobs k players job p there count all is =
 pub at_next : (ts : List Task) (order : List ℕ) (k n : ℕ) (notes : List Turned) (players : List Player) → slice_get order k ≡ Some n → AllAt ts (take k order ++ n ∷ []) notes players → AllAt ts (take (k + 1) order) notes players
 at_next ts order k n notes players there all = subst (λ ns. AllAt ts ns notes players) (sym (take_next order k n there) ∙ ap (λ m. take m order) (one_more k)) all
 
-pub shown_none : (players : List Player) → Shown players players []
-shown_none players = record { gone = []; whole = refl; count = refl; shows = λ i p r hp hr. absurd cc }
-
-pub shown_more : (players rest rest' : List Player) (outcomes : List Outcome) (p : Player) (r : Outcome) → rest ≡ p ∷ rest' → Shown players rest outcomes → Shows p r → Shown players rest' (outcomes ++ r ∷ [])
-shown_more players rest rest' outcomes p r is shown of =
-    record {
-      gone = shown.gone ++ p ∷ [];
-      whole = shown.whole ∙ ap (λ l. shown.gone ++ l) is ∙ sym (append_assoc shown.gone (p ∷ []) rest');
-      count = length-append shown.gone (p ∷ []) ∙ ap (λ n. n + 1) shown.count ∙ sym (length-append outcomes (r ∷ []));
-      shows = pairs_more Shows shown.gone outcomes p r (sym shown.count) shown.shows of;
-    }
-
-pub shown_all : (players rest : List Player) (outcomes : List Outcome) → rest ≡ [] → Shown players rest outcomes → AllShow players outcomes
-shown_all players rest outcomes is shown = subst (λ ps. AllShow ps outcomes) (sym (shown.whole ∙ ap (λ l. shown.gone ++ l) is ∙ append-nil shown.gone)) shown.shows
-
 -- ---- at the end
 
-insert_played : (k : ℕ) (p : InsertStage) (e : Ended ℕ) → e ≡ end_of p → InsertAt p k → InsertPlayed e k
-insert_played k inserts.Unsent e is at = subst (λ x. InsertPlayed x k) (sym is) at
-insert_played k (inserts.Goes inserting) e is at = subst (λ x. InsertPlayed x k) (sym is) at
-insert_played k (inserts.Ended f) e is at = subst (λ x. InsertPlayed x k) (sym is) (finished_so f at.0 at.1)
-  where
-    finished_so : (f : Ended ℕ) → 1 ≤ k → IsFinished f → InsertPlayed f k
-    finished_so ended.Unfinished some finished = absurd finished
-    finished_so (ended.Gave n) some finished = some
-    finished_so (ended.Failed x) some finished = some
+insert_played : (k : ℕ) (p : InsertStage) → InsertAt p k → InsertPlayed (end_of p) k
+insert_played k inserts.Unsent at = at
+insert_played k (inserts.Goes inserting) at = at
+insert_played k (inserts.Ended ended.Unfinished) at = absurd at.1
+insert_played k (inserts.Ended (ended.Gave n)) at = at.0
+insert_played k (inserts.Ended (ended.Failed e)) at = at.0
 
 given_so : (opened closed : Ended (Unit {0})) (calls answered k : ℕ) (last : Bool) → HasGiven opened → OpenPlayed closed calls answered k last → FollowPlayed opened closed calls answered k last
 given_so ended.Unfinished closed calls answered k last given h = absurd given
@@ -338,32 +319,25 @@ follow_played calls k last stage.Ended c at =
       | inr closed ↦ given_so c.opened c.closed calls c.answered k last closed.opened (closed_so c.closed calls c.answered k last closed.closed (closed.answered, closed.all))
     ]
 
-played_at : (t : Task) (p : Player) (r : Outcome) (k : ℕ) (last : Bool) → Does t p → Shows p r → IsAt (calls_of t) p k last → IsPlayed t k last r
-played_at (plan.put db bucket name id chunk pieces) p r k last does shows at = tt
-played_at (plan.get db bucket id read) p r k last does shows at = tt
-played_at (plan.insert ns docs) (player.Follow job) r k last does shows at = absurd does
-played_at (plan.insert ns docs) player.Put r k last does shows at = absurd does
-played_at (plan.insert ns docs) player.Get r k last does shows at = absurd does
-played_at (plan.insert ns docs) (player.Insert job) (outcome.Insert e) k last does shows at = insert_played k job.stage e shows at
-played_at (plan.insert ns docs) (player.Insert job) (outcome.Follow opened answers token alive closed) k last does shows at = absurd shows
-played_at (plan.insert ns docs) (player.Insert job) (outcome.Put e) k last does shows at = absurd shows
-played_at (plan.insert ns docs) (player.Insert job) (outcome.Get bytes e) k last does shows at = absurd shows
-played_at (plan.follow on calls start filter batch) (player.Insert job) r k last does shows at = absurd does
-played_at (plan.follow on calls start filter batch) player.Put r k last does shows at = absurd does
-played_at (plan.follow on calls start filter batch) player.Get r k last does shows at = absurd does
-played_at (plan.follow on calls start filter batch) (player.Follow job) (outcome.Insert e) k last does shows at = absurd shows
-played_at (plan.follow on calls start filter batch) (player.Follow job) (outcome.Put e) k last does shows at = absurd shows
-played_at (plan.follow on calls start filter batch) (player.Follow job) (outcome.Get bytes e) k last does shows at = absurd shows
-played_at (plan.follow on calls start filter batch) (player.Follow job) (outcome.Follow opened answers token alive closed) k last does shows at =
-    subst (λ o. FollowPlayed o closed calls (length answers.items) k last) (sym shows.0) (subst (λ e. FollowPlayed job.opened e calls (length answers.items) k last) (sym shows.1) (subst (λ n. FollowPlayed job.opened job.closed calls n k last) (sym (ap (λ a. length a.items) shows.2)) (follow_played calls k last job.stage (came job) at)))
+played_at : (t : Task) (p : Player) (r : Outcome) (k : ℕ) (last : Bool) → Does t p → OutcomeOf p r → IsAt (calls_of t) p k last → IsPlayed t k last r
+played_at (plan.put db bucket name id chunk pieces) p r k last does of at = tt
+played_at (plan.get db bucket id read) p r k last does of at = tt
+played_at (plan.insert ns docs) (player.Insert job) r k last does of at = subst (λ (x : Outcome). IsPlayed (plan.insert ns docs) k last x) (sym of) (insert_played k job.stage at)
+played_at (plan.insert ns docs) (player.Follow job) r k last does of at = absurd does
+played_at (plan.insert ns docs) player.Put r k last does of at = absurd does
+played_at (plan.insert ns docs) player.Get r k last does of at = absurd does
+played_at (plan.follow on calls start filter batch) (player.Insert job) r k last does of at = absurd does
+played_at (plan.follow on calls start filter batch) (player.Follow job) r k last does of at = subst (λ (x : Outcome). IsPlayed (plan.follow on calls start filter batch) k last x) (sym of) (follow_played calls k last job.stage (came job) at)
+played_at (plan.follow on calls start filter batch) player.Put r k last does of at = absurd does
+played_at (plan.follow on calls start filter batch) player.Get r k last does of at = absurd does
 
 -- where each job is by its turns says what became of it
-pub all_played : (ts : List Task) (order : List ℕ) (players : List Player) (notes : List Turned) (outcomes : List Outcome) → length outcomes ≡ length players → DoTasks ts players → AllAt ts order notes players → AllShow players outcomes → AllPlayed ts order notes outcomes
-all_played ts order players notes outcomes count does all shows i t r ht hr =
+pub all_played : (ts : List Task) (order : List ℕ) (players : List Player) (notes : List Turned) (outcomes : List Outcome) → length outcomes ≡ length players → DoTasks ts players → AllAt ts order notes players → OutcomesOf players outcomes → AllPlayed ts order notes outcomes
+all_played ts order players notes outcomes count does all of i t r ht hr =
     let p = get_length players outcomes count i r hr in
-    played_at t p.0 r _ _ (does i t p.0 ht p.1) (shows i p.0 r p.1 hr) (all i t p.0 ht p.1)
+    played_at t p.0 r _ _ (does i t p.0 ht p.1) (of i p.0 r p.1 hr) (all i t p.0 ht p.1)
 
 -- the same of a run, unless memory ran out
-pub rows_so : (ts : List Task) (order : List ℕ) (players : List Player) (notes : List Turned) (result : Result Played Error) → IfOk result (λ p. length p.outcomes.items ≡ length players) → IfOk result (λ p. AllShow players p.outcomes.items) → IfOk result (λ p. p.turns.items ≡ notes) → DoTasks ts players → AllAt ts order notes players → IfOk result (λ p. AllPlayed ts order p.turns.items p.outcomes.items)
-rows_so ts order players notes (Ok p) count shows turns does all = subst (λ ns. AllPlayed ts order ns p.outcomes.items) (sym turns) (all_played ts order players notes p.outcomes.items count does all shows)
-rows_so ts order players notes (Err e) count shows turns does all = tt
+pub rows_so : (ts : List Task) (order : List ℕ) (players : List Player) (notes : List Turned) (result : Result Played Error) → IfOk result (λ p. length p.outcomes.items ≡ length players) → IfOk result (λ p. OutcomesOf players p.outcomes.items) → IfOk result (λ p. p.turns.items ≡ notes) → DoTasks ts players → AllAt ts order notes players → IfOk result (λ p. AllPlayed ts order p.turns.items p.outcomes.items)
+rows_so ts order players notes (Ok p) count of turns does all = subst (λ ns. AllPlayed ts order ns p.outcomes.items) (sym turns) (all_played ts order players notes p.outcomes.items count does all of)
+rows_so ts order players notes (Err e) count of turns does all = tt

@@ -10,45 +10,53 @@ use Rattle.mg_link.specs.Exec.{Stage, unsent, first, second, Sending, Attempt, n
 use Rattle.mg_link.specs.Link.{Awaited, Told}
 use Rattle.mg_link.specs.Log.{Sight, waiting, reply, Call, see}
 use Rattle.mg_link.specs.Namespace.{Space}
-use Rattle.mg_link.specs.Owner.{IsGrown}
 use Rattle.mg_link.specs.declared.action.Step.{Step}
 use Rattle.mg_link.specs.declared.action.Step.TheVariants as step
-use Rattle.mg_link.proofs.Owners.{grown_push, grown_see}
-use Rattle.mg_link.proofs.Places.{get_seam, get_within}
+use Rattle.mg_link.proofs.Places.{get_front, get_seam, get_within}
+use Rattle.mg_change.specs.Calls.{Grows, IsOwn, Keeps, Past, past_of}
+use Rattle.mg_change.proofs.Calls.{grows_by, keeps_longer, see_keeps}
 use Rattle.mg_jobs.specs.Appended.{IsWithId, AreWithIds, InsertsAt, Piece, ArePieces, InsertedBelow, Appended}
 use Rattle.mg_jobs.specs.Underway.{with_id, IsBatch, IsDrawn, AreDrawn, sent_of, Flies, Holding}
 
 -- ---- a log that grew
 
-pub inserts_grown : (calls calls' : List Call) (k : ℕ) (space : Space) (ds : List Fields) → IsGrown calls calls' → InsertsAt calls k space ds → InsertsAt calls' k space ds
-inserts_grown calls calls' k space ds grown i =
-    let g = grown.keeps k i.call i.found in
-    record { call = g.0; bytes = i.bytes; count = i.count; found = g.1; asks = ap asked g.2 ∙ i.asks; saw = g.4 i.bytes i.saw; tells = i.tells }
+inserts_kept : (calls calls' : List Call) (k : ℕ) (space : Space) (ds : List Fields) → Keeps calls calls' → InsertsAt calls k space ds → InsertsAt calls' k space ds
+inserts_kept calls calls' k space ds keeps i =
+    let kept = keeps k i.call i.found in
+    let stays : kept.0 ≡ i.call = kept.3 (λ e. let bad : waiting ≡ reply i.bytes = sym e ∙ i.saw in cc) in
+    record { call = kept.0; bytes = i.bytes; count = i.count; found = kept.1; asks = ap asked kept.2 ∙ i.asks; saw = ap (λ (c : Call). c.seen) stays ∙ i.saw; tells = i.tells }
 
-pieces_grown : (calls calls' : List Call) (k : ℕ) (space : Space) (sent : List Fields) (ps : List Piece) → IsGrown calls calls' → ArePieces calls k space sent ps → ArePieces calls' k space sent ps
-pieces_grown calls calls' k space sent [] grown are = are
-pieces_grown calls calls' k space sent (p ∷ ps) grown are =
-    (are.0, inserts_grown calls calls' p.at space p.documents grown are.1, (are.2.0, are.2.1, pieces_grown calls calls' p.at space are.2.0 ps grown are.2.2))
+pieces_grown : (past past' : Past) (k : ℕ) (space : Space) (sent : List Fields) (ps : List Piece) → Grows past past' → ArePieces past k space sent ps → ArePieces past' k space sent ps
+pieces_grown past past' k space sent [] grows are = are
+pieces_grown past past' k space sent (p ∷ ps) grows are =
+    (are.0, grows.own p.at are.2.call are.2.found are.1, inserts_kept past.calls past'.calls p.at space p.documents grows.keeps are.2, (are.3.0, are.3.1, pieces_grown past past' p.at space are.3.0 ps grows are.3.2))
 
-pieces_below : (calls : List Call) (k k' : ℕ) (space : Space) (sent : List Fields) (ps : List Piece) → k ≤ k' → ArePieces calls k space sent ps → ArePieces calls k' space sent ps
-pieces_below calls k k' space sent [] le are = are
-pieces_below calls k k' space sent (p ∷ ps) le are = let lt = are.0 in (omega arith, are.1, are.2)
+pieces_below : (past : Past) (k k' : ℕ) (space : Space) (sent : List Fields) (ps : List Piece) → k ≤ k' → ArePieces past k space sent ps → ArePieces past k' space sent ps
+pieces_below past k k' space sent [] le are = are
+pieces_below past k k' space sent (p ∷ ps) le are = let lt = are.0 in (omega arith, are.1, are.2, are.3)
+
+-- what was inserted below a place was so below any later one
+below_up : (past : Past) (k k' : ℕ) (space : Space) (sent : List Fields) → k ≤ k' → InsertedBelow past k space sent → InsertedBelow past k' space sent
+below_up past k k' space sent le i = record { pieces = i.pieces; are = pieces_below past k k' space sent i.pieces le i.are }
 
 -- what was inserted stays so
-pub below_on : (calls calls' : List Call) (k k' : ℕ) (space : Space) (sent : List Fields) → IsGrown calls calls' → k ≤ k' → InsertedBelow calls k space sent → InsertedBelow calls' k' space sent
-below_on calls calls' k k' space sent grown le i =
-    record { pieces = i.pieces; are = pieces_below calls' k k' space sent i.pieces le (pieces_grown calls calls' k space sent i.pieces grown i.are) }
+pub below_on : (past past' : Past) (k k' : ℕ) (space : Space) (sent : List Fields) → Grows past past' → k ≤ k' → InsertedBelow past k space sent → InsertedBelow past' k' space sent
+below_on past past' k k' space sent grows le i = below_up past' k k' space sent le (record { pieces = i.pieces; are = pieces_grown past past' k space sent i.pieces grows i.are })
 
-pub below_none : (calls : List Call) (k : ℕ) (space : Space) (sent : List Fields) → sent ≡ [] → InsertedBelow calls k space sent
-below_none calls k space sent none = record { pieces = []; are = none }
+-- all that was inserted is so in the later log
+pub below_grown : (past past' : Past) (space : Space) (sent : List Fields) → Grows past past' → InsertedBelow past (length past.calls) space sent → InsertedBelow past' (length past'.calls) space sent
+below_grown past past' space sent grows i = below_on past past' (length past.calls) (length past'.calls) space sent grows (keeps_longer past.calls past'.calls grows.keeps) i
+
+pub below_none : (past : Past) (k : ℕ) (space : Space) (sent : List Fields) → sent ≡ [] → InsertedBelow past k space sent
+below_none past k space sent none = record { pieces = []; are = none }
 
 -- one piece more
-pub below_more : (calls : List Call) (k k' : ℕ) (space : Space) (before piece : List Fields) → k < k' → InsertedBelow calls k space before → InsertsAt calls k space piece → InsertedBelow calls k' space (before ++ piece)
-below_more calls k k' space before piece lt done i = record { pieces = record { at = k; documents = piece } ∷ done.pieces; are = (lt, i, (before, refl, done.are)) }
+below_more : (past : Past) (k k' : ℕ) (space : Space) (before piece : List Fields) → k < k' → IsOwn past k → InsertedBelow past k space before → InsertsAt past.calls k space piece → InsertedBelow past k' space (before ++ piece)
+below_more past k k' space before piece lt own done i = record { pieces = record { at = k; documents = piece } ∷ done.pieces; are = (lt, own, i, (before, refl, done.are)) }
 
 -- What was appended stays so when the log grows.
-pub appended_grown : (calls calls' : List Call) (space : Space) (ds : List Fields) (n : ℕ) → IsGrown calls calls' → length calls ≤ length calls' → Appended calls space ds n → Appended calls' space ds n
-appended_grown calls calls' space ds n grown le a = record { count = a.count; sent = a.sent; ids = a.ids; stands = below_on calls calls' (length calls) (length calls') space a.sent grown le a.stands }
+pub appended_grown : (past past' : Past) (space : Space) (ds : List Fields) (n : ℕ) → Grows past past' → Appended past space ds n → Appended past' space ds n
+appended_grown past past' space ds n grows a = record { count = a.count; sent = a.sent; ids = a.ids; stands = below_grown past past' space a.sent grows a.stands }
 
 -- ---- documents with ids
 
@@ -102,18 +110,10 @@ pub drawn_step : (ds : List Fields) (os : List (Option ObjectId)) (k : ℕ) (d :
 drawn_step ds os k d o at drawn is =
     subst (λ (n : ℕ). AreDrawn (take n ds) (os ++ o ∷ [])) (one_more k) (subst (λ (l : List Fields). AreDrawn l (os ++ o ∷ [])) (sym (take_more ds k d at)) (drawn_more (take k ds) os d o drawn is))
 
-pub drawn_all : (ds : List Fields) (os : List (Option ObjectId)) (k : ℕ) → length ds ≤ k → AreDrawn (take k ds) os → AreDrawn ds os
-drawn_all ds os k le drawn = subst (λ (l : List Fields). AreDrawn l os) (take_whole ds k le) drawn
-
 pub at_of : {A : Type 0} (xs : List A) (i : ℕ) (x : A) → i < length xs → x ≡ get_or xs i x → slice_get xs i ≡ Some x
 at_of [] i x lt is = absurd (omega arith)
 at_of (y ∷ ys) zero x lt is = ap (λ z. Some z) (sym is)
 at_of (y ∷ ys) (suc i) x lt is = at_of ys i x (omega arith) is
-
-pub past_of : {A : Type 0} (xs : List A) (i : ℕ) → length xs ≤ i → slice_get xs i ≡ None
-past_of [] i le = refl
-past_of (y ∷ ys) zero le = absurd (omega arith)
-past_of (y ∷ ys) (suc i) le = past_of ys i (omega arith)
 
 -- one document more in a command
 pub batch_more : (drawn : List (Option ObjectId)) (ds : List Fields) (from : ℕ) (batch : List Fields) (i : ℕ) (d e : Fields) (o : Option ObjectId) → slice_get ds i ≡ Some d → o ≡ option_flatten (slice_get drawn i) → e ≡ with_id o d → IsBatch drawn ds from batch i → IsBatch drawn ds from (batch ++ e ∷ []) (i + 1)
@@ -129,115 +129,132 @@ see_here k seen [] call h = absurd cc
 see_here zero seen (c ∷ calls) call h = let same : c ≡ call = cc in ap (λ (x : Call). Some (record x { seen = seen })) same
 see_here (suc k) seen (c ∷ calls) call h = see_here k seen calls call h
 
+push_keeps : (calls : List Call) (call : Call) → Keeps calls (calls ++ call ∷ [])
+push_keeps calls call place c there = (c, get_front calls (call ∷ []) place c there, refl, λ saw. refl)
+
 module _ (space : Space) (before piece : List Fields) where
   -- what was inserted before is so still, and so is this piece where a reply that was seen tells of no failure
-  record Told_of (calls : List Call) (seen : Sight) : Type 0 where
-    base : InsertedBelow calls (length calls) space before
-    more : (bytes : List ℕ) (count : ℤ) → seen ≡ reply bytes → told (asks_insert space piece true) bytes ≡ inserted count [] → InsertedBelow calls (length calls) space (before ++ piece)
+  record Told_of (past : Past) (seen : Sight) : Type 0 where
+    base : InsertedBelow past (length past.calls) space before
+    more : (bytes : List ℕ) (count : ℤ) → seen ≡ reply bytes → told (asks_insert space piece true) bytes ≡ inserted count [] → InsertedBelow past (length past.calls) space (before ++ piece)
 
-  abbrev Tried : Awaited → List Call → Attempt → Type 0
-  Tried awaited calls not_sent = InsertedBelow calls (length calls) space before
-  Tried awaited calls (waits ticket) = Flies awaited calls space before piece ticket
-  Tried awaited calls (answered seen) = Told_of calls seen
+  abbrev Tried : Awaited → Past → Attempt → Type 0
+  Tried awaited past not_sent = InsertedBelow past (length past.calls) space before
+  Tried awaited past (waits ticket) = Flies awaited past space before piece ticket
+  Tried awaited past (answered seen) = Told_of past seen
 
-  abbrev Leads : Awaited → Told → Attempt → Type 0
-  Leads awaited log attempt = (calls : List Call) × (log ≡ Some calls) × Tried awaited calls attempt
+  flies_base : (awaited : Awaited) (past : Past) (ticket : ℕ) → Flies awaited past space before piece ticket → InsertedBelow past (length past.calls) space before
+  flies_base awaited past ticket f = let within = get_within past.calls f.place f.call f.found in below_up past f.place (length past.calls) space before (omega arith) f.done
 
-  flies_base : (awaited : Awaited) (calls : List Call) (ticket : ℕ) → Flies awaited calls space before piece ticket → InsertedBelow calls (length calls) space before
-  flies_base awaited calls ticket f =
-      let within = get_within calls f.place f.call f.found in
-      below_on calls calls f.place (length calls) space before (record { keeps = λ k c h. (c, h, refl, refl, λ bytes e. e) }) (omega arith) f.done
+  base_of : (awaited : Awaited) (past : Past) (attempt : Attempt) → Tried awaited past attempt → InsertedBelow past (length past.calls) space before
+  base_of awaited past not_sent t = t
+  base_of awaited past (waits ticket) t = flies_base awaited past ticket t
+  base_of awaited past (answered seen) t = t.base
 
-  base_of : (awaited : Awaited) (calls : List Call) (attempt : Attempt) → Tried awaited calls attempt → InsertedBelow calls (length calls) space before
-  base_of awaited calls not_sent t = t
-  base_of awaited calls (waits ticket) t = flies_base awaited calls ticket t
-  base_of awaited calls (answered seen) t = t.base
-
-  heard_at : (calls : List Call) (k : ℕ) (call : Call) (seen : Sight) → slice_get calls k ≡ Some call → call.seen ≡ seen → asked call.command ≡ asks_insert space piece true → InsertedBelow calls k space before → Told_of calls seen
-  heard_at calls k call seen found saw asks done =
-      let within = get_within calls k call found in
+  heard_at : (past : Past) (k : ℕ) (call : Call) (seen : Sight) → IsOwn past k → slice_get past.calls k ≡ Some call → call.seen ≡ seen → asked call.command ≡ asks_insert space piece true → InsertedBelow past k space before → Told_of past seen
+  heard_at past k call seen own found saw asks done =
+      let within = get_within past.calls k call found in
       record {
-        base = below_on calls calls k (length calls) space before (record { keeps = λ k c h. (c, h, refl, refl, λ bytes e. e) }) (omega arith) done;
-        more = λ bytes count is tells. below_more calls k (length calls) space before piece within done (record { call = call; bytes = bytes; count = count; found = found; asks = asks; saw = saw ∙ is; tells = tells });
+        base = below_up past k (length past.calls) space before (omega arith) done;
+        more = λ bytes count is tells. below_more past k (length past.calls) space before piece within own done (record { call = call; bytes = bytes; count = count; found = found; asks = asks; saw = saw ∙ is; tells = tells });
       }
 
-  module _ (command : List ℕ) (asks : asked command ≡ asks_insert space piece true) where
-    begins_sent : (old new : Awaited) (log log' : Told) (calls : List Call) (attempt : Attempt) → log ≡ Some calls → InsertedBelow calls (length calls) space before → Begins old new log log' command attempt → Leads new log' attempt
-    begins_sent old new log log' calls not_sent told done b = (calls, b.log_same ∙ told, done)
-    begins_sent old new log log' calls (waits ticket) told done b =
-        let add = b.adds calls told in
-        let call : Call = record { command = command; position = add.0; seen = waiting } in (
-          calls ++ call ∷ [],
-          add.1,
-          record {
-            place = length calls;
-            call = call;
-            at = b.place calls told;
-            found = get_seam calls [] call;
-            asks = asks;
-            done = below_on calls (calls ++ call ∷ []) (length calls) (length calls) space before (grown_push calls call) (omega arith) done;
-          },
-        )
-    begins_sent old new log log' calls (answered seen) told done b =
-        let add = b.adds calls told in
-        let call : Call = record { command = command; position = add.0; seen = seen } in (
-          calls ++ call ∷ [],
-          add.1,
-          heard_at (calls ++ call ∷ []) (length calls) call seen (get_seam calls [] call) refl asks
-              (below_on calls (calls ++ call ∷ []) (length calls) (length calls) space before (grown_push calls call) (omega arith) done),
-        )
-
-    goes_on_sent : (old new : Awaited) (log log' : Told) (calls : List Call) (ticket : ℕ) (attempt : Attempt) → log ≡ Some calls → Flies old calls space before piece ticket → GoesOn old new log log' ticket attempt → Leads new log' attempt
-    goes_on_sent old new log log' calls ticket not_sent told f g = absurd g
-    goes_on_sent old new log log' calls ticket (waits given) told f g =
-        (calls, g.log_same ∙ told, record { place = f.place; call = f.call; at = g.rest given ∙ ap old g.same ∙ f.at; found = f.found; asks = f.asks; done = f.done })
-    goes_on_sent old new log log' calls ticket (answered seen) told f g =
-        let s = g.sees calls told in
-        let one : f.place ≡ s.0 = (let a = f.at in let b = s.2 in cc) in
-        let there : slice_get calls f.place ≡ Some s.1 = ap (λ n. slice_get calls n) one ∙ s.3 in
-        let same : f.call ≡ s.1 = (let a = f.found in cc) in
-        let waits : f.call.seen ≡ waiting = ap (λ (x : Call). x.seen) same ∙ s.4 in (
-          see f.place seen calls,
-          s.5 ∙ ap (λ n. Some (see n seen calls)) (sym one),
-          heard_at (see f.place seen calls) f.place (record f.call { seen = seen }) seen (see_here f.place seen calls f.call f.found) refl f.asks
-              (below_on calls (see f.place seen calls) f.place f.place space before (grown_see f.place seen calls f.call f.found waits) (omega arith) f.done),
-        )
-
-    tries_sent : (old new : Awaited) (log log' : Told) (calls : List Call) (stage : Stage) (attempt : Attempt) → log ≡ Some calls → Holding old calls space before piece (ticket_at stage) → Tries old new log log' command stage attempt → Leads new log' attempt
-    tries_sent old new log log' calls unsent attempt told h t = begins_sent old new log log' calls attempt told h t
-    tries_sent old new log log' calls (first ticket) attempt told h t = goes_on_sent old new log log' calls ticket attempt told h t
-    tries_sent old new log log' calls (second ticket) attempt told h t = goes_on_sent old new log log' calls ticket attempt told h t
-
   -- what a poll of the command leads to
-  abbrev pub Ran : Awaited → List Call → Step Sending (List ℕ) → Type 0
-  Ran awaited calls (step.Pending s) = Holding awaited calls space before piece (ticket_of s)
-  Ran awaited calls (step.Done bytes) = IsSuccess bytes × ((count : ℤ) → told (asks_insert space piece true) bytes ≡ inserted count [] → InsertedBelow calls (length calls) space (before ++ piece))
-  Ran awaited calls (step.Failed e) = Unit {0}
+  abbrev pub Ran : Awaited → Past → Step Sending (List ℕ) → Type 0
+  Ran awaited past (step.Pending s) = Holding awaited past space before piece (ticket_of s)
+  Ran awaited past (step.Done bytes) = IsSuccess bytes × ((count : ℤ) → told (asks_insert space piece true) bytes ≡ inserted count [] → InsertedBelow past (length past.calls) space (before ++ piece))
+  Ran awaited past (step.Failed e) = Unit {0}
 
-  abbrev pub LeadsTo : Awaited → Told → Step Sending (List ℕ) → Type 0
-  LeadsTo awaited log result = (calls : List Call) × (log ≡ Some calls) × Ran awaited calls result
+  flies_held : (awaited : Awaited) (past : Past) (attempt : Attempt) (ticket : ℕ) (held : Option ℕ) → attempt ≡ waits ticket → held ≡ Some ticket → Tried awaited past attempt → Holding awaited past space before piece held
+  flies_held awaited past attempt ticket held is is_held t = subst (Holding awaited past space before piece) (sym is_held) (subst (Tried awaited past) is t)
 
-  flies_held : (awaited : Awaited) (calls : List Call) (attempt : Attempt) (ticket : ℕ) (held : Option ℕ) → attempt ≡ waits ticket → held ≡ Some ticket → Tried awaited calls attempt → Holding awaited calls space before piece held
-  flies_held awaited calls attempt ticket held is is_held t = subst (Holding awaited calls space before piece) (sym is_held) (subst (Tried awaited calls) is t)
-
-  done_told : (awaited : Awaited) (calls : List Call) (attempt : Attempt) (bytes : List ℕ) → attempt ≡ answered (reply bytes) → Tried awaited calls attempt → (count : ℤ) → told (asks_insert space piece true) bytes ≡ inserted count [] → InsertedBelow calls (length calls) space (before ++ piece)
-  done_told awaited calls attempt bytes is t count tells = let h = subst (Tried awaited calls) is t in h.more bytes count refl tells
-
-  gives_sent : (awaited : Awaited) (log : Told) (attempt : Attempt) (wire : ℤ) (hold : ℕ → Sending) (result : Step Sending (List ℕ)) → ((ticket : ℕ) → ticket_of (hold ticket) ≡ Some ticket) → Gives attempt wire hold result → Leads awaited log attempt → LeadsTo awaited log result
-  gives_sent awaited log attempt wire hold (step.Pending s) holds g l = (l.0, l.1, flies_held awaited l.0 attempt g.0 (ticket_of s) g.1 (ap (λ (x : Sending). ticket_of x) g.2 ∙ holds g.0) l.2)
-  gives_sent awaited log attempt wire hold (step.Done bytes) holds g l = (l.0, l.1, (g.1, done_told awaited l.0 attempt bytes g.0 l.2))
-  gives_sent awaited log attempt wire hold (step.Failed e) holds g l = (l.0, l.1, tt)
+  done_told : (awaited : Awaited) (past : Past) (attempt : Attempt) (bytes : List ℕ) → attempt ≡ answered (reply bytes) → Tried awaited past attempt → (count : ℤ) → told (asks_insert space piece true) bytes ≡ inserted count [] → InsertedBelow past (length past.calls) space (before ++ piece)
+  done_told awaited past attempt bytes is t count tells = let h = subst (Tried awaited past) is t in h.more bytes count refl tells
 
   held_at : (stage : Stage) (ticket : ℕ) → ticket_at (holding stage ticket) ≡ Some ticket
   held_at unsent ticket = refl
   held_at (first old) ticket = refl
   held_at (second old) ticket = refl
 
-  -- A poll of a command that inserts this piece.
-  pub insert_ran : (old new : Awaited) (log log' : Told) (wire : ℤ) (s : Sending) (result : Step Sending (List ℕ)) (calls : List Call) → asked s.command ≡ asks_insert space piece true → log ≡ Some calls → Holding old calls space before piece (ticket_of s) → Runs old new log log' wire s result → LeadsTo new log' result
-  insert_ran old new log log' wire s result calls asks told h (inl once) =
-      gives_sent new log' once.attempt wire _ result (held_at s.stage) once.gives (tries_sent s.command asks old new log log' calls s.stage once.attempt told h once.tries)
-  insert_ran old new log log' wire s result calls asks told h (inr twice) =
-      let tried = tries_sent s.command asks old twice.between log twice.log_between calls s.stage twice.attempt told h twice.tries in
-      gives_sent new log' twice.again wire _ result (λ ticket. refl) twice.gives
-      (begins_sent s.command asks twice.between new twice.log_between log' tried.0 twice.again tried.1 (base_of twice.between tried.0 twice.attempt tried.2) twice.begins)
+  -- what it leads to in the log of an insert that sent at these places
+  module _ (places : List ℕ) (since : ℕ) (wire : ℤ) where
+    abbrev Leads : Awaited → Told → Attempt → Type 0
+    Leads awaited log attempt = (calls : List Call) × (log ≡ Some calls) × (since ≤ length calls) × Tried awaited (past_of places since calls wire) attempt
+
+    abbrev pub LeadsTo : Awaited → Told → Step Sending (List ℕ) → Type 0
+    LeadsTo awaited log result = (calls : List Call) × (log ≡ Some calls) × (since ≤ length calls) × Ran awaited (past_of places since calls wire) result
+
+    -- so much was inserted when the log had these calls, and it is when it has more or one has seen its answer
+    base_on : (calls calls' : List Call) (k : ℕ) → Keeps calls calls' → InsertedBelow (past_of places since calls wire) k space before → InsertedBelow (past_of places since calls' wire) k space before
+    base_on calls calls' k keeps done = below_on (past_of places since calls wire) (past_of places since calls' wire) k k space before (grows_by places since calls calls' wire keeps) (omega arith) done
+
+    module _ (command : List ℕ) (asks : asked command ≡ asks_insert space piece true) where
+      begins_sent : (old new : Awaited) (log log' : Told) (calls : List Call) (attempt : Attempt) → log ≡ Some calls → since ≤ length calls → InsertedBelow (past_of places since calls wire) (length calls) space before → Begins old new log log' command attempt → Leads new log' attempt
+      begins_sent old new log log' calls not_sent told room done b = (calls, b.log_same ∙ told, room, done)
+      begins_sent old new log log' calls (waits ticket) told room done b =
+          let add = b.adds calls told in
+          let call : Call = record { command = command; position = add.0; seen = waiting } in
+          let calls' : List Call = calls ++ call ∷ [] in
+          let longer = keeps_longer calls calls' (push_keeps calls call) in (
+            calls',
+            add.1,
+            omega arith,
+            record {
+              place = length calls;
+              call = call;
+              at = b.place calls told;
+              own = inr room;
+              found = get_seam calls [] call;
+              asks = asks;
+              done = base_on calls calls' (length calls) (push_keeps calls call) done;
+            },
+          )
+      begins_sent old new log log' calls (answered seen) told room done b =
+          let add = b.adds calls told in
+          let call : Call = record { command = command; position = add.0; seen = seen } in
+          let calls' : List Call = calls ++ call ∷ [] in
+          let longer = keeps_longer calls calls' (push_keeps calls call) in (
+            calls',
+            add.1,
+            omega arith,
+            heard_at (past_of places since calls' wire) (length calls) call seen (inr room) (get_seam calls [] call) refl asks (base_on calls calls' (length calls) (push_keeps calls call) done),
+          )
+
+      goes_on_sent : (old new : Awaited) (log log' : Told) (calls : List Call) (ticket : ℕ) (attempt : Attempt) → log ≡ Some calls → since ≤ length calls → Flies old (past_of places since calls wire) space before piece ticket → GoesOn old new log log' ticket attempt → Leads new log' attempt
+      goes_on_sent old new log log' calls ticket not_sent told room f g = absurd g
+      goes_on_sent old new log log' calls ticket (waits given) told room f g =
+          (calls, g.log_same ∙ told, room, record { place = f.place; call = f.call; at = g.rest given ∙ ap old g.same ∙ f.at; own = f.own; found = f.found; asks = f.asks; done = f.done })
+      goes_on_sent old new log log' calls ticket (answered seen) told room f g =
+          let s = g.sees calls told in
+          let one : f.place ≡ s.0 = (let a = f.at in let b = s.2 in cc) in
+          let there : slice_get calls f.place ≡ Some s.1 = ap (λ n. slice_get calls n) one ∙ s.3 in
+          let same : f.call ≡ s.1 = (let a = f.found in cc) in
+          let waits : f.call.seen ≡ waiting = ap (λ (x : Call). x.seen) same ∙ s.4 in
+          let calls' : List Call = see f.place seen calls in
+          let keeps = see_keeps f.place seen calls f.call f.found waits in
+          let longer = keeps_longer calls calls' keeps in (
+            calls',
+            s.5 ∙ ap (λ n. Some (see n seen calls)) (sym one),
+            omega arith,
+            heard_at (past_of places since calls' wire) f.place (record f.call { seen = seen }) seen f.own (see_here f.place seen calls f.call f.found) refl f.asks (base_on calls calls' f.place keeps f.done),
+          )
+
+      tries_sent : (old new : Awaited) (log log' : Told) (calls : List Call) (stage : Stage) (attempt : Attempt) → log ≡ Some calls → since ≤ length calls → Holding old (past_of places since calls wire) space before piece (ticket_at stage) → Tries old new log log' command stage attempt → Leads new log' attempt
+      tries_sent old new log log' calls unsent attempt told room h t = begins_sent old new log log' calls attempt told room h t
+      tries_sent old new log log' calls (first ticket) attempt told room h t = goes_on_sent old new log log' calls ticket attempt told room h t
+      tries_sent old new log log' calls (second ticket) attempt told room h t = goes_on_sent old new log log' calls ticket attempt told room h t
+
+    gives_sent : (awaited : Awaited) (log : Told) (attempt : Attempt) (version : ℤ) (hold : ℕ → Sending) (result : Step Sending (List ℕ)) → ((ticket : ℕ) → ticket_of (hold ticket) ≡ Some ticket) → Gives attempt version hold result → Leads awaited log attempt → LeadsTo awaited log result
+    gives_sent awaited log attempt version hold (step.Pending s) holds g l =
+        (l.0, l.1, l.2, flies_held awaited (past_of places since l.0 wire) attempt g.0 (ticket_of s) g.1 (ap (λ (x : Sending). ticket_of x) g.2 ∙ holds g.0) l.3)
+    gives_sent awaited log attempt version hold (step.Done bytes) holds g l = (l.0, l.1, l.2, (g.1, done_told awaited (past_of places since l.0 wire) attempt bytes g.0 l.3))
+    gives_sent awaited log attempt version hold (step.Failed e) holds g l = (l.0, l.1, l.2, tt)
+
+    -- A poll of a command that inserts this piece.
+    pub insert_ran : (old new : Awaited) (log log' : Told) (version : ℤ) (s : Sending) (result : Step Sending (List ℕ)) (calls : List Call) → asked s.command ≡ asks_insert space piece true → log ≡ Some calls → since ≤ length calls → Holding old (past_of places since calls wire) space before piece (ticket_of s) → Runs old new log log' version s result → LeadsTo new log' result
+    insert_ran old new log log' version s result calls asks told room h (inl once) =
+        gives_sent new log' once.attempt version _ result (held_at s.stage) once.gives (tries_sent s.command asks old new log log' calls s.stage once.attempt told room h once.tries)
+    insert_ran old new log log' version s result calls asks told room h (inr twice) =
+        let tried = tries_sent s.command asks old twice.between log twice.log_between calls s.stage twice.attempt told room h twice.tries in
+        gives_sent new log' twice.again version _ result (λ ticket. refl) twice.gives
+        (begins_sent s.command asks twice.between new twice.log_between log' tried.0 twice.again tried.1 tried.2 (base_of twice.between (past_of places since tried.0 wire) twice.attempt tried.3) twice.begins)

@@ -1,30 +1,35 @@
--- How follows end over a link that loses nothing, where their server holds nothing back.
-use Rattle.std.proofs.Common.{◌≡◌, ◌⊎◌, ◌≤◌, ℕ, suc, ℤ, pos, Bool, true, false, List, [], ◌∷◌, length, Option, Some, None, refl, sym, ap, ◌∙◌, subst, inl, inr, arith}
-use Rattle.std.specs.Prelude.{slice_get, unwrap_or}
+-- How jobs end over a link that loses nothing, where their server holds nothing back.
+use Rattle.std.proofs.Common.{◌≡◌, ◌⊎◌, ◌≤◌, ℕ, suc, ℤ, pos, Bool, true, false, List, [], ◌∷◌, length, take, Contains, Option, Some, None, refl, sym, ap, ◌∙◌, subst, inl, inr, arith}
+use Rattle.std.specs.Prelude.{IfOk, Result, Ok, Err, slice_get, unwrap_or}
 use Rattle.mg_bson.specs.Tree.{Tree, Fields, no_fields}
 use Rattle.mg_bson.specs.Raw.{fields}
 use Rattle.mg_bson.specs.Reading.{doc}
 use Rattle.mg_link.specs.Exec.{FailsAs, FailsByReply, IsSuccess}
-use Rattle.mg_link.specs.History.{Step}
+use Rattle.mg_link.specs.History.{Step, state_of}
+use Rattle.mg_link.specs.Link.{Told}
 use Rattle.mg_link.specs.Log.{Sight, fault, reply, Call}
 use Rattle.mg_link.specs.Namespace.{Space, Target, space, target}
 use Rattle.mg_link.specs.Reply.{verdict_of}
 use Rattle.mg_link.specs.Standing.{SeenFits}
+use Rattle.mg_link.specs.State.{State}
+use Rattle.mg_link.specs.Step.{documents_of}
 use Rattle.mg_link.specs.declared.error.Error.{Error}
+use Rattle.mg_link.specs.declared.error.ErrorKind.{ErrorKind}
 use Rattle.mg_link.specs.declared.reply.Verdict.{Verdict}
 use Rattle.mg_link.specs.declared.reply.Verdict.TheVariants as verdict
 use Rattle.mg_link.proofs.Places.{get_within}
 use Rattle.mg_options.specs.declared.change_stream.ChangeStreamOptions.{ChangeStreamOptions}
 use Rattle.mg_ops.specs.Aims.{aim_of}
-use Rattle.mg_ops.specs.Commands.{get_more_command, watch_command}
+use Rattle.mg_ops.specs.Commands.{get_more_command, insert_command, watch_command}
 use Rattle.mg_ops.specs.Failing.{CannotBeSent}
 use Rattle.mg_ops.specs.Limits.{SizePasses}
 use Rattle.mg_ops.specs.Naming.{IsNamed}
 use Rattle.mg_ops.specs.Resuming.{options_for}
+use Rattle.mg_ops.specs.Writes.{ListsAs}
 use Rattle.mg_ops.specs.declared.aggregate.ChangeStreamAggregate.{ChangeStreamAggregate}
 use Rattle.mg_ops.specs.declared.change_stream.WatchArgs.{WatchArgs}
 use Rattle.mg_ops.specs.declared.cursor_reply.CursorInformation.{CursorInformation}
-use Rattle.mg_ops.proofs.Asking.{asks_as_aimed, asks_for_more}
+use Rattle.mg_ops.proofs.Asking.{asks_as_aimed, asks_for_more, asks_to_insert}
 use Rattle.mg_change.specs.Calls.{HeardAt, HeardBy, HeardLast, Past}
 use Rattle.mg_change.specs.Causes.{CallEmpty, CallFailed, CallFails, CallGave, CallNone, Called, CannotBuild, Has, Leaves, Next, Replied, Standing, Stays, TellsCursor, more_command, remembered_empty, resume_command}
 use Rattle.mg_change.specs.Causes as causes
@@ -35,18 +40,23 @@ use Rattle.mg_change.specs.OpeningCauses.{Opened, OpeningFails}
 use Rattle.mg_change.specs.OpeningCauses as openings
 use Rattle.mg_change.specs.Openings.{opening_command}
 use Rattle.mg_change.proofs.Reading.{named_read}
-use Rattle.mg_jobs.specs.Causes.{AllSentIn, Answered, ClosedBy, Course, FollowCaused, OpenCaused, OpenFailed, OutcomeCaused, OwesAlone, SentIn, sent_at}
-use Rattle.mg_jobs.specs.Completing.{AnswerWell, AnswersAreWell, AnswersWell, CallsWell, EndsWell, Faultless, FollowWell, IsExcused, OutcomeWell, asks, kills, opens, resumes}
+use Rattle.mg_jobs.specs.Causes.{AllCaused, AllSentIn, Answered, ClosedBy, Course, FollowCaused, InsertEnds, OpenCaused, OpenFailed, OutcomeCaused, OwesAlone, SentIn, course, sent_at}
+use Rattle.mg_jobs.specs.Completing.{AllWell, AnswerWell, AnswersAreWell, AnswersWell, AreFresh, CallsWell, EndsWell, FollowWell, InsertWell, IsExcused, IsExcusedInsert, OutcomeWell, SendFresh, asks, kills, opens, resumes}
+use Rattle.mg_jobs.specs.Counts.{Faultless, LosesNothing}
 use Rattle.mg_jobs.specs.Follows.{IsArgsFor, poll_of}
+use Rattle.mg_jobs.specs.InsertCauses.{InsertFails, cannot_encode, cannot_insert, listed, lost, no_memory, refused}
 use Rattle.mg_jobs.specs.Plan.{Begin, Task, follow, get, insert, put}
-use Rattle.mg_jobs.specs.Progress.{FollowPlayed, IsPlayed, OpenPlayed, pends_last, turns_done}
+use Rattle.mg_jobs.specs.Progress.{AllPlayed, FollowPlayed, InsertPlayed, IsPlayed, OpenPlayed, pends_last, turns_done}
 use Rattle.mg_jobs.specs.declared.outcome.Answer.{Answer}
 use Rattle.mg_jobs.specs.declared.outcome.Answer.TheVariants as answers
 use Rattle.mg_jobs.specs.declared.outcome.Ended.{Ended}
 use Rattle.mg_jobs.specs.declared.outcome.Ended.TheVariants as ended
 use Rattle.mg_jobs.specs.declared.outcome.Outcome.{Outcome}
 use Rattle.mg_jobs.specs.declared.outcome.Outcome.TheVariants as outcome
+use Rattle.mg_jobs.specs.declared.outcome.Played.{Played}
+use Rattle.mg_jobs.specs.declared.outcome.Turned.{Turned}
 use Rattle.mg_jobs.proofs.Batches.{breaks_not, events_are}
+use Rattle.mg_jobs.proofs.InsertWell.{never_lists}
 use Rattle.mg_jobs.proofs.Prompting.{Brings, HaveIds, IsPrompted, more_brings, prompt_success, prompted, watch_brings}
 
 -- ---- what a call heard
@@ -71,9 +81,13 @@ heard_by : (past : Past) (command : Fields) (retries : Bool) (seen : Sight) → 
 heard_by past command retries seen h = record { place = h.place; heard = h.heard }
 
 -- the step of a command whose reply was heard
-record Taken (command : Fields) (bytes : List ℕ) : Type 0 where
+record Taken (own : List ℕ) (history : List Step) (command : Fields) (bytes : List ℕ) : Type 0 where
+  position : ℕ
   step : Step
+  is_own : Contains own position
+  there : slice_get history position ≡ Some step
   at_once : IsPrompted step
+  before_is : state_of (take position history) ≡ at_once.before
   command_is : fields step.command ≡ command
   reply_is : bytes ≡ step.reply
 
@@ -92,14 +106,19 @@ module _ (c : Course) (i k : ℕ) (begun calls : List Call) (wire : ℤ) (places
       let within = get_within begun h.place h.heard.call (faultless h.place h.heard.call h.heard.there h.heard.has_seen) in
       omega arith
 
-  taken : (command : Fields) (bytes : List ℕ) → HeardBy (sent_at places calls wire) command (reply bytes) → Taken command bytes
+  taken : (command : Fields) (bytes : List ℕ) → HeardBy (sent_at places calls wire) command (reply bytes) → Taken well.own well.history command bytes
   taken command bytes h =
       let own = own_place h.place command (reply bytes) h.heard in
       let p = well.stands.placed h.place h.heard.call bytes h.heard.there h.heard.has_seen in
       let s = well.stands.same h.place h.heard.call p.0 h.heard.there p.1 in
+      let is_own = well.positions k h.place h.heard.call p.0 own h.heard.there p.1 in
       record {
+        position = p.0;
         step = s.0;
-        at_once = prompted well.history well.own p.0 s.0 well.legal well.prompt (well.positions k h.place h.heard.call p.0 own h.heard.there p.1) s.1;
+        is_own = is_own;
+        there = s.1;
+        at_once = prompted well.history well.own p.0 s.0 well.legal well.prompt is_own s.1;
+        before_is = refl;
         command_is = ap fields s.2 ∙ h.heard.command_is;
         reply_is = subst (λ (x : Sight). SeenFits x s.0.reply) h.heard.has_seen s.3;
       }
@@ -338,15 +357,67 @@ module _ (c : Course) (i : ℕ) (begun calls : List Call) (wire : ℤ) (whole : 
         | inr f ↦ unopened_well e f
       ]
 
+-- ---- an insert
+
+module _ (c : Course) (i : ℕ) (begun calls : List Call) (wire : ℤ) (whole : length begun ≡ c.begun) (faultless : Faultless begun calls) (well : AnswersWell c i calls) (ns : Space) (docs : List Fields) (named : IsNamed ns) (fresh : SendFresh well.own well.history) where
+  module _ (places : List ℕ) (sent : AllSentIn c i 0 places) where
+    -- its server lists no failure
+    never_listed : (piece : List Fields) (bytes : List ℕ) (k : ErrorKind) → HeardBy (sent_at places calls wire) (insert_command ns piece) (reply bytes) → ListsAs (length piece) (fields bytes) k → ⊥
+    never_listed piece bytes k heard lists =
+        let t = taken c i 0 begun calls wire places whole faultless well sent (insert_command ns piece) bytes heard in
+        let asks = asks_to_insert t.step.command ns piece named t.command_is in
+        let fresh_there = subst (λ (s : State). AreFresh (documents_of s ns) piece) t.before_is (fresh t.position t.step ns piece t.is_own t.there asks) in
+        never_lists t.step t.at_once ns piece asks fresh_there (length piece) k (well.met t.position t.step ns piece t.is_own t.there asks) (subst (λ (b : List ℕ). ListsAs (length piece) (fields b) k) t.reply_is lists)
+
+    served : IsServed (sent_at places calls wire)
+    served = serves c i 0 begun calls wire places whole faultless well sent
+
+    insert_fails : (e : Error) → InsertFails (sent_at places calls wire) ns docs e → IsExcusedInsert ns docs e
+    insert_fails e (no_memory room) = inl room
+    insert_fails e (lost piece part is heard) = absurd (served.lost (insert_command ns piece) (heard_by (sent_at places calls wire) (insert_command ns piece) false fault heard))
+    insert_fails e (refused piece bytes part heard fails) = absurd (served.refused (insert_command ns piece) bytes wire e (heard_by (sent_at places calls wire) (insert_command ns piece) false (reply bytes) heard) fails)
+    insert_fails e (listed piece bytes part heard lists) = absurd (never_listed piece bytes e.kind (heard_by (sent_at places calls wire) (insert_command ns piece) false (reply bytes) heard) lists)
+    insert_fails e (cannot_encode d part by) = inr (inr (d, part, by))
+    insert_fails e (cannot_insert piece part by) = inr (inl (piece, part, by))
+
+  insert_well : (end : Ended ℕ) (k : ℕ) → InsertEnds c i calls wire ns docs end → InsertPlayed end k → 1 ≤ k → InsertWell ns docs end
+  insert_well ended.Unfinished k ends played turns = omega arith
+  insert_well (ended.Gave n) k ends played turns = tt
+  insert_well (ended.Failed e) k ends played turns = insert_fails ends.places ends.sent e ends.by
+
 -- ---- the law
 
-pub follows_end_well : (c : Course) (i : ℕ) (begun calls : List Call) (wire : ℤ) (t : Task) (r : Outcome) → length begun ≡ c.begun → Faultless begun calls → OutcomeCaused c i calls wire t r
+pub jobs_end_well : (c : Course) (i : ℕ) (begun calls : List Call) (wire : ℤ) (t : Task) (r : Outcome) → length begun ≡ c.begun → Faultless begun calls → OutcomeCaused c i calls wire t r
     → IsPlayed t (turns_done i c.order c.notes) (pends_last i c.order c.notes) r → OutcomeWell c i calls t r
-follows_end_well c i begun calls wire (follow on count start filter batch) (outcome.Follow opened said token alive closed) whole faultless caused played = λ well small turns.
+jobs_end_well c i begun calls wire (follow on count start filter batch) (outcome.Follow opened said token alive closed) whole faultless caused played = λ well small turns.
     follow_well c i begun calls wire whole faultless well on start filter batch small opened count (turns_done i c.order c.notes) (pends_last i c.order c.notes) said.items token alive closed caused played turns
-follows_end_well c i begun calls wire (follow on count start filter batch) (outcome.Insert e) whole faultless caused played = caused
-follows_end_well c i begun calls wire (follow on count start filter batch) (outcome.Put e) whole faultless caused played = caused
-follows_end_well c i begun calls wire (follow on count start filter batch) (outcome.Get bytes e) whole faultless caused played = caused
-follows_end_well c i begun calls wire (insert ns docs) r whole faultless caused played = tt
-follows_end_well c i begun calls wire (put db bucket name id chunk pieces) r whole faultless caused played = tt
-follows_end_well c i begun calls wire (get db bucket id read) r whole faultless caused played = tt
+jobs_end_well c i begun calls wire (follow on count start filter batch) (outcome.Insert e) whole faultless caused played = caused
+jobs_end_well c i begun calls wire (follow on count start filter batch) (outcome.Put e) whole faultless caused played = caused
+jobs_end_well c i begun calls wire (follow on count start filter batch) (outcome.Get bytes e) whole faultless caused played = caused
+jobs_end_well c i begun calls wire (insert ns docs) (outcome.Insert end) whole faultless caused played = λ well named fresh turns.
+    insert_well c i begun calls wire whole faultless well ns docs named fresh end (turns_done i c.order c.notes) caused played turns
+jobs_end_well c i begun calls wire (insert ns docs) (outcome.Follow opened said token alive closed) whole faultless caused played = caused
+jobs_end_well c i begun calls wire (insert ns docs) (outcome.Put e) whole faultless caused played = caused
+jobs_end_well c i begun calls wire (insert ns docs) (outcome.Get bytes e) whole faultless caused played = caused
+jobs_end_well c i begun calls wire (put db bucket name id chunk pieces) r whole faultless caused played = tt
+jobs_end_well c i begun calls wire (get db bucket id read) r whole faultless caused played = tt
+
+-- ---- a run
+
+all_well : (log log' : Told) (wire : ℤ) (tasks : List Task) (order : List ℕ) (notes : List Turned) (outcomes : List Outcome) → LosesNothing log log' → AllCaused log log' wire tasks order notes outcomes → AllPlayed tasks order notes outcomes → AllWell log log' tasks order notes outcomes
+all_well log log' wire tasks order notes outcomes lossless caused played calls told =
+    let by = caused calls told in
+    let kept = lossless calls told in
+    let here = by.1 in
+    let there = kept.1 in
+    let same : kept.0 ≡ by.0 = cc in (
+      by.0,
+      by.1,
+      (λ i t r ht hr. jobs_end_well (course calls order notes) i calls by.0 wire t r refl (subst (λ (cs : List Call). Faultless calls cs) same kept.2) (by.2 i t r ht hr) (played i t r ht hr)),
+    )
+
+-- the same of a run, unless memory ran out
+pub well_so : (log log' : Told) (wire : ℤ) (tasks : List Task) (order : List ℕ) (result : Result Played Error) → LosesNothing log log' → IfOk result (λ p. AllCaused log log' wire tasks order p.turns.items p.outcomes.items) → IfOk result (λ p. AllPlayed tasks order p.turns.items p.outcomes.items)
+    → IfOk result (λ p. AllWell log log' tasks order p.turns.items p.outcomes.items)
+well_so log log' wire tasks order (Ok p) lossless caused played = all_well log log' wire tasks order p.turns.items p.outcomes.items lossless caused played
+well_so log log' wire tasks order (Err e) lossless caused played = tt

@@ -1,5 +1,5 @@
 -- What the jobs of a run know goes on to hold, turn by turn.
-use Rattle.std.proofs.Common.{◌≡◌, ◌⊎◌, ℕ, zero, suc, ℤ, pos, List, [], ◌∷◌, ◌++◌, Some, None, refl, sym, ap, ◌∙◌, subst, inl, inr, length, map, arith, append_assoc, append-nil, length-append, ◌+◌, Result, Ok, Err, take}
+use Rattle.std.proofs.Common.{◌≡◌, ◌⊎◌, ℕ, zero, suc, ℤ, pos, List, [], ◌∷◌, ◌++◌, Some, None, refl, sym, ap, ◌∙◌, subst, inl, inr, length, map, arith, append_assoc, length-append, ◌+◌, Result, Ok, Err, take}
 use Rattle.std.specs.Prelude.{slice_get, slice_set, IfOk}
 use Rattle.mg_link.specs.Link.{Awaited, Told}
 use Rattle.mg_link.specs.Log.{Call}
@@ -8,9 +8,6 @@ use Rattle.mg_link.proofs.Apart.{holds_nobody, passes_same}
 use Rattle.mg_link.proofs.Plain.{PassesPlain}
 use Rattle.mg_link.proofs.Runs.{OwnsNothing, apart_after, apart_at_first, others_onward}
 use Rattle.mg_link.specs.Namespace.{space, target}
-use Rattle.mg_link.proofs.Owners.{grown_refl}
-use Rattle.mg_jobs.specs.Underway.{EndInserts, InsertKnows, InsertTurns, StageInserts}
-use Rattle.mg_jobs.proofs.Sendings.{stage_ends, stage_on}
 use Rattle.mg_link.specs.State.{Start, Watch}
 use Rattle.mg_link.proofs.Answering.{knows_new}
 use Rattle.mg_change.specs.Following.{not_open}
@@ -20,7 +17,7 @@ use Rattle.mg_link.specs.declared.error.Error.{Error}
 use Rattle.mg_jobs.specs.declared.outcome.Played.{Played}
 use Rattle.mg_jobs.specs.declared.script.Job.{Job}
 use Rattle.mg_jobs.specs.Follows.{FollowKnows, FollowTurns, FollowsNothing, HasNothing, IsUnfinished, IsUnwatched, IsWatch, IsWatched, WatchesNothing, filter_in}
-use Rattle.mg_jobs.specs.Playing.{IsPlainInsert, IsPlainJob, IsSameFollow, IsSameInsert, end_of}
+use Rattle.mg_jobs.specs.Playing.{IsPlainInsert, IsPlainJob, IsSameFollow, IsSameInsert}
 use Rattle.mg_jobs.specs.Headline.{AllFollowed, AllKnow, AreFirst, DoTasks, Does, IsFirst, IsSameTask, Knowing, Made, OutcomeFollowed, OutcomeOf, OutcomesOf, Plays, PlaysAt, Took, Turns}
 use Rattle.mg_jobs.specs.declared.player.FollowPlayer.{FollowPlayer}
 use Rattle.mg_jobs.specs.declared.player.Stage.{Stage}
@@ -45,14 +42,14 @@ get_past_other (z ∷ xs) (suc k) zero x y ne h = h
 get_past_other (z ∷ xs) (suc k) (suc i) x y ne h = get_past_other xs k i x y (λ e. ne (ap suc e)) h
 
 same_player : (old new : Awaited) (calls : List Call) (p : Player) (o : Owner) → ((m : ℕ) → job_ticket p ≡ Some m → new m ≡ old m) → Plays old calls p o → Plays new calls p o
-same_player old new calls (player.Insert job) o same plays = (plays.0, plays.1, stage_on old new calls calls (space job.ns.now) (grown_refl calls) job.documents.now job.stage same plays.2)
+same_player old new calls (player.Insert job) o same plays = plays
 same_player old new calls (player.Follow job) o same (inl knows) = inl (same_follow old new calls job.stage job o same knows)
 same_player old new calls (player.Follow job) o same (inr vain) = inr (vain.0, same_vain old new calls job.stage job same vain.1)
 same_player old new calls player.Put o same plays = plays
 same_player old new calls player.Get o same plays = plays
 
 kept_player : (awaited : Awaited) (calls calls' : List Call) (p : Player) (o : Owner) → Onward calls calls' o → Plays awaited calls p o → Plays awaited calls' p o
-kept_player awaited calls calls' (player.Insert job) o onward plays = (plays.0, plays.1, stage_on awaited awaited calls calls' (space job.ns.now) onward.grown job.documents.now job.stage (λ m e. refl) plays.2)
+kept_player awaited calls calls' (player.Insert job) o onward plays = plays
 kept_player awaited calls calls' (player.Follow job) o onward (inl knows) = inl (kept_follow awaited calls calls' job.stage job o onward knows)
 kept_player awaited calls calls' (player.Follow job) o onward (inr vain) = inr (vain.0, kept_vain awaited calls calls' job.stage job (subst (Onward calls calls') vain.0 onward) vain.1)
 kept_player awaited calls calls' player.Put o onward plays = plays
@@ -89,22 +86,14 @@ module _ (old new : Awaited) (log log' : Told) (wire : ℤ) (players : List Play
       let on = goes.turned before.0 before.1 here.owner here.plays in
       (on.0, on.1, knowing_turn before.0 on.0 before.2 here on.2, λ made. on.2.passes.made (before.3 made))
 
--- A run in which nothing was changed stands as before.
-pub knowing_same : (awaited awaited' : Awaited) (begun log log' : Told) (players players' : List Player) → awaited' ≡ awaited → log' ≡ log → players' ≡ players → Knowing awaited begun log players → Knowing awaited' begun log' players'
-knowing_same awaited awaited' begun log log' players players' a l p knowing calls e =
-    let before = knowing calls e in
-    (before.0, l ∙ before.1, subst (λ ps. AllKnow awaited' before.0 ps) (sym p) (subst (λ w. AllKnow w before.0 players) (sym a) before.2), before.3)
-
 -- ---- turns of each kind
 
 -- an insert names no cursor, and leaves every other job alone
-pub turned_insert : (old new : Awaited) (log log' : Told) (job job' : InsertPlayer) → (IsPlainJob job → PassesPlain log log' × IsPlainJob job') → IsSameInsert job job' → InsertTurns old new log log' job.stage job'.stage → Turns old new log log' (player.Insert job) (player.Insert job')
-turned_insert old new log log' job job' plain same turned calls told o plays =
+pub turned_insert : (old new : Awaited) (log log' : Told) (job job' : InsertPlayer) → (IsPlainJob job → PassesPlain log log' × IsPlainJob job') → Turns old new log log' (player.Insert job) (player.Insert job')
+turned_insert old new log log' job job' plain calls told o plays =
     let on = plain plays.1 in
     let m = on.0 calls told in
-    let knows : StageInserts new m.0 (space job.ns.now) job.documents.now job'.stage = turned calls m.0 told m.1 (space job.ns.now) job.documents.now plays.2 in
-    let knows' : InsertKnows new m.0 job' = subst (λ d. StageInserts new m.0 (space job'.ns.now) d.now job'.stage) (sym same.1) (subst (λ n. StageInserts new m.0 (space n.now) job.documents.now job'.stage) (sym same.0) knows) in
-    (m.0, m.1, record { owner = nobody; plays = (refl, on.1, knows'); passes = subst (λ (x : Owner). Passes calls m.0 x nobody) (sym plays.0) m.2 })
+    (m.0, m.1, record { owner = nobody; plays = (refl, on.1); passes = subst (λ (x : Owner). Passes calls m.0 x nobody) (sym plays.0) m.2 })
 
 pub turned_follow : (old new : Awaited) (log log' : Told) (job job' : FollowPlayer) → FollowTurns old new log log' job.stage job job'.stage job' → Turns old new log log' (player.Follow job) (player.Follow job')
 turned_follow old new log log' job job' turned calls told o (inl knows) =
@@ -214,7 +203,7 @@ plays_by awaited calls job (inl w) first = inl (at_first awaited calls job.stage
 plays_by awaited calls job (inr none) first = inr (refl, vain_first awaited calls job.stage job first.0 first.1 first.2 none)
 
 plays_first : (awaited : Awaited) (calls : List Call) (p : Player) → IsFirst p → Plays awaited calls p (first_owner p)
-plays_first awaited calls (player.Insert job) first = (refl, subst (λ s. IsPlainInsert s) (sym first) tt, subst (λ s. StageInserts awaited calls (space job.ns.now) job.documents.now s) (sym first) tt)
+plays_first awaited calls (player.Insert job) first = (refl, subst (λ s. IsPlainInsert s) (sym first) tt)
 plays_first awaited calls (player.Follow job) first = plays_by awaited calls job (watch_or_nothing (target job.watched.target.now) (begin job.watched.start.now) (filter_in job.watched)) first
 plays_first awaited calls player.Put first = refl
 plays_first awaited calls player.Get first = refl
@@ -241,12 +230,7 @@ knowing_first awaited log players first calls e = (
 -- ---- at the end
 
 outcome_of_task : (awaited : Awaited) (calls : List Call) (t : Task) (p : Player) (r : Outcome) (o : Owner) → Does t p → OutcomeOf p r → Plays awaited calls p o → OutcomeFollowed calls t r
-outcome_of_task awaited calls (plan.insert ns docs) (player.Insert job) r o does is plays =
-    subst (λ (x : Outcome). OutcomeFollowed calls (plan.insert ns docs) x) (sym is)
-    (subst (λ d. EndInserts calls ns d (end_of job.stage)) does.1 (subst (λ a. EndInserts calls a job.documents.now (end_of job.stage)) does.0 (stage_ends awaited calls (space job.ns.now) job.documents.now job.stage plays.2)))
-outcome_of_task awaited calls (plan.insert ns docs) (player.Follow job) r o does is plays = absurd does
-outcome_of_task awaited calls (plan.insert ns docs) player.Put r o does is plays = absurd does
-outcome_of_task awaited calls (plan.insert ns docs) player.Get r o does is plays = absurd does
+outcome_of_task awaited calls (plan.insert ns docs) p r o does is plays = tt
 outcome_of_task awaited calls (plan.put db bucket name id chunk pieces) p r o does is plays = tt
 outcome_of_task awaited calls (plan.get db bucket id read) p r o does is plays = tt
 outcome_of_task awaited calls (plan.follow on count start filter batch) (player.Insert job) r o does is plays = absurd does
@@ -339,9 +323,6 @@ made_more players rest rest' outcomes p r is made of =
       count = length-append made.gone (p ∷ []) ∙ ap (λ n. n + 1) made.count ∙ sym (length-append outcomes (r ∷ []));
       of = outcomes_more made.gone outcomes p r made.count made.of of;
     }
-
-pub made_all : (players rest : List Player) (outcomes : List Outcome) → rest ≡ [] → Made players rest outcomes → OutcomesOf players outcomes
-made_all players rest outcomes is made = subst (λ ps. OutcomesOf ps outcomes) (sym (made.whole ∙ ap (λ l. made.gone ++ l) is ∙ append-nil made.gone)) made.of
 
 -- what was played is as it should be, unless memory ran out
 pub played_so : (awaited : Awaited) (ts : List Task) (log log' : Told) (result : Result Played Error) (players : List Player) (count : ℕ) → IfOk result (λ p. length p.outcomes.items ≡ count) → IfOk result (λ p. OutcomesOf players p.outcomes.items)

@@ -20,5 +20,7 @@ pub mod Telling
 pub mod Told
 pub mod Prompting
 pub mod Batches
+pub mod InsertWell
 pub mod Completing
 pub mod InsertCauses
+pub mod InsertTelling

@@ -75,7 +75,7 @@ pub record IsPrompted (step : Step) : Type 0 where
   pub may : May before (asked step.command) (told_at step) step.made
   pub prompt : AnswersAtOnce before (step_after before step) (asked step.command) (told_at step)
 
-pub prompted : (history : List Step) (own : List ℕ) (p : ℕ) (step : Step) → IsLegal history → IsPrompt own history → Contains own p → slice_get history p ≡ Some step → IsPrompted step
+abbrev pub prompted : (history : List Step) (own : List ℕ) (p : ℕ) (step : Step) → IsLegal history → IsPrompt own history → Contains own p → slice_get history p ≡ Some step → IsPrompted step
 prompted history own p step legal prompt is there =
     let front = subst IsLegal (take_more history p step there) (legal_take nothing (suc p) history legal) in
     record {
@@ -91,7 +91,7 @@ module _ (step : Step) (p : IsPrompted step) where
   never_garbled : told_at step ≡ garbled → ⊥
   never_garbled is = subst (λ (t : Told). MayTell p.before (grown p.before step.made) (asked step.command) t step.made) is p.may.tells
 
-  told_so : (v : Verdict) → verdict_of (fields step.reply) ≡ v → told_at step ≡ told_by v (asked step.command) (fields step.reply)
+  pub told_so : (v : Verdict) → verdict_of (fields step.reply) ≡ v → told_at step ≡ told_by v (asked step.command) (fields step.reply)
   unfolding told
   told_so v is = ap (λ (w : Verdict). told_by w (asked step.command) (fields step.reply)) is
 
@@ -121,7 +121,7 @@ ids_given s made w from upto events numbered none these =
     subst HaveIds (sym these) (subst (λ (cs : List Entry). HaveIds (events_between w cs from upto)) (sym (grown_none s made none)) (ids_between s w from upto numbered))
 
 module _ (step : Step) (p : IsPrompted step) where
-  may_tell : (command : Asked) (said : Told) → asked step.command ≡ command → told_at step ≡ said → MayTell p.before (grown p.before step.made) command said step.made
+  pub may_tell : (command : Asked) (said : Told) → asked step.command ≡ command → told_at step ≡ said → MayTell p.before (grown p.before step.made) command said step.made
   may_tell command said asks tells =
       subst (λ (c : Asked). MayTell p.before (grown p.before step.made) c said step.made) asks (subst (λ (t : Told). MayTell p.before (grown p.before step.made) (asked step.command) t step.made) tells p.may.tells)
 

@@ -32,7 +32,7 @@ use Rattle.mg_change.specs.declared.stream.ChangeStream.{ChangeStream}
 use Rattle.mg_change.specs.declared.stream.Phase.{Phase}
 use Rattle.mg_change.specs.declared.stream.Phase.TheVariants as phase
 use Rattle.mg_change.proofs.Growing.{called_grows, so_far_grows}
-use Rattle.mg_change.proofs.Calls.{same_keeps}
+use Rattle.mg_change.proofs.Calls.{keeps_longer, same_keeps}
 use Rattle.mg_change.proofs.Causes.{begins}
 use Rattle.mg_change.proofs.ClosingCauses.{kill_done_grows, kill_fails_grows, kills_grows}
 use Rattle.mg_change.proofs.OpeningCauses.{opened_grows, opening_fails_grows, opens_grows}
@@ -88,7 +88,7 @@ in_either [] ys x of = inr of
 in_either (y ∷ xs) ys x (inl e) = inl (inl e)
 in_either (y ∷ xs) ys x (inr of) = elim (in_either xs ys x of) [ inl a ↦ inl (inr a) | inr b ↦ inr b ]
 
-since_is : (places : List ℕ) (from upto place : ℕ) → from ≤ upto → IsOf (sent_since places from upto) place → IsOf places place ⊎ ((from ≤ place) × (place < upto))
+pub since_is : (places : List ℕ) (from upto place : ℕ) → from ≤ upto → IsOf (sent_since places from upto) place → IsOf places place ⊎ ((from ≤ place) × (place < upto))
 since_is places from upto place room of =
     elim (in_either places (places_from from (upto - from)) place of) [
       | inl before ↦ inl before
@@ -100,16 +100,8 @@ is_since places from upto place low high = in_second places (places_from from (u
 
 -- ---- logs
 
-tail_keeps : (c d : Call) (calls calls' : List Call) → Keeps (c ∷ calls) (d ∷ calls') → Keeps calls calls'
-tail_keeps c d calls calls' keeps place call there = keeps (suc place) call there
-
-pub keeps_longer : (calls calls' : List Call) → Keeps calls calls' → length calls ≤ length calls'
-keeps_longer [] calls' keeps = omega arith
-keeps_longer (c ∷ calls) [] keeps = let first = keeps zero c refl in absurd (let bad : None ≡ Some first.0 = first.1 in cc)
-keeps_longer (c ∷ calls) (d ∷ calls') keeps = let more = keeps_longer calls calls' (tail_keeps c d calls calls' keeps) in omega (arith, more)
-
 -- what was sent at these places is told so by a later log
-grows_later : (places : List ℕ) (calls calls' : List Call) (wire : ℤ) → Keeps calls calls' → Grows (sent_at places calls wire) (sent_at places calls' wire)
+pub grows_later : (places : List ℕ) (calls calls' : List Call) (wire : ℤ) → Keeps calls calls' → Grows (sent_at places calls wire) (sent_at places calls' wire)
 grows_later places calls calls' wire keeps =
     record {
       own = λ place call there own. elim own [ inl of ↦ inl of | inr beyond ↦ absurd (let within = get_within calls place call there in omega (arith, beyond, within)) ];
@@ -118,7 +110,7 @@ grows_later places calls calls' wire keeps =
     }
 
 -- what a poll sent is told by the places from which on it sent
-grows_ended : (places : List ℕ) (since : ℕ) (calls : List Call) (wire : ℤ) → Grows (past_of places since calls wire) (sent_at (sent_since places since (length calls)) calls wire)
+pub grows_ended : (places : List ℕ) (since : ℕ) (calls : List Call) (wire : ℤ) → Grows (past_of places since calls wire) (sent_at (sent_since places since (length calls)) calls wire)
 grows_ended places since calls wire =
     record {
       own = λ place call there own. elim own [

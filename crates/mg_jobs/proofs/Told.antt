@@ -7,27 +7,28 @@ use Rattle.std.proofs.lemmas.List.Sums.{sum_by-append}
 use Rattle.mg_bson.specs.Tree.{Fields, Tree}
 use Rattle.mg_link.specs.Link.{Awaited, Told}
 use Rattle.mg_link.specs.Log.{Call}
-use Rattle.mg_link.specs.Namespace.{Target, target}
+use Rattle.mg_link.specs.Namespace.{Space, Target, space, target}
 use Rattle.mg_link.specs.declared.error.Error.{Error}
-use Rattle.mg_change.specs.Calls.{Keeps, Stays}
+use Rattle.mg_change.specs.Calls.{Keeps, Stays, past_of}
 use Rattle.mg_change.specs.Causes.{Standing}
 use Rattle.mg_change.specs.Following.{token_of}
-use Rattle.mg_jobs.specs.Causes.{AllCaused, AllSentIn, ClosedBy, Course, FollowCaused, OpenCaused, OutcomeCaused, SentIn, course, sent_at}
+use Rattle.mg_jobs.specs.Causes.{AllCaused, AllSentIn, ClosedBy, Course, FollowCaused, InsertEnds, OpenCaused, OutcomeCaused, SentIn, course, sent_at}
 use Rattle.mg_jobs.specs.Counts.{StartedBy}
 use Rattle.mg_jobs.specs.Follows.{HasGiven, IsUnfinished, filter_in, token_at}
 use Rattle.mg_jobs.specs.Headline.{AreFirst, DoTasks, Does, IsFirst, OutcomeOf, OutcomesOf}
 use Rattle.mg_jobs.specs.Plan as plan
 use Rattle.mg_jobs.specs.Plan.{Begin, Task, begin}
-use Rattle.mg_jobs.specs.Playing.{IsSameFollow, follow_ended, stage_ticket}
+use Rattle.mg_jobs.specs.Playing.{IsSameFollow, IsSameInsert, end_of, follow_ended, stage_ticket}
 use Rattle.mg_jobs.specs.Progress.{AllAt, Came, FollowAt, IsAt, calls_of, came, turns_done}
 use Rattle.mg_jobs.specs.Runs.{AreApart, Goes, has_ended, job_ticket}
-use Rattle.mg_jobs.specs.Telling.{AllSent, AllTell, Extends, FollowTells, FollowTold, IsNoFollow, IsNow, IsOpened, IsSameTeller, JobTells, JobTold, Kept, Places, TellsEnd, kept, number}
+use Rattle.mg_jobs.specs.Telling.{AllSent, AllTell, Extends, FollowTells, FollowTold, InsertTells, InsertTold, InsertTurns, IsNow, IsOpened, IsSameTeller, JobTells, JobTold, Kept, Places, TellsEnd, TellsNothing, TellsOn, kept, number}
 use Rattle.mg_jobs.specs.declared.outcome.Ended.{Ended}
 use Rattle.mg_jobs.specs.declared.outcome.Ended.TheVariants as ended
 use Rattle.mg_jobs.specs.declared.outcome.Outcome.{Outcome}
 use Rattle.mg_jobs.specs.declared.outcome.Played.{Played}
 use Rattle.mg_jobs.specs.declared.outcome.Turned.{Turned}
 use Rattle.mg_jobs.specs.declared.player.FollowPlayer.{FollowPlayer}
+use Rattle.mg_jobs.specs.declared.player.InsertPlayer.{InsertPlayer}
 use Rattle.mg_jobs.specs.declared.player.Stage.{Stage}
 use Rattle.mg_jobs.specs.declared.player.Stage.TheVariants as stage
 use Rattle.mg_jobs.specs.declared.player.Watched.{Watched}
@@ -35,12 +36,13 @@ use Rattle.mg_jobs.specs.declared.run.Player.{Player}
 use Rattle.mg_jobs.specs.declared.run.Player.TheVariants as player
 use Rattle.mg_jobs.proofs.Apart.{stays, which}
 use Rattle.mg_jobs.proofs.Knowing.{get_length, one_more, take_next}
-use Rattle.mg_jobs.proofs.Telling.{tells_at, tells_later, tells_same}
+use Rattle.mg_jobs.proofs.InsertTelling.{ends_of, insert_tells_grow, none_done, stage_stays}
+use Rattle.mg_jobs.proofs.Telling.{grows_ended, grows_later, sent_since, since_is, tells_at, tells_later, tells_same}
 
 -- ---- jobs that stay the same
 
 pub teller_same : (p : Player) → IsSameTeller p p
-teller_same (player.Insert job) = tt
+teller_same (player.Insert job) = ((refl, refl), λ awaited past t. t)
 teller_same (player.Follow job) = (refl, refl)
 teller_same player.Put = tt
 teller_same player.Get = tt
@@ -59,7 +61,10 @@ pub follow_teller : (f f' : FollowPlayer) → IsSameFollow f f' → IsSameTeller
 follow_teller f f' same = (same.stage_same, kept_same f f' same)
 
 pub same_tells : (awaited : Awaited) (log : Told) (wire : ℤ) (p p' : Player) → IsSameTeller p p' → JobTells awaited awaited log log wire p p'
-same_tells awaited log wire (player.Insert job) p' same = same
+same_tells awaited log wire (player.Insert job) (player.Insert job') same = (same.0, λ calls calls' told told' places t. stage_stays awaited log wire (space job.ns.now) job.documents.now job'.stage calls calls' told told' places (same.1 awaited (sent_at places calls wire) t))
+same_tells awaited log wire (player.Insert job) (player.Follow job') same = same
+same_tells awaited log wire (player.Insert job) player.Put same = same
+same_tells awaited log wire (player.Insert job) player.Get same = same
 same_tells awaited log wire (player.Follow job) (player.Insert job') same = same
 same_tells awaited log wire (player.Follow job) (player.Follow job') same =
     subst (λ (x : Kept). FollowTells awaited awaited log log wire job.stage (kept job) job'.stage x) (sym same.1) (tells_at awaited awaited log log wire job.stage job.stage (kept job) job.stage job'.stage (kept job) refl same.0 (tells_same awaited log wire job.stage (kept job)))
@@ -68,15 +73,29 @@ same_tells awaited log wire (player.Follow job) player.Get same = same
 same_tells awaited log wire player.Put p' same = same
 same_tells awaited log wire player.Get p' same = same
 
-no_follow_tells : (old new : Awaited) (log log' : Told) (wire : ℤ) (p p' : Player) → IsNoFollow p → JobTells old new log log' wire p p' → IsNoFollow p'
-no_follow_tells old new log log' wire (player.Insert job) p' none told = told
-no_follow_tells old new log log' wire (player.Follow job) p' none told = absurd none
-no_follow_tells old new log log' wire player.Put p' none told = told
-no_follow_tells old new log log' wire player.Get p' none told = told
+nothing_tells : (old new : Awaited) (log log' : Told) (wire : ℤ) (p p' : Player) → TellsNothing p → JobTells old new log log' wire p p' → TellsNothing p'
+nothing_tells old new log log' wire (player.Insert job) p' none told = absurd none
+nothing_tells old new log log' wire (player.Follow job) p' none told = absurd none
+nothing_tells old new log log' wire player.Put p' none told = told
+nothing_tells old new log log' wire player.Get p' none told = told
+
+insert_ready : (old new : Awaited) (log log' : Told) (wire : ℤ) (job other job' : InsertPlayer) → IsSameInsert job other → TellsOn (space job.ns.now) job.documents.now job.stage other.stage → InsertTurns old new log log' wire (space other.ns.now) other.documents.now other.stage job'.stage → InsertTurns old new log log' wire (space job.ns.now) job.documents.now job.stage job'.stage
+insert_ready old new log log' wire job other job' same on turns calls calls' told told' places t =
+    subst (λ d. InsertTells new (past_of places (length calls) calls' wire) (space job.ns.now) d.now job'.stage) same.1
+    (subst (λ n. InsertTells new (past_of places (length calls) calls' wire) (space n.now) other.documents.now job'.stage) same.0
+    (turns calls calls' told told' places
+    (subst (λ n. InsertTells old (sent_at places calls wire) (space n.now) other.documents.now other.stage) (sym same.0)
+    (subst (λ d. InsertTells old (sent_at places calls wire) (space job.ns.now) d.now other.stage) (sym same.1) (on old (sent_at places calls wire) t)))))
 
 -- a job that found a place for its answer, and then took its turn
 pub ready_tells : (old new : Awaited) (log log' : Told) (wire : ℤ) (p q p' : Player) → IsSameTeller p q → JobTells old new log log' wire q p' → JobTells old new log log' wire p p'
-ready_tells old new log log' wire (player.Insert job) q p' same told = no_follow_tells old new log log' wire q p' same told
+ready_tells old new log log' wire (player.Insert job) (player.Insert other) (player.Insert job') same told = ((told.0.0 ∙ same.0.0, told.0.1 ∙ same.0.1), insert_ready old new log log' wire job other job' same.0 same.1 told.1)
+ready_tells old new log log' wire (player.Insert job) (player.Insert other) (player.Follow job') same told = told
+ready_tells old new log log' wire (player.Insert job) (player.Insert other) player.Put same told = told
+ready_tells old new log log' wire (player.Insert job) (player.Insert other) player.Get same told = told
+ready_tells old new log log' wire (player.Insert job) (player.Follow other) p' same told = absurd same
+ready_tells old new log log' wire (player.Insert job) player.Put p' same told = absurd same
+ready_tells old new log log' wire (player.Insert job) player.Get p' same told = absurd same
 ready_tells old new log log' wire (player.Follow job) (player.Insert other) p' same told = absurd same
 ready_tells old new log log' wire (player.Follow job) (player.Follow other) (player.Insert job') same told = told
 ready_tells old new log log' wire (player.Follow job) (player.Follow other) (player.Follow job') same told =
@@ -85,8 +104,8 @@ ready_tells old new log log' wire (player.Follow job) (player.Follow other) play
 ready_tells old new log log' wire (player.Follow job) (player.Follow other) player.Get same told = told
 ready_tells old new log log' wire (player.Follow job) player.Put p' same told = absurd same
 ready_tells old new log log' wire (player.Follow job) player.Get p' same told = absurd same
-ready_tells old new log log' wire player.Put q p' same told = no_follow_tells old new log log' wire q p' same told
-ready_tells old new log log' wire player.Get q p' same told = no_follow_tells old new log log' wire q p' same told
+ready_tells old new log log' wire player.Put q p' same told = nothing_tells old new log log' wire q p' same told
+ready_tells old new log log' wire player.Get q p' same told = nothing_tells old new log log' wire q p' same told
 
 -- ---- one turn more
 
@@ -134,7 +153,12 @@ module _ (begun : ℕ) (order : List ℕ) (notes : List Turned) (j : ℕ) (note 
   told_other old new calls calls' wire i s k keeps same t = record { places = t.places; tells = tells_later old new calls calls' wire t.places s k keeps same t.tells; sent = all_later i t.places (number s k) t.sent }
 
   job_other : (old new : Awaited) (calls calls' : List Call) (wire : ℤ) (i : ℕ) (p : Player) → Keeps calls calls' → ((m : ℕ) → job_ticket p ≡ Some m → new m ≡ old m) → JobTold old calls wire now i p → JobTold new calls' wire then i p
-  job_other old new calls calls' wire i (player.Insert job) keeps same t = tt
+  job_other old new calls calls' wire i (player.Insert job) keeps same t =
+      record {
+        places = t.places;
+        sent = λ place of. sent_later i 0 place (t.sent place of);
+        tells = insert_tells_grow (sent_at t.places calls wire) (sent_at t.places calls' wire) (grows_later t.places calls calls' wire keeps) (space job.ns.now) job.documents.now old new job.stage same t.tells;
+      }
   job_other old new calls calls' wire i (player.Follow job) keeps same t = told_other old new calls calls' wire i job.stage (kept job) keeps same t
   job_other old new calls calls' wire i player.Put keeps same t = tt
   job_other old new calls calls' wire i player.Get keeps same t = tt
@@ -183,26 +207,44 @@ module _ (begun : ℕ) (order : List ℕ) (notes : List Turned) (j : ℕ) (note 
       let r = tells calls calls' is is' t.places t.tells in
       record { places = r.places; tells = r.tells; sent = all_now abreast (length calls) (length calls') (number s k) count more counts t.places r.places (number s' k') t.sent r.extends }
 
-  no_follow_told : (awaited : Awaited) (calls : List Call) (wire : ℤ) (c : Course) (i : ℕ) (p : Player) → IsNoFollow p → JobTold awaited calls wire c i p
-  no_follow_told awaited calls wire c i (player.Insert job) none = tt
-  no_follow_told awaited calls wire c i (player.Follow job) none = absurd none
-  no_follow_told awaited calls wire c i player.Put none = tt
-  no_follow_told awaited calls wire c i player.Get none = tt
+  nothing_told : (awaited : Awaited) (calls : List Call) (wire : ℤ) (c : Course) (i : ℕ) (p : Player) → TellsNothing p → JobTold awaited calls wire c i p
+  nothing_told awaited calls wire c i (player.Insert job) none = absurd none
+  nothing_told awaited calls wire c i (player.Follow job) none = absurd none
+  nothing_told awaited calls wire c i player.Put none = tt
+  nothing_told awaited calls wire c i player.Get none = tt
 
-  counts_at : (s : Stage) (k : Kept) → (number s k ≡ turns_done j order notes) ⊎ (follow_ended s ≡ true) → (follow_ended s ≡ true → note.started ≡ 0) → (number s k ≡ turns_done j order notes) ⊎ (note.started ≡ 0)
-  counts_at s k (inl is) quiet = inl is
-  counts_at s k (inr over) quiet = inr (quiet over)
+  counts_at : (n : ℕ) (over : Bool) → (n ≡ turns_done j order notes) ⊎ (over ≡ true) → (over ≡ true → note.started ≡ 0) → (n ≡ turns_done j order notes) ⊎ (note.started ≡ 0)
+  counts_at n over (inl is) quiet = inl is
+  counts_at n over (inr ends) quiet = inr (quiet ends)
+
+  insert_turn : (old new : Awaited) (log log' : Told) (calls calls' : List Call) (wire : ℤ) (job job' : InsertPlayer) → log ≡ Some calls → log' ≡ Some calls' → length notes ≡ length order → length calls ≡ begun + sum_by (λ (t : Turned). t.started) notes → length calls' ≡ length calls + note.started
+      → (0 ≡ turns_done j order notes) ⊎ (note.started ≡ 0) → IsSameInsert job job' → InsertTurns old new log log' wire (space job.ns.now) job.documents.now job.stage job'.stage → InsertTold old calls wire now j job → InsertTold new calls' wire then j job'
+  insert_turn old new log log' calls calls' wire job job' is is' abreast count more counts same turns t =
+      let from : ℕ = length calls in
+      let upto : ℕ = length calls' in
+      let places : List ℕ = sent_since t.places from upto in
+      let told : InsertTells new (sent_at places calls' wire) (space job.ns.now) job.documents.now job'.stage =
+      insert_tells_grow (past_of t.places from calls' wire) (sent_at places calls' wire) (grows_ended t.places from calls' wire) (space job.ns.now) job.documents.now new new job'.stage (λ m e. refl) (turns calls calls' is is' t.places t.tells) in
+      record {
+        places = places;
+        sent = λ place of. sent_now abreast from upto 0 count more counts (record { opened = []; owns = []; now = t.places }) place t.sent (since_is t.places from upto place (omega (arith, more)) of);
+        tells = subst (λ d. InsertTells new (sent_at places calls' wire) (space job'.ns.now) d.now job'.stage) (sym same.1) (subst (λ n. InsertTells new (sent_at places calls' wire) (space n.now) job.documents.now job'.stage) (sym same.0) told);
+      }
 
   job_turn : (old new : Awaited) (log log' : Told) (calls calls' : List Call) (wire : ℤ) (p p' : Player) (n : ℕ) (last : Bool) → log ≡ Some calls → log' ≡ Some calls' → length notes ≡ length order → length calls ≡ begun + sum_by (λ (t : Turned). t.started) notes → length calls' ≡ length calls + note.started
       → IsAt n p (turns_done j order notes) last → (has_ended p ≡ true → note.started ≡ 0) → JobTells old new log log' wire p p' → JobTold old calls wire now j p → JobTold new calls' wire then j p'
-  job_turn old new log log' calls calls' wire (player.Insert job) p' n last is is' abreast count more at quiet tells t = no_follow_told new calls' wire then j p' tells
+  job_turn old new log log' calls calls' wire (player.Insert job) (player.Insert job') n last is is' abreast count more at quiet tells t =
+      insert_turn old new log log' calls calls' wire job job' is is' abreast count more (counts_at 0 (has_ended (player.Insert job)) (none_done job.stage (turns_done j order notes) at) quiet) tells.0 tells.1 t
+  job_turn old new log log' calls calls' wire (player.Insert job) (player.Follow job') n last is is' abreast count more at quiet tells t = absurd tells
+  job_turn old new log log' calls calls' wire (player.Insert job) player.Put n last is is' abreast count more at quiet tells t = absurd tells
+  job_turn old new log log' calls calls' wire (player.Insert job) player.Get n last is is' abreast count more at quiet tells t = absurd tells
   job_turn old new log log' calls calls' wire (player.Follow job) (player.Insert job') n last is is' abreast count more at quiet tells t = absurd tells
   job_turn old new log log' calls calls' wire (player.Follow job) (player.Follow job') n last is is' abreast count more at quiet tells t =
-      told_turn old new log log' calls calls' wire job.stage (kept job) job'.stage (kept job') is is' abreast count more (counts_at job.stage (kept job) (number_at n job.stage (kept job) (came job) (turns_done j order notes) last refl at) quiet) tells t
+      told_turn old new log log' calls calls' wire job.stage (kept job) job'.stage (kept job') is is' abreast count more (counts_at (number job.stage (kept job)) (follow_ended job.stage) (number_at n job.stage (kept job) (came job) (turns_done j order notes) last refl at) quiet) tells t
   job_turn old new log log' calls calls' wire (player.Follow job) player.Put n last is is' abreast count more at quiet tells t = absurd tells
   job_turn old new log log' calls calls' wire (player.Follow job) player.Get n last is is' abreast count more at quiet tells t = absurd tells
-  job_turn old new log log' calls calls' wire player.Put p' n last is is' abreast count more at quiet tells t = no_follow_told new calls' wire then j p' tells
-  job_turn old new log log' calls calls' wire player.Get p' n last is is' abreast count more at quiet tells t = no_follow_told new calls' wire then j p' tells
+  job_turn old new log log' calls calls' wire player.Put p' n last is is' abreast count more at quiet tells t = nothing_told new calls' wire then j p' tells
+  job_turn old new log log' calls calls' wire player.Get p' n last is is' abreast count more at quiet tells t = nothing_told new calls' wire then j p' tells
 
 -- A run tells on behind the turn of one of its jobs.
 module _ (old new : Awaited) (log log' : Told) (wire : ℤ) (players : List Player) (k : ℕ) (p p' : Player) (at : slice_get players k ≡ Some p) (apart : AreApart old wire players) (goes : Goes old new log log' wire p p') (note : Turned) (started : StartedBy note.started log log') (keeps : Stays log log') (quiet : has_ended p ≡ true → note.started ≡ 0) where
@@ -253,7 +295,7 @@ first_follow awaited calls wire c i s k is none =
     })
 
 first_told : (awaited : Awaited) (calls : List Call) (wire : ℤ) (c : Course) (i : ℕ) (p : Player) → IsFirst p → JobTold awaited calls wire c i p
-first_told awaited calls wire c i (player.Insert job) first = tt
+first_told awaited calls wire c i (player.Insert job) first = record { places = []; sent = λ place of. absurd of; tells = subst (λ s. InsertTells awaited (sent_at [] calls wire) (space job.ns.now) job.documents.now s) (sym first) tt }
 first_told awaited calls wire c i (player.Follow job) first = first_follow awaited calls wire c i job.stage (kept job) first.0 first.2.no_answer
 first_told awaited calls wire c i player.Put first = tt
 first_told awaited calls wire c i player.Get first = tt
@@ -314,7 +356,14 @@ follow_caused awaited c i calls wire (stage.Closes closing) k f n done last open
 follow_caused awaited c i calls wire stage.Ended k f n done last opened closed at t = end_caused c i calls wire k (token_at stage.Ended k.token) t.places k.opened refl refl t.sent t.tells
 
 outcome_caused : (awaited : Awaited) (c : Course) (i : ℕ) (calls : List Call) (wire : ℤ) (t : Task) (p : Player) (r : Outcome) (done : ℕ) (last : Bool) → Does t p → OutcomeOf p r → IsAt (calls_of t) p done last → JobTold awaited calls wire c i p → OutcomeCaused c i calls wire t r
-outcome_caused awaited c i calls wire (plan.insert ns docs) p r done last does is at told = tt
+outcome_caused awaited c i calls wire (plan.insert ns docs) (player.Insert job) r done last does is at told =
+    subst (λ (x : Outcome). OutcomeCaused c i calls wire (plan.insert ns docs) x) (sym is)
+    (subst (λ (d : List Fields). InsertEnds c i calls wire ns d (end_of job.stage)) does.1
+    (subst (λ (s : Space). InsertEnds c i calls wire s job.documents.now (end_of job.stage)) does.0
+    (record { places = told.places; sent = told.sent; by = ends_of awaited (sent_at told.places calls wire) (space job.ns.now) job.documents.now job.stage told.tells })))
+outcome_caused awaited c i calls wire (plan.insert ns docs) (player.Follow job) r done last does is at told = absurd does
+outcome_caused awaited c i calls wire (plan.insert ns docs) player.Put r done last does is at told = absurd does
+outcome_caused awaited c i calls wire (plan.insert ns docs) player.Get r done last does is at told = absurd does
 outcome_caused awaited c i calls wire (plan.put db bucket name id chunk pieces) p r done last does is at told = tt
 outcome_caused awaited c i calls wire (plan.get db bucket id read) p r done last does is at told = tt
 outcome_caused awaited c i calls wire (plan.follow on count start filter batch) (player.Insert job) r done last does is at told = absurd does

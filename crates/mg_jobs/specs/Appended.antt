@@ -1,10 +1,11 @@
--- What an insert appended to its collection.
+-- What an insert appended to its collection, and by which commands.
 use Rattle.std.specs.Prelude.{◌≡◌, ◌⊎◌, ◌<◌, ◌++◌, ℕ, ℤ, true, List, [], ◌∷◌, length, Some, None, codes, slice_get}
 use Rattle.mg_bson.specs.Tree.{Tree, object_id, Fields, field}
 use Rattle.mg_bson.specs.Find.{get}
 use Rattle.mg_link.specs.Commands.{asked, asks_insert, inserted, told}
 use Rattle.mg_link.specs.Log.{reply, Call}
 use Rattle.mg_link.specs.Namespace.{Space}
+use Rattle.mg_change.specs.Calls.{IsOwn, Past}
 
 -- what is sent for a document: the document itself where it has an `_id`, and otherwise the document behind an `_id` with a drawn id
 abbrev pub IsWithId : Fields → Fields → Type 0
@@ -32,19 +33,19 @@ pub record Piece : Type 0 where
   pub at : ℕ
   pub documents : List Fields
 
--- what was sent is these pieces one behind the other, the last named first, each inserted by its call, and the places rise and are below this one
-abbrev pub ArePieces : List Call → ℕ → Space → List Fields → List Piece → Type 0
-ArePieces calls k space sent [] = sent ≡ []
-ArePieces calls k space sent (p ∷ ps) = (p.at < k) × InsertsAt calls p.at space p.documents × ((before : List Fields) × (sent ≡ before ++ p.documents) × ArePieces calls p.at space before ps)
+-- what was sent is these pieces one behind the other, the last named first, each inserted by a command of its own, and the places rise and are below this one
+abbrev pub ArePieces : Past → ℕ → Space → List Fields → List Piece → Type 0
+ArePieces past k space sent [] = sent ≡ []
+ArePieces past k space sent (p ∷ ps) = (p.at < k) × IsOwn past p.at × InsertsAt past.calls p.at space p.documents × ((before : List Fields) × (sent ≡ before ++ p.documents) × ArePieces past p.at space before ps)
 
--- calls at rising places below this one inserted what was sent, one piece behind the other
-pub record InsertedBelow (calls : List Call) (k : ℕ) (space : Space) (sent : List Fields) : Type 0 where
+-- own commands at rising places below this one inserted what was sent, one piece behind the other
+pub record InsertedBelow (past : Past) (k : ℕ) (space : Space) (sent : List Fields) : Type 0 where
   pub pieces : List Piece
-  pub are : ArePieces calls k space sent pieces
+  pub are : ArePieces past k space sent pieces
 
--- so many documents were appended in their order, each with its own `_id` or behind a drawn one
-pub record Appended (calls : List Call) (space : Space) (documents : List Fields) (n : ℕ) : Type 0 where
+-- so many documents were appended in their order by own commands, each with its own `_id` or behind a drawn one
+pub record Appended (past : Past) (space : Space) (documents : List Fields) (n : ℕ) : Type 0 where
   pub count : n ≡ length documents
   pub sent : List Fields
   pub ids : AreWithIds documents sent
-  pub stands : InsertedBelow calls (length calls) space sent
+  pub stands : InsertedBelow past (length past.calls) space sent

@@ -4,17 +4,20 @@ use Rattle.std.specs.List.{sum_by}
 use Rattle.mg_bson.specs.Tree.{Tree, Fields}
 use Rattle.mg_link.specs.Link.{Told}
 use Rattle.mg_link.specs.Log.{Call}
-use Rattle.mg_link.specs.Namespace.{Target}
+use Rattle.mg_link.specs.Namespace.{Space, Target}
 use Rattle.mg_link.specs.Owner.{IsOf}
 use Rattle.mg_link.specs.declared.error.Error.{Error}
 use Rattle.mg_link.specs.declared.error.ErrorKind.TheVariants as kind
+use Rattle.mg_ops.specs.Naming.{IsNamed}
 use Rattle.mg_ops.specs.declared.change_stream.WatchArgs.{WatchArgs}
 use Rattle.mg_change.specs.Calls.{Past, past_of}
 use Rattle.mg_change.specs.Causes.{Called, Standing}
 use Rattle.mg_change.specs.ClosingCauses.{KillDone, KillFails}
 use Rattle.mg_change.specs.Following.{token_of}
 use Rattle.mg_change.specs.OpeningCauses.{Opened, OpeningFails}
+use Rattle.mg_jobs.specs.Appended.{Appended}
 use Rattle.mg_jobs.specs.Follows.{IsArgsFor, poll_of}
+use Rattle.mg_jobs.specs.InsertCauses.{InsertFails}
 use Rattle.mg_jobs.specs.Plan.{Begin, Task, insert, follow, put, get}
 use Rattle.mg_jobs.specs.Progress.{turns_done}
 use Rattle.mg_jobs.specs.declared.outcome.Answer.{Answer}
@@ -55,6 +58,20 @@ AllSentIn c i k places = (place : ℕ) → IsOf places place → SentIn c i k pl
 -- what a call has behind it whose commands stand at these places of the log
 abbrev pub sent_at : List ℕ → List Call → ℤ → Past
 sent_at places calls wire = past_of places (length calls) calls wire
+
+-- ---- an insert
+
+-- it ended well and its own commands appended its documents, where its names may name a collection, or it failed
+abbrev pub EndsBy : Past → Space → List Fields → Ended ℕ → Type 0
+EndsBy past at documents ended.Unfinished = Unit {0}
+EndsBy past at documents (ended.Gave n) = IsNamed at → Appended past at documents n
+EndsBy past at documents (ended.Failed e) = InsertFails past at documents e
+
+-- it sent its commands in its turns up to the first that did not pend
+pub record InsertEnds (c : Course) (i : ℕ) (calls : List Call) (wire : ℤ) (at : Space) (documents : List Fields) (end : Ended ℕ) : Type 0 where
+  pub places : List ℕ
+  pub sent : AllSentIn c i 0 places
+  pub by : EndsBy (sent_at places calls wire) at documents end
 
 -- ---- a follow
 
@@ -125,7 +142,10 @@ OutcomeCaused c i calls wire (follow on count start filter batch) (outcome.Follo
 OutcomeCaused c i calls wire (follow on count start filter batch) (outcome.Insert n) = ⊥
 OutcomeCaused c i calls wire (follow on count start filter batch) (outcome.Put n) = ⊥
 OutcomeCaused c i calls wire (follow on count start filter batch) (outcome.Get bytes read) = ⊥
-OutcomeCaused c i calls wire (insert ns docs) r = Unit {0}
+OutcomeCaused c i calls wire (insert ns docs) (outcome.Insert end) = InsertEnds c i calls wire ns docs end
+OutcomeCaused c i calls wire (insert ns docs) (outcome.Follow opened said token alive closed) = ⊥
+OutcomeCaused c i calls wire (insert ns docs) (outcome.Put n) = ⊥
+OutcomeCaused c i calls wire (insert ns docs) (outcome.Get bytes read) = ⊥
 OutcomeCaused c i calls wire (put db bucket name id chunk pieces) r = Unit {0}
 OutcomeCaused c i calls wire (get db bucket id read) r = Unit {0}
 

@@ -1,23 +1,30 @@
--- What follows come to over a link that loses nothing, where their server holds nothing back.
-use Rattle.std.specs.Prelude.{◌≡◌, ◌⊎◌, ◌≤◌, Contains, ℕ, suc, ℤ, List, [], ◌∷◌, length, Some, slice_get}
-use Rattle.mg_bson.specs.Tree.{Fields}
-use Rattle.mg_link.specs.History.{Step, IsLegal}
+-- What jobs come to over a link that loses nothing, where their server holds nothing back.
+use Rattle.std.specs.Prelude.{◌≡◌, ◌⊎◌, ◌≤◌, ◌++◌, Contains, Ok, ℕ, suc, ℤ, true, List, [], ◌∷◌, length, take, Some, None, codes, slice_get}
+use Rattle.mg_bson.specs.Find as found
+use Rattle.mg_bson.specs.Raw.{fields}
+use Rattle.mg_bson.specs.Tree.{Fields, Tree}
+use Rattle.mg_link.specs.Commands.{asked, asks_insert}
+use Rattle.mg_link.specs.History.{Step, IsLegal, state_of}
 use Rattle.mg_link.specs.Link.{Told}
-use Rattle.mg_link.specs.Log.{fault, Call}
+use Rattle.mg_link.specs.Log.{Call}
 use Rattle.mg_link.specs.Namespace.{Space}
 use Rattle.mg_link.specs.Prompt.{IsPrompt}
+use Rattle.mg_link.specs.Rules.{accept}
 use Rattle.mg_link.specs.Standing.{Stands}
+use Rattle.mg_link.specs.Step.{documents_of}
 use Rattle.mg_link.specs.declared.error.Error.{Error}
 use Rattle.mg_link.specs.declared.error.ErrorKind.TheVariants as kind
-use Rattle.mg_ops.specs.Commands.{get_more_command, kill_command}
-use Rattle.mg_ops.specs.Failing.{CannotBeSent}
+use Rattle.mg_ops.specs.Commands.{get_more_command, insert_command, kill_command}
+use Rattle.mg_ops.specs.Failing.{CannotBeInserted, CannotBeSent}
 use Rattle.mg_ops.specs.Limits.{SizePasses}
+use Rattle.mg_ops.specs.Naming.{IsNamed}
 use Rattle.mg_ops.specs.declared.aggregate.ChangeStreamAggregate.{ChangeStreamAggregate}
 use Rattle.mg_ops.specs.declared.change_stream.WatchArgs.{WatchArgs}
 use Rattle.mg_change.specs.Openings.{opening_command}
 use Rattle.mg_change.specs.Phases.{resuming_command}
-use Rattle.mg_jobs.specs.Causes.{Course, SentIn}
+use Rattle.mg_jobs.specs.Causes.{Course, SentIn, course}
 use Rattle.mg_jobs.specs.Follows.{IsArgsFor}
+use Rattle.mg_jobs.specs.InsertCauses.{IsPiece}
 use Rattle.mg_jobs.specs.Plan.{Task, insert, follow, put, get}
 use Rattle.mg_jobs.specs.Progress.{turns_done}
 use Rattle.mg_jobs.specs.declared.outcome.Answer.{Answer}
@@ -26,16 +33,7 @@ use Rattle.mg_jobs.specs.declared.outcome.Ended.{Ended}
 use Rattle.mg_jobs.specs.declared.outcome.Ended.TheVariants as ended
 use Rattle.mg_jobs.specs.declared.outcome.Outcome.{Outcome}
 use Rattle.mg_jobs.specs.declared.outcome.Outcome.TheVariants as outcome
-
--- ---- a link that loses nothing
-
--- a call that has seen a fault had seen it before
-abbrev pub Faultless : List Call → List Call → Type 0
-Faultless calls calls' = (place : ℕ) (call : Call) → slice_get calls' place ≡ Some call → call.seen ≡ fault → slice_get calls place ≡ Some call
-
--- where the logs are told
-abbrev pub LosesNothing : Told → Told → Type 0
-LosesNothing log log' = (calls : List Call) → log ≡ Some calls → (calls' : List Call) × (log' ≡ Some calls') × Faultless calls calls'
+use Rattle.mg_jobs.specs.declared.outcome.Turned.{Turned}
 
 -- ---- a server that holds nothing back
 
@@ -43,7 +41,12 @@ LosesNothing log log' = (calls : List Call) → log ≡ Some calls → (calls' :
 abbrev pub HasPositions : Course → ℕ → List Call → List ℕ → Type 0
 HasPositions c i calls own = (k place : ℕ) (call : Call) (position : ℕ) → SentIn c i k place → slice_get calls place ≡ Some call → call.position ≡ Some position → Contains own position
 
--- the log stands in this history, in which the job's steps were answered at once and none was refused
+-- no reply to an insert among these steps tells of a write concern that was not met
+abbrev pub MeetConcerns : List ℕ → List Step → Type 0
+MeetConcerns own history = (position : ℕ) (step : Step) (space : Space) (documents : List Fields) → Contains own position → slice_get history position ≡ Some step → asked step.command ≡ asks_insert space documents true
+    → found.get (codes "writeConcernError") (fields step.reply) ≡ None
+
+-- the log stands in this history, in which the job's steps were answered at once and none was refused, nor missed its write concern
 pub record AnswersWell (c : Course) (i : ℕ) (calls : List Call) : Type 0 where
   pub history : List Step
   pub legal : IsLegal history
@@ -51,6 +54,30 @@ pub record AnswersWell (c : Course) (i : ℕ) (calls : List Call) : Type 0 where
   pub own : List ℕ
   pub positions : HasPositions c i calls own
   pub prompt : IsPrompt own history
+  pub met : MeetConcerns own history
+
+-- ---- what an insert comes to
+
+-- the store may take each of these documents behind those that are there: it may be stored, and no document before it has its `_id`
+abbrev pub AreFresh : List Fields → List Fields → Type 0
+AreFresh there [] = Unit {0}
+AreFresh there (d ∷ ds) = ((id : Tree) × (accept there d ≡ Ok id)) × AreFresh (there ++ d ∷ []) ds
+
+-- so are the documents of each command among these that inserts some, behind those that stand there as it takes effect
+abbrev pub SendFresh : List ℕ → List Step → Type 0
+SendFresh own history = (position : ℕ) (step : Step) (space : Space) (documents : List Fields) → Contains own position → slice_get history position ≡ Some step → asked step.command ≡ asks_insert space documents true
+    → AreFresh (documents_of (state_of (take position history)) space) documents
+
+-- memory ran out, or documents or a command that were to be sent pass the limits
+abbrev pub IsExcusedInsert : Space → List Fields → Error → Type 0
+IsExcusedInsert at documents e = (e.kind ≡ kind.OutOfMemory)
+    ⊎ ((piece : List Fields) × IsPiece documents piece × (CannotBeInserted piece e ⊎ CannotBeSent (insert_command at piece) e))
+    ⊎ ((d : Fields) × IsPiece documents (d ∷ []) × CannotBeSent d e)
+
+abbrev pub InsertWell : Space → List Fields → Ended ℕ → Type 0
+InsertWell at documents ended.Unfinished = ⊥
+InsertWell at documents (ended.Gave n) = Unit {0}
+InsertWell at documents (ended.Failed e) = IsExcusedInsert at documents e
 
 -- ---- what a follow comes to
 
@@ -92,12 +119,20 @@ FollowWell are_its count ended.Unfinished said closed = ⊥
 FollowWell are_its count (ended.Gave x) said closed = CallsWell are_its count said closed
 FollowWell are_its count (ended.Failed e) said closed = IsExcused are_its e
 
--- a follow with a size of batches that may be, and one turn more than calls that did not pend, ends well
+-- A follow with a size of batches that may be, and one turn more than calls that did not pend, ends well; so does an insert of fresh documents with one such turn.
 abbrev pub OutcomeWell : Course → ℕ → List Call → Task → Outcome → Type 0
 OutcomeWell c i calls (follow on count start filter batch) (outcome.Follow opened said token alive closed) = AnswersWell c i calls → (SizePasses batch → ⊥) → suc count ≤ turns_done i c.order c.notes → FollowWell (IsArgsFor on start filter batch) count opened said.items closed
 OutcomeWell c i calls (follow on count start filter batch) (outcome.Insert n) = ⊥
 OutcomeWell c i calls (follow on count start filter batch) (outcome.Put n) = ⊥
 OutcomeWell c i calls (follow on count start filter batch) (outcome.Get bytes read) = ⊥
-OutcomeWell c i calls (insert ns docs) r = Unit {0}
+OutcomeWell c i calls (insert ns docs) (outcome.Insert end) = (answers : AnswersWell c i calls) → IsNamed ns → SendFresh answers.own answers.history → 1 ≤ turns_done i c.order c.notes → InsertWell ns docs end
+OutcomeWell c i calls (insert ns docs) (outcome.Follow opened said token alive closed) = ⊥
+OutcomeWell c i calls (insert ns docs) (outcome.Put n) = ⊥
+OutcomeWell c i calls (insert ns docs) (outcome.Get bytes read) = ⊥
 OutcomeWell c i calls (put db bucket name id chunk pieces) r = Unit {0}
 OutcomeWell c i calls (get db bucket id read) r = Unit {0}
+
+-- each job of a run ends well
+abbrev pub AllWell : Told → Told → List Task → List ℕ → List Turned → List Outcome → Type 0
+AllWell log log' tasks order notes outcomes = (calls : List Call) → log ≡ Some calls → (calls' : List Call) × (log' ≡ Some calls')
+    × ((i : ℕ) (t : Task) (r : Outcome) → slice_get tasks i ≡ Some t → slice_get outcomes i ≡ Some r → OutcomeWell (course calls order notes) i calls' t r)

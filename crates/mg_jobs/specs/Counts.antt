@@ -1,8 +1,8 @@
 -- What is counted of a turn.
-use Rattle.std.specs.Prelude.{◌≡◌, ◌+◌, ◌≤◌, ℕ, Bool, true, false, Some, List, length}
+use Rattle.std.specs.Prelude.{◌≡◌, ◌+◌, ◌≤◌, ℕ, Bool, true, false, Some, List, length, slice_get}
 use Rattle.mg_link.specs.Causes.{Rose}
 use Rattle.mg_link.specs.Link.{Told}
-use Rattle.mg_link.specs.Log.{Call}
+use Rattle.mg_link.specs.Log.{fault, Call}
 use Rattle.mg_change.specs.Calls.{Stays}
 
 -- so many commands were started between two states of a log, where it is told
@@ -14,9 +14,17 @@ abbrev pub PendedAs : Bool → ℕ → ℕ → Type 0
 PendedAs true before now = Rose before now
 PendedAs false before now = now ≡ before
 
--- a link that was prompt is so still, and let nothing pend
-abbrev pub StayedPrompt : Type 0 → Type 0 → Bool → Type 0
-StayedPrompt prompts prompts' pended = prompts → prompts' × (pended ≡ false)
+-- a call that has seen a fault had seen it before
+abbrev pub Faultless : List Call → List Call → Type 0
+Faultless calls calls' = (place : ℕ) (call : Call) → slice_get calls' place ≡ Some call → call.seen ≡ fault → slice_get calls place ≡ Some call
+
+-- the same of logs that are told
+abbrev pub LosesNothing : Told → Told → Type 0
+LosesNothing log log' = (calls : List Call) → log ≡ Some calls → (calls' : List Call) × (log' ≡ Some calls') × Faultless calls calls'
+
+-- a link that was prompt is so still, let nothing pend, and lost nothing
+abbrev pub StayedPrompt : Told → Told → Type 0 → Type 0 → Bool → Type 0
+StayedPrompt old new prompts prompts' pended = prompts → prompts' × (pended ≡ false) × LosesNothing old new
 
 -- what was counted since a turn began is true of the link
 pub record Counted (old new : Told) (started before now : ℕ) (pended : Bool) (prompts prompts' : Type 0) : Type 0 where
@@ -24,4 +32,4 @@ pub record Counted (old new : Told) (started before now : ℕ) (pended : Bool) (
   pub stays : Stays old new
   pub pends : PendedAs pended before now
   pub never_less : before ≤ now
-  pub prompt : StayedPrompt prompts prompts' pended
+  pub prompt : StayedPrompt old new prompts prompts' pended

@@ -8,7 +8,6 @@ use Rattle.mg_link.specs.State.{Start, Watch}
 use Rattle.mg_jobs.specs.Plan.{Task, begin, insert, follow, put, get}
 use Rattle.mg_jobs.specs.Follows.{FollowKnows, FollowedOr, FollowsNothing, HasNothing, IsUnfinished, IsWatch, NeverFollowed, WatchesNothing, events_of, filter_in, token_at}
 use Rattle.mg_jobs.specs.Playing.{IsPlainJob, end_of}
-use Rattle.mg_jobs.specs.Underway.{EndInserts, InsertKnows}
 use Rattle.mg_jobs.specs.declared.player.InsertStage.TheVariants as inserts
 use Rattle.mg_jobs.specs.declared.outcome.Outcome.{Outcome}
 use Rattle.mg_jobs.specs.declared.outcome.Outcome.TheVariants as outcome
@@ -59,7 +58,7 @@ AreFirst players = (i : ℕ) (p : Player) → slice_get players i ≡ Some p →
 
 -- a job that is this to the others knows of its server what it should
 abbrev pub Plays : Awaited → List Call → Player → Owner → Type 0
-Plays awaited calls (player.Insert job) o = (o ≡ nobody) × IsPlainJob job × InsertKnows awaited calls job
+Plays awaited calls (player.Insert job) o = (o ≡ nobody) × IsPlainJob job
 Plays awaited calls (player.Follow job) o = FollowKnows awaited calls job.stage job o ⊎ ((o ≡ nobody) × FollowsNothing awaited calls job.stage job)
 Plays awaited calls player.Put o = o ≡ nobody
 Plays awaited calls player.Get o = o ≡ nobody
@@ -102,7 +101,7 @@ OutcomeOf player.Get r = Unit {0}
 abbrev pub OutcomesOf : List Player → List Outcome → Type 0
 OutcomesOf players outcomes = (i : ℕ) (p : Player) (r : Outcome) → slice_get players i ≡ Some p → slice_get outcomes i ≡ Some r → OutcomeOf p r
 
--- the outcome of a job is as its task says
+-- a follow answered as its task says
 abbrev pub OutcomeFollowed : List Call → Task → Outcome → Type 0
 OutcomeFollowed calls (follow on count start filter batch) (outcome.Follow opened answers token alive closed) =
     ((w : Watch) × (from : Start) × IsWatch on start filter w from × FollowedOr opened calls w from (events_of answers.items) token)
@@ -110,10 +109,7 @@ OutcomeFollowed calls (follow on count start filter batch) (outcome.Follow opene
 OutcomeFollowed calls (follow on count start filter batch) (outcome.Insert n) = ⊥
 OutcomeFollowed calls (follow on count start filter batch) (outcome.Put n) = ⊥
 OutcomeFollowed calls (follow on count start filter batch) (outcome.Get bytes read) = ⊥
-OutcomeFollowed calls (insert ns docs) (outcome.Insert e) = EndInserts calls ns docs e
-OutcomeFollowed calls (insert ns docs) (outcome.Follow opened answers token alive closed) = ⊥
-OutcomeFollowed calls (insert ns docs) (outcome.Put n) = ⊥
-OutcomeFollowed calls (insert ns docs) (outcome.Get bytes read) = ⊥
+OutcomeFollowed calls (insert ns docs) r = Unit {0}
 OutcomeFollowed calls (put db bucket name id chunk pieces) r = Unit {0}
 OutcomeFollowed calls (get db bucket id read) r = Unit {0}
 

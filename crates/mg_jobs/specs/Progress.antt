@@ -1,9 +1,8 @@
 -- How far each job comes by its turns.
-use Rattle.std.specs.Prelude.{◌≡◌, ◌+◌, ◌<◌, ◌≤◌, ◌⊎◌, ℕ, Bool, true, false, cond, nat_eq, List, [], ◌∷◌, ◌++◌, length, Some, slice_get}
+use Rattle.std.specs.Prelude.{◌≡◌, ◌+◌, ◌<◌, ◌≤◌, ◌⊎◌, ℕ, Bool, true, false, cond, nat_eq, List, [], ◌∷◌, length, Some, slice_get}
 use Rattle.mg_jobs.specs.Counts.{PendedAs}
 use Rattle.mg_jobs.specs.Follows.{HasGiven, IsFailed, IsUnfinished}
 use Rattle.mg_jobs.specs.Plan.{Task, insert, follow, put, get}
-use Rattle.mg_jobs.specs.Playing.{end_of}
 use Rattle.mg_jobs.specs.declared.outcome.Ended.{Ended}
 use Rattle.mg_jobs.specs.declared.outcome.Ended.TheVariants as ended
 use Rattle.mg_jobs.specs.declared.outcome.Outcome.{Outcome}
@@ -183,23 +182,6 @@ TurnsBy note p p' = (calls k : ℕ) (last : Bool) → IsAt calls p k last → Is
 
 -- ---- what this comes to
 
--- the outcome shows what the job has come to
-abbrev pub Shows : Player → Outcome → Type 0
-Shows (player.Insert job) (outcome.Insert e) = e ≡ end_of job.stage
-Shows (player.Insert job) (outcome.Follow opened answers token alive closed) = ⊥
-Shows (player.Insert job) (outcome.Put e) = ⊥
-Shows (player.Insert job) (outcome.Get bytes e) = ⊥
-Shows (player.Follow job) (outcome.Follow opened answers token alive closed) = (opened ≡ job.opened) × (closed ≡ job.closed) × (answers ≡ job.answers)
-Shows (player.Follow job) (outcome.Insert e) = ⊥
-Shows (player.Follow job) (outcome.Put e) = ⊥
-Shows (player.Follow job) (outcome.Get bytes e) = ⊥
-Shows player.Put r = Unit {0}
-Shows player.Get r = Unit {0}
-
--- each outcome shows what its job has come to
-abbrev pub AllShow : List Player → List Outcome → Type 0
-AllShow players outcomes = (i : ℕ) (p : Player) (r : Outcome) → slice_get players i ≡ Some p → slice_get outcomes i ≡ Some r → Shows p r
-
 -- an insert is unfinished just where it had no turn that did not pend
 abbrev pub InsertPlayed : {A : Type 0} → Ended A → ℕ → Type 0
 InsertPlayed ended.Unfinished k = k ≡ 0
@@ -234,10 +216,3 @@ IsPlayed (get db bucket id read) k last r = Unit {0}
 -- each job's outcome is what its turns brought
 abbrev pub AllPlayed : List Task → List ℕ → List Turned → List Outcome → Type 0
 AllPlayed tasks order notes outcomes = (i : ℕ) (t : Task) (r : Outcome) → slice_get tasks i ≡ Some t → slice_get outcomes i ≡ Some r → IsPlayed t (turns_done i order notes) (pends_last i order notes) r
-
--- the outcomes made so far show what the jobs gone through have come to
-pub record Shown (players rest : List Player) (outcomes : List Outcome) : Type 0 where
-  pub gone : List Player
-  pub whole : players ≡ gone ++ rest
-  pub count : length gone ≡ length outcomes
-  pub shows : AllShow gone outcomes

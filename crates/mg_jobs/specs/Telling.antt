@@ -1,28 +1,36 @@
--- What a follow can tell, turn by turn, of what its answers are caused by.
+-- What a job can tell, turn by turn, of what its answers are caused by.
 use Rattle.std.specs.Prelude.{◌≡◌, ◌↔◌, ◌⊎◌, ◌+◌, ◌<◌, ◌≤◌, IsTrue, Bool, false, ℕ, suc, ℤ, pos, List, [], length, Option, Some, slice_get}
 use Rattle.std.specs.List.{sum_by}
-use Rattle.mg_bson.specs.Tree.{Tree}
+use Rattle.mg_bson.specs.Tree.{Fields, Tree}
 use Rattle.mg_link.specs.Link.{Awaited, Told}
 use Rattle.mg_link.specs.Log.{Call}
-use Rattle.mg_link.specs.Namespace.{target}
+use Rattle.mg_link.specs.Namespace.{Space, space, target}
 use Rattle.mg_link.specs.Owner.{IsOf}
 use Rattle.mg_link.specs.declared.error.Error.{Error}
 use Rattle.mg_link.specs.declared.error.ErrorKind.TheVariants as kind
+use Rattle.mg_ops.specs.Naming.{IsNamed}
 use Rattle.mg_ops.specs.declared.change_stream.WatchArgs.{WatchArgs}
+use Rattle.mg_change.specs.Calls.{Past, past_of}
 use Rattle.mg_change.specs.Causes.{SoFar, Standing, standing_of}
 use Rattle.mg_change.specs.ClosingCauses.{KillsSoFar}
 use Rattle.mg_change.specs.OpeningCauses.{Opened, OpeningFails, OpensSoFar}
 use Rattle.mg_change.specs.Following.{token_of}
 use Rattle.mg_change.specs.Openings.{IsOpening}
 use Rattle.mg_change.specs.declared.stream.ChangeStream.{ChangeStream}
-use Rattle.mg_jobs.specs.Causes.{Answered, ClosedBy, Course, IsAlive, AllSentIn, course, sent_at}
+use Rattle.mg_jobs.specs.Causes.{Answered, ClosedBy, Course, EndsBy, IsAlive, AllSentIn, course, sent_at}
 use Rattle.mg_jobs.specs.Follows.{HasGiven, IsArgsFor, filter_in}
+use Rattle.mg_jobs.specs.InsertCauses.{InsertsSoFar}
 use Rattle.mg_jobs.specs.Plan.{Task, begin}
+use Rattle.mg_jobs.specs.Playing.{IsSameInsert}
+use Rattle.mg_jobs.specs.Underway.{HasInserted}
 use Rattle.mg_jobs.specs.declared.outcome.Answer.{Answer}
 use Rattle.mg_jobs.specs.declared.outcome.Ended.{Ended}
 use Rattle.mg_jobs.specs.declared.outcome.Ended.TheVariants as ended
 use Rattle.mg_jobs.specs.declared.outcome.Turned.{Turned}
 use Rattle.mg_jobs.specs.declared.player.FollowPlayer.{FollowPlayer}
+use Rattle.mg_jobs.specs.declared.player.InsertPlayer.{InsertPlayer}
+use Rattle.mg_jobs.specs.declared.player.InsertStage.{InsertStage}
+use Rattle.mg_jobs.specs.declared.player.InsertStage.TheVariants as inserts
 use Rattle.mg_jobs.specs.declared.player.Stage.{Stage}
 use Rattle.mg_jobs.specs.declared.player.Stage.TheVariants as stage
 use Rattle.mg_jobs.specs.declared.player.Watched.{Watched}
@@ -122,6 +130,23 @@ FollowTells old new log log' wire s k s' k' = (calls calls' : List Call) → log
 abbrev pub RestTells : Awaited → Told → Told → ℤ → ChangeStream → Kept → Stage → Kept → Type 0
 RestTells new log log' wire stream k s' k' = (calls calls' : List Call) → log ≡ Some calls → log' ≡ Some calls' → (q : Places) → q.now ≡ [] → IsOpened calls wire q k (standing_of stream) → Tell new calls' wire q (length k.said) (length calls) s' k'
 
+-- ---- inserts
+
+-- what an insert of these documents can tell at each stage
+abbrev pub InsertTells : Awaited → Past → Space → List Fields → InsertStage → Type 0
+InsertTells awaited past at documents inserts.Unsent = Unit {0}
+InsertTells awaited past at documents (inserts.Goes i) = InsertsSoFar awaited past at documents i.batches i.command × (IsNamed at → HasInserted awaited past at documents i)
+InsertTells awaited past at documents (inserts.Ended end) = EndsBy past at documents end
+
+-- A turn led an insert of these documents, which had sent at some places before, from one stage to another: it goes on telling.
+abbrev pub InsertTurns : Awaited → Awaited → Told → Told → ℤ → Space → List Fields → InsertStage → InsertStage → Type 0
+InsertTurns old new log log' wire at documents stage stage' = (calls calls' : List Call) → log ≡ Some calls → log' ≡ Some calls' → (places : List ℕ)
+    → InsertTells old (sent_at places calls wire) at documents stage → InsertTells new (past_of places (length calls) calls' wire) at documents stage'
+
+-- what an insert of these documents tells at one stage, it tells at another
+abbrev pub TellsOn : Space → List Fields → InsertStage → InsertStage → Type 0
+TellsOn at documents stage stage' = (awaited : Awaited) (past : Past) → InsertTells awaited past at documents stage → InsertTells awaited past at documents stage'
+
 -- ---- all jobs
 
 -- each command of a follow stands in a turn of it
@@ -130,22 +155,25 @@ pub record AllSent (c : Course) (i : ℕ) (q : Places) (n : ℕ) : Type 0 where
   pub owns : (k : ℕ) (own : List ℕ) → slice_get q.owns k ≡ Some own → AllSentIn c i (suc k) own
   pub now : AllSentIn c i n q.now
 
--- a job that is no follow
-abbrev pub IsNoFollow : Player → Type 0
-IsNoFollow (player.Insert job) = Unit {0}
-IsNoFollow (player.Follow job) = ⊥
-IsNoFollow player.Put = Unit {0}
-IsNoFollow player.Get = Unit {0}
+-- a job that tells nothing
+abbrev pub TellsNothing : Player → Type 0
+TellsNothing (player.Insert job) = ⊥
+TellsNothing (player.Follow job) = ⊥
+TellsNothing player.Put = Unit {0}
+TellsNothing player.Get = Unit {0}
 
--- A turn led a job from one state to another: a follow goes on telling.
+-- A turn led a job from one state to another: it goes on telling.
 abbrev pub JobTells : Awaited → Awaited → Told → Told → ℤ → Player → Player → Type 0
 JobTells old new log log' wire (player.Follow job) (player.Follow job') = FollowTells old new log log' wire job.stage (kept job) job'.stage (kept job')
 JobTells old new log log' wire (player.Follow job) (player.Insert job') = ⊥
 JobTells old new log log' wire (player.Follow job) player.Put = ⊥
 JobTells old new log log' wire (player.Follow job) player.Get = ⊥
-JobTells old new log log' wire (player.Insert job) p' = IsNoFollow p'
-JobTells old new log log' wire player.Put p' = IsNoFollow p'
-JobTells old new log log' wire player.Get p' = IsNoFollow p'
+JobTells old new log log' wire (player.Insert job) (player.Insert job') = IsSameInsert job job' × InsertTurns old new log log' wire (space job.ns.now) job.documents.now job.stage job'.stage
+JobTells old new log log' wire (player.Insert job) (player.Follow job') = ⊥
+JobTells old new log log' wire (player.Insert job) player.Put = ⊥
+JobTells old new log log' wire (player.Insert job) player.Get = ⊥
+JobTells old new log log' wire player.Put p' = TellsNothing p'
+JobTells old new log log' wire player.Get p' = TellsNothing p'
 
 -- the two tell the same
 abbrev pub IsSameTeller : Player → Player → Type 0
@@ -153,9 +181,12 @@ IsSameTeller (player.Follow job) (player.Follow job') = (job'.stage ≡ job.stag
 IsSameTeller (player.Follow job) (player.Insert job') = ⊥
 IsSameTeller (player.Follow job) player.Put = ⊥
 IsSameTeller (player.Follow job) player.Get = ⊥
-IsSameTeller (player.Insert job) p' = IsNoFollow p'
-IsSameTeller player.Put p' = IsNoFollow p'
-IsSameTeller player.Get p' = IsNoFollow p'
+IsSameTeller (player.Insert job) (player.Insert job') = IsSameInsert job job' × TellsOn (space job.ns.now) job.documents.now job.stage job'.stage
+IsSameTeller (player.Insert job) (player.Follow job') = ⊥
+IsSameTeller (player.Insert job) player.Put = ⊥
+IsSameTeller (player.Insert job) player.Get = ⊥
+IsSameTeller player.Put p' = TellsNothing p'
+IsSameTeller player.Get p' = TellsNothing p'
 
 -- a follow tells what it should, and each of its commands stands in a turn of it
 pub record FollowTold (awaited : Awaited) (calls : List Call) (wire : ℤ) (c : Course) (i : ℕ) (s : Stage) (k : Kept) : Type 0 where
@@ -163,9 +194,15 @@ pub record FollowTold (awaited : Awaited) (calls : List Call) (wire : ℤ) (c : 
   pub tells : Tells awaited calls wire places s k
   pub sent : AllSent c i places (number s k)
 
+-- so does an insert
+pub record InsertTold (awaited : Awaited) (calls : List Call) (wire : ℤ) (c : Course) (i : ℕ) (job : InsertPlayer) : Type 0 where
+  pub places : List ℕ
+  pub sent : AllSentIn c i 0 places
+  pub tells : InsertTells awaited (sent_at places calls wire) (space job.ns.now) job.documents.now job.stage
+
 abbrev pub JobTold : Awaited → List Call → ℤ → Course → ℕ → Player → Type 0
 JobTold awaited calls wire c i (player.Follow job) = FollowTold awaited calls wire c i job.stage (kept job)
-JobTold awaited calls wire c i (player.Insert job) = Unit {0}
+JobTold awaited calls wire c i (player.Insert job) = InsertTold awaited calls wire c i job
 JobTold awaited calls wire c i player.Put = Unit {0}
 JobTold awaited calls wire c i player.Get = Unit {0}
 

@@ -48,7 +48,8 @@ fn draw<I: IdSource>(
     ids: &mut I,
     documents: &[Document],
 ) -> Result<Vec<Option<ObjectId>>, Error>
-    ensures { IfOk result (λ drawn. AreDrawn documents.now drawn.items) }
+    ensures ok { IfOk result (λ drawn. AreDrawn documents.now drawn.items) }
+    ensures err { IfErr result (λ e. e ≡ plain kinds.OutOfMemory) }
 {
     let mut drawn = Vec::with_capacity(alloc, documents.len())?;
     for document in documents {
@@ -266,6 +267,7 @@ impl<'a> Inserting<'a> {
         ensures ticket { IfOk result (λ i. insert_ticket i ≡ None) }
         ensures unsent { IfOk result (λ i. i.command ≡ None) }
         ensures started { IfOk result (λ i. IsStarted (space ns.now) documents.now i.batches) }
+        ensures err { IfErr result (λ e. e ≡ plain kinds.OutOfMemory) }
     {
         let drawn = draw(alloc, ids, documents)?;
         Ok(Inserting {

@@ -1,15 +1,16 @@
 //! What holds of the definitions.
-ghost use Rattle.std.specs.Prelude.{◌≡◌, ◌≤◌, ◌++◌, ℕ, ℤ, suc, pos, List, Option, Some, length, take};
+ghost use Rattle.std.specs.Prelude.{◌≡◌, ◌++◌, ℕ, ℤ, suc, pos, List, Option, Some, length, take};
 ghost use Rattle.mg_bson.specs.Tree.{Fields};
 ghost use Rattle.mg_link.specs.History.{IsLegal, Step, state_of};
 ghost use Rattle.mg_link.specs.Log.{Call};
 ghost use Rattle.mg_link.specs.Namespace.{Space};
-ghost use Rattle.mg_link.specs.Owner.{IsGrown};
 ghost use Rattle.mg_link.specs.Standing.{Stands};
 ghost use Rattle.mg_link.specs.Step.{documents_of};
+ghost use Rattle.mg_change.specs.Calls.{Grows, Past};
 ghost use Rattle.mg_jobs.specs.Appended.{Appended, InsertsAt};
 ghost use Rattle.mg_jobs.specs.Causes.{Course, OutcomeCaused};
-ghost use Rattle.mg_jobs.specs.Completing.{Faultless, OutcomeWell};
+ghost use Rattle.mg_jobs.specs.Completing.{OutcomeWell};
+ghost use Rattle.mg_jobs.specs.Counts.{Faultless};
 ghost use Rattle.mg_jobs.specs.Plan.{Task};
 ghost use Rattle.mg_jobs.specs.declared.outcome.Outcome.{Outcome};
 ghost use Rattle.mg_jobs.specs.declared.program.Ending.{Ending};
@@ -35,16 +36,17 @@ pub fn inserts_append()
 
 /// What was appended stays so when the log grows.
 pub fn appended_stays()
-    ensures { (calls calls' : List Call) (space : Space) (documents : List Fields) (n : ℕ)
-        → IsGrown calls calls' → length calls ≤ length calls' → Appended calls space documents n → Appended calls' space documents n }
+    ensures { (past past' : Past) (space : Space) (documents : List Fields) (n : ℕ)
+        → Grows past past' → Appended past space documents n → Appended past' space documents n }
 {}
 
-/// A follow ends well where its link loses nothing and its server holds nothing back. Of a follow whose outcome has the
-/// causes that the run tells, that came as far as its turns brought it, and that had one turn more than calls that did
-/// not pend: where no call of the run saw a fault, and the log stands in a legal history that answered the job's
-/// commands at once and refused none, all its calls were answered, each with an event or with nothing, and its stream was
-/// closed. What may still fail is excused: memory ran out, or a command passes the limits of documents.
-pub fn follows_end_well()
+/// A job ends well where its link loses nothing and its server holds nothing back. Of a job whose outcome has the
+/// causes that the run tells, and that came as far as its turns brought it: where no call of the run saw a fault, and the
+/// log stands in a legal history that answered the job's commands at once and refused none, a follow that had one turn
+/// more than calls that did not pend had all its calls answered, each with an event or with nothing, and its stream was
+/// closed; and an insert that had one such turn, and whose documents could be stored as its commands took effect,
+/// inserted them. What may still fail is excused: memory ran out, or a document or command passes the limits.
+pub fn jobs_end_well()
     ensures { (c : Course) (i : ℕ) (begun calls : List Call) (wire : ℤ) (t : Task) (r : Outcome)
         → length begun ≡ c.begun → Faultless begun calls → OutcomeCaused c i calls wire t r
         → IsPlayed t (turns_done i c.order c.notes) (pends_last i c.order c.notes) r → OutcomeWell c i calls t r }

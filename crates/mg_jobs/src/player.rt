@@ -4,8 +4,9 @@ ghost use Rattle.mg_link.specs.Acts.{IsOut, Tickets};
 ghost use Rattle.mg_link.specs.Errors.{plain};
 ghost use Rattle.mg_link.specs.declared.error.ErrorKind.TheVariants as kinds;
 ghost use Rattle.mg_link.specs.Link.{Awaited, Later};
-ghost use Rattle.mg_link.specs.Log.{Call};
-ghost use Rattle.mg_link.specs.Namespace.{space};
+ghost use Rattle.mg_link.specs.Namespace.{Space, space};
+ghost use Rattle.mg_bson.specs.Tree.{Fields};
+ghost use Rattle.mg_change.specs.Calls.{Past};
 ghost use Rattle.mg_change.specs.Closings.{closing_ticket};
 ghost use Rattle.mg_change.specs.Openings.{opening_ticket};
 ghost use Rattle.mg_change.specs.Phases.{AtRest, IsResuming, IsSound, ticket_in};
@@ -15,8 +16,7 @@ ghost use Rattle.mg_ops.specs.Naming.{start_in};
 ghost use Rattle.mg_jobs.specs.Plan.{begin};
 ghost use Rattle.mg_jobs.specs.Progress.{CloseGoes, FollowAt, FollowGoes, InsertAt, InsertGoes, InsertReady, RestGoes, came};
 ghost use Rattle.mg_jobs.specs.Playing.{HasRoom, IsPlainInsert, IsPlainJob, IsSameFollow, IsSameInsert, StageHolds, end_of, follow_ended, insert_ended, inserts_ticket, player_ticket, stage_ticket};
-ghost use Rattle.mg_jobs.specs.Telling.{FollowTells, IsWatchArgs, RestTells, kept};
-ghost use Rattle.mg_jobs.specs.Underway.{InsertKnows, InsertTurns, StageInserts};
+ghost use Rattle.mg_jobs.specs.Telling.{FollowTells, InsertTells, InsertTurns, IsWatchArgs, RestTells, TellsOn, kept};
 
 use crate::insert::Inserting;
 use crate::outcome::{Answer, Ended, Outcome};
@@ -55,7 +55,7 @@ fn begun<'a, I: IdSource>(
 ) -> InsertStage<'a>
     ensures ticket { inserts_ticket result ≡ None }
     ensures plain { IsPlainInsert result }
-    ensures knows { (awaited : Awaited) (calls : List Call) → StageInserts awaited calls (space ns.now) documents.now result }
+    ensures tells { (awaited : Awaited) (past : Past) → InsertTells awaited past (space ns.now) documents.now result }
     ensures at { (k : ℕ) → k ≡ 0 → InsertReady result k }
 {
     match Inserting::start(alloc, ids, ns, documents) {
@@ -70,7 +70,7 @@ impl<'a> InsertStage<'a> {
         requires { IsOut (L.awaited link.old) (inserts_ticket self) }
         ensures tickets { Tickets (L.awaited link.old) (L.awaited link.new) (inserts_ticket self.entry) (inserts_ticket result) }
         ensures plain { IsPlainInsert self.entry → PassesPlain (L.log link.old) (L.log link.new) × IsPlainInsert result }
-        ensures inserts { InsertTurns (L.awaited link.old) (L.awaited link.new) (L.log link.old) (L.log link.new) self.entry result }
+        ensures told { (at : Space) (documents : List Fields) → InsertTurns (L.awaited link.old) (L.awaited link.new) (L.log link.old) (L.log link.new) (L.wire link.old) at documents self.entry result }
         ensures comes { InsertGoes (L.pends link.old) (L.pends link.new) self.entry result }
         ensures later { Later (L.faults link.old) (L.faults link.new) (L.pends link.old) (L.pends link.new)
             (L.wire link.old) (L.wire link.new) (L.prompt link.old) (L.prompt link.new) }
@@ -117,7 +117,7 @@ impl<'a> InsertPlayer<'a> {
         ensures plain { IsPlainJob self.old → IsPlainJob self.new }
         ensures at { (k : ℕ) → InsertAt self.old.stage k → InsertReady self.new.stage k }
         ensures same { IsSameInsert self.old self.new }
-        ensures knows { (awaited : Awaited) (calls : List Call) → InsertKnows awaited calls self.old → InsertKnows awaited calls self.new }
+        ensures tells { TellsOn (space self.old.ns.now) self.old.documents.now self.old.stage self.new.stage }
     {
         match mem::replace(&mut self.stage, InsertStage::Ended(Ended::Unfinished)) {
             InsertStage::Unsent => self.stage = begun(alloc, ids, self.ns, self.documents),
@@ -133,7 +133,7 @@ impl<'a> InsertPlayer<'a> {
         ensures plain { IsPlainJob self.entry → PassesPlain (L.log link.old) (L.log link.new) × IsPlainJob result }
         ensures comes { InsertGoes (L.pends link.old) (L.pends link.new) self.entry.stage result.stage }
         ensures same { IsSameInsert self.entry result }
-        ensures inserts { InsertTurns (L.awaited link.old) (L.awaited link.new) (L.log link.old) (L.log link.new) self.entry.stage result.stage }
+        ensures told { (at : Space) (documents : List Fields) → InsertTurns (L.awaited link.old) (L.awaited link.new) (L.log link.old) (L.log link.new) (L.wire link.old) at documents self.entry.stage result.stage }
         ensures later { Later (L.faults link.old) (L.faults link.new) (L.pends link.old) (L.pends link.new)
             (L.wire link.old) (L.wire link.new) (L.prompt link.old) (L.prompt link.new) }
     {

@@ -3,14 +3,15 @@ ghost use Rattle.std.specs.Prelude.{◌≡◌, ◌≤◌, ◌<◌, ◌++◌, ◌
 ghost use Rattle.std.specs.List.{All, sum_by};
 ghost use Rattle.mg_link.specs.Errors.{plain};
 ghost use Rattle.mg_link.specs.Link.{Awaited, Later, Told};
-ghost use Rattle.mg_jobs.specs.Counts.{Counted, StartedBy};
+ghost use Rattle.mg_jobs.specs.Counts.{Counted, LosesNothing, StartedBy};
 ghost use Rattle.mg_jobs.specs.Runs.{AreNew, AreSameJobs, CanGo, Goes, IsNew, IsNoted, IsReady, IsSameJob, JobHolds, Stands, has_ended, idle, job_ended, job_ticket};
 ghost use Rattle.mg_link.specs.Log.{Call};
 ghost use Rattle.mg_link.specs.Owner.{Owner};
 ghost use Rattle.mg_jobs.specs.Headline.{AllFollowed, AreFirst, DoTasks, Does, IsFirst, IsSameTask, Knowing, OutcomeOf, OutcomesOf, Plays};
 ghost use Rattle.mg_jobs.specs.Plan.{Task, task, tasks};
-ghost use Rattle.mg_jobs.specs.Progress.{AllAt, AllPlayed, AllShow, GoesBy, IsAt, IsReadyAt, JobGoes, Shows, TurnsBy, calls_of};
+ghost use Rattle.mg_jobs.specs.Progress.{AllAt, AllPlayed, GoesBy, IsAt, IsReadyAt, JobGoes, TurnsBy, calls_of};
 ghost use Rattle.mg_jobs.specs.Causes.{AllCaused};
+ghost use Rattle.mg_jobs.specs.Completing.{AllWell};
 ghost use Rattle.mg_jobs.specs.Script.{first_missing};
 ghost use Rattle.mg_jobs.specs.Telling.{AllTell, IsSameTeller};
 
@@ -121,7 +122,6 @@ impl<'a> Player<'a> {
 
     fn into_outcome(self, alloc: Global) -> Outcome
         ensures of { OutcomeOf self.entry result }
-        ensures shows { Shows self.entry result }
     {
         match self {
             Player::Insert(insert) => insert.into_outcome(),
@@ -305,7 +305,7 @@ impl<'a> Runner<'a> {
         // A turn that did not pend brings its job on, as its note says.
         ensures rows { OnOk result ((ts : List Task) (order : List ℕ) → length order ≡ length self.old.turns.items → AllAt ts order self.old.turns.items self.old.players.items
             → AllAt ts (order ++ job ∷ []) self.new.turns.items self.new.players.items) }
-        // Each follow goes on telling what caused its answers.
+        // Each job goes on telling what caused its answers.
         ensures told { OnOk result ((begun : Told) (ts : List Task) (order : List ℕ) → length order ≡ length self.old.turns.items → AllAt ts order self.old.turns.items self.old.players.items
             → AllTell (L.awaited link.old) begun (L.log link.old) (L.wire link.old) ts order self.old.turns.items self.old.players.items
             → AllTell (L.awaited link.new) begun (L.log link.new) (L.wire link.new) ts (order ++ job ∷ []) self.new.turns.items self.new.players.items) }
@@ -339,7 +339,6 @@ impl<'a> Runner<'a> {
     pub fn into_played(self) -> Result<Played, Error>
         ensures outcomes { IfOk result (λ p. length p.outcomes.items ≡ length self.entry.players.items) }
         ensures each { IfOk result (λ p. OutcomesOf self.entry.players.items p.outcomes.items) }
-        ensures shows { IfOk result (λ p. AllShow self.entry.players.items p.outcomes.items) }
         ensures turns { IfOk result (λ p. p.turns.items ≡ self.entry.turns.items) }
         ensures err { IfErr result (λ e. e ≡ plain ErrorKind.OutOfMemory) }
     {
@@ -372,6 +371,7 @@ fn play<L: Link, I: IdSource>(
     ensures turns { OnOk result (length runner.new.turns.items ≡ length order.now) }
     ensures started { OnOk result (StartedBy (sum_by (λ t. t.started) runner.new.turns.items) (L.log link.old) (L.log link.new)) }
     ensures prompt { L.prompt link.old → OnOk result (All (λ t. t.pended ≡ false) runner.new.turns.items) }
+    ensures lossless { L.prompt link.old → OnOk result (LosesNothing (L.log link.old) (L.log link.new)) }
     ensures jobs { length runner.new.players.items ≡ length runner.old.players.items }
     ensures knowing { (begun : Told) → Knowing (L.awaited link.old) begun (L.log link.old) runner.old.players.items → Knowing (L.awaited link.new) begun (L.log link.new) runner.new.players.items }
     ensures tasks { (ts : List Task) → DoTasks ts runner.old.players.items → DoTasks ts runner.new.players.items }
@@ -406,8 +406,11 @@ pub fn run_jobs<L: Link, I: IdSource>(
     ensures followed { IfOk result (λ p. AllFollowed (L.log link.old) (L.log link.new) (tasks jobs.now) p.outcomes.items) }
     // How far each job has come follows from the notes of its turns.
     ensures rows { IfOk result (λ p. AllPlayed (tasks jobs.now) order.now p.turns.items p.outcomes.items) }
-    // Each answer of a follow has its cause among the commands of its own turns.
+    // Each answer of a follow has its cause among the commands of its own turns. By those of its own an insert that ended well
+    // appended its documents, in order, and one that failed did so.
     ensures caused { IfOk result (λ p. AllCaused (L.log link.old) (L.log link.new) (L.wire link.old) (tasks jobs.now) order.now p.turns.items p.outcomes.items) }
+    // Over a prompt link each job ends well, where its server holds nothing back.
+    ensures complete { L.prompt link.old → IfOk result (λ p. AllWell (L.log link.old) (L.log link.new) (tasks jobs.now) order.now p.turns.items p.outcomes.items) }
     // One outcome for each job, and one note for each turn.
     ensures outcomes { IfOk result (λ p. length p.outcomes.items ≡ length jobs.now) }
     ensures turns { IfOk result (λ p. length p.turns.items ≡ length order.now) }

@@ -1,6 +1,9 @@
 use Rattle.mg_link.specs.Namespace.{space}
-use Rattle.mg_jobs.proofs.Sendings.{started}
+use Rattle.mg_jobs.proofs.InsertTelling.{begun_tells, unbegun_tells}
 use Rattle.mg_jobs.proofs.player.begun.Goals as goal
 
-pub returns-in-Ok-clause-knows : goal.returns-in-Ok-clause-knows
-returns-in-Ok-clause-knows g c = λ awaited calls named. started awaited calls (space c.args.ns.now) c.args.documents.now c.in-Ok.inserting c.in-Ok.ensures.unsent c.in-Ok.ensures.started
+pub returns-in-Ok-clause-tells : goal.returns-in-Ok-clause-tells
+returns-in-Ok-clause-tells g c = λ awaited past. begun_tells awaited past (space c.args.ns.now) c.args.documents.now c.in-Ok.inserting c.in-Ok.ensures.unsent c.in-Ok.ensures.started
+
+pub returns-in-Err-clause-tells : goal.returns-in-Err-clause-tells
+returns-in-Err-clause-tells g c = λ awaited past. unbegun_tells awaited past (space c.args.ns.now) c.args.documents.now c.in-Err.error c.in-Err.ensures.err

@@ -7,7 +7,7 @@ use Rattle.mg_jobs.specs.declared.outcome.Turned.{Turned}
 use Rattle.std.proofs.lemmas.Option.{slice_get-get_or}
 use Rattle.mg_jobs.proofs.Advancing.{at_next}
 use Rattle.mg_jobs.proofs.Knowing.{length_take}
-use Rattle.mg_jobs.proofs.Tallies.{started_more}
+use Rattle.mg_jobs.proofs.Tallies.{loses_on, started_more}
 use Rattle.mg_jobs.proofs.Told.{tell_next, tell_whole}
 use Rattle.mg_jobs.proofs.run.play.Goals as goal
 
@@ -27,6 +27,7 @@ loop-number-preserved g c =
           (started_more xs noted.0 _ _ _ c.loop-number.invariant.started noted.2.starts);
       quiet = λ prompt. subst (λ (ts : List Turned). All (λ (t : Turned). t.pended ≡ false) ts) (sym noted.1)
           (All-append (λ (t : Turned). t.pended ≡ false) xs (noted.0 ∷ []) (c.loop-number.invariant.quiet prompt) (All-cons (λ (t : Turned). t.pended ≡ false) noted.0 [] (noted.2.prompt (c.loop-number.invariant.later.prompt prompt).stays).1 (All-nil (λ (t : Turned). t.pended ≡ false))));
+      lossless = λ prompt. loses_on _ _ _ (c.loop-number.invariant.lossless prompt) (noted.2.prompt (c.loop-number.invariant.later.prompt prompt).stays).2;
       jobs = c.turn.ensures.jobs ∙ c.loop-number.invariant.jobs;
       knowing = λ begun before. c.turn.ensures.knowing begun (c.loop-number.invariant.knowing begun before);
       rows = λ ts before. at_next ts c.args.order.now c.loop-number.number-index (get_or c.args.order.now c.loop-number.number-index 0) c.turn.new.self.turns.items c.turn.new.self.players.items there

@@ -1,7 +1,7 @@
 use Rattle.std.proofs.Common.{◌≡◌, List, [], length, take, false}
 use Rattle.std.specs.List.{All, sum_by}
 use Rattle.mg_link.specs.Link.{Later, Told}
-use Rattle.mg_jobs.specs.Counts.{StartedBy}
+use Rattle.mg_jobs.specs.Counts.{LosesNothing, StartedBy}
 use Rattle.mg_jobs.specs.Headline.{DoTasks, Knowing}
 use Rattle.mg_jobs.specs.Plan.{Task}
 use Rattle.mg_jobs.specs.Progress.{AllAt}
@@ -17,6 +17,7 @@ invariant-loop-number g l = record {
   turns : length l.runner.turns.items ≡ l.number-index;
   started : StartedBy (sum_by (λ (t : Turned). t.started) l.runner.turns.items) (g.L.Link.log l.initial.link) (g.L.Link.log l.link);
   quiet : g.L.Link.prompt l.initial.link → All (λ (t : Turned). t.pended ≡ false) l.runner.turns.items;
+  lossless : g.L.Link.prompt l.initial.link → LosesNothing (g.L.Link.log l.initial.link) (g.L.Link.log l.link);
   jobs : length l.runner.players.items ≡ length l.initial.runner.players.items;
   knowing : (begun : Told) → Knowing (g.L.Link.awaited l.initial.link) begun (g.L.Link.log l.initial.link) l.initial.runner.players.items → Knowing (g.L.Link.awaited l.link) begun (g.L.Link.log l.link) l.runner.players.items;
   rows : (ts : List Task) → AllAt ts [] [] l.initial.runner.players.items → AllAt ts (take l.number-index l.fn.order) l.runner.turns.items l.runner.players.items;

@@ -5,6 +5,7 @@ use Rattle.mg_jobs.proofs.Orders.{none_missing}
 use Rattle.mg_jobs.specs.Plan.{tasks}
 use Rattle.mg_jobs.proofs.Knowing.{knowing_first, played_so}
 use Rattle.mg_jobs.proofs.Advancing.{rows_so}
+use Rattle.mg_jobs.proofs.Completing.{well_so}
 use Rattle.mg_jobs.proofs.Told.{caused_so, tell_as, tell_first}
 use Rattle.mg_jobs.proofs.run.run_jobs.Goals as goal
 
@@ -19,7 +20,7 @@ returns-clause-followed g c = played_so _ (tasks c.args.jobs.now) _ _ c.into_pla
     (c.play.ensures.tasks _ c.in_ok-runner.ensures.tasks) refl
 
 pub returns-clause-rows : goal.returns-clause-rows
-returns-clause-rows g c = rows_so (tasks c.args.jobs.now) c.args.order.now c.play.new.runner.players.items c.play.new.runner.turns.items c.into_played.result c.into_played.ensures.outcomes c.into_played.ensures.shows c.into_played.ensures.turns (c.play.ensures.tasks _ c.in_ok-runner.ensures.tasks) (c.in_ok-play.ensures.rows _ c.in_ok-runner.ensures.at)
+returns-clause-rows g c = rows_so (tasks c.args.jobs.now) c.args.order.now c.play.new.runner.players.items c.play.new.runner.turns.items c.into_played.result c.into_played.ensures.outcomes c.into_played.ensures.each c.into_played.ensures.turns (c.play.ensures.tasks _ c.in_ok-runner.ensures.tasks) (c.in_ok-play.ensures.rows _ c.in_ok-runner.ensures.at)
 
 pub returns-clause-caused : goal.returns-clause-caused
 returns-clause-caused g c =
@@ -27,3 +28,6 @@ returns-clause-caused g c =
     (tell_as _ _ _ _ _ (tasks c.args.jobs.now) c.args.order.now c.play.new.runner.turns.items c.play.new.runner.players.items (sym c.play.ensures.later.wire)
     (c.in_ok-play.ensures.told (g.L.Link.log c.args.link.now) (tasks c.args.jobs.now) c.in_ok-runner.ensures.at (tell_first _ _ _ (tasks c.args.jobs.now) c.in_ok-runner.runner.players.items c.in_ok-runner.ensures.first)))
     (c.in_ok-play.ensures.rows _ c.in_ok-runner.ensures.at) (c.play.ensures.tasks _ c.in_ok-runner.ensures.tasks)
+
+pub returns-clause-complete : goal.returns-clause-complete
+returns-clause-complete g c = λ prompt. well_so _ _ _ (tasks c.args.jobs.now) c.args.order.now c.into_played.result (c.in_ok-play.ensures.lossless prompt) (returns-clause-caused g c) (returns-clause-rows g c)

@@ -3,7 +3,7 @@ use Rattle.mg_link.proofs.Plain.{plain_ran}
 use Rattle.mg_jobs.specs.Inserts.{IsPlain}
 use Rattle.mg_jobs.proofs.InsertCauses.{failed_caused, inserted_caused, pending_caused, unread_caused}
 use Rattle.mg_jobs.proofs.Plainly.{same_command}
-use Rattle.mg_jobs.proofs.Sendings.{done_sent, failed_sent, pending_sent}
+use Rattle.mg_jobs.proofs.Sendings.{done_sent, failed_sent, pending_sent, unread_sent}
 use Rattle.mg_jobs.proofs.insert.Batches.hear.Goals as goal
 
 pub returns-in-Pending-clause-plain : goal.returns-in-Pending-clause-plain
@@ -29,6 +29,9 @@ returns-in-Failed-clause-sent g c = failed_sent _ _ _ _ _ c.args.command c.in-Fa
 
 pub returns-in-Ok-clause-sent : goal.returns-in-Ok-clause-sent
 returns-in-Ok-clause-sent g c = done_sent _ _ _ _ _ c.args.command c.in-Done.reply _ c.in-Ok.field-0 c.in-Done.ensures.runs c.in-Ok.ensures.ok
+
+pub returns-clause-sent : goal.returns-clause-sent
+returns-clause-sent g c = unread_sent _ _ _ _ _ c.args.command c.in-Done.reply c.in-Err.error c.in-Done.ensures.runs
 
 pub returns-in-Pending-clause-caused : goal.returns-in-Pending-clause-caused
 returns-in-Pending-clause-caused g c = pending_caused _ _ _ _ _ c.args.command c.in-Pending.exec c.in-Pending.ensures.runs

@@ -12,7 +12,7 @@ commands-init g c = record {
   tickets = tickets_same _ (held c.args.self.command) c.requires;
   plain = λ plain. (plain_stayed _ _ refl, plain);
   pended = refl;
-  inserts = λ calls told at documents named has. (calls, told, has);
+  inserts = λ calls told places wire at documents named has. (calls, told, omega arith, has);
   caused = λ calls told places at documents has. (calls, told, omega arith, has);
   later = later_same _ _ _ _;
 }

@@ -3,7 +3,7 @@ use Rattle.mg_link.proofs.Plain.{plain_stayed}
 use Rattle.mg_jobs.specs.declared.player.InsertStage.TheVariants as inserts
 use Rattle.mg_jobs.specs.declared.outcome.Ended.TheVariants as ended
 use Rattle.mg_jobs.proofs.Advancing.{insert_done, insert_over, insert_waits}
-use Rattle.mg_jobs.proofs.Sendings.{stage_done, stage_pending, stage_stays}
+use Rattle.mg_jobs.proofs.InsertTelling.{stage_done, stage_fails, stage_stays, stage_waits}
 use Rattle.mg_jobs.proofs.player.InsertStage.go.Goals as goal
 
 pub returns-in-Unsent-clause-plain : goal.returns-in-Unsent-clause-plain
@@ -12,17 +12,20 @@ returns-in-Unsent-clause-plain g c = rw c.in-Unsent.is (λ plain. (plain_stayed 
 pub returns-in-Ended-clause-plain : goal.returns-in-Ended-clause-plain
 returns-in-Ended-clause-plain g c = rw c.in-Ended.is (λ plain. (plain_stayed _ _ refl, plain))
 
-pub returns-in-Unsent-clause-inserts : goal.returns-in-Unsent-clause-inserts
-returns-in-Unsent-clause-inserts g c = rw c.in-Unsent.is (stage_stays (g.L.Link.awaited c.args.link.now) (g.L.Link.log c.args.link.now) inserts.Unsent)
+pub returns-in-Unsent-clause-told : goal.returns-in-Unsent-clause-told
+returns-in-Unsent-clause-told g c = rw c.in-Unsent.is (λ at documents. stage_stays (g.L.Link.awaited c.args.link.now) (g.L.Link.log c.args.link.now) (g.L.Link.wire c.args.link.now) at documents inserts.Unsent)
 
-pub returns-in-Ended-clause-inserts : goal.returns-in-Ended-clause-inserts
-returns-in-Ended-clause-inserts g c = rw c.in-Ended.is (stage_stays (g.L.Link.awaited c.args.link.now) (g.L.Link.log c.args.link.now) (inserts.Ended c.in-Ended.ended))
+pub returns-in-Ended-clause-told : goal.returns-in-Ended-clause-told
+returns-in-Ended-clause-told g c = rw c.in-Ended.is (λ at documents. stage_stays (g.L.Link.awaited c.args.link.now) (g.L.Link.log c.args.link.now) (g.L.Link.wire c.args.link.now) at documents (inserts.Ended c.in-Ended.ended))
 
-pub returns-in-Pending-clause-inserts : goal.returns-in-Pending-clause-inserts
-returns-in-Pending-clause-inserts g c = rw c.in-Goes.is (stage_pending (g.L.Link.awaited c.args.link.now) (g.L.Link.awaited c.poll.new.link) (g.L.Link.log c.args.link.now) (g.L.Link.log c.poll.new.link) c.in-Goes.inserting c.in-Pending.inserting c.in-Pending.ensures.inserts)
+pub returns-in-Pending-clause-told : goal.returns-in-Pending-clause-told
+returns-in-Pending-clause-told g c = rw c.in-Goes.is (λ at documents. stage_waits (g.L.Link.awaited c.args.link.now) (g.L.Link.awaited c.poll.new.link) (g.L.Link.log c.args.link.now) (g.L.Link.log c.poll.new.link) (g.L.Link.wire c.args.link.now) at documents c.in-Goes.inserting c.in-Pending.inserting c.in-Pending.ensures.caused c.in-Pending.ensures.inserts)
 
-pub returns-in-Done-clause-inserts : goal.returns-in-Done-clause-inserts
-returns-in-Done-clause-inserts g c = rw c.in-Goes.is (stage_done (g.L.Link.awaited c.args.link.now) (g.L.Link.awaited c.poll.new.link) (g.L.Link.log c.args.link.now) (g.L.Link.log c.poll.new.link) c.in-Goes.inserting c.in-Done.count c.in-Done.ensures.inserts)
+pub returns-in-Done-clause-told : goal.returns-in-Done-clause-told
+returns-in-Done-clause-told g c = rw c.in-Goes.is (λ at documents. stage_done (g.L.Link.awaited c.args.link.now) (g.L.Link.awaited c.poll.new.link) (g.L.Link.log c.args.link.now) (g.L.Link.log c.poll.new.link) (g.L.Link.wire c.args.link.now) at documents c.in-Goes.inserting c.in-Done.count c.in-Done.ensures.inserts)
+
+pub returns-in-Failed-clause-told : goal.returns-in-Failed-clause-told
+returns-in-Failed-clause-told g c = rw c.in-Goes.is (λ at documents. stage_fails (g.L.Link.awaited c.args.link.now) (g.L.Link.awaited c.poll.new.link) (g.L.Link.log c.args.link.now) (g.L.Link.log c.poll.new.link) (g.L.Link.wire c.args.link.now) at documents c.in-Goes.inserting c.in-Failed.error c.in-Failed.ensures.caused)
 
 pub returns-in-Unsent-clause-comes : goal.returns-in-Unsent-clause-comes
 returns-in-Unsent-clause-comes g c = rw c.in-Unsent.is (false, refl, λ calls k last at. absurd at)

@@ -1,7 +1,9 @@
 use Rattle.std.proofs.Common.{None, false, refl}
 use Rattle.mg_link.proofs.Onward.{tickets_same}
+use Rattle.mg_link.specs.Namespace.{space}
 use Rattle.mg_jobs.specs.declared.run.Player.TheVariants as player
 use Rattle.mg_jobs.proofs.Knowing.{same_insert, same_watch, turned_follow, turned_insert, turned_not}
+use Rattle.mg_jobs.proofs.InsertTelling.{turns_over}
 use Rattle.mg_jobs.proofs.Telling.{tells_over}
 use Rattle.mg_jobs.specs.Telling.{kept}
 use Rattle.mg_jobs.proofs.run.Player.go.Goals as goal
@@ -10,8 +12,8 @@ pub returns-in-Insert-clause-goes : goal.returns-in-Insert-clause-goes
 returns-in-Insert-clause-goes g c = rw c.in-Insert.is (record {
   tickets = c.go.ensures.tickets;
   holds = tt;
-  told = tt;
-  turned = turned_insert (g.L.Link.awaited c.args.link.now) (g.L.Link.awaited c.go.new.link) (g.L.Link.log c.args.link.now) (g.L.Link.log c.go.new.link) c.in-Insert.insert c.go.result c.go.ensures.plain c.go.ensures.same c.go.ensures.inserts;
+  told = (c.go.ensures.same, turns_over _ _ _ _ _ _ (space c.in-Insert.insert.ns.now) c.in-Insert.insert.documents.now c.in-Insert.insert.stage c.go.result.stage c.go.ensures.later.wire (c.go.ensures.told (space c.in-Insert.insert.ns.now) c.in-Insert.insert.documents.now));
+  turned = turned_insert (g.L.Link.awaited c.args.link.now) (g.L.Link.awaited c.go.new.link) (g.L.Link.log c.args.link.now) (g.L.Link.log c.go.new.link) c.in-Insert.insert c.go.result c.go.ensures.plain;
   task = same_insert c.in-Insert.insert c.go.result c.go.ensures.same;
 })
 

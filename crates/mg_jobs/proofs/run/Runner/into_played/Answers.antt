@@ -1,7 +1,5 @@
 use Rattle.std.proofs.Common.{List, sym, subst, rules}
 use Rattle.mg_jobs.specs.Headline.{Made}
-use Rattle.mg_jobs.specs.Progress.{Shown}
-use Rattle.mg_jobs.proofs.Advancing.{shown_more}
 use Rattle.mg_jobs.specs.declared.outcome.Outcome.{Outcome}
 use Rattle.mg_jobs.proofs.Knowing.{made_more}
 use Rattle.mg_jobs.proofs.run.Runner.into_played.Goals as goal
@@ -9,8 +7,6 @@ use Rattle.mg_jobs.proofs.run.Runner.into_played.Goals as goal
 pub loop-player-preserved : goal.loop-player-preserved
 loop-player-preserved c = record {
   count = search rules;
-  shown = subst (λ (os : List Outcome). Shown c.args.self.players.items c.next.new.self.rest.items os) (sym c.in_ok-push.ensures.items)
-      (shown_more _ _ _ _ c.in-Some.player c.into_outcome.result c.in-Some.ensures.steps.0 c.loop-player.invariant.shown c.into_outcome.ensures.shows);
   made = subst (λ (os : List Outcome). Made c.args.self.players.items c.next.new.self.rest.items os) (sym c.in_ok-push.ensures.items)
       (made_more _ _ _ _ c.in-Some.player c.into_outcome.result c.in-Some.ensures.steps.0 c.loop-player.invariant.made c.into_outcome.ensures.of);
 }

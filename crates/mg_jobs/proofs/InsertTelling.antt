@@ -1,0 +1,89 @@
+-- What an insert tells goes on to hold, turn by turn.
+use Rattle.std.proofs.Common.{◌≡◌, ◌⊎◌, ℕ, ℤ, true, List, None, length, Some, refl, sym, ap, ◌∙◌, subst, inl, inr}
+use Rattle.mg_bson.specs.Tree.{Fields}
+use Rattle.mg_link.specs.Errors.{plain}
+use Rattle.mg_link.specs.Link.{Awaited, Told}
+use Rattle.mg_link.specs.Log.{Call}
+use Rattle.mg_link.specs.Namespace.{Space}
+use Rattle.mg_link.specs.declared.action.Step.TheVariants as step
+use Rattle.mg_link.specs.declared.error.Error.{Error}
+use Rattle.mg_link.specs.declared.error.ErrorKind.TheVariants as kind
+use Rattle.mg_link.proofs.Owners.{same_some}
+use Rattle.mg_change.specs.Calls.{Grows, Past, past_of}
+use Rattle.mg_jobs.specs.Appended.{Appended}
+use Rattle.mg_jobs.specs.Causes.{EndsBy}
+use Rattle.mg_jobs.specs.InsertCauses.{InsertCaused, InsertFails, InsertsSoFar, no_memory}
+use Rattle.mg_jobs.specs.Playing.{end_of, inserts_ended, inserts_ticket}
+use Rattle.mg_jobs.specs.Progress.{InsertAt}
+use Rattle.mg_jobs.specs.Telling.{InsertTells, InsertTurns}
+use Rattle.mg_jobs.specs.Underway.{HasInserted, Inserts, IsStarted}
+use Rattle.mg_jobs.specs.declared.insert.Inserting.{Inserting}
+use Rattle.mg_jobs.specs.declared.outcome.Ended.{Ended}
+use Rattle.mg_jobs.specs.declared.outcome.Ended.TheVariants as ended
+use Rattle.mg_jobs.specs.declared.player.InsertStage.{InsertStage}
+use Rattle.mg_jobs.specs.declared.player.InsertStage.TheVariants as inserts
+use Rattle.mg_jobs.proofs.Appending.{appended_grown}
+use Rattle.mg_jobs.proofs.InsertCauses.{insert_fails_grow, inserts_begin, inserts_grow}
+use Rattle.mg_jobs.proofs.Sendings.{has_grown, started}
+
+-- ---- before its first turn
+
+-- an insert that drew its ids
+pub begun_tells : (awaited : Awaited) (past : Past) (at : Space) (ds : List Fields) (i : Inserting) → i.command ≡ None → IsStarted at ds i.batches → InsertTells awaited past at ds (inserts.Goes i)
+begun_tells awaited past at ds i none is = (inserts_begin awaited past at ds i none is, λ named. started awaited past at ds i none is)
+
+-- one for whose ids there was no memory
+pub unbegun_tells : (awaited : Awaited) (past : Past) (at : Space) (ds : List Fields) (e : Error) → e ≡ plain kind.OutOfMemory → InsertTells awaited past at ds (inserts.Ended (ended.Failed e))
+unbegun_tells awaited past at ds e room = no_memory (ap (λ (x : Error). x.kind) room)
+
+-- ---- its own turns
+
+pub stage_stays : (awaited : Awaited) (log : Told) (wire : ℤ) (at : Space) (ds : List Fields) (s : InsertStage) → InsertTurns awaited awaited log log wire at ds s s
+stage_stays awaited log wire at ds s calls calls' told told' places t = subst (λ (c : List Call). InsertTells awaited (past_of places (length calls) c wire) at ds s) (same_some calls calls' (sym told ∙ told')) t
+
+module _ (old new : Awaited) (log log' : Told) (wire : ℤ) (at : Space) (ds : List Fields) (i : Inserting) where
+  pub stage_waits : (i' : Inserting) → InsertCaused old new log log' wire i (step.Pending i') → Inserts old new log log' i (step.Pending i') → InsertTurns old new log log' wire at ds (inserts.Goes i) (inserts.Goes i')
+  stage_waits i' caused sends calls calls' told told' places t = (
+    (let x = caused calls told places at ds t.0 in subst (λ (c : List Call). InsertsSoFar new (past_of places (length calls) c wire) at ds i'.batches i'.command) (same_some x.0 calls' (sym x.1 ∙ told')) x.2),
+    (λ named. let x = sends calls told places wire at ds named (t.1 named) in subst (λ (c : List Call). HasInserted new (past_of places (length calls) c wire) at ds i') (same_some x.0 calls' (sym x.1 ∙ told')) x.2),
+  )
+
+  pub stage_done : (n : ℕ) → Inserts old new log log' i (step.Done n) → InsertTurns old new log log' wire at ds (inserts.Goes i) (inserts.Ended (ended.Gave n))
+  stage_done n sends calls calls' told told' places t named =
+      let x = sends calls told places wire at ds named (t.1 named) in
+      subst (λ (c : List Call). Appended (past_of places (length calls) c wire) at ds n) (same_some x.0 calls' (sym x.1 ∙ told')) x.2
+
+  pub stage_fails : (e : Error) → InsertCaused old new log log' wire i (step.Failed e) → InsertTurns old new log log' wire at ds (inserts.Goes i) (inserts.Ended (ended.Failed e))
+  stage_fails e caused calls calls' told told' places t =
+      let x = caused calls told places at ds t.0 in
+      subst (λ (c : List Call). InsertFails (past_of places (length calls) c wire) at ds e) (same_some x.0 calls' (sym x.1 ∙ told')) x.2
+
+-- the same over the same wire version, by another name
+pub turns_over : (old new : Awaited) (log log' : Told) (wire wire' : ℤ) (at : Space) (ds : List Fields) (s s' : InsertStage) → wire' ≡ wire → InsertTurns old new log log' wire at ds s s' → InsertTurns old new log log' wire' at ds s s'
+turns_over old new log log' wire wire' at ds s s' same turns = subst (λ (w : ℤ). InsertTurns old new log log' w at ds s s') (sym same) turns
+
+-- an insert goes on where it was after so many turns, unless it has ended
+pub none_done : (s : InsertStage) (done : ℕ) → InsertAt s done → (0 ≡ done) ⊎ (inserts_ended s ≡ true)
+none_done inserts.Unsent done at = inl (sym at)
+none_done (inserts.Goes i) done at = inl (sym at)
+none_done (inserts.Ended end) done at = inr refl
+
+-- ---- a later time
+
+module _ (past past' : Past) (grows : Grows past past') (at : Space) (ds : List Fields) where
+  ends_grow : (end : Ended ℕ) → EndsBy past at ds end → EndsBy past' at ds end
+  ends_grow ended.Unfinished t = tt
+  ends_grow (ended.Gave n) t = λ named. appended_grown past past' at ds n grows (t named)
+  ends_grow (ended.Failed e) t = insert_fails_grow past past' grows at ds e t
+
+  pub insert_tells_grow : (old new : Awaited) (s : InsertStage) → ((m : ℕ) → inserts_ticket s ≡ Some m → new m ≡ old m) → InsertTells old past at ds s → InsertTells new past' at ds s
+  insert_tells_grow old new inserts.Unsent same t = tt
+  insert_tells_grow old new (inserts.Goes i) same t = (inserts_grow past past' grows at ds old new i same t.0, λ named. has_grown old new past past' grows at ds i same (t.1 named))
+  insert_tells_grow old new (inserts.Ended end) same t = ends_grow end t
+
+-- ---- at the end
+
+pub ends_of : (awaited : Awaited) (past : Past) (at : Space) (ds : List Fields) (s : InsertStage) → InsertTells awaited past at ds s → EndsBy past at ds (end_of s)
+ends_of awaited past at ds inserts.Unsent t = tt
+ends_of awaited past at ds (inserts.Goes i) t = tt
+ends_of awaited past at ds (inserts.Ended end) t = t
