@@ -367,7 +367,7 @@ module _ (c : Course) (i : ℕ) (begun calls : List Call) (wire : ℤ) (whole : 
         let t = taken c i 0 begun calls wire places whole faultless well sent (insert_command ns piece) bytes heard in
         let asks = asks_to_insert t.step.command ns piece named t.command_is in
         let fresh_there = subst (λ (s : State). AreFresh (documents_of s ns) piece) t.before_is (fresh t.position t.step ns piece t.is_own t.there asks) in
-        never_lists t.step t.at_once ns piece asks fresh_there (length piece) k (well.met t.position t.step ns piece t.is_own t.there asks) (subst (λ (b : List ℕ). ListsAs (length piece) (fields b) k) t.reply_is lists)
+        never_lists t.step t.at_once ns piece asks fresh_there (length piece) k (subst (λ (b : List ℕ). ListsAs (length piece) (fields b) k) t.reply_is lists)
 
     served : IsServed (sent_at places calls wire)
     served = serves c i 0 begun calls wire places whole faultless well sent

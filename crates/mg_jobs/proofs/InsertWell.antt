@@ -7,7 +7,7 @@ use Rattle.mg_bson.specs.Raw.{fields}
 use Rattle.mg_link.specs.Commands.{Asked, Failure, Told, as_integer, asked, asks_insert, documents_in, failure_of, failures_at, failures_by, garbled, inserted, inserted_by, told_by}
 use Rattle.mg_link.specs.History.{Step, step_after, told_at}
 use Rattle.mg_link.specs.Namespace.{Space}
-use Rattle.mg_link.specs.Prompt.{AnswersAtOnce, rule_failures}
+use Rattle.mg_link.specs.Prompt.{AnswersAtOnce, MeetsConcern, rule_failures}
 use Rattle.mg_link.specs.Rules.{choose, insert_entry, inserted_reply, inserting, no_more, with_document, with_error}
 use Rattle.mg_link.specs.State.{State}
 use Rattle.mg_link.specs.Step.{Made, MayTell, documents_of, grown, written}
@@ -111,10 +111,11 @@ module _ (step : Step) (p : IsPrompted step) (space : Space) (documents : List F
   told_inserted : told_at step ≡ unwrap_or (inserted_by (fields step.reply)) garbled
   told_inserted = told_so step p verdict.Success (prompt_success step p) ∙ ap (λ (c : Asked). told_by verdict.Success c (fields step.reply)) asks
 
-  -- without a write concern error it is no failure
-  pub never_lists : (count : ℕ) (k : ErrorKind) → get (codes "writeConcernError") (fields step.reply) ≡ None → ListsAs count (fields step.reply) k → ⊥
+  -- it is no failure
+  pub never_lists : (count : ℕ) (k : ErrorKind) → ListsAs count (fields step.reply) k → ⊥
   unfolding inserted_by
-  never_lists count k met lists =
+  never_lists count k lists =
+      let met = subst (λ (c : Asked). MeetsConcern c step.reply) asks p.met in
       let said : Fields = fields step.reply in
       let all = tells_all p.before (step_after p.before step) step.made space documents (option_and_then as_integer (get (codes "n") said)) (failures_at (get (codes "writeErrors") said)) fresh (tells_at_once (unwrap_or (inserted_by said) garbled) told_inserted) in
       lists_not count said all.0 k (record { counted = reads_count said all.0 all.1; none_failed = reads_none (last_index count) said all.2 met }) lists

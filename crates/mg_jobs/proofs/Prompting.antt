@@ -9,7 +9,7 @@ use Rattle.mg_link.specs.Commands.{Asked, Batch, Told, asked, asks_more, asks_ot
 use Rattle.mg_link.specs.Exec.{IsSuccess}
 use Rattle.mg_link.specs.History.{Step, IsLegal, state_of, step_after, told_at}
 use Rattle.mg_link.specs.Namespace.{Space}
-use Rattle.mg_link.specs.Prompt.{AnswersAtOnce, IsPrompt}
+use Rattle.mg_link.specs.Prompt.{AnswersAtOnce, IsPrompt, MeetsConcern}
 use Rattle.mg_link.specs.Reply.{verdict_of}
 use Rattle.mg_link.specs.State.{Entry, Start, State, Watch, events_between, nothing, sees}
 use Rattle.mg_link.specs.Step.{Made, May, MayGoOn, MayOpen, MayTell, grown}
@@ -74,6 +74,7 @@ pub record IsPrompted (step : Step) : Type 0 where
   pub numbered : AreNumbered before
   pub may : May before (asked step.command) (told_at step) step.made
   pub prompt : AnswersAtOnce before (step_after before step) (asked step.command) (told_at step)
+  pub met : MeetsConcern (asked step.command) step.reply
 
 abbrev pub prompted : (history : List Step) (own : List ℕ) (p : ℕ) (step : Step) → IsLegal history → IsPrompt own history → Contains own p → slice_get history p ≡ Some step → IsPrompted step
 prompted history own p step legal prompt is there =
@@ -82,7 +83,8 @@ prompted history own p step legal prompt is there =
       before = state_of (take p history);
       numbered = numbered_of (take p history) (legal_front nothing (take p history) (step ∷ []) front);
       may = (legal_parts (state_of (take p history)) step [] (legal_back nothing (take p history) (step ∷ []) front)).0;
-      prompt = prompt p step is there;
+      prompt = (prompt p step is there).0;
+      met = (prompt p step is there).1;
     }
 
 -- ---- it is a success

@@ -1,7 +1,5 @@
 -- What jobs come to over a link that loses nothing, where their server holds nothing back.
-use Rattle.std.specs.Prelude.{◌≡◌, ◌⊎◌, ◌≤◌, ◌++◌, Contains, Ok, ℕ, suc, ℤ, true, List, [], ◌∷◌, length, take, Some, None, codes, slice_get}
-use Rattle.mg_bson.specs.Find as found
-use Rattle.mg_bson.specs.Raw.{fields}
+use Rattle.std.specs.Prelude.{◌≡◌, ◌⊎◌, ◌≤◌, ◌++◌, Contains, Ok, ℕ, suc, ℤ, true, List, [], ◌∷◌, length, take, Some, slice_get}
 use Rattle.mg_bson.specs.Tree.{Fields, Tree}
 use Rattle.mg_link.specs.Commands.{asked, asks_insert}
 use Rattle.mg_link.specs.History.{Step, IsLegal, state_of}
@@ -41,11 +39,6 @@ use Rattle.mg_jobs.specs.declared.outcome.Turned.{Turned}
 abbrev pub HasPositions : Course → ℕ → List Call → List ℕ → Type 0
 HasPositions c i calls own = (k place : ℕ) (call : Call) (position : ℕ) → SentIn c i k place → slice_get calls place ≡ Some call → call.position ≡ Some position → Contains own position
 
--- no reply to an insert among these steps tells of a write concern that was not met
-abbrev pub MeetConcerns : List ℕ → List Step → Type 0
-MeetConcerns own history = (position : ℕ) (step : Step) (space : Space) (documents : List Fields) → Contains own position → slice_get history position ≡ Some step → asked step.command ≡ asks_insert space documents true
-    → found.get (codes "writeConcernError") (fields step.reply) ≡ None
-
 -- the log stands in this history, in which the job's steps were answered at once and none was refused, nor missed its write concern
 pub record AnswersWell (c : Course) (i : ℕ) (calls : List Call) : Type 0 where
   pub history : List Step
@@ -54,7 +47,6 @@ pub record AnswersWell (c : Course) (i : ℕ) (calls : List Call) : Type 0 where
   pub own : List ℕ
   pub positions : HasPositions c i calls own
   pub prompt : IsPrompt own history
-  pub met : MeetConcerns own history
 
 -- ---- what an insert comes to
 

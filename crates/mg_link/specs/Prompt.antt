@@ -1,10 +1,11 @@
 -- When the answers to a caller hold nothing back (change streams, getMore and insert specifications: a server may cut batches where it likes, and refuse).
-use Rattle.std.specs.Prelude.{◌≡◌, ℕ, ℤ, pos, Bool, true, Option, Some, List, [], Contains, length, take, slice_get, unwrap_or, codes}
+use Rattle.std.specs.Prelude.{◌≡◌, ℕ, ℤ, pos, Bool, true, Option, Some, None, List, [], Contains, length, take, slice_get, unwrap_or, codes}
 use Rattle.mg_bson.specs.Tree.{Tree, Fields}
 use Rattle.mg_bson.specs.Find.{get}
+use Rattle.mg_bson.specs.Raw.{fields}
 use Rattle.mg_link.specs.Namespace.{Space}
 use Rattle.mg_link.specs.State.{Entry, Watch, watching, State, Start, start_place, events_between, seen_between, is_invalidate}
-use Rattle.mg_link.specs.Commands.{Asked, asks_insert, asks_watch, asks_more, asks_kill, Failure, Told, refuses, inserted, opened, gave, killed, asked, failures_at}
+use Rattle.mg_link.specs.Commands.{Asked, asks_insert, asks_watch, asks_more, asks_kill, asks_other, Failure, Told, refuses, inserted, opened, gave, killed, asked, failures_at}
 use Rattle.mg_link.specs.Step.{documents_of}
 use Rattle.mg_link.specs.History.{Step, state_of, step_after, told_at}
 use Rattle.mg_link.specs.Rules.{inserting, inserted_reply}
@@ -30,7 +31,15 @@ AnswersAtOnce s s' (asks_more id space) (gave left other events token) = (watch 
 AnswersAtOnce s s' (asks_kill ids) killed = Unit {0}
 AnswersAtOnce s s' command reply = Unit {0}
 
+-- the reply to a write tells of no write concern that was not met
+abbrev pub MeetsConcern : Asked → List ℕ → Type 0
+MeetsConcern (asks_insert space documents ordered) bytes = get (codes "writeConcernError") (fields bytes) ≡ None
+MeetsConcern (asks_watch watch start) bytes = Unit {0}
+MeetsConcern (asks_more id space) bytes = Unit {0}
+MeetsConcern (asks_kill ids) bytes = Unit {0}
+MeetsConcern asks_other bytes = Unit {0}
+
 -- the steps at these positions, which are a caller's own, were answered so
 abbrev pub IsPrompt : List ℕ → List Step → Type 0
 IsPrompt own history = (position : ℕ) (step : Step) → Contains own position → slice_get history position ≡ Some step →
-    AnswersAtOnce (state_of (take position history)) (step_after (state_of (take position history)) step) (asked step.command) (told_at step)
+    AnswersAtOnce (state_of (take position history)) (step_after (state_of (take position history)) step) (asked step.command) (told_at step) × MeetsConcern (asked step.command) step.reply
