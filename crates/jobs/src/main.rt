@@ -2,24 +2,27 @@
 #![tactic(auto)]
 
 #[cfg(test)]
-mod grammar_tests;
-#[cfg(test)]
 mod tests;
 
 use mg_jobs::{StdSink, StdSource, run_program};
-use mg_link::write_all;
-use std::alloc::AllocError;
+use mg_link::{OutOfMemory, write_all};
 use std::env::{self, Env};
 use std::io;
 use std::process::ExitCode;
 
-/// The arguments behind the program's name, or none where they are no text.
-fn words_of(rt: &(impl Env + AllocGlobal)) -> Result<Vec<String>, AllocError> {
+/// The arguments behind the program's name, or none where they are no text. Only memory can fail.
+fn words_of(rt: &(impl Env + AllocGlobal)) -> Result<Vec<String>, OutOfMemory> {
     let mut words = Vec::new(rt.alloc());
-    if let Ok(arguments) = env::args(rt) {
-        for word in arguments.skip(1) {
-            words.push(word)?;
+    match env::args(rt) {
+        Ok(arguments) => {
+            for word in arguments.skip(1) {
+                words.push(word)?;
+            }
         }
+        Err(fault) if matches!(fault.kind(), io::ErrorKind::OutOfMemory) => {
+            return Err(OutOfMemory);
+        }
+        Err(_) => {}
     }
     Ok(words)
 }

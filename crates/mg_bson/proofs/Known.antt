@@ -3,11 +3,12 @@ use Rattle.std.proofs.Common.{◌≡◌, ℕ, zero, suc, ◌+◌, ◌-◌, ◌�
 use Rattle.std.specs.Prelude.{IsTrue, ◌||◌}
 use Rattle.std.specs.Str.{IsUtf8, is_utf8}
 use Rattle.std.proofs.lemmas.List.{drop-take, take_all}
+use Rattle.std.proofs.lemmas.Bool.{eqb-true}
 use Rattle.std.proofs.lemmas.Str.{IsUtf8-from_is_utf8, IsUtf8-from_ascii}
-use Rattle.mg_bson.specs.declared.kind.Kind.TheVariants as kind
 use Rattle.mg_bson.specs.Kind.{kind_at}
-use Rattle.mg_bson.specs.Reading.{cut, utf8_of, le32_at, element_at, text_at, fields_at, doc_at}
+use Rattle.mg_bson.specs.Reading.{cut, utf8_of, le32_at, element_at, text_at, fields_at, doc_at, fixed}
 use Rattle.mg_bson.specs.Raw.{AreFields}
+use Rattle.mg_bson.specs.Tree.{Tree}
 use Rattle.mg_bson.proofs.Options.{bind_some, some_there, some_is, guard_some, test_some}
 use Rattle.mg_bson.proofs.Elements.{fields_at-front}
 
@@ -77,3 +78,14 @@ text_long bs h = (is_text bs h).long
 pub mapped_there : {A B : Type 0} (f : A → B) (o : Option A) → is_some (option_map f o) ≡ true → is_some o ≡ true
 mapped_there f (Some x) e = refl
 mapped_there f None e = e
+
+-- a value of a length that its kind gives
+pub record IsFixed (n : ℕ) (make : List ℕ → Tree) (bs : List ℕ) : Type 0 where
+  pub long : length bs ≡ n
+  pub read : fixed n make bs ≡ Some (make bs)
+
+pub is_fixed : (n : ℕ) (make : List ℕ → Tree) (bs : List ℕ) → is_some (fixed n make bs) ≡ true → IsFixed n make bs
+is_fixed n make bs h =
+    let there = some_there (fixed n make bs) h in
+    let sized = test_some (eqb (length bs) n) (Some (make bs)) there.0 there.1 in
+    record { long = eqb-true (length bs) n sized.0; read = there.1 ∙ sym sized.1 }

@@ -5,7 +5,7 @@ use Rattle.std.proofs.lemmas.Bool.{eqb-true}
 use Rattle.std.specs.List.{ItemBy}
 use Rattle.std.proofs.lemmas.Option.{slice_get_past, slice_get-get_or}
 use Rattle.std.specs.Str.{bytes_eq}
-use Rattle.mg_bson.specs.Tree.{field, no_fields, item, no_items}
+use Rattle.mg_bson.specs.Tree.{Tree, field, no_fields, item, no_items}
 use Rattle.mg_bson.specs.View.{tree, fields_of, items_of, place}
 use Rattle.mg_bson.specs.Find.{get, put, without, fields_length, with_item, with_field, items_length, item_at}
 use Rattle.mg_bson.proofs.Options.{map_some}
@@ -79,13 +79,13 @@ place_some k (f ∷ fs) i e = elim (both (bytes_eq (string_bytes f.name) k)) [
 
 pub record StandsNowhere (k : List ℕ) (fs : List Field) : Type 0 where
   pub missing : get k (fields_of fs) ≡ None
-  pub added : (g : Field) → string_bytes g.name ≡ k → put k (tree g.value) (fields_of fs) ≡ fields_of (fs ++ g ∷ [])
+  pub added : (t : Tree) → put k t (fields_of fs) ≡ with_field (fields_of fs) k t
   pub kept : without k (fields_of fs) ≡ fields_of fs
 
 nowhere_yet : (k : List ℕ) (f : Field) (fs : List Field) → bytes_eq (string_bytes f.name) k ≡ false → StandsNowhere k fs → StandsNowhere k (f ∷ fs)
 nowhere_yet k f fs no' s = record {
   missing = rw no' s.missing;
-  added = λ g h. rw no' (ap (field (string_bytes f.name) (tree f.value)) (s.added g h));
+  added = λ t. rw no' (ap (field (string_bytes f.name) (tree f.value)) (s.added t));
   kept = rw no' (ap (field (string_bytes f.name) (tree f.value)) s.kept);
 }
 
@@ -94,7 +94,7 @@ map_nothing (Some j) e = absurd cc
 map_nothing None e = refl
 
 pub place_none : (k : List ℕ) (fs : List Field) → place k fs ≡ None → StandsNowhere k fs
-place_none k [] e = record { missing = refl; added = λ g h. rw h refl; kept = refl }
+place_none k [] e = record { missing = refl; added = λ t. refl; kept = refl }
 place_none k (f ∷ fs) e = elim (both (bytes_eq (string_bytes f.name) k)) [
   | inl yes' ↦
       let here : Some 0 ≡ None = sym (rw yes' refl) ∙ e in

@@ -1,13 +1,13 @@
 -- What was read has few levels and no name with a 0.
-use Rattle.std.proofs.Common.{◌≡◌, ℕ, zero, suc, ◌≤◌, List, [], ◌∷◌, length, drop, ltb, eqb, Bool, true, false, ◌||◌, Option, Some, None, option_map, refl, sym, ap, subst, ◌∙◌, arith, max}
+use Rattle.std.proofs.Common.{◌≡◌, ℕ, zero, suc, ◌≤◌, List, [], ◌∷◌, length, drop, ltb, eqb, Bool, true, false, ◌||◌, Option, Some, None, option_map, refl, sym, ap, subst, ◌∙◌, arith}
 use Rattle.std.specs.Int.{w32, w64, cast_signed}
-use Rattle.mg_bson.specs.Tree.{Tree, double, undefined, object_id, date_time, null, int32, timestamp, int64, decimal128, min_key, max_key, document, array, scoped, regex, db_pointer, string, script, symbol, binary, Fields, no_fields, field, no_items, item}
+use Rattle.mg_bson.specs.Tree.{Tree, double, undefined, object_id, date_time, null, int32, timestamp, int64, decimal128, min_key, max_key, document, array, scoped, regex, string, script, symbol, Fields, no_fields, field}
 use Rattle.mg_bson.specs.declared.kind.Kind.{Kind}
 use Rattle.mg_bson.specs.declared.kind.Kind.TheVariants as kind
 use Rattle.mg_bson.specs.Kind.{kind_at}
 use Rattle.mg_bson.specs.Bytes.{tree_depth, fields_depth, items_depth, levels}
 use Rattle.mg_bson.specs.Writable.{has_zero, has_bad_name, fields_have_bad_name, items_have_bad_name}
-use Rattle.mg_bson.specs.Reading.{◌>>=◌, le32_at, le64_at, cut, utf8_of, extent, Element, element_at, body_at, text_at, binary_at, boolean_at, regex_at, pointer_at, scope_parts, fixed, value_at, values, fields_within, fields_at, doc_at}
+use Rattle.mg_bson.specs.Reading.{le32_at, le64_at, cut, utf8_of, extent, Element, element_at, body_at, text_at, binary_at, boolean_at, regex_at, pointer_at, scope_parts, fixed, value_at, values, fields_within, fields_at, doc_at}
 use Rattle.mg_bson.proofs.Options.{bind_some, map_some, some_is, guard_some, test_some}
 use Rattle.mg_bson.proofs.Known.{text_there}
 use Rattle.mg_bson.proofs.Elements.{then}

@@ -1,5 +1,6 @@
 //! `clone`, written by hand: a derived one would promise nothing of a type that holds itself.
-ghost use Rattle.std.specs.Prelude.{◌≡◌, IfOk};
+ghost use Rattle.std.specs.Prelude.{◌≡◌, IfOk, string_bytes};
+ghost use Rattle.mg_bson.specs.Tree.{binary, regex, db_pointer, scoped};
 ghost use Rattle.mg_bson.specs.View.{tree, fields_of, items_of};
 
 use crate::tree::{Array, Binary, Bson, CodeWithScope, DbPointer, Document, Field, Regex};
@@ -27,12 +28,18 @@ fn copy_document(document: &Document) -> Result<Document, AllocError>
 {
     let mut fields = Vec::with_capacity(*document.fields.allocator(), document.fields.len())?;
     for field in &document.fields {
-        fields.push(Field {
-            name: field.name.clone()?,
-            value: copy_value(&field.value)?,
-        })?;
+        fields.push(copy_field(field)?)?;
     }
     Ok(Document { fields })
+}
+
+#[cycle(copy)]
+fn copy_field(field: &Field) -> Result<Field, AllocError>
+    ensures { IfOk result (λ f. (string_bytes f.name ≡ string_bytes field.now.name) × (tree f.value ≡ tree field.now.value)) }
+{
+    let name = field.name.clone()?;
+    let value = copy_value(&field.value)?;
+    Ok(Field { name, value })
 }
 
 #[cycle(copy)]
@@ -52,40 +59,20 @@ fn copy_value(value: &Bson) -> Result<Bson, AllocError>
 {
     match value {
         Bson::Double(v) => Ok(Bson::Double(*v)),
-        Bson::String(text) => Ok(Bson::String(text.clone()?)),
-        Bson::Document(d) => Ok(Bson::Document(copy_document(d)?)),
-        Bson::Array(a) => Ok(Bson::Array(copy_array(a)?)),
-        Bson::Binary(b) => {
-            let bytes = b.bytes.clone()?;
-            Ok(Bson::Binary(Binary {
-                subtype: b.subtype,
-                bytes,
-            }))
-        },
+        Bson::String(text) => text.clone().map(Bson::String),
+        Bson::Document(d) => copy_document(d).map(Bson::Document),
+        Bson::Array(a) => copy_array(a).map(Bson::Array),
+        Bson::Binary(b) => copy_binary(b),
         Bson::Undefined => Ok(Bson::Undefined),
         Bson::ObjectId(id) => Ok(Bson::ObjectId(*id)),
         Bson::Boolean(b) => Ok(Bson::Boolean(*b)),
         Bson::DateTime(t) => Ok(Bson::DateTime(*t)),
         Bson::Null => Ok(Bson::Null),
-        Bson::Regex(r) => {
-            let pattern = r.pattern.clone()?;
-            let options = r.options.clone()?;
-            Ok(Bson::Regex(Regex { pattern, options }))
-        },
-        Bson::DbPointer(p) => {
-            let namespace = p.namespace.clone()?;
-            Ok(Bson::DbPointer(DbPointer {
-                namespace,
-                id: p.id,
-            }))
-        },
-        Bson::Code(text) => Ok(Bson::Code(text.clone()?)),
-        Bson::Symbol(text) => Ok(Bson::Symbol(text.clone()?)),
-        Bson::CodeWithScope(c) => {
-            let code = c.code.clone()?;
-            let scope = copy_document(&c.scope)?;
-            Ok(Bson::CodeWithScope(CodeWithScope { code, scope }))
-        },
+        Bson::Regex(r) => copy_regex(r),
+        Bson::DbPointer(p) => copy_pointer(p),
+        Bson::Code(text) => text.clone().map(Bson::Code),
+        Bson::Symbol(text) => text.clone().map(Bson::Symbol),
+        Bson::CodeWithScope(c) => copy_scoped(c),
         Bson::Int32(n) => Ok(Bson::Int32(*n)),
         Bson::Timestamp(t) => Ok(Bson::Timestamp(*t)),
         Bson::Int64(n) => Ok(Bson::Int64(*n)),
@@ -93,4 +80,41 @@ fn copy_value(value: &Bson) -> Result<Bson, AllocError>
         Bson::MinKey => Ok(Bson::MinKey),
         Bson::MaxKey => Ok(Bson::MaxKey),
     }
+}
+
+#[cycle(copy)]
+fn copy_scoped(source: &CodeWithScope) -> Result<Bson, AllocError>
+    ensures { IfOk result (λ v. tree v ≡ scoped (string_bytes source.now.code) source.now.scope) }
+{
+    let code = source.code.clone()?;
+    let scope = copy_document(&source.scope)?;
+    Ok(Bson::CodeWithScope(CodeWithScope { code, scope }))
+}
+
+fn copy_binary(source: &Binary) -> Result<Bson, AllocError>
+    ensures { IfOk result (λ v. tree v ≡ binary source.now.subtype source.now.bytes.items) }
+{
+    let bytes = source.bytes.clone()?;
+    Ok(Bson::Binary(Binary {
+        subtype: source.subtype,
+        bytes,
+    }))
+}
+
+fn copy_regex(source: &Regex) -> Result<Bson, AllocError>
+    ensures { IfOk result (λ v. tree v ≡ regex (string_bytes source.now.pattern) (string_bytes source.now.options)) }
+{
+    let pattern = source.pattern.clone()?;
+    let options = source.options.clone()?;
+    Ok(Bson::Regex(Regex { pattern, options }))
+}
+
+fn copy_pointer(source: &DbPointer) -> Result<Bson, AllocError>
+    ensures { IfOk result (λ v. tree v ≡ db_pointer (string_bytes source.now.namespace) source.now.id.0) }
+{
+    let namespace = source.namespace.clone()?;
+    Ok(Bson::DbPointer(DbPointer {
+        namespace,
+        id: source.id,
+    }))
 }

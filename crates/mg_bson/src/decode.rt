@@ -1,11 +1,13 @@
 //! Checked bytes as a document that owns its parts.
-ghost use Rattle.std.specs.Prelude.{◌≡◌, IfOk, IfErr};
+ghost use Rattle.std.specs.Prelude.{◌≡◌, IfOk, IfErr, string_bytes};
+ghost use Rattle.mg_bson.specs.Tree.{binary, regex, db_pointer, scoped};
 ghost use Rattle.mg_bson.specs.Raw.{fields, items};
 ghost use Rattle.mg_bson.specs.RawView.{value};
 ghost use Rattle.mg_bson.specs.View.{tree};
 ghost use Rattle.mg_bson.specs.declared.error.BsonError.TheVariants.{OutOfMemory};
 
 use crate::error::BsonError;
+use crate::object_id::ObjectId;
 use crate::raw::{RawArray, RawDocument, RawValue};
 use crate::tree::{Array, Binary, Bson, CodeWithScope, DbPointer, Document, Regex};
 use std::alloc::Global;
@@ -51,37 +53,20 @@ pub(crate) fn read_value(alloc: Global, raw: &RawValue<'_>) -> Result<Bson, Bson
 {
     match raw {
         RawValue::Double(v) => Ok(Bson::Double(*v)),
-        RawValue::String(text) => Ok(Bson::String(String::from_str(alloc, text)?)),
-        RawValue::Document(d) => Ok(Bson::Document(read_document(alloc, d)?)),
-        RawValue::Array(a) => Ok(Bson::Array(read_array(alloc, a)?)),
-        RawValue::Binary(subtype, bytes) => {
-            let bytes = Vec::from_slice(alloc, bytes)?;
-            Ok(Bson::Binary(Binary {
-                subtype: *subtype,
-                bytes,
-            }))
-        },
+        RawValue::String(text) => read_text(alloc, text).map(Bson::String),
+        RawValue::Document(d) => read_document(alloc, d).map(Bson::Document),
+        RawValue::Array(a) => read_array(alloc, a).map(Bson::Array),
+        RawValue::Binary(subtype, bytes) => read_binary(alloc, *subtype, bytes),
         RawValue::Undefined => Ok(Bson::Undefined),
         RawValue::ObjectId(id) => Ok(Bson::ObjectId(*id)),
         RawValue::Boolean(b) => Ok(Bson::Boolean(*b)),
         RawValue::DateTime(t) => Ok(Bson::DateTime(*t)),
         RawValue::Null => Ok(Bson::Null),
-        RawValue::Regex(pattern, options) => {
-            let pattern = String::from_str(alloc, pattern)?;
-            let options = String::from_str(alloc, options)?;
-            Ok(Bson::Regex(Regex { pattern, options }))
-        },
-        RawValue::DbPointer(namespace, id) => {
-            let namespace = String::from_str(alloc, namespace)?;
-            Ok(Bson::DbPointer(DbPointer { namespace, id: *id }))
-        },
-        RawValue::Code(text) => Ok(Bson::Code(String::from_str(alloc, text)?)),
-        RawValue::Symbol(text) => Ok(Bson::Symbol(String::from_str(alloc, text)?)),
-        RawValue::CodeWithScope(code, scope) => {
-            let code = String::from_str(alloc, code)?;
-            let scope = read_document(alloc, scope)?;
-            Ok(Bson::CodeWithScope(CodeWithScope { code, scope }))
-        },
+        RawValue::Regex(pattern, options) => read_regex(alloc, pattern, options),
+        RawValue::DbPointer(namespace, id) => read_pointer(alloc, namespace, *id),
+        RawValue::Code(text) => read_text(alloc, text).map(Bson::Code),
+        RawValue::Symbol(text) => read_text(alloc, text).map(Bson::Symbol),
+        RawValue::CodeWithScope(code, scope) => read_scoped(alloc, code, scope),
         RawValue::Int32(n) => Ok(Bson::Int32(*n)),
         RawValue::Timestamp(t) => Ok(Bson::Timestamp(*t)),
         RawValue::Int64(n) => Ok(Bson::Int64(*n)),
@@ -89,4 +74,46 @@ pub(crate) fn read_value(alloc: Global, raw: &RawValue<'_>) -> Result<Bson, Bson
         RawValue::MinKey => Ok(Bson::MinKey),
         RawValue::MaxKey => Ok(Bson::MaxKey),
     }
+}
+
+#[cycle(decode)]
+fn read_scoped(alloc: Global, code: &str, scope: &RawDocument<'_>) -> Result<Bson, BsonError>
+    ensures ok { IfOk result (λ b. tree b ≡ scoped code.now (fields scope.now)) }
+    ensures err { IfErr result (λ e. e ≡ OutOfMemory) }
+{
+    let code = read_text(alloc, code)?;
+    let scope = read_document(alloc, scope)?;
+    Ok(Bson::CodeWithScope(CodeWithScope { code, scope }))
+}
+
+fn read_text(alloc: Global, text: &str) -> Result<String, BsonError>
+    ensures ok { IfOk result (λ s. string_bytes s ≡ text.now) }
+    ensures err { IfErr result (λ e. e ≡ OutOfMemory) }
+{
+    Ok(String::from_str(alloc, text)?)
+}
+
+fn read_binary(alloc: Global, subtype: u8, bytes: &[u8]) -> Result<Bson, BsonError>
+    ensures ok { IfOk result (λ b. tree b ≡ binary subtype bytes.now) }
+    ensures err { IfErr result (λ e. e ≡ OutOfMemory) }
+{
+    let bytes = Vec::from_slice(alloc, bytes)?;
+    Ok(Bson::Binary(Binary { subtype, bytes }))
+}
+
+fn read_regex(alloc: Global, pattern: &str, options: &str) -> Result<Bson, BsonError>
+    ensures ok { IfOk result (λ b. tree b ≡ regex pattern.now options.now) }
+    ensures err { IfErr result (λ e. e ≡ OutOfMemory) }
+{
+    let pattern = read_text(alloc, pattern)?;
+    let options = read_text(alloc, options)?;
+    Ok(Bson::Regex(Regex { pattern, options }))
+}
+
+fn read_pointer(alloc: Global, namespace: &str, id: ObjectId) -> Result<Bson, BsonError>
+    ensures ok { IfOk result (λ b. tree b ≡ db_pointer namespace.now id.0) }
+    ensures err { IfErr result (λ e. e ≡ OutOfMemory) }
+{
+    let namespace = read_text(alloc, namespace)?;
+    Ok(Bson::DbPointer(DbPointer { namespace, id }))
 }

@@ -36,6 +36,3 @@ pub use tree::{
     DocumentKeys, Regex, Timestamp,
 };
 pub use write::to_bytes;
-
-#[cfg(test)]
-mod tests;

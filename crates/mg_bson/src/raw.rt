@@ -1,5 +1,5 @@
 //! Documents as bytes that were checked once, and what is lent of them.
-ghost use Rattle.std.specs.Prelude.{◌≡◌, ◌↔◌, IsTrue, IfOk, IfErr, IfSome, MatchOption, MatchResult, None, option_map};
+ghost use Rattle.std.specs.Prelude.{◌≡◌, ◌↔◌, drop, length, IsTrue, IfOk, IfErr, IfSome, MatchOption, MatchResult, None, option_map};
 ghost use Rattle.std.specs.Cmp.{partial_equiv_from_equiv};
 ghost use Rattle.std.specs.Cmp.Lexicographic.{nat_list_eq_equiv};
 ghost use Rattle.std.specs.Str.{bytes_eq};
@@ -9,7 +9,7 @@ ghost use Rattle.mg_bson.specs.Raw.{IsDocument, IsValue, fields, fields_left, it
 ghost use Rattle.mg_bson.specs.ReadView.{spelling};
 ghost use Rattle.mg_bson.specs.View.{tree};
 ghost use Rattle.mg_bson.specs.RawView.{value};
-ghost use Rattle.mg_bson.specs.Reading.{doc, doc_at, value_at};
+ghost use Rattle.mg_bson.specs.Reading.{doc, doc_at, le32_at, value_at};
 ghost use Rattle.mg_bson.specs.declared.error.BsonError.TheVariants.{Malformed, OutOfMemory};
 
 use crate::check::is_document;
@@ -82,7 +82,7 @@ impl<'a> Model for RawIter<'a> {
 
 /// A value that is lent from checked bytes: one variant for each variant of
 /// [`Bson`](crate::Bson). In a contract `value` is the tree that it stands for.
-#[derive(Debug, Drop)]
+#[derive(Debug)]
 pub enum RawValue<'a> {
     /// A floating point number, as its eight bytes.
     Double([u8; 8]),
@@ -126,6 +126,35 @@ pub enum RawValue<'a> {
     MinKey,
     /// The value above all others.
     MaxKey,
+}
+
+// By hand, so that letting one go is one call.
+impl Drop for RawValue<'_> {
+    fn drop(self) {
+        match self {
+            RawValue::Double(_) => {}
+            RawValue::String(_) => {}
+            RawValue::Document(_) => {}
+            RawValue::Array(_) => {}
+            RawValue::Binary(_, _) => {}
+            RawValue::Undefined => {}
+            RawValue::ObjectId(_) => {}
+            RawValue::Boolean(_) => {}
+            RawValue::DateTime(_) => {}
+            RawValue::Null => {}
+            RawValue::Regex(_, _) => {}
+            RawValue::DbPointer(_, _) => {}
+            RawValue::Code(_) => {}
+            RawValue::Symbol(_) => {}
+            RawValue::CodeWithScope(_, _) => {}
+            RawValue::Int32(_) => {}
+            RawValue::Timestamp(_) => {}
+            RawValue::Int64(_) => {}
+            RawValue::Decimal128(_) => {}
+            RawValue::MinKey => {}
+            RawValue::MaxKey => {}
+        }
+    }
 }
 
 /// An array that is lent from checked bytes: a document whose names are not looked at. In a
@@ -352,49 +381,22 @@ fn open<'a>(name: &'a str, kind: Kind, bytes: &'a [u8]) -> Option<(&'a str, RawV
     ensures value { option_map (λ r. value r.1) result ≡ value_at (doc_at 99) kind bytes.now }
 {
     match kind {
-        Kind::Double => {
-            if bytes.len() != 8 {
-                return None;
-            }
-            Some((name, RawValue::Double(array_8(bytes))))
-        }
-        Kind::String => { Some((name, RawValue::String(known_text_of(bytes)))) }
-        Kind::Document => { Some((name, RawValue::Document(RawDocument { bytes }))) }
-        Kind::Array => { Some((name, RawValue::Array(RawArray { bytes }))) }
+        Kind::Double => Some((name, RawValue::Double(array_8(bytes)))),
+        Kind::String => Some((name, RawValue::String(known_text_of(bytes)))),
+        Kind::Document => Some((name, RawValue::Document(RawDocument { bytes }))),
+        Kind::Array => Some((name, RawValue::Array(RawArray { bytes }))),
         Kind::Binary => {
             let (subtype, bytes) = binary_of(bytes)?;
             Some((name, RawValue::Binary(subtype, bytes)))
         }
-        Kind::Undefined => {
-            if !bytes.is_empty() {
-                return None;
-            }
-            Some((name, RawValue::Undefined))
-        }
-        Kind::ObjectId => {
-            if bytes.len() != 12 {
-                return None;
-            }
-            Some((name, RawValue::ObjectId(ObjectId(array_12(bytes)))))
-        }
-        Kind::Boolean => { Some((name, RawValue::Boolean(boolean_of(bytes)?))) }
+        Kind::Undefined => Some((name, RawValue::Undefined)),
+        Kind::ObjectId => Some((name, RawValue::ObjectId(ObjectId(array_12(bytes))))),
+        Kind::Boolean => Some((name, RawValue::Boolean(boolean_of(bytes)?))),
         Kind::DateTime => {
-            if bytes.len() != 8 {
-                return None;
-            }
-            Some((
-                name,
-                RawValue::DateTime(DateTime {
-                    millis: i64_at(bytes),
-                }),
-            ))
+            let millis = i64_at(bytes);
+            Some((name, RawValue::DateTime(DateTime { millis })))
         }
-        Kind::Null => {
-            if !bytes.is_empty() {
-                return None;
-            }
-            Some((name, RawValue::Null))
-        }
+        Kind::Null => Some((name, RawValue::Null)),
         Kind::Regex => {
             let (pattern, options) = regex_of(bytes)?;
             Some((name, RawValue::Regex(pattern, options)))
@@ -403,8 +405,8 @@ fn open<'a>(name: &'a str, kind: Kind, bytes: &'a [u8]) -> Option<(&'a str, RawV
             let (namespace, id) = pointer_of(bytes)?;
             Some((name, RawValue::DbPointer(namespace, ObjectId(array_12(id)))))
         }
-        Kind::Code => { Some((name, RawValue::Code(known_text_of(bytes)))) }
-        Kind::Symbol => { Some((name, RawValue::Symbol(known_text_of(bytes)))) }
+        Kind::Code => Some((name, RawValue::Code(known_text_of(bytes)))),
+        Kind::Symbol => Some((name, RawValue::Symbol(known_text_of(bytes)))),
         Kind::CodeWithScope => {
             let (code, scope) = scope_of(bytes)?;
             Some((
@@ -412,49 +414,24 @@ fn open<'a>(name: &'a str, kind: Kind, bytes: &'a [u8]) -> Option<(&'a str, RawV
                 RawValue::CodeWithScope(code, RawDocument { bytes: scope }),
             ))
         }
-        Kind::Int32 => {
-            if bytes.len() != 4 {
-                return None;
-            }
-            Some((name, RawValue::Int32(i32_at(bytes))))
-        }
-        Kind::Timestamp => {
-            if bytes.len() != 8 {
-                return None;
-            }
-            let time = u32_at(&bytes[4..]);
-            Some((
-                name,
-                RawValue::Timestamp(Timestamp {
-                    time,
-                    increment: u32_at(bytes),
-                }),
-            ))
-        }
-        Kind::Int64 => {
-            if bytes.len() != 8 {
-                return None;
-            }
-            Some((name, RawValue::Int64(i64_at(bytes))))
-        }
-        Kind::Decimal128 => {
-            if bytes.len() != 16 {
-                return None;
-            }
-            Some((name, RawValue::Decimal128(array_16(bytes))))
-        }
-        Kind::MinKey => {
-            if !bytes.is_empty() {
-                return None;
-            }
-            Some((name, RawValue::MinKey))
-        }
-        Kind::MaxKey => {
-            if !bytes.is_empty() {
-                return None;
-            }
-            Some((name, RawValue::MaxKey))
-        }
+        Kind::Int32 => Some((name, RawValue::Int32(i32_at(bytes)))),
+        Kind::Timestamp => Some((name, RawValue::Timestamp(timestamp_at(bytes)))),
+        Kind::Int64 => Some((name, RawValue::Int64(i64_at(bytes)))),
+        Kind::Decimal128 => Some((name, RawValue::Decimal128(array_16(bytes)))),
+        Kind::MinKey => Some((name, RawValue::MinKey)),
+        Kind::MaxKey => Some((name, RawValue::MaxKey)),
+    }
+}
+
+// The increment, and the seconds behind it.
+#[inline(always)]
+fn timestamp_at(bytes: &[u8]) -> Timestamp
+    requires { length bytes.now ≡ 8 }
+    ensures { (result.time ≡ le32_at (drop 4 bytes.now)) × (result.increment ≡ le32_at bytes.now) }
+{
+    Timestamp {
+        time: u32_at(&bytes[4..]),
+        increment: u32_at(bytes),
     }
 }
 

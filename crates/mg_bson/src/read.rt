@@ -11,7 +11,7 @@ use crate::kind::Kind;
 use std::str;
 
 // An element, and the bytes behind it. The kind stands last, so that a move copies whole words.
-#[derive(Drop)]
+#[derive(Clone, Copy)]
 pub(crate) struct Element<'a> {
     pub(crate) name: &'a str,
     pub(crate) value: &'a [u8],

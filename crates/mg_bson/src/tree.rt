@@ -445,8 +445,7 @@ impl Document {
                 Ok(Some(mem::replace(&mut field.value, value)))
             }
             None => {
-                let name = String::from_str(*self.fields.allocator(), name)?;
-                self.fields.push(Field { name, value })?;
+                self.append(name, value)?;
                 Ok(None)
             }
         }
@@ -459,7 +458,10 @@ impl Document {
         ensures err { IfErr result (λ e. e ≡ OutOfMemory) }
         ensures same { OnErr result (self.new ≡ self.old) }
     {
-        let name = String::from_str(*self.fields.allocator(), name)?;
+        let Ok(name) = String::from_str(*self.fields.allocator(), name) else {
+            drop(value);
+            return Err(BsonError::OutOfMemory);
+        };
         self.fields.push(Field { name, value })?;
         Ok(())
     }

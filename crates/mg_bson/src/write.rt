@@ -39,6 +39,17 @@ fn add(out: &mut Vec<u8>, bytes: &[u8]) -> Result<(), BsonError>
     Ok(())
 }
 
+// A text and the 0 that ends it, for which there is room.
+#[tactic(auto, using(crate::proofs::Numbers::lengths))]
+fn add_ended(out: &mut Vec<u8>, text: &str) -> Result<(), BsonError>
+    requires { length out.old.items + (length text.now + 1) ≤ max_len }
+    ensures ok { OnOk result (Puts out.old.items out.new.items (text.now ++ 0 ∷ [])) }
+    ensures err { IfErr result (λ e. RefusesAt e (length out.old.items + (length text.now + 1)) 0 0 false) }
+{
+    add(out, text.as_bytes())?;
+    add(out, &[0])
+}
+
 // Bytes as they stand, where there is room for them.
 fn put(out: &mut Vec<u8>, bytes: &[u8]) -> Result<(), BsonError>
     ensures ok { OnOk result (Puts out.old.items out.new.items bytes.now) }
@@ -64,8 +75,7 @@ fn put_text(out: &mut Vec<u8>, text: &str) -> Result<(), BsonError>
 {
     room(out, text.len() + 5)?;
     add(out, &((text.len() + 1) as u32).to_le_bytes())?;
-    add(out, text.as_bytes())?;
-    add(out, &[0])
+    add_ended(out, text)
 }
 
 #[tactic(auto, using(crate::proofs::Numbers::lengths), unfolding(crate::specs::Bytes::le32))]
@@ -129,8 +139,16 @@ fn put_head(out: &mut Vec<u8>, kind: Kind, name: &str) -> Result<(), BsonError>
     }
     room(out, name.len() + 2)?;
     add(out, &[kind.byte()])?;
-    add(out, name.as_bytes())?;
-    add(out, &[0])
+    add_ended(out, name)
+}
+
+// The kind and the name of an element of an array, whose name is its number.
+fn put_numbered(out: &mut Vec<u8>, kind: Kind, i: usize) -> Result<(), BsonError>
+    ensures ok { OnOk result (out.new.items ≡ out.old.items ++ element kind (decimal i) []) }
+    ensures err { IfErr result (λ e. RefusesAt e (length out.old.items + (length (decimal i) + 2)) 0 0 (has_zero (decimal i))) }
+{
+    let name = format!(in *out.allocator(); "{i}")?;
+    put_head(out, kind, name.as_str())
 }
 
 // A text that a 0 ends.
@@ -144,8 +162,7 @@ fn put_ended(out: &mut Vec<u8>, text: &str) -> Result<(), BsonError>
         return Err(BsonError::BadName);
     }
     room(out, text.len() + 1)?;
-    add(out, text.as_bytes())?;
-    add(out, &[0])
+    add_ended(out, text)
 }
 
 #[tactic(auto, using(crate::proofs::Numbers::lengths))]
@@ -258,10 +275,8 @@ fn write_items(out: &mut Vec<u8>, items: &[Bson], levels: u32) -> Result<(), Bso
     ensures err { IfErr result (λ e. RefusesAt e (length out.old.items + length (items_bytes 0 (items_of items.now)))
         levels (items_depth (items_of items.now)) (items_have_bad_name (items_of items.now))) }
 {
-    let alloc = *out.allocator();
     for (i, item) in items.iter().enumerate() {
-        let name = format!(in alloc; "{i}")?;
-        put_head(out, item.kind(), name.as_str())?;
+        put_numbered(out, item.kind(), i)?;
         write_value(out, item, levels)?;
     }
     Ok(())

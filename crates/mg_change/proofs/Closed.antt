@@ -19,7 +19,7 @@ use Rattle.mg_link.proofs.Onward.{tickets_on}
 use Rattle.mg_link.proofs.Moving.{IdsFrom, known, moved_here, same_opened}
 use Rattle.mg_link.proofs.Asking.{MoreAnswered}
 use Rattle.mg_link.proofs.Moves.{moved, owed, given_with, stayed}
-use Rattle.mg_link.proofs.Plain.{close_begun, close_gone_on}
+use Rattle.mg_link.proofs.Killing.{close_begun, close_gone_on}
 use Rattle.mg_link.proofs.Resumes.{kill_own, resumed_with}
 use Rattle.mg_link.proofs.Retries.{at_stage}
 use Rattle.mg_ops.specs.Commands.{kill_command}

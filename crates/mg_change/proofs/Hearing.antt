@@ -45,14 +45,6 @@ use Rattle.mg_change.proofs.Opened.{aimed_at}
 abbrev cursor_given : GetMoreResult → Items → Cursor
 cursor_given out batch = record { id = out.id; space = space out.ns; token = out.post_batch_resume_token; batch = batch }
 
--- nothing was read of it
-pub more_lost : (bytes : List ℕ) (s : ChangeStream) → MoreTurns bytes s (record s { phase = phase.Owing }) []
-more_lost bytes s success =
-    record {
-      args = refl;
-      moved = λ log log' g awaited w start opened answered m. quietly log log' g (λ l. idle w start s opened l) answered m.lost;
-    }
-
 -- the stream with the cursor of the reply
 abbrev pub with_given : ChangeStream → GetMoreResult → ChangeStream
 with_given s out = record s { cursor = record s.cursor { id = out.id; ns = out.ns } }
@@ -98,10 +90,6 @@ module _ (bytes : List ℕ) (s : ChangeStream) (out : GetMoreResult) (gave : Gav
   pub kept_given : (id : ℤ) → IsKept s.aggregate s.cursor → IsKept s.aggregate (record s.cursor { id = id; ns = out.ns })
   kept_given id kept = record { saved = kept.saved; named = named_read (fields bytes) (cursor_given out gave.batch) gave.says }
 
--- the stream behind a reply, by what is known of it
-pub more_as : (bytes : List ℕ) (s s' t : ChangeStream) (told : List Fields) → s' ≡ t → told ≡ [] → MoreTurns bytes s t [] → MoreTurns bytes s s' told
-more_as bytes s s' t told e f h = subst (λ (l : List Fields). MoreTurns bytes s s' l) (sym f) (subst (λ (x : ChangeStream). MoreTurns bytes s x []) (sym e) h)
-
 -- ---- a getMore that failed
 
 left_or_none : (s : ChangeStream) (ended : Bool) → ((if ended then pos 0 else s.cursor.id) ≡ s.cursor.id) ⊎ ((if ended then pos 0 else s.cursor.id) ≡ pos 0)
@@ -138,13 +126,6 @@ fail_owes e s s' t told ended left is none =
     }))
 
 -- ---- the reply to the aggregate of a resumption
-
-pub resume_lost : (bytes : List ℕ) (s : ChangeStream) → ResumeTurns bytes s (record s { phase = phase.Owing }) []
-resume_lost bytes s success =
-    record {
-      args = refl;
-      moved = λ log log' g awaited w start opened answered r. quietly log log' g (λ l. idle w start s opened l) answered r.lost;
-    }
 
 -- a cursor was read of it
 pub resume_read : (size : Option ℕ) (bytes : List ℕ) (s s' : ChangeStream) (out : CursorSpecification) (told : List Fields) (batch : Items) → cursor_of (fields bytes) ≡ Ok (record { id = out.info.id; space = space out.info.ns; token = out.post_batch_resume_token; batch = batch }) → out.initial_reply ≡ bytes → Replaces s out s' told → ResumeTurns bytes s s' told

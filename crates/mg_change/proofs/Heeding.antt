@@ -22,7 +22,7 @@ use Rattle.mg_link.specs.declared.reply.Verdict.TheVariants as verdict
 use Rattle.mg_link.proofs.Asking.{MoreAnswered, MoreAttempted, asks_at, more_ran}
 use Rattle.mg_link.proofs.Heard.{more_spoiled, no_batch_refused, watch_spoiled}
 use Rattle.mg_link.proofs.Moves.{moved, gave_up, given_with, owed}
-use Rattle.mg_link.proofs.Plain.{kill_begun, kill_gone_on}
+use Rattle.mg_link.proofs.Killing.{kill_begun, kill_gone_on}
 use Rattle.mg_link.proofs.Resumes.{let_go, resumed_with}
 use Rattle.mg_link.proofs.Retries.{Attempted, Request, at_once, at_stage, next_is, next_place, place_of, ran, resume_request, tried}
 use Rattle.mg_link.proofs.Spoiled.{resume_garbled}

@@ -23,7 +23,7 @@ use Rattle.mg_change.specs.Batches.{HoldsBatch}
 use Rattle.mg_change.specs.Following.{Passes, Pops, Turns, buffered, events_in, follow_in, follow_of, held_by, idle, in_hand, popped_told, token_of}
 use Rattle.mg_link.specs.Namespace.{Space}
 use Rattle.mg_ops.specs.Commands.{kill_command}
-use Rattle.mg_change.specs.Phases.{Carries, IsKept, IsKilling, IsSaved, IsSound, Sends, remembered, remembering}
+use Rattle.mg_change.specs.Phases.{Carries, IsKept, IsKilling, IsSaved, remembered, remembering}
 use Rattle.mg_change.specs.Replies.{Replaces, replaced_by}
 use Rattle.mg_change.specs.declared.stream.ChangeStream.{ChangeStream}
 use Rattle.mg_change.specs.declared.stream.Phase.{Phase}
@@ -116,13 +116,6 @@ resumed_stays s reply = stands (phase.Resumed reply) s (record s { phase = phase
 token_remembered : (o : ChangeStreamOptions) (r : Option ChangeStreamData) (token : Tree) (returned : Bool) → IsSaved o r → token_of (option_map (remembered token returned) r) ≡ Some token
 token_remembered o (Some known) token returned saved = refl
 token_remembered o None token returned saved = absurd saved
-
-saved_remembered : (o : ChangeStreamOptions) (r : Option ChangeStreamData) (token : Tree) (returned : Bool) → IsSaved o r → IsSaved o (option_map (remembered token returned) r)
-saved_remembered o (Some known) token returned saved = saved
-saved_remembered o None token returned saved = saved
-
-pub kept_remembered : (s : ChangeStream) (token : Tree) (returned : Bool) → IsKept s.aggregate s.cursor → IsKept (remembering token returned s).aggregate (remembering token returned s).cursor
-kept_remembered s token returned kept = record { saved = saved_remembered s.aggregate.args.options s.aggregate.resume token returned kept.saved; named = kept.named }
 
 -- Nothing was answered from a batch that came empty.
 emptied : (log : Told) (w : Watch) (start : Start) (s : ChangeStream) (opened : Option ℕ) (answered : List Fields) (es : List (List ℕ)) (upto left token : Option Tree) → es ≡ [] → token ≡ empty_token upto (token_of s.aggregate.resume)
@@ -317,6 +310,3 @@ pop_fails s (Err e) failed some = pop_stays s some
 
 pub is_killing : (old id : ℤ) (at : Space) (exec : Sending) → old ≡ id → Carries exec (kill_command at (id ∷ [])) false → id ≢ pos 0 → IsKilling old exec
 is_killing old id at exec is carries there = subst (λ (n : ℤ). IsKilling n exec) (sym is) (record { at = at; carries = carries; there = there })
-
-pub sound_at : (wire : ℤ) (s : ChangeStream) (p : Phase) → IsKept s.aggregate s.cursor → s.phase ≡ p → Sends wire s p → IsSound wire s
-sound_at wire s p kept is sends = record { kept = kept; sends = subst (λ (q : Phase). Sends wire s q) (sym is) sends }

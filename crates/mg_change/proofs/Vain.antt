@@ -10,19 +10,19 @@ use Rattle.mg_link.specs.Commands as commands
 use Rattle.mg_link.specs.Exec.{Stage, unsent, first, second, Sending, waits, answered, Begins, GoesOn, IsSuccess, Tries, Runs, holding, ticket_at, ticket_of}
 use Rattle.mg_link.specs.Filter.{Condition}
 use Rattle.mg_link.specs.History as history
-use Rattle.mg_link.specs.History.{IsLegal, IsLegalFrom, step_after, told_at}
+use Rattle.mg_link.specs.History.{IsLegalFrom, step_after, told_at}
 use Rattle.mg_link.specs.Link.{Awaited, Told}
 use Rattle.mg_link.specs.Log.{Call, Sight, reply, see, waiting}
 use Rattle.mg_link.specs.Namespace.{Target, target}
 use Rattle.mg_link.specs.Owner.{Passes, nobody}
 use Rattle.mg_link.specs.Standing.{Names, SeenFits}
-use Rattle.mg_link.specs.State.{Start, State, Watch}
+use Rattle.mg_link.specs.State.{Start, State}
 use Rattle.mg_link.specs.Step.{May, MayTell, grown}
 use Rattle.mg_link.specs.State as state
 use Rattle.mg_link.proofs.Heard.{told_heard}
 use Rattle.mg_link.proofs.Owners.{legal_parts, same_some, see_here}
 use Rattle.mg_link.proofs.Places.{get_seam}
-use Rattle.mg_link.proofs.Plain.{PassesPlain, plain_ran, plain_stayed}
+use Rattle.mg_link.proofs.Killing.{PassesPlain, plain_ran, plain_stayed}
 use Rattle.mg_ops.specs.Aims.{Aim, aim, asked_for}
 use Rattle.mg_ops.specs.Naming.{start_in}
 use Rattle.mg_ops.specs.declared.aggregate.ChangeStreamAggregate.{ChangeStreamAggregate}

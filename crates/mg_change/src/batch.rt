@@ -3,7 +3,6 @@ ghost use Rattle.std.specs.Prelude.{◌≡◌, IfOk, IfErr, Some, codes, map};
 ghost use Rattle.mg_bson.specs.Find.{get};
 ghost use Rattle.mg_bson.specs.Raw.{fields, items};
 ghost use Rattle.mg_link.specs.Commands.{documents_in};
-ghost use Rattle.mg_ops.specs.Cursors.{batch_at};
 ghost use Rattle.mg_change.specs.Polls.{IsNotIo};
 ghost use Rattle.mg_change.specs.Batches.{HoldsBatch};
 ghost use Rattle.mg_change.specs.Causes.{BreaksBatch, HasBadItem};
@@ -11,9 +10,8 @@ ghost use Rattle.mg_link.specs.declared.error.ErrorKind.TheVariants as kind;
 ghost use Rattle.mg_link.specs.Errors.{plain};
 ghost use Rattle.mg_ops.specs.Failing.{FailsBy};
 
-use crate::fault::plain;
 use mg_bson::{RawArray, RawDocument, RawDocumentBuf};
-use mg_link::{Error, ErrorKind, Malformed};
+use mg_link::{Error, ErrorKind, Malformed, plain};
 use mg_ops::doc_slices;
 use mg_options::ResumeToken;
 use std::alloc::Global;

@@ -1,26 +1,22 @@
 //! The closing of a change stream.
-ghost use Rattle.std.specs.Prelude.{◌≡◌, ℕ, IfErr, IfOk, None};
+ghost use Rattle.std.specs.Prelude.{◌≡◌, ◌≤◌, ℕ, IfErr, IfOk, None, true};
 ghost use Rattle.mg_link.specs.Acts.{EndsAtOnce, FailsByFault, IsOut, Pended, Tickets, ticket_after};
 ghost use Rattle.mg_link.specs.Exec.{ticket_of};
 ghost use Rattle.mg_link.specs.Link.{Later};
 ghost use Rattle.mg_link.specs.Follow.{Follow, Moved};
-ghost use Rattle.std.specs.Prelude.{List, Option, ℤ, pos, ◌≤◌, true};
-ghost use Rattle.mg_link.specs.State.{Start, Watch};
-ghost use Rattle.mg_bson.specs.Tree.{Fields, Tree};
-ghost use Rattle.mg_link.specs.Link.{Awaited, Told};
+ghost use Rattle.mg_link.specs.Link.{Told};
 ghost use Rattle.mg_change.specs.Growths.{Grows};
 ghost use Rattle.mg_change.specs.Closings.{Closes, FailLeaves, IsClosing, IsLanded, IsLast, IsMore, IsOlder, IsQuiet, KillRan, KillsAll, Knew, KnewBy, Lands, Leaves, MoreLeaves, QuietAfter, ResumeLeaves, closes_to, closing_in, closing_of, closing_ticket, flight_in, ids_left, landing_of, left_of};
 ghost use Rattle.mg_change.specs.Calls.{Stays};
 ghost use Rattle.mg_change.specs.ClosingCauses.{ClosingCaused, KillCaused, LandCaused, WantsMemory};
-ghost use Rattle.mg_change.specs.Following.{buffered, idle_by, in_phase};
 ghost use Rattle.mg_link.specs.Errors.{plain};
 ghost use Rattle.mg_link.specs.declared.error.ErrorKind.TheVariants as kind;
-ghost use Rattle.mg_change.specs.Phases.{AtRest, Carries, IsKept, IsSound, resuming_command, ticket_in};
+ghost use Rattle.mg_change.specs.Phases.{Carries, IsKept, resuming_command};
 ghost use Rattle.mg_change.specs.Polls.{IsNotIo};
 
 use crate::commands::kill;
 use crate::fault::{ends_cursor, is_memory};
-use crate::stream::{ChangeStream, Phase};
+use crate::stream::Phase;
 use mg_bson::RawDocumentBuf;
 use mg_link::{Action, Error, Exec, Link, Step};
 use mg_ops::{ChangeStreamAggregate, CursorInformation, GetMore, Operation};
@@ -42,7 +38,6 @@ pub(crate) enum Flight {
 }
 
 // What is left of a stream that is being closed.
-#[derive(Drop)]
 pub(crate) struct Remains {
     pub(crate) alloc: Global,
     pub(crate) aggregate: ChangeStreamAggregate,
@@ -51,51 +46,38 @@ pub(crate) struct Remains {
     pub(crate) opened: i64,
 }
 
+// By hand, so that letting one go is one call.
+impl Drop for Remains {
+    fn drop(self) {
+        let Remains {
+            alloc: _,
+            aggregate: _,
+            cursor: _,
+            opened: _,
+        } = self;
+    }
+}
+
 /// A change stream that is being closed. A request in flight ends first; its failure is passed over, but for want of
 /// memory. Then one killCursors is sent for the stream's cursor and for one that this request opened, unless the server
 /// holds neither.
-#[derive(Drop)]
 pub struct Closing {
-    remains: Remains,
-    flight: Flight,
+    pub(crate) remains: Remains,
+    pub(crate) flight: Flight,
 }
 
-impl ChangeStream {
-    /// Closes the stream. Nothing is sent until the closing is polled.
-    pub fn close(self) -> Closing
-        ensures ticket { closing_ticket result ≡ ticket_in self.phase }
-        ensures aggregate { result.remains.aggregate ≡ self.aggregate }
-        ensures remains { (result.remains.cursor ≡ self.cursor) × (result.remains.opened ≡ pos 0) }
-        ensures flight { result.flight ≡ flight_in self.phase }
-        ensures quiet { AtRest self.phase → IsQuiet result.flight }
-        ensures closing { (wire : ℤ) → IsSound wire self → IsClosing wire result.remains result.flight }
-        // Its token may have been handed out.
-        ensures moved { (log : Told) (awaited : Awaited) (w : Watch) (start : Start) (opened : Option ℕ) (token : Option Tree) (answered : List Fields)
-            → Moved log log (in_phase awaited self.phase (buffered self) self.batch_token (idle_by w start opened self.cursor.id token answered))
-            (closing_of awaited (idle_by w start opened self.cursor.id token answered) result) }
-    {
-        let ChangeStream {
-            alloc,
-            aggregate,
-            cursor,
-            phase,
-            ..
+// By hand, so that letting one go is one call.
+impl Drop for Closing {
+    fn drop(self) {
+        let Closing {
+            remains: _,
+            flight: _,
         } = self;
-        let remains = Remains {
-            alloc,
-            aggregate,
-            cursor,
-            opened: 0,
-        };
-        Closing {
-            remains,
-            flight: flight_of(phase),
-        }
     }
 }
 
 // The request in flight.
-fn flight_of(phase: Phase) -> Flight
+pub(crate) fn flight_of(phase: Phase) -> Flight
     ensures { result ≡ flight_in phase }
 {
     match phase {

@@ -5,8 +5,7 @@ ghost use Rattle.mg_change.specs.declared.event_poll.EventPoll.TheVariants as po
 ghost use Rattle.mg_change.specs.declared.event_poll.Stepped.TheVariants as stepped;
 
 use crate::event_poll::{EventPoll, Stepped};
-use crate::fault::plain;
-use mg_link::ErrorKind;
+use mg_link::{ErrorKind, plain};
 
 /// So many empty replies in a row, or resumptions without an event, are too many.
 const TOO_MANY: u32 = 1000;

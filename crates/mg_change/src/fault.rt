@@ -1,20 +1,9 @@
 //! Errors, and what is told of them.
 ghost use Rattle.std.specs.Prelude.{◌≡◌, ◌↔◌, IsTrue};
-ghost use Rattle.mg_link.specs.Errors.{command_code, plain};
+ghost use Rattle.mg_link.specs.Errors.{command_code};
 ghost use Rattle.mg_change.specs.Polls.{ends_cursor};
 
-use mg_link::{Error, ErrorKind, Labels};
-
-// An error of this kind that no refusal was the cause of.
-pub(crate) fn plain(kind: ErrorKind) -> Error
-    ensures { result ≡ plain kind }
-{
-    Error {
-        kind,
-        labels: Labels::none(),
-        wire_version: None,
-    }
-}
+use mg_link::{Error, ErrorKind};
 
 // Whether memory ran out.
 pub(crate) fn is_memory(error: &Error) -> bool

@@ -17,6 +17,3 @@ pub use closing::Closing;
 pub use event_poll::EventPoll;
 pub use opening::Opening;
 pub use stream::ChangeStream;
-
-#[cfg(test)]
-mod tests;

@@ -36,12 +36,22 @@ use std::alloc::Global;
 use std::collections::VecDeque;
 
 /// A change stream that is being opened: its aggregate is sent, with one retry. Where that fails there is no stream.
-#[derive(Drop)]
 pub struct Opening {
     alloc: Global,
     aggregate: ChangeStreamAggregate,
     // The aggregate in flight, once it is built.
     exec: Option<Exec>,
+}
+
+// By hand, so that letting one go is one call.
+impl Drop for Opening {
+    fn drop(self) {
+        let Opening {
+            alloc: _,
+            aggregate: _,
+            exec: _,
+        } = self;
+    }
 }
 
 // What a new stream remembers of its opening.

@@ -11,8 +11,8 @@ ghost use Rattle.mg_link.specs.Link.{Later};
 ghost use Rattle.mg_link.specs.Namespace.{space};
 ghost use Rattle.mg_link.specs.State.{Start, Watch};
 ghost use Rattle.mg_ops.specs.Naming.{IsNamed};
-ghost use Rattle.mg_change.specs.Following.{Asks, Passes, Pops, Spends, StepSpends, Turned, Turns, buffered, event_told, follow_of, popped_told, step_told, token_of};
-ghost use Rattle.mg_change.specs.Phases.{Carries, IsAsking, IsKept, IsKilling, IsResuming, IsSound, left_with, rank, remembering, resuming_command, ticket_in, without_token};
+ghost use Rattle.mg_change.specs.Following.{Asks, Passes, Pops, Spends, StepSpends, Turned, Turns, buffered, event_told, follow_of, idle_by, in_phase, popped_told, step_told, token_of};
+ghost use Rattle.mg_change.specs.Phases.{AtRest, Carries, IsAsking, IsKept, IsKilling, IsResuming, IsSound, left_with, rank, remembering, resuming_command, ticket_in, without_token};
 ghost use Rattle.mg_change.specs.Polls.{Falls, IsAtOnce, IsNotIo, IsStepAtOnce, Loses, Pends, RestsAfter, StepLoses, StepPends, StepRests, ends_cursor};
 ghost use Rattle.mg_change.specs.Sent.{CallSent, Quiet, SeekSent, StepSent};
 ghost use Rattle.mg_change.specs.Causes.{Breaks, CallCaused, FailCause, FailLeads, KillCause, MoreLeads, OweLeads, PopCause, ReplaceLeads, ResumeLeads, StepCaused, StepLeads, TakeCause, TellsCursor, is_resumed, remembered_by, token_behind};
@@ -22,15 +22,17 @@ ghost use Rattle.mg_change.specs.Calls.{Stays};
 ghost use Rattle.mg_change.specs.SeekCauses.{SeekCaused, SeekSteps};
 ghost use Rattle.mg_link.specs.Link.{Awaited, Told};
 ghost use Rattle.mg_change.specs.Rows.{CountsAfter, Ends, KeptBy, StepEnds, left_in};
+ghost use Rattle.mg_change.specs.Closings.{IsClosing, IsQuiet, closing_of, closing_ticket, flight_in};
 ghost use Rattle.mg_change.specs.Replies.{FailTurns, MoreTurns, Replaces, ResumeTurns};
 
 use crate::batch::{batch_of, id_of};
+use crate::closing::{Closing, Remains, flight_of};
 use crate::commands::{ask, kill_one, resume};
 use crate::counts::Counts;
 use crate::event_poll::{EventPoll, Stepped};
-use crate::fault::{ends_cursor, is_memory, plain};
+use crate::fault::{ends_cursor, is_memory};
 use mg_bson::RawDocumentBuf;
-use mg_link::{Action, Error, ErrorKind, Exec, Link, Step};
+use mg_link::{Action, Error, ErrorKind, Exec, Link, Step, plain};
 use mg_ops::{ChangeStreamAggregate, CursorInformation, CursorSpecification, GetMore, Operation};
 use mg_options::{ResumeToken, TokenRef};
 use std::alloc::Global;
@@ -64,7 +66,6 @@ pub(crate) enum Phase {
 /// the link and refusals that pass (change streams specification).
 ///
 /// A stream that is dropped sends nothing: [`close`](ChangeStream::close) kills its cursor.
-#[derive(Drop)]
 pub struct ChangeStream {
     pub(crate) alloc: Global,
     // The aggregate that resumes the stream, with what the stream remembers.
@@ -77,6 +78,21 @@ pub struct ChangeStream {
     pub(crate) phase: Phase,
     // What a call that seeks an event got in vain, while it goes on.
     pub(crate) counts: Counts,
+}
+
+// By hand, so that letting one go is one call.
+impl Drop for ChangeStream {
+    fn drop(self) {
+        let ChangeStream {
+            alloc: _,
+            aggregate: _,
+            cursor: _,
+            buffer: _,
+            batch_token: _,
+            phase: _,
+            counts: _,
+        } = self;
+    }
 }
 
 impl ChangeStream {
@@ -233,6 +249,40 @@ impl ChangeStream {
         self.cursor.id != 0 || matches!(self.phase, Phase::Owing | Phase::Resuming(_))
     }
 
+    /// Closes the stream. Nothing is sent until the closing is polled.
+    pub fn close(self) -> Closing
+        ensures ticket { closing_ticket result ≡ ticket_in self.phase }
+        ensures aggregate { result.remains.aggregate ≡ self.aggregate }
+        ensures remains { (result.remains.cursor ≡ self.cursor) × (result.remains.opened ≡ pos 0) }
+        ensures flight { result.flight ≡ flight_in self.phase }
+        ensures quiet { AtRest self.phase → IsQuiet result.flight }
+        ensures closing { (wire : ℤ) → IsSound wire self → IsClosing wire result.remains result.flight }
+        // Its token may have been handed out.
+        ensures moved { (log : Told) (awaited : Awaited) (w : Watch) (start : Start) (opened : Option ℕ) (token : Option Tree) (answered : List Fields)
+            → Moved log log (in_phase awaited self.phase (buffered self) self.batch_token (idle_by w start opened self.cursor.id token answered))
+            (closing_of awaited (idle_by w start opened self.cursor.id token answered) result) }
+    {
+        let ChangeStream {
+            alloc,
+            aggregate,
+            cursor,
+            buffer: _,
+            batch_token: _,
+            phase,
+            counts: _,
+        } = self;
+        let remains = Remains {
+            alloc,
+            aggregate,
+            cursor,
+            opened: 0,
+        };
+        Closing {
+            remains,
+            flight: flight_of(phase),
+        }
+    }
+
     // One step: at most one command.
     fn advance<L: Link>(&mut self, link: &mut L) -> Stepped
         requires held { IsOut (L.awaited link.old) (ticket_in self.old.phase) }
@@ -266,6 +316,13 @@ impl ChangeStream {
         }
     }
 
+    // Goes on to another phase.
+    fn enter(&mut self, phase: Phase)
+        ensures { self.new ≡ record self.old { phase = phase } }
+    {
+        drop(mem::replace(&mut self.phase, phase));
+    }
+
     // Answers from the buffer, or asks for a batch.
     fn rest(&mut self, wire: i32) -> Stepped
         requires taken { self.old.phase ≡ Phase.Taken }
@@ -286,16 +343,16 @@ impl ChangeStream {
             return Stepped::Gives(self.take());
         }
         if self.cursor.id == 0 {
-            self.phase = Phase::Rest;
+            self.enter(Phase::Rest);
             return Stepped::Gives(EventPoll::Ready(None));
         }
         match ask(self.alloc, &self.cursor, wire) {
             Ok((get_more, exec)) => {
-                self.phase = Phase::Asking(get_more, exec);
+                self.enter(Phase::Asking(get_more, exec));
                 Stepped::Goes
             }
             Err(error) => {
-                self.phase = Phase::Rest;
+                self.enter(Phase::Rest);
                 Stepped::Gives(EventPoll::Failed(error))
             }
         }
@@ -320,7 +377,7 @@ impl ChangeStream {
         match batch_of(self.alloc, &reply.as_raw()) {
             Ok(documents) => {
                 self.buffer = documents;
-                self.phase = Phase::Fresh;
+                self.enter(Phase::Fresh);
                 Stepped::Goes
             }
             Err(error) => self.lose(error),
@@ -340,7 +397,7 @@ impl ChangeStream {
         ensures quiet { Quiet 3 self.old self.new result }
         ensures passed { FailCause error result }
     {
-        self.phase = Phase::Owing;
+        self.enter(Phase::Owing);
         if error.is_resumable() {
             Stepped::Goes
         } else {
@@ -397,7 +454,7 @@ impl ChangeStream {
     {
         match exec.poll(link) {
             Step::Pending(exec) => {
-                self.phase = Phase::Asking(get_more, exec);
+                self.enter(Phase::Asking(get_more, exec));
                 Stepped::Gives(EventPoll::Pending)
             }
             Step::Done(reply) => self.more_came(&get_more, reply),
@@ -423,7 +480,7 @@ impl ChangeStream {
     {
         match self.keep(get_more, reply) {
             Ok(()) => {
-                self.phase = Phase::Fresh;
+                self.enter(Phase::Fresh);
                 Stepped::Goes
             }
             Err(error) => self.lose(error),
@@ -471,7 +528,7 @@ impl ChangeStream {
     {
         self.note_end(&error);
         if !error.is_resumable() && !is_memory(&error) {
-            self.phase = Phase::Rest;
+            self.enter(Phase::Rest);
             return Stepped::Gives(EventPoll::Failed(error));
         }
         self.lose(error)
@@ -504,11 +561,11 @@ impl ChangeStream {
     {
         match resume(self.alloc, &self.aggregate, wire) {
             Ok(exec) => {
-                self.phase = Phase::Resuming(exec);
+                self.enter(Phase::Resuming(exec));
                 Stepped::Goes
             }
             Err(error) => {
-                self.phase = Phase::Owing;
+                self.enter(Phase::Owing);
                 Stepped::Gives(EventPoll::Failed(error))
             }
         }
@@ -537,12 +594,12 @@ impl ChangeStream {
     {
         match exec.poll(link) {
             Step::Pending(exec) => {
-                self.phase = Phase::Resuming(exec);
+                self.enter(Phase::Resuming(exec));
                 Stepped::Gives(EventPoll::Pending)
             }
             Step::Done(reply) => self.resumption_came(link.wire_version(), reply),
             Step::Failed(error) => {
-                self.phase = Phase::Owing;
+                self.enter(Phase::Owing);
                 Stepped::Gives(EventPoll::Failed(error))
             }
         }
@@ -567,7 +624,7 @@ impl ChangeStream {
         match self.aggregate.read(self.alloc, reply) {
             Ok((opened, _)) => self.replace(wire, opened),
             Err(error) => {
-                self.phase = Phase::Owing;
+                self.enter(Phase::Owing);
                 Stepped::Gives(EventPoll::Failed(error))
             }
         }
@@ -599,12 +656,12 @@ impl ChangeStream {
         let old = mem::replace(&mut self.cursor, info);
         self.batch_token = post_batch_resume_token;
         if old.id == 0 {
-            self.phase = Phase::Resumed(initial_reply);
+            self.enter(Phase::Resumed(initial_reply));
             return Stepped::Goes;
         }
         match kill_one(self.alloc, &old, wire) {
             Ok(exec) => {
-                self.phase = Phase::Killing(exec, old.id, initial_reply);
+                self.enter(Phase::Killing(exec, old.id, initial_reply));
                 Stepped::Goes
             }
             Err(error) => self.kill_failed(error, initial_reply),
@@ -640,11 +697,11 @@ impl ChangeStream {
     {
         match exec.poll(link) {
             Step::Pending(exec) => {
-                self.phase = Phase::Killing(exec, old, reply);
+                self.enter(Phase::Killing(exec, old, reply));
                 Stepped::Gives(EventPoll::Pending)
             }
             Step::Done(_) => {
-                self.phase = Phase::Resumed(reply);
+                self.enter(Phase::Resumed(reply));
                 Stepped::Goes
             }
             Step::Failed(error) => self.kill_failed(error, reply),
@@ -668,10 +725,10 @@ impl ChangeStream {
         ensures killed { KillCause error reply self.old self.new result }
     {
         if is_memory(&error) {
-            self.phase = Phase::Owing;
+            self.enter(Phase::Owing);
             return Stepped::Gives(EventPoll::Failed(error));
         }
-        self.phase = Phase::Resumed(reply);
+        self.enter(Phase::Resumed(reply));
         Stepped::Goes
     }
 
@@ -694,11 +751,11 @@ impl ChangeStream {
         match batch_of(self.alloc, &reply.as_raw()) {
             Ok(documents) => {
                 self.buffer = documents;
-                self.phase = Phase::Fresh;
+                self.enter(Phase::Fresh);
                 Stepped::Goes
             }
             Err(error) => {
-                self.phase = Phase::Owing;
+                self.enter(Phase::Owing);
                 Stepped::Gives(EventPoll::Failed(error))
             }
         }
@@ -709,7 +766,7 @@ impl ChangeStream {
         ensures { self.new ≡ remembering token returned self.old }
     {
         if let Some(data) = &mut self.aggregate.resume {
-            data.resume_token = Some(token);
+            drop(data.resume_token.replace(token));
             data.document_returned = data.document_returned || returned;
         }
     }

@@ -14,16 +14,16 @@ use Rattle.mg_change.specs.declared.stream.ChangeStream.{ChangeStream}
 use Rattle.mg_jobs.specs.Counts.{PendedAs}
 use Rattle.mg_jobs.specs.Follows.{HasEnded, HasGiven, IsFailed, IsUnfinished}
 use Rattle.mg_jobs.specs.Headline.{DoTasks, Does, OutcomeOf, OutcomesOf}
-use Rattle.mg_jobs.specs.Plan as plan
-use Rattle.mg_jobs.specs.Plan.{Task, task, tasks}
+use Rattle.mg_script.specs.Plan as plan
+use Rattle.mg_script.specs.Plan.{Task, task, tasks}
 use Rattle.mg_jobs.specs.Playing.{IsSameFollow, end_of, follow_ended, inserts_ended}
 use Rattle.mg_jobs.specs.Progress.{AllAt, AllPlayed, Came, CloseGoes, FollowAt, FollowGoes, FollowPlayed, GoesBy, InsertAt, InsertGoes, InsertPlayed, InsertReady, IsAt, IsFinished, IsPlayed, JobGoes, OpenPlayed, RestGoes, TurnsBy, calls_of, came, one_unless, pended_since, pends_last, turns_done}
 use Rattle.mg_jobs.specs.Runs.{has_ended, idle}
-use Rattle.mg_jobs.specs.declared.outcome.Ended.{Ended}
-use Rattle.mg_jobs.specs.declared.outcome.Ended.TheVariants as ended
-use Rattle.mg_jobs.specs.declared.outcome.Outcome.{Outcome}
-use Rattle.mg_jobs.specs.declared.outcome.Played.{Played}
-use Rattle.mg_jobs.specs.declared.outcome.Turned.{Turned}
+use Rattle.mg_script.specs.declared.outcome.Ended.{Ended}
+use Rattle.mg_script.specs.declared.outcome.Ended.TheVariants as ended
+use Rattle.mg_script.specs.declared.outcome.Outcome.{Outcome}
+use Rattle.mg_script.specs.declared.outcome.Played.{Played}
+use Rattle.mg_script.specs.declared.outcome.Turned.{Turned}
 use Rattle.mg_jobs.specs.declared.player.FollowPlayer.{FollowPlayer}
 use Rattle.mg_jobs.specs.declared.player.InsertStage.{InsertStage}
 use Rattle.mg_jobs.specs.declared.player.InsertStage.TheVariants as inserts
@@ -31,8 +31,9 @@ use Rattle.mg_jobs.specs.declared.player.Stage.{Stage}
 use Rattle.mg_jobs.specs.declared.player.Stage.TheVariants as stage
 use Rattle.mg_jobs.specs.declared.run.Player.{Player}
 use Rattle.mg_jobs.specs.declared.run.Player.TheVariants as player
-use Rattle.mg_jobs.specs.declared.script.Job.{Job}
-use Rattle.mg_jobs.proofs.Apart.{get_set_other, get_set_same, same_some}
+use Rattle.mg_script.specs.declared.script.Job.{Job}
+use Rattle.mg_link.proofs.Owners.{same_some}
+use Rattle.mg_store.proofs.Standing.{get_set_other, get_set_same}
 use Rattle.mg_jobs.proofs.Knowing.{get_length, length_take, map_joined, one_more, take_next}
 
 -- ---- a follow

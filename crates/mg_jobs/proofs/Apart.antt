@@ -4,26 +4,13 @@ use Rattle.std.specs.Prelude.{slice_get, slice_set, IsSome, is_some, OnErr, ⊤}
 use Rattle.std.proofs.lemmas.Bool.{cases_eq}
 use Rattle.mg_link.specs.Link.{Awaited, Told}
 use Rattle.mg_link.specs.declared.error.Error.{Error}
+use Rattle.mg_link.proofs.Owners.{same_some}
+use Rattle.mg_store.proofs.Standing.{get_set_other, get_set_same}
 use Rattle.mg_jobs.specs.Playing.{IsSameFollow}
 use Rattle.mg_jobs.specs.Runs.{AreApart, AreNew, AreSameJobs, CanGo, Goes, IsNew, IsSameJob, job_ticket}
 use Rattle.mg_jobs.specs.declared.player.FollowPlayer.{FollowPlayer}
 use Rattle.mg_jobs.specs.declared.run.Player.{Player}
 use Rattle.mg_jobs.specs.declared.run.Player.TheVariants as player
-
-pub same_some : {A : Type 0} (x y : A) → Some x ≡ Some y → x ≡ y
-same_some x y h = cc
-
-pub get_set_same : {A : Type 0} (xs : List A) (k : ℕ) (x y : A) → slice_get xs k ≡ Some x → slice_get (slice_set xs k y) k ≡ Some y
-get_set_same [] k x y h = cc
-get_set_same (z ∷ xs) zero x y h = refl
-get_set_same (z ∷ xs) (suc k) x y h = get_set_same xs k x y h
-
-pub get_set_other : {A : Type 0} (xs : List A) (k i : ℕ) (x y : A) → (i ≡ k → ⊥) → slice_get (slice_set xs k y) i ≡ Some x → slice_get xs i ≡ Some x
-get_set_other [] k i x y ne h = h
-get_set_other (z ∷ xs) zero zero x y ne h = absurd (ne refl)
-get_set_other (z ∷ xs) zero (suc i) x y ne h = h
-get_set_other (z ∷ xs) (suc k) zero x y ne h = h
-get_set_other (z ∷ xs) (suc k) (suc i) x y ne h = get_set_other xs k i x y (λ e. ne (ap suc e)) h
 
 not_out : (old : Awaited) (m : ℕ) → old m ≡ None → IsSome (old m) → ⊥
 not_out old m none out = let bad : false ≡ true = ap (λ o. is_some o) (sym none) ∙ out in cc

@@ -45,16 +45,16 @@ use Rattle.mg_jobs.specs.Completing.{AllWell, AnswerWell, AnswersAreWell, Answer
 use Rattle.mg_jobs.specs.Counts.{Faultless, LosesNothing}
 use Rattle.mg_jobs.specs.Follows.{IsArgsFor, poll_of}
 use Rattle.mg_jobs.specs.InsertCauses.{InsertFails, cannot_encode, cannot_insert, listed, lost, no_memory, refused}
-use Rattle.mg_jobs.specs.Plan.{Begin, Task, follow, get, insert, put}
+use Rattle.mg_script.specs.Plan.{Begin, Task, follow, get, insert, put}
 use Rattle.mg_jobs.specs.Progress.{AllPlayed, FollowPlayed, InsertPlayed, IsPlayed, OpenPlayed, pends_last, turns_done}
-use Rattle.mg_jobs.specs.declared.outcome.Answer.{Answer}
-use Rattle.mg_jobs.specs.declared.outcome.Answer.TheVariants as answers
-use Rattle.mg_jobs.specs.declared.outcome.Ended.{Ended}
-use Rattle.mg_jobs.specs.declared.outcome.Ended.TheVariants as ended
-use Rattle.mg_jobs.specs.declared.outcome.Outcome.{Outcome}
-use Rattle.mg_jobs.specs.declared.outcome.Outcome.TheVariants as outcome
-use Rattle.mg_jobs.specs.declared.outcome.Played.{Played}
-use Rattle.mg_jobs.specs.declared.outcome.Turned.{Turned}
+use Rattle.mg_script.specs.declared.outcome.Answer.{Answer}
+use Rattle.mg_script.specs.declared.outcome.Answer.TheVariants as answers
+use Rattle.mg_script.specs.declared.outcome.Ended.{Ended}
+use Rattle.mg_script.specs.declared.outcome.Ended.TheVariants as ended
+use Rattle.mg_script.specs.declared.outcome.Outcome.{Outcome}
+use Rattle.mg_script.specs.declared.outcome.Outcome.TheVariants as outcome
+use Rattle.mg_script.specs.declared.outcome.Played.{Played}
+use Rattle.mg_script.specs.declared.outcome.Turned.{Turned}
 use Rattle.mg_jobs.proofs.Batches.{breaks_not, events_are}
 use Rattle.mg_jobs.proofs.InsertWell.{never_lists}
 use Rattle.mg_jobs.proofs.Prompting.{Brings, HaveIds, IsPrompted, more_brings, prompt_success, prompted, watch_brings}

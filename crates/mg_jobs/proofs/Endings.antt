@@ -3,8 +3,8 @@ use Rattle.std.proofs.Common.{◌≡◌, ℕ, ◌<◌, ◌≤◌, List, ◌++◌
 use Rattle.std.proofs.lemmas.List.{length-append}
 use Rattle.std.specs.Io.KnownBytes.{Consumes}
 use Rattle.mg_link.specs.Ends.{ReadWhole, longest}
-use Rattle.mg_jobs.specs.Plan.{Plan}
-use Rattle.mg_jobs.specs.Script.{script_of}
+use Rattle.mg_script.specs.Plan.{Plan}
+use Rattle.mg_script.specs.Script.{script_of}
 use Rattle.mg_jobs.specs.Program.{Caused, IsOf, IsScript, ReadScript}
 use Rattle.mg_jobs.specs.declared.program.Ending.{Ending}
 use Rattle.mg_jobs.specs.declared.program.Ending.TheVariants as endings

@@ -42,10 +42,6 @@ use Rattle.mg_jobs.proofs.Plainly.{same_command}
 abbrev pub LeavesRoom : List Fields → ℕ → Type 0
 LeavesRoom batch room = (total batch + room ≡ max_batch) ⊎ ((length batch ≡ 1) × (room ≡ 0))
 
-pub room_together : (batch : List Fields) (room : ℕ) → LeavesRoom batch room → FitTogether batch
-room_together batch room (inl left) = inl (omega (arith, left))
-room_together batch room (inr alone) = inr alone.0
-
 room_small : (batch : List Fields) (room : ℕ) → LeavesRoom batch room → room ≤ max_batch
 room_small batch room (inl left) = omega (arith, left)
 room_small batch room (inr alone) = let none = alone.1 in omega (arith, none)

@@ -18,8 +18,8 @@ use Rattle.mg_jobs.specs.Progress.{InsertAt}
 use Rattle.mg_jobs.specs.Telling.{InsertTells, InsertTurns}
 use Rattle.mg_jobs.specs.Underway.{HasInserted, Inserts, IsStarted}
 use Rattle.mg_jobs.specs.declared.insert.Inserting.{Inserting}
-use Rattle.mg_jobs.specs.declared.outcome.Ended.{Ended}
-use Rattle.mg_jobs.specs.declared.outcome.Ended.TheVariants as ended
+use Rattle.mg_script.specs.declared.outcome.Ended.{Ended}
+use Rattle.mg_script.specs.declared.outcome.Ended.TheVariants as ended
 use Rattle.mg_jobs.specs.declared.player.InsertStage.{InsertStage}
 use Rattle.mg_jobs.specs.declared.player.InsertStage.TheVariants as inserts
 use Rattle.mg_jobs.proofs.Appending.{appended_grown}

@@ -5,17 +5,17 @@ use Rattle.mg_link.specs.Link.{Awaited, Told}
 use Rattle.mg_link.specs.Log.{Call}
 use Rattle.mg_link.specs.Owner.{Owner, Holds, Onward, Passes, nobody}
 use Rattle.mg_link.proofs.Apart.{holds_nobody, passes_same}
-use Rattle.mg_link.proofs.Plain.{PassesPlain}
+use Rattle.mg_link.proofs.Killing.{PassesPlain}
 use Rattle.mg_link.proofs.Runs.{OwnsNothing, apart_after, apart_at_first, others_onward}
 use Rattle.mg_link.specs.Namespace.{space, target}
 use Rattle.mg_link.specs.State.{Start, Watch}
 use Rattle.mg_link.proofs.Answering.{knows_new}
 use Rattle.mg_change.specs.Following.{not_open}
-use Rattle.mg_jobs.specs.Plan as plan
-use Rattle.mg_jobs.specs.Plan.{Task, begin, task, tasks}
+use Rattle.mg_script.specs.Plan as plan
+use Rattle.mg_script.specs.Plan.{Task, begin, task, tasks}
 use Rattle.mg_link.specs.declared.error.Error.{Error}
-use Rattle.mg_jobs.specs.declared.outcome.Played.{Played}
-use Rattle.mg_jobs.specs.declared.script.Job.{Job}
+use Rattle.mg_script.specs.declared.outcome.Played.{Played}
+use Rattle.mg_script.specs.declared.script.Job.{Job}
 use Rattle.mg_jobs.specs.Follows.{FollowKnows, FollowTurns, FollowsNothing, HasNothing, IsUnfinished, IsUnwatched, IsWatch, IsWatched, WatchesNothing, filter_in}
 use Rattle.mg_jobs.specs.Playing.{IsPlainInsert, IsPlainJob, IsSameFollow, IsSameInsert}
 use Rattle.mg_jobs.specs.Headline.{AllFollowed, AllKnow, AreFirst, DoTasks, Does, IsFirst, IsSameTask, Knowing, Made, OutcomeFollowed, OutcomeOf, OutcomesOf, Plays, PlaysAt, Took, Turns}
@@ -25,13 +25,15 @@ use Rattle.mg_jobs.specs.declared.player.Stage.TheVariants as stage
 use Rattle.mg_jobs.specs.Runs.{AreApart, Goes, job_ticket}
 use Rattle.mg_jobs.specs.declared.run.Player.{Player}
 use Rattle.mg_jobs.specs.declared.run.Player.TheVariants as player
-use Rattle.mg_jobs.proofs.Apart.{get_set_other, get_set_same, same_some, stays, which}
+use Rattle.mg_link.proofs.Owners.{same_some}
+use Rattle.mg_store.proofs.Standing.{get_set_other, get_set_same}
+use Rattle.mg_jobs.proofs.Apart.{stays, which}
 use Rattle.std.proofs.lemmas.Bool.{cases_eq}
 use Rattle.std.proofs.lemmas.List.{length-map}
 use Rattle.mg_jobs.proofs.Turning.{SameParts, kept_follow, outcome_followed, parts_knows, same_follow}
 use Rattle.mg_jobs.proofs.Vainly.{kept_vain, outcome_vain, same_vain, unfinished_not_given, vain_parts}
 use Rattle.mg_jobs.proofs.Watched.{watch_or_nothing}
-use Rattle.mg_jobs.specs.declared.outcome.Outcome.{Outcome}
+use Rattle.mg_script.specs.declared.outcome.Outcome.{Outcome}
 use Rattle.mg_jobs.specs.declared.player.InsertPlayer.{InsertPlayer}
 
 get_past_other : {A : Type 0} (xs : List A) (k i : ℕ) (x y : A) → (i ≡ k → ⊥) → slice_get xs i ≡ Some x → slice_get (slice_set xs k y) i ≡ Some x
@@ -311,9 +313,6 @@ outcomes_more [] (s ∷ ss) p r same of is i a b ha hb = absurd cc
 outcomes_more (q ∷ qs) [] p r same of is i a b ha hb = absurd cc
 outcomes_more (q ∷ qs) (s ∷ ss) p r same of is zero a b ha hb = of zero a b ha hb
 outcomes_more (q ∷ qs) (s ∷ ss) p r same of is (suc i) a b ha hb = outcomes_more qs ss p r (omega (arith, same)) (λ j c d hc hd. of (suc j) c d hc hd) is i a b ha hb
-
-pub made_none : (players : List Player) → Made players players []
-made_none players = record { gone = []; whole = refl; count = refl; of = λ i p r hp hr. absurd cc }
 
 pub made_more : (players rest rest' : List Player) (outcomes : List Outcome) (p : Player) (r : Outcome) → rest ≡ p ∷ rest' → Made players rest outcomes → OutcomeOf p r → Made players rest' (outcomes ++ r ∷ [])
 made_more players rest rest' outcomes p r is made of =

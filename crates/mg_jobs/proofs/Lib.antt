@@ -1,7 +1,3 @@
-pub mod Steps
-pub mod Digits
-pub mod Printed
-pub mod Lines
 pub mod Endings
 pub mod Apart
 pub mod Tallies
@@ -11,7 +7,6 @@ pub mod Watched
 pub mod Vainly
 pub mod Knowing
 pub mod Plainly
-pub mod Small
 pub mod Advancing
 pub mod Appending
 pub mod Appended

@@ -4,7 +4,7 @@ use Rattle.std.specs.Prelude.{nat_lt}
 use Rattle.std.specs.List.{All}
 use Rattle.std.proofs.lemmas.Bool.{ltb-true}
 use Rattle.std.proofs.lemmas.List.Elements.{All-cons}
-use Rattle.mg_jobs.specs.Script.{first_missing}
+use Rattle.mg_script.specs.Script.{first_missing}
 
 one_more : (count n : ℕ) (ns : List ℕ) (b : Bool) → nat_lt n count ≡ b → cond b (first_missing count ns) (Some n) ≡ None → (first_missing count ns ≡ None → All (λ m. m < count) ns) → All (λ m. m < count) (n ∷ ns)
 one_more count n ns true t e h = All-cons (λ m. m < count) n ns (ltb-true n count t) (h e)

@@ -2,7 +2,7 @@
 use Rattle.std.proofs.Common.{◌≡◌, ◌+◌, ◌++◌, ◌∷◌, [], List, ℕ, zero, suc, Bool, Option, arith, refl, sym, ◌∙◌, subst}
 use Rattle.std.specs.List.{sum_by}
 use Rattle.std.proofs.lemmas.List.Sums.{sum_by-append}
-use Rattle.mg_jobs.specs.declared.outcome.Turned.{Turned}
+use Rattle.mg_script.specs.declared.outcome.Turned.{Turned}
 use Rattle.mg_link.specs.Link.{Sees, Told}
 use Rattle.mg_link.specs.Log.{Sight, fault, Call, see}
 use Rattle.mg_link.proofs.Outs.{length-see}

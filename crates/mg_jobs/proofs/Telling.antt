@@ -40,10 +40,10 @@ use Rattle.mg_jobs.specs.Causes.{Answered, ClosedBy, IsAlive, OwesAlone, sent_at
 use Rattle.mg_jobs.specs.Follows.{HasGiven, poll_of}
 use Rattle.mg_jobs.specs.Playing.{stage_ticket}
 use Rattle.mg_jobs.specs.Telling.{Extends, FollowTells, IsNow, IsOpened, IsWatchArgs, Kept, Places, RestTells, Tell, Tells, TellsEnd, TellsFailed, TellsOpen, number}
-use Rattle.mg_jobs.specs.declared.outcome.Answer.{Answer}
-use Rattle.mg_jobs.specs.declared.outcome.Answer.TheVariants as answers
-use Rattle.mg_jobs.specs.declared.outcome.Ended.{Ended}
-use Rattle.mg_jobs.specs.declared.outcome.Ended.TheVariants as ended
+use Rattle.mg_script.specs.declared.outcome.Answer.{Answer}
+use Rattle.mg_script.specs.declared.outcome.Answer.TheVariants as answers
+use Rattle.mg_script.specs.declared.outcome.Ended.{Ended}
+use Rattle.mg_script.specs.declared.outcome.Ended.TheVariants as ended
 use Rattle.mg_jobs.specs.declared.player.Stage.{Stage}
 use Rattle.mg_jobs.specs.declared.player.Stage.TheVariants as stage
 use Rattle.mg_jobs.specs.declared.player.Watched.{Watched}

@@ -16,17 +16,17 @@ use Rattle.mg_jobs.specs.Causes.{AllCaused, AllSentIn, ClosedBy, Course, FollowC
 use Rattle.mg_jobs.specs.Counts.{StartedBy}
 use Rattle.mg_jobs.specs.Follows.{HasGiven, IsUnfinished, filter_in, token_at}
 use Rattle.mg_jobs.specs.Headline.{AreFirst, DoTasks, Does, IsFirst, OutcomeOf, OutcomesOf}
-use Rattle.mg_jobs.specs.Plan as plan
-use Rattle.mg_jobs.specs.Plan.{Begin, Task, begin}
+use Rattle.mg_script.specs.Plan as plan
+use Rattle.mg_script.specs.Plan.{Begin, Task, begin}
 use Rattle.mg_jobs.specs.Playing.{IsSameFollow, IsSameInsert, end_of, follow_ended, stage_ticket}
 use Rattle.mg_jobs.specs.Progress.{AllAt, Came, FollowAt, IsAt, calls_of, came, turns_done}
 use Rattle.mg_jobs.specs.Runs.{AreApart, Goes, has_ended, job_ticket}
 use Rattle.mg_jobs.specs.Telling.{AllSent, AllTell, Extends, FollowTells, FollowTold, InsertTells, InsertTold, InsertTurns, IsNow, IsOpened, IsSameTeller, JobTells, JobTold, Kept, Places, TellsEnd, TellsNothing, TellsOn, kept, number}
-use Rattle.mg_jobs.specs.declared.outcome.Ended.{Ended}
-use Rattle.mg_jobs.specs.declared.outcome.Ended.TheVariants as ended
-use Rattle.mg_jobs.specs.declared.outcome.Outcome.{Outcome}
-use Rattle.mg_jobs.specs.declared.outcome.Played.{Played}
-use Rattle.mg_jobs.specs.declared.outcome.Turned.{Turned}
+use Rattle.mg_script.specs.declared.outcome.Ended.{Ended}
+use Rattle.mg_script.specs.declared.outcome.Ended.TheVariants as ended
+use Rattle.mg_script.specs.declared.outcome.Outcome.{Outcome}
+use Rattle.mg_script.specs.declared.outcome.Played.{Played}
+use Rattle.mg_script.specs.declared.outcome.Turned.{Turned}
 use Rattle.mg_jobs.specs.declared.player.FollowPlayer.{FollowPlayer}
 use Rattle.mg_jobs.specs.declared.player.InsertPlayer.{InsertPlayer}
 use Rattle.mg_jobs.specs.declared.player.Stage.{Stage}

@@ -35,10 +35,10 @@ use Rattle.mg_change.specs.declared.opening.Opening.{Opening}
 use Rattle.mg_change.specs.declared.stream.ChangeStream.{ChangeStream}
 use Rattle.mg_jobs.specs.Follows.{EndsSo, FollowKnows, FollowMoves, FollowedOr, HasGiven, HasNothing, IsFailed, IsInOrder, IsUnfinished, IsWatched, StageAsks, closed_follow, ended_follow, follow_at, follow_by, events_of, token_at}
 use Rattle.mg_jobs.specs.Playing.{stage_ticket}
-use Rattle.mg_jobs.specs.declared.outcome.Answer.{Answer}
-use Rattle.mg_jobs.specs.declared.outcome.Answer.TheVariants as answers
-use Rattle.mg_jobs.specs.declared.outcome.Ended.{Ended}
-use Rattle.mg_jobs.specs.declared.outcome.Ended.TheVariants as ended
+use Rattle.mg_script.specs.declared.outcome.Answer.{Answer}
+use Rattle.mg_script.specs.declared.outcome.Answer.TheVariants as answers
+use Rattle.mg_script.specs.declared.outcome.Ended.{Ended}
+use Rattle.mg_script.specs.declared.outcome.Ended.TheVariants as ended
 use Rattle.mg_jobs.specs.declared.player.FollowPlayer.{FollowPlayer}
 use Rattle.mg_jobs.specs.declared.player.Stage.{Stage}
 use Rattle.mg_jobs.specs.declared.player.Stage.TheVariants as stage

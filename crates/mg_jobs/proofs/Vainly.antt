@@ -19,8 +19,8 @@ use Rattle.mg_change.specs.declared.opening.Opening.{Opening}
 use Rattle.mg_change.specs.declared.stream.ChangeStream.{ChangeStream}
 use Rattle.mg_jobs.specs.Follows.{EndsSo, FollowsNothing, HasGiven, HasNothing, IsFailed, IsInOrder, IsInVain, IsUnfinished, IsUnwatched, NeverFollowed, VainMoves, events_of, token_at}
 use Rattle.mg_jobs.specs.Playing.{stage_ticket}
-use Rattle.mg_jobs.specs.declared.outcome.Ended.{Ended}
-use Rattle.mg_jobs.specs.declared.outcome.Ended.TheVariants as ended
+use Rattle.mg_script.specs.declared.outcome.Ended.{Ended}
+use Rattle.mg_script.specs.declared.outcome.Ended.TheVariants as ended
 use Rattle.mg_jobs.specs.declared.player.FollowPlayer.{FollowPlayer}
 use Rattle.mg_jobs.specs.declared.player.Stage.{Stage}
 use Rattle.mg_jobs.specs.declared.player.Stage.TheVariants as stage

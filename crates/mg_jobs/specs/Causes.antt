@@ -18,14 +18,14 @@ use Rattle.mg_change.specs.OpeningCauses.{Opened, OpeningFails}
 use Rattle.mg_jobs.specs.Appended.{Appended}
 use Rattle.mg_jobs.specs.Follows.{IsArgsFor, poll_of}
 use Rattle.mg_jobs.specs.InsertCauses.{InsertFails}
-use Rattle.mg_jobs.specs.Plan.{Begin, Task, insert, follow, put, get}
+use Rattle.mg_script.specs.Plan.{Begin, Task, insert, follow, put, get}
 use Rattle.mg_jobs.specs.Progress.{turns_done}
-use Rattle.mg_jobs.specs.declared.outcome.Answer.{Answer}
-use Rattle.mg_jobs.specs.declared.outcome.Ended.{Ended}
-use Rattle.mg_jobs.specs.declared.outcome.Ended.TheVariants as ended
-use Rattle.mg_jobs.specs.declared.outcome.Outcome.{Outcome}
-use Rattle.mg_jobs.specs.declared.outcome.Outcome.TheVariants as outcome
-use Rattle.mg_jobs.specs.declared.outcome.Turned.{Turned}
+use Rattle.mg_script.specs.declared.outcome.Answer.{Answer}
+use Rattle.mg_script.specs.declared.outcome.Ended.{Ended}
+use Rattle.mg_script.specs.declared.outcome.Ended.TheVariants as ended
+use Rattle.mg_script.specs.declared.outcome.Outcome.{Outcome}
+use Rattle.mg_script.specs.declared.outcome.Outcome.TheVariants as outcome
+use Rattle.mg_script.specs.declared.outcome.Turned.{Turned}
 
 -- ---- which call sent what
 

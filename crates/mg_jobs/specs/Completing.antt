@@ -23,15 +23,15 @@ use Rattle.mg_change.specs.Phases.{resuming_command}
 use Rattle.mg_jobs.specs.Causes.{Course, SentIn, course}
 use Rattle.mg_jobs.specs.Follows.{IsArgsFor}
 use Rattle.mg_jobs.specs.InsertCauses.{IsPiece}
-use Rattle.mg_jobs.specs.Plan.{Task, insert, follow, put, get}
+use Rattle.mg_script.specs.Plan.{Task, insert, follow, put, get}
 use Rattle.mg_jobs.specs.Progress.{turns_done}
-use Rattle.mg_jobs.specs.declared.outcome.Answer.{Answer}
-use Rattle.mg_jobs.specs.declared.outcome.Answer.TheVariants as answers
-use Rattle.mg_jobs.specs.declared.outcome.Ended.{Ended}
-use Rattle.mg_jobs.specs.declared.outcome.Ended.TheVariants as ended
-use Rattle.mg_jobs.specs.declared.outcome.Outcome.{Outcome}
-use Rattle.mg_jobs.specs.declared.outcome.Outcome.TheVariants as outcome
-use Rattle.mg_jobs.specs.declared.outcome.Turned.{Turned}
+use Rattle.mg_script.specs.declared.outcome.Answer.{Answer}
+use Rattle.mg_script.specs.declared.outcome.Answer.TheVariants as answers
+use Rattle.mg_script.specs.declared.outcome.Ended.{Ended}
+use Rattle.mg_script.specs.declared.outcome.Ended.TheVariants as ended
+use Rattle.mg_script.specs.declared.outcome.Outcome.{Outcome}
+use Rattle.mg_script.specs.declared.outcome.Outcome.TheVariants as outcome
+use Rattle.mg_script.specs.declared.outcome.Turned.{Turned}
 
 -- ---- a server that holds nothing back
 

@@ -23,11 +23,11 @@ use Rattle.mg_change.specs.declared.event_poll.EventPoll.TheVariants as polls
 use Rattle.mg_change.specs.Growths.{IsInFlight, StandsNowhere}
 use Rattle.mg_change.specs.Following.{Asks, AsksNothing, event_told, follow_of, not_open, opening_in, token_of}
 use Rattle.mg_change.specs.Openings.{IsOpening}
-use Rattle.mg_jobs.specs.Plan.{Begin, begin, nowhere, resume_after, start_after, at_time}
-use Rattle.mg_jobs.specs.declared.outcome.Answer.{Answer}
-use Rattle.mg_jobs.specs.declared.outcome.Answer.TheVariants as answers
-use Rattle.mg_jobs.specs.declared.outcome.Ended.{Ended}
-use Rattle.mg_jobs.specs.declared.outcome.Ended.TheVariants as ended
+use Rattle.mg_script.specs.Plan.{Begin, begin, nowhere, resume_after, start_after, at_time}
+use Rattle.mg_script.specs.declared.outcome.Answer.{Answer}
+use Rattle.mg_script.specs.declared.outcome.Answer.TheVariants as answers
+use Rattle.mg_script.specs.declared.outcome.Ended.{Ended}
+use Rattle.mg_script.specs.declared.outcome.Ended.TheVariants as ended
 use Rattle.mg_jobs.specs.declared.player.FollowPlayer.{FollowPlayer}
 use Rattle.mg_jobs.specs.declared.player.Stage.{Stage}
 use Rattle.mg_jobs.specs.declared.player.Stage.TheVariants as stage

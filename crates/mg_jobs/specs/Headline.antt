@@ -5,12 +5,12 @@ use Rattle.mg_link.specs.Log.{Call}
 use Rattle.mg_link.specs.Namespace.{space, target}
 use Rattle.mg_link.specs.Owner.{Owner, AreApart, NamesItsOwn, Passes, nobody}
 use Rattle.mg_link.specs.State.{Start, Watch}
-use Rattle.mg_jobs.specs.Plan.{Task, begin, insert, follow, put, get}
+use Rattle.mg_script.specs.Plan.{Task, begin, insert, follow, put, get}
 use Rattle.mg_jobs.specs.Follows.{FollowKnows, FollowedOr, FollowsNothing, HasNothing, IsUnfinished, IsWatch, NeverFollowed, WatchesNothing, events_of, filter_in, token_at}
 use Rattle.mg_jobs.specs.Playing.{IsPlainJob, end_of}
 use Rattle.mg_jobs.specs.declared.player.InsertStage.TheVariants as inserts
-use Rattle.mg_jobs.specs.declared.outcome.Outcome.{Outcome}
-use Rattle.mg_jobs.specs.declared.outcome.Outcome.TheVariants as outcome
+use Rattle.mg_script.specs.declared.outcome.Outcome.{Outcome}
+use Rattle.mg_script.specs.declared.outcome.Outcome.TheVariants as outcome
 use Rattle.mg_jobs.specs.declared.player.Stage.TheVariants as stage
 use Rattle.mg_jobs.specs.declared.run.Player.{Player}
 use Rattle.mg_jobs.specs.declared.run.Player.TheVariants as player

@@ -7,8 +7,8 @@ use Rattle.mg_jobs.specs.Inserts.{SendsPlain, insert_ticket}
 use Rattle.mg_jobs.specs.declared.player.InsertPlayer.{InsertPlayer}
 use Rattle.mg_jobs.specs.declared.player.InsertStage.{InsertStage}
 use Rattle.mg_jobs.specs.declared.player.InsertStage.TheVariants as inserts
-use Rattle.mg_jobs.specs.declared.outcome.Ended.{Ended}
-use Rattle.mg_jobs.specs.declared.outcome.Ended.TheVariants as ended
+use Rattle.mg_script.specs.declared.outcome.Ended.{Ended}
+use Rattle.mg_script.specs.declared.outcome.Ended.TheVariants as ended
 use Rattle.mg_jobs.specs.declared.player.FollowPlayer.{FollowPlayer}
 use Rattle.mg_jobs.specs.declared.player.Stage.{Stage}
 use Rattle.mg_jobs.specs.declared.player.Stage.TheVariants as stage

@@ -11,17 +11,17 @@ use Rattle.mg_link.specs.Owner.{NamesItsOwn}
 use Rattle.mg_link.specs.Standing.{Stands}
 use Rattle.mg_jobs.specs.Causes.{OutcomeCaused, course}
 use Rattle.mg_jobs.specs.Headline.{OutcomeFollowed}
-use Rattle.mg_jobs.specs.Plan.{Plan, Task, plan, tasks}
-use Rattle.mg_jobs.specs.Plan as plans
+use Rattle.mg_script.specs.Plan.{Plan, Task, plan, tasks}
+use Rattle.mg_script.specs.Plan as plans
 use Rattle.mg_store.specs.InMemory.{AreAsFates}
 use Rattle.mg_store.specs.declared.fate.Fate.{Fate}
-use Rattle.mg_jobs.specs.declared.outcome.Outcome.{Outcome}
-use Rattle.mg_jobs.specs.declared.outcome.Turned.{Turned}
-use Rattle.mg_jobs.specs.Script.{script_of, missing}
-use Rattle.mg_jobs.specs.Places.{place_text}
-use Rattle.mg_jobs.specs.Text.{line, text_of}
-use Rattle.mg_jobs.specs.declared.fault.Place.{Place}
-use Rattle.mg_jobs.specs.declared.outcome.Run.{Run}
+use Rattle.mg_script.specs.declared.outcome.Outcome.{Outcome}
+use Rattle.mg_script.specs.declared.outcome.Turned.{Turned}
+use Rattle.mg_script.specs.Script.{script_of, missing}
+use Rattle.mg_script.specs.Places.{place_text}
+use Rattle.mg_script.specs.Text.{line, text_of}
+use Rattle.mg_script.specs.declared.fault.Place.{Place}
+use Rattle.mg_script.specs.declared.outcome.Run.{Run}
 use Rattle.mg_jobs.specs.declared.program.Ending.{Ending}
 use Rattle.mg_jobs.specs.declared.program.Ending.TheVariants as endings
 

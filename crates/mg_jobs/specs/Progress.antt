@@ -2,12 +2,12 @@
 use Rattle.std.specs.Prelude.{◌≡◌, ◌+◌, ◌<◌, ◌≤◌, ◌⊎◌, ℕ, Bool, true, false, cond, nat_eq, List, [], ◌∷◌, length, Some, slice_get}
 use Rattle.mg_jobs.specs.Counts.{PendedAs}
 use Rattle.mg_jobs.specs.Follows.{HasGiven, IsFailed, IsUnfinished}
-use Rattle.mg_jobs.specs.Plan.{Task, insert, follow, put, get}
-use Rattle.mg_jobs.specs.declared.outcome.Ended.{Ended}
-use Rattle.mg_jobs.specs.declared.outcome.Ended.TheVariants as ended
-use Rattle.mg_jobs.specs.declared.outcome.Outcome.{Outcome}
-use Rattle.mg_jobs.specs.declared.outcome.Outcome.TheVariants as outcome
-use Rattle.mg_jobs.specs.declared.outcome.Turned.{Turned}
+use Rattle.mg_script.specs.Plan.{Task, insert, follow, put, get}
+use Rattle.mg_script.specs.declared.outcome.Ended.{Ended}
+use Rattle.mg_script.specs.declared.outcome.Ended.TheVariants as ended
+use Rattle.mg_script.specs.declared.outcome.Outcome.{Outcome}
+use Rattle.mg_script.specs.declared.outcome.Outcome.TheVariants as outcome
+use Rattle.mg_script.specs.declared.outcome.Turned.{Turned}
 use Rattle.mg_jobs.specs.declared.player.FollowPlayer.{FollowPlayer}
 use Rattle.mg_jobs.specs.declared.player.InsertStage.{InsertStage}
 use Rattle.mg_jobs.specs.declared.player.InsertStage.TheVariants as inserts

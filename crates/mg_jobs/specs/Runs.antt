@@ -6,7 +6,7 @@ use Rattle.mg_jobs.specs.Counts.{Counted}
 use Rattle.mg_jobs.specs.Headline.{IsSameTask, Turns}
 use Rattle.mg_jobs.specs.Playing.{HasRoom, IsSameFollow, StageHolds, follow_ended, insert_ended, player_ticket, stage_ticket}
 use Rattle.mg_jobs.specs.Telling.{JobTells}
-use Rattle.mg_jobs.specs.declared.outcome.Turned.{Turned}
+use Rattle.mg_script.specs.declared.outcome.Turned.{Turned}
 use Rattle.mg_jobs.specs.declared.player.FollowPlayer.{FollowPlayer}
 use Rattle.mg_jobs.specs.declared.run.Player.{Player}
 use Rattle.mg_jobs.specs.declared.run.Player.TheVariants as player

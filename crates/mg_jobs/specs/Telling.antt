@@ -20,13 +20,13 @@ use Rattle.mg_change.specs.declared.stream.ChangeStream.{ChangeStream}
 use Rattle.mg_jobs.specs.Causes.{Answered, ClosedBy, Course, EndsBy, IsAlive, AllSentIn, course, sent_at}
 use Rattle.mg_jobs.specs.Follows.{HasGiven, IsArgsFor, filter_in}
 use Rattle.mg_jobs.specs.InsertCauses.{InsertsSoFar}
-use Rattle.mg_jobs.specs.Plan.{Task, begin}
+use Rattle.mg_script.specs.Plan.{Task, begin}
 use Rattle.mg_jobs.specs.Playing.{IsSameInsert}
 use Rattle.mg_jobs.specs.Underway.{HasInserted}
-use Rattle.mg_jobs.specs.declared.outcome.Answer.{Answer}
-use Rattle.mg_jobs.specs.declared.outcome.Ended.{Ended}
-use Rattle.mg_jobs.specs.declared.outcome.Ended.TheVariants as ended
-use Rattle.mg_jobs.specs.declared.outcome.Turned.{Turned}
+use Rattle.mg_script.specs.declared.outcome.Answer.{Answer}
+use Rattle.mg_script.specs.declared.outcome.Ended.{Ended}
+use Rattle.mg_script.specs.declared.outcome.Ended.TheVariants as ended
+use Rattle.mg_script.specs.declared.outcome.Turned.{Turned}
 use Rattle.mg_jobs.specs.declared.player.FollowPlayer.{FollowPlayer}
 use Rattle.mg_jobs.specs.declared.player.InsertPlayer.{InsertPlayer}
 use Rattle.mg_jobs.specs.declared.player.InsertStage.{InsertStage}

@@ -3,9 +3,9 @@ ghost use Rattle.std.specs.Prelude.{◌≡◌, ℕ, nat_lt};
 ghost use Rattle.mg_link.specs.Link.{Told};
 ghost use Rattle.mg_jobs.specs.Counts.{Counted};
 
-use crate::outcome::Turned;
 use mg_bson::RawDocument;
 use mg_link::{Link, LinkError, Polled, Ticket};
+use mg_script::Turned;
 use std::marker::{Brand, Model, PhantomData};
 
 /// What a turn began with, for proofs alone.

@@ -20,10 +20,16 @@ impl Fated for Brand {
 }
 
 /// A link in memory whose fates stay as they are known. To clauses it is the link behind it.
-#[derive(Drop)]
 pub(crate) struct FatedLink<F: Fated> {
     link: MemLink,
     fated: PhantomData<F>,
+}
+
+// By hand, so that letting one go is one call.
+impl<F: Fated> Drop for FatedLink<F> {
+    fn drop(self) {
+        let FatedLink { link: _, fated: _ } = self;
+    }
 }
 
 impl<F: Fated> Model for FatedLink<F> {

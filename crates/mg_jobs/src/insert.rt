@@ -7,7 +7,7 @@ ghost use Rattle.mg_link.specs.Exec.{ticket_of};
 ghost use Rattle.mg_link.specs.Link.{Later};
 ghost use Rattle.mg_link.specs.Errors.{plain};
 ghost use Rattle.mg_link.specs.declared.error.ErrorKind.TheVariants as kinds;
-ghost use Rattle.mg_link.proofs.Plain.{PassesPlain};
+ghost use Rattle.mg_link.proofs.Killing.{PassesPlain};
 ghost use Rattle.mg_ops.specs.Failing.{CannotBeSent, FailsBy};
 ghost use Rattle.mg_ops.specs.Limits.{max_documents};
 ghost use Rattle.mg_jobs.specs.InsertCauses.{CannotEncode, CannotGoOn, FitTogether, HearsCaused, InsertCaused, IsBuilt, IsLength, NextCaused};
@@ -150,13 +150,25 @@ struct Command {
 }
 
 /// The documents of an insert, and how many of them stand in commands that were built.
-#[derive(Drop)]
 struct Batches<'a> {
     alloc: Global,
     ns: &'a Namespace,
     documents: &'a [Document],
     drawn: Vec<Option<ObjectId>>,
     upto: usize,
+}
+
+// By hand, so that letting one go is one call.
+impl Drop for Batches<'_> {
+    fn drop(self) {
+        let Batches {
+            alloc: _,
+            ns: _,
+            documents: _,
+            drawn: _,
+            upto: _,
+        } = self;
+    }
 }
 
 /// What is to be sent next.
@@ -250,10 +262,19 @@ impl<'a> Batches<'a> {
 /// An insert of documents in their order, cut into commands that keep the limits, which goes on while replies pend. It
 /// gives their number. One without `_id` gets a drawn one as its first field. After a failure the commands before it
 /// took effect.
-#[derive(Drop)]
 pub(crate) struct Inserting<'a> {
     batches: Batches<'a>,
     command: Option<Command>,
+}
+
+// By hand, so that letting one go is one call.
+impl Drop for Inserting<'_> {
+    fn drop(self) {
+        let Inserting {
+            batches: _,
+            command: _,
+        } = self;
+    }
 }
 
 impl<'a> Inserting<'a> {

@@ -1,5 +1,5 @@
 //! Jobs that go on turn by turn.
-ghost use Rattle.std.specs.Prelude.{◌≡◌, ◌≢◌, ◌↔◌, ◌⊎◌, IsTrue, pos, List, ◌+◌, ◌-◌, ◌<◌, ◌≤◌, ◌++◌, ◌∷◌, ℕ, Bool, [], None, Some, false, IfErr, IfOk, OnOk, option_map, vec_capacity, vec_len};
+ghost use Rattle.std.specs.Prelude.{◌≡◌, ◌≢◌, ◌↔◌, ◌⊎◌, IsTrue, pos, List, ◌-◌, ◌++◌, ◌∷◌, ℕ, [], None, Some, false, IfErr, IfOk, OnOk, option_map};
 ghost use Rattle.mg_link.specs.Acts.{IsOut, Tickets};
 ghost use Rattle.mg_link.specs.Errors.{plain};
 ghost use Rattle.mg_link.specs.declared.error.ErrorKind.TheVariants as kinds;
@@ -11,21 +11,20 @@ ghost use Rattle.mg_change.specs.Closings.{closing_ticket};
 ghost use Rattle.mg_change.specs.Openings.{opening_ticket};
 ghost use Rattle.mg_change.specs.Phases.{AtRest, IsResuming, IsSound, ticket_in};
 ghost use Rattle.mg_jobs.specs.Follows.{FollowTurns, HasNothing, IsAnswer, IsArgsOf, IsUnfinished, all_changes, begun_options, stages_of, start_of, token_at};
-ghost use Rattle.mg_link.proofs.Plain.{PassesPlain};
+ghost use Rattle.mg_link.proofs.Killing.{PassesPlain};
 ghost use Rattle.mg_ops.specs.Naming.{start_in};
-ghost use Rattle.mg_jobs.specs.Plan.{begin};
+ghost use Rattle.mg_script.specs.Plan.{begin};
 ghost use Rattle.mg_jobs.specs.Progress.{CloseGoes, FollowAt, FollowGoes, InsertAt, InsertGoes, InsertReady, RestGoes, came};
 ghost use Rattle.mg_jobs.specs.Playing.{HasRoom, IsPlainInsert, IsPlainJob, IsSameFollow, IsSameInsert, StageHolds, end_of, follow_ended, insert_ended, inserts_ticket, player_ticket, stage_ticket};
 ghost use Rattle.mg_jobs.specs.Telling.{FollowTells, InsertTells, InsertTurns, IsWatchArgs, RestTells, TellsOn, kept};
 
 use crate::insert::Inserting;
-use crate::outcome::{Answer, Ended, Outcome};
-use crate::script::Start;
 use mg_bson::{Bson, Document};
 use mg_change::{ChangeStream, Closing, EventPoll, Opening};
-use mg_link::{Action, Error, IdSource, Link, Namespace, OperationTarget, Step};
+use mg_link::{Action, Error, IdSource, Link, Namespace, OperationTarget, Step, push_reserved};
 use mg_ops::WatchArgs;
 use mg_options::{ChangeStreamOptions, ResumeToken};
+use mg_script::{Answer, Ended, Outcome, Start};
 use std::alloc::Global;
 use std::mem;
 
@@ -39,11 +38,21 @@ enum InsertStage<'a> {
 }
 
 /// An insert that goes on.
-#[derive(Drop)]
 pub(crate) struct InsertPlayer<'a> {
     ns: &'a Namespace,
     documents: &'a [Document],
     stage: InsertStage<'a>,
+}
+
+// By hand, so that letting one go is one call.
+impl Drop for InsertPlayer<'_> {
+    fn drop(self) {
+        let InsertPlayer {
+            ns: _,
+            documents: _,
+            stage: _,
+        } = self;
+    }
 }
 
 /// An insert with its ids, or its failure.
@@ -152,7 +161,12 @@ impl<'a> InsertPlayer<'a> {
     pub(crate) fn into_outcome(self) -> Outcome
         ensures { result ≡ Outcome.Insert (end_of self.entry.stage) }
     {
-        match self.stage {
+        let InsertPlayer {
+            ns: _,
+            documents: _,
+            stage,
+        } = self;
+        match stage {
             InsertStage::Unsent => Outcome::Insert(Ended::Unfinished),
             InsertStage::Goes(_) => Outcome::Insert(Ended::Unfinished),
             InsertStage::Ended(ended) => Outcome::Insert(ended),
@@ -236,7 +250,6 @@ enum Stage {
 }
 
 /// A follow that goes on.
-#[derive(Drop)]
 pub(crate) struct FollowPlayer<'a> {
     watched: Watched<'a>,
     stage: Stage,
@@ -248,6 +261,22 @@ pub(crate) struct FollowPlayer<'a> {
     token: Option<ResumeToken>,
     alive: bool,
     closed: Ended<()>,
+}
+
+// By hand, so that letting one go is one call.
+impl Drop for FollowPlayer<'_> {
+    fn drop(self) {
+        let FollowPlayer {
+            watched: _,
+            stage: _,
+            left: _,
+            opened: _,
+            answers: _,
+            token: _,
+            alive: _,
+            closed: _,
+        } = self;
+    }
 }
 
 impl<'a> FollowPlayer<'a> {
@@ -524,15 +553,4 @@ fn note(slot: &mut Ended<()>, ended: Ended<()>)
     ensures { slot.new ≡ ended }
 {
     *slot = ended;
-}
-
-/// Adds an answer, for which there is room.
-fn push_reserved(answers: &mut Vec<Answer>, answer: Answer)
-    requires { vec_len answers.old < vec_capacity answers.old }
-    ensures { answers.new.items ≡ answers.old.items ++ answer ∷ [] }
-{
-    match answers.push(answer) {
-        Ok(()) => {}
-        Err(_) => unreachable!(),
-    }
 }

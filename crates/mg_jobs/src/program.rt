@@ -4,23 +4,18 @@ ghost use Rattle.std.specs.Io.KnownBytes.{Appends};
 ghost use Rattle.mg_link.specs.Causes.{Rose};
 ghost use Rattle.mg_link.specs.Errors.{plain};
 ghost use Rattle.mg_link.specs.declared.error.ErrorKind.TheVariants as kinds;
-ghost use Rattle.mg_jobs.specs.declared.fault.Place.{Place};
+ghost use Rattle.mg_script.specs.declared.fault.Place.{Place};
 ghost use Rattle.mg_jobs.specs.declared.program.Ending.{Ending};
-ghost use Rattle.mg_jobs.specs.Plan.{plan};
-ghost use Rattle.mg_jobs.specs.Plan as plans;
-ghost use Rattle.mg_jobs.specs.Places.{place_text};
-ghost use Rattle.mg_jobs.specs.Text.{line, text_of};
+ghost use Rattle.mg_script.specs.Plan.{plan};
+ghost use Rattle.mg_script.specs.Plan as plans;
+ghost use Rattle.mg_script.specs.Places.{place_text};
+ghost use Rattle.mg_script.specs.Text.{line, text_of};
 ghost use Rattle.mg_jobs.specs.Program.{Caused, HasJobs, Ran, ReadMissing, ReadNoScript, ReadTooMuch, RunFollowed, Told, ending_text, is_run, run_of, status_of};
 
 use crate::fated::{Fated, FatedLink};
-use crate::fates::small_copies;
-use crate::fault::{Place, ScriptError};
-use crate::outcome::Run;
-use crate::parse::{missing, parse_script};
-use crate::print::text_of;
 use crate::run::run_jobs;
-use crate::script::Script;
 use mg_link::{CountedIds, Error, InputError, Sink, Source, read_all, write_all};
+use mg_script::{Place, Run, Script, ScriptError, missing, parse_script, small_copies, text_of};
 use mg_store::{MemLink, Store};
 use std::alloc::Global;
 use std::marker::Brand;
@@ -89,6 +84,8 @@ fn run_over<F: Fated>(alloc: Global, script: Script, link: MemLink) -> Result<Ru
         script.order.as_slice(),
     )?;
     let (store, log) = link.into_link().into_parts();
+    // For the proof alone: a store tells with its history that its steps are by the rules.
+    store.history();
     let logs = vec![in alloc; log]?;
     let turns = vec![in alloc; played.turns]?;
     Ok(Run {

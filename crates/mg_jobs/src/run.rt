@@ -1,39 +1,48 @@
 //! Jobs, run by a list of turns.
-ghost use Rattle.std.specs.Prelude.{◌≡◌, ◌≤◌, ◌<◌, ◌++◌, ◌∷◌, ◌⊎◌, ℕ, Bool, [], false, true, length, List, IfErr, IfOk, IfSome, OnErr, OnOk, Ok, Err, Some, vec_capacity, vec_len};
+ghost use Rattle.std.specs.Prelude.{◌≡◌, ◌≤◌, ◌<◌, ◌++◌, ◌∷◌, ◌⊎◌, ℕ, Bool, [], false, true, length, List, IfErr, IfOk, IfSome, OnErr, OnOk, Ok, Err, Some};
 ghost use Rattle.std.specs.List.{All, sum_by};
 ghost use Rattle.mg_link.specs.Errors.{plain};
 ghost use Rattle.mg_link.specs.Link.{Awaited, Later, Told};
-ghost use Rattle.mg_jobs.specs.Counts.{Counted, LosesNothing, StartedBy};
+ghost use Rattle.mg_jobs.specs.Counts.{LosesNothing, StartedBy};
 ghost use Rattle.mg_jobs.specs.Runs.{AreNew, AreSameJobs, CanGo, Goes, IsNew, IsNoted, IsReady, IsSameJob, JobHolds, Stands, has_ended, idle, job_ended, job_ticket};
 ghost use Rattle.mg_link.specs.Log.{Call};
 ghost use Rattle.mg_link.specs.Owner.{Owner};
 ghost use Rattle.mg_jobs.specs.Headline.{AllFollowed, AreFirst, DoTasks, Does, IsFirst, IsSameTask, Knowing, OutcomeOf, OutcomesOf, Plays};
-ghost use Rattle.mg_jobs.specs.Plan.{Task, task, tasks};
+ghost use Rattle.mg_script.specs.Plan.{Task, task, tasks};
 ghost use Rattle.mg_jobs.specs.Progress.{AllAt, AllPlayed, GoesBy, IsAt, IsReadyAt, JobGoes, TurnsBy, calls_of};
 ghost use Rattle.mg_jobs.specs.Causes.{AllCaused};
 ghost use Rattle.mg_jobs.specs.Completing.{AllWell};
-ghost use Rattle.mg_jobs.specs.Script.{first_missing};
+ghost use Rattle.mg_script.specs.Script.{first_missing};
 ghost use Rattle.mg_jobs.specs.Telling.{AllTell, IsSameTeller};
 
 use crate::counting::{Began, Counting};
-use crate::outcome::{Ended, Outcome, Played, Turned};
-use crate::parse::first_missing;
 use crate::player::{FollowPlayer, InsertPlayer, Watched};
-use crate::script::Job;
 use core::mem::replace_with;
 use mg_bson::DateTime;
-use mg_link::{Error, ErrorKind, IdSource, Labels, Link};
+use mg_link::{Error, ErrorKind, IdSource, Link, plain, push_reserved};
+use mg_script::{Ended, Job, Outcome, Played, Turned, first_missing};
 use std::alloc::Global;
 use std::marker::Brand;
 use std::mem;
 
 /// A job that goes on.
-#[derive(Drop)]
 enum Player<'a> {
     Insert(InsertPlayer<'a>),
     Follow(FollowPlayer<'a>),
     Put,
     Get,
+}
+
+// By hand, so that letting one go is one call.
+impl Drop for Player<'_> {
+    fn drop(self) {
+        match self {
+            Player::Insert(_) => {}
+            Player::Follow(_) => {}
+            Player::Put => {}
+            Player::Get => {}
+        }
+    }
 }
 
 impl<'a> Player<'a> {
@@ -230,36 +239,24 @@ fn turn_of<'a, L: Link, I: IdSource>(
     Ok(take_turn(player, alloc, link))
 }
 
-/// The error of a number that names no job.
-fn no_such_job(job: u32) -> Error
-    ensures { result ≡ plain (ErrorKind.NoSuchJob job) }
-{
-    Error {
-        kind: ErrorKind::NoSuchJob(job),
-        labels: Labels::none(),
-        wire_version: None,
-    }
-}
-
-/// Adds a note, for which there is room.
-fn push_reserved(turns: &mut Vec<Turned>, note: Turned)
-    requires { vec_len turns.old < vec_capacity turns.old }
-    ensures { turns.new.items ≡ turns.old.items ++ note ∷ [] }
-{
-    match turns.push(note) {
-        Ok(()) => {}
-        Err(_) => unreachable!(),
-    }
-}
-
 // ---- all turns
 
 /// Jobs whose turns are given one by one.
-#[derive(Drop)]
 pub struct Runner<'a> {
     alloc: Global,
     players: Vec<Player<'a>>,
     turns: Vec<Turned>,
+}
+
+// By hand, so that letting one go is one call.
+impl Drop for Runner<'_> {
+    fn drop(self) {
+        let Runner {
+            alloc: _,
+            players: _,
+            turns: _,
+        } = self;
+    }
 }
 
 impl<'a> Runner<'a> {
@@ -325,7 +322,7 @@ impl<'a> Runner<'a> {
     {
         let at = job as usize;
         if at >= self.players.len() {
-            return Err(no_such_job(job));
+            return Err(plain(ErrorKind::NoSuchJob(job)));
         }
         self.turns.reserve(1)?;
         let alloc = self.alloc;
@@ -419,7 +416,7 @@ pub fn run_jobs<L: Link, I: IdSource>(
     ensures prompt { L.prompt link.old → IfOk result (λ p. All (λ t. t.pended ≡ false) p.turns.items) }
 {
     if let Some(number) = first_missing(order, jobs.len()) {
-        return Err(no_such_job(number));
+        return Err(plain(ErrorKind::NoSuchJob(number)));
     }
     let mut runner = Runner::new(alloc, jobs)?;
     play(&mut runner, link, ids, moment, order)?;

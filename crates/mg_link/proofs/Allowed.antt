@@ -1,5 +1,5 @@
 -- What the store in memory does by its rules is what a server may do.
-use Rattle.std.proofs.Common.{◌≡◌, ℕ, ℤ, pos, suc, ◌+◌, ◌<◌, ◌≤◌, ◌^◌, Bool, true, List, [], length, Option, Some, None, Result, Ok, Err, refl, sym, ap, ◌∙◌, subst, inl, inr, arith, append-nil, length-append}
+use Rattle.std.proofs.Common.{◌≡◌, ℕ, ℤ, pos, suc, ◌+◌, ◌<◌, ◌≤◌, ◌^◌, Bool, true, List, [], length, Option, Some, None, Result, Ok, Err, refl, sym, ap, ◌∙◌, subst, inl, inr, arith, append-nil}
 use Rattle.std.specs.Prelude.{if◌then◌else◌, ◌&&◌, nat_le}
 use Rattle.std.proofs.lemmas.Bool.{cases_Bool, cond_both}
 use Rattle.mg_bson.specs.Tree.{Tree, Fields}
@@ -10,10 +10,8 @@ use Rattle.mg_link.specs.Filter.{Condition}
 use Rattle.mg_link.specs.State.{Entry, Watch, Cursor, query, watching, State, events_between, start_place}
 use Rattle.mg_link.specs.Commands.{Asked, asks_insert, asks_watch, asks_more, asks_kill, Failure, Told, refuses, inserted, opened, gave, killed, asked, told}
 use Rattle.mg_link.specs.Step.{Made, grown, effect, next, documents_of, written, opened_cursor, HaveNewIds, AreInsertEvents, MayGive, May}
-use Rattle.mg_link.specs.History.{Step, step_after}
 use Rattle.mg_link.specs.Rules.{Request, insert, watch, more, kill, request_of, token_of, token_place, now_of, Inserted, inserting, inserted_reply, batch_place, Answer, answer_with, answer_insert, place_at, watch_reply, more_reply, is_watch_of, answer_more, killed_reply, size_of, answer, no_such_token, bad_request, max_reply, or_code, map_ok, and_then, refusal, refused, fitting, answer_of}
-use Rattle.mg_link.specs.Kept.{made_by, made_none, made_these, given_by, IsCollection, IsStoreState, Kept, IsAllowed, made_of, given_after, rule_entries, step_of, state_behind}
-use Rattle.mg_link.proofs.Histories.{step_after-changes}
+use Rattle.mg_link.specs.Kept.{made_by, made_none, made_these, given_by, IsCollection, IsStoreState, Kept, IsAllowed, made_of, given_after, rule_entries}
 use Rattle.mg_link.proofs.Tokens.{place_named, place_within}
 use Rattle.mg_link.proofs.Requests.{IsNamed, start_from, asks_of, HasName, request_reads, asked_is}
 use Rattle.mg_link.proofs.Growing.{grows_these, state_these, grows_none, state_none}
@@ -273,13 +271,6 @@ rule_fits s given started command reply o h (answers_by r a asks answers is) e =
     let fits = answer_fits s given started r a h (request_reads (fields command) r asks).named answers reply (e ∙ ap (λ (x : Answer). x.reply) is) in
     let there = subst (λ (c : Asked). FitsWithin s given started c (told c reply) a.entries) (sym (asked_is command r asks)) fits in
     subst (λ (x : Answer). FitsWithin s given started (asked command) (told (asked command) reply) x.entries) (sym is) there
-
--- where the entries behind the step can have tokens, those that it made can
-pub made_within : (s : State) (given : ℕ) (started : Bool) (kept : Kept) → length (state_behind s given started kept).changes < 2 ^ 64 → length s.changes + length (made_of s given started kept).entries < 2 ^ 64
-made_within s given started kept lt =
-    let step : Step = step_of s given started kept in
-    let e : length (step_after s step).changes ≡ length s.changes + length step.made.entries = ap length (step_after-changes s step) ∙ length-append s.changes step.made.entries in
-    omega arith
 
 -- what the rules reply is allowed
 pub rules_allowed : (s : State) (given : ℕ) (started : Bool) (kept : Kept) → IsStoreState s given started → length s.changes + length (made_of s given started kept).entries < 2 ^ 64

@@ -163,10 +163,6 @@ last_answered log log' f e id is ahead same = batch_done log log' f (last_token 
 pub nothing_answered : (log log' : link.Told) (f : Follow) → f.doing ≡ holding → f.ahead ≡ [] → log' ≡ log → Moved log log' f (answering f resting [] (empty_token f.upto f.token) f.answered)
 nothing_answered log log' f is ahead same = batch_done log log' f (empty_token f.upto f.token) f.answered is (empty_is f.upto f.token) (sym (append-nil f.answered) ∙ ap (λ (l : List Fields). f.answered ++ l) (sym ahead)) same
 
--- A move that answers nothing, as one that answers a list of none.
-pub answered_none : (log log' : link.Told) (f f' : Follow) → Moved log log' f f' → Moved log log' f (record f' { answered = f'.answered ++ [] })
-answered_none log log' f f' m = subst (λ (l : List Fields). Moved log log' f (record f' { answered = l })) (sym (append-nil f'.answered)) m
-
 -- ---- what this comes to
 
 time_of_past : (s : State) (start : Start) (from : ℕ) → IsPast s start from → IsTime start

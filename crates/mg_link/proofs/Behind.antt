@@ -1,17 +1,15 @@
 -- What stands behind a step of the store in memory, part by part.
-use Rattle.std.proofs.Common.{◌≡◌, ℕ, ℤ, pos, suc, ◌<◌, ◌≤◌, ◌^◌, Bool, true, false, List, [], ◌++◌, length, Option, Some, None, Result, Ok, Err, refl, sym, ap, ap₂, ◌∙◌, subst, arith, append-nil}
-use Rattle.std.specs.Prelude.{if◌then◌else◌, ◌&&◌, nat_le, unwrap_or}
+use Rattle.std.proofs.Common.{◌≡◌, ℕ, ℤ, pos, suc, ◌<◌, ◌≤◌, ◌^◌, Bool, true, false, List, [], ◌++◌, length, Option, Some, None, Ok, refl, sym, ap, ap₂, ◌∙◌, subst, arith, append-nil}
+use Rattle.std.specs.Prelude.{if◌then◌else◌, unwrap_or}
 use Rattle.std.specs.Ordering.{int_eq}
-use Rattle.std.proofs.lemmas.Bool.{and_from, le-leb, lt-leb, and_left, and_right}
 use Rattle.mg_bson.specs.Tree.{Tree, Fields}
-use Rattle.mg_bson.specs.Bytes.{bytes, levels}
 use Rattle.mg_bson.specs.Raw.{fields}
 use Rattle.mg_link.specs.Namespace.{Space, collection}
 use Rattle.mg_link.specs.Filter.{Condition}
 use Rattle.mg_link.specs.State.{Entry, Watch, Cursor, watching, State, events_between, put_documents, put_cursor, without_cursors}
 use Rattle.mg_link.specs.Commands.{Asked, asks_insert, asks_watch, asks_more, asks_kill, asks_other, Failure, Told, refuses, inserted, opened, gave, killed, asked, told}
 use Rattle.mg_link.specs.Step.{grown, effect, next, documents_of, written, ends_cursor, watching_at, moved}
-use Rattle.mg_link.specs.Rules.{Request, insert, watch, more, kill, request_of, token_of, now_of, Inserted, inserting, inserted_reply, batch_place, Answer, answer_with, answer_insert, place_at, watch_reply, more_reply, killed_reply, answer, bad_request, max_reply, and_then, refusal, refused, fitting, answer_of}
+use Rattle.mg_link.specs.Rules.{insert, watch, more, kill, request_of, token_of, now_of, Inserted, inserting, inserted_reply, batch_place, Answer, answer_with, answer_insert, place_at, watch_reply, more_reply, killed_reply, answer, refusal, answer_of}
 use Rattle.mg_link.specs.Kept.{made_by, made_none, made_these, given_by, IsStoreState, Kept, made_of, given_after, rule_entries, state_behind}
 use Rattle.mg_link.proofs.Requests.{start_from, request_reads, asked_is}
 use Rattle.mg_link.proofs.Growing.{state_these}
@@ -20,32 +18,6 @@ use Rattle.mg_link.proofs.Telling.{told_reads, refusal_tells, insert_tells, open
 use Rattle.mg_link.proofs.Batching.{batch_within}
 use Rattle.mg_link.proofs.Cursoring.{not_zero, is_zero_no}
 use Rattle.mg_link.proofs.Allowed.{named_by, place_fits, grown_changes}
-
--- ---- which answer the rules give
-
-pub answer_is : (s : State) (id : ℤ) (fs : Fields) (r : Request) (a : Answer) → request_of fs ≡ Ok r → answer s id r ≡ Ok a → length (bytes a.reply) ≤ max_reply → levels a.reply ≤ 100 → answer_of s id fs ≡ a
-unfolding answer_of
-answer_is s id fs r a asks answers short shallow =
-    let fits : (nat_le (length (bytes a.reply)) max_reply && nat_le (levels a.reply) 100) ≡ true = and_from (nat_le (length (bytes a.reply)) max_reply) (nat_le (levels a.reply) 100) (le-leb (length (bytes a.reply)) max_reply short) (le-leb (levels a.reply) 100 shallow) in
-    ap (λ (x : Result Request ℤ). fitting (and_then (answer s id) x)) asks ∙ ap fitting answers ∙ ap (λ (b : Bool). if b then a else refused bad_request) fits
-
-pub answer_not_read : (s : State) (id : ℤ) (fs : Fields) (code : ℤ) → request_of fs ≡ Err code → answer_of s id fs ≡ refused code
-unfolding answer_of
-answer_not_read s id fs code asks = ap (λ (x : Result Request ℤ). fitting (and_then (answer s id) x)) asks
-
-pub answer_refuses : (s : State) (id : ℤ) (fs : Fields) (r : Request) (code : ℤ) → request_of fs ≡ Ok r → answer s id r ≡ Err code → answer_of s id fs ≡ refused code
-unfolding answer_of
-answer_refuses s id fs r code asks answers = ap (λ (x : Result Request ℤ). fitting (and_then (answer s id) x)) asks ∙ ap fitting answers
-
-answer_unfit : (s : State) (id : ℤ) (fs : Fields) (r : Request) (a : Answer) → request_of fs ≡ Ok r → answer s id r ≡ Ok a → (nat_le (length (bytes a.reply)) max_reply && nat_le (levels a.reply) 100) ≡ false → answer_of s id fs ≡ refused bad_request
-unfolding answer_of
-answer_unfit s id fs r a asks answers not_so = ap (λ (x : Result Request ℤ). fitting (and_then (answer s id) x)) asks ∙ ap fitting answers ∙ ap (λ (b : Bool). if b then a else refused bad_request) not_so
-
-pub answer_too_large : (s : State) (id : ℤ) (fs : Fields) (r : Request) (a : Answer) → request_of fs ≡ Ok r → answer s id r ≡ Ok a → max_reply < length (bytes a.reply) → answer_of s id fs ≡ refused bad_request
-answer_too_large s id fs r a asks answers large = answer_unfit s id fs r a asks answers (and_left (nat_le (length (bytes a.reply)) max_reply) (nat_le (levels a.reply) 100) (lt-leb (length (bytes a.reply)) max_reply large))
-
-pub answer_too_deep : (s : State) (id : ℤ) (fs : Fields) (r : Request) (a : Answer) → request_of fs ≡ Ok r → answer s id r ≡ Ok a → 100 < levels a.reply → answer_of s id fs ≡ refused bad_request
-answer_too_deep s id fs r a asks answers deep = answer_unfit s id fs r a asks answers (and_right (nat_le (length (bytes a.reply)) max_reply) (nat_le (levels a.reply) 100) (lt-leb (levels a.reply) 100 deep))
 
 -- ---- the parts of a state
 

@@ -1,11 +1,11 @@
 -- A front of a log stands in a front of the history.
-use Rattle.std.proofs.Common.{◌≡◌, ◌⊎◌, ℕ, ℤ, zero, suc, ◌+◌, ◌<◌, ◌≤◌, List, [], ◌∷◌, ◌++◌, length, Option, Some, None, refl, sym, ap, ◌∙◌, subst, inl, inr, take, drop, arith}
+use Rattle.std.proofs.Common.{◌≡◌, ◌⊎◌, ℕ, ℤ, zero, suc, ◌+◌, ◌<◌, ◌≤◌, List, [], ◌∷◌, ◌++◌, length, Option, Some, None, refl, sym, ap, ◌∙◌, subst, inl, inr, take, arith}
 use Rattle.std.specs.Prelude.{slice_get}
-use Rattle.mg_link.specs.Log.{Sight, waiting, reply, fault, memory, Call, see}
+use Rattle.mg_link.specs.Log.{Sight, waiting, reply, Call, see}
 use Rattle.mg_link.specs.Commands.{asked}
-use Rattle.mg_link.specs.History.{Step, IsLegal, IsLegalFrom, step_after, state_after}
+use Rattle.mg_link.specs.History.{Step, IsLegal, IsLegalFrom, step_after}
 use Rattle.mg_link.specs.State.{State, nothing}
-use Rattle.mg_link.specs.Standing.{Stands, GivenTo, TookEffect, SeenFits, Names, first_of, first_position, cut, history_before}
+use Rattle.mg_link.specs.Standing.{Stands, GivenTo, SeenFits, Names, first_of, first_position, cut, history_before}
 use Rattle.mg_link.proofs.Places.{get_front, get_back, get_within, get_either, get_take, taken_below}
 
 -- ---- a front of a legal history is legal

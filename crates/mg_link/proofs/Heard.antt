@@ -116,18 +116,6 @@ pub no_batch_refused : (id : ℤ) (space : Space) (bytes : List ℕ) → verdict
 unfolding told
 no_batch_refused id space bytes e = subst (λ v. HasNoBatch (told_by v (asks_more id space) (fields bytes))) (sym e) tt
 
-pub no_batch_without_ok : (id : ℤ) (space : Space) (bytes : List ℕ) → verdict_of (fields bytes) ≡ verdict.NoOk → HasNoBatch (told (asks_more id space) bytes)
-unfolding told
-no_batch_without_ok id space bytes e = subst (λ v. HasNoBatch (told_by v (asks_more id space) (fields bytes))) (sym e) tt
-
-pub no_batch_malformed : (id : ℤ) (space : Space) (bytes : List ℕ) → verdict_of (fields bytes) ≡ verdict.Success → batch_of (fields bytes) ≡ None → HasNoBatch (told (asks_more id space) bytes)
-unfolding told
-no_batch_malformed id space bytes e none =
-    let t : told_by (verdict_of (fields bytes)) (asks_more id space) (fields bytes) ≡ garbled =
-    ap (λ v. told_by v (asks_more id space) (fields bytes)) e
-    ∙ ap (λ (o : Option Batch). unwrap_or (option_and_then (λ (b : Batch). gave_by b b.token) o) garbled) none in
-    subst HasNoBatch (sym t) tt
-
 -- ---- replies that are none that a server may give
 
 -- a success of which no batch is read
@@ -141,12 +129,3 @@ unfolding told
 watch_spoiled w start bytes e none =
     ap (λ v. told_by v (asks_watch w start) (fields bytes)) e
     ∙ ap (λ (o : Option Batch). unwrap_or (option_and_then (λ (b : Batch). opened_by b b.token (option_and_then as_time (get (codes "operationTime") (fields bytes)))) o) garbled) none
-
--- one that is neither a success nor a refusal, as bytes that are no document
-pub more_without_ok : (id : ℤ) (space : Space) (bytes : List ℕ) → verdict_of (fields bytes) ≡ verdict.NoOk → told (asks_more id space) bytes ≡ garbled
-unfolding told
-more_without_ok id space bytes e = ap (λ v. told_by v (asks_more id space) (fields bytes)) e
-
-pub watch_without_ok : (w : Watch) (start : Start) (bytes : List ℕ) → verdict_of (fields bytes) ≡ verdict.NoOk → told (asks_watch w start) bytes ≡ garbled
-unfolding told
-watch_without_ok w start bytes e = ap (λ v. told_by v (asks_watch w start) (fields bytes)) e

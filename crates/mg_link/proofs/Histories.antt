@@ -1,10 +1,10 @@
 -- How the state of a server grows along its history.
-use Rattle.std.proofs.Common.{◌≡◌, ℕ, ℤ, pos, List, [], ◌∷◌, ◌++◌, refl, sym, ap, ◌∙◌, append_assoc, append-nil}
+use Rattle.std.proofs.Common.{◌≡◌, pos, List, [], ◌∷◌, ◌++◌, refl, sym, ap, ◌∙◌, append_assoc, append-nil}
 use Rattle.std.specs.Ordering.{int_eq}
 use Rattle.std.proofs.lemmas.Bool.{cond_both}
 use Rattle.mg_link.specs.State.{Entry, State, nothing, put_cursor, give}
 use Rattle.mg_link.specs.Commands.{Asked, asks_insert, asks_watch, asks_more, asks_kill, asks_other, Told, refuses, inserted, opened, gave, killed, garbled, asked}
-use Rattle.mg_link.specs.Step.{Made, grown, effect, watching_at, ends_cursor}
+use Rattle.mg_link.specs.Step.{grown, effect, watching_at, ends_cursor}
 use Rattle.mg_link.specs.History.{Step, step_after, state_after, state_of, told_at}
 use Rattle.std.proofs.Common.{Some, None}
 

@@ -45,10 +45,6 @@ unfolding given_from
 given_push given [] k = refl
 given_push given (x ∷ kept) k = given_push (given_after given x) kept k
 
-pub started_push : (started : Bool) (kept : List Kept) (k : Kept) → started_from started (kept ++ k ∷ []) ≡ true
-started_push started [] k = refl
-started_push started (x ∷ kept) k = refl
-
 by_rules_more : (s : State) (given : ℕ) (started : Bool) (kept : List Kept) (k : Kept) → AreByRulesFrom s given started kept → Follows (state_after s (steps_from s given started kept)) (given_from given kept) k → AreByRulesFrom s given started (kept ++ k ∷ [])
 unfolding AreByRulesFrom steps_from state_after given_from
 by_rules_more s given started [] k h follows = (follows, tt)

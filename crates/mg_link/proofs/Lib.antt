@@ -39,4 +39,4 @@ pub mod Runs
 pub mod Retries
 pub mod Spoiled
 pub mod Asking
-pub mod Plain
+pub mod Killing

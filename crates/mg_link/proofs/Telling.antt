@@ -37,9 +37,6 @@ refusal_tells command code labels = ap (refuses code) (words_again labels)
 number_again : (n : ℕ) → as_integer (number_of n) ≡ Some (pos n)
 number_again n = elim (nat_le n 2147483647) as (λ b. as_integer (if b then int32 (pos n) else int64 (pos n)) ≡ Some (pos n)) [ true ↦ refl | false ↦ refl ]
 
-count_again : (n : ℕ) (failures : List Failure) → option_map (λ (z : ℤ). inserted z failures) (as_integer (number_of n)) ≡ Some (inserted (pos n) failures)
-count_again n failures = ap (option_map (λ (z : ℤ). inserted z failures)) (number_again n)
-
 insert_counts : (n : ℕ) (o : Option (List Failure)) (failures : List Failure) → o ≡ Some failures → option_and_then (λ (z : ℤ). option_map (inserted z) o) (as_integer (number_of n)) ≡ Some (inserted (pos n) failures)
 insert_counts n o failures e = ap₂ (λ (z : Option ℤ) (fs : Option (List Failure)). option_and_then (λ (z : ℤ). option_map (inserted z) fs) z) (number_again n) e
 

@@ -46,7 +46,7 @@ high_bytes : (n x : ℕ) → IsBytes (bytes_high_first n x)
 high_bytes zero x = no_bytes
 high_bytes (suc n) x = more_bytes (byte_at n x) (bytes_high_first n x) (byte_low n x) (high_bytes n x)
 
-number_bytes : (p : ℕ) → IsBytes (to_be_bytes w64 p)
+pub number_bytes : (p : ℕ) → IsBytes (to_be_bytes w64 p)
 number_bytes p = high_bytes 8 p
 
 place_text : ℕ → List ℕ

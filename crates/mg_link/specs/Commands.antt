@@ -1,8 +1,8 @@
 -- What commands ask for, and what replies tell (insert, change streams, find/getMore/killCursors specifications).
-use Rattle.std.specs.Prelude.{ℕ, suc, zero, ◌&&◌, ◌==◌, ℤ, pos, negsuc, Bool, true, false, Option, Some, None, option_map, option_and_then, unwrap_or, List, [], ◌∷◌, length, nat_lt, nat_le, codes, if◌then◌else◌}
+use Rattle.std.specs.Prelude.{ℕ, ℤ, pos, Bool, true, false, Option, Some, None, option_map, option_and_then, unwrap_or, List, [], ◌∷◌, codes, if◌then◌else◌}
 use Rattle.std.specs.Ordering.{int_eq}
 use Rattle.std.specs.Str.{bytes_eq}
-use Rattle.mg_bson.specs.Tree.{Tree, document, array, int32, int64, timestamp, Fields, no_fields, field, Items, no_items, item}
+use Rattle.mg_bson.specs.Tree.{Tree, document, int32, int64, timestamp, Fields, no_fields, field, Items, no_items, item}
 use Rattle.mg_bson.specs.Raw.{fields}
 use Rattle.mg_bson.specs.Find.{get, as_string, as_document, as_array, as_int32, as_int64, as_boolean}
 use Rattle.mg_link.specs.Namespace.{Space, space_of, Target, database, collection, cluster}

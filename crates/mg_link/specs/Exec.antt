@@ -62,11 +62,6 @@ Tries old new log log' command unsent attempt = Begins old new log log' command 
 Tries old new log log' command (first ticket) attempt = GoesOn old new log log' ticket attempt
 Tries old new log log' command (second ticket) attempt = GoesOn old new log log' ticket attempt
 
-abbrev pub is_second : Stage → Bool
-is_second unsent = false
-is_second (first ticket) = false
-is_second (second ticket) = true
-
 abbrev pub is_retried_attempt : Attempt → Bool
 is_retried_attempt not_sent = false
 is_retried_attempt (waits ticket) = false

@@ -1,8 +1,8 @@
 -- Histories of a server: the steps that it took, one after the other.
-use Rattle.std.specs.Prelude.{◌≡◌, ℕ, suc, ◌+◌, ℤ, Option, Some, None, List, [], ◌∷◌, ◌++◌, length, take, slice_get}
+use Rattle.std.specs.Prelude.{◌≡◌, ℕ, suc, Option, Some, List, [], ◌∷◌, ◌++◌, length, take}
 use Rattle.mg_bson.specs.Tree.{Tree, Fields}
 use Rattle.mg_link.specs.State.{State, nothing, Watch, Start, start_place, events_between}
-use Rattle.mg_link.specs.Commands.{Asked, Told, asked, told}
+use Rattle.mg_link.specs.Commands.{Told, asked, told}
 use Rattle.mg_link.specs.Step.{Made, May, next}
 
 -- a command as it came, the reply as it was given, and what the step added

@@ -1,10 +1,10 @@
 -- When the answers to a caller hold nothing back (change streams, getMore and insert specifications: a server may cut batches where it likes, and refuse).
-use Rattle.std.specs.Prelude.{◌≡◌, ℕ, ℤ, pos, Bool, true, Option, Some, None, List, [], Contains, length, take, slice_get, unwrap_or, codes}
+use Rattle.std.specs.Prelude.{◌≡◌, ℕ, ℤ, pos, Bool, true, Some, None, List, [], Contains, length, take, slice_get, unwrap_or, codes}
 use Rattle.mg_bson.specs.Tree.{Tree, Fields}
 use Rattle.mg_bson.specs.Find.{get}
 use Rattle.mg_bson.specs.Raw.{fields}
 use Rattle.mg_link.specs.Namespace.{Space}
-use Rattle.mg_link.specs.State.{Entry, Watch, watching, State, Start, start_place, events_between, seen_between, is_invalidate}
+use Rattle.mg_link.specs.State.{Entry, Watch, watching, State, start_place, events_between, seen_between, is_invalidate}
 use Rattle.mg_link.specs.Commands.{Asked, asks_insert, asks_watch, asks_more, asks_kill, asks_other, Failure, Told, refuses, inserted, opened, gave, killed, asked, failures_at}
 use Rattle.mg_link.specs.Step.{documents_of}
 use Rattle.mg_link.specs.History.{Step, state_of, step_after, told_at}

@@ -1,5 +1,5 @@
 -- The rules of the store in memory: what it answers to a command, and what it adds.
-use Rattle.std.specs.Prelude.{ℕ, zero, suc, ◌+◌, ◌-◌, ◌==◌, ◌&&◌, ◌||◌, ℤ, pos, Bool, true, false, Option, Some, None, option_map, option_and_then, unwrap_or, is_some, Result, Ok, Err, List, [], ◌∷◌, ◌++◌, length, drop, min, nat_lt, nat_le, codes, if◌then◌else◌}
+use Rattle.std.specs.Prelude.{ℕ, zero, suc, ◌+◌, ◌-◌, ◌&&◌, ◌||◌, ℤ, pos, Bool, true, false, Option, Some, None, option_map, option_and_then, unwrap_or, is_some, Result, Ok, Err, List, [], ◌∷◌, ◌++◌, length, drop, min, nat_lt, nat_le, codes, if◌then◌else◌}
 use Rattle.std.specs.Int.{w64, to_be_bytes}
 use Rattle.std.specs.Ordering.{int_eq}
 use Rattle.std.specs.Str.{bytes_eq}
@@ -7,13 +7,13 @@ use Rattle.hex.specs.Hex.{encode_lower}
 use Rattle.mg_bson.specs.Tree.{Tree, string, document, array, int32, int64, timestamp, Fields, no_fields, field, Items, no_items, item}
 use Rattle.mg_bson.specs.Bytes.{bytes, levels}
 use Rattle.mg_bson.specs.Reading.{◌>>=◌}
-use Rattle.mg_bson.specs.Find.{get, as_string, as_document, as_array, as_boolean}
+use Rattle.mg_bson.specs.Find.{get, as_string, as_document, as_array}
 use Rattle.mg_bson.specs.Literal.{◌⇒◌⨾◌, empty, word}
 use Rattle.mg_link.specs.Namespace.{Space, Target, database, collection, cluster, full_name}
 use Rattle.mg_link.specs.Filter.{Condition, is_same, has_dot}
-use Rattle.mg_link.specs.State.{Change, inserts, Entry, Watch, Cursor, query, watching, State, is_space, sees, events_between, time_of, is_invalidate}
+use Rattle.mg_link.specs.State.{inserts, Entry, Watch, Cursor, query, watching, State, is_space, sees, events_between, time_of, is_invalidate}
 use Rattle.mg_link.specs.Commands.{as_integer, documents_in, flag_or, filter_stages, watch_stage}
-use Rattle.mg_link.specs.Step.{Made, Named, documents_of}
+use Rattle.mg_link.specs.Step.{documents_of}
 
 -- ---- limits
 

@@ -1,12 +1,12 @@
 -- What a server may reply, and the state after it (insert, change streams, getMore and killCursors specifications).
-use Rattle.std.specs.Prelude.{◌≡◌, ◌≢◌, ◌⊎◌, ℕ, suc, zero, ◌+◌, ◌<◌, ◌≤◌, ◌&&◌, ℤ, pos, Bool, true, false, Option, Some, None, option_map, unwrap_or, List, [], ◌∷◌, ◌++◌, length, map, slice_get, codes, if◌then◌else◌}
+use Rattle.std.specs.Prelude.{◌≡◌, ◌≢◌, ◌⊎◌, ℕ, suc, ◌+◌, ◌≤◌, ℤ, pos, Bool, true, false, Option, Some, None, unwrap_or, List, [], ◌∷◌, ◌++◌, length, codes, if◌then◌else◌}
 use Rattle.std.specs.Ordering.{int_eq}
 use Rattle.mg_bson.specs.Tree.{Tree, string, document, Fields, no_fields, field}
 use Rattle.mg_bson.specs.Find.{get}
 use Rattle.mg_link.specs.Namespace.{Space}
 use Rattle.mg_link.specs.Filter.{is_same}
-use Rattle.mg_link.specs.State.{Change, inserts, invalidates, Entry, Watch, Cursor, watching, State, Start, seen_between, events_between, start_place, is_invalidate, put_documents, put_cursor, without_cursors, give, name}
-use Rattle.mg_link.specs.Commands.{Asked, asks_insert, asks_watch, asks_more, asks_kill, asks_other, Failure, Told, refuses, inserted, opened, gave, killed, garbled}
+use Rattle.mg_link.specs.State.{inserts, Entry, Watch, Cursor, watching, State, Start, seen_between, events_between, start_place, is_invalidate, put_documents, put_cursor, without_cursors, give, name}
+use Rattle.mg_link.specs.Commands.{Asked, asks_insert, asks_watch, asks_more, asks_kill, Failure, Told, refuses, inserted, opened, gave, killed}
 
 -- a token and the place that it names
 pub record Named : Type 0 where
@@ -18,10 +18,6 @@ pub record Made : Type 0 where
   pub entries : List Entry
   pub tokens : List Named
   pub now : ℕ
-
--- a step that adds nothing
-abbrev pub made_nothing : State → Made
-made_nothing s = record { entries = []; tokens = []; now = s.now }
 
 -- ---- the state after a step
 

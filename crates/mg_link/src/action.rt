@@ -1,5 +1,5 @@
 //! Work over a link that goes on while replies pend.
-ghost use Rattle.std.specs.Prelude.{◌≡◌, ◌≤◌, ℕ, max, Option};
+ghost use Rattle.std.specs.Prelude.{ℕ, max, Option};
 ghost use Rattle.mg_link.specs.Acts.{EndsAtOnce, FailsByFault, IsOut, Pended, PendsBy, Tickets, ticket_after};
 ghost use Rattle.mg_link.specs.Link.{Later};
 

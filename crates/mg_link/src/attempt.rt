@@ -1,5 +1,5 @@
 //! One attempt to get the reply to a command.
-ghost use Rattle.std.specs.Prelude.{◌≡◌, ℕ, ℤ, IsSome};
+ghost use Rattle.std.specs.Prelude.{◌≡◌, IsSome};
 ghost use Rattle.mg_link.specs.Link.{Later};
 ghost use Rattle.mg_link.specs.Exec.{Begins, GoesOn, is_retried_attempt};
 ghost use Rattle.mg_link.specs.Exec as exec;

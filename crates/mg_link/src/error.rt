@@ -16,7 +16,6 @@ use std::alloc::{AllocError, AllocFailed};
 pub struct OutOfMemory;
 
 /// A failure, with what the server said beside it.
-#[derive(Drop)]
 pub struct Error {
     /// What failed.
     pub kind: ErrorKind,
@@ -24,6 +23,17 @@ pub struct Error {
     pub labels: Labels,
     /// The wire version of the link, where a reply on a link was the cause.
     pub wire_version: Option<i32>,
+}
+
+// By hand, so that letting one go is one call.
+impl Drop for Error {
+    fn drop(self) {
+        let Error {
+            kind: _,
+            labels: _,
+            wire_version: _,
+        } = self;
+    }
 }
 
 /// What failed.
@@ -184,7 +194,6 @@ pub enum GridFsErrorKind {
 }
 
 /// The first receipt of a worker that differs from the server's history.
-#[derive(Drop)]
 pub struct Mismatch {
     /// The number of the worker, from 0.
     pub worker: u32,
@@ -194,6 +203,18 @@ pub struct Mismatch {
     pub receipt: Receipt,
     /// The step at that position, where there is one for this receipt.
     pub found: Option<HistoryStep>,
+}
+
+// By hand, so that letting one go is one call.
+impl Drop for Mismatch {
+    fn drop(self) {
+        let Mismatch {
+            worker: _,
+            position: _,
+            receipt: _,
+            found: _,
+        } = self;
+    }
 }
 
 impl Error {
@@ -278,8 +299,8 @@ fn is_spoken_for(code: i32, labels: &Labels, wire_version: Option<i32>) -> bool
     }
 }
 
-// An error of this kind that no reply was the cause of.
-pub(crate) fn plain(kind: ErrorKind) -> Error
+/// An error of this kind that no reply was the cause of.
+pub fn plain(kind: ErrorKind) -> Error
     ensures { result ≡ plain kind }
 {
     Error {

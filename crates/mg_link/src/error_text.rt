@@ -5,21 +5,26 @@ use crate::error::{
     BadArgument, CommandError, Error, ErrorKind, GridFsErrorKind, GridFsFileIdentifier, Malformed,
     Mismatch, OutOfMemory, WriteFailure,
 };
-use std::fmt;
+use std::fmt::{self, Display};
 
 impl fmt::Display for OutOfMemory {
     fn fmt<W: fmt::Write>(&self, f: &mut fmt::Formatter<W>) -> fmt::Result {
-        write!(f, "out of memory")
+        f.write_str("out of memory")
     }
 }
 
 impl fmt::Display for CommandError {
     fn fmt<W: fmt::Write>(&self, f: &mut fmt::Formatter<W>) -> fmt::Result {
-        write!(f, "refused with code {}", self.code)?;
-        if !self.code_name.is_empty() {
-            write!(f, " ({})", self.code_name)?;
+        let CommandError {
+            code,
+            code_name,
+            message,
+        } = self;
+        if code_name.is_empty() {
+            write!(f, "refused with code {code}: {message}")
+        } else {
+            write!(f, "refused with code {code} ({code_name}): {message}")
         }
-        write!(f, ": {}", self.message)
     }
 }
 
@@ -31,19 +36,19 @@ impl fmt::Display for WriteFailure {
 
 impl fmt::Display for Malformed {
     fn fmt<W: fmt::Write>(&self, f: &mut fmt::Formatter<W>) -> fmt::Result {
-        match self {
-            Malformed::NoOk => write!(f, "no ok"),
-            Malformed::NoCursor => write!(f, "no cursor"),
-            Malformed::BadId => write!(f, "bad cursor id"),
-            Malformed::BadNs => write!(f, "bad namespace"),
-            Malformed::NoBatch => write!(f, "no batch"),
-            Malformed::BadItem => write!(f, "bad item"),
-            Malformed::BadRecord => write!(f, "bad record"),
-            Malformed::BadChunk => write!(f, "bad chunk"),
-            Malformed::ChunkSizeZero => write!(f, "chunk size 0"),
-            Malformed::TooManyChunks => write!(f, "too many chunks"),
-            Malformed::BadCount => write!(f, "bad count"),
-        }
+        f.write_str(match self {
+            Malformed::NoOk => "no ok",
+            Malformed::NoCursor => "no cursor",
+            Malformed::BadId => "bad cursor id",
+            Malformed::BadNs => "bad namespace",
+            Malformed::NoBatch => "no batch",
+            Malformed::BadItem => "bad item",
+            Malformed::BadRecord => "bad record",
+            Malformed::BadChunk => "bad chunk",
+            Malformed::ChunkSizeZero => "chunk size 0",
+            Malformed::TooManyChunks => "too many chunks",
+            Malformed::BadCount => "bad count",
+        })
     }
 }
 
@@ -51,32 +56,32 @@ impl fmt::Display for BadArgument {
     ghost output = { argument_text };
 
     fn fmt<W: fmt::Write>(&self, f: &mut fmt::Formatter<W>) -> fmt::Result {
-        match self {
-            BadArgument::CollationStrength(n) => write!(f, "invalid collation strength: {n}"),
-            BadArgument::CollationCaseFirst(s) => write!(f, "invalid CollationCaseFirst: {s}"),
-            BadArgument::CollationAlternate(s) => write!(f, "invalid collation alternate: {s}"),
-            BadArgument::CollationMaxVariable(s) => write!(
-                f,
-                "invalid collation max variable: {s}"
-            ),
-            BadArgument::ReturnDocument(s) => write!(f, "Unknown return document value: {s}"),
-            BadArgument::BatchSize => write!(f, "invalid batch size"),
-            BadArgument::Limit => write!(f, "invalid limit"),
-            BadArgument::Number => write!(f, "number out of range"),
-            BadArgument::ChunkSize => write!(f, "invalid chunk size"),
-            BadArgument::ReadSize => write!(f, "invalid read size"),
-            BadArgument::NoDocuments => write!(f, "no documents to insert"),
-            BadArgument::ReadConcernInTransaction => {
-                write!(f, "read concern inside a transaction")
+        let (words, given) = match self {
+            BadArgument::CollationStrength(n) => {
+                return write!(f, "invalid collation strength: {n}");
             }
-        }
+            BadArgument::CollationCaseFirst(s) => ("invalid CollationCaseFirst: ", s.as_str()),
+            BadArgument::CollationAlternate(s) => ("invalid collation alternate: ", s.as_str()),
+            BadArgument::CollationMaxVariable(s) => {
+                ("invalid collation max variable: ", s.as_str())
+            }
+            BadArgument::ReturnDocument(s) => ("Unknown return document value: ", s.as_str()),
+            BadArgument::BatchSize => ("invalid batch size", ""),
+            BadArgument::Limit => ("invalid limit", ""),
+            BadArgument::Number => ("number out of range", ""),
+            BadArgument::ChunkSize => ("invalid chunk size", ""),
+            BadArgument::ReadSize => ("invalid read size", ""),
+            BadArgument::NoDocuments => ("no documents to insert", ""),
+            BadArgument::ReadConcernInTransaction => ("read concern inside a transaction", ""),
+        };
+        write!(f, "{words}{given}")
     }
 }
 
 impl fmt::Display for GridFsFileIdentifier {
     fn fmt<W: fmt::Write>(&self, f: &mut fmt::Formatter<W>) -> fmt::Result {
         match self {
-            GridFsFileIdentifier::Id(_) => write!(f, "file with this id"),
+            GridFsFileIdentifier::Id(_) => f.write_str("file with this id"),
             GridFsFileIdentifier::Filename(name) => write!(f, "file named {name}"),
         }
     }
@@ -93,8 +98,8 @@ impl fmt::Display for GridFsErrorKind {
                 actual,
                 expected,
             } => write!(f, "chunk {n} has {actual} bytes and not {expected}"),
-            GridFsErrorKind::UploadStreamClosed => write!(f, "the upload is closed"),
-            GridFsErrorKind::WriteInProgress => write!(f, "a write is going on"),
+            GridFsErrorKind::UploadStreamClosed => f.write_str("the upload is closed"),
+            GridFsErrorKind::WriteInProgress => f.write_str("a write is going on"),
         }
     }
 }
@@ -114,24 +119,24 @@ impl fmt::Display for Error {
 
     fn fmt<W: fmt::Write>(&self, f: &mut fmt::Formatter<W>) -> fmt::Result {
         match &self.kind {
-            ErrorKind::OutOfMemory => write!(f, "out of memory"),
-            ErrorKind::Io => write!(f, "the link failed"),
-            ErrorKind::Command(refusal) => write!(f, "{refusal}"),
-            ErrorKind::Write(failure) => write!(f, "{failure}"),
+            ErrorKind::OutOfMemory => f.write_str("out of memory"),
+            ErrorKind::Io => f.write_str("the link failed"),
+            ErrorKind::Command(refusal) => refusal.fmt(f),
+            ErrorKind::Write(failure) => failure.fmt(f),
             ErrorKind::InsertMany(failures) => {
                 write!(f, "insert failed, with {} failures", failures.len())
             }
             ErrorKind::InvalidResponse(fault) => write!(f, "invalid response: {fault}"),
-            ErrorKind::BsonDeserialization => write!(f, "received bytes are no document"),
-            ErrorKind::BsonSerialization => write!(f, "the document cannot be written"),
-            ErrorKind::MissingResumeToken => write!(f, "the event has no _id"),
-            ErrorKind::InvalidArgument(argument) => write!(f, "{argument}"),
-            ErrorKind::GridFs(failure) => write!(f, "{failure}"),
-            ErrorKind::FileTooLarge => write!(f, "the file has too many chunks"),
-            ErrorKind::EmptyBatches => write!(f, "1000 empty replies in a row"),
-            ErrorKind::TooManyDocuments => write!(f, "more than 1048576 documents"),
+            ErrorKind::BsonDeserialization => f.write_str("received bytes are no document"),
+            ErrorKind::BsonSerialization => f.write_str("the document cannot be written"),
+            ErrorKind::MissingResumeToken => f.write_str("the event has no _id"),
+            ErrorKind::InvalidArgument(argument) => argument.fmt(f),
+            ErrorKind::GridFs(failure) => failure.fmt(f),
+            ErrorKind::FileTooLarge => f.write_str("the file has too many chunks"),
+            ErrorKind::EmptyBatches => f.write_str("1000 empty replies in a row"),
+            ErrorKind::TooManyDocuments => f.write_str("more than 1048576 documents"),
             ErrorKind::NoSuchJob(n) => write!(f, "no such job: {n}"),
-            ErrorKind::ReceiptMismatch(mismatch) => write!(f, "{mismatch}"),
+            ErrorKind::ReceiptMismatch(mismatch) => mismatch.fmt(f),
         }
     }
 }
@@ -139,7 +144,7 @@ impl fmt::Display for Error {
 // A document has no printed form of its own, so an error shows its text.
 impl fmt::Debug for Error {
     fn fmt<W: fmt::Write>(&self, f: &mut fmt::Formatter<W>) -> fmt::Result {
-        write!(f, "{self}")
+        Display::fmt(self, f)
     }
 }
 

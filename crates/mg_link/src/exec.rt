@@ -1,5 +1,5 @@
 //! One command, which is sent once, or where it may be and the first attempt is lost or refused, once more.
-ghost use Rattle.std.specs.Prelude.{◌≡◌, ◌⊎◌, ◌&&◌, ℕ};
+ghost use Rattle.std.specs.Prelude.{◌≡◌, ◌⊎◌, ◌&&◌};
 ghost use Rattle.mg_bson.specs.Raw.{fields};
 ghost use Rattle.mg_link.specs.declared.reply.Verdict.TheVariants as verdict;
 ghost use Rattle.mg_link.specs.Acts.{EndsAtOnce, FailsByFault, IsOut, Pended, Tickets, ticket_after};
@@ -36,11 +36,21 @@ enum Stage {
 }
 
 /// A command whose reply is waited for.
-#[derive(Drop)]
 pub struct Exec {
     command: RawDocumentBuf,
     retry: Retry,
     stage: Stage,
+}
+
+// By hand, so that letting one go is one call.
+impl Drop for Exec {
+    fn drop(self) {
+        let Exec {
+            command: _,
+            retry: _,
+            stage: _,
+        } = self;
+    }
 }
 
 impl Model for Exec {

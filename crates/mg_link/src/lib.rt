@@ -19,6 +19,7 @@ mod memory;
 mod namespace;
 mod reading;
 mod reply;
+mod reserved;
 mod script_link;
 mod std_ends;
 mod writing;
@@ -27,7 +28,7 @@ pub use action::{Action, Step};
 pub use ends::{ReadFailed, Sink, Source, WriteFailed};
 pub use error::{
     BadArgument, CommandError, Error, ErrorKind, GridFsErrorKind, GridFsFileIdentifier,
-    IndexedFailure, Malformed, Mismatch, OutOfMemory, WriteFailure,
+    IndexedFailure, Malformed, Mismatch, OutOfMemory, WriteFailure, plain,
 };
 pub use exec::{Exec, Retry};
 pub use history::{HistoryStep, Receipt};
@@ -39,11 +40,7 @@ pub use memory::{MemSink, MemSource};
 pub use namespace::{Namespace, OperationTarget};
 pub use reading::{InputError, read_all};
 pub use reply::{Verdict, code_of, refusal, verdict_of};
+pub use reserved::push_reserved;
 pub use script_link::{ScriptLink, Scripted, ScriptedSeen};
 pub use std_ends::{StdSink, StdSource};
 pub use writing::write_all;
-
-#[cfg(test)]
-mod exec_tests;
-#[cfg(test)]
-mod tests;

@@ -1,5 +1,5 @@
 //! A link to a server, over which a reply may pend, be lost or be refused.
-ghost use Rattle.std.specs.Prelude.{◌≡◌, ◌≢◌, ◌<◌, ◌≤◌, ℕ, ℤ, Option, List, IsErrOf, IsSome};
+ghost use Rattle.std.specs.Prelude.{◌≡◌, ℕ, ℤ, Option, List, IsErrOf, IsSome};
 ghost use Rattle.mg_link.specs.Causes.{Rose};
 ghost use Rattle.mg_link.specs.Log.{Call};
 ghost use Rattle.mg_link.specs.Link.{AnswersAtOnce, Later, PollMeans, PollPends, StartMeans, StartsAtOnce};

@@ -1,5 +1,5 @@
 //! What commands are aimed at.
-ghost use Rattle.std.specs.Prelude.{◌≡◌, Some, IfOk, option_map, string_bytes};
+ghost use Rattle.std.specs.Prelude.{◌≡◌, Some, IfOk, option_map};
 ghost use Rattle.mg_link.specs.Namespace.{full_name, space, space_of, target};
 
 use crate::error::OutOfMemory;
@@ -16,7 +16,7 @@ pub struct Namespace {
 }
 
 /// What an aggregate or a watch is aimed at.
-#[derive(Debug, PartialEq, Eq, Drop)]
+#[derive(Debug, PartialEq, Eq)]
 pub enum OperationTarget {
     /// A whole database.
     Database(String),
@@ -24,6 +24,17 @@ pub enum OperationTarget {
     Collection(Namespace),
     /// Every database of the server.
     Cluster,
+}
+
+// By hand, so that letting one go is one call.
+impl Drop for OperationTarget {
+    fn drop(self) {
+        match self {
+            OperationTarget::Database(_) => {}
+            OperationTarget::Collection(_) => {}
+            OperationTarget::Cluster => {}
+        }
+    }
 }
 
 impl Namespace {

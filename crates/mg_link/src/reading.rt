@@ -1,10 +1,10 @@
 //! The whole input.
-ghost use Rattle.std.specs.Prelude.{◌≡◌, ◌<◌, ◌≤◌, ◌+◌, List, ℕ, length, IfOk, IfErr, Err};
+ghost use Rattle.std.specs.Prelude.{◌≡◌, ◌<◌, ◌≤◌, List, ℕ, length, IfOk};
 ghost use Rattle.std.specs.Result.{IsErrOf};
 ghost use Rattle.std.specs.Io.KnownBytes.{Consumes};
 ghost use Rattle.mg_link.specs.Causes.{Rose};
 ghost use Rattle.mg_link.specs.Ends.{ReadWhole, longest};
-ghost use Rattle.mg_link.specs.declared.reading.InputError.TheVariants.{Memory, Fault, TooLong};
+ghost use Rattle.mg_link.specs.declared.reading.InputError.TheVariants.{Memory, Fault};
 
 use crate::ends::{ReadFailed, Source};
 use std::alloc::{AllocError, Global};

@@ -1,7 +1,6 @@
 //! What replies to commands say.
-ghost use Rattle.std.specs.Prelude.{◌≡◌, IfOk, map, option_map, string_bytes};
+ghost use Rattle.std.specs.Prelude.{◌≡◌, IfOk, map, string_bytes};
 ghost use Rattle.mg_bson.specs.Raw.{fields, items};
-ghost use Rattle.mg_bson.specs.Find.{get};
 ghost use Rattle.mg_bson.specs.RawView.{value};
 ghost use Rattle.mg_link.specs.Reply.{code_of, labels_of, refusal_of, succeeds_if, text_at, texts_of, verdict_by, verdict_of};
 ghost use Rattle.mg_link.specs.Failures.{Tells};

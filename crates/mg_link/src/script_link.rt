@@ -1,5 +1,5 @@
 //! A link for tests, which answers by a list.
-ghost use Rattle.std.specs.Prelude.{◌≡◌, ◌+◌, ◌<◌, ◌≤◌, ◌++◌, ◌∷◌, ◌^◌, ◌-◌, [], Some, IfOk, IsErrOf, IsSome, OnErr, OnOk, length, vec_capacity, vec_len};
+ghost use Rattle.std.specs.Prelude.{◌≡◌, ◌+◌, ◌≤◌, ◌++◌, ◌∷◌, [], Some, IfOk, IsErrOf, IsSome, OnErr, OnOk, length, vec_len};
 ghost use Rattle.mg_link.specs.Causes.{Rose};
 ghost use Rattle.mg_link.specs.Link.{Ends, PollMeans, PollPends, StartMeans};
 ghost use Rattle.mg_link.specs.LogView.{sight};
@@ -9,6 +9,7 @@ ghost use Rattle.mg_link.specs.Scripted.{IsOneReply, commands_of};
 use crate::error::OutOfMemory;
 use crate::link::{Link, LinkError, Polled, Ticket};
 use crate::log::{Log, LoggedCall, Seen};
+use crate::reserved::push_reserved;
 use mg_bson::{RawDocument, RawDocumentBuf};
 use std::marker::Model;
 
@@ -64,17 +65,6 @@ impl Model for ScriptLink {
     ghost view = { λ l. record { calls = l.log; faults = l.faults; pends = l.pends; wire = l.wire } };
 
     ghost invariant = { λ l. (l.commands.items ≡ commands_of l.log) × (vec_len l.left ≡ length l.log) };
-}
-
-// Adds to a vector that has room.
-fn push_reserved<T: Drop>(items: &mut Vec<T>, added: T)
-    requires { vec_len items.old < vec_capacity items.old }
-    ensures { items.new.items ≡ items.old.items ++ added ∷ [] }
-{
-    match items.push(added) {
-        Ok(()) => {}
-        Err(_) => unreachable!(),
-    }
 }
 
 // Adds a call. An `Err` changes nothing.

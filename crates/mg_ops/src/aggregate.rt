@@ -22,12 +22,18 @@ use mg_options::ChangeStreamOptions;
 use std::alloc::Global;
 
 /// Opens a change stream, or resumes it.
-#[derive(Drop)]
 pub struct ChangeStreamAggregate {
     /// What is watched.
     pub args: WatchArgs,
     /// What the stream resumes by, where it is not its first opening.
     pub resume: Option<ChangeStreamData>,
+}
+
+// By hand, so that letting one go is one call.
+impl Drop for ChangeStreamAggregate {
+    fn drop(self) {
+        let ChangeStreamAggregate { args: _, resume: _ } = self;
+    }
 }
 
 // What the aggregate names first.
@@ -104,11 +110,11 @@ fn command(
     ensures fits { OnOk result (SizeFits options.now.batch_size) }
     ensures err { IfErr result (λ e. FailsBy (HasBadSize options.now.batch_size) e) }
 {
-    let cursor = cursor(alloc, options.batch_size)?;
-    let pipeline = pipeline(alloc, options, &args.pipeline)?;
     let mut command = Document::new(alloc);
     command.append("aggregate", named(alloc, &args.target)?)?;
+    let pipeline = pipeline(alloc, options, &args.pipeline)?;
     command.append("pipeline", Bson::Array(pipeline))?;
+    let cursor = cursor(alloc, options.batch_size)?;
     command.append("cursor", Bson::Document(cursor))?;
     command.append("$db", database(alloc, &args.target)?)?;
     Ok(command)

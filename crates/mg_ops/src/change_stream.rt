@@ -4,7 +4,6 @@ use mg_link::OperationTarget;
 use mg_options::{ChangeStreamOptions, ResumeToken};
 
 /// What is watched.
-#[derive(Drop)]
 pub struct WatchArgs {
     /// The stages behind the one that opens the watch.
     pub pipeline: Vec<Document>,
@@ -14,8 +13,18 @@ pub struct WatchArgs {
     pub options: ChangeStreamOptions,
 }
 
+// By hand, so that letting one go is one call.
+impl Drop for WatchArgs {
+    fn drop(self) {
+        let WatchArgs {
+            pipeline: _,
+            target: _,
+            options: _,
+        } = self;
+    }
+}
+
 /// What a stream resumes by.
-#[derive(Drop)]
 pub struct ChangeStreamData {
     /// The time of the reply to its opening, where nothing else says where it began.
     pub initial_operation_time: Option<Timestamp>,
@@ -23,4 +32,15 @@ pub struct ChangeStreamData {
     pub resume_token: Option<ResumeToken>,
     /// Whether it answered an event.
     pub document_returned: bool,
+}
+
+// By hand, so that letting one go is one call.
+impl Drop for ChangeStreamData {
+    fn drop(self) {
+        let ChangeStreamData {
+            initial_operation_time: _,
+            resume_token: _,
+            document_returned: _,
+        } = self;
+    }
 }

@@ -16,7 +16,6 @@ use mg_options::ResumeToken;
 use std::alloc::Global;
 
 /// A cursor, and how its batches are asked for.
-#[derive(Drop)]
 pub struct CursorInformation {
     /// The namespace that its getMores name.
     pub ns: Namespace,
@@ -24,6 +23,17 @@ pub struct CursorInformation {
     pub id: i64,
     /// The most documents of a batch.
     pub batch_size: Option<u32>,
+}
+
+// By hand, so that letting one go is one call.
+impl Drop for CursorInformation {
+    fn drop(self) {
+        let CursorInformation {
+            ns: _,
+            id: _,
+            batch_size: _,
+        } = self;
+    }
 }
 
 /// What the reply to an opening gave.

@@ -8,7 +8,7 @@ ghost use Rattle.mg_ops.specs.Failing.{fault_error};
 ghost use Rattle.mg_link.specs.declared.reply.Verdict.TheVariants as verdict;
 
 use mg_bson::RawDocument;
-use mg_link::{Error, ErrorKind, Labels, Malformed, OutOfMemory, Verdict, refusal, verdict_of};
+use mg_link::{Error, ErrorKind, Malformed, OutOfMemory, Verdict, plain, refusal, verdict_of};
 use std::alloc::{AllocError, AllocFailed, Global};
 
 /// Why a part of a reply was not read.
@@ -18,17 +18,6 @@ pub(crate) enum Fault {
     Memory,
     /// The reply breaks its grammar so.
     Broken(Malformed),
-}
-
-// An error of this kind that no refusal was the cause of.
-pub(crate) fn plain(kind: ErrorKind) -> Error
-    ensures { result ≡ plain kind }
-{
-    Error {
-        kind,
-        labels: Labels::none(),
-        wire_version: None,
-    }
 }
 
 // The error of a fault.

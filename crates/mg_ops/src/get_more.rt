@@ -1,10 +1,9 @@
 //! The next batch of a cursor.
-ghost use Rattle.std.specs.Prelude.{◌≡◌, OnOk, IfOk, IfErr};
+ghost use Rattle.std.specs.Prelude.{◌≡◌, OnOk, IfErr, codes};
 ghost use Rattle.mg_ops.specs.Commands.{asked_size};
 ghost use Rattle.mg_ops.specs.Failing.{FailsBy, HasBadSize};
 ghost use Rattle.mg_ops.specs.Limits.{SizeFits};
 ghost use Rattle.mg_options.specs.Given.{behind};
-ghost use Rattle.std.specs.Prelude.{codes};
 
 use crate::cursor_reply::{GetMoreResult, read_more};
 use crate::operation::Operation;
@@ -14,7 +13,6 @@ use mg_link::{Error, Namespace, Retry};
 use std::alloc::Global;
 
 /// Asks for the next batch of a cursor.
-#[derive(Drop)]
 pub struct GetMore {
     /// The namespace of the cursor.
     pub ns: Namespace,
@@ -22,6 +20,17 @@ pub struct GetMore {
     pub id: i64,
     /// The most documents of the batch. The server chooses where it is absent or 0.
     pub batch_size: Option<u32>,
+}
+
+// By hand, so that letting one go is one call.
+impl Drop for GetMore {
+    fn drop(self) {
+        let GetMore {
+            ns: _,
+            id: _,
+            batch_size: _,
+        } = self;
+    }
 }
 
 // Puts the size of the batch at the end, where one is asked for.

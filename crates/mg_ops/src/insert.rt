@@ -9,12 +9,11 @@ ghost use Rattle.mg_ops.specs.Commands.{insert_command, listed};
 ghost use Rattle.mg_ops.specs.Failing.{CannotBeInserted, FailsBy};
 ghost use Rattle.mg_ops.specs.Limits.{AreStorable, IsStorable, MayInsert, PassesLimit, SomePassLimit, max_stored};
 
-use crate::fault::plain;
 use crate::insert_reply::read_reply;
 use crate::operation::Operation;
 use crate::parts::{put_documents, text};
-use mg_bson::{Array, Bson, BsonError, Document, RawDocumentBuf, to_bytes};
-use mg_link::{BadArgument, Error, ErrorKind, Namespace, Retry};
+use mg_bson::{Array, Bson, Document, RawDocumentBuf, to_bytes};
+use mg_link::{BadArgument, Error, ErrorKind, Namespace, Retry, plain};
 use std::alloc::Global;
 
 /// The most documents of one command.
@@ -24,7 +23,6 @@ const MAX_DOCUMENTS: usize = 100_000;
 const MAX_STORED: usize = 16_777_216;
 
 /// Inserts documents into a collection, in their order, up to the first that fails.
-#[derive(Drop)]
 pub struct Insert {
     /// The collection.
     pub ns: Namespace,
@@ -32,24 +30,26 @@ pub struct Insert {
     pub documents: Vec<Document>,
 }
 
+// By hand, so that letting one go is one call.
+impl Drop for Insert {
+    fn drop(self) {
+        let Insert {
+            ns: _,
+            documents: _,
+        } = self;
+    }
+}
+
 // Refuses a document that cannot be stored.
 fn check_document(alloc: Global, value: &Document) -> Result<(), Error>
     ensures ok { OnOk result (IsStorable value.now) }
     ensures err { IfErr result (λ e. FailsBy (λ e. (e ≡ plain kinds.BsonSerialization) × PassesLimit max_stored value.now) e) }
 {
-    match to_bytes(alloc, value) {
-        Ok(bytes) => {
-            if bytes.as_bytes().len() > MAX_STORED {
-                return Err(plain(ErrorKind::BsonSerialization));
-            }
-            Ok(())
-        }
-        Err(BsonError::OutOfMemory) => Err(plain(ErrorKind::OutOfMemory)),
-        Err(BsonError::Malformed) => Err(plain(ErrorKind::BsonDeserialization)),
-        Err(BsonError::TooLarge) => Err(plain(ErrorKind::BsonSerialization)),
-        Err(BsonError::TooDeep) => Err(plain(ErrorKind::BsonSerialization)),
-        Err(BsonError::BadName) => Err(plain(ErrorKind::BsonSerialization)),
+    let bytes = to_bytes(alloc, value)?;
+    if bytes.as_bytes().len() > MAX_STORED {
+        return Err(plain(ErrorKind::BsonSerialization));
     }
+    Ok(())
 }
 
 // Refuses documents of which one cannot be stored.

@@ -1,14 +1,14 @@
 //! What the reply to an insert says.
-ghost use Rattle.std.specs.Prelude.{◌≡◌, IfOk, IfErr, codes, map, string_bytes};
+ghost use Rattle.std.specs.Prelude.{IfOk, IfErr, codes, map, string_bytes};
 ghost use Rattle.mg_bson.specs.Find.{get};
 ghost use Rattle.mg_bson.specs.Raw.{fields, items};
 ghost use Rattle.mg_bson.specs.RawView.{value};
 ghost use Rattle.mg_ops.specs.Failing.{FailsBy, Gives};
-ghost use Rattle.mg_ops.specs.Writes.{Inserted, ListsAs, code_of, count_of, failure, failure_at, failures_of, index_of, item_error, last_index, message_of, with_concern, write_errors_at, write_errors_in};
+ghost use Rattle.mg_ops.specs.Writes.{Inserted, ListsAs, code_of, count_of, failure, failure_at, failures_of, index_of, item_error, message_of, with_concern, write_errors_at, write_errors_in};
 
-use crate::fault::{Fault, error_of, plain};
+use crate::fault::{Fault, error_of};
 use mg_bson::{RawArray, RawDocument, RawValue};
-use mg_link::{Error, ErrorKind, IndexedFailure, Malformed};
+use mg_link::{Error, ErrorKind, IndexedFailure, Malformed, plain};
 use std::alloc::Global;
 
 // The number of written documents.
@@ -16,9 +16,9 @@ use std::alloc::Global;
 fn count_of(reply: &RawDocument<'_>) -> Result<u64, Fault>
     ensures { Gives (λ n. n) result (count_of (fields reply.now)) }
 {
-    let n = match reply.get("n") {
-        Some(RawValue::Int32(n)) => i64::from(n),
-        Some(RawValue::Int64(n)) => n,
+    let n = match &reply.get("n") {
+        Some(RawValue::Int32(n)) => i64::from(*n),
+        Some(RawValue::Int64(n)) => *n,
         _ => return Err(Fault::Broken(Malformed::BadCount)),
     };
     match u64::try_from(n) {

@@ -34,9 +34,9 @@ impl Operation for KillCursors {
     ghost fails = { λ o reply e. ⊥ };
 
     fn build(&self, alloc: Global, _wire: i32) -> Result<Document, Error> {
-        let ids = ids(alloc, &self.ids)?;
         let mut command = Document::new(alloc);
         command.append("killCursors", text(alloc, self.ns.coll.as_str())?)?;
+        let ids = ids(alloc, &self.ids)?;
         command.append("cursors", Bson::Array(ids))?;
         command.append("$db", text(alloc, self.ns.db.as_str())?)?;
         Ok(command)

@@ -2,7 +2,7 @@
 ghost use Rattle.std.specs.Prelude.{◌≡◌, ℕ, ℤ, pos, true, Bool, List, [], Option, Some, Ok};
 ghost use Rattle.mg_bson.specs.Tree.{Tree, Fields};
 ghost use Rattle.mg_bson.specs.Raw.{fields};
-ghost use Rattle.mg_link.specs.Commands.{Asked, asked, asks_insert, asks_kill, asks_more, documents_in, gave, inserted, told};
+ghost use Rattle.mg_link.specs.Commands.{asked, asks_insert, asks_kill, asks_more, documents_in, gave, inserted, told};
 ghost use Rattle.mg_link.specs.Namespace.{Space, Target};
 ghost use Rattle.mg_link.specs.Reply.{verdict_of};
 ghost use Rattle.mg_link.specs.declared.reply.Verdict.TheVariants as verdict;

@@ -26,6 +26,3 @@ pub use kill_cursors::KillCursors;
 pub use mg_link::OperationTarget;
 pub use operation::{Operation, encode};
 pub use resuming::{initial_operation_time, resume_options};
-
-#[cfg(test)]
-mod tests;

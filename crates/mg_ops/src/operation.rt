@@ -8,9 +8,8 @@ ghost use Rattle.mg_link.specs.declared.error.Error.{Error};
 ghost use Rattle.mg_link.specs.declared.exec.Retry.{Retry};
 ghost use Rattle.mg_ops.specs.Failing.{CannotBeSent, FailsBy};
 
-use crate::fault::plain;
-use mg_bson::{BsonError, Document, RawDocumentBuf, to_bytes};
-use mg_link::{Error, ErrorKind, Retry};
+use mg_bson::{Document, RawDocumentBuf, to_bytes};
+use mg_link::{Error, Retry};
 use std::alloc::Global;
 
 /// A command, and how the reply to it is read.
@@ -59,14 +58,7 @@ fn written(alloc: Global, command: &Document) -> Result<RawDocumentBuf, Error>
     ensures writable { OnOk result (IsWritable command.now) }
     ensures err { IfErr result (λ e. FailsBy (CannotBeSent command.now) e) }
 {
-    match to_bytes(alloc, command) {
-        Ok(bytes) => Ok(bytes),
-        Err(BsonError::OutOfMemory) => Err(plain(ErrorKind::OutOfMemory)),
-        Err(BsonError::Malformed) => Err(plain(ErrorKind::BsonDeserialization)),
-        Err(BsonError::TooLarge) => Err(plain(ErrorKind::BsonSerialization)),
-        Err(BsonError::TooDeep) => Err(plain(ErrorKind::BsonSerialization)),
-        Err(BsonError::BadName) => Err(plain(ErrorKind::BsonSerialization)),
-    }
+    Ok(to_bytes(alloc, command)?)
 }
 
 /// The bytes of an operation's command over a link of this wire version.

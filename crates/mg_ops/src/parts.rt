@@ -1,6 +1,6 @@
 //! Parts of commands.
-ghost use Rattle.std.specs.Prelude.{◌≡◌, ◌-◌, OnOk, IfOk, IfErr, length};
-ghost use Rattle.mg_bson.specs.Tree.{string, document, int64, no_items};
+ghost use Rattle.std.specs.Prelude.{◌≡◌, OnOk, IfOk, IfErr, Some};
+ghost use Rattle.mg_bson.specs.Tree.{string, document, int64};
 ghost use Rattle.mg_bson.specs.Find.{items_joined, with_item};
 ghost use Rattle.mg_bson.specs.View.{tree};
 ghost use Rattle.mg_link.specs.Errors.{plain};
@@ -8,11 +8,9 @@ ghost use Rattle.mg_link.specs.declared.error.ErrorKind.TheVariants as kinds;
 ghost use Rattle.mg_ops.specs.Commands.{listed, size_value};
 ghost use Rattle.mg_ops.specs.Failing.{HasBadSize};
 ghost use Rattle.mg_ops.specs.Limits.{SizeFits};
-ghost use Rattle.std.specs.Prelude.{Some};
 
-use crate::fault::plain;
 use mg_bson::{Array, Bson, Document};
-use mg_link::{BadArgument, Error, ErrorKind};
+use mg_link::{BadArgument, Error, ErrorKind, plain};
 use std::alloc::Global;
 
 pub(crate) fn text(alloc: Global, text: &str) -> Result<Bson, Error>

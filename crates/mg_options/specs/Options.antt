@@ -1,5 +1,5 @@
 -- What option records print (drivers' specification of change streams, "ChangeStreamOptions").
-use Rattle.std.specs.Prelude.{Bool, Option, option_map}
+use Rattle.std.specs.Prelude.{option_map}
 use Rattle.mg_bson.specs.Tree.{Tree, Fields, boolean, timestamp}
 use Rattle.mg_bson.specs.Literal.{empty}
 use Rattle.mg_bson.specs.declared.tree.Timestamp.{Timestamp}

@@ -14,7 +14,6 @@ use std::alloc::AllocError;
 /// How a watch is opened. What is not given is left out of the command.
 ///
 /// At most one of `resume_after`, `start_after` and `start_at_operation_time` is to be given; a server refuses more.
-#[derive(Drop)]
 pub struct ChangeStreamOptions {
     /// Opens the watch behind the entry of this token. A server refuses the token of an invalidate entry.
     pub resume_after: Option<ResumeToken>,
@@ -26,6 +25,19 @@ pub struct ChangeStreamOptions {
     pub all_changes_for_cluster: Option<bool>,
     /// The most documents of a batch.
     pub batch_size: Option<u32>,
+}
+
+// By hand, so that letting one go is one call.
+impl Drop for ChangeStreamOptions {
+    fn drop(self) {
+        let ChangeStreamOptions {
+            resume_after: _,
+            start_at_operation_time: _,
+            start_after: _,
+            all_changes_for_cluster: _,
+            batch_size: _,
+        } = self;
+    }
 }
 
 impl ChangeStreamOptions {

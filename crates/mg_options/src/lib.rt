@@ -7,6 +7,3 @@ mod token;
 
 pub use change_stream::ChangeStreamOptions;
 pub use token::{ResumeToken, TokenRef};
-
-#[cfg(test)]
-mod tests;

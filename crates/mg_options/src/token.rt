@@ -1,5 +1,5 @@
 //! Resume tokens.
-ghost use Rattle.std.specs.Prelude.{◌≡◌, IfOk, IfErr, option_map};
+ghost use Rattle.std.specs.Prelude.{◌≡◌, IfOk, IfErr};
 ghost use Rattle.mg_bson.specs.View.{tree};
 ghost use Rattle.mg_bson.specs.RawView.{value as raw_value};
 ghost use Rattle.mg_link.specs.Errors.{plain};
@@ -15,9 +15,15 @@ use std::marker::Model;
 /// A token that names a place in the list of changes. It may be stored, and handed to a later watch.
 ///
 /// Change streams specification: "resume token". Its value means nothing to anybody but the server.
-#[derive(Drop)]
 pub struct ResumeToken {
     value: Bson,
+}
+
+// By hand, so that letting one go is one call.
+impl Drop for ResumeToken {
+    fn drop(self) {
+        let ResumeToken { value: _ } = self;
+    }
 }
 
 impl Model for ResumeToken {

@@ -1,15 +1,15 @@
 -- The events of a batch, taken one after another.
-use Rattle.std.proofs.Common.{◌≡◌, ℕ, zero, suc, ◌+◌, ◌-◌, ◌<◌, ◌≤◌, Bool, true, false, List, [], ◌∷◌, length, take, drop, map, Option, Some, None, refl, sym, ap, ap₂, ◌∙◌, arith, length-drop}
+use Rattle.std.proofs.Common.{◌≡◌, ℕ, zero, suc, ◌+◌, ◌-◌, ◌<◌, ◌≤◌, Bool, true, false, List, [], ◌∷◌, length, take, drop, map, Option, Some, None, refl, sym, ap, ap₂, ◌∙◌, arith}
 use Rattle.std.specs.Prelude.{if◌then◌else◌, ◌&&◌, nat_lt}
 use Rattle.std.specs.List.{filter}
-use Rattle.std.proofs.lemmas.Bool.{le-ltb, lt-ltb}
+use Rattle.std.proofs.lemmas.Bool.{lt-ltb}
 use Rattle.std.proofs.lemmas.List.{drop_all}
-use Rattle.mg_bson.specs.Tree.{document, Items, no_items, item}
+use Rattle.mg_bson.specs.Tree.{document, Items, item}
 use Rattle.mg_bson.specs.Bytes.{bytes}
 use Rattle.mg_bson.specs.Find.{with_item, items_joined}
 use Rattle.mg_bson.proofs.Joining.{items_joined_more, items_joined_all}
 use Rattle.mg_link.specs.State.{Entry, Watch, sees, is_invalidate, events_between}
-use Rattle.mg_link.specs.Rules.{behind_given, behind_other, full_behind, place_behind, batch_place, max_batch, documents_of_items}
+use Rattle.mg_link.specs.Rules.{behind_given, behind_other, full_behind, batch_place, documents_of_items}
 
 -- how many of the entries that are left a batch has
 abbrev count_of : Option ℕ → ℕ → ℕ
@@ -32,26 +32,6 @@ full_now w all size room left place = full_behind w left room (nat_lt left size)
 pub record Stands (w : Watch) (all : List Entry) (from size : ℕ) (events : Items) (behind room left place : ℕ) : Type 0 where
   pub place_is : place_now (length all) behind place (full_now w all size room left place) ≡ batch_place w all from size
   pub events_are : items_joined events (event_items w (count_of (full_now w all size room left place) (length (drop place all))) (drop place all)) ≡ documents_of_items (events_between w all from (batch_place w all from size))
-
-first_place : (len from : ℕ) (all : List Entry) (o : Option ℕ) → len ≡ length all → place_now len from from o ≡ place_behind all from o
-first_place len from all None e = e
-first_place len from all (Some zero) e = omega arith
-first_place len from all (Some (suc n)) e = refl
-
-first_count : (from : ℕ) (all : List Entry) (o : Option ℕ) → count_of o (length (drop from all)) ≡ place_behind all from o - from
-first_count from all None = length-drop from all
-first_count from all (Some n) = omega arith
-
--- nothing was taken yet
-pub batch_begins : (w : Watch) (all : List Entry) (from size : ℕ) → Stands w all from size no_items from max_batch size from
-batch_begins w all from size =
-    let same : nat_lt size size ≡ false = le-ltb size size (omega arith) in
-    let full : full_now w all size max_batch size from ≡ full_behind w size max_batch false (drop from all) = ap (λ (b : Bool). full_behind w size max_batch b (drop from all)) same in
-    record {
-      place_is = ap (place_now (length all) from from) full ∙ first_place (length all) from all (full_behind w size max_batch false (drop from all)) refl;
-      events_are = ap (λ (o : Option ℕ). event_items w (count_of o (length (drop from all))) (drop from all)) full
-          ∙ ap (λ (n : ℕ). event_items w n (drop from all)) (first_count from all (full_behind w size max_batch false (drop from all)));
-    }
 
 -- ---- an entry that is not seen
 

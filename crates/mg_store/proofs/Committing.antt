@@ -7,14 +7,13 @@ use Rattle.std.proofs.lemmas.List.{drop_more}
 use Rattle.mg_bson.specs.Tree.{Fields}
 use Rattle.mg_link.specs.declared.namespace.Namespace.{Namespace}
 use Rattle.mg_link.specs.Namespace.{Space, space}
-use Rattle.mg_link.specs.State.{Entry, Watch, Cursor, watching, State, is_space, put_cursor, without_cursors}
+use Rattle.mg_link.specs.State.{Entry, Cursor, State, is_space, put_cursor, without_cursors}
 use Rattle.mg_link.specs.Step.{documents_of}
 use Rattle.mg_link.specs.Rules.{is_id_among}
 use Rattle.mg_store.specs.Contents.{Does, IsCursorAt, Represents, collection_at}
-use Rattle.mg_store.specs.Holding.{AreExact, IsWatch, entries_from}
+use Rattle.mg_store.specs.Holding.{AreExact, entries_from}
 use Rattle.mg_store.specs.Inserting.{KeepsIds, new_documents, stored}
 use Rattle.mg_store.specs.declared.cursor.Cursor as code
-use Rattle.mg_store.specs.declared.cursor.Watch as held
 use Rattle.mg_store.specs.declared.insert.Appended.{Appended}
 use Rattle.mg_store.specs.declared.insert.Collection.{Collection}
 use Rattle.mg_store.specs.declared.perform.Content.{Content}
@@ -24,17 +23,6 @@ use Rattle.mg_store.proofs.Holdings.{changes-length}
 use Rattle.mg_store.proofs.Maps.{int_test, same_space}
 
 -- ---- cursors
-
-cursor_cond : (b : Bool) (o o' : Option code.Cursor) (p p' : Option Cursor) → IsCursorAt o p → IsCursorAt o' p' → IsCursorAt (cond b o o') (if b then p else p')
-cursor_cond true o o' p p' h h' = h
-cursor_cond false o o' p p' h h' = h'
-
-cursors_put : (c c' : Content) (s s' : State) (given : ℕ) (id : ℤ) (o : Option code.Cursor) (p : Option Cursor) → Represents c s given → IsCursorAt o p → ((q : ℤ) → get int_cmp c'.cursors q ≡ cond (is_eq (int_cmp id q)) o (get int_cmp c.cursors q))
-    → ((q : ℤ) → s'.cursors q ≡ put_cursor id p s.cursors q) → (q : ℤ) → IsCursorAt (get int_cmp c'.cursors q) (s'.cursors q)
-cursors_put c c' s s' given id o p h at code_is state_is q =
-    let both = cursor_cond (int_eq q id) o (get int_cmp c.cursors q) p (s.cursors q) at (h.cursors_are q) in
-    subst (λ (x : Option Cursor). IsCursorAt (get int_cmp c'.cursors q) x) (sym (state_is q))
-    (subst (λ (x : Option code.Cursor). IsCursorAt x (put_cursor id p s.cursors q)) (sym (code_is q ∙ ap (λ (b : Bool). cond b o (get int_cmp c.cursors q)) (int_test id q))) both)
 
 -- other parts stay
 represents_with : (c c' : Content) (s s' : State) (given given' : ℕ) → Represents c s given → c'.collections ≡ c.collections → c'.changes ≡ c.changes → ((sp : Space) → s'.documents sp ≡ s.documents sp) → s'.changes ≡ s.changes
@@ -47,44 +35,6 @@ represents_with c c' s s' given given' h cs es docs changes cursors number = rec
   cursors_are = cursors;
   given_are = number;
 }
-
-pub does_nothing : (c c' : Content) (s s' : State) (given given' : ℕ) → Represents c s given → Does effects.Nothing s given s' given' → c' ≡ c → Represents c' s' given'
-does_nothing c c' s s' given given' h does same =
-    represents_with c c' s s' given given' h (ap (λ (x : Content). x.collections) same) (ap (λ (x : Content). x.changes) same) does.documents_are does.changes_are
-    (λ id. subst (λ (x : Option Cursor). IsCursorAt (get int_cmp c'.cursors id) x) (sym (does.cursors_are id)) (subst (λ (x : Content). IsCursorAt (get int_cmp x.cursors id) (s.cursors id)) (sym same) (h.cursors_are id)))
-    (ap (λ (x : Content). x.given) same ∙ h.given_are ∙ ap pos (sym does.given_are))
-
-pub does_open : (c c' : Content) (s s' : State) (given given' : ℕ) (id : ℤ) (cursor : code.Cursor) → Represents c s given → Does (effects.Open id cursor) s given s' given' → c'.collections ≡ c.collections → c'.changes ≡ c.changes
-    → ((q : ℤ) → get int_cmp c'.cursors q ≡ cond (is_eq (int_cmp id q)) (Some cursor) (get int_cmp c.cursors q)) → c'.given ≡ id → Represents c' s' given'
-does_open c c' s s' given given' id cursor h does cs es code_is number =
-    let b = does.3 in
-    represents_with c c' s s' given given' h cs es b.documents_are b.changes_are
-    (cursors_put c c' s s' given id (Some cursor) (Some (watching does.0 cursor.place)) h (does.1, refl) code_is b.cursors_are)
-    (number ∙ does.2 ∙ ap pos (sym b.given_are))
-
-some_watch : (o : Option code.Cursor) (w : Watch) (from : ℕ) → IsCursorAt o (Some (watching w from)) → (cursor : code.Cursor) × (o ≡ Some cursor) × IsWatch cursor.watch w
-some_watch None w from h = absurd h
-some_watch (Some c) w from h = (c, refl, h.0)
-
-pub does_move : (c c' : Content) (s s' : State) (given given' : ℕ) (id : ℤ) (place : ℕ) (old new : code.Cursor) → Represents c s given → Does (effects.Move id place) s given s' given' → get int_cmp c.cursors id ≡ Some old → new.watch ≡ old.watch → new.place ≡ place
-    → c'.collections ≡ c.collections → c'.changes ≡ c.changes → c'.given ≡ c.given → ((q : ℤ) → get int_cmp c'.cursors q ≡ cond (is_eq (int_cmp id q)) (Some new) (get int_cmp c.cursors q)) → Represents c' s' given'
-does_move c c' s s' given given' id place old new h does found watch place_is cs es number code_is =
-    let w : Watch = does.0 in
-    let b = does.3 in
-    let at = subst (λ (x : Option code.Cursor). IsCursorAt x (Some (watching w does.1))) found (subst (IsCursorAt (get int_cmp c.cursors id)) does.2 (h.cursors_are id)) in
-    represents_with c c' s s' given given' h cs es b.documents_are b.changes_are
-    (cursors_put c c' s s' given id (Some new) (Some (watching w place)) h (subst (λ (x : held.Watch). IsWatch x w) (sym watch) at.0, sym place_is) code_is b.cursors_are)
-    (number ∙ h.given_are ∙ ap pos (sym b.given_are))
-
--- a cursor that is to move is held
-pub move_held : (c : Content) (s s' : State) (given given' : ℕ) (id : ℤ) (place : ℕ) → Represents c s given → Does (effects.Move id place) s given s' given' → get int_cmp c.cursors id ≡ None → ⊥
-move_held c s s' given given' id place h does none =
-    subst (λ (x : Option code.Cursor). IsCursorAt x (Some (watching does.0 does.1))) none (subst (IsCursorAt (get int_cmp c.cursors id)) does.2 (h.cursors_are id))
-
-pub does_close : (c c' : Content) (s s' : State) (given given' : ℕ) (id : ℤ) → Represents c s given → Does (effects.Close id) s given s' given' → c'.collections ≡ c.collections → c'.changes ≡ c.changes → c'.given ≡ c.given
-    → ((q : ℤ) → get int_cmp c'.cursors q ≡ cond (is_eq (int_cmp id q)) None (get int_cmp c.cursors q)) → Represents c' s' given'
-does_close c c' s s' given given' id h does cs es number code_is =
-    represents_with c c' s s' given given' h cs es does.documents_are does.changes_are (cursors_put c c' s s' given id None None h tt code_is does.cursors_are) (number ∙ h.given_are ∙ ap pos (sym does.given_are))
 
 without_if : (a b : Bool) (o : Option Cursor) → (if b then None else (if a then None else o)) ≡ (if (a || b) then None else o)
 without_if true true o = refl

@@ -58,10 +58,6 @@ no_cursor : (o : Option Cursor) → IsCursorAt None o → o ≡ None
 no_cursor None h = refl
 no_cursor (Some c) h = absurd h
 
--- a cursor that is not held is not there
-pub cursor_none : (c : Content) (s : State) (given : ℕ) (id : ℤ) → Represents c s given → get int_cmp c.cursors id ≡ None → s.cursors id ≡ None
-cursor_none c s given id h e = no_cursor (s.cursors id) (subst (λ (o : Option code.Cursor). IsCursorAt o (s.cursors id)) e (h.cursors_are id))
-
 -- the watch of a cursor that is held
 pub record Watching (s : State) (id : ℤ) (cursor : code.Cursor) : Type 0 where
   pub watch : Watch
@@ -134,14 +130,6 @@ more_settles s given id sp size cursor h batch d result same got is answered =
     settles s given (rules.more id sp size) reply d (effects.Move id batch.place) result answers
     (is ∙ ap₂ (λ (ts : Items) (p : ℕ). next_with id sp ts p) got.events_are got.place_is)
     (record { watch = w; from = cursor.place; stood = h.stood; is = ap (effects.Move id) got.place_is }) answered
-
-pub more_other : (s : State) (given : ℕ) (id : ℤ) (sp : Space) (size : Option ℕ) (cursor : code.Cursor) (h : Watching s id cursor) → is_space sp (space cursor.watch.ns) ≡ false → fitting (rules.answer s (pos (suc given)) (rules.more id sp size)) ≡ refused bad_request
-more_other s given id sp size cursor h other =
-    let reply : rules.Answer = rules.answer_with [] (rules.more_reply s id sp h.watch cursor.place (size_of size)) in
-    ap fitting (ap (rules.answer_more s id sp (size_of size)) h.stood ∙ ap (λ (b : Bool). if b then Ok reply else Err bad_request) (watch_of s id cursor sp h ∙ other))
-
-pub more_missing : (s : State) (given : ℕ) (id : ℤ) (sp : Space) (size : Option ℕ) → s.cursors id ≡ None → fitting (rules.answer s (pos (suc given)) (rules.more id sp size)) ≡ refused (pos 43)
-more_missing s given id sp size none = ap (λ (o : Option Cursor). fitting (rules.answer_more s id sp (size_of size) o)) none
 
 -- ---- kills
 

@@ -72,12 +72,6 @@ accept_new n before docs d id fits e new = by_id n before docs d id fits e ∙ a
 pub accept_twice : (n : ℕ) (before docs : List Fields) (d : Fields) (id : Tree) → is_storable d ≡ true → get (codes "_id") d ≡ Some id → twice n id before docs ≡ true → accept (before ++ docs) d ≡ Err duplicate_id
 accept_twice n before docs d id fits e old = by_id n before docs d id fits e ∙ ap (λ (b : Bool). if b then Err duplicate_id else Ok id) old
 
-pub accept_without : (there : List Fields) (d : Fields) → is_storable d ≡ true → get (codes "_id") d ≡ None → accept there d ≡ Err bad_request
-accept_without there d fits e = ap (λ (b : Bool). if b then id_or_code there (get (codes "_id") d) else Err bad_request) fits ∙ ap (id_or_code there) e
-
-pub accept_unfit : (there : List Fields) (d : Fields) → is_storable d ≡ false → accept there d ≡ Err bad_request
-accept_unfit there d unfit = ap (λ (b : Bool). if b then id_or_code there (get (codes "_id") d) else Err bad_request) unfit
-
 -- ---- one id more
 
 none_or : (o p : Option ℕ) → o ≡ None → option_or o p ≡ p

@@ -50,13 +50,6 @@ same_space s t h =
     let parts = and_parts (bytes_eq s.db t.db) (bytes_eq s.coll t.coll) h in
     ap₂ (λ (db coll : List ℕ). record { db = db; coll = coll }) ((bytes_eq-Decides s.db t.db).0 parts.0) ((bytes_eq-Decides s.coll t.coll).0 parts.1)
 
-and_both : (a b : Bool) → a ≡ true → b ≡ true → (a && b) ≡ true
-and_both true b e f = f
-and_both false b e f = cc
-
-pub space_self : (s : Space) → is_space s s ≡ true
-space_self s = and_both (bytes_eq s.db s.db) (bytes_eq s.coll s.coll) ((bytes_eq-Decides s.db s.db).1 refl) ((bytes_eq-Decides s.coll s.coll).1 refl)
-
 lookup_same : {K X : Type 0} (p q : K → Bool) (es : List (K × X)) → ((k : K) → p k ≡ q k) → lookup p es ≡ lookup q es
 lookup_same p q [] h = refl
 lookup_same p q (e ∷ es) h = ap₂ (λ b o. cond b (Some e.1) o) (h e.0) (lookup_same p q es h)

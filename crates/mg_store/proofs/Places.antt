@@ -1,35 +1,17 @@
 -- The places that tokens spell.
-use Rattle.std.proofs.Common.{◌≡◌, ℕ, zero, suc, ◌<◌, ◌≤◌, ◌^◌, ◌%◌, ◌/◌, List, [], ◌∷◌, Option, Some, None, codes, refl, sym, ap, ap₂, ◌∙◌, subst, arith}
+use Rattle.std.proofs.Common.{◌≡◌, ℕ, zero, suc, ◌<◌, ◌≤◌, ◌^◌, List, Option, Some, None, codes, refl, sym, ap, ap₂, ◌∙◌, subst}
 use Rattle.std.specs.Prelude.{if◌then◌else◌, Result, Ok, Err}
 use Rattle.std.specs.Result.{MatchResult}
-use Rattle.std.specs.Int.{w64, to_be_bytes, bytes_high_first, byte_at}
+use Rattle.std.specs.Int.{w64, to_be_bytes}
 use Rattle.std.specs.Str.{bytes_eq}
-use Rattle.hex.specs.Hex.{encode_lower, decode_sized, IsBytes}
+use Rattle.hex.specs.Hex.{encode_lower, decode_sized}
 use Rattle.hex.specs.declared.error.FromHexError.{FromHexError}
 use Rattle.hex.proofs.HexLemmas.{decode_sized-encode_lower}
 use Rattle.mg_bson.specs.Tree.{Tree, string, Fields}
 use Rattle.mg_bson.specs.Find.{get, as_document, as_string}
 use Rattle.mg_link.specs.Filter.{key}
 use Rattle.mg_link.specs.Rules.{token_of, token_fields, token_place}
-use Rattle.mg_link.proofs.Tokens.{place_named}
-
-no_bytes : IsBytes []
-no_bytes i = omega arith
-
-more_bytes : (b : ℕ) (bs : List ℕ) → b < 256 → IsBytes bs → IsBytes (b ∷ bs)
-more_bytes b bs lt h zero = lt
-more_bytes b bs lt h (suc i) = h i
-
-low_byte : (n : ℕ) → n % 256 < 256
-low_byte n = omega arith
-
-byte_low : (n x : ℕ) → byte_at n x < 256
-byte_low zero x = low_byte x
-byte_low (suc n) x = low_byte (x / 256 ^ suc n)
-
-high_bytes : (n x : ℕ) → IsBytes (bytes_high_first n x)
-high_bytes zero x = no_bytes
-high_bytes (suc n) x = more_bytes (byte_at n x) (bytes_high_first n x) (byte_low n x) (high_bytes n x)
+use Rattle.mg_link.proofs.Tokens.{number_bytes, place_named}
 
 -- the text of a token
 pub text_of_token : (place : ℕ) (found : Tree) (fs : Fields) (t : Tree) (s : List ℕ) → found ≡ token_of place → Some fs ≡ as_document found → Some t ≡ get (codes "_data") fs → Some s ≡ as_string t → s ≡ encode_lower (to_be_bytes w64 place)
@@ -43,7 +25,7 @@ text_of_token place found fs t s is doc got text =
 
 -- the text decodes to the bytes of the place
 pub decodes : (place : ℕ) (s : List ℕ) → s ≡ encode_lower (to_be_bytes w64 place) → decode_sized s 8 ≡ Ok (to_be_bytes w64 place)
-decodes place s e = ap (λ (l : List ℕ). decode_sized l 8) e ∙ decode_sized-encode_lower (to_be_bytes w64 place) 8 refl (high_bytes 8 place)
+decodes place s e = ap (λ (l : List ℕ). decode_sized l 8) e ∙ decode_sized-encode_lower (to_be_bytes w64 place) 8 refl (number_bytes place)
 
 place_same : (n : ℕ) (t u : Tree) → key t ≡ key u → token_place n t ≡ token_place n u
 unfolding token_place

@@ -14,7 +14,7 @@ use Rattle.mg_link.specs.Standing.{Stands}
 use Rattle.mg_link.specs.State.{State}
 use Rattle.mg_link.proofs.Legal.{steps_push}
 use Rattle.mg_link.proofs.Places.{get_within}
-use Rattle.mg_store.specs.InMemory.{fate_of, fate_at, TookStep, by_rules, TookAs, reply_at, coming, SeesWhatComes, IsAsFate, AreAsFates, ArePlaced, fault_by, faults_in, pends_in, Performed, Takes, position_behind, sent_call, Started, NamesNone, Comes, AreKept, IsPrompt, IsSmall, AreSmall}
+use Rattle.mg_store.specs.InMemory.{fate_of, fate_at, TookStep, by_rules, TookAs, reply_at, coming, SeesWhatComes, IsAsFate, AreAsFates, ArePlaced, fault_by, faults_in, pends_in, Performed, Takes, position_behind, sent_call, Started, NamesNone, Comes, IsPrompt, IsSmall, AreSmall}
 use Rattle.mg_store.specs.Sending.{pended_of, IsKept, Honest, Sent}
 use Rattle.mg_link.specs.declared.error.OutOfMemory.{OutOfMemory}
 use Rattle.mg_link.specs.declared.history.Receipt.{Receipt}
@@ -317,19 +317,3 @@ are_placed history calls waits fates honest k call position found placed =
     let below = get_within (steps_of history) position step.0 step.1 in
     let same = length-steps history in
     omega arith
-
-pub prompt_at_first : (fates : List Fate) → AreKept 0 fates → IsPrompt fates [] []
-prompt_at_first fates kept = record { later = kept; waits = λ k call n found found' seen. cc }
-
-pub honest_at_first : (fates : List Fate) (history : List Kept) → AreSmall fates → Honest history [] [] fates
-honest_at_first fates history small = record {
-  small = small;
-  counted = refl;
-  stands = record {
-    rising = λ i j a b p q lt fa fb pa pb. cc;
-    same = λ k call p found placed. cc;
-    placed = λ k call bytes found heard. cc;
-    alone = λ p step x there names g lt. let found = g.took.found in cc;
-  };
-  each = λ k call wait found found'. cc;
-}

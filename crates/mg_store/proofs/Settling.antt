@@ -12,7 +12,7 @@ use Rattle.mg_link.specs.State.{Entry, Watch, Cursor, watching, State, put_docum
 use Rattle.mg_link.specs.Commands.{Asked, asks_insert, asks_watch, asks_more, asks_kill, asks_other, asked}
 use Rattle.mg_link.specs.Step.{documents_of, ends_cursor}
 use Rattle.mg_link.specs.Rules as rules
-use Rattle.mg_link.specs.Rules.{Inserted, answer, answer_insert, answer_of, and_then, bad_request, batch_place, fitting, inserting, insert_request, kill_request, more_request, or_code, refusal, refused, request_of, size_of, unknown_command, watch_reply, watch_request}
+use Rattle.mg_link.specs.Rules.{Inserted, answer, answer_insert, answer_of, and_then, bad_request, fitting, inserting, insert_request, kill_request, more_request, or_code, refusal, refused, request_of, size_of, unknown_command, watch_reply, watch_request}
 use Rattle.mg_link.specs.Kept.{Kept, state_behind, given_after}
 use Rattle.mg_link.proofs.Requests.{asked_is}
 use Rattle.mg_link.proofs.Behind.{Parts, behind_insert, behind_kill, behind_more, behind_refusal, behind_watch, cursors_refused}
@@ -105,12 +105,6 @@ answers_settled s given command r a asks h =
     }
 
 -- ---- refusals
-
-code_ends : Refusal → Bool
-code_ends refusals.NoSuchCursor = true
-code_ends refusals.UnknownCommand = false
-code_ends refusals.BadRequest = false
-code_ends refusals.NoSuchToken = false
 
 by_code : (asks : Asked) (code : ℤ) (cursors : ℤ → Option Cursor) (id : ℤ) → ends_cursor code ≡ false → cursors_refused asks code cursors id ≡ cursors id
 by_code (asks_more other sp) code cursors id stays = ap (λ (b : Bool). (if b then put_cursor other None cursors else cursors) id) stays

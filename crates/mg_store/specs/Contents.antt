@@ -12,7 +12,7 @@ use Rattle.mg_link.specs.Filter.{Condition}
 use Rattle.mg_link.specs.State.{Entry, Watch, Cursor, query, watching, State, is_space, put_documents, put_cursor, without_cursors}
 use Rattle.mg_link.specs.Step.{documents_of}
 use Rattle.mg_link.specs.Rules as rules
-use Rattle.mg_link.specs.Rules.{Inserted, inserting, answer, answer_of, batch_place, fitting, place_at, refused, size_of}
+use Rattle.mg_link.specs.Rules.{inserting, answer, answer_of, batch_place, fitting, place_at, refused, size_of}
 use Rattle.mg_link.specs.Commands.{asked}
 use Rattle.mg_link.proofs.Behind.{cursors_refused}
 use Rattle.mg_link.specs.Kept.{Kept, Follows, IsByRules, IsReply, IsStoreState, given_after, given_of, state_behind, state_of_kept}

@@ -1,6 +1,6 @@
 -- What an insert makes of its documents.
 use Rattle.std.specs.declared.alloc.Global.{Global}
-use Rattle.std.specs.Prelude.{◌≡◌, ℕ, suc, ℤ, Bool, true, false, is_some, List, [], ◌∷◌, ◌++◌, length, map, Option, Some, None, Result, Ok, Err, codes, if◌then◌else◌, Vec}
+use Rattle.std.specs.Prelude.{◌≡◌, ℕ, suc, ℤ, Bool, true, false, is_some, cond, List, [], ◌∷◌, ◌++◌, length, map, Option, Some, None, Result, Ok, Err, codes, if◌then◌else◌, Vec}
 use Rattle.std.specs.BTreeMap.{BTreeMap, get_by}
 use Rattle.std.specs.Cmp.Lexicographic.{slice_cmp}
 use Rattle.std.specs.Ordering.{nat_cmp}
@@ -27,6 +27,12 @@ abbrev pub GivesId : Result Bson Rejected → Option Tree → Type 0
 GivesId (Ok id) found = found ≡ Some (tree id)
 GivesId (Err rejected.Memory) found = Unit {0}
 GivesId (Err (rejected.Refused code)) found = (code ≡ bad_request) × (found ≡ None)
+
+-- the encoding of the id, or the refusal of a document that has none
+abbrev pub GivesKey : Result (Vec ℕ Global) Rejected → Option Tree → Type 0
+GivesKey (Ok k) found = (id : Tree) × (found ≡ Some id) × (k.items ≡ key id)
+GivesKey (Err rejected.Memory) found = Unit {0}
+GivesKey (Err (rejected.Refused code)) found = (code ≡ bad_request) × (found ≡ None)
 
 -- the encoding of a document that may be stored, or the refusal of another
 abbrev pub Encodes : Result (List ℕ) Rejected → Fields → Type 0
@@ -83,6 +89,25 @@ pub record Fits (before : List Fields) (a : Appended) : Type 0 where
   pub ids_are : HasIds a.ids (length before) (new_documents a)
   pub apart : AreApart before (new_documents a)
   pub exact : AreExact a.entries.items
+
+-- the entry of an inserted document with this id
+pub record IsEntry (place : ℕ) (s : Space) (d : Fields) (id : Tree) (entry : ChangeEntry) : Type 0 where
+  pub at : space entry.ns ≡ s
+  pub event_is : fields entry.event ≡ insert_event place s id d
+  pub exact : entry.event ≡ bytes (fields entry.event)
+
+-- the entry of a document, or the refusal of one that has no id
+abbrev pub GivesEntry : ℕ → Space → Fields → Result ChangeEntry Rejected → Type 0
+GivesEntry place s d (Ok entry) = (id : Tree) → get (codes "_id") d ≡ Some id → IsEntry place s d id entry
+GivesEntry place s d (Err rejected.Memory) = Unit {0}
+GivesEntry place s d (Err (rejected.Refused code)) = (code ≡ bad_request) × (get (codes "_id") d ≡ None)
+
+-- a document, its id and its entry were added
+pub record Adds (number : ℕ) (k : Vec ℕ Global) (written : List ℕ) (entry : ChangeEntry) (old new : Appended) : Type 0 where
+  pub documents_are : new.documents.items ≡ old.documents.items ++ written ∷ []
+  pub entries_are : new.entries.items ≡ old.entries.items ++ entry ∷ []
+  pub errors_same : new.errors ≡ old.errors
+  pub at : (other : List ℕ) → number_in new.ids other ≡ cond (bytes_eq k.items other) (Some number) (number_in old.ids other)
 
 -- the document was appended, with its entry
 pub record Accepts (before : List Fields) (place : ℕ) (s : Space) (d : Fields) (old new : Appended) : Type 0 where

@@ -2,10 +2,11 @@
 ghost use Rattle.std.specs.Prelude.{◌≡◌, ◌&&◌, IfOk, map};
 ghost use Rattle.mg_bson.specs.Bytes.{bytes};
 ghost use Rattle.mg_bson.specs.Raw.{fields};
-ghost use Rattle.mg_bson.specs.Tree.{document};
+ghost use Rattle.mg_bson.specs.Literal.{◌⇒◌⨾◌, empty, word};
+ghost use Rattle.mg_bson.specs.Tree.{document, string};
 ghost use Rattle.mg_bson.specs.View.{tree};
 ghost use Rattle.mg_link.specs.Namespace.{space};
-ghost use Rattle.mg_link.specs.Rules.{insert_event};
+ghost use Rattle.mg_link.specs.Rules.{insert_event, stamp_of, token_of};
 ghost use Rattle.mg_link.specs.State as state;
 ghost use Rattle.mg_link.specs.State.{is_space};
 ghost use Rattle.mg_store.specs.Asking.{held, matches_keys};
@@ -13,7 +14,7 @@ ghost use Rattle.mg_store.specs.Holding.{AreExact, GivesBatch, IsWatch, entries_
 
 use crate::cursor::Watch;
 use crate::filter::matches;
-use crate::reply::{put, put_item, text, time, token};
+use crate::reply::{put, put_item, put_text, time, token};
 use mg_bson::{Array, Bson, Document, RawDocumentBuf, to_bytes, to_document};
 use mg_link::{Namespace, OutOfMemory};
 use std::alloc::Global;
@@ -22,12 +23,50 @@ use std::alloc::Global;
 const MAX_BATCH: usize = 16_777_216;
 
 /// One change, as watches see it. Its token, its time and its kind stand in its event.
-#[derive(Drop)]
 pub struct ChangeEntry {
     /// The collection that changed.
     pub ns: Namespace,
     /// The event, as it is handed out.
     pub event: RawDocumentBuf,
+}
+
+// By hand, so that letting one go is one call.
+impl Drop for ChangeEntry {
+    fn drop(self) {
+        let ChangeEntry { ns: _, event: _ } = self;
+    }
+}
+
+/// The names of a collection, as they stand in an event.
+fn names_of(alloc: Global, ns: &Namespace) -> Result<Document, OutOfMemory>
+    ensures { IfOk result (λ d. d ≡ ("db" ⇒ string (space ns.now).db ⨾ "coll" ⇒ string (space ns.now).coll ⨾ empty)) }
+{
+    let mut names = Document::new(alloc);
+    put(&mut names, "db", Bson::String(ns.db.clone()?))?;
+    put(&mut names, "coll", Bson::String(ns.coll.clone()?))?;
+    Ok(names)
+}
+
+/// The document of an `_id` alone.
+fn key_document(alloc: Global, id: Bson) -> Result<Document, OutOfMemory>
+    ensures { IfOk result (λ d. d ≡ ("_id" ⇒ tree id ⨾ empty)) }
+{
+    let mut key = Document::new(alloc);
+    put(&mut key, "_id", id)?;
+    Ok(key)
+}
+
+/// What the event of an insert says before it comes to the document.
+fn begun_event(alloc: Global, place: u64, ns: &Namespace) -> Result<Document, OutOfMemory>
+    ensures { IfOk result (λ d. d ≡ ("_id" ⇒ token_of place ⨾ "operationType" ⇒ word "insert" ⨾ "clusterTime" ⇒ stamp_of place
+        ⨾ "ns" ⇒ document ("db" ⇒ string (space ns.now).db ⨾ "coll" ⇒ string (space ns.now).coll ⨾ empty) ⨾ empty)) }
+{
+    let mut event = Document::new(alloc);
+    put(&mut event, "_id", Bson::Document(token(alloc, place)?))?;
+    put_text(alloc, &mut event, "operationType", "insert")?;
+    put(&mut event, "clusterTime", Bson::Timestamp(time(place)))?;
+    put(&mut event, "ns", Bson::Document(names_of(alloc, ns)?))?;
+    Ok(event)
 }
 
 /// The event of a document that was inserted, whose entry stands before this place.
@@ -40,16 +79,8 @@ pub(crate) fn insert_event(
 ) -> Result<Document, OutOfMemory>
     ensures { IfOk result (λ d. d ≡ insert_event place (space ns.now) (tree id) inserted) }
 {
-    let mut space = Document::new(alloc);
-    put(&mut space, "db", Bson::String(ns.db.clone()?))?;
-    put(&mut space, "coll", Bson::String(ns.coll.clone()?))?;
-    let mut key = Document::new(alloc);
-    put(&mut key, "_id", id)?;
-    let mut event = Document::new(alloc);
-    put(&mut event, "_id", Bson::Document(token(alloc, place)?))?;
-    put(&mut event, "operationType", text(alloc, "insert")?)?;
-    put(&mut event, "clusterTime", Bson::Timestamp(time(place)))?;
-    put(&mut event, "ns", Bson::Document(space))?;
+    let key = key_document(alloc, id)?;
+    let mut event = begun_event(alloc, place, ns)?;
     put(&mut event, "documentKey", Bson::Document(key))?;
     put(&mut event, "fullDocument", Bson::Document(inserted))?;
     Ok(event)

@@ -7,7 +7,6 @@ use mg_link::OutOfMemory;
 use std::alloc::Global;
 
 /// What becomes of a command.
-#[derive(Drop)]
 pub struct Fate {
     /// How many polls answer that the reply pends, before the one that answers otherwise.
     pub pend: u32,
@@ -15,8 +14,14 @@ pub struct Fate {
     pub kind: FateKind,
 }
 
+// By hand, so that letting one go is one call.
+impl Drop for Fate {
+    fn drop(self) {
+        let Fate { pend: _, kind: _ } = self;
+    }
+}
+
 /// What is performed of a command, and what comes back.
-#[derive(Drop)]
 pub enum FateKind {
     /// The command is performed at its start, and its reply comes.
     Keep,
@@ -31,6 +36,18 @@ pub enum FateKind {
         /// Its error labels, in order.
         labels: Vec<String>,
     },
+}
+
+// By hand, so that letting one go is one call.
+impl Drop for FateKind {
+    fn drop(self) {
+        match self {
+            FateKind::Keep => {}
+            FateKind::Lose => {}
+            FateKind::Drop => {}
+            FateKind::Refuse { code: _, labels: _ } => {}
+        }
+    }
 }
 
 impl FateKind {

@@ -16,10 +16,16 @@ use mg_link::OutOfMemory;
 use std::alloc::Global;
 
 /// A name, and the encodings of the values of which a document has one there.
-#[derive(Drop)]
 pub(crate) struct Condition {
     pub(crate) name: String,
     pub(crate) keys: Vec<Vec<u8>>,
+}
+
+// By hand, so that letting one go is one call.
+impl Drop for Condition {
+    fn drop(self) {
+        let Condition { name: _, keys: _ } = self;
+    }
 }
 
 /// The encoding of a value, its kind included: that of the document which holds it under an empty name. What is too

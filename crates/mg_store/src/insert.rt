@@ -7,7 +7,7 @@ ghost use Rattle.mg_bson.specs.Tree.{Fields, no_items};
 ghost use Rattle.mg_link.specs.Namespace.{space};
 ghost use Rattle.mg_link.specs.Rules.{inserting, write_error};
 ghost use Rattle.mg_store.specs.Asking.{documents_among};
-ghost use Rattle.mg_store.specs.Inserting.{AcceptsOr, Appends, AreApart, Encodes, Fits, GivesId, HasIds, KeepsIds, KeepsIdsThere, Lists, Takes, new_documents, number_of_id, stored, there};
+ghost use Rattle.mg_store.specs.Inserting.{AcceptsOr, Adds, Appends, AreApart, Encodes, Fits, GivesEntry, GivesId, GivesKey, HasIds, KeepsIds, KeepsIdsThere, Lists, Takes, new_documents, number_of_id, stored, there};
 
 use crate::change::{ChangeEntry, event_bytes, insert_event};
 use crate::filter::key_of;
@@ -32,10 +32,19 @@ const BAD_DOCUMENT: i32 = 9;
 const DUPLICATE_ID: i32 = 11000;
 
 /// The documents of a collection, in order, and the number of each by the bytes of its `_id`.
-#[derive(Drop)]
 pub(crate) struct Collection {
     pub(crate) documents: Vec<RawDocumentBuf>,
     pub(crate) ids: BTreeMap<Vec<u8>, u64>,
+}
+
+// By hand, so that letting one go is one call.
+impl Drop for Collection {
+    fn drop(self) {
+        let Collection {
+            documents: _,
+            ids: _,
+        } = self;
+    }
 }
 
 impl Collection {
@@ -93,13 +102,31 @@ pub(crate) fn append_reserved<T: Drop>(items: &mut Vec<T>, more: &mut Vec<T>)
     }
 }
 
+/// Documents, their ids and their entries.
+type Parts = (
+    Vec<RawDocumentBuf>,
+    BTreeMap<Vec<u8>, u64>,
+    Vec<ChangeEntry>,
+);
+
 /// What an insert is to append, and what it answers.
-#[derive(Drop)]
 pub(crate) struct Appended {
     pub(crate) documents: Vec<RawDocumentBuf>,
     pub(crate) ids: BTreeMap<Vec<u8>, u64>,
     pub(crate) entries: Vec<ChangeEntry>,
     pub(crate) errors: Array,
+}
+
+// By hand, so that letting one go is one call.
+impl Drop for Appended {
+    fn drop(self) {
+        let Appended {
+            documents: _,
+            ids: _,
+            entries: _,
+            errors: _,
+        } = self;
+    }
 }
 
 /// Why a document is not appended.
@@ -160,6 +187,31 @@ fn id_of(document: &Document) -> Result<Bson, Rejected>
     }
 }
 
+/// The encoding of the `_id` of a document.
+fn id_key(alloc: Global, document: &Document) -> Result<Vec<u8>, Rejected>
+    ensures { GivesKey result (get (codes "_id") document.now) }
+{
+    let id = id_of(document)?;
+    let key = key_of(alloc, id)?;
+    Ok(key)
+}
+
+/// The entry of a document, which stands before this place.
+fn entry_of(
+    alloc: Global,
+    place: u64,
+    ns: &Namespace,
+    document: Document,
+) -> Result<ChangeEntry, Rejected>
+    ensures { GivesEntry place (space ns.now) document result }
+{
+    let id = id_of(&document)?;
+    let event = insert_event(alloc, place, ns, id, document)?;
+    let event = event_bytes(alloc, &event)?;
+    let ns = ns.clone()?;
+    Ok(ChangeEntry { ns, event })
+}
+
 impl Appended {
     fn new(alloc: Global) -> Appended
         ensures fits { (before : List Fields) → Fits before result }
@@ -175,6 +227,21 @@ impl Appended {
         }
     }
 
+    /// What is to be appended: documents, their ids and their entries.
+    pub(crate) fn into_parts(self) -> Parts
+        ensures documents { result.0 ≡ self.documents }
+        ensures ids { result.1 ≡ self.ids }
+        ensures entries { result.2 ≡ self.entries }
+    {
+        let Appended {
+            documents,
+            ids,
+            entries,
+            errors: _,
+        } = self;
+        (documents, ids, entries)
+    }
+
     /// Appends a document behind what is there already. Its entry stands before the place.
     fn accept(
         &mut self,
@@ -187,18 +254,28 @@ impl Appended {
         ensures { KeepsIdsThere collection.entry → Fits (there collection.entry) self.old → AcceptsOr (there collection.entry) place (space ns.now) document self.old self.new result }
     {
         let bytes = storable(alloc, &document)?;
-        let id = id_of(&document)?;
-        let key = key_of(alloc, id.clone()?)?;
+        let key = id_key(alloc, &document)?;
         if holds(collection, &key) || self.ids.contains_key(&key) {
             return Err(Rejected::Refused(DUPLICATE_ID));
         }
-        let event = insert_event(alloc, place, ns, id, document)?;
-        let event = event_bytes(alloc, &event)?;
-        let ns = ns.clone()?;
         let number = count_of(collection) + self.documents.len() as u64;
+        let entry = entry_of(alloc, place, ns, document)?;
+        Ok(self.add(number, key, bytes, entry)?)
+    }
+
+    /// Adds a document of this number, the encoding of its `_id`, and its entry.
+    fn add(
+        &mut self,
+        number: u64,
+        key: Vec<u8>,
+        bytes: RawDocumentBuf,
+        entry: ChangeEntry,
+    ) -> Result<(), OutOfMemory>
+        ensures { OnOk result (Adds number key bytes entry self.old self.new) }
+    {
         self.ids.insert(key, number)?;
         self.documents.push(bytes)?;
-        self.entries.push(ChangeEntry { ns, event })?;
+        self.entries.push(entry)?;
         Ok(())
     }
 

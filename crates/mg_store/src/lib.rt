@@ -19,8 +19,3 @@ pub use change::ChangeEntry;
 pub use fate::{Fate, FateKind};
 pub use link::MemLink;
 pub use store::Store;
-
-#[cfg(test)]
-mod link_tests;
-#[cfg(test)]
-mod tests;

@@ -1,5 +1,5 @@
 //! A link to a store in this process.
-ghost use Rattle.std.specs.Prelude.{◌≡◌, ◌<◌, ◌≤◌, ◌++◌, ◌∷◌, [], Some, IfOk, IsErrOf, IsSome, OnErr, length, vec_capacity, vec_len};
+ghost use Rattle.std.specs.Prelude.{◌≡◌, ◌<◌, ◌≤◌, [], Some, IfOk, IsErrOf, IsSome, OnErr, length, vec_len};
 ghost use Rattle.mg_link.specs.Causes.{Rose};
 ghost use Rattle.mg_link.specs.Kept.{IsReply};
 ghost use Rattle.mg_link.specs.Link.{AnswersAtOnce, Later, PollMeans, PollPends, StartMeans, StartsAtOnce, StaysPrompt};
@@ -11,17 +11,28 @@ ghost use Rattle.mg_store.specs.Stored.{Performs};
 use crate::fate::{Fate, FateKind, kind_at, pend_at};
 use crate::store::{Store, copy};
 use mg_bson::{RawDocument, RawDocumentBuf};
-use mg_link::{Link, LinkError, Log, LoggedCall, OutOfMemory, Polled, Receipt, Seen, Ticket};
+use mg_link::{
+    Link, LinkError, Log, LoggedCall, OutOfMemory, Polled, Receipt, Seen, Ticket, push_reserved,
+};
 use std::alloc::Global;
 use std::marker::Model;
 
 /// What is kept for a call beside the log.
-#[derive(Drop)]
 pub(crate) struct Wait {
     /// How many of its polls answered that the reply pends.
     pended: u32,
     /// The reply that is to come; none where none comes, and where it has come.
     reply: Option<RawDocumentBuf>,
+}
+
+// By hand, so that letting one go is one call.
+impl Drop for Wait {
+    fn drop(self) {
+        let Wait {
+            pended: _,
+            reply: _,
+        } = self;
+    }
 }
 
 /// What a poll of a call hears.
@@ -94,17 +105,6 @@ fn position_behind(store: &Store, kind: &FateKind) -> Option<u64>
     }
 }
 
-/// Adds to a vector that has room.
-fn push_reserved(waits: &mut Vec<Wait>, added: Wait)
-    requires { vec_len waits.old < vec_capacity waits.old }
-    ensures { waits.new.items ≡ waits.old.items ++ added ∷ [] }
-{
-    match waits.push(added) {
-        Ok(()) => {}
-        Err(_) => unreachable!(),
-    }
-}
-
 /// Sends a command. An error changes nothing.
 fn send(
     alloc: Global,
@@ -154,7 +154,8 @@ fn start_over(
     ensures prompt { IsPrompt fates.now log.old (pended_of waits.old.items) → IsPrompt fates.now log.new (pended_of waits.new.items) }
 {
     let place = log.len();
-    let kind = kind_at(fates, place, &FateKind::Keep);
+    let kept = FateKind::Keep;
+    let kind = kind_at(fates, place, &kept);
     match send(alloc, store, log, waits, command, kind) {
         Ok(()) => Ok(Ticket::new(place as u64)),
         Err(OutOfMemory) => Err(LinkError::Memory),
@@ -248,7 +249,6 @@ fn aside_over(
 
 /// A link to a store in this process. What becomes of the command of each number, from 0, is the fate of that number;
 /// each command behind the end of the fates is performed and answered at once.
-#[derive(Drop)]
 pub struct MemLink {
     alloc: Global,
     store: Store,
@@ -256,6 +256,20 @@ pub struct MemLink {
     waits: Vec<Wait>,
     fates: Vec<Fate>,
     wire: i32,
+}
+
+// By hand, so that letting one go is one call.
+impl Drop for MemLink {
+    fn drop(self) {
+        let MemLink {
+            alloc: _,
+            store: _,
+            log: _,
+            waits: _,
+            fates: _,
+            wire: _,
+        } = self;
+    }
 }
 
 impl Model for MemLink {
@@ -317,7 +331,15 @@ impl MemLink {
         ensures within { ArePlaced self.stored.history self.calls }
         ensures fates { AreAsFates self.stored.history self.fates self.calls self.pended }
     {
-        (self.store, self.log)
+        let MemLink {
+            alloc: _,
+            store,
+            log,
+            waits: _,
+            fates: _,
+            wire: _,
+        } = self;
+        (store, log)
     }
 
     /// Has the store perform a command that is nobody's on this link: it is a step of the history and no call of the log.

@@ -3,7 +3,7 @@ ghost use Rattle.mg_store.specs.declared.perform.Effect.TheVariants.{Insert};
 ghost use Rattle.std.specs.Prelude.{◌≡◌, ℕ, ℤ, None, List, [], IfOk, OnOk, OnErr, if◌then◌else◌, length, map, option_map, string_bytes};
 ghost use Rattle.std.specs.BTreeMap.{get, keys};
 ghost use Rattle.std.specs.Ordering.{int_cmp};
-ghost use Rattle.mg_bson.specs.Raw.{fields, items};
+ghost use Rattle.mg_bson.specs.Raw.{items};
 ghost use Rattle.mg_bson.specs.RawView.{value};
 ghost use Rattle.mg_link.specs.Filter.{Condition};
 ghost use Rattle.mg_link.specs.Namespace.{space};
@@ -30,7 +30,6 @@ use std::collections::{BTreeMap, BTreeSet};
 const DEFAULT_BATCH: u64 = 101;
 
 /// What the store holds, but for its history.
-#[derive(Drop)]
 pub(crate) struct Content {
     pub(crate) collections: BTreeMap<Namespace, Collection>,
     pub(crate) changes: Vec<ChangeEntry>,
@@ -39,8 +38,19 @@ pub(crate) struct Content {
     pub(crate) given: i64,
 }
 
+// By hand, so that letting one go is one call.
+impl Drop for Content {
+    fn drop(self) {
+        let Content {
+            collections: _,
+            changes: _,
+            cursors: _,
+            given: _,
+        } = self;
+    }
+}
+
 /// What a command does besides its reply.
-#[derive(Drop)]
 pub(crate) enum Effect {
     Nothing,
     Insert { ns: Namespace, appended: Appended },
@@ -48,6 +58,20 @@ pub(crate) enum Effect {
     Move { id: i64, place: u64 },
     Kill { ids: Vec<i64> },
     Close { id: i64 },
+}
+
+// By hand, so that letting one go is one call.
+impl Drop for Effect {
+    fn drop(self) {
+        match self {
+            Effect::Nothing => {}
+            Effect::Insert { ns: _, appended: _ } => {}
+            Effect::Open { id: _, cursor: _ } => {}
+            Effect::Move { id: _, place: _ } => {}
+            Effect::Kill { ids: _ } => {}
+            Effect::Close { id: _ } => {}
+        }
+    }
 }
 
 /// A reply, and what the command does.
@@ -261,49 +285,13 @@ impl Content {
         }
     }
 
-    /// Does what a command does. An error changes nothing.
-    pub(crate) fn commit(&mut self, effect: Effect) -> Result<(), OutOfMemory>
-        ensures ok { OnOk result ((s : State) (given : ℕ) (s' : State) (given' : ℕ) → Represents self.old s given → Does effect s given s' given' → Represents self.new s' given') }
-        ensures err { OnErr result ((s : State) (given : ℕ) (s' : State) (given' : ℕ) → Represents self.old s given → Does effect s given s' given' → Represents self.new s given) }
-        ensures same { OnErr result (keys self.new.cursors ≡ keys self.old.cursors) }
-    {
-        match effect {
-            Effect::Nothing => Ok(()),
-            Effect::Insert { ns, appended } => self.append(ns, appended),
-            Effect::Open { id, cursor } => {
-                self.cursors.insert(id, cursor)?;
-                self.given = id;
-                Ok(())
-            }
-            Effect::Move { id, place } => {
-                if let Some(cursor) = self.cursors.get_mut(&id) {
-                    cursor.place = place;
-                }
-                Ok(())
-            }
-            Effect::Kill { ids } => {
-                remove_all(&mut self.cursors, &ids);
-                Ok(())
-            }
-            Effect::Close { id } => {
-                let _cursor = self.cursors.remove(&id);
-                Ok(())
-            }
-        }
-    }
-
     /// Appends the documents of an insert and their entries.
     fn append(&mut self, ns: Namespace, appended: Appended) -> Result<(), OutOfMemory>
         ensures ok { OnOk result ((s : State) (given : ℕ) (s' : State) (given' : ℕ) → Represents self.old s given → Does (Insert ns appended) s given s' given' → Represents self.new s' given') }
         ensures err { OnErr result ((s : State) (given : ℕ) (s' : State) (given' : ℕ) → Represents self.old s given → Does (Insert ns appended) s given s' given' → Represents self.new s given) }
         ensures cursors { self.new.cursors ≡ self.old.cursors }
     {
-        let Appended {
-            documents,
-            ids,
-            mut entries,
-            errors: _,
-        } = appended;
+        let (documents, ids, mut entries) = appended.into_parts();
         self.changes.reserve(entries.len())?;
         match self.collections.get_mut(&ns) {
             Some(collection) => collection.append(documents, ids)?,
@@ -313,5 +301,38 @@ impl Content {
         }
         append_reserved(&mut self.changes, &mut entries);
         Ok(())
+    }
+}
+
+impl Effect {
+    /// Does what a command does. An error changes nothing.
+    pub(crate) fn commit(self, content: &mut Content) -> Result<(), OutOfMemory>
+        ensures ok { OnOk result ((s : State) (given : ℕ) (s' : State) (given' : ℕ) → Represents content.old s given → Does self s given s' given' → Represents content.new s' given') }
+        ensures err { OnErr result ((s : State) (given : ℕ) (s' : State) (given' : ℕ) → Represents content.old s given → Does self s given s' given' → Represents content.new s given) }
+        ensures same { OnErr result (keys content.new.cursors ≡ keys content.old.cursors) }
+    {
+        match self {
+            Effect::Nothing => Ok(()),
+            Effect::Insert { ns, appended } => content.append(ns, appended),
+            Effect::Open { id, cursor } => {
+                content.cursors.insert(id, cursor)?;
+                content.given = id;
+                Ok(())
+            }
+            Effect::Move { id, place } => {
+                if let Some(cursor) = content.cursors.get_mut(&id) {
+                    cursor.place = place;
+                }
+                Ok(())
+            }
+            Effect::Kill { ids } => {
+                remove_all(&mut content.cursors, &ids);
+                Ok(())
+            }
+            Effect::Close { id } => {
+                let _cursor = content.cursors.remove(&id);
+                Ok(())
+            }
+        }
     }
 }

@@ -1,9 +1,9 @@
 //! What the fields of a command hold.
-ghost use Rattle.std.specs.Prelude.{◌≡◌, ◌∷◌, [], map, is_some, IfOk, option_map};
+ghost use Rattle.std.specs.Prelude.{◌≡◌, map, is_some, IfOk, option_and_then, option_map};
 ghost use Rattle.mg_bson.specs.Find.{as_document, get};
 ghost use Rattle.mg_bson.specs.Raw.{fields, items};
 ghost use Rattle.mg_bson.specs.RawView.{value};
-ghost use Rattle.mg_link.specs.Commands.{as_integer, documents_in, flag_or};
+ghost use Rattle.mg_link.specs.Commands.{as_integer, documents_in, flag_or, text_of};
 ghost use Rattle.mg_link.specs.Filter.{has_dot};
 ghost use Rattle.mg_link.specs.Namespace.{space};
 ghost use Rattle.mg_link.specs.State.{is_space};
@@ -102,12 +102,35 @@ pub(crate) fn has_dot(text: &str) -> bool
     false
 }
 
+/// The text of the field.
+pub(crate) fn text_at<'a>(document: &RawDocument<'a>, field: &str) -> Option<&'a str>
+    ensures { option_map (λ s. s.now) result ≡ text_of field.now (fields document.now) }
+{
+    let found = document.get(field)?;
+    found.as_str()
+}
+
+/// The document of the field.
+pub(crate) fn document_at<'a>(document: &RawDocument<'a>, field: &str) -> Option<RawDocument<'a>>
+    ensures { option_map fields result ≡ option_and_then as_document (get field.now (fields document.now)) }
+{
+    let found = document.get(field)?;
+    found.as_document()
+}
+
+/// The id of the field.
+pub(crate) fn id_at(document: &RawDocument<'_>, field: &str) -> Option<i64>
+    ensures { result ≡ option_and_then id_of (get field.now (fields document.now)) }
+{
+    let found = document.get(field)?;
+    id_of(&found)
+}
+
 /// The text of the field, where it may name a database or a collection.
 fn name_at<'a>(command: &RawDocument<'a>, field: &str) -> Option<&'a str>
     ensures { option_map (λ s. s.now) result ≡ name_at field.now (fields command.now) }
 {
-    let found = command.get(field)?;
-    let name = found.as_str()?;
+    let name = text_at(command, field)?;
     if 0 < name.len() && name.len() <= MAX_NAME {
         Some(name)
     } else {

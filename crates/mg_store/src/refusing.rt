@@ -1,11 +1,11 @@
 //! What a refusal ends.
-ghost use Rattle.std.specs.Prelude.{◌≡◌, codes, is_some, option_map};
+ghost use Rattle.std.specs.Prelude.{◌≡◌, codes, is_some};
 ghost use Rattle.mg_bson.specs.Raw.{fields};
-ghost use Rattle.mg_link.specs.Commands.{asked, space_at, text_of};
+ghost use Rattle.mg_link.specs.Commands.{asked, space_at};
 ghost use Rattle.mg_link.specs.Step.{ends_cursor};
 ghost use Rattle.mg_store.specs.Continued.{continued};
 
-use crate::reading::{has_dot, integer_of};
+use crate::reading::{has_dot, integer_of, text_at};
 use mg_bson::RawDocument;
 
 /// Whether a server that refuses a cursor with this code does not hold it any more.
@@ -13,13 +13,6 @@ pub(crate) fn ends_cursor(code: i32) -> bool
     ensures { result ≡ ends_cursor code }
 {
     code == 43 || code == 237
-}
-
-fn text_at<'a>(command: &RawDocument<'a>, field: &str) -> Option<&'a str>
-    ensures { option_map (λ s. s.now) result ≡ text_of field.now (fields command.now) }
-{
-    let found = command.get(field)?;
-    found.as_str()
 }
 
 /// Whether the command names a collection in a database.

@@ -25,6 +25,19 @@ pub(crate) fn put(document: &mut Document, name: &str, value: Bson) -> Result<()
     }
 }
 
+/// Adds a text at the end.
+pub(crate) fn put_text(
+    alloc: Global,
+    document: &mut Document,
+    name: &str,
+    value: &str,
+) -> Result<(), OutOfMemory>
+    ensures { OnOk result (document.new ≡ with_field document.old name.now (string value.now)) }
+{
+    let value = text(alloc, value)?;
+    put(document, name, value)
+}
+
 /// Adds an item at the end.
 pub(crate) fn put_item(array: &mut Array, value: Bson) -> Result<(), OutOfMemory>
     ensures { OnOk result (array.new ≡ with_item array.old (tree value)) }
@@ -35,7 +48,7 @@ pub(crate) fn put_item(array: &mut Array, value: Bson) -> Result<(), OutOfMemory
     }
 }
 
-pub(crate) fn text(alloc: Global, text: &str) -> Result<Bson, OutOfMemory>
+fn text(alloc: Global, text: &str) -> Result<Bson, OutOfMemory>
     ensures { IfOk result (λ t. tree t ≡ string text.now) }
 {
     Ok(Bson::String(String::from_str(alloc, text)?))
@@ -87,14 +100,28 @@ fn words_of(alloc: Global, labels: &[String]) -> Result<Array, OutOfMemory>
 pub(crate) fn refusal(alloc: Global, code: i32, labels: &[String]) -> Result<Document, OutOfMemory>
     ensures { IfOk result (λ d. d ≡ refusal code (map string_bytes labels.now)) }
 {
-    let words = words_of(alloc, labels)?;
     let mut reply = Document::new(alloc);
     put(&mut reply, "ok", Bson::Int32(0))?;
-    put(&mut reply, "errmsg", text(alloc, "refused")?)?;
+    put_text(alloc, &mut reply, "errmsg", "refused")?;
     put(&mut reply, "code", Bson::Int32(code))?;
-    put(&mut reply, "codeName", text(alloc, "Refused")?)?;
-    put(&mut reply, "errorLabels", Bson::Array(words))?;
+    put_text(alloc, &mut reply, "codeName", "Refused")?;
+    put(
+        &mut reply,
+        "errorLabels",
+        Bson::Array(words_of(alloc, labels)?),
+    )?;
     Ok(reply)
+}
+
+/// The id and the namespace of a cursor.
+fn begun_cursor(alloc: Global, id: i64, ns: &Namespace) -> Result<Document, OutOfMemory>
+    ensures { IfOk result (λ d. d ≡ cursor_fields id (space ns.now) empty) }
+{
+    let mut cursor = Document::new(alloc);
+    put(&mut cursor, "id", Bson::Int64(id))?;
+    let full_name = format!(in alloc; "{ns}")?;
+    put(&mut cursor, "ns", Bson::String(full_name))?;
+    Ok(cursor)
 }
 
 /// The part of a reply that holds a batch, under this name, and the token behind it.
@@ -108,12 +135,9 @@ fn cursor(
 ) -> Result<Document, OutOfMemory>
     ensures { IfOk result (λ d. d ≡ cursor_fields id (space ns.now) (field batch.now (array events) ("postBatchResumeToken" ⇒ token_of place ⨾ empty))) }
 {
-    let token = token(alloc, place)?;
-    let full_name = format!(in alloc; "{ns}")?;
-    let mut cursor = Document::new(alloc);
-    put(&mut cursor, "id", Bson::Int64(id))?;
-    put(&mut cursor, "ns", Bson::String(full_name))?;
+    let mut cursor = begun_cursor(alloc, id, ns)?;
     put(&mut cursor, batch, Bson::Array(events))?;
+    let token = token(alloc, place)?;
     put(&mut cursor, "postBatchResumeToken", Bson::Document(token))?;
     Ok(cursor)
 }
@@ -174,7 +198,7 @@ pub(crate) fn write_error(alloc: Global, index: i32, code: i32) -> Result<Docume
     let mut error = Document::new(alloc);
     put(&mut error, "index", Bson::Int32(index))?;
     put(&mut error, "code", Bson::Int32(code))?;
-    put(&mut error, "errmsg", text(alloc, "refused")?)?;
+    put_text(alloc, &mut error, "errmsg", "refused")?;
     Ok(error)
 }
 

@@ -1,6 +1,6 @@
 //! What a command asks of the store.
 ghost use Rattle.mg_store.specs.declared.request.Stop.TheVariants.{Memory};
-ghost use Rattle.std.specs.Prelude.{◌≡◌, ◌∷◌, [], IfOk, map, option_map};
+ghost use Rattle.std.specs.Prelude.{◌≡◌, IfOk, map, option_map};
 ghost use Rattle.mg_bson.specs.Raw.{fields, items, items_left};
 ghost use Rattle.mg_link.specs.Rules.{batch_size, insert_request, kill_request, more_request, request_of, some_size, watch_request};
 ghost use Rattle.mg_store.specs.Asking.{held, keyed};
@@ -8,8 +8,8 @@ ghost use Rattle.mg_store.specs.Wanted.{Asks, OrBadRequest, code_of, conditions_
 
 use crate::filter::{Condition, conditions_of};
 use crate::reading::{
-    LentSpace, array_at, count_at, documents_of, flag_or, has_only, id_of, ids_of, only_document,
-    space_at,
+    LentSpace, array_at, count_at, document_at, documents_of, flag_or, has_only, id_at, ids_of,
+    only_document, space_at,
 };
 use mg_bson::{RawArray, RawDocument, RawItems, RawValue};
 use mg_link::OutOfMemory;
@@ -154,8 +154,7 @@ fn stages_of<'a>(pipeline: &RawArray<'a>) -> Option<Stages<'a>>
 fn batch_size(command: &RawDocument<'_>) -> Option<Option<u64>>
     ensures { result ≡ batch_size (fields command.now) }
 {
-    let found = command.get("cursor")?;
-    let cursor = found.as_document()?;
+    let cursor = document_at(command, "cursor")?;
     if !has_only(&cursor, &["batchSize"]) {
         return None;
     }
@@ -245,8 +244,7 @@ fn get_more_of<'a>(command: &RawDocument<'a>) -> Option<Request<'a>>
     if !has_only(command, &["getMore", "collection", "batchSize"]) {
         return None;
     }
-    let found = command.get("getMore")?;
-    let id = id_of(&found)?;
+    let id = id_at(command, "getMore")?;
     let space = space_at(command, "collection")?;
     let size = count_at(command, "batchSize")?;
     Some(Request::GetMore {

@@ -1,5 +1,5 @@
 //! The store.
-ghost use Rattle.std.specs.Prelude.{◌≡◌, ◌<◌, ◌≤◌, ◌++◌, ◌∷◌, [], length, map, suc, pos, string_bytes, vec_len, vec_capacity, IfOk, OnErr};
+ghost use Rattle.std.specs.Prelude.{◌≡◌, ◌<◌, ◌≤◌, [], length, map, suc, pos, string_bytes, IfOk, OnErr};
 ghost use Rattle.mg_bson.specs.Bytes.{bytes};
 ghost use Rattle.mg_bson.specs.Raw.{fields};
 ghost use Rattle.mg_link.specs.Kept.{IsByRules, IsReply, given_of, state_of_kept};
@@ -13,16 +13,26 @@ use crate::change::ChangeEntry;
 use crate::perform::{Answer, Content, closing, refused};
 use crate::refusing::{continued_cursor, ends_cursor};
 use mg_bson::{RawDocument, RawDocumentBuf};
-use mg_link::{HistoryStep, Namespace, OutOfMemory, Receipt};
+use mg_link::{HistoryStep, Namespace, OutOfMemory, Receipt, push_reserved};
 use std::alloc::Global;
 use std::marker::Model;
 
 /// A store in memory. It performs one command after another, and keeps the history of its steps.
-#[derive(Drop)]
 pub struct Store {
     alloc: Global,
     content: Content,
     history: Vec<HistoryStep>,
+}
+
+// By hand, so that letting one go is one call.
+impl Drop for Store {
+    fn drop(self) {
+        let Store {
+            alloc: _,
+            content: _,
+            history: _,
+        } = self;
+    }
 }
 
 impl Model for Store {
@@ -67,21 +77,18 @@ impl Store {
         ensures reply { IfOk result (λ r. r.reply ≡ answer.reply) }
         ensures err { OnErr result (self.new ≡ self.old) }
     {
-        let alloc = self.alloc;
+        let position = self.history.len() as u64;
+        let step = step_of(self.alloc, &command, &answer.reply)?;
+        let command = copy(self.alloc, &command)?;
         let Answer { reply, effect } = answer;
-        let step = HistoryStep {
-            command: copy(alloc, &command)?,
-            reply: copy(alloc, &reply.as_raw())?,
-        };
-        let receipt = Receipt {
-            position: self.history.len() as u64,
-            command: copy(alloc, &command)?,
-            reply,
-        };
         self.history.reserve(1)?;
-        self.content.commit(effect)?;
+        effect.commit(&mut self.content)?;
         push_reserved(&mut self.history, step);
-        Ok(receipt)
+        Ok(Receipt {
+            position,
+            command,
+            reply,
+        })
     }
 
     /// Refuses a command with this code and these labels, and keeps the step. The reply has at most 47,000,000 bytes. A
@@ -137,6 +144,19 @@ impl Store {
     }
 }
 
+/// The step of a command and its reply, of copies of both.
+fn step_of(
+    alloc: Global,
+    command: &RawDocument<'_>,
+    reply: &RawDocumentBuf,
+) -> Result<HistoryStep, OutOfMemory>
+    ensures { IfOk result (λ s. (s.command ≡ command.now) × (s.reply ≡ reply.now)) }
+{
+    let command = copy(alloc, command)?;
+    let reply = copy(alloc, &reply.as_raw())?;
+    Ok(HistoryStep { command, reply })
+}
+
 /// A copy that owns its bytes.
 pub(crate) fn copy(alloc: Global, raw: &RawDocument<'_>) -> Result<RawDocumentBuf, OutOfMemory>
     ensures { IfOk result (λ r. r ≡ raw.now) }
@@ -144,16 +164,5 @@ pub(crate) fn copy(alloc: Global, raw: &RawDocument<'_>) -> Result<RawDocumentBu
     match raw.to_buf(alloc) {
         Ok(owned) => Ok(owned),
         Err(_) => Err(OutOfMemory),
-    }
-}
-
-/// Adds an item to a vector that has room for it.
-fn push_reserved<T: Drop>(items: &mut Vec<T>, item: T)
-    requires { vec_len items.old < vec_capacity items.old }
-    ensures { items.new.items ≡ items.old.items ++ item ∷ [] }
-{
-    match items.push(item) {
-        Ok(()) => {}
-        Err(_) => unreachable!(),
     }
 }

@@ -1,6 +1,5 @@
 use Rattle.std.proofs.Common.{ap, ◌∙◌, arith}
 use Rattle.mg_bson.specs.View.{fields_of, items_of}
-use Rattle.mg_bson.specs.declared.tree.Field.{Field}
 use Rattle.mg_bson.proofs.Joining.{fields_copied, fields_all_copied, items_copied, items_all_copied}
 use Rattle.mg_bson.proofs.clone.+copy.Goals as goal
 
@@ -14,8 +13,8 @@ copy_array-returns t c =
 
 pub copy_document-loop-field-preserved : goal.copy_document-loop-field-preserved
 copy_document-loop-field-preserved t c =
-    let g : Field = record { name = c.in_ok-clone.field-0; value = c.in_ok-copy_value.field-0 } in
-    fields_copied c.loop-field.fields.items c.push.new.self.items c.deref-field-items.result.now c.loop-field.field-index c.field-item.result g (omega arith) c.field-item.is c.in_ok-clone.ensures.cases c.in_ok-copy_value.ensures c.in_ok-push.ensures.items c.loop-field.invariant
+    let copy = c.in_ok-copy_field in
+    fields_copied c.loop-field.fields.items c.push.new.self.items c.deref-field-items.result.now c.loop-field.field-index c.field-item.result copy.field-0 (omega arith) c.field-item.is copy.ensures.0 copy.ensures.1 c.in_ok-push.ensures.items c.loop-field.invariant
 
 pub copy_document-returns : goal.copy_document-returns
 copy_document-returns t c =

@@ -1,10 +1,9 @@
-use Rattle.std.proofs.Common.{◌≡◌, ◌+◌, ◌++◌, [], length, drop, string_bytes, append_assoc, sym, ap, subst, ◌∙◌, arith, refl}
+use Rattle.std.proofs.Common.{◌≡◌, ◌+◌, ◌++◌, [], drop, string_bytes, append_assoc, sym, ap, subst, ◌∙◌, arith, refl}
 use Rattle.std.proofs.lemmas.Result.{on_ok_weaker, err_from_is_err_and}
 use Rattle.mg_bson.specs.Tree.{field}
 use Rattle.mg_bson.specs.Bytes.{le32, framed, text_bytes, bytes, element, fields_bytes, items_bytes}
 use Rattle.mg_bson.specs.View.{tree, fields_of, items_of}
-use Rattle.mg_bson.specs.Writable.{has_zero}
-use Rattle.mg_bson.specs.Writing.{RefusesAt}
+use Rattle.std.specs.Prelude.{decimal}
 use Rattle.mg_bson.proofs.Along.{Along, AlongItems, along_step, along_head, along_value, along_items_head, along_items_value, fields_here, items_here, opened}
 use Rattle.mg_bson.proofs.write.+write.Goals as goal
 
@@ -55,31 +54,28 @@ write_fields-loop-field-preserved t c =
     let done = c.in_ok-write_value.ensures.sound in
     along_step c.args.levels c.args.out.now.items c.loop-field.out.items c.put_head.new.out.items c.write_value.new.out.items (fields_of c.args.fields.now) rest c.as_str.result.now (tree f.value) a head c.in_ok-write_value.ensures.ok c.in_ok-put_head.ensures.name done.0 done.1
 
-pub write_items-returns-in_err-put_head-clause-err : goal.write_items-returns-in_err-put_head-clause-err
-write_items-returns-in_err-put_head-clause-err t c =
+pub write_items-returns-in_err-put_numbered-clause-err : goal.write_items-returns-in_err-put_numbered-clause-err
+write_items-returns-in_err-put_numbered-clause-err t c =
     let x = c.index-items-i.result in
-    let i = c.loop-i.i-counter in
+    let i = c.loop-i.i in
     let ts = c.args.items.now in
     let rest = items_of (drop (i + 1) ts) in
     let here = items_here ts i x (omega arith) c.index-items-i.is in
     let a = subst (AlongItems c.args.levels i c.args.out.now.items c.loop-i.out.items (items_of ts)) here c.loop-i.invariant in
-    let p = err_from_is_err_and c.from_residual-in_err-put_head.result c.from_residual-in_err-put_head.ensures.1 in
-    let named = c.as_str.ensures.value ∙ c.in_ok-name.ensures.ok in
-    rw (p.1, p.2) (along_items_head _ c.args.levels i c.args.out.now.items c.loop-i.out.items (items_of ts) rest (tree x) (omega arith) a
-    (subst (λ k. RefusesAt c.in_err-put_head.field-0.0 (length c.loop-i.out.items + (length k + 2)) 0 0 (has_zero k)) named c.in_err-put_head.ensures.err))
+    let p = err_from_is_err_and c.from_residual.result c.from_residual.ensures.1 in
+    rw (p.1, p.2) (along_items_head _ c.args.levels i c.args.out.now.items c.loop-i.out.items (items_of ts) rest (tree x) (omega arith) a c.in_err-put_numbered.ensures.err)
 
 pub write_items-returns-in_err-write_value-clause-err : goal.write_items-returns-in_err-write_value-clause-err
 write_items-returns-in_err-write_value-clause-err t c =
     let x = c.index-items-i.result in
-    let i = c.loop-i.i-counter in
+    let i = c.loop-i.i in
     let ts = c.args.items.now in
     let rest = items_of (drop (i + 1) ts) in
     let here = items_here ts i x (omega arith) c.index-items-i.is in
     let a = subst (AlongItems c.args.levels i c.args.out.now.items c.loop-i.out.items (items_of ts)) here c.loop-i.invariant in
-    let named = c.as_str.ensures.value ∙ c.in_ok-name.ensures.ok in
-    let head = c.in_ok-put_head.ensures.ok ∙ rw (named, c.kind.ensures) refl in
+    let head = c.in_ok-put_numbered.ensures.ok ∙ ap (λ k. c.loop-i.out.items ++ element k (decimal i) []) c.kind.ensures in
     let p = err_from_is_err_and c.from_residual-in_err-write_value.result c.from_residual-in_err-write_value.ensures.1 in
-    rw (p.1, p.2) (along_items_value _ c.args.levels i c.args.out.now.items c.loop-i.out.items c.put_head.new.out.items (items_of ts) rest (tree x) a head c.in_err-write_value.ensures.err)
+    rw (p.1, p.2) (along_items_value _ c.args.levels i c.args.out.now.items c.loop-i.out.items c.put_numbered.new.out.items (items_of ts) rest (tree x) a head c.in_err-write_value.ensures.err)
 
 pub write_scoped-returns-clause-ok : goal.write_scoped-returns-clause-ok
 write_scoped-returns-clause-ok t c =

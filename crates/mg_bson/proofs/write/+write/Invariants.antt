@@ -22,7 +22,7 @@ abbrev pub invariant-write_fields-loop-field : goal.invariant-write_fields-loop-
 invariant-write_fields-loop-field l = Along l.levels l.initial.out.items l.out.items (fields_of l.fields) (fields_of (drop l.field-index l.fields))
 
 abbrev pub invariant-write_items-loop-i : goal.invariant-write_items-loop-i
-invariant-write_items-loop-i l = AlongItems l.levels l.i-counter l.initial.out.items l.out.items (items_of l.items) (items_of (drop l.i-counter l.items))
+invariant-write_items-loop-i l = AlongItems l.levels l.i l.initial.out.items l.out.items (items_of l.items) (items_of (drop l.i l.items))
 
 abbrev pub decreases-write_scoped : goal.decreases-write_scoped
 decreases-write_scoped l = 4 * l.levels + 1

@@ -89,3 +89,18 @@ returns-in-Ok-kill-clause-caused g c = causes.kill_new (g.L.Link.awaited c.args.
 
 pub returns-in-Err-kill-clause-caused : goal.returns-in-Err-kill-clause-caused
 returns-in-Err-kill-clause-caused g c = causes.kill_unbuilt (g.L.Link.awaited c.args.link.now) (g.L.Link.awaited c.args.link.now) (g.L.Link.log c.args.link.now) (g.L.Link.wire c.args.link.now) c.args.remains c.in-Ok.ids.items c.in-Err-kill.error (ids_same c.args.remains.cursor.id c.args.remains.opened c.in-Ok.ids.items (search rules) (search rules) c.in-Ok.ensures.ok) c.in-Err-kill.ensures.fails
+
+pub returns-in-Ok-kill-clause-pended : goal.returns-in-Ok-kill-clause-pended
+returns-in-Ok-kill-clause-pended g c = c.wait.ensures.pended
+
+pub returns-in-Ok-kill-clause-lost : goal.returns-in-Ok-kill-clause-lost
+returns-in-Ok-kill-clause-lost g c = c.wait.ensures.lost
+
+pub returns-in-Ok-kill-clause-prompt : goal.returns-in-Ok-kill-clause-prompt
+returns-in-Ok-kill-clause-prompt g c = c.wait.ensures.prompt
+
+pub returns-in-Ok-kill-clause-later : goal.returns-in-Ok-kill-clause-later
+returns-in-Ok-kill-clause-later g c = c.wait.ensures.later
+
+pub returns-in-Ok-kill-clause-quiet : goal.returns-in-Ok-kill-clause-quiet
+returns-in-Ok-kill-clause-quiet g c = c.wait.ensures.quiet

@@ -1,6 +1,6 @@
 use Rattle.std.proofs.Common.{◌≡◌, map, string_bytes, true, Ok, sym, ap, ◌∙◌, arith}
-use Rattle.mg_jobs.specs.Plan.{plan}
-use Rattle.mg_jobs.specs.Script.{script_of}
+use Rattle.mg_script.specs.Plan.{plan}
+use Rattle.mg_script.specs.Script.{script_of}
 use Rattle.mg_jobs.specs.Program.{is_run}
 use Rattle.mg_jobs.proofs.program.play.Goals as goal
 

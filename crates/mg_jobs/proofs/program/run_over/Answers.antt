@@ -1,13 +1,13 @@
 use Rattle.std.proofs.Common.{◌≡◌, ℕ, ℤ, List, [], ◌∷◌, Some, ap, sym, ◌∙◌, subst}
 use Rattle.std.specs.Prelude.{slice_get}
-use Rattle.mg_link.specs.Kept.{IsByRules, steps_of}
+use Rattle.mg_link.specs.Kept.{steps_of}
 use Rattle.mg_link.specs.Log.{Call}
 use Rattle.mg_link.specs.Standing.{Stands}
 use Rattle.mg_link.proofs.Owners.{same_some}
 use Rattle.mg_link.proofs.Runs.{names_none_at_first}
 use Rattle.mg_store.specs.InMemory.{AreAsFates}
 use Rattle.mg_jobs.specs.Causes.{OutcomeCaused, course}
-use Rattle.mg_jobs.specs.Plan.{tasks}
+use Rattle.mg_script.specs.Plan.{tasks}
 use Rattle.mg_jobs.proofs.program.run_over.Goals as goal
 
 pub returns-clause-followed : goal.returns-clause-followed
@@ -24,7 +24,7 @@ returns-clause-followed g c =
     record {
       calls = f.0;
       log_is = c.in_ok-logs.ensures.items ∙ ap (λ l. l ∷ []) (c.into_parts-store.ensures.calls ∙ calls);
-      by_rules = subst (λ h. IsByRules h) (ap (λ s. s.history) c.store.view_is) c.store.invariant.by_rules;
+      by_rules = c.history.ensures.by_rules;
       stands = subst (λ l. Stands l (steps_of c.into_parts-store.result.0.history)) calls (subst (λ s. Stands link.calls (steps_of s.history)) stored c.into_parts-store.ensures.stands);
       followed = λ i t r ht hr. f.2 i t r (ap (λ l. slice_get (tasks l) i) jobs ∙ ht) hr;
       own = f.3 names_none_at_first;

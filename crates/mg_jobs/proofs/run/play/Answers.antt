@@ -3,7 +3,7 @@ use Rattle.std.specs.List.{All, sum_by}
 use Rattle.std.proofs.lemmas.List.Elements.{All-append, All-cons, All-nil}
 use Rattle.mg_link.proofs.Onward.{later_on}
 use Rattle.mg_jobs.specs.Counts.{StartedBy}
-use Rattle.mg_jobs.specs.declared.outcome.Turned.{Turned}
+use Rattle.mg_script.specs.declared.outcome.Turned.{Turned}
 use Rattle.std.proofs.lemmas.Option.{slice_get-get_or}
 use Rattle.mg_jobs.proofs.Advancing.{at_next}
 use Rattle.mg_jobs.proofs.Knowing.{length_take}

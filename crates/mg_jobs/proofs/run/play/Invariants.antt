@@ -3,11 +3,11 @@ use Rattle.std.specs.List.{All, sum_by}
 use Rattle.mg_link.specs.Link.{Later, Told}
 use Rattle.mg_jobs.specs.Counts.{LosesNothing, StartedBy}
 use Rattle.mg_jobs.specs.Headline.{DoTasks, Knowing}
-use Rattle.mg_jobs.specs.Plan.{Task}
+use Rattle.mg_script.specs.Plan.{Task}
 use Rattle.mg_jobs.specs.Progress.{AllAt}
 use Rattle.mg_jobs.specs.Runs.{Stands}
 use Rattle.mg_jobs.specs.Telling.{AllTell}
-use Rattle.mg_jobs.specs.declared.outcome.Turned.{Turned}
+use Rattle.mg_script.specs.declared.outcome.Turned.{Turned}
 use Rattle.mg_jobs.proofs.run.play.Given as goal
 
 abbrev pub invariant-loop-number : goal.invariant-loop-number

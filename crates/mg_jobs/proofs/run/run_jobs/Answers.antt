@@ -1,8 +1,8 @@
 use Rattle.std.proofs.Common.{◌≡◌, ◌<◌, length, None, refl, sym, subst}
 use Rattle.std.specs.List.{All}
-use Rattle.mg_jobs.specs.Script.{first_missing}
+use Rattle.mg_script.specs.Script.{first_missing}
 use Rattle.mg_jobs.proofs.Orders.{none_missing}
-use Rattle.mg_jobs.specs.Plan.{tasks}
+use Rattle.mg_script.specs.Plan.{tasks}
 use Rattle.mg_jobs.proofs.Knowing.{knowing_first, played_so}
 use Rattle.mg_jobs.proofs.Advancing.{rows_so}
 use Rattle.mg_jobs.proofs.Completing.{well_so}

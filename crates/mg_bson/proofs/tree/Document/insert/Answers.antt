@@ -1,5 +1,5 @@
 use Rattle.std.proofs.Common.{sym, ap, ◌∙◌, arith, Some, string_bytes}
-use Rattle.mg_bson.specs.Find.{get, put}
+use Rattle.mg_bson.specs.Find.{get, put, with_field}
 use Rattle.mg_bson.specs.View.{tree, fields_of, place}
 use Rattle.mg_bson.specs.declared.tree.Field.{Field}
 use Rattle.mg_bson.proofs.Places.{place_some, place_none}
@@ -26,15 +26,15 @@ returns-in-Some-clause-old c =
     let f = c.index_mut-field.result.now in
     ap (λ v. Some (tree v)) c.replace.ensures.value ∙ ap (λ f. Some (tree f.value)) c.index_mut-field.ensures.value ∙ sym (s.found f) ∙ ap (get k) c.self.view_is
 
-pub returns-in_ok-push-in-None-clause-ok : goal.returns-in_ok-push-in-None-clause-ok
-returns-in_ok-push-in-None-clause-ok c =
+pub returns-in_ok-append-in-None-clause-ok : goal.returns-in_ok-append-in-None-clause-ok
+returns-in_ok-append-in-None-clause-ok c =
     let k = c.args.name.now in
+    let t = tree c.args.value in
     let s = place_none k c.self.inside.fields.items (sym (ap (place k) c.deref.ensures.value) ∙ sym c.in-None.ensures) in
-    let g : Field = record { name = c.in_ok-name-in-None.name; value = c.args.value } in
-    ap fields_of c.in_ok-push-in-None.ensures.items ∙ sym (s.added g c.in_ok-name-in-None.ensures.ok) ∙ ap (put k (tree c.args.value)) c.self.view_is
+    c.in_ok-append-in-None.ensures.ok ∙ ap (λ d. with_field d k t) (sym c.self.view_is) ∙ sym (s.added t) ∙ ap (put k t) c.self.view_is
 
-pub returns-in_ok-push-in-None-clause-old : goal.returns-in_ok-push-in-None-clause-old
-returns-in_ok-push-in-None-clause-old c =
+pub returns-in_ok-append-in-None-clause-old : goal.returns-in_ok-append-in-None-clause-old
+returns-in_ok-append-in-None-clause-old c =
     let k = c.args.name.now in
     let s = place_none k c.self.inside.fields.items (sym (ap (place k) c.deref.ensures.value) ∙ sym c.in-None.ensures) in
     sym s.missing ∙ ap (get k) c.self.view_is

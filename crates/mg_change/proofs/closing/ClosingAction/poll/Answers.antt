@@ -135,3 +135,63 @@ returns-in-Last-clause-caused g c = λ is.
     let p = flight.Last c.in-Last.exec in
     causes.flight_is (g.L.Link.awaited c.args.link.now) (g.L.Link.awaited c.wait.new.link) (g.L.Link.log c.args.link.now) (g.L.Link.log c.wait.new.link) (g.L.Link.wire c.args.link.now) c.args.self.remains p c.args.self.flight c.wait.result c.in-Last.is
     (c.wait.ensures.caused (flies_as _ c.args.self.remains p c.args.self.flight c.in-Last.is is.flies))
+
+pub returns-in-Landed-clause-tickets : goal.returns-in-Landed-clause-tickets
+returns-in-Landed-clause-tickets g c = rw c.in-Landed.is c.kill_all.ensures.tickets
+
+pub returns-in-Landed-clause-pended : goal.returns-in-Landed-clause-pended
+returns-in-Landed-clause-pended g c = c.kill_all.ensures.pended
+
+pub returns-in-Landed-clause-lost : goal.returns-in-Landed-clause-lost
+returns-in-Landed-clause-lost g c = c.kill_all.ensures.lost
+
+pub returns-in-Landed-clause-prompt : goal.returns-in-Landed-clause-prompt
+returns-in-Landed-clause-prompt g c = c.kill_all.ensures.prompt
+
+pub returns-in-Landed-clause-later : goal.returns-in-Landed-clause-later
+returns-in-Landed-clause-later g c = c.kill_all.ensures.later
+
+pub returns-in-Landed-clause-quiet : goal.returns-in-Landed-clause-quiet
+returns-in-Landed-clause-quiet g c = λ q. c.kill_all.ensures.quiet
+
+pub returns-in-Last-clause-tickets : goal.returns-in-Last-clause-tickets
+returns-in-Last-clause-tickets g c = rw c.in-Last.is c.wait.ensures.tickets
+
+pub returns-in-Last-clause-pended : goal.returns-in-Last-clause-pended
+returns-in-Last-clause-pended g c = c.wait.ensures.pended
+
+pub returns-in-Last-clause-lost : goal.returns-in-Last-clause-lost
+returns-in-Last-clause-lost g c = c.wait.ensures.lost
+
+pub returns-in-Last-clause-prompt : goal.returns-in-Last-clause-prompt
+returns-in-Last-clause-prompt g c = c.wait.ensures.prompt
+
+pub returns-in-Last-clause-later : goal.returns-in-Last-clause-later
+returns-in-Last-clause-later g c = c.wait.ensures.later
+
+pub returns-in-Last-clause-quiet : goal.returns-in-Last-clause-quiet
+returns-in-Last-clause-quiet g c = λ q. c.wait.ensures.quiet
+
+pub returns-in-Landed-clause-sends : goal.returns-in-Landed-clause-sends
+returns-in-Landed-clause-sends g c = λ is. c.kill_all.ensures.sends
+
+pub returns-in-Landed-clause-closes : goal.returns-in-Landed-clause-closes
+returns-in-Landed-clause-closes g c = λ is. c.kill_all.ensures.closes is.kept
+
+pub returns-in-More-clause-pended : goal.returns-in-More-clause-pended
+returns-in-More-clause-pended g c = c.go_on.ensures.pended (g.L.Link.pends c.args.link.now) c.land_more-landing.ensures.pended
+
+pub returns-in-More-clause-lost : goal.returns-in-More-clause-lost
+returns-in-More-clause-lost g c = c.go_on.ensures.lost (g.L.Link.faults c.args.link.now) c.land_more-landing.ensures.later.faults c.land_more-landing.ensures.lost
+
+pub returns-in-Resumption-clause-pended : goal.returns-in-Resumption-clause-pended
+returns-in-Resumption-clause-pended g c = c.go_on-in-Resumption.ensures.pended (g.L.Link.pends c.args.link.now) c.land_resumption-landing.ensures.pended
+
+pub returns-in-Resumption-clause-lost : goal.returns-in-Resumption-clause-lost
+returns-in-Resumption-clause-lost g c = c.go_on-in-Resumption.ensures.lost (g.L.Link.faults c.args.link.now) c.land_resumption-landing.ensures.later.faults c.land_resumption-landing.ensures.lost
+
+pub returns-in-Older-clause-pended : goal.returns-in-Older-clause-pended
+returns-in-Older-clause-pended g c = c.go_on-in-Older.ensures.pended (g.L.Link.pends c.args.link.now) c.land_older-landing.ensures.pended
+
+pub returns-in-Older-clause-lost : goal.returns-in-Older-clause-lost
+returns-in-Older-clause-lost g c = c.go_on-in-Older.ensures.lost (g.L.Link.faults c.args.link.now) c.land_older-landing.ensures.later.faults c.land_older-landing.ensures.lost

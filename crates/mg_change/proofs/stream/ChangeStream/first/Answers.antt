@@ -10,8 +10,8 @@ use Rattle.mg_change.proofs.Causes as causes
 use Rattle.mg_change.proofs.stream.ChangeStream.first.Goals as goal
 
 pub returns-in-Ok-clause-turned : goal.returns-in-Ok-clause-turned
-returns-in-Ok-clause-turned c = turning.first_came c.args.self.now c.args.reply (record c.args.self.now { buffer = c.in-Ok.documents })
-    (subst (λ (b : List ℕ). HoldsBatch (fields b) (map fields c.in-Ok.documents.items)) c.as_raw.ensures c.in-Ok.ensures.ok)
+returns-in-Ok-clause-turned c = rw c.enter.ensures (turning.first_came c.args.self.now c.args.reply (record c.args.self.now { buffer = c.in-Ok.documents })
+    (subst (λ (b : List ℕ). HoldsBatch (fields b) (map fields c.in-Ok.documents.items)) c.as_raw.ensures c.in-Ok.ensures.ok))
 
 pub returns-clause-turned : goal.returns-clause-turned
 returns-clause-turned c =
@@ -20,8 +20,8 @@ returns-clause-turned c =
 
 pub returns-in-Ok-clause-caused : goal.returns-in-Ok-clause-caused
 returns-in-Ok-clause-caused c = λ awaited past at resumed far.
-    causes.first_came awaited past at resumed c.args.self.now c.args.reply far (record c.args.self.now { buffer = c.in-Ok.documents })
-    (subst (λ (b : List ℕ). HoldsBatch (fields b) (map fields c.in-Ok.documents.items)) c.as_raw.ensures c.in-Ok.ensures.ok)
+    rw c.enter.ensures (causes.first_came awaited past at resumed c.args.self.now c.args.reply far (record c.args.self.now { buffer = c.in-Ok.documents })
+    (subst (λ (b : List ℕ). HoldsBatch (fields b) (map fields c.in-Ok.documents.items)) c.as_raw.ensures c.in-Ok.ensures.ok))
 
 pub returns-clause-caused : goal.returns-clause-caused
 returns-clause-caused c = λ awaited past at resumed far.

@@ -8,7 +8,7 @@ use Rattle.mg_change.proofs.stream.ChangeStream.more_came.Goals as goal
 
 pub returns-in-Ok-clause-quiet : goal.returns-in-Ok-clause-quiet
 returns-in-Ok-clause-quiet c =
-    sending.quiet_at 3 c.args.self.now (record c.keep.new.self { phase = phase.Fresh }) stepped.Goes phase.Fresh refl (omega arith) (omega arith) c.keep.ensures.aggregate
+    rw c.enter.ensures (sending.quiet_at 3 c.args.self.now (record c.keep.new.self { phase = phase.Fresh }) stepped.Goes phase.Fresh refl (omega arith) (omega arith) c.keep.ensures.aggregate)
 
 pub returns-in-Err-clause-quiet : goal.returns-in-Err-clause-quiet
 returns-in-Err-clause-quiet c =
@@ -17,7 +17,7 @@ returns-in-Err-clause-quiet c =
 
 pub returns-in-Ok-clause-caused : goal.returns-in-Ok-clause-caused
 returns-in-Ok-clause-caused c = λ awaited past at kept cursor heard.
-    causes.more_kept awaited past at c.args.self.now c.keep.new.self c.args.reply c.keep.ensures.aggregate c.in-Ok.ensures.tells c.in-Ok.ensures.gave kept cursor heard
+    rw c.enter.ensures (causes.more_kept awaited past at c.args.self.now c.keep.new.self c.args.reply c.keep.ensures.aggregate c.in-Ok.ensures.tells c.in-Ok.ensures.gave kept cursor heard)
 
 pub returns-in-Err-clause-caused : goal.returns-in-Err-clause-caused
 returns-in-Err-clause-caused c = λ awaited past at kept cursor heard.

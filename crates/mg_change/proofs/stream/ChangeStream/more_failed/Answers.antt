@@ -8,16 +8,16 @@ use Rattle.mg_change.proofs.stream.ChangeStream.more_failed.Goals as goal
 use Rattle.mg_change.proofs.stream.ChangeStream.more_failed.Goals.{else-not-is_resumable-via-then-not-is_resumable+else-not-is_memory, else-not-is_resumable-via-else-not-is_resumable}
 
 pub returns-then-not-is_memory-clause-turned : goal.returns-then-not-is_memory-clause-turned
-returns-then-not-is_memory-clause-turned c = hearing.fail_rests c.args.error c.args.self.now c.note_end.new.self (ends_cursor (command_code c.args.error.kind)) c.requires.empty
-    (sym c.is_resumable.ensures ∙ c.if-not-is_resumable.true) (λ room. let bad : true ≡ false = sym (c.is_memory.ensures.1 room) ∙ c.if-not-is_memory.true in absurd cc) c.note_end.ensures
+returns-then-not-is_memory-clause-turned c = rw c.enter.ensures (hearing.fail_rests c.args.error c.args.self.now c.note_end.new.self (ends_cursor (command_code c.args.error.kind)) c.requires.empty
+    (sym c.is_resumable.ensures ∙ c.if-not-is_resumable.true) (λ room. let bad : true ≡ false = sym (c.is_memory.ensures.1 room) ∙ c.if-not-is_memory.true in absurd cc) c.note_end.ensures)
 
 pub returns-clause-turned : goal.returns-clause-turned
 returns-clause-turned c = hearing.fail_owes c.args.error c.args.self.now c.lose.new.self c.note_end.new.self (step_told c.lose.result) (ends_cursor (command_code c.args.error.kind)) c.note_end.ensures c.lose.ensures.owes c.lose.ensures.told
 
 pub returns-then-not-is_memory-clause-caused : goal.returns-then-not-is_memory-clause-caused
 returns-then-not-is_memory-clause-caused c = λ awaited past at kept start over failed.
-    causes.failed_rests awaited past at c.args.self.now c.note_end.new.self c.args.error c.note_end.ensures c.requires.empty
-    (sym c.is_resumable.ensures ∙ c.if-not-is_resumable.true) (λ room. let bad : true ≡ false = sym (c.is_memory.ensures.1 room) ∙ c.if-not-is_memory.true in absurd cc) kept start over failed
+    rw c.enter.ensures (causes.failed_rests awaited past at c.args.self.now c.note_end.new.self c.args.error c.note_end.ensures c.requires.empty
+    (sym c.is_resumable.ensures ∙ c.if-not-is_resumable.true) (λ room. let bad : true ≡ false = sym (c.is_memory.ensures.1 room) ∙ c.if-not-is_memory.true in absurd cc) kept start over failed)
 
 pub returns-clause-caused : goal.returns-clause-caused
 returns-clause-caused c = λ awaited past at kept start over failed.

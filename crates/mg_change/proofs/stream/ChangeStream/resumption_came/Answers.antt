@@ -17,4 +17,4 @@ returns-in-Ok-clause-caused c = λ awaited past at kept why stays heard.
     c.replace.ensures.caused awaited past at kept stays (causes.resumed_by awaited past at c.args.self.now c.args.reply c.in-Ok.opened c.in-Ok.ensures.ok.opens kept why heard)
 
 pub returns-in-Err-clause-caused : goal.returns-in-Err-clause-caused
-returns-in-Err-clause-caused c = λ awaited past at kept why stays heard. causes.resumption_breaks awaited past at c.args.self.now c.args.reply c.in-Err.error c.in-Err.ensures.err kept why stays heard
+returns-in-Err-clause-caused c = λ awaited past at kept why stays heard. rw c.enter.ensures (causes.resumption_breaks awaited past at c.args.self.now c.args.reply c.in-Err.error c.in-Err.ensures.err kept why stays heard)

@@ -1,5 +1,5 @@
 use Rattle.std.proofs.Common.{refl, subst, sym}
-use Rattle.mg_link.proofs.Plain.{plain_ran}
+use Rattle.mg_link.proofs.Killing.{plain_ran}
 use Rattle.mg_jobs.specs.Inserts.{IsPlain}
 use Rattle.mg_jobs.proofs.InsertCauses.{failed_caused, inserted_caused, pending_caused, unread_caused}
 use Rattle.mg_jobs.proofs.Plainly.{same_command}

@@ -1,6 +1,6 @@
 use Rattle.std.proofs.Common.{length, refl, sym, ◌∙◌, arith}
 use Rattle.mg_link.proofs.Onward.{later_on, later_same, tickets_on, tickets_same}
-use Rattle.mg_link.proofs.Plain.{plain_on, plain_stayed}
+use Rattle.mg_link.proofs.Killing.{plain_on, plain_stayed}
 use Rattle.mg_jobs.specs.Inserts.{held}
 use Rattle.mg_jobs.proofs.InsertCauses.{led_failed, led_finished, led_inserted, led_pending, led_stopped}
 use Rattle.mg_jobs.proofs.Plainly.{tickets_from}

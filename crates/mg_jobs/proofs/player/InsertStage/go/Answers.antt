@@ -1,7 +1,7 @@
 use Rattle.std.proofs.Common.{false, refl}
-use Rattle.mg_link.proofs.Plain.{plain_stayed}
+use Rattle.mg_link.proofs.Killing.{plain_stayed}
 use Rattle.mg_jobs.specs.declared.player.InsertStage.TheVariants as inserts
-use Rattle.mg_jobs.specs.declared.outcome.Ended.TheVariants as ended
+use Rattle.mg_script.specs.declared.outcome.Ended.TheVariants as ended
 use Rattle.mg_jobs.proofs.Advancing.{insert_done, insert_over, insert_waits}
 use Rattle.mg_jobs.proofs.InsertTelling.{stage_done, stage_fails, stage_stays, stage_waits}
 use Rattle.mg_jobs.proofs.player.InsertStage.go.Goals as goal

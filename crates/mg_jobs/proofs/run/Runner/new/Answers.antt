@@ -1,7 +1,7 @@
 use Rattle.std.proofs.Common.{◌+◌, [], length, arith, refl, sym, subst, take}
 use Rattle.std.proofs.lemmas.Option.{slice_get_read}
 use Rattle.mg_jobs.specs.Headline.{DoTasks}
-use Rattle.mg_jobs.specs.Plan.{tasks}
+use Rattle.mg_script.specs.Plan.{tasks}
 use Rattle.mg_jobs.specs.Progress.{AllAt}
 use Rattle.mg_jobs.proofs.Advancing.{at_first_more}
 use Rattle.mg_jobs.proofs.Knowing.{first_more, tasks_step}

@@ -1,6 +1,6 @@
 use Rattle.std.proofs.Common.{◌≡◌, [], length, take}
 use Rattle.mg_jobs.specs.Headline.{AreFirst, DoTasks}
-use Rattle.mg_jobs.specs.Plan.{tasks}
+use Rattle.mg_script.specs.Plan.{tasks}
 use Rattle.mg_jobs.specs.Progress.{AllAt}
 use Rattle.mg_jobs.specs.Runs.{AreNew}
 use Rattle.mg_jobs.proofs.run.Runner.new.Given as goal

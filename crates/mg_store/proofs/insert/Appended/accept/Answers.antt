@@ -1,17 +1,17 @@
 use Rattle.std.proofs.Common.{◌≡◌, ℕ, ◌+◌, ◌++◌, ◌∷◌, [], true, false, Bool, List, Some, is_some, length, map, refl, sym, ap, ◌∙◌, arith, cond, subst}
+use Rattle.std.specs.Prelude.{codes}
 use Rattle.std.specs.Str.{bytes_eq}
 use Rattle.std.proofs.lemmas.Bool.{or_from, or_left, or_right}
 use Rattle.std.proofs.lemmas.List.{length-map, map-append}
 use Rattle.mg_bson.specs.Tree.{Tree, Fields}
-use Rattle.mg_bson.specs.Bytes.{bytes}
 use Rattle.mg_bson.specs.Raw.{fields}
-use Rattle.mg_bson.specs.View.{tree}
+use Rattle.mg_bson.specs.Find.{get}
 use Rattle.mg_link.specs.Filter.{key}
 use Rattle.mg_store.specs.Holding.{AreExact}
 use Rattle.mg_store.specs.Inserting.{Fits, KeepsIdsThere, new_documents, number_in, number_of_id, there}
 use Rattle.mg_store.specs.declared.change.ChangeEntry.{ChangeEntry}
 use Rattle.mg_store.proofs.Entries.{exact-append}
-use Rattle.mg_store.proofs.Ids.{accept_new, accept_twice, apart_push, ids_push, number_updates, twice}
+use Rattle.mg_store.proofs.Ids.{accept_new, accept_twice, apart_push, ids_push, twice}
 use Rattle.mg_store.proofs.insert.Appended.accept.Goals as goal
 use Rattle.mg_store.proofs.insert.Appended.accept.Goals.{After-holds, then-holds-via-then-holds, then-holds-via-else-holds+then-contains_key}
 
@@ -23,10 +23,13 @@ module _ (c : After-holds) where
   docs = new_documents c.args.self.now
 
   abbrev id : Tree
-  id = tree c.in_ok-id.id
+  id = c.in_ok-key.ensures.0
+
+  id_is : get (codes "_id") c.args.document ≡ Some id
+  id_is = c.in_ok-key.ensures.1
 
   key_is : c.in_ok-key.key.items ≡ key id
-  key_is = c.in_ok-key.ensures.key ∙ ap key c.in_ok-clone.ensures.cases
+  key_is = c.in_ok-key.ensures.2
 
   held_before : KeepsIdsThere c.args.collection → c.holds.result ≡ is_some (number_of_id 0 (key id) before)
   held_before keeps = c.holds.ensures keeps ∙ ap (λ (k : List ℕ). is_some (number_of_id 0 k before)) key_is
@@ -42,7 +45,7 @@ returns-then-holds c keeps fits =
       | then-holds-via-then-holds w ↦ or_left (is_some (number_of_id 0 (key (id d)) (before d))) (is_some (number_of_id (length (before d)) (key (id d)) (docs d))) (sym (held_before d keeps) ∙ w.if-holds.true)
       | then-holds-via-else-holds+then-contains_key w ↦ or_right (is_some (number_of_id 0 (key (id d)) (before d))) (is_some (number_of_id (length (before d)) (key (id d)) (docs d))) (sym (held_new d w.contains_key.result w.contains_key.ensures fits) ∙ w.if-contains_key.true)
     ] in
-    (accept_twice (length (before d)) (before d) (docs d) c.args.document (id d) c.in_ok-bytes.ensures.1 c.in_ok-id.ensures found, refl)
+    (accept_twice (length (before d)) (before d) (docs d) c.args.document (id d) c.in_ok-bytes.ensures.1 (id_is d) found, refl)
 
 pub returns : goal.returns
 returns c keeps fits =
@@ -50,26 +53,26 @@ returns c keeps fits =
     let none_before : is_some (number_of_id 0 (key (id d)) (before d)) ≡ false = sym (held_before d keeps) ∙ c.if-holds.false in
     let none_new : is_some (number_of_id (length (before d)) (key (id d)) (docs d)) ≡ false = sym (held_new d c.contains_key.result c.contains_key.ensures fits) ∙ c.if-contains_key.false in
     let fresh : twice (length (before d)) (id d) (before d) (docs d) ≡ false = or_from (is_some (number_of_id 0 (key (id d)) (before d))) (is_some (number_of_id (length (before d)) (key (id d)) (docs d))) none_before none_new in
-    let entry : ChangeEntry = record { ns = c.in_ok-ns.ns; event = c.in_ok-event-2.event } in
-    let event_is = c.in_ok-event-2.ensures.read_back ∙ c.in_ok-event.ensures in
-    let stored : map fields c.push.new.self.items ≡ docs d ++ c.args.document ∷ [] =
-    ap (map fields) c.in_ok-push.ensures.items ∙ map-append fields c.args.self.now.documents.items (c.in_ok-bytes.bytes ∷ []) ∙ ap (λ (x : Fields). docs d ++ x ∷ []) c.in_ok-bytes.ensures.2 in
+    let adds = c.in_ok-add.ensures in
+    let entry : ChangeEntry = c.in_ok-entry.entry in
+    let made = c.in_ok-entry.ensures (id d) (id_is d) in
+    let stored : map fields c.add.new.self.documents.items ≡ docs d ++ c.args.document ∷ [] =
+    ap (map fields) adds.documents_are ∙ map-append fields c.args.self.now.documents.items (c.in_ok-bytes.bytes ∷ []) ∙ ap (λ (x : Fields). docs d ++ x ∷ []) c.in_ok-bytes.ensures.2 in
     let number : c.count_of.result + c.len.result ≡ length (before d) + length (docs d) = omega (arith, c.count_of.ensures.count, c.len.ensures, length-map c.args.self.now.documents.items fields) in
-    let updates = c.in_ok-insert.ensures.updates in
-    let at : (k : List ℕ) → number_in c.insert.new.self k ≡ cond (bytes_eq (key (id d)) k) (Some (c.count_of.result + c.len.result)) (number_in c.args.self.now.ids k) =
-    λ k. number_updates c.in_ok-key.key.items (c.count_of.result + c.len.result) c.args.self.now.ids c.insert.new.self updates.3 updates.1 k ∙ ap (λ (l : List ℕ). cond (bytes_eq l k) (Some (c.count_of.result + c.len.result)) (number_in c.args.self.now.ids k)) (key_is d) in
+    let at : (k : List ℕ) → number_in c.add.new.self.ids k ≡ cond (bytes_eq (key (id d)) k) (Some (c.count_of.result + c.len.result)) (number_in c.args.self.now.ids k) =
+    λ k. adds.at k ∙ ap (λ (l : List ℕ). cond (bytes_eq l k) (Some (c.count_of.result + c.len.result)) (number_in c.args.self.now.ids k)) (key_is d) in
     record {
       id = id d;
-      accepted = accept_new (length (before d)) (before d) (docs d) c.args.document (id d) c.in_ok-bytes.ensures.1 c.in_ok-id.ensures fresh;
+      accepted = accept_new (length (before d)) (before d) (docs d) c.args.document (id d) c.in_ok-bytes.ensures.1 (id_is d) fresh;
       entry = entry;
-      at = c.in_ok-ns.ensures.cases;
-      event_is = event_is;
-      entries_are = c.in_ok-push-2.ensures.items;
+      at = made.at;
+      event_is = made.event_is;
+      entries_are = adds.entries_are;
       documents_are = stored;
-      errors_same = refl;
+      errors_same = adds.errors_same;
       fits = record {
-        ids_are = λ k. ids_push (length (before d)) (c.count_of.result + c.len.result) (docs d) c.args.document (id d) c.args.self.now.ids c.insert.new.self c.in_ok-id.ensures fits.ids_are none_new number at k ∙ ap (number_of_id (length (before d)) k.items) (sym stored);
-        apart = λ k there. ap (number_of_id (length (before d)) k) stored ∙ apart_push (length (before d)) (before d) (docs d) c.args.document (id d) c.in_ok-id.ensures none_before fits.apart k there;
-        exact = subst AreExact (sym c.in_ok-push-2.ensures.items) (exact-append c.args.self.now.entries.items (entry ∷ []) fits.exact (c.in_ok-event-2.ensures.bytes ∙ ap bytes (sym c.in_ok-event-2.ensures.read_back), tt));
+        ids_are = λ k. ids_push (length (before d)) (c.count_of.result + c.len.result) (docs d) c.args.document (id d) c.args.self.now.ids c.add.new.self.ids (id_is d) fits.ids_are none_new number at k ∙ ap (number_of_id (length (before d)) k.items) (sym stored);
+        apart = λ k there. ap (number_of_id (length (before d)) k) stored ∙ apart_push (length (before d)) (before d) (docs d) c.args.document (id d) (id_is d) none_before fits.apart k there;
+        exact = subst AreExact (sym adds.entries_are) (exact-append c.args.self.now.entries.items (entry ∷ []) fits.exact (made.exact, tt));
       };
     }

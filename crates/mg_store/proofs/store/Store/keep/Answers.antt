@@ -12,15 +12,15 @@ invariant_of-self-in_err-commit c =
     let history : List Kept = steps_of c.self.inside.history.items in
     let may : MayKeep history c.args.command c.args.answer = subst (λ (h : List Kept). MayKeep h c.args.command c.args.answer) (sym (ap (λ (s : Stored). s.history) c.self.view_is)) c.requires in
     let fits : length c.self.inside.content.changes.items < 2 ^ 64 = omega (arith, c.self.inside.content.changes.ok.0, c.self.inside.content.changes.small) in
-    subst (λ (h : List Kept). Keeps c.commit.new.self h) (sym (ap steps_of c.in_ok-reserve.ensures.items)) (keeps_still c.self.inside.content c.commit.new.self history c.args.command c.args.answer c.self.invariant may fits c.in_err-commit.ensures.err)
+    subst (λ (h : List Kept). Keeps c.commit.new.content h) (sym (ap steps_of c.in_ok-reserve.ensures.items)) (keeps_still c.self.inside.content c.commit.new.content history c.args.command c.args.answer c.self.invariant may fits c.in_err-commit.ensures.err)
 
 pub invariant_of-self-2 : goal.invariant_of-self-2
 invariant_of-self-2 c =
     let history : List Kept = steps_of c.self.inside.history.items in
     let may : MayKeep history c.args.command c.args.answer = subst (λ (h : List Kept). MayKeep h c.args.command c.args.answer) (sym (ap (λ (s : Stored). s.history) c.self.view_is)) c.requires in
     let fits : length c.self.inside.content.changes.items < 2 ^ 64 = omega (arith, c.self.inside.content.changes.ok.0, c.self.inside.content.changes.small) in
-    let kept : HistoryStep = record { command = c.in_ok-copy.field-0; reply = c.in_ok-copy-2.field-0 } in
+    let kept : HistoryStep = c.in_ok-step.step in
     let steps : steps_of c.push_reserved.new.items.items ≡ history ++ record { command = c.args.command; reply = c.args.answer.reply } ∷ [] =
     ap steps_of (c.push_reserved.ensures ∙ ap (λ (l : List HistoryStep). l ++ kept ∷ []) c.in_ok-reserve.ensures.items) ∙ map-append kept_of c.self.inside.history.items (kept ∷ [])
-    ∙ ap₂ (λ (command reply : List ℕ). history ++ record { command = command; reply = reply } ∷ []) c.in_ok-copy.ensures (c.in_ok-copy-2.ensures ∙ c.as_raw.ensures) in
-    subst (λ (h : List Kept). Keeps c.commit.new.self h) (sym steps) (keeps_more c.self.inside.content c.commit.new.self history c.args.command c.args.answer c.self.invariant may fits c.in_ok-commit.ensures.ok)
+    ∙ ap₂ (λ (command reply : List ℕ). history ++ record { command = command; reply = reply } ∷ []) c.in_ok-step.ensures.0 c.in_ok-step.ensures.1 in
+    subst (λ (h : List Kept). Keeps c.commit.new.content h) (sym steps) (keeps_more c.self.inside.content c.commit.new.content history c.args.command c.args.answer c.self.invariant may fits c.in_ok-commit.ensures.ok)

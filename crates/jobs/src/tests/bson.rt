@@ -1,0 +1,408 @@
+use super::{bytes_of, one_field, parted, text, with};
+use mg_bson::{
+    Array, Binary, Bson, BsonError, Document, ObjectId, RawDocumentBuf, Regex, to_bytes,
+    to_document,
+};
+use std::alloc::Global;
+use std::test::Fail;
+
+// A document for each kind, a line each: its bytes, and how its value of the name `x` prints.
+const VECTORS: &str = "\
+0500000000 None
+10000000017800000000000000f03f00 Some(Double([0, 0, 0, 0, 0, 0, 240, 63]))
+0d000000027800010000000000 Some(String(\"\"))
+0f0000000278000300000068690000 Some(String(\"hi\"))
+160000000278000a000000c3a9e29883f09f98800000 Some(String(\"é☃😀\"))
+10000000027800040000006100620000 Some(String(\"a\\0b\"))
+0d000000037800050000000000 Some(Document(Document { fields: [] }))
+1100000003780009000000087900010000 Some(Document(Document { fields: [Field { name: \"y\", value: Boolean(true) }] }))
+0d000000047800050000000000 Some(Array(Array { items: [] }))
+170000000478000f0000000a3000103100010000000000 Some(Array(Array { items: [Null, Int32(1)] }))
+0d000000057800000000000000 Some(Binary(Binary { subtype: 0, bytes: [] }))
+0f0000000578000200000000010200 Some(Binary(Binary { subtype: 0, bytes: [1, 2] }))
+13000000057800060000000202000000010200 Some(Binary(Binary { subtype: 2, bytes: [2, 0, 0, 0, 1, 2] }))
+120000000578000500000002090000000100 Some(Binary(Binary { subtype: 2, bytes: [9, 0, 0, 0, 1] }))
+0e00000005780001000000ff0700 Some(Binary(Binary { subtype: 255, bytes: [7] }))
+0800000006780000 Some(Undefined)
+140000000778000102030405060708090a0b0c00 Some(ObjectId(ObjectId([1, 2, 3, 4, 5, 6, 7, 8, 9, 10, 11, 12])))
+090000000878000000 Some(Boolean(false))
+090000000878000100 Some(Boolean(true))
+10000000097800ffffffffffffffff00 Some(DateTime(DateTime { millis: -1 }))
+080000000a780000 Some(Null)
+0a0000000b7800000000 Some(Regex(Regex { pattern: \"\", options: \"\" }))
+0e0000000b7800c3a900696d0000 Some(Regex(Regex { pattern: \"é\", options: \"im\" }))
+1b0000000c7800030000006200000102030405060708090a0b0c00 Some(DbPointer(DbPointer { namespace: \"b\\0\", id: ObjectId([1, 2, 3, 4, 5, 6, 7, 8, 9, 10, 11, 12]) }))
+0f0000000d78000300000066000000 Some(Code(\"f\\0\"))
+0f0000000e78000300000073000000 Some(Symbol(\"s\\0\"))
+180000000f78001000000003000000660000050000000000 Some(CodeWithScope(CodeWithScope { code: \"f\\0\", scope: Document { fields: [] } }))
+190000000f7800110000000100000000080000000a79000000 Some(CodeWithScope(CodeWithScope { code: \"\", scope: Document { fields: [Field { name: \"y\", value: Null }] } }))
+0c0000001078000100000000 Some(Int32(1))
+0c0000001078000000008000 Some(Int32(-2147483648))
+1000000011780001000000feffffff00 Some(Timestamp(Timestamp { time: 4294967294, increment: 1 }))
+10000000127800000000000001000000 Some(Int64(1099511627776))
+10000000127800fdffffffffffffff00 Some(Int64(-3))
+180000001378000000000000000000000000000000403000 Some(Decimal128([0, 0, 0, 0, 0, 0, 0, 0, 0, 0, 0, 0, 0, 0, 64, 48]))
+08000000ff780000 Some(MinKey)
+080000007f780000 Some(MaxKey)
+10000000107800010000000878000100 Some(Int32(1))
+0b0000000a0006c3a90000 None
+";
+
+// Arrays whose names are no numbers in order, and what is written in their place.
+const RENAMED: &str = "\
+130000000478000b0000000a37000a61000000 130000000478000b0000000a30000a31000000
+140000000478000c0000000a000a000a30000000 160000000478000e0000000a30000a31000a32000000
+150000000478000d0000000ac3a9000a3031000000 130000000478000b0000000a30000a31000000
+";
+
+// Bytes that are no document, and why.
+const DAMAGED: &str = "\
+04000000 a length and no end
+ no bytes
+0000000000 a length of 0
+0400000000 a length one too small
+0600000000 a length one too large
+ffffffff00 a length below 0
+0500008000 a length whose top bit is set
+0500000001 an end that is not 0
+050000000000 a byte after the end
+0c00000010780001000000 the end missing
+0b00000010780001000000 the end missing, and the length too
+0b0000001078000100000000 the length of a fuller document one too small
+0d0000001078000100000000 the length of a fuller document one too large
+0800000000780000 the kind 0, which is none
+0800000014780000 the kind 20, which is none
+0800000020780000 the kind 32, which is none
+080000007e780000 the kind 126, which is none
+0800000080780000 the kind 128, which is none
+08000000fe780000 the kind 254, which is none
+080000000a787800 a name without its 0
+080000000aff0000 a name with a byte that begins no character
+080000000a800000 a name with a byte that only follows
+080000000ac30000 a name with a character cut short
+090000000ac0800000 a name with a 0 in two bytes
+0a0000000aeda0800000 a name with a surrogate
+0b0000000af49080800000 a name with a character too high
+0f0000000178000101010101010100 one byte too few of a floating point number
+1100000001780001010101010101010000 one byte too many of a floating point number
+13000000077800010101010101010101010100 one byte too few of a object id
+150000000778000101010101010101010101010000 one byte too many of a object id
+0f0000000978000101010101010100 one byte too few of a time in milliseconds
+1100000009780001010101010101010000 one byte too many of a time in milliseconds
+0b00000010780001010100 one byte too few of a number of 32 bits
+0d000000107800010101010000 one byte too many of a number of 32 bits
+0f0000001178000101010101010100 one byte too few of a time of the log
+1100000011780001010101010101010000 one byte too many of a time of the log
+0f0000001278000101010101010100 one byte too few of a number of 64 bits
+1100000012780001010101010101010000 one byte too many of a number of 64 bits
+1700000013780001010101010101010101010101010100 one byte too few of a decimal
+19000000137800010101010101010101010101010101010000 one byte too many of a decimal
+090000000678000000 a byte behind undefined
+090000000a78000000 a byte behind null
+09000000ff78000000 a byte behind the least key
+090000007f78000000 a byte behind the greatest key
+0800000008780000 a boolean without its byte
+090000000878000200 a boolean of 2
+09000000087800ff00 a boolean of 255
+0f0000000278000200000068690000 the length of a string one too small
+0f0000000278000400000068690000 the length of a string one too large
+0f0000000278000000000068690000 the length of a string of 0
+0f000000027800ffffffff68690000 the length of a string below 0
+0f000000027800ffffff7f68690000 the length of a string of all bits but one
+0f0000000278000300000068690100 a string without its 0
+0f00000002780003000000c3280000 a string that is not UTF-8
+0e00000002780002000000c30000 a string that ends in a character
+0f0000000d78000200000068690000 the length of a code one too small
+0f0000000d78000400000068690000 the length of a code one too large
+0f0000000d78000000000068690000 the length of a code of 0
+0f0000000d7800ffffffff68690000 the length of a code below 0
+0f0000000d7800ffffff7f68690000 the length of a code of all bits but one
+0f0000000d78000300000068690100 a code without its 0
+0f0000000d780003000000c3280000 a code that is not UTF-8
+0e0000000d780002000000c30000 a code that ends in a character
+0f0000000e78000200000068690000 the length of a symbol one too small
+0f0000000e78000400000068690000 the length of a symbol one too large
+0f0000000e78000000000068690000 the length of a symbol of 0
+0f0000000e7800ffffffff68690000 the length of a symbol below 0
+0f0000000e7800ffffff7f68690000 the length of a symbol of all bits but one
+0f0000000e78000300000068690100 a symbol without its 0
+0f0000000e780003000000c3280000 a symbol that is not UTF-8
+0e0000000e780002000000c30000 a symbol that ends in a character
+1b0000000c7800020000006869000102030405060708090a0b0c00 the length of a namespace one too small
+1b0000000c7800040000006869000102030405060708090a0b0c00 the length of a namespace one too large
+1b0000000c7800000000006869000102030405060708090a0b0c00 the length of a namespace of 0
+1b0000000c7800ffffffff6869000102030405060708090a0b0c00 the length of a namespace below 0
+1b0000000c7800ffffff7f6869000102030405060708090a0b0c00 the length of a namespace of all bits but one
+1b0000000c7800030000006869010102030405060708090a0b0c00 a namespace without its 0
+1b0000000c780003000000c328000102030405060708090a0b0c00 a namespace that is not UTF-8
+1a0000000c780002000000c3000102030405060708090a0b0c00 a namespace that ends in a character
+190000000c78000200000062000102030405060708090a0b00 one byte too few of a pointer's id
+1b0000000c78000200000062000102030405060708090a0b0c0100 one byte too many of a pointer's id
+1100000003780008000000083000010000 the length of an inner document one too small
+110000000378000a000000083000010000 the length of an inner document one too large
+1100000003780004000000083000010000 the length of an inner document below all bytes
+1100000003780000000000083000010000 the length of an inner document of 0
+11000000037800ffffffff083000010000 the length of an inner document below 0
+1100000003780009000000083000010100 an inner document whose end is not 0
+10000000037800080000000aff000000 a name that is not UTF-8 in an inner document
+160000000378000e00000002300002000000ff000000 a text that is not UTF-8 in an inner document
+1100000003780009000000083000020000 a boolean of 2 in an inner document
+1100000004780008000000083000010000 the length of an inner array one too small
+110000000478000a000000083000010000 the length of an inner array one too large
+1100000004780004000000083000010000 the length of an inner array below all bytes
+1100000004780000000000083000010000 the length of an inner array of 0
+11000000047800ffffffff083000010000 the length of an inner array below 0
+1100000004780009000000083000010100 an inner array whose end is not 0
+10000000047800080000000aff000000 a name that is not UTF-8 in an inner array
+160000000478000e00000002300002000000ff000000 a text that is not UTF-8 in an inner array
+1100000004780009000000083000020000 a boolean of 2 in an inner array
+0f0000000578000100000000010200 the length of a binary one too small
+0f0000000578000300000000010200 the length of a binary one too large
+0f000000057800ffffffff00010200 the length of a binary below 0
+0f000000057800fcffffff00010200 the length of a binary that makes the value one byte long
+0f000000057800fbffffff00010200 the length of a binary that makes the value empty
+0c0000000578000000000000 a binary without its subtype
+0c0000000b7800ff00690000 a pattern that is not UTF-8
+0c0000000b78006100ff0000 options that are not UTF-8
+090000000b78006100 a pattern and no options
+0a0000000b7800610000 a pattern, and options that only the end ends
+0e0000000b7800610069006a0000 a regular expression of three texts
+1a0000000f780011000000020000006600080000000a79000000 the length of a code with scope one too small
+1a0000000f780013000000020000006600080000000a79000000 the length of a code with scope one too large
+1a0000000f780003000000020000006600080000000a79000000 the length of a code with scope below its own
+1a0000000f780000000000020000006600080000000a79000000 the length of a code with scope of 0
+1a0000000f7800ffffffff020000006600080000000a79000000 the length of a code with scope below 0
+1a0000000f780012000000010000006600080000000a79000000 the length of its code one too small
+1a0000000f780012000000030000006600080000000a79000000 the length of its code one too large
+1a0000000f780012000000000000006600080000000a79000000 the length of its code of 0
+1a0000000f780012000000ffffffff6600080000000a79000000 the length of its code below 0
+1a0000000f780012000000020000006601080000000a79000000 its code without its 0
+1a0000000f78001200000002000000ff00080000000a79000000 its code not UTF-8
+1a0000000f780012000000020000006600070000000a79000000 the length of its scope one too small
+1a0000000f780012000000020000006600090000000a79000000 the length of its scope one too large
+1a0000000f780012000000020000006600ffffffff0a79000000 the length of its scope below 0
+1a0000000f780012000000020000006600080000000a79000100 its scope whose end is not 0
+1a0000000f780012000000020000006600080000000aff000000 a name of its scope not UTF-8
+200000000f7800180000000200000066000e00000002790002000000ff000000 a text of its scope not UTF-8
+120000000f78000a00000002000000660000 no scope
+1b0000000f780013000000020000006600080000000a7900000000 a byte behind its scope
+";
+
+// The document of these bytes.
+fn document_of(alloc: Global, bytes: Vec<u8>) -> Result<Document, BsonError> {
+    let raw = RawDocumentBuf::from_bytes(bytes)?;
+    to_document(alloc, raw.as_raw())
+}
+
+// The hexadecimal digits of the bytes of a document.
+fn digits_of(alloc: Global, document: &Document) -> Result<String, BsonError> {
+    let bytes = bytes_of(alloc, document)?;
+    Ok(hex::encode(alloc, bytes)?)
+}
+
+#[test]
+fn encoding_vectors(rt: HostRuntime) -> Result<(), Fail> {
+    let alloc = rt.alloc();
+    for line in VECTORS.lines() {
+        let (digits, shown) = parted(line);
+        let document = document_of(alloc, hex::decode(alloc, digits)?)?;
+        let value = format!(in alloc; "{:?}", document.get("x"))?;
+        assert_eq!(rt; value.as_str(), shown);
+        assert_eq!(rt; digits_of(alloc, &document)?.as_str(), digits);
+    }
+    Ok(())
+}
+
+#[test]
+fn renamed_items(rt: HostRuntime) -> Result<(), Fail> {
+    let alloc = rt.alloc();
+    for line in RENAMED.lines() {
+        let (digits, renamed) = parted(line);
+        let document = document_of(alloc, hex::decode(alloc, digits)?)?;
+        assert_eq!(rt; digits_of(alloc, &document)?.as_str(), renamed);
+    }
+    Ok(())
+}
+
+#[test]
+fn damaged_bytes(rt: HostRuntime) -> Result<(), Fail> {
+    let alloc = rt.alloc();
+    for line in DAMAGED.lines() {
+        let (text, why) = parted(line);
+        let error = RawDocumentBuf::from_bytes(hex::decode(alloc, text)?).err();
+        assert_eq!(rt; error, Some(BsonError::Malformed), "{why}");
+    }
+    Ok(())
+}
+
+// The bytes of the document of so many levels, each but the first in a value of the kind: a document, an array or code
+// with its scope.
+fn nested_bytes(alloc: Global, kind: u8, levels: u32) -> Result<Vec<u8>, BsonError> {
+    let mut bytes = Vec::from_slice(alloc, &[5, 0, 0, 0, 0])?;
+    for _ in 1..levels {
+        let mut value = Vec::new(alloc);
+        if kind == 15 {
+            value.extend_from_slice(&(bytes.len() as u64).wrapping_add(9).to_le_bytes()[..4])?;
+            value.extend_from_slice(&[1, 0, 0, 0, 0])?;
+        }
+        value.extend_from_slice(&bytes)?;
+        let mut outer = Vec::new(alloc);
+        outer.extend_from_slice(&(value.len() as u64).wrapping_add(8).to_le_bytes()[..4])?;
+        outer.extend_from_slice(&[kind, 48, 0])?;
+        outer.extend_from_slice(&value)?;
+        outer.push(0)?;
+        bytes = outer;
+    }
+    Ok(bytes)
+}
+
+#[test]
+fn limits_of_levels(rt: HostRuntime) -> Result<(), Fail> {
+    let alloc = rt.alloc();
+    for kind in [3, 4, 15] {
+        let bytes = nested_bytes(alloc, kind, 100)?;
+        let deepest = document_of(alloc, bytes.clone()?)?;
+        assert_eq!(rt;
+            to_bytes(alloc, &deepest)?.as_bytes(),
+            bytes.as_slice(),
+            "{kind}"
+        );
+        let deeper = one_field(alloc, "0", Bson::Document(deepest))?;
+        assert_eq!(rt;
+            to_bytes(alloc, &deeper).err(),
+            Some(BsonError::TooDeep),
+            "{kind}"
+        );
+        let unread = RawDocumentBuf::from_bytes(nested_bytes(alloc, kind, 101)?).err();
+        assert_eq!(rt; unread, Some(BsonError::Malformed), "{kind}");
+    }
+    Ok(())
+}
+
+#[test]
+fn limits_of_size(rt: HostRuntime) -> Result<(), Fail> {
+    let alloc = rt.alloc();
+    // The document of one binary takes 13 bytes more than it holds.
+    for (len, error) in [(47_999_987, None), (47_999_988, Some(BsonError::TooLarge))] {
+        let bytes = vec![in alloc; 0; len]?;
+        let document = one_field(alloc, "x", Bson::Binary(Binary { subtype: 0, bytes }))?;
+        assert_eq!(rt; to_bytes(alloc, &document).err(), error, "{len}");
+    }
+    Ok(())
+}
+
+// Why a document of one field is not written.
+fn fault_of(alloc: Global, name: &str, value: Bson) -> Result<Option<BsonError>, BsonError> {
+    let document = one_field(alloc, name, value)?;
+    Ok(to_bytes(alloc, &document).err())
+}
+
+#[test]
+fn bad_names(rt: HostRuntime) -> Result<(), Fail> {
+    let alloc = rt.alloc();
+    let bad = Some(BsonError::BadName);
+    assert_eq!(rt; fault_of(alloc, "a\0b", Bson::Null)?, bad);
+    let regex = Regex {
+        pattern: String::from_str(alloc, "a\0")?,
+        options: String::new(alloc),
+    };
+    assert_eq!(rt; fault_of(alloc, "x", Bson::Regex(regex))?, bad);
+    assert_eq!(rt; BsonError::BadName.to_string(alloc)?.as_str(), "BadName");
+    Ok(())
+}
+
+// Texts, and the object ids that they are.
+const IDS: &str = "\
+00010f107f809fa0abcdefff Some(ObjectId([0, 1, 15, 16, 127, 128, 159, 160, 171, 205, 239, 255]))
+00010F107f809fA0abcdefFF Some(ObjectId([0, 1, 15, 16, 127, 128, 159, 160, 171, 205, 239, 255]))
+ None
+00010f107f809fa0abcdeff None
+00010f107f809fa0abcdefff00 None
+00010g107f809fa0abcdefff None
+";
+
+#[test]
+fn object_ids_of_texts(rt: HostRuntime) -> Result<(), Fail> {
+    for line in IDS.lines() {
+        let (text, shown) = parted(line);
+        let id = format!(in rt.alloc(); "{:?}", ObjectId::parse_str(text))?;
+        assert_eq!(rt; id.as_str(), shown, "{text}");
+    }
+    Ok(())
+}
+
+#[test]
+fn texts_of_object_ids(rt: HostRuntime) -> Result<(), Fail> {
+    let alloc = rt.alloc();
+    let id = ObjectId([0, 1, 15, 16, 127, 128, 159, 160, 171, 205, 239, 255]);
+    let text = "00010f107f809fa0abcdefff";
+    assert_eq!(rt; id.to_hex(alloc)?.as_str(), text);
+    assert_eq!(rt; id.to_string(alloc)?.as_str(), text);
+    Ok(())
+}
+
+// The document `{ a: 1, b: [7, "s"], a: 2 }`.
+fn sample(alloc: Global) -> Result<Document, BsonError> {
+    let mut items = Array::new(alloc);
+    items.push(Bson::Int32(7))?;
+    items.push(text(alloc, "s")?)?;
+    let document = one_field(alloc, "a", Bson::Int32(1))?;
+    let document = with(document, "b", Bson::Array(items))?;
+    with(document, "a", Bson::Int32(2))
+}
+
+#[test]
+fn changes_of_a_document(rt: HostRuntime) -> Result<(), Fail> {
+    let alloc = rt.alloc();
+    let mut document = sample(alloc)?;
+    assert!(rt; document.insert("a", Bson::Int64(3))? == Some(Bson::Int32(1)));
+    assert!(rt; document.insert("c", Bson::Null)?.is_none());
+    assert!(rt; document.remove("a") == Some(Bson::Int64(3)));
+    assert_eq!(rt; document.keys().next(), Some("b"));
+    let shown = format!(in alloc; "{document:?}")?;
+    let expected = concat!(
+        "Document { fields: [Field { name: \"b\", value: Array(Array { items: [Int32(7), String(\"s\")] }) }, ",
+        "Field { name: \"a\", value: Int32(2) }, Field { name: \"c\", value: Null }] }",
+    );
+    assert_eq!(rt; shown.as_str(), expected);
+    Ok(())
+}
+
+#[test]
+fn copies_of_a_document(rt: HostRuntime) -> Result<(), Fail> {
+    let alloc = rt.alloc();
+    let document = sample(alloc)?;
+    let copy = document.clone()?;
+    assert!(rt; copy == document);
+    let read = document_of(alloc, bytes_of(alloc, &copy)?)?;
+    assert!(rt; read == document);
+    Ok(())
+}
+
+#[test]
+fn copies_of_bytes(rt: HostRuntime) -> Result<(), Fail> {
+    let alloc = rt.alloc();
+    let raw = to_bytes(alloc, &sample(alloc)?)?;
+    let kept = raw.as_raw().to_buf(alloc)?.clone()?;
+    assert!(rt; kept == raw);
+    assert_eq!(rt; kept.into_bytes().as_slice(), raw.as_bytes());
+    Ok(())
+}
+
+// The value of the name `b` in the bytes of a document.
+fn value_of_b(alloc: Global, document: &Document) -> Result<Bson, BsonError> {
+    let raw = to_bytes(alloc, document)?;
+    match raw.as_raw().get("b") {
+        Some(value) => value.to_value(alloc),
+        None => Ok(Bson::Null),
+    }
+}
+
+#[test]
+fn copies_of_a_value(rt: HostRuntime) -> Result<(), Fail> {
+    let alloc = rt.alloc();
+    let document = sample(alloc)?;
+    let value = value_of_b(alloc, &document)?;
+    assert!(rt; document.get("b") == Some(&value));
+    Ok(())
+}

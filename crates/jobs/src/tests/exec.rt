@@ -1,0 +1,223 @@
+ghost use Rattle.mg_link.specs.Acts.{IsOut};
+ghost use Rattle.mg_link.specs.Exec.{ticket_of};
+ghost use Rattle.mg_link.specs.Places.{out_at};
+
+use super::{bytes_of, one_field, text, with, with_text};
+use mg_bson::{Array, Bson, BsonError, RawDocumentBuf, to_bytes};
+use mg_link::{
+    Action, Error, ErrorKind, Exec, Malformed, Retry, ScriptLink, Scripted, ScriptedSeen, Step,
+    Verdict, verdict_of,
+};
+use std::alloc::Global;
+use std::test::Fail;
+
+// A reply with this `ok`.
+fn reply_of(alloc: Global, ok: Bson) -> Result<Vec<u8>, BsonError> {
+    bytes_of(alloc, &one_field(alloc, "ok", ok)?)
+}
+
+fn labels_of(alloc: Global) -> Result<Array, BsonError> {
+    let mut labels = Array::new(alloc);
+    labels.push(text(alloc, "RetryableError")?)?;
+    labels.push(Bson::Int32(5))?;
+    Ok(labels)
+}
+
+// A refusal with this code, and a label.
+fn refusal_of(alloc: Global, code: i32) -> Result<Vec<u8>, BsonError> {
+    let reply = one_field(alloc, "ok", Bson::Int32(0))?;
+    let reply = with_text(alloc, reply, "errmsg", "not now")?;
+    let reply = with(reply, "code", Bson::Int32(code))?;
+    let reply = with_text(alloc, reply, "codeName", "Name")?;
+    let labels = labels_of(alloc)?;
+    let reply = with(reply, "errorLabels", Bson::Array(labels))?;
+    bytes_of(alloc, &reply)
+}
+
+fn ping(alloc: Global) -> Result<RawDocumentBuf, BsonError> {
+    to_bytes(alloc, &one_field(alloc, "ping", Bson::Int32(1))?)
+}
+
+// What comes of a ping.
+#[derive(Clone, Copy, Debug, PartialEq, Eq)]
+enum Came {
+    Pends,
+    Succeeds,
+    Refused(i32),
+    Lost,
+    NoOk,
+    NoDocument,
+    Other,
+}
+
+fn came_of(error: &Error) -> Came {
+    match &error.kind {
+        ErrorKind::Io => Came::Lost,
+        ErrorKind::Command(refusal) => Came::Refused(refusal.code),
+        ErrorKind::InvalidResponse(Malformed::NoOk) => Came::NoOk,
+        ErrorKind::BsonDeserialization => Came::NoDocument,
+        _ => Came::Other,
+    }
+}
+
+fn what_came(step: Step<Exec, RawDocumentBuf>) -> Came {
+    match step {
+        Step::Pending(_) => Came::Pends,
+        Step::Done(_) => Came::Succeeds,
+        Step::Failed(error) => came_of(&error),
+    }
+}
+
+// How many polls a ping takes to its end, 9 at most, and what comes of it.
+fn polls_to_end(exec: Exec, link: &mut ScriptLink) -> (u32, Came)
+    requires { IsOut (out_at link.old.calls) (ticket_of exec) }
+{
+    let mut state = exec;
+    'polls: for count in 1..10 {
+        match state.poll(link) {
+            Step::Pending(next) => state = next,
+            Step::Done(_) => return (count, Came::Succeeds),
+            Step::Failed(error) => return (count, came_of(&error)),
+        }
+    }
+    (9, Came::Pends)
+}
+
+// A link that answers so, and then by a success. Each answer pends so often.
+fn link_of(alloc: Global, pend: u32, seen: ScriptedSeen) -> Result<ScriptLink, BsonError> {
+    let success = ScriptedSeen::Reply(reply_of(alloc, Bson::Int32(1))?);
+    let mut list = Vec::new(alloc);
+    list.push(Scripted { pend, seen })?;
+    list.push(Scripted {
+        pend,
+        seen: success,
+    })?;
+    Ok(ScriptLink::new(list, 21))
+}
+
+// What a ping is answered first.
+#[derive(Clone, Copy)]
+enum First {
+    Refusal(i32),
+    Bytes([u8; 5]),
+    Fault,
+    Memory,
+}
+
+fn seen_of(alloc: Global, first: First) -> Result<ScriptedSeen, BsonError> {
+    match first {
+        First::Refusal(code) => Ok(ScriptedSeen::Reply(refusal_of(alloc, code)?)),
+        First::Bytes(bytes) => Ok(ScriptedSeen::Reply(Vec::from_slice(alloc, &bytes)?)),
+        First::Fault => Ok(ScriptedSeen::Fault),
+        First::Memory => Ok(ScriptedSeen::Memory),
+    }
+}
+
+// What comes of a ping whose first answer is this, and how many commands were sent.
+fn answer_to(alloc: Global, first: First, retry: Retry) -> Result<(Came, usize), BsonError> {
+    let mut link = link_of(alloc, 0, seen_of(alloc, first)?)?;
+    let exec = Exec::start(ping(alloc)?, retry);
+    let came = what_came(exec.run(&mut link, 1));
+    Ok((came, link.commands().len()))
+}
+
+#[test]
+fn reads_are_sent_once_more(rt: HostRuntime) -> Result<(), Fail> {
+    let retried = [
+        6, 7, 89, 91, 134, 189, 262, 9001, 10107, 11600, 11602, 13435, 13436,
+    ];
+    for code in retried {
+        let found = answer_to(rt.alloc(), First::Refusal(code), Retry::Read)?;
+        assert_eq!(rt; found, (Came::Succeeds, 2), "{code}");
+    }
+    Ok(())
+}
+
+#[test]
+fn answers_of_other_kinds(rt: HostRuntime) -> Result<(), Fail> {
+    let cases = [
+        (First::Refusal(63), Retry::Read, Came::Refused(63), 1),
+        (First::Refusal(133), Retry::Read, Came::Refused(133), 1),
+        (First::Fault, Retry::Read, Came::Succeeds, 2),
+        (First::Fault, Retry::None, Came::Lost, 1),
+        (First::Memory, Retry::Read, Came::Other, 1),
+        (
+            First::Bytes([5, 0, 0, 0, 1]),
+            Retry::Read,
+            Came::NoDocument,
+            1,
+        ),
+        (First::Bytes([5, 0, 0, 0, 0]), Retry::Read, Came::NoOk, 1),
+    ];
+    for (first, retry, came, sent) in cases {
+        let found = answer_to(rt.alloc(), first, retry)?;
+        assert_eq!(rt; found, (came, sent));
+    }
+    Ok(())
+}
+
+#[test]
+fn replies_that_pend(rt: HostRuntime) -> Result<(), Fail> {
+    let alloc = rt.alloc();
+    let mut link = link_of(alloc, 2, ScriptedSeen::Fault)?;
+    let exec = Exec::start(ping(alloc)?, Retry::Read);
+    assert_eq!(rt; link.commands().len(), 0);
+    assert_eq!(rt; polls_to_end(exec, &mut link), (5, Came::Succeeds));
+    assert_eq!(rt; link.commands().len(), 2);
+    let command = ping(alloc)?;
+    for sent in link.commands() {
+        assert_eq!(rt; sent.as_bytes(), command.as_bytes());
+    }
+    Ok(())
+}
+
+#[test]
+fn a_link_with_no_answers(rt: HostRuntime) -> Result<(), Fail> {
+    let alloc = rt.alloc();
+    let mut dead = ScriptLink::new(Vec::new(alloc), 21);
+    let exec = Exec::start(ping(alloc)?, Retry::Read);
+    assert_eq!(rt; polls_to_end(exec, &mut dead), (1, Came::Lost));
+    assert_eq!(rt; dead.commands().len(), 2);
+    Ok(())
+}
+
+#[test]
+fn what_refusals_say(rt: HostRuntime) -> Result<(), Fail> {
+    let alloc = rt.alloc();
+    let mut link = link_of(alloc, 0, ScriptedSeen::Reply(refusal_of(alloc, 63)?))?;
+    let exec = Exec::start(ping(alloc)?, Retry::None);
+    let Step::Failed(error) = exec.poll(&mut link) else {
+        return Err(Fail::from("a refusal is a failure"));
+    };
+    assert!(rt; error.contains_label("RetryableError"));
+    assert_eq!(rt; error.labels.as_slice().len(), 1);
+    assert_eq!(rt; error.wire_version, Some(21));
+    let text = format!(in alloc; "{error}")?;
+    assert_eq!(rt; text.as_str(), "refused with code 63 (Name): not now");
+    Ok(())
+}
+
+#[test]
+fn what_ok_says(rt: HostRuntime) -> Result<(), Fail> {
+    let alloc = rt.alloc();
+    let cases = [
+        (Bson::Int32(1), Verdict::Success),
+        (Bson::Int64(1), Verdict::Success),
+        (
+            Bson::Double([0, 0, 0, 0, 0, 0, 0xf0, 0x3f]),
+            Verdict::Success,
+        ),
+        (Bson::Int32(0), Verdict::Refusal),
+        (Bson::Int64(2), Verdict::Refusal),
+        (
+            Bson::Double([0, 0, 0, 0, 0, 0, 0xf8, 0x3f]),
+            Verdict::Refusal,
+        ),
+        (Bson::Boolean(true), Verdict::NoOk),
+    ];
+    for (ok, expected) in cases {
+        let reply = RawDocumentBuf::from_bytes(reply_of(alloc, ok)?)?;
+        assert_eq!(rt; verdict_of(&reply.as_raw()), expected);
+    }
+    Ok(())
+}

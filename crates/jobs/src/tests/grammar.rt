@@ -1,0 +1,335 @@
+use super::repeated;
+use mg_jobs::{ScriptError, json_text, parse_script, value_from_json};
+use serde_json::Value;
+use std::alloc::{AllocError, Global};
+use std::test::Fail;
+
+// ---- values
+
+/// Each line is a JSON value, the kind that it becomes, and what that prints as; or a value that is refused.
+const VALUES: &str = r#""a"~String~"a"
+""~String~""
+true~Boolean~true
+false~Boolean~false
+null~Null~null
+0~Int32~0
+-1~Int32~-1
+2147483647~Int32~2147483647
+2147483648~Int64~{"$int64":"2147483648"}
+-2147483648~Int32~-2147483648
+-2147483649~Int64~{"$int64":"-2147483649"}
+9223372036854775807~Int64~{"$int64":"9223372036854775807"}
+-9223372036854775808~Int64~{"$int64":"-9223372036854775808"}
+9223372036854775808~refused
+18446744073709551615~refused
+-9223372036854775809~refused
+1.0~refused
+1e0~refused
+-0~refused
+0.5~refused
+[]~Array~[]
+[1,[null],"x"]~Array~[1,[null],"x"]
+[1.0]~refused
+{}~Document~{}
+{"b":1,"a":2}~Document~{"a":2,"b":1}
+{"a":1,"a":2}~Document~{"a":2}
+{"a":1.5}~refused
+{"":0}~Document~{"":0}
+{"$oid":"000102030405060708090a0b"}~ObjectId~{"$oid":"000102030405060708090a0b"}
+{"$oid":"000102030405060708090A0B"}~refused
+{"$oid":"000102030405060708090a"}~refused
+{"$oid":"000102030405060708090a0b0c"}~refused
+{"$oid":"000102030405060708090a0g"}~refused
+{"$oid":1}~refused
+{"$oid":null}~refused
+{"a":1,"$oid":"000102030405060708090a0b"}~Document~{"$oid":"000102030405060708090a0b","a":1}
+{"$bytes":""}~Binary~{"$bytes":""}
+{"$bytes":"00fF"}~Binary~{"$bytes":"00ff"}
+{"$bytes":"0"}~refused
+{"$bytes":"0g"}~refused
+{"$bytes":[]}~refused
+{"$date":0}~DateTime~{"$date":0}
+{"$date":-9223372036854775808}~DateTime~{"$date":-9223372036854775808}
+{"$date":9223372036854775808}~refused
+{"$date":1.0}~refused
+{"$date":"0"}~refused
+{"$int64":"0"}~Int64~{"$int64":"0"}
+{"$int64":"5"}~Int64~{"$int64":"5"}
+{"$int64":"9223372036854775807"}~Int64~{"$int64":"9223372036854775807"}
+{"$int64":"-9223372036854775808"}~Int64~{"$int64":"-9223372036854775808"}
+{"$int64":"9223372036854775808"}~refused
+{"$int64":"-9223372036854775809"}~refused
+{"$int64":"+5"}~refused
+{"$int64":"007"}~refused
+{"$int64":"-0"}~refused
+{"$int64":""}~refused
+{"$int64":"-"}~refused
+{"$int64":" 5"}~refused
+{"$int64":"5.0"}~refused
+{"$int64":5}~refused
+{"$timestamp":{"i":4294967295,"t":0}}~Timestamp~{"$timestamp":{"i":4294967295,"t":0}}
+{"$timestamp":{"t":2,"i":1}}~Timestamp~{"$timestamp":{"i":1,"t":2}}
+{"$timestamp":{"i":4294967296,"t":0}}~refused
+{"$timestamp":{"i":-1,"t":0}}~refused
+{"$timestamp":{"i":1.0,"t":0}}~refused
+{"$timestamp":{"i":1}}~refused
+{"$timestamp":{"i":1,"t":0,"x":0}}~refused
+{"$timestamp":[1,0]}~refused
+{"$double":"000000000000f03f"}~Document~{"$double":"000000000000f03f"}
+{"$codeScope":{"code":"f","scope":{}}}~Document~{"$codeScope":{"code":"f","scope":{}}}
+{"$minKey":true}~Document~{"$minKey":true}
+{"$binary":{"bytes":"00","subtype":5}}~Document~{"$binary":{"bytes":"00","subtype":5}}
+{"$x":{"$date":5}}~Document~{"$x":{"$date":5}}
+{"$":0}~Document~{"$":0}
+{"oid":"x"}~Document~{"oid":"x"}
+[{"$int64":"5"},{"$date":5}]~Array~[{"$int64":"5"},{"$date":5}]
+[{"$oid":"x"}]~refused
+{"a":{"b":[{"$int64":"x"}]}}~refused
+{"a":{"$date":1},"b":18446744073709551615}~refused"#;
+
+/// What a JSON text stands for: the kind and the printed value, parted by `~`, or `refused`.
+fn reading_of(alloc: Global, text: &str) -> Result<String, AllocError> {
+    let Ok(json) = Value::from_slice(alloc, text.as_bytes()) else {
+        return String::from_str(alloc, "not json");
+    };
+    match value_from_json(alloc, &json) {
+        Ok(Some(value)) => match json_text(alloc, &value) {
+            Ok(printed) => {
+                let kind = value.kind();
+                format!(in alloc; "{kind:?}~{printed}")
+            }
+            Err(_) => Err(AllocError),
+        },
+        Ok(None) => String::from_str(alloc, "refused"),
+        Err(_) => Err(AllocError),
+    }
+}
+
+#[test]
+fn values(rt: HostRuntime) -> Result<(), Fail> {
+    let mut rows: usize = 0;
+    for line in VALUES.lines() {
+        let Some((text, wanted)) = line.split_once('~') else {
+            return Ok(assert!(rt; false, "{line}"));
+        };
+        let found = reading_of(rt.alloc(), text)?;
+        assert_eq!(rt; found.as_str(), wanted, "{text}");
+        rows = rows.saturating_add(1);
+    }
+    assert!(rt; rows >= 40);
+    Ok(())
+}
+
+// ---- scripts
+
+/// Whole scripts, each behind the place of its first fault.
+const SCRIPTS: &str = r#"not json~
+not json~[
+not json~nul
+not json~{"jobs":[],"order":[]
+not json~{"jobs":[],"order":[]}}
+not json~{'jobs':[],'order':[]}
+not json~{"jobs":[],"order":[1e400]}
+not json~{"jobs":[],"order":[01]}
+not json~{"jobs":["\ud800"],"order":[]}
+top~[]
+top~null
+top~0
+top~"jobs"
+top~{}
+top~{"jobs":[]}
+top~{"order":[]}
+top~{"jobs":{},"order":[]}
+top~{"jobs":null,"order":[]}
+top~{"jobs":[],"order":0}
+top~{"jobs":[],"order":[],"workers":[]}
+top~{"jobs":[],"order":[],"trim":1}
+top~{"Jobs":[],"jobs":[],"order":[]}
+top~{"jobs":[],"order":[],"wire":-1}
+top~{"jobs":[],"order":[],"wire":2147483648}
+top~{"jobs":[],"order":[],"wire":21.0}
+top~{"jobs":[],"order":[],"wire":null}
+top~{"jobs":[],"order":[],"ids":"00000"}
+top~{"jobs":[],"order":[],"ids":"00000A"}
+top~{"jobs":[],"order":[],"ids":"00000000"}
+top~{"jobs":[],"order":[],"ids":0}
+top~{"jobs":[],"order":[],"moment":"0"}
+top~{"jobs":[],"order":[],"moment":9223372036854775808}
+top~{"jobs":[],"order":[],"moment":-0}
+top~{"jobs":[],"order":[],"moment":null}
+top~{"jobs":[],"order":[],"fates":{}}
+top~{"jobs":[],"order":[],"fates":null}
+top~{"jobs":[0],"order":[-1],"fates":[0],"wire":-1}
+job 0~{"jobs":[0],"order":[-1],"fates":[0]}
+job 1~{"jobs":[{"docs":[{}],"job":"insert","ns":"a.b"},{}],"order":[]}
+order 0~{"jobs":[],"order":[-1],"fates":[0]}
+order 0~{"jobs":[],"order":[4294967296]}
+order 0~{"jobs":[],"order":[0.0]}
+order 0~{"jobs":[],"order":["0"]}
+order 0~{"jobs":[],"order":[null]}
+order 2~{"jobs":[],"order":[0,4294967295,[0],-1]}
+fate 1~{"jobs":[],"order":[7],"fates":[{},{"pend":1.0}]}
+fate 0~{"jobs":[{"db":"a","id":0,"job":"get","read":1}],"order":[7],"fates":[0]}
+not built~{"jobs":[{"db":"a","id":0,"job":"get","read":1}],"order":[7]}
+taken~{"jobs":[],"order":[]}
+taken~{"jobs":[],"order":[4294967295,0]}
+taken~{"jobs":0,"jobs":[],"order":0,"order":[]}
+taken~{"jobs":[],"order":[],"fates":[],"ids":"09afbc","moment":-9223372036854775808,"wire":0}
+taken~{"jobs":[],"order":[],"fates":[{},{"pend":0},{"kind":"keep"}],"wire":2147483647}"#;
+
+/// The first job of a script, each behind the place of the script's fault.
+const JOBS: &str = r#"job 0~null
+job 0~[]
+job 0~{"docs":[{}],"ns":"a.b"}
+job 0~{"docs":[{}],"job":1,"ns":"a.b"}
+job 0~{"docs":[{}],"job":"Insert","ns":"a.b"}
+job 0~{"docs":[{}],"job":"insert"}
+job 0~{"job":"insert","ns":"a.b"}
+job 0~{"docs":[],"job":"insert","ns":"a.b"}
+job 0~{"docs":{},"job":"insert","ns":"a.b"}
+job 0~{"docs":[{},1],"job":"insert","ns":"a.b"}
+job 0~{"docs":[[]],"job":"insert","ns":"a.b"}
+job 0~{"docs":[{"$date":1}],"job":"insert","ns":"a.b"}
+job 0~{"docs":[{"$date":"x"}],"job":"insert","ns":"a.b"}
+job 0~{"docs":[{"x":1.0}],"job":"insert","ns":"a.b"}
+job 0~{"docs":[{}],"job":"insert","ns":"ab"}
+job 0~{"docs":[{}],"job":"insert","ns":".b"}
+job 0~{"docs":[{}],"job":"insert","ns":"a."}
+job 0~{"docs":[{}],"job":"insert","ns":null}
+job 0~{"batch":1,"docs":[{}],"job":"insert","ns":"a.b"}
+taken~{"docs":[{},{"$x":1}],"job":"insert","ns":"a.b.c"}
+job 0~{"calls":1,"job":"follow"}
+job 0~{"calls":1,"job":"follow","on":1}
+job 0~{"calls":1,"job":"follow","on":".b"}
+job 0~{"calls":1,"job":"follow","on":"a."}
+job 0~{"calls":1,"job":"follow","on":"."}
+job 0~{"job":"follow","on":"a.b"}
+job 0~{"calls":-1,"job":"follow","on":"a.b"}
+job 0~{"calls":1.0,"job":"follow","on":"a.b"}
+job 0~{"calls":1048577,"job":"follow","on":"a.b"}
+job 0~{"calls":4294967296,"job":"follow","on":"a.b"}
+job 0~{"batch":4294967296,"calls":1,"job":"follow","on":"a.b"}
+job 0~{"batch":null,"calls":1,"job":"follow","on":"a.b"}
+job 0~{"calls":1,"job":"follow","match":null,"on":"a.b"}
+job 0~{"calls":1,"job":"follow","match":[],"on":"a.b"}
+job 0~{"calls":1,"job":"follow","match":{"$int64":"1"},"on":"a.b"}
+job 0~{"calls":1,"job":"follow","match":{"a":{"$bytes":"0"}},"on":"a.b"}
+job 0~{"calls":1,"job":"follow","on":"a.b","start":null}
+job 0~{"calls":1,"job":"follow","on":"a.b","start":{}}
+job 0~{"calls":1,"job":"follow","on":"a.b","start":{"after":1}}
+job 0~{"calls":1,"job":"follow","on":"a.b","start":{"resumeAfter":1,"startAfter":1}}
+job 0~{"calls":1,"job":"follow","on":"a.b","start":{"resumeAfter":1.0}}
+job 0~{"calls":1,"job":"follow","on":"a.b","start":{"startAt":1}}
+job 0~{"calls":1,"job":"follow","on":"a.b","start":{"startAt":{"$timestamp":{"i":1}}}}
+job 0~{"calls":1,"job":"follow","on":"a.b","split":true}
+taken~{"calls":1048576,"job":"follow","on":"a.b"}
+taken~{"batch":4294967295,"calls":0,"job":"follow","match":{"a":{"$in":[1]}},"on":"a.b.c","start":{"resumeAfter":null}}
+not built~{"calls":1,"job":"follow","on":"a"}
+not built~{"calls":1,"job":"follow","on":""}
+not built~{"calls":1,"job":"follow","on":"a.b","start":{"startAfter":{"_data":"0"}}}
+not built~{"calls":1,"job":"follow","on":"a.b","start":{"startAt":{"$timestamp":{"i":1,"t":1}}}}
+job 0~{"chunk":4,"id":0,"job":"put","name":"f","pieces":[]}
+job 0~{"chunk":4,"db":"","id":0,"job":"put","name":"f","pieces":[]}
+job 0~{"chunk":4,"db":"a.b","id":0,"job":"put","name":"f","pieces":[]}
+job 0~{"bucket":null,"chunk":4,"db":"a","id":0,"job":"put","name":"f","pieces":[]}
+job 0~{"chunk":4,"db":"a","job":"put","name":"f","pieces":[]}
+job 0~{"chunk":4,"db":"a","id":1.0,"job":"put","name":"f","pieces":[]}
+job 0~{"chunk":4,"db":"a","id":0,"job":"put","pieces":[]}
+job 0~{"db":"a","id":0,"job":"put","name":"f","pieces":[]}
+job 0~{"chunk":4294967296,"db":"a","id":0,"job":"put","name":"f","pieces":[]}
+job 0~{"chunk":4,"db":"a","id":0,"job":"put","name":"f"}
+job 0~{"chunk":4,"db":"a","id":0,"job":"put","name":"f","pieces":"00"}
+job 0~{"chunk":4,"db":"a","id":0,"job":"put","name":"f","pieces":["00","0"]}
+job 0~{"chunk":4,"db":"a","id":0,"job":"put","name":"f","pieces":["0x"]}
+job 0~{"chunk":4,"db":"a","id":0,"job":"put","name":"f","pieces":[0]}
+job 0~{"chunk":4,"db":"a","id":0,"job":"put","name":"f","pieces":[],"read":1}
+not built~{"bucket":"","chunk":0,"db":"a","id":null,"job":"put","name":"","pieces":["","aAfF"]}
+job 0~{"db":"a","id":0,"job":"get"}
+job 0~{"db":"a","id":0,"job":"get","read":-1}
+job 0~{"db":"a.","id":0,"job":"get","read":1}
+job 0~{"db":"a","job":"get","read":1}
+job 0~{"db":"a","id":{"$oid":"0"},"job":"get","read":1}
+job 0~{"chunk":1,"db":"a","id":0,"job":"get","read":1}
+not built~{"bucket":"b.c","db":"a","id":{"$date":1},"job":"get","read":4294967295}"#;
+
+/// The second fate of a script, each behind the place of the script's fault.
+const FATES: &str = r#"fate 1~0
+fate 1~null
+fate 1~{"x":0}
+fate 1~{"pend":-1}
+fate 1~{"pend":4294967296}
+fate 1~{"pend":null}
+fate 1~{"kind":"kept"}
+fate 1~{"kind":null}
+fate 1~{"kind":1}
+fate 1~{"code":0}
+fate 1~{"labels":[]}
+fate 1~{"code":0,"kind":"keep"}
+fate 1~{"code":1,"kind":"lose"}
+fate 1~{"kind":"drop","labels":[]}
+fate 1~{"code":2147483648,"kind":"refuse"}
+fate 1~{"code":1.0,"kind":"refuse"}
+fate 1~{"code":null,"kind":"refuse"}
+fate 1~{"kind":"refuse","labels":null}
+fate 1~{"kind":"refuse","labels":"a"}
+fate 1~{"kind":"refuse","labels":["a",0]}
+taken~{"kind":"keep","pend":0}
+taken~{"pend":4294967295}
+taken~{"kind":"lose"}
+taken~{"kind":"drop","pend":0}
+taken~{"kind":"refuse"}
+taken~{"code":-2147483648,"kind":"refuse","labels":["a","a",""],"pend":1}"#;
+
+/// The place of the first fault of a script, or `taken` where it has none.
+fn place_of(alloc: Global, script: &str) -> Result<String, AllocError> {
+    match parse_script(alloc, script.as_bytes()) {
+        Ok(_) => String::from_str(alloc, "taken"),
+        Err(ScriptError::Fault(place)) => format!(in alloc; "{place}"),
+        Err(ScriptError::OutOfMemory) => Err(AllocError),
+    }
+}
+
+#[test]
+fn places(rt: HostRuntime) -> Result<(), Fail> {
+    let alloc = rt.alloc();
+    let tables = [
+        ("", SCRIPTS, ""),
+        ("{\"jobs\":[", JOBS, "],\"order\":[]}"),
+        ("{\"fates\":[{},", FATES, "],\"jobs\":[],\"order\":[]}"),
+    ];
+    let mut rows: usize = 0;
+    for (before, table, behind) in tables {
+        for line in table.lines() {
+            let Some((place, text)) = line.split_once('~') else {
+                return Ok(assert!(rt; false, "{line}"));
+            };
+            let script = format!(in alloc; "{before}{text}{behind}")?;
+            let found = place_of(alloc, script.as_str())?;
+            assert_eq!(rt; found.as_str(), place, "{text}");
+            rows = rows.saturating_add(1);
+        }
+    }
+    assert!(rt; rows >= 60);
+    Ok(())
+}
+
+#[test]
+fn nesting_and_counts(rt: HostRuntime) -> Result<(), Fail> {
+    let alloc = rt.alloc();
+    // Each script has an entry that is no job, which is found where the text is JSON and its list is not too long.
+    // Three brackets stand around the arrays of the first two.
+    let deep = repeated(alloc, "", "]", 124, "}],\"order\":[]}")?;
+    let deeper = repeated(alloc, "", "]", 125, "}],\"order\":[]}")?;
+    let rows = [
+        ("{\"jobs\":[{\"a\":", "[", 124, deep.as_str(), "job 0"),
+        ("{\"jobs\":[{\"a\":", "[", 125, deeper.as_str(), "not json"),
+        ("{\"jobs\":[", "0,", 65_535, "0],\"order\":[]}", "job 0"),
+        ("{\"jobs\":[", "0,", 65_536, "0],\"order\":[]}", "top"),
+    ];
+    for (before, text, count, behind, place) in rows {
+        let script = repeated(alloc, before, text, count, behind)?;
+        let found = place_of(alloc, script.as_str())?;
+        assert_eq!(rt; found.as_str(), place, "{before}");
+    }
+    Ok(())
+}

@@ -1,0 +1,122 @@
+ghost use Rattle.std.specs.Prelude.{IfOk, IsSome};
+ghost use Rattle.mg_link.specs.Places.{out_at};
+ghost use Rattle.mg_store.specs.InMemory.{AreSmall};
+
+use super::{one_field, text, with, with_text};
+use mg_bson::{Array, Bson, BsonError, RawDocumentBuf, to_bytes};
+use mg_link::{Link, Namespace, Polled, Ticket};
+use mg_store::{Fate, FateKind, MemLink, Store};
+use std::alloc::{AllocError, Global};
+use std::test::Fail;
+
+/// The document with this id, alone.
+fn documents_of(alloc: Global, id: i32) -> Result<Array, BsonError> {
+    let mut documents = Array::new(alloc);
+    let document = one_field(alloc, "_id", Bson::Int32(id))?;
+    documents.push(Bson::Document(document))?;
+    Ok(documents)
+}
+
+/// An insert of a document with this id.
+fn insert_of(alloc: Global, id: i32) -> Result<RawDocumentBuf, BsonError> {
+    let command = one_field(alloc, "insert", text(alloc, "c")?)?;
+    let documents = documents_of(alloc, id)?;
+    let command = with(command, "documents", Bson::Array(documents))?;
+    to_bytes(alloc, &with_text(alloc, command, "$db", "app")?)
+}
+
+/// What comes of a command.
+#[derive(Clone, Copy, Debug, PartialEq, Eq)]
+enum Came {
+    Pends,
+    Succeeds,
+    Refused(i32),
+    Lost,
+    Memory,
+}
+
+fn told_by(bytes: Vec<u8>) -> Result<Came, BsonError> {
+    let reply = RawDocumentBuf::from_bytes(bytes)?;
+    let Some(code) = reply.as_raw().get("code") else {
+        return Ok(Came::Succeeds);
+    };
+    Ok(Came::Refused(code.as_i32().unwrap_or(0)))
+}
+
+/// How many polls of a call pend, 9 at most, and what comes of it.
+fn polls_to_end(link: &mut MemLink, first: Ticket) -> Result<(u32, Came), BsonError>
+    requires { IsSome (out_at link.old.calls first) }
+{
+    let mut ticket = first;
+    'polls: for count in 0..9 {
+        match link.poll(ticket) {
+            Polled::Pending(given) => ticket = given,
+            Polled::Reply(bytes) => return Ok((count, told_by(bytes)?)),
+            Polled::Failed => return Ok((count, Came::Lost)),
+            Polled::Memory => return Ok((count, Came::Memory)),
+        }
+    }
+    Ok((9, Came::Pends))
+}
+
+/// One fate of each kind.
+fn fates_of(alloc: Global) -> Result<Vec<Fate>, AllocError>
+    ensures { IfOk result (λ fates. AreSmall fates.items) }
+{
+    let refusal = FateKind::Refuse {
+        code: 91,
+        labels: Vec::new(alloc),
+    };
+    let mut fates = Vec::new(alloc);
+    fates.push(Fate {
+        pend: 0,
+        kind: FateKind::Keep,
+    })?;
+    fates.push(Fate {
+        pend: 2,
+        kind: FateKind::Lose,
+    })?;
+    fates.push(Fate {
+        pend: 1,
+        kind: FateKind::Drop,
+    })?;
+    fates.push(Fate {
+        pend: 3,
+        kind: refusal,
+    })?;
+    Ok(fates)
+}
+
+/// Of each command in turn: the id of its document, how many polls pend, what comes of it, where its step stands, and how
+/// many documents there are then.
+const COMMANDS: [(i32, u32, Came, Option<u64>, usize); 6] = [
+    (1, 0, Came::Succeeds, Some(0), 1),
+    (2, 2, Came::Lost, Some(1), 2),
+    (3, 1, Came::Lost, None, 2),
+    (4, 3, Came::Refused(91), Some(2), 2),
+    (5, 0, Came::Succeeds, Some(3), 3),
+    (6, 0, Came::Succeeds, Some(4), 4),
+];
+
+#[test]
+fn each_command_meets_its_fate(rt: HostRuntime) -> Result<(), Fail> {
+    let alloc = rt.alloc();
+    let Some(ns) = Namespace::from_str(alloc, "app.c")? else {
+        return Err(Fail::from("it is a namespace"));
+    };
+    let mut link = MemLink::new(alloc, Store::new(alloc), fates_of(alloc)?, 21);
+    for (id, pends, came, position, documents) in COMMANDS {
+        let command = insert_of(alloc, id)?;
+        let Ok(ticket) = link.start(command.as_raw()) else {
+            return Err(Fail::from("each command is started"));
+        };
+        assert_eq!(rt; polls_to_end(&mut link, ticket)?, (pends, came));
+        assert_eq!(rt; link.store().documents(&ns).len(), documents);
+        let Some(call) = link.log().calls().last() else {
+            return Err(Fail::from("each command is logged"));
+        };
+        assert_eq!(rt; call.position, position);
+    }
+    assert_eq!(rt; link.store().history().len(), 5);
+    Ok(())
+}

@@ -1,0 +1,429 @@
+ghost use Rattle.std.specs.Prelude.{IfOk};
+ghost use Rattle.mg_link.specs.Acts.{IsOut};
+ghost use Rattle.mg_link.specs.Places.{out_at};
+ghost use Rattle.mg_change.specs.Closings.{closing_ticket};
+ghost use Rattle.mg_change.specs.Openings.{opening_ticket};
+ghost use Rattle.mg_change.specs.Phases.{IsSound, ticket_in};
+
+use super::{bytes_of, namespace, one_field, repeated, with, with_text};
+use mg_bson::{Array, Bson, BsonError, Document, RawArray, RawDocument, Timestamp};
+use mg_change::{ChangeStream, Closing, EventPoll, Opening};
+use mg_link::{
+    Action, Error, ErrorKind, OperationTarget, ScriptLink, Scripted, ScriptedSeen, Step,
+};
+use mg_ops::WatchArgs;
+use mg_options::{ChangeStreamOptions, ResumeToken};
+use std::alloc::{AllocError, Global};
+use std::test::Fail;
+
+// ---- replies
+
+fn numbered(alloc: Global, name: &str, n: i32) -> Result<Bson, BsonError> {
+    Ok(Bson::Document(one_field(alloc, name, Bson::Int32(n))?))
+}
+
+// The items of a batch: none, an event, an event without `_id` and one behind it, or an item that is no document.
+fn items_of(alloc: Global, kind: u8) -> Result<Array, BsonError> {
+    let mut items = Array::new(alloc);
+    if kind == b'n' {
+        items.push(numbered(alloc, "x", 1)?)?;
+    }
+    if kind == b'e' || kind == b'n' {
+        items.push(numbered(alloc, "_id", 2)?)?;
+    }
+    if kind == b'm' {
+        items.push(Bson::Int32(5))?;
+    }
+    Ok(items)
+}
+
+// A batch of this cursor.
+fn cursor_of(alloc: Global, id: i64, kind: u8) -> Result<Document, BsonError> {
+    let cursor = one_field(alloc, "id", Bson::Int64(id))?;
+    let cursor = with_text(alloc, cursor, "ns", "db.coll")?;
+    let items = items_of(alloc, kind)?;
+    with(cursor, "firstBatch", Bson::Array(items))
+}
+
+// A success at time 7 with a batch of this cursor.
+fn batch(alloc: Global, id: i64, kind: u8) -> Result<Vec<u8>, BsonError> {
+    let time = Timestamp {
+        time: 7,
+        increment: 1,
+    };
+    let reply = one_field(alloc, "ok", Bson::Int32(1))?;
+    let cursor = cursor_of(alloc, id, kind)?;
+    let reply = with(reply, "cursor", Bson::Document(cursor))?;
+    let reply = with(reply, "operationTime", Bson::Timestamp(time))?;
+    bytes_of(alloc, &reply)
+}
+
+// A refusal with this code, or a success of nothing.
+fn plain_reply(alloc: Global, ok: i32, code: i32) -> Result<Vec<u8>, BsonError> {
+    let reply = one_field(alloc, "ok", Bson::Int32(ok))?;
+    bytes_of(alloc, &with(reply, "code", Bson::Int32(code))?)
+}
+
+fn seen_of(alloc: Global, word: &str) -> Result<ScriptedSeen, Fail> {
+    let bytes = word.as_bytes();
+    if bytes.len() < 2 {
+        return Err(Fail::from("word"));
+    }
+    if bytes[0] >= b'0' && bytes[0] <= b'9' {
+        let id = i64::from(bytes[0] - b'0');
+        return Ok(ScriptedSeen::Reply(batch(alloc, id, bytes[1])?));
+    }
+    match bytes[0] {
+        b'k' => Ok(ScriptedSeen::Reply(plain_reply(alloc, 1, 0)?)),
+        b'g' => Ok(ScriptedSeen::Reply(plain_reply(alloc, 0, 43)?)),
+        b'f' => Ok(ScriptedSeen::Memory),
+        _ => Ok(ScriptedSeen::Fault),
+    }
+}
+
+// The answers of a script, of which each pends so often, and those with a `+` once more.
+fn list_of(alloc: Global, script: &str, pend: u32) -> Result<Vec<Scripted>, Fail> {
+    let mut list = Vec::new(alloc);
+    for word in script.split(' ') {
+        let more = u32::from(word.ends_with('+'));
+        list.push(Scripted {
+            pend: pend.saturating_add(more),
+            seen: seen_of(alloc, word)?,
+        })?;
+    }
+    Ok(list)
+}
+
+// ---- commands
+
+// The options of the stage that opens a watch.
+fn stage_of<'a>(command: &RawDocument<'a>) -> Option<RawDocument<'a>> {
+    let mut stages = command.get("pipeline")?.as_array()?.iter();
+    stages
+        .next()?
+        .as_document()?
+        .get("$changeStream")?
+        .as_document()
+}
+
+fn aggregate_word(alloc: Global, command: &RawDocument<'_>) -> Result<String, Fail> {
+    let Some(options) = stage_of(command) else {
+        return Err(Fail::from("stage"));
+    };
+    if let Some(time) = options.get("startAtOperationTime") {
+        let seconds = match time.as_timestamp() {
+            Some(time) => time.time,
+            None => 0,
+        };
+        return Ok(format!(in alloc; "/aggregate at {seconds}")?);
+    }
+    if let Some(token) = options.get("resumeAfter") {
+        let n = token.as_i32().unwrap_or(0);
+        return Ok(format!(in alloc; "/aggregate after {n}")?);
+    }
+    Ok(String::from_str(alloc, "/aggregate")?)
+}
+
+fn kill_word(alloc: Global, ids: &RawArray<'_>) -> Result<String, Fail> {
+    let mut word = String::from_str(alloc, "/killCursors")?;
+    let mut left = ids.iter();
+    'ids: while let Some(id) = left.next() {
+        let n = id.as_i64().unwrap_or(0);
+        word.push_str(format!(in alloc; " {n}")?.as_str())?;
+    }
+    Ok(word)
+}
+
+fn command_word(alloc: Global, command: &RawDocument<'_>) -> Result<String, Fail> {
+    if let Some(id) = command.get("getMore") {
+        let n = id.as_i64().unwrap_or(0);
+        return Ok(format!(in alloc; "/getMore {n}")?);
+    }
+    if let Some(ids) = command.get("cursors") {
+        let Some(ids) = ids.as_array() else {
+            return Err(Fail::from("cursors"));
+        };
+        return kill_word(alloc, &ids);
+    }
+    aggregate_word(alloc, command)
+}
+
+// ---- answers
+
+fn error_word(error: &Error) -> &'static str {
+    match &error.kind {
+        ErrorKind::OutOfMemory => "/E1",
+        ErrorKind::Io => "/E2",
+        ErrorKind::MissingResumeToken => "/E9",
+        ErrorKind::EmptyBatches => "/E13",
+        _ => "/error",
+    }
+}
+
+fn id_of(event: &RawDocument<'_>) -> i32 {
+    match event.get("_id") {
+        Some(id) => id.as_i32().unwrap_or(0),
+        None => 0,
+    }
+}
+
+fn answer_word(alloc: Global, poll: &EventPoll) -> Result<String, AllocError> {
+    match poll {
+        EventPoll::Pending => String::from_str(alloc, "/pending"),
+        EventPoll::Ready(None) => String::from_str(alloc, "/nothing"),
+        EventPoll::Ready(Some(event)) => {
+            let n = id_of(&event.as_raw());
+            format!(in alloc; "/event {n}")
+        }
+        EventPoll::Failed(error) => String::from_str(alloc, error_word(error)),
+    }
+}
+
+fn token_word(alloc: Global, stream: &ChangeStream) -> Result<String, Fail> {
+    let Some(token) = stream.resume_token() else {
+        return Ok(String::from_str(alloc, "/no token")?);
+    };
+    let Ok(token) = token.to_owned() else {
+        return Err(Fail::from("token"));
+    };
+    let Ok(value) = token.to_value() else {
+        return Err(Fail::from("token"));
+    };
+    let n = value.as_i32().unwrap_or(0);
+    Ok(format!(in alloc; "/token {n}")?)
+}
+
+// ---- runs
+
+fn options_of(start: &str) -> Result<ChangeStreamOptions, Fail> {
+    let mut options = ChangeStreamOptions::default();
+    if start == "at" {
+        options.start_at_operation_time = Some(Timestamp {
+            time: 9,
+            increment: 1,
+        });
+    }
+    if start == "after" {
+        let Ok(token) = ResumeToken::from_value(&Bson::Int32(4)) else {
+            return Err(Fail::from("token"));
+        };
+        options.resume_after = Some(token);
+    }
+    Ok(options)
+}
+
+fn args_of(alloc: Global, start: &str) -> Result<WatchArgs, Fail> {
+    let ns = namespace(alloc)?;
+    Ok(WatchArgs {
+        pipeline: Vec::new(alloc),
+        target: OperationTarget::Collection(ns),
+        options: options_of(start)?,
+    })
+}
+
+// Polls to the end of the opening.
+fn open(opening: Opening, link: &mut ScriptLink) -> Result<ChangeStream, Fail>
+    requires { IsOut (out_at link.old.calls) (opening_ticket opening) }
+    ensures sound { IfOk result (λ s. IsSound link.new.wire s) }
+    ensures out { IfOk result (λ s. IsOut (out_at link.new.calls) (ticket_in s.phase)) }
+{
+    let mut state = opening;
+    'polls: for _count in 1..10 {
+        match state.poll(link) {
+            Step::Pending(next) => state = next,
+            Step::Done(stream) => return Ok(stream),
+            Step::Failed(_) => return Err(Fail::from("not opened")),
+        }
+    }
+    Err(Fail::from("not opened yet"))
+}
+
+// Polls to the end of a call.
+fn call(stream: &mut ChangeStream, link: &mut ScriptLink) -> EventPoll
+    requires out { IsOut (out_at link.old.calls) (ticket_in stream.old.phase) }
+    requires sound { IsSound link.old.wire stream.old }
+    ensures out { IsOut (out_at link.new.calls) (ticket_in stream.new.phase) }
+    ensures sound { IsSound link.new.wire stream.new }
+{
+    'polls: for _count in 1..10 {
+        match stream.poll_next_if_any(link) {
+            EventPoll::Pending => {}
+            poll => return poll,
+        }
+    }
+    EventPoll::Pending
+}
+
+// Polls to the end of a call that seeks an event.
+fn seek(stream: &mut ChangeStream, link: &mut ScriptLink) -> EventPoll
+    requires out { IsOut (out_at link.old.calls) (ticket_in stream.old.phase) }
+    requires sound { IsSound link.old.wire stream.old }
+    ensures out { IsOut (out_at link.new.calls) (ticket_in stream.new.phase) }
+    ensures sound { IsSound link.new.wire stream.new }
+{
+    'polls: for _count in 1..10 {
+        match stream.poll_next(link) {
+            EventPoll::Pending => {}
+            poll => return poll,
+        }
+    }
+    EventPoll::Pending
+}
+
+// One call, one poll, or a look at the token.
+fn step_word(
+    alloc: Global,
+    stream: &mut ChangeStream,
+    link: &mut ScriptLink,
+    step: u8,
+) -> Result<String, Fail>
+    requires out { IsOut (out_at link.old.calls) (ticket_in stream.old.phase) }
+    requires sound { IsSound link.old.wire stream.old }
+    ensures out { IsOut (out_at link.new.calls) (ticket_in stream.new.phase) }
+    ensures sound { IsSound link.new.wire stream.new }
+{
+    let poll = match step {
+        b'c' => call(stream, link),
+        b'p' => stream.poll_next_if_any(link),
+        b'n' => seek(stream, link),
+        _ => return token_word(alloc, stream),
+    };
+    Ok(answer_word(alloc, &poll)?)
+}
+
+// Takes the steps: what was answered.
+fn steps_words(
+    alloc: Global,
+    stream: &mut ChangeStream,
+    link: &mut ScriptLink,
+    steps: &str,
+) -> Result<String, Fail>
+    requires out { IsOut (out_at link.old.calls) (ticket_in stream.old.phase) }
+    requires sound { IsSound link.old.wire stream.old }
+    ensures out { IsOut (out_at link.new.calls) (ticket_in stream.new.phase) }
+{
+    let mut seen = String::new(alloc);
+    'steps: for step in steps.as_bytes() {
+        let word = step_word(alloc, stream, link, *step)?;
+        seen.push_str(word.as_str())?;
+    }
+    Ok(seen)
+}
+
+// Polls to the end of the closing.
+fn close_word(closing: Closing, link: &mut ScriptLink) -> &'static str
+    requires { IsOut (out_at link.old.calls) (closing_ticket closing) }
+{
+    let mut state = closing;
+    'polls: for _count in 1..10 {
+        match state.poll(link) {
+            Step::Pending(next) => state = next,
+            Step::Done(()) => return "/closed",
+            Step::Failed(error) => return error_word(&error),
+        }
+    }
+    "/pending"
+}
+
+// Which commands were sent.
+fn command_words(alloc: Global, link: &ScriptLink) -> Result<String, Fail> {
+    let mut sent = String::new(alloc);
+    for command in link.commands() {
+        let word = command_word(alloc, &command.as_raw())?;
+        sent.push_str(word.as_str())?;
+    }
+    Ok(sent)
+}
+
+// Opens a stream, takes the steps and closes it: what was answered, and which commands were sent.
+fn run(alloc: Global, start: &str, script: &str, steps: &str, pend: u32) -> Result<String, Fail> {
+    let mut link = ScriptLink::new(list_of(alloc, script, pend)?, 21);
+    let mut stream = open(Opening::new(alloc, args_of(alloc, start)?), &mut link)?;
+    let seen = steps_words(alloc, &mut stream, &mut link, steps)?;
+    let closed = close_word(stream.close(), &mut link);
+    let sent = command_words(alloc, &link)?;
+    Ok(format!(in alloc; "{seen}{closed}{sent}")?)
+}
+
+/// Each line is where a stream starts, how its commands are answered, its steps, and what comes of them.
+const RUNS: &str = "none~1- k.~~/closed/aggregate/killCursors 1
+none~0-~~/closed/aggregate
+none~1- k.~c~/nothing/closed/aggregate/killCursors 1
+none~1- l.~~/E2/aggregate/killCursors 1
+none~1e k.~tct~/no token/event 2/token 2/closed/aggregate/killCursors 1
+at~1m 2- k. k.~ct~/nothing/no token/closed/aggregate at 9/aggregate at 9/killCursors 1/killCursors 2
+after~1n k.~tctct~/token 4/E9/token 4/event 2/token 2/closed/aggregate after 4/killCursors 1
+none~1- l. l. l. k.~cc~/nothing/E2/closed/aggregate/getMore 1/aggregate at 7/aggregate at 7/killCursors 1
+none~1e l. 2- k. k.~cc~/event 2/nothing/closed/aggregate/getMore 1/aggregate after 2/killCursors 1/killCursors 2
+none~1- 1-+ k.~cp~/nothing/pending/closed/aggregate/getMore 1/killCursors 1
+none~1- 0-+~cp~/nothing/pending/closed/aggregate/getMore 1
+none~1- l.+ k.~cp~/nothing/pending/closed/aggregate/getMore 1/killCursors 1
+none~1- g.+~cp~/nothing/pending/closed/aggregate/getMore 1
+none~1- f.+~cp~/nothing/pending/E1/aggregate/getMore 1
+none~1- l. 2-+ k.~cp~/nothing/pending/closed/aggregate/getMore 1/aggregate at 7/killCursors 1 2
+none~1- l. l.+ l. k.~cp~/nothing/pending/closed/aggregate/getMore 1/aggregate at 7/aggregate at 7/killCursors 1
+none~1- l. f.+~cp~/nothing/pending/E1/aggregate/getMore 1/aggregate at 7
+none~1- l. 2- k.+ k.~cp~/nothing/pending/closed/aggregate/getMore 1/aggregate at 7/killCursors 1/killCursors 2
+none~1- l. 2- l.+ k.~cp~/nothing/pending/closed/aggregate/getMore 1/aggregate at 7/killCursors 1/killCursors 2
+none~1- 1- 1e k.~n~/event 2/closed/aggregate/getMore 1/getMore 1/killCursors 1
+none~1- 0-~nn~/nothing/nothing/closed/aggregate/getMore 1
+none~1- l. 2- k. 2e k.~n~/event 2/closed/aggregate/getMore 1/aggregate at 7/killCursors 1/getMore 2/killCursors 2
+none~1- l. 2- f.+~cp~/nothing/pending/E1/aggregate/getMore 1/aggregate at 7/killCursors 1";
+
+// The four parts of a line.
+fn parts(line: &str) -> Option<(&str, &str, &str, &str)> {
+    let (start, rest) = line.split_once('~')?;
+    let (script, rest) = rest.split_once('~')?;
+    let (steps, wanted) = rest.split_once('~')?;
+    Some((start, script, steps, wanted))
+}
+
+#[test]
+fn streams_to_their_closing(rt: HostRuntime) -> Result<(), Fail> {
+    let alloc = rt.alloc();
+    for line in RUNS.lines() {
+        let Some((start, script, steps, wanted)) = parts(line) else {
+            return Err(Fail::from("line"));
+        };
+        let seen = run(alloc, start, script, steps, 0)?;
+        assert_eq!(rt; seen.as_str(), wanted, "{script}");
+        if !steps.contains('p') {
+            let pended = run(alloc, start, script, steps, 1)?;
+            assert_eq!(rt; pended.as_str(), wanted, "pending {script}");
+        }
+    }
+    Ok(())
+}
+
+#[test]
+fn empty_replies_in_a_row(rt: HostRuntime) -> Result<(), Fail> {
+    let alloc = rt.alloc();
+    let script = repeated(alloc, "1-", " 1-", 999, " k.")?;
+    let seen = run(alloc, "none", script.as_str(), "n", 0)?;
+    let wanted = repeated(
+        alloc,
+        "/E13/closed/aggregate",
+        "/getMore 1",
+        999,
+        "/killCursors 1",
+    )?;
+    assert_eq!(rt; seen.as_str(), wanted.as_str(), "999 getMores");
+    Ok(())
+}
+
+#[test]
+fn resumptions_without_an_event(rt: HostRuntime) -> Result<(), Fail> {
+    let alloc = rt.alloc();
+    let script = repeated(alloc, "1-", " l. 1- k.", 1000, " k.")?;
+    let seen = run(alloc, "none", script.as_str(), "n", 0)?;
+    let middle = "/getMore 1/aggregate at 7/killCursors 1";
+    let wanted = repeated(
+        alloc,
+        "/E13/closed/aggregate",
+        middle,
+        1000,
+        "/killCursors 1",
+    )?;
+    assert_eq!(rt; seen.as_str(), wanted.as_str(), "1000 resumptions");
+    Ok(())
+}

@@ -1,7 +1,0 @@
-use Rattle.mg_link.specs.Acts.{IsOut}
-use Rattle.mg_link.specs.Places.{out_at}
-use Rattle.mg_change.specs.Openings.{opening_ticket}
-use Rattle.mg_change.proofs.tests.open.Given as goal
-
-abbrev pub invariant-polls : goal.invariant-polls
-invariant-polls l = IsOut (out_at l.link.calls) (opening_ticket l.state)

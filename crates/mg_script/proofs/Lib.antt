@@ -1,0 +1,5 @@
+pub mod Steps
+pub mod Digits
+pub mod Printed
+pub mod Lines
+pub mod Small

@@ -1,0 +1,173 @@
+//! Values as JSON.
+ghost use Rattle.std.specs.Prelude.{◌≡◌, IfOk, IfErr, string_bytes};
+ghost use Rattle.serde_json.specs.Data.{no_members};
+ghost use Rattle.serde_json.specs.View.{view, items_view, members_view};
+ghost use Rattle.mg_bson.specs.View.{tree, items_of};
+ghost use Rattle.mg_link.specs.Errors.{plain};
+ghost use Rattle.mg_link.specs.declared.error.ErrorKind.TheVariants as kinds;
+ghost use Rattle.mg_script.specs.Json.{tagged, hex_json, text_json, flag_json, binary_json, regex_json, pointer_json, timestamp_json, scoped_json, json_of, items_json, fields_json, value_text};
+
+use mg_bson::{Binary, Bson, CodeWithScope, DbPointer, Document, Regex, Timestamp};
+use mg_link::Error;
+use serde_json::{Map, Value, json};
+use std::alloc::{AllocError, Global};
+
+// ---- objects of one field, by which a kind is told
+
+fn tagged(alloc: Global, name: &str, value: Value) -> Result<Value, AllocError>
+    ensures { IfOk result (λ v. view v ≡ tagged name.now (view value)) }
+{
+    let mut members = Map::new(alloc);
+    drop(members.insert(String::from_str(alloc, name)?, value)?);
+    Ok(Value::Object(members))
+}
+
+fn hex_json(alloc: Global, name: &str, bytes: &[u8]) -> Result<Value, AllocError>
+    ensures { IfOk result (λ v. view v ≡ hex_json name.now bytes.now) }
+{
+    let digits = hex::encode(alloc, bytes)?;
+    tagged(alloc, name, Value::String(digits))
+}
+
+fn text_json(alloc: Global, name: &str, text: &str) -> Result<Value, AllocError>
+    ensures { IfOk result (λ v. view v ≡ text_json name.now text.now) }
+{
+    let text = String::from_str(alloc, text)?;
+    tagged(alloc, name, Value::String(text))
+}
+
+fn flag_json(alloc: Global, name: &str) -> Result<Value, AllocError>
+    ensures { IfOk result (λ v. view v ≡ flag_json name.now) }
+{
+    tagged(alloc, name, Value::Bool(true))
+}
+
+// ---- kinds of more than one part
+
+fn binary_json(alloc: Global, binary: &Binary) -> Result<Value, AllocError>
+    ensures { IfOk result (λ v. view v ≡ binary_json binary.now.subtype binary.now.bytes.items) }
+{
+    if binary.subtype == 0 {
+        return hex_json(alloc, "$bytes", binary.bytes.as_slice());
+    }
+    let bytes = hex::encode(alloc, binary.bytes.as_slice())?;
+    let subtype = binary.subtype;
+    json!(in alloc; {"$binary": {"bytes": (bytes.as_str()), "subtype": subtype}})
+}
+
+fn regex_json(alloc: Global, regex: &Regex) -> Result<Value, AllocError>
+    ensures { IfOk result
+        (λ v. view v ≡ regex_json (string_bytes regex.now.pattern) (string_bytes regex.now.options)) }
+{
+    let options = regex.options.as_str();
+    let pattern = regex.pattern.as_str();
+    json!(in alloc; {"$regex": {"options": options, "pattern": pattern}})
+}
+
+fn pointer_json(alloc: Global, pointer: &DbPointer) -> Result<Value, AllocError>
+    ensures { IfOk result
+        (λ v. view v ≡ pointer_json (string_bytes pointer.now.namespace) pointer.now.id.0) }
+{
+    let id = hex::encode(alloc, pointer.id.0)?;
+    let namespace = pointer.namespace.as_str();
+    json!(in alloc; {"$dbPointer": {"id": (id.as_str()), "ref": namespace}})
+}
+
+fn timestamp_json(alloc: Global, timestamp: Timestamp) -> Result<Value, AllocError>
+    ensures { IfOk result (λ v. view v ≡ timestamp_json timestamp.time timestamp.increment) }
+{
+    let increment = timestamp.increment;
+    let time = timestamp.time;
+    json!(in alloc; {"$timestamp": {"i": increment, "t": time}})
+}
+
+fn scoped_json(alloc: Global, code: &str, scope: Map<String, Value>) -> Result<Value, AllocError>
+    ensures { IfOk result (λ v. view v ≡ scoped_json code.now (members_view scope.entries)) }
+{
+    let mut parts = Map::new(alloc);
+    let code = String::from_str(alloc, code)?;
+    drop(parts.insert(String::from_str(alloc, "code")?, Value::String(code))?);
+    drop(parts.insert(String::from_str(alloc, "scope")?, Value::Object(scope))?);
+    tagged(alloc, "$codeScope", Value::Object(parts))
+}
+
+// ---- all kinds
+
+/// The JSON value that a value prints as.
+#[cycle(json)]
+fn json_value(alloc: Global, value: &Bson) -> Result<Value, AllocError>
+    ensures { IfOk result (λ v. view v ≡ json_of (tree value.now)) }
+{
+    match value {
+        Bson::Double(bytes) => hex_json(alloc, "$double", bytes),
+        Bson::String(text) => Ok(Value::String(text.clone()?)),
+        Bson::Document(document) => Ok(Value::Object(json_members(alloc, document)?)),
+        Bson::Array(array) => Ok(Value::Array(json_items(alloc, array.as_slice())?)),
+        Bson::Binary(binary) => binary_json(alloc, binary),
+        Bson::Undefined => flag_json(alloc, "$undefined"),
+        Bson::ObjectId(id) => hex_json(alloc, "$oid", &id.0),
+        Bson::Boolean(b) => Ok(Value::Bool(*b)),
+        Bson::DateTime(time) => tagged(alloc, "$date", Value::from(time.millis)),
+        Bson::Null => Ok(Value::Null),
+        Bson::Regex(regex) => regex_json(alloc, regex),
+        Bson::DbPointer(pointer) => pointer_json(alloc, pointer),
+        Bson::Code(text) => text_json(alloc, "$code", text.as_str()),
+        Bson::Symbol(text) => text_json(alloc, "$symbol", text.as_str()),
+        Bson::CodeWithScope(code) => {
+            let scope = json_members(alloc, &code.scope)?;
+            scoped_json(alloc, code.code.as_str(), scope)
+        }
+        Bson::Int32(n) => Ok(Value::from(*n)),
+        Bson::Timestamp(timestamp) => timestamp_json(alloc, *timestamp),
+        Bson::Int64(n) => {
+            let digits = n.to_string(alloc)?;
+            tagged(alloc, "$int64", Value::String(digits))
+        }
+        Bson::Decimal128(bytes) => hex_json(alloc, "$decimal", bytes),
+        Bson::MinKey => flag_json(alloc, "$minKey"),
+        Bson::MaxKey => flag_json(alloc, "$maxKey"),
+    }
+}
+
+#[cycle(json)]
+fn json_items(alloc: Global, items: &[Bson]) -> Result<Vec<Value>, AllocError>
+    ensures { IfOk result (λ v. items_view v.items ≡ items_json (items_of items.now)) }
+{
+    let mut values = Vec::new(alloc);
+    for item in items {
+        values.push(json_value(alloc, item)?)?;
+    }
+    Ok(values)
+}
+
+#[cycle(json)]
+fn json_members(alloc: Global, document: &Document) -> Result<Map<String, Value>, AllocError>
+    ensures { IfOk result (λ m. members_view m.entries ≡ fields_json document.now no_members) }
+{
+    let mut members = Map::new(alloc);
+    let mut fields = document.iter();
+    while let Some((name, field)) = fields.next() {
+        let name = String::from_str(alloc, name)?;
+        let value = json_value(alloc, field)?;
+        drop(members.insert(name, value)?);
+    }
+    Ok(members)
+}
+
+/// The text that a value prints as.
+pub(crate) fn value_text(alloc: Global, value: &Bson) -> Result<String, AllocError>
+    ensures { IfOk result (λ s. string_bytes s ≡ value_text (tree value.now)) }
+{
+    let json = json_value(alloc, value)?;
+    json.to_string(alloc)
+}
+
+/// The compact JSON text (RFC 8259) of a value. A kind that JSON lacks is an object of one field
+/// whose name begins with `$`; an object's fields stand in the byte order of their names, and of
+/// fields with one name the last stands. It fails for want of memory alone.
+pub fn json_text(alloc: Global, value: &Bson) -> Result<String, Error>
+    ensures text { IfOk result (λ s. string_bytes s ≡ value_text (tree value.now)) }
+    ensures err { IfErr result (λ e. e ≡ plain kinds.OutOfMemory) }
+{
+    Ok(value_text(alloc, value)?)
+}

@@ -1,0 +1,23 @@
+//! Scripts, from their bytes on, and the text of what became of their jobs.
+#![tactic(auto)]
+
+mod fates;
+mod fault;
+mod json;
+mod outcome;
+mod parse;
+mod parse_fate;
+mod parse_job;
+mod parts;
+mod print;
+mod script;
+mod value;
+
+pub use fates::small_copies;
+pub use fault::{Place, ScriptError};
+pub use json::json_text;
+pub use outcome::{Answer, Ended, Outcome, Played, Run, Turned};
+pub use parse::{first_missing, missing, parse_script};
+pub use print::text_of;
+pub use script::{Job, Script, Start};
+pub use value::value_from_json;
