@@ -1,4 +1,7 @@
-// Times libbson on a file of documents, one behind another, and prints MB a second.
+// Times libbson on a file of documents, one behind another, and prints MB a second. A first round is not timed.
+//
+// bson_validate without flags tests all levels, and each name and text for UTF-8, as mg_bson does; with its flags for UTF-8 it tests
+// each text once more.
 #include <bson/bson.h>
 #include <stdio.h>
 #include <stdlib.h>
@@ -38,31 +41,43 @@ static uint64_t validate_one(const bson_t *document) {
     return bson_validate(document, BSON_VALIDATE_NONE, NULL);
 }
 
-static uint64_t validate_texts_of_one(const bson_t *document) {
-    return bson_validate(document, BSON_VALIDATE_UTF8 | BSON_VALIDATE_UTF8_ALLOW_NULL, NULL);
+static void round_of(struct documents all, uint64_t (*one)(const bson_t *)) {
+    for (size_t at = 0; at < all.length;) {
+        uint32_t length;
+        bson_t document;
+        memcpy(&length, all.bytes + at, 4);
+        if (!bson_init_static(&document, all.bytes + at, length))
+            exit(1);
+        sink += one(&document);
+        at += length;
+    }
 }
 
-static uint64_t copy_one(const bson_t *document) {
-    bson_t *copy = bson_copy(document);
-    uint64_t length = copy->len;
-    bson_destroy(copy);
-    return length;
+static void report(const char *name, struct documents all, int rounds, double start) {
+    printf("%s %.0f MB/s\n", name, (double)all.length * rounds / (now() - start) / 1e6);
 }
 
 static void time_each(const char *name, struct documents all, int rounds, uint64_t (*one)(const bson_t *)) {
+    round_of(all, one);
+    double start = now();
+    for (int round = 0; round < rounds; round++)
+        round_of(all, one);
+    report(name, all, rounds, start);
+}
+
+// The buffer was written before, so that no page is touched for the first time.
+static void time_memcpy(struct documents all, int rounds) {
+    uint8_t *copy = malloc(all.length);
+    if (!copy)
+        exit(1);
+    memcpy(copy, all.bytes, all.length);
     double start = now();
     for (int round = 0; round < rounds; round++) {
-        for (size_t at = 0; at < all.length;) {
-            uint32_t length;
-            bson_t document;
-            memcpy(&length, all.bytes + at, 4);
-            if (!bson_init_static(&document, all.bytes + at, length))
-                exit(1);
-            sink += one(&document);
-            at += length;
-        }
+        memcpy(copy, all.bytes, all.length);
+        sink += *(volatile uint8_t *)(copy + round % all.length);
     }
-    printf("%s %.0f MB/s\n", name, (double)all.length * rounds / (now() - start) / 1e6);
+    report("memcpy", all, rounds, start);
+    free(copy);
 }
 
 int main(int count, char **words) {
@@ -81,17 +96,8 @@ int main(int count, char **words) {
     int rounds = atoi(words[2]);
     struct documents all = {bytes, length};
 
-    double start = now();
-    for (int round = 0; round < rounds; round++) {
-        uint8_t *copy = malloc(length);
-        memcpy(copy, bytes, length);
-        sink += copy[round % length];
-        free(copy);
-    }
-    printf("memcpy %.0f MB/s\n", (double)length * rounds / (now() - start) / 1e6);
+    time_memcpy(all, rounds);
     time_each("validate", all, rounds, validate_one);
-    time_each("validate-texts", all, rounds, validate_texts_of_one);
     time_each("walk", all, rounds, walk_one);
-    time_each("copy", all, rounds, copy_one);
     return 0;
 }
