@@ -1,9 +1,10 @@
 -- What is counted of a turn.
-use Rattle.std.specs.Prelude.{◌≡◌, ◌+◌, ◌≤◌, ℕ, Bool, true, false, Some, List, length, slice_get}
+use Rattle.std.specs.Prelude.{◌≡◌, ◌+◌, ◌≤◌, ℕ, Bool, true, false, cond, Some, List, [], ◌∷◌, length, slice_get}
 use Rattle.mg_link.specs.Causes.{Rose}
 use Rattle.mg_link.specs.Link.{Told}
 use Rattle.mg_link.specs.Log.{fault, Call}
 use Rattle.mg_change.specs.Calls.{Stays}
+use Rattle.mg_script.specs.declared.outcome.Turned.{Turned}
 
 -- so many commands were started between two states of a log, where it is told
 abbrev pub StartedBy : ℕ → Told → Told → Type 0
@@ -33,3 +34,17 @@ pub record Counted (old new : Told) (started before now : ℕ) (pended : Bool) (
   pub pends : PendedAs pended before now
   pub never_less : before ≤ now
   pub prompt : StayedPrompt old new prompts prompts' pended
+
+-- ---- the notes of many turns
+
+-- Each note is true: turn by turn they lead from one log, and one count of pending replies, to another. A turn started as many commands as its note
+-- says, and pended just where the note says so.
+abbrev pub AreNoted : List Turned → (old new : Told) → (before now : ℕ) → Type 0
+AreNoted [] old new before now = (new ≡ old) × (now ≡ before)
+AreNoted (note ∷ notes) old new before now =
+    (log : Told) × (count : ℕ) × StartedBy note.started old log × PendedAs note.pended before count × AreNoted notes log new count now
+
+-- how many turns pended
+abbrev pub turns_pended : List Turned → ℕ
+turns_pended [] = 0
+turns_pended (note ∷ notes) = cond note.pended 1 0 + turns_pended notes

@@ -10,10 +10,12 @@ use Rattle.mg_link.specs.Log.{Call}
 use Rattle.mg_link.specs.Owner.{NamesItsOwn}
 use Rattle.mg_link.specs.Standing.{Stands}
 use Rattle.mg_jobs.specs.Causes.{OutcomeCaused, course}
+use Rattle.mg_jobs.specs.Counts.{AreNoted}
+use Rattle.mg_jobs.specs.Progress.{AllPlayed}
 use Rattle.mg_jobs.specs.Headline.{OutcomeFollowed}
 use Rattle.mg_script.specs.Plan.{Plan, Task, plan, tasks}
 use Rattle.mg_script.specs.Plan as plans
-use Rattle.mg_store.specs.InMemory.{AreAsFates}
+use Rattle.mg_store.specs.InMemory.{AreAsFates, pends_in}
 use Rattle.mg_store.specs.declared.fate.Fate.{Fate}
 use Rattle.mg_script.specs.declared.outcome.Outcome.{Outcome}
 use Rattle.mg_script.specs.declared.outcome.Turned.{Turned}
@@ -65,7 +67,9 @@ ReadMissing old new n = (script : Plan) × ReadScript old new script × LacksJob
 
 -- What the jobs of a run over one link came to: in every legal history in which the link's log stands each follow answered consecutive entries,
 -- the log names its own cursors only, each answer of a follow has its cause among the commands of its own turns, the log stands in the history of
--- the run's own store, whose steps are by the rules, and each of its calls is as the fate of its number in the script says.
+-- the run's own store, whose steps are by the rules, and each of its calls is as the fate of its number in the script says. There is one outcome for
+-- each job and one true note for each turn, by which it follows how far each job came; in the turns that pended the polls of the calls did, just as often
+-- as their fates say.
 pub record RunFollowed (run : Run) : Type 0 where
   pub calls : List Call
   pub log_is : run.logs.items ≡ calls ∷ []
@@ -80,6 +84,10 @@ pub record RunFollowed (run : Run) : Type 0 where
   pub fates_are : plans.fates fates ≡ plans.fates run.script.fates.items
   pub pended : List ℕ
   pub as_fates : AreAsFates run.store.history fates calls pended
+  pub outcomes : length run.outcomes.items ≡ length run.script.jobs.items
+  pub rows : AllPlayed (tasks run.script.jobs.items) run.script.order.items turns.items run.outcomes.items
+  pub notes : length turns.items ≡ length run.script.order.items
+  pub noted : AreNoted turns.items (Some []) (Some calls) 0 (pends_in pended)
 
 -- the run is of the script that was read, over one link
 pub record Ran (old new : Option (List ℕ)) (run : Run) : Type 0 where

@@ -63,6 +63,7 @@ fn is_run(words: &[String]) -> bool
 fn run_over<F: Fated>(alloc: Global, script: Script, link: MemLink) -> Result<Run, Error>
     requires jobs { HasJobs (plan script) }
     requires unused { link.calls ≡ [] }
+    requires unpolled { link.pended ≡ [] }
     requires fated { link.fates ≡ F.fates }
     requires fates { plans.fates F.fates ≡ plans.fates script.fates.items }
     requires wire { link.wire ≡ script.wire }

@@ -3,7 +3,8 @@ ghost use Rattle.std.specs.Prelude.{◌≡◌, ◌≤◌, ◌<◌, ◌++◌, ◌
 ghost use Rattle.std.specs.List.{All, sum_by};
 ghost use Rattle.mg_link.specs.Errors.{plain};
 ghost use Rattle.mg_link.specs.Link.{Awaited, Later, Told};
-ghost use Rattle.mg_jobs.specs.Counts.{LosesNothing, StartedBy};
+ghost use Rattle.mg_link.specs.Causes.{RoseBy};
+ghost use Rattle.mg_jobs.specs.Counts.{AreNoted, LosesNothing, StartedBy, turns_pended};
 ghost use Rattle.mg_jobs.specs.Runs.{AreNew, AreSameJobs, CanGo, Goes, IsNew, IsNoted, IsReady, IsSameJob, JobHolds, Stands, has_ended, idle, job_ended, job_ticket};
 ghost use Rattle.mg_link.specs.Log.{Call};
 ghost use Rattle.mg_link.specs.Owner.{Owner};
@@ -367,6 +368,7 @@ fn play<L: Link, I: IdSource>(
         (L.wire link.old) (L.wire link.new) (L.prompt link.old) (L.prompt link.new) }
     ensures turns { OnOk result (length runner.new.turns.items ≡ length order.now) }
     ensures started { OnOk result (StartedBy (sum_by (λ t. t.started) runner.new.turns.items) (L.log link.old) (L.log link.new)) }
+    ensures noted { OnOk result (AreNoted runner.new.turns.items (L.log link.old) (L.log link.new) (L.pends link.old) (L.pends link.new)) }
     ensures prompt { L.prompt link.old → OnOk result (All (λ t. t.pended ≡ false) runner.new.turns.items) }
     ensures lossless { L.prompt link.old → OnOk result (LosesNothing (L.log link.old) (L.log link.new)) }
     ensures jobs { length runner.new.players.items ≡ length runner.old.players.items }
@@ -411,6 +413,9 @@ pub fn run_jobs<L: Link, I: IdSource>(
     // One outcome for each job, and one note for each turn.
     ensures outcomes { IfOk result (λ p. length p.outcomes.items ≡ length jobs.now) }
     ensures turns { IfOk result (λ p. length p.turns.items ≡ length order.now) }
+    // Each note is true of its turn, and no more turns pended than the link's count of pending replies rose by.
+    ensures noted { IfOk result (λ p. AreNoted p.turns.items (L.log link.old) (L.log link.new) (L.pends link.old) (L.pends link.new)) }
+    ensures pended { IfOk result (λ p. RoseBy (turns_pended p.turns.items) (L.pends link.old) (L.pends link.new)) }
     // The notes count what was started, and over a prompt link no turn pends.
     ensures started { IfOk result (λ p. StartedBy (sum_by (λ t. t.started) p.turns.items) (L.log link.old) (L.log link.new)) }
     ensures prompt { L.prompt link.old → IfOk result (λ p. All (λ t. t.pended ≡ false) p.turns.items) }

@@ -1,11 +1,14 @@
-use Rattle.std.proofs.Common.{◌≡◌, ℕ, ℤ, List, [], ◌∷◌, Some, ap, sym, ◌∙◌, subst}
+use Rattle.std.proofs.Common.{◌≡◌, ℕ, ℤ, List, [], ◌∷◌, Some, ap, length, sym, ◌∙◌, subst}
 use Rattle.std.specs.Prelude.{slice_get}
 use Rattle.mg_link.specs.Kept.{steps_of}
 use Rattle.mg_link.specs.Log.{Call}
 use Rattle.mg_link.specs.Standing.{Stands}
 use Rattle.mg_link.proofs.Owners.{same_some}
 use Rattle.mg_link.proofs.Runs.{names_none_at_first}
-use Rattle.mg_store.specs.InMemory.{AreAsFates}
+use Rattle.mg_store.specs.InMemory.{AreAsFates, pends_in}
+use Rattle.mg_link.specs.Link.{Told}
+use Rattle.mg_jobs.specs.Counts.{AreNoted}
+use Rattle.mg_jobs.specs.Progress.{AllPlayed}
 use Rattle.mg_jobs.specs.Causes.{OutcomeCaused, course}
 use Rattle.mg_script.specs.Plan.{tasks}
 use Rattle.mg_jobs.proofs.program.run_over.Goals as goal
@@ -21,6 +24,8 @@ returns-clause-followed g c =
     let link = c.into_link.result in
     let calls = ap (λ m. m.calls) c.into_link.ensures.link ∙ same_some c.run_jobs.new.link.calls f.0 f.1 in
     let stored = sym c.into_parts-store.ensures.store in
+    let notes = c.in_ok-played.played.turns.items in
+    let unpolled = ap (λ m. pends_in m.pended) c.new-link.ensures ∙ ap pends_in c.requires.unpolled in
     record {
       calls = f.0;
       log_is = c.in_ok-logs.ensures.items ∙ ap (λ l. l ∷ []) (c.into_parts-store.ensures.calls ∙ calls);
@@ -40,4 +45,12 @@ returns-clause-followed g c =
       as_fates = subst (λ l. AreAsFates c.into_parts-store.result.0.history g.F.Fated.fates l link.pended) calls
           (subst (λ fates. AreAsFates c.into_parts-store.result.0.history fates link.calls link.pended) c.into_link.ensures.fates
           (subst (λ s. AreAsFates s.history link.fates link.calls link.pended) stored c.into_parts-store.ensures.fates));
+      outcomes = c.in_ok-played.ensures.outcomes ∙ ap length jobs;
+      rows = subst (λ (o : List ℕ). AllPlayed (tasks c.args.script.jobs.items) o notes c.in_ok-played.played.outcomes.items) c.as_slice-2.ensures.value
+          (subst (λ l. AllPlayed (tasks l) c.as_slice-2.result.now notes c.in_ok-played.played.outcomes.items) jobs c.in_ok-played.ensures.rows);
+      notes = c.in_ok-played.ensures.turns ∙ ap length c.as_slice-2.ensures.value;
+      noted = subst (λ (n : ℕ). AreNoted notes (Some []) (Some f.0) 0 n) (sym (ap (λ m. pends_in m.pended) c.into_link.ensures.link))
+          (subst (λ (n : ℕ). AreNoted notes (Some []) (Some f.0) n (pends_in c.run_jobs.new.link.pended)) unpolled
+          (subst (λ (l : Told). AreNoted notes l (Some f.0) (pends_in c.new-link.result.pended) (pends_in c.run_jobs.new.link.pended)) begins
+          (subst (λ (l : Told). AreNoted notes (Some c.new-link.result.calls) l (pends_in c.new-link.result.pended) (pends_in c.run_jobs.new.link.pended)) f.1 c.in_ok-played.ensures.noted)));
     }

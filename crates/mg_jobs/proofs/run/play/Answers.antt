@@ -2,12 +2,12 @@ use Rattle.std.proofs.Common.{◌≡◌, ◌+◌, ◌∷◌, [], List, false, ap
 use Rattle.std.specs.List.{All, sum_by}
 use Rattle.std.proofs.lemmas.List.Elements.{All-append, All-cons, All-nil}
 use Rattle.mg_link.proofs.Onward.{later_on}
-use Rattle.mg_jobs.specs.Counts.{StartedBy}
+use Rattle.mg_jobs.specs.Counts.{AreNoted, StartedBy}
 use Rattle.mg_script.specs.declared.outcome.Turned.{Turned}
 use Rattle.std.proofs.lemmas.Option.{slice_get-get_or}
 use Rattle.mg_jobs.proofs.Advancing.{at_next}
 use Rattle.mg_jobs.proofs.Knowing.{length_take}
-use Rattle.mg_jobs.proofs.Tallies.{loses_on, started_more}
+use Rattle.mg_jobs.proofs.Tallies.{loses_on, noted_more, started_more}
 use Rattle.mg_jobs.proofs.Told.{tell_next, tell_whole}
 use Rattle.mg_jobs.proofs.run.play.Goals as goal
 
@@ -25,6 +25,8 @@ loop-number-preserved g c =
       turns = ap length noted.1 ∙ length-append xs (noted.0 ∷ []) ∙ ap (λ n. n + 1) c.loop-number.invariant.turns;
       started = subst (λ (ts : List Turned). StartedBy (sum_by (λ (t : Turned). t.started) ts) (g.L.Link.log c.args.link.now) (g.L.Link.log c.turn.new.link)) (sym noted.1)
           (started_more xs noted.0 _ _ _ c.loop-number.invariant.started noted.2.starts);
+      noted = subst (λ (ts : List Turned). AreNoted ts (g.L.Link.log c.args.link.now) (g.L.Link.log c.turn.new.link) (g.L.Link.pends c.args.link.now) (g.L.Link.pends c.turn.new.link)) (sym noted.1)
+          (noted_more xs noted.0 _ _ _ _ _ _ c.loop-number.invariant.noted noted.2.starts noted.2.pends);
       quiet = λ prompt. subst (λ (ts : List Turned). All (λ (t : Turned). t.pended ≡ false) ts) (sym noted.1)
           (All-append (λ (t : Turned). t.pended ≡ false) xs (noted.0 ∷ []) (c.loop-number.invariant.quiet prompt) (All-cons (λ (t : Turned). t.pended ≡ false) noted.0 [] (noted.2.prompt (c.loop-number.invariant.later.prompt prompt).stays).1 (All-nil (λ (t : Turned). t.pended ≡ false))));
       lossless = λ prompt. loses_on _ _ _ (c.loop-number.invariant.lossless prompt) (noted.2.prompt (c.loop-number.invariant.later.prompt prompt).stays).2;

@@ -1,7 +1,7 @@
 use Rattle.std.proofs.Common.{◌≡◌, List, [], length, take, false}
 use Rattle.std.specs.List.{All, sum_by}
 use Rattle.mg_link.specs.Link.{Later, Told}
-use Rattle.mg_jobs.specs.Counts.{LosesNothing, StartedBy}
+use Rattle.mg_jobs.specs.Counts.{AreNoted, LosesNothing, StartedBy}
 use Rattle.mg_jobs.specs.Headline.{DoTasks, Knowing}
 use Rattle.mg_script.specs.Plan.{Task}
 use Rattle.mg_jobs.specs.Progress.{AllAt}
@@ -16,6 +16,7 @@ invariant-loop-number g l = record {
   later : Later (g.L.Link.faults l.initial.link) (g.L.Link.faults l.link) (g.L.Link.pends l.initial.link) (g.L.Link.pends l.link) (g.L.Link.wire l.initial.link) (g.L.Link.wire l.link) (g.L.Link.prompt l.initial.link) (g.L.Link.prompt l.link);
   turns : length l.runner.turns.items ≡ l.number-index;
   started : StartedBy (sum_by (λ (t : Turned). t.started) l.runner.turns.items) (g.L.Link.log l.initial.link) (g.L.Link.log l.link);
+  noted : AreNoted l.runner.turns.items (g.L.Link.log l.initial.link) (g.L.Link.log l.link) (g.L.Link.pends l.initial.link) (g.L.Link.pends l.link);
   quiet : g.L.Link.prompt l.initial.link → All (λ (t : Turned). t.pended ≡ false) l.runner.turns.items;
   lossless : g.L.Link.prompt l.initial.link → LosesNothing (g.L.Link.log l.initial.link) (g.L.Link.log l.link);
   jobs : length l.runner.players.items ≡ length l.initial.runner.players.items;

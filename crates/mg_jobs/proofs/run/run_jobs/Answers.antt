@@ -6,6 +6,7 @@ use Rattle.mg_script.specs.Plan.{tasks}
 use Rattle.mg_jobs.proofs.Knowing.{knowing_first, played_so}
 use Rattle.mg_jobs.proofs.Advancing.{rows_so}
 use Rattle.mg_jobs.proofs.Completing.{well_so}
+use Rattle.mg_jobs.proofs.Tallies.{noted_so, pended_so}
 use Rattle.mg_jobs.proofs.Told.{caused_so, tell_as, tell_first}
 use Rattle.mg_jobs.proofs.run.run_jobs.Goals as goal
 
@@ -31,3 +32,9 @@ returns-clause-caused g c =
 
 pub returns-clause-complete : goal.returns-clause-complete
 returns-clause-complete g c = λ prompt. well_so _ _ _ (tasks c.args.jobs.now) c.args.order.now c.into_played.result (c.in_ok-play.ensures.lossless prompt) (returns-clause-caused g c) (returns-clause-rows g c)
+
+pub returns-clause-noted : goal.returns-clause-noted
+returns-clause-noted g c = noted_so c.into_played.result c.play.new.runner.turns.items _ _ _ _ c.into_played.ensures.turns c.in_ok-play.ensures.noted
+
+pub returns-clause-pended : goal.returns-clause-pended
+returns-clause-pended g c = pended_so c.into_played.result _ _ _ _ (returns-clause-noted g c)
