@@ -15,6 +15,12 @@ mod streams;
 use mg_bson::{Bson, BsonError, Document, to_bytes};
 use mg_link::Namespace;
 use std::alloc::{AllocError, Global};
+use std::process::Abort;
+
+/// Fails a test where a text is not the wanted one.
+fn expect(rt: &impl Abort, about: &str, found: &str, wanted: &str) {
+    assert_eq!(rt; found, wanted, "{about}");
+}
 
 /// What stands before the first space of a text, and behind it.
 fn parted(text: &str) -> (&str, &str) {

@@ -13,3 +13,4 @@ pub mod Known
 pub mod ReadLimits
 pub mod Counts
 pub mod Depths
+pub mod Plain

@@ -46,30 +46,21 @@ fn is_value(kind: Kind, bytes: &[u8], levels: u32) -> bool
     ensures { result ≡ is_some (value_at (doc_at levels) kind bytes.now) }
 {
     match kind {
-        Kind::Double => bytes.len() == 8,
-        Kind::String => text_of(bytes).is_some(),
-        Kind::Document => is_document(bytes, levels),
-        Kind::Array => is_document(bytes, levels),
+        Kind::Double | Kind::DateTime | Kind::Timestamp | Kind::Int64 => bytes.len() == 8,
+        Kind::String | Kind::Code | Kind::Symbol => text_of(bytes).is_some(),
+        Kind::Document | Kind::Array => is_document(bytes, levels),
         Kind::Binary => is_binary(bytes),
-        Kind::Undefined => bytes.is_empty(),
+        Kind::Undefined | Kind::Null | Kind::MinKey | Kind::MaxKey => bytes.is_empty(),
         Kind::ObjectId => bytes.len() == 12,
         Kind::Boolean => matches!(bytes, [0] | [1]),
-        Kind::DateTime => bytes.len() == 8,
-        Kind::Null => bytes.is_empty(),
         Kind::Regex => regex_of(bytes).is_some(),
         Kind::DbPointer => pointer_of(bytes).is_some(),
-        Kind::Code => text_of(bytes).is_some(),
-        Kind::Symbol => text_of(bytes).is_some(),
         Kind::CodeWithScope => match scope_of(bytes) {
             None => false,
             Some((_, scope)) => is_document(scope, levels),
         },
         Kind::Int32 => bytes.len() == 4,
-        Kind::Timestamp => bytes.len() == 8,
-        Kind::Int64 => bytes.len() == 8,
         Kind::Decimal128 => bytes.len() == 16,
-        Kind::MinKey => bytes.is_empty(),
-        Kind::MaxKey => bytes.is_empty(),
     }
 }
 

@@ -1,8 +1,9 @@
 //! Checked bytes as a document that owns its parts.
-ghost use Rattle.std.specs.Prelude.{◌≡◌, IfOk, IfErr, string_bytes};
+ghost use Rattle.std.specs.Prelude.{◌≡◌, IfOk, IfErr, true, string_bytes};
 ghost use Rattle.mg_bson.specs.Tree.{binary, regex, db_pointer, scoped};
 ghost use Rattle.mg_bson.specs.Raw.{fields, items};
 ghost use Rattle.mg_bson.specs.RawView.{value};
+ghost use Rattle.mg_bson.specs.Plain.{is_plain};
 ghost use Rattle.mg_bson.specs.View.{tree};
 ghost use Rattle.mg_bson.specs.declared.error.BsonError.TheVariants.{OutOfMemory};
 
@@ -52,27 +53,10 @@ pub(crate) fn read_value(alloc: Global, raw: &RawValue<'_>) -> Result<Bson, Bson
     ensures err { IfErr result (λ e. e ≡ OutOfMemory) }
 {
     match raw {
-        RawValue::Double(v) => Ok(Bson::Double(*v)),
-        RawValue::String(text) => read_text(alloc, text).map(Bson::String),
         RawValue::Document(d) => read_document(alloc, d).map(Bson::Document),
         RawValue::Array(a) => read_array(alloc, a).map(Bson::Array),
-        RawValue::Binary(subtype, bytes) => read_binary(alloc, *subtype, bytes),
-        RawValue::Undefined => Ok(Bson::Undefined),
-        RawValue::ObjectId(id) => Ok(Bson::ObjectId(*id)),
-        RawValue::Boolean(b) => Ok(Bson::Boolean(*b)),
-        RawValue::DateTime(t) => Ok(Bson::DateTime(*t)),
-        RawValue::Null => Ok(Bson::Null),
-        RawValue::Regex(pattern, options) => read_regex(alloc, pattern, options),
-        RawValue::DbPointer(namespace, id) => read_pointer(alloc, namespace, *id),
-        RawValue::Code(text) => read_text(alloc, text).map(Bson::Code),
-        RawValue::Symbol(text) => read_text(alloc, text).map(Bson::Symbol),
         RawValue::CodeWithScope(code, scope) => read_scoped(alloc, code, scope),
-        RawValue::Int32(n) => Ok(Bson::Int32(*n)),
-        RawValue::Timestamp(t) => Ok(Bson::Timestamp(*t)),
-        RawValue::Int64(n) => Ok(Bson::Int64(*n)),
-        RawValue::Decimal128(v) => Ok(Bson::Decimal128(*v)),
-        RawValue::MinKey => Ok(Bson::MinKey),
-        RawValue::MaxKey => Ok(Bson::MaxKey),
+        _ => read_plain(alloc, raw),
     }
 }
 
@@ -84,6 +68,37 @@ fn read_scoped(alloc: Global, code: &str, scope: &RawDocument<'_>) -> Result<Bso
     let code = read_text(alloc, code)?;
     let scope = read_document(alloc, scope)?;
     Ok(Bson::CodeWithScope(CodeWithScope { code, scope }))
+}
+
+// A value that holds no others.
+fn read_plain(alloc: Global, raw: &RawValue<'_>) -> Result<Bson, BsonError>
+    requires { is_plain (value raw.now) ≡ true }
+    ensures ok { IfOk result (λ b. tree b ≡ value raw.now) }
+    ensures err { IfErr result (λ e. e ≡ OutOfMemory) }
+{
+    match raw {
+        RawValue::Double(v) => Ok(Bson::Double(*v)),
+        RawValue::String(text) => read_text(alloc, text).map(Bson::String),
+        RawValue::Binary(subtype, bytes) => read_binary(alloc, *subtype, bytes),
+        RawValue::Undefined => Ok(Bson::Undefined),
+        RawValue::ObjectId(id) => Ok(Bson::ObjectId(*id)),
+        RawValue::Boolean(b) => Ok(Bson::Boolean(*b)),
+        RawValue::DateTime(t) => Ok(Bson::DateTime(*t)),
+        RawValue::Null => Ok(Bson::Null),
+        RawValue::Regex(pattern, options) => read_regex(alloc, pattern, options),
+        RawValue::DbPointer(namespace, id) => read_pointer(alloc, namespace, *id),
+        RawValue::Code(text) => read_text(alloc, text).map(Bson::Code),
+        RawValue::Symbol(text) => read_text(alloc, text).map(Bson::Symbol),
+        RawValue::Int32(n) => Ok(Bson::Int32(*n)),
+        RawValue::Timestamp(t) => Ok(Bson::Timestamp(*t)),
+        RawValue::Int64(n) => Ok(Bson::Int64(*n)),
+        RawValue::Decimal128(v) => Ok(Bson::Decimal128(*v)),
+        RawValue::MinKey => Ok(Bson::MinKey),
+        RawValue::MaxKey => Ok(Bson::MaxKey),
+        RawValue::Document(_) | RawValue::Array(_) | RawValue::CodeWithScope(_, _) => {
+            unreachable!()
+        }
+    }
 }
 
 fn read_text(alloc: Global, text: &str) -> Result<String, BsonError>

@@ -1,7 +1,8 @@
 //! `==`, written by hand: a derived one cannot be had of a type that holds itself.
-ghost use Rattle.std.specs.Prelude.{◌≡◌, ◌↔◌, IsTrue};
+ghost use Rattle.std.specs.Prelude.{◌≡◌, ◌↔◌, IsTrue, true};
 ghost use Rattle.std.specs.Cmp.{decided, on_equiv, on_per, partial_equiv_from_equiv};
 ghost use Rattle.mg_bson.specs.Same.{tree_eq, tree_eq-decides, fields_eq, fields_eq-decides, items_eq, items_eq-decides};
+ghost use Rattle.mg_bson.specs.Plain.{is_plain};
 ghost use Rattle.mg_bson.specs.View.{tree};
 
 use crate::tree::{Array, Bson, Document};
@@ -99,30 +100,47 @@ fn same_array(a: &Array, b: &Array) -> bool
 fn same_value(a: &Bson, b: &Bson) -> bool
     ensures { IsTrue result ↔ (tree a.now ≡ tree b.now) }
 {
+    match a {
+        Bson::Document(a) => match b {
+            Bson::Document(b) => same_document(a, b),
+            _ => false,
+        },
+        Bson::Array(a) => match b {
+            Bson::Array(b) => same_array(a, b),
+            _ => false,
+        },
+        Bson::CodeWithScope(a) => match b {
+            Bson::CodeWithScope(b) => a.code == b.code && same_document(&a.scope, &b.scope),
+            _ => false,
+        },
+        _ => same_plain(a, b),
+    }
+}
+
+// Whether a value that holds no others is the same as another.
+fn same_plain(a: &Bson, b: &Bson) -> bool
+    requires { is_plain (tree a.now) ≡ true }
+    ensures { IsTrue result ↔ (tree a.now ≡ tree b.now) }
+{
     match (a, b) {
         (Bson::Double(a), Bson::Double(b)) => a == b,
         (Bson::String(a), Bson::String(b)) => a == b,
-        (Bson::Document(a), Bson::Document(b)) => same_document(a, b),
-        (Bson::Array(a), Bson::Array(b)) => same_array(a, b),
         (Bson::Binary(a), Bson::Binary(b)) => a == b,
-        (Bson::Undefined, Bson::Undefined) => true,
         (Bson::ObjectId(a), Bson::ObjectId(b)) => a == b,
         (Bson::Boolean(a), Bson::Boolean(b)) => a == b,
         (Bson::DateTime(a), Bson::DateTime(b)) => a == b,
-        (Bson::Null, Bson::Null) => true,
         (Bson::Regex(a), Bson::Regex(b)) => a == b,
         (Bson::DbPointer(a), Bson::DbPointer(b)) => a == b,
         (Bson::Code(a), Bson::Code(b)) => a == b,
         (Bson::Symbol(a), Bson::Symbol(b)) => a == b,
-        (Bson::CodeWithScope(a), Bson::CodeWithScope(b)) => {
-            a.code == b.code && same_document(&a.scope, &b.scope)
-        }
         (Bson::Int32(a), Bson::Int32(b)) => a == b,
         (Bson::Timestamp(a), Bson::Timestamp(b)) => a == b,
         (Bson::Int64(a), Bson::Int64(b)) => a == b,
         (Bson::Decimal128(a), Bson::Decimal128(b)) => a == b,
-        (Bson::MinKey, Bson::MinKey) => true,
-        (Bson::MaxKey, Bson::MaxKey) => true,
+        (Bson::Undefined, Bson::Undefined)
+        | (Bson::Null, Bson::Null)
+        | (Bson::MinKey, Bson::MinKey)
+        | (Bson::MaxKey, Bson::MaxKey) => true,
         _ => false,
     }
 }

@@ -9,8 +9,9 @@ ghost use Rattle.mg_bson.specs.Raw.{IsDocument, IsValue, fields, fields_left, it
 ghost use Rattle.mg_bson.specs.ReadView.{spelling};
 ghost use Rattle.mg_bson.specs.View.{tree};
 ghost use Rattle.mg_bson.specs.RawView.{value};
-ghost use Rattle.mg_bson.specs.Reading.{doc, doc_at, le32_at, value_at};
+ghost use Rattle.mg_bson.specs.Reading.{doc, doc_at, le32_at, binary_at, regex_at, pointer_at, value_at};
 ghost use Rattle.mg_bson.specs.declared.error.BsonError.TheVariants.{Malformed, OutOfMemory};
+ghost use Rattle.mg_bson.specs.declared.kind.Kind.TheVariants.{CodeWithScope};
 
 use crate::check::is_document;
 use crate::decode::read_value;
@@ -385,10 +386,7 @@ fn open<'a>(name: &'a str, kind: Kind, bytes: &'a [u8]) -> Option<(&'a str, RawV
         Kind::String => Some((name, RawValue::String(known_text_of(bytes)))),
         Kind::Document => Some((name, RawValue::Document(RawDocument { bytes }))),
         Kind::Array => Some((name, RawValue::Array(RawArray { bytes }))),
-        Kind::Binary => {
-            let (subtype, bytes) = binary_of(bytes)?;
-            Some((name, RawValue::Binary(subtype, bytes)))
-        }
+        Kind::Binary => open_binary(name, bytes),
         Kind::Undefined => Some((name, RawValue::Undefined)),
         Kind::ObjectId => Some((name, RawValue::ObjectId(ObjectId(array_12(bytes))))),
         Kind::Boolean => Some((name, RawValue::Boolean(boolean_of(bytes)?))),
@@ -397,23 +395,11 @@ fn open<'a>(name: &'a str, kind: Kind, bytes: &'a [u8]) -> Option<(&'a str, RawV
             Some((name, RawValue::DateTime(DateTime { millis })))
         }
         Kind::Null => Some((name, RawValue::Null)),
-        Kind::Regex => {
-            let (pattern, options) = regex_of(bytes)?;
-            Some((name, RawValue::Regex(pattern, options)))
-        }
-        Kind::DbPointer => {
-            let (namespace, id) = pointer_of(bytes)?;
-            Some((name, RawValue::DbPointer(namespace, ObjectId(array_12(id)))))
-        }
+        Kind::Regex => open_regex(name, bytes),
+        Kind::DbPointer => open_pointer(name, bytes),
         Kind::Code => Some((name, RawValue::Code(known_text_of(bytes)))),
         Kind::Symbol => Some((name, RawValue::Symbol(known_text_of(bytes)))),
-        Kind::CodeWithScope => {
-            let (code, scope) = scope_of(bytes)?;
-            Some((
-                name,
-                RawValue::CodeWithScope(code, RawDocument { bytes: scope }),
-            ))
-        }
+        Kind::CodeWithScope => open_scope(name, bytes),
         Kind::Int32 => Some((name, RawValue::Int32(i32_at(bytes)))),
         Kind::Timestamp => Some((name, RawValue::Timestamp(timestamp_at(bytes)))),
         Kind::Int64 => Some((name, RawValue::Int64(i64_at(bytes)))),
@@ -421,6 +407,45 @@ fn open<'a>(name: &'a str, kind: Kind, bytes: &'a [u8]) -> Option<(&'a str, RawV
         Kind::MinKey => Some((name, RawValue::MinKey)),
         Kind::MaxKey => Some((name, RawValue::MaxKey)),
     }
+}
+
+#[inline(always)]
+fn open_binary<'a>(name: &'a str, bytes: &'a [u8]) -> Option<(&'a str, RawValue<'a>)>
+    ensures name { IfSome result (λ r. r.0.now ≡ name.now) }
+    ensures value { option_map (λ r. value r.1) result ≡ binary_at bytes.now }
+{
+    let (subtype, bytes) = binary_of(bytes)?;
+    Some((name, RawValue::Binary(subtype, bytes)))
+}
+
+#[inline(always)]
+fn open_regex<'a>(name: &'a str, bytes: &'a [u8]) -> Option<(&'a str, RawValue<'a>)>
+    ensures name { IfSome result (λ r. r.0.now ≡ name.now) }
+    ensures value { option_map (λ r. value r.1) result ≡ regex_at bytes.now }
+{
+    let (pattern, options) = regex_of(bytes)?;
+    Some((name, RawValue::Regex(pattern, options)))
+}
+
+#[inline(always)]
+fn open_pointer<'a>(name: &'a str, bytes: &'a [u8]) -> Option<(&'a str, RawValue<'a>)>
+    ensures name { IfSome result (λ r. r.0.now ≡ name.now) }
+    ensures value { option_map (λ r. value r.1) result ≡ pointer_at bytes.now }
+{
+    let (namespace, id) = pointer_of(bytes)?;
+    let id = ObjectId(array_12(id));
+    Some((name, RawValue::DbPointer(namespace, id)))
+}
+
+#[inline(always)]
+fn open_scope<'a>(name: &'a str, bytes: &'a [u8]) -> Option<(&'a str, RawValue<'a>)>
+    requires { IsValue (record { kind = CodeWithScope; bytes = bytes.now }) }
+    ensures name { IfSome result (λ r. r.0.now ≡ name.now) }
+    ensures value { option_map (λ r. value r.1) result ≡ value_at (doc_at 99) CodeWithScope bytes.now }
+{
+    let (code, scope) = scope_of(bytes)?;
+    let scope = RawDocument { bytes: scope };
+    Some((name, RawValue::CodeWithScope(code, scope)))
 }
 
 // The increment, and the seconds behind it.

@@ -126,16 +126,32 @@ pub(crate) struct Field {
 ///
 /// In a contract it is that list. `==` says whether the lists are the same, in the same order.
 #[cycle(tree)]
-#[derive(Debug, Drop)]
+#[derive(Debug)]
 pub struct Document {
     pub(crate) fields: Vec<Field>,
 }
 
+// By hand, so that letting one go is one call.
+impl Drop for Document {
+    #[cycle(drops)]
+    fn drop(self) {
+        let Document { fields: _ } = self;
+    }
+}
+
 /// A list of values. In a contract it is that list.
 #[cycle(tree)]
-#[derive(Debug, Drop)]
+#[derive(Debug)]
 pub struct Array {
     pub(crate) items: Vec<Bson>,
+}
+
+// By hand, so that letting one go is one call.
+impl Drop for Array {
+    #[cycle(drops)]
+    fn drop(self) {
+        let Array { items: _ } = self;
+    }
 }
 
 impl Model for Document {

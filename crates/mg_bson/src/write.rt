@@ -1,13 +1,15 @@
 //! Documents as bytes. They are written in one pass: a length is put in once what it measures stands
 //! behind it.
-ghost use Rattle.std.specs.Prelude.{◌≡◌, ℕ, take, drop, List, ◌+◌, ◌<◌, ◌^◌, ◌≤◌, ◌++◌, ◌∷◌, [], ◌||◌, length, vec_len, OnOk, IfOk, IfErr, false, decimal, string_bytes};
+ghost use Rattle.std.specs.Prelude.{◌≡◌, ℕ, take, drop, List, ◌+◌, ◌<◌, ◌^◌, ◌≤◌, ◌++◌, ◌∷◌, [], ◌||◌, length, vec_len, OnOk, IfOk, IfErr, true, false, decimal, string_bytes};
 ghost use Rattle.std.specs.Str.{IsUtf8};
 ghost use Rattle.std.specs.Int.{w32, w64, cast_unsigned};
 ghost use Rattle.mg_bson.specs.Bytes.{le32, le64, framed, measured, text_bytes, element, kind_of, value_bytes, fields_bytes, items_bytes, bytes, tree_depth, fields_depth, items_depth, levels as levels_of};
 ghost use Rattle.mg_bson.specs.Writable.{IsName, IsSound, AreSound, AreSoundItems, IsWritable, max_len, Refuses, has_zero, has_bad_name, fields_have_bad_name, items_have_bad_name};
 ghost use Rattle.mg_bson.specs.Writing.{RefusesAt, Puts};
+ghost use Rattle.mg_bson.specs.Plain.{is_plain};
 ghost use Rattle.mg_bson.specs.View.{tree, fields_of, items_of};
 ghost use Rattle.mg_bson.specs.Raw.{fields};
+ghost use Rattle.mg_bson.specs.declared.error.BsonError.TheVariants.{OutOfMemory, TooLarge};
 
 use crate::error::BsonError;
 use crate::kind::Kind;
@@ -21,7 +23,7 @@ use std::alloc::Global;
 // Whether so many more bytes are within the limit. Each value is tested once, with its length and its end.
 fn room(out: &Vec<u8>, more: usize) -> Result<(), BsonError>
     ensures ok { OnOk result (length out.now.items + more ≤ max_len) }
-    ensures err { IfErr result (λ e. RefusesAt e (length out.now.items + more) 0 0 false) }
+    ensures err { IfErr result (λ e. (e ≡ TooLarge) × (max_len < length out.now.items + more)) }
 {
     if more > MAX_DOCUMENT_BYTES || out.len() > MAX_DOCUMENT_BYTES - more {
         return Err(BsonError::TooLarge);
@@ -29,22 +31,22 @@ fn room(out: &Vec<u8>, more: usize) -> Result<(), BsonError>
     Ok(())
 }
 
-// Bytes as they stand, for which there is room.
+// Bytes as they stand, for which there is room. Only memory can fail.
 fn add(out: &mut Vec<u8>, bytes: &[u8]) -> Result<(), BsonError>
     requires { length out.old.items + length bytes.now ≤ max_len }
     ensures ok { OnOk result (Puts out.old.items out.new.items bytes.now) }
-    ensures err { IfErr result (λ e. RefusesAt e (length out.old.items + length bytes.now) 0 0 false) }
+    ensures err { IfErr result (λ e. e ≡ OutOfMemory) }
 {
     out.extend_from_slice(bytes)?;
     Ok(())
 }
 
-// A text and the 0 that ends it, for which there is room.
+// A text and the 0 that ends it, for which there is room. Only memory can fail.
 #[tactic(auto, using(crate::proofs::Numbers::lengths))]
 fn add_ended(out: &mut Vec<u8>, text: &str) -> Result<(), BsonError>
     requires { length out.old.items + (length text.now + 1) ≤ max_len }
     ensures ok { OnOk result (Puts out.old.items out.new.items (text.now ++ 0 ∷ [])) }
-    ensures err { IfErr result (λ e. RefusesAt e (length out.old.items + (length text.now + 1)) 0 0 false) }
+    ensures err { IfErr result (λ e. e ≡ OutOfMemory) }
 {
     add(out, text.as_bytes())?;
     add(out, &[0])
@@ -186,6 +188,34 @@ fn put_pointer(out: &mut Vec<u8>, pointer: &DbPointer) -> Result<(), BsonError>
     put(out, &pointer.id.0)
 }
 
+// A value that holds no others.
+#[tactic(auto, using(crate::proofs::Numbers::lengths))]
+fn put_plain(out: &mut Vec<u8>, value: &Bson) -> Result<(), BsonError>
+    requires { is_plain (tree value.now) ≡ true }
+    ensures ok { OnOk result (out.new.items ≡ out.old.items ++ value_bytes (tree value.now)) }
+    ensures sound { OnOk result (IsSound (tree value.now)) }
+    ensures err { IfErr result (λ e. RefusesAt e (length out.old.items + length (value_bytes (tree value.now))) 0 0 (has_bad_name (tree value.now))) }
+{
+    match value {
+        Bson::Double(v) => put(out, v),
+        Bson::String(text) => put_text(out, text.as_str()),
+        Bson::Binary(b) => put_binary(out, b),
+        Bson::ObjectId(id) => put(out, &id.0),
+        Bson::Boolean(b) => put(out, &[u8::from(*b)]),
+        Bson::DateTime(t) => put_i64(out, t.millis),
+        Bson::Regex(r) => put_regex(out, r),
+        Bson::DbPointer(p) => put_pointer(out, p),
+        Bson::Code(text) => put_text(out, text.as_str()),
+        Bson::Symbol(text) => put_text(out, text.as_str()),
+        Bson::Int32(n) => put_i32(out, *n),
+        Bson::Timestamp(t) => put_timestamp(out, *t),
+        Bson::Int64(n) => put_i64(out, *n),
+        Bson::Decimal128(v) => put(out, v),
+        Bson::Undefined | Bson::Null | Bson::MinKey | Bson::MaxKey => Ok(()),
+        Bson::Document(_) | Bson::Array(_) | Bson::CodeWithScope(_) => unreachable!(),
+    }
+}
+
 #[tactic(auto, unfolding(crate::specs::Bytes::le32))]
 fn patch(out: &mut [u8], start: usize, len: u32)
     requires { start + 4 ≤ length out.old }
@@ -291,27 +321,10 @@ fn write_value(out: &mut Vec<u8>, value: &Bson, levels: u32) -> Result<(), BsonE
         levels (tree_depth (tree value.now)) (has_bad_name (tree value.now))) }
 {
     match value {
-        Bson::Double(v) => put(out, v),
-        Bson::String(text) => put_text(out, text.as_str()),
         Bson::Document(d) => write_document(out, d, levels),
         Bson::Array(a) => write_array(out, a, levels),
-        Bson::Binary(b) => put_binary(out, b),
-        Bson::Undefined => Ok(()),
-        Bson::ObjectId(id) => put(out, &id.0),
-        Bson::Boolean(b) => put(out, &[u8::from(*b)]),
-        Bson::DateTime(t) => put_i64(out, t.millis),
-        Bson::Null => Ok(()),
-        Bson::Regex(r) => put_regex(out, r),
-        Bson::DbPointer(p) => put_pointer(out, p),
-        Bson::Code(text) => put_text(out, text.as_str()),
-        Bson::Symbol(text) => put_text(out, text.as_str()),
         Bson::CodeWithScope(c) => write_scoped(out, c, levels),
-        Bson::Int32(n) => put_i32(out, *n),
-        Bson::Timestamp(t) => put_timestamp(out, *t),
-        Bson::Int64(n) => put_i64(out, *n),
-        Bson::Decimal128(v) => put(out, v),
-        Bson::MinKey => Ok(()),
-        Bson::MaxKey => Ok(()),
+        _ => put_plain(out, value),
     }
 }
 

@@ -54,10 +54,6 @@ opens old start mid new i ns some le s m n =
     n ∙ ap (λ b. b ++ 10 ∷ []) (spaced_all mid i ns (start ++ spaced ns) le m ∙ ap (λ x. start ++ x) (open_some ns some) ∙ ap (λ b. b ++ open_text ns) s)
     ∙ simp append_assoc
 
--- a line of a job, as a `writeln!` gives it
-pub job_line : (old : List ℕ) (job : ℕ) (text : List ℕ) → old ++ (codes "job " ++ (decimal job ++ (text ++ 10 ∷ []))) ≡ old ++ line (codes "job " ++ decimal job ++ text)
-job_line old job text = ap (λ t. old ++ (codes "job " ++ t)) (sym (append_assoc (decimal job) text (10 ∷ [])))
-
 -- the text of a run, after its outcomes and the line of its open cursors
 pub ends : (old mid new outcomes : List ℕ) (ids open_ids : List ℤ) (n commands : ℕ) → old ≡ outcomes → ids ≡ open_ids → n ≡ commands → mid ≡ old ++ open_line ids → new ≡ mid ++ (codes "commands " ++ (decimal n ++ 10 ∷ []))
     → new ≡ outcomes ++ open_line open_ids ++ line (codes "commands " ++ decimal commands)

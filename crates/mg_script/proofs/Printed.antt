@@ -1,16 +1,14 @@
 -- Parts of a value, made one after another.
-use Rattle.std.proofs.Common.{◌≡◌, ℕ, zero, suc, ◌+◌, ◌<◌, ◌≤◌, List, [], ◌∷◌, ◌++◌, Bool, true, false, cond, ◌==◌, ◌||◌, length, get_or, drop, string_bytes, String, Global, Ordering, Less, Equal, Greater, nat_cmp, string_cmp, ℤ, pos, negsuc, refl, sym, ap, ◌∙◌, arith}
+use Rattle.std.proofs.Common.{◌≡◌, ℕ, zero, suc, ◌+◌, ◌<◌, ◌≤◌, List, [], ◌∷◌, ◌++◌, Bool, true, false, cond, ◌==◌, ◌||◌, length, get_or, drop, Ordering, Less, Equal, Greater, nat_cmp, ℤ, pos, negsuc, refl, sym, ap, ◌∙◌, arith}
 use Rattle.std.proofs.lemmas.Bool.{or_parts}
 use Rattle.std.proofs.lemmas.List.{drop_more, drop_all}
-use Rattle.std.specs.BTreeMap.{insert_entry}
 use Rattle.std.specs.Ordering.{match_ordering}
 use Rattle.std.specs.Cmp.Lexicographic.{slice_cmp}
 use Rattle.serde_json.specs.Data.{Data, Items, no_items, item, Members, no_members, member, put}
-use Rattle.serde_json.specs.View.{view, items_view, members_view}
+use Rattle.serde_json.specs.View.{view, items_view}
 use Rattle.serde_json.specs.Find.{of_integer, is_float}
 use Rattle.serde_json.specs.Written.{has_float, items_have_float, members_have_float}
 use Rattle.serde_json.specs.declared.value.Value.{Value}
-use Rattle.serde_json.proofs.Views.{Entry, members_view-insert_entry}
 use Rattle.mg_bson.specs.Tree as bson
 use Rattle.mg_bson.specs.Tree.{tree_size, items_size}
 use Rattle.mg_bson.specs.View.{tree, items_of}
@@ -53,11 +51,10 @@ items_all vs ts i total le so_far = sym (items_then-end vs) ∙ ap (λ xs. items
 
 -- ---- fields
 
-pub fields_made : (old new : List Entry) (k : String Global) (v : Value) (name : List ℕ) (t : bson.Tree) (before rest : bson.Fields) (total : Members) → before ≡ bson.field name t rest → string_bytes k ≡ name → view v ≡ json_of t → new ≡ insert_entry string_cmp old k v
-    → fields_json before (members_view old) ≡ total → fields_json rest (members_view new) ≡ total
-fields_made old new k v name t before rest total split named value e so_far =
-    ap (λ es. fields_json rest (members_view es)) e ∙ ap (fields_json rest) (members_view-insert_entry old k v) ∙ ap (λ n. fields_json rest (put n (view v) (members_view old))) named
-    ∙ ap (λ d. fields_json rest (put name d (members_view old))) value ∙ ap (λ fs. fields_json fs (members_view old)) (sym split) ∙ so_far
+pub fields_made : (old new : Members) (name : List ℕ) (d : Data) (t : bson.Tree) (before rest : bson.Fields) (total : Members) → before ≡ bson.field name t rest → d ≡ json_of t → new ≡ put name d old
+    → fields_json before old ≡ total → fields_json rest new ≡ total
+fields_made old new name d t before rest total split value e so_far =
+    ap (fields_json rest) e ∙ ap (λ x. fields_json rest (put name x old)) value ∙ ap (λ fs. fields_json fs old) (sym split) ∙ so_far
 
 -- ---- no part is a float
 

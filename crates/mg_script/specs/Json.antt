@@ -1,5 +1,5 @@
 -- The JSON that a value prints as.
-use Rattle.std.specs.Prelude.{ℕ, ◌==◌, List, true, codes, if◌then◌else◌}
+use Rattle.std.specs.Prelude.{ℕ, ℤ, ◌==◌, List, true, codes, if◌then◌else◌}
 use Rattle.std.specs.Fmt.{signed_decimal}
 use Rattle.hex.specs.Hex.{encode_lower}
 use Rattle.serde_json.specs.Data.{unsigned, Data, null, boolean, number, string, array, object, Items, no_items, item, Members, no_members, member, put}
@@ -24,6 +24,9 @@ text_json name text = tagged name (string text)
 
 abbrev pub flag_json : List ℕ → Data
 flag_json name = tagged name (boolean true)
+
+abbrev pub int64_json : ℤ → Data
+int64_json z = text_json (codes "$int64") (signed_decimal z)
 
 -- bytes of subtype 0, and bytes of another
 abbrev pub binary_json : ℕ → List ℕ → Data
@@ -63,7 +66,7 @@ abbrev mutual
   json_of (bson.scoped s fs) = scoped_json s (fields_json fs no_members)
   json_of (bson.int32 z) = number (of_integer z)
   json_of (bson.timestamp t i) = timestamp_json t i
-  json_of (bson.int64 z) = text_json (codes "$int64") (signed_decimal z)
+  json_of (bson.int64 z) = int64_json z
   json_of (bson.decimal128 bs) = hex_json (codes "$decimal") bs
   json_of bson.min_key = flag_json (codes "$minKey")
   json_of bson.max_key = flag_json (codes "$maxKey")

@@ -45,15 +45,21 @@ database_at p d = text_at p (codes "db") d >>= λ s. guard p (is_name s) >>= λ 
 
 -- ---- insert
 
--- an insert: `docs` with at least one document, `job` and `ns`
-unfoldable pub insert_of : Place → Data → Result Task Place
-insert_of p d = do
+-- an object of `docs` with at least one item, `job` and `ns`: its name and its items
+unfoldable pub inserted : Place → Data → Result (List ℕ × Items) Place
+inserted p d = do
   named ← guard p (has_only (codes "docs" ∷ codes "job" ∷ codes "ns" ∷ []) d)
   ns ← text_at p (codes "ns") d
-  space ← space_at p ns
   docs ← array_at p (codes "docs") d
   some ← guard p (nat_lt 0 (items_len docs))
-  fields ← each (λ n. document_at p) 0 docs
+  Ok (ns, docs)
+
+-- an insert
+unfoldable pub insert_of : Place → Data → Result Task Place
+insert_of p d = do
+  parts ← inserted p d
+  space ← space_at p parts.0
+  fields ← each (λ n. document_at p) 0 parts.1
   Ok (plans.insert space fields)
 
 -- ---- follow
@@ -81,18 +87,25 @@ filter_at p d = optional (get (codes "match") d) None (λ e. document_at p e >>=
 abbrev pub batch_at : Place → Data → Result (Option ℕ) Place
 batch_at p d = optional (get (codes "batch") d) None (λ e. found p (small_number e) >>= λ n. Ok (Some n))
 
--- a follow: `on`, `calls` with at most 1048576 of them, and where they are given `start`, `match` and `batch`
-unfoldable pub follow_of : Place → Data → Result Task Place
-follow_of p d = do
+-- An object of `on`, `calls` with at most 1048576 of them, and where they are given `batch`, `match` and `start`: the name, and the two
+-- numbers.
+unfoldable pub followed : Place → Data → Result (List ℕ × ℕ × Option ℕ) Place
+followed p d = do
   named ← guard p (has_only (codes "batch" ∷ codes "calls" ∷ codes "job" ∷ codes "match" ∷ codes "on" ∷ codes "start" ∷ []) d)
   on ← text_at p (codes "on") d
-  target ← target_at p on
   calls ← number_at p (codes "calls") d
   few ← guard p (nat_le calls 1048576)
+  batch ← batch_at p d
+  Ok (on, calls, batch)
+
+-- a follow
+unfoldable pub follow_of : Place → Data → Result Task Place
+follow_of p d = do
+  parts ← followed p d
+  target ← target_at p parts.0
   begin ← begin_at p d
   filter ← filter_at p d
-  batch ← batch_at p d
-  Ok (plans.follow target calls begin filter batch)
+  Ok (plans.follow target parts.1 begin filter parts.2)
 
 -- ---- put and get
 
@@ -100,28 +113,39 @@ follow_of p d = do
 abbrev pub id_at : Place → Data → Result bson.Tree Place
 id_at p d = member_at p (codes "id") d >>= λ e. value_at p e
 
--- a put: `db`, `name`, `id`, `chunk`, `pieces` of hexadecimal text, and where it is given `bucket`
-unfoldable pub put_of : Place → Data → Result Task Place
-put_of p d = do
-  named ← guard p (has_only (codes "bucket" ∷ codes "chunk" ∷ codes "db" ∷ codes "id" ∷ codes "job" ∷ codes "name" ∷ codes "pieces" ∷ []) d)
+-- the database and the name of a bucket, `fs` where none is given
+unfoldable pub bucket_at : Place → Data → Result (List ℕ × List ℕ) Place
+bucket_at p d = do
   db ← database_at p d
   bucket ← text_or p (codes "bucket") (codes "fs") d
-  name ← text_at p (codes "name") d
-  id ← id_at p d
+  Ok (db, bucket)
+
+-- an object of `chunk`, `db`, `id`, `name`, `pieces`, and where it is given `bucket`: its number and its items
+unfoldable pub uploaded : Place → Data → Result (ℕ × Items) Place
+uploaded p d = do
+  named ← guard p (has_only (codes "bucket" ∷ codes "chunk" ∷ codes "db" ∷ codes "id" ∷ codes "job" ∷ codes "name" ∷ codes "pieces" ∷ []) d)
   chunk ← number_at p (codes "chunk") d
   texts ← array_at p (codes "pieces") d
-  pieces ← each (λ n. bytes_at p) 0 texts
-  Ok (plans.put db bucket name id chunk pieces)
+  Ok (chunk, texts)
+
+-- a put, of pieces of hexadecimal text
+unfoldable pub put_of : Place → Data → Result Task Place
+put_of p d = do
+  parts ← uploaded p d
+  bucket ← bucket_at p d
+  name ← text_at p (codes "name") d
+  pieces ← each (λ n. bytes_at p) 0 parts.1
+  id ← id_at p d
+  Ok (plans.put bucket.0 bucket.1 name id parts.0 pieces)
 
 -- a get: `db`, `id`, `read`, and where it is given `bucket`
 unfoldable pub get_of : Place → Data → Result Task Place
 get_of p d = do
   named ← guard p (has_only (codes "bucket" ∷ codes "db" ∷ codes "id" ∷ codes "job" ∷ codes "read" ∷ []) d)
-  db ← database_at p d
-  bucket ← text_or p (codes "bucket") (codes "fs") d
-  id ← id_at p d
   size ← number_at p (codes "read") d
-  Ok (plans.get db bucket id size)
+  bucket ← bucket_at p d
+  id ← id_at p d
+  Ok (plans.get bucket.0 bucket.1 id size)
 
 -- a job, by its field `job`
 unfoldable pub task_of : Place → Data → Result Task Place
@@ -199,6 +223,13 @@ ids_at p d = optional (get (codes "ids") d) (0 ∷ 0 ∷ 0 ∷ []) (λ e. found 
 abbrev pub moment_at : Place → Data → Result ℤ Place
 moment_at p d = optional (get (codes "moment") d) (pos 0) (λ e. found p (int64_number e))
 
+unfoldable pub scalars_at : Place → Data → Result (ℤ × List ℕ × ℤ) Place
+scalars_at p d = do
+  wire ← wire_at p d
+  ids ← ids_at p d
+  moment ← moment_at p d
+  Ok (wire, ids, moment)
+
 -- the lists of a script, none too long
 pub record Lists : Type 0 where
   pub jobs : Items
@@ -220,13 +251,11 @@ unfoldable pub plan_of : Data → Result Plan Place
 plan_of d = do
   named ← guard place.Top (has_only (codes "fates" ∷ codes "ids" ∷ codes "jobs" ∷ codes "moment" ∷ codes "order" ∷ codes "wire" ∷ []) d)
   lists ← lists_of d
-  wire ← wire_at place.Top d
-  ids ← ids_at place.Top d
-  moment ← moment_at place.Top d
+  scalars ← scalars_at place.Top d
   tasks ← tasks_of lists.jobs
   turns ← turns_of lists.order
   fates ← fates_of lists.fates
-  Ok (record { tasks = tasks; turns = turns; fates = fates; wire = wire; ids = ids; moment = moment })
+  Ok (record { tasks = tasks; turns = turns; fates = fates; wire = scalars.0; ids = scalars.1; moment = scalars.2 })
 
 -- the script, where all of it can be run by now
 abbrev pub built : Plan → Result Plan Place

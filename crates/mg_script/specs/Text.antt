@@ -78,11 +78,15 @@ abbrev pub bytes_text : List ℕ → List ℕ
 bytes_text [] = codes "-"
 bytes_text (b ∷ bs) = encode_lower (b ∷ bs)
 
+-- what a job came to that gives nothing
+abbrev pub ended_text : Ended ⊤ → List ℕ
+ended_text ended.Unfinished = codes "unfinished"
+ended_text (ended.Gave n) = codes "ok"
+ended_text (ended.Failed e) = error_text e
+
 -- what a get came to, and the bytes so far
 abbrev pub get_line : ℕ → List ℕ → Ended ⊤ → List ℕ
-get_line job bytes ended.Unfinished = line (codes "job " ++ decimal job ++ codes " get unfinished " ++ bytes_text bytes)
-get_line job bytes (ended.Gave n) = line (codes "job " ++ decimal job ++ codes " get ok " ++ bytes_text bytes)
-get_line job bytes (ended.Failed e) = line (codes "job " ++ decimal job ++ codes " get " ++ error_text e ++ codes " " ++ bytes_text bytes)
+get_line job bytes e = line (codes "job " ++ decimal job ++ codes " get " ++ ended_text e ++ codes " " ++ bytes_text bytes)
 
 -- ---- the lines of a follow
 

@@ -1,19 +1,23 @@
 -- The value of a document that a JSON value stands for.
-use Rattle.std.specs.Prelude.{ℕ, ◌&&◌, ℤ, pos, negsuc, int_le, List, [], ◌∷◌, Option, Some, None, option_and_then, Result, Ok, codes, if◌then◌else◌}
+use Rattle.std.specs.Prelude.{ℕ, ◌&&◌, ℤ, pos, negsuc, int_le, List, [], ◌∷◌, Bool, Option, Some, None, option_and_then, Result, Ok, codes, if◌then◌else◌}
 use Rattle.std.specs.Result.{result_ok}
 use Rattle.std.specs.Str.{bytes_eq}
-use Rattle.serde_json.specs.Data.{Data, null, boolean, number, string, array, object, Items, no_items, item, Members, no_members, member}
+use Rattle.serde_json.specs.Data.{Num, Data, null, boolean, number, string, array, object, Items, no_items, item, Members, no_members, member}
 use Rattle.serde_json.specs.Find.{as_i64, as_str}
 use Rattle.mg_bson.specs.Tree as bson
 use Rattle.mg_bson.specs.Find.{as_document}
 use Rattle.mg_script.specs.declared.fault.Place.{Place}
 use Rattle.mg_script.specs.declared.fault.Place.TheVariants as place
 use Rattle.mg_script.specs.Reads.{◌>>=◌, found, guard}
-use Rattle.mg_script.specs.Parts.{only_member, has_only, number_at, int64_number, lower_bytes, bytes_at, printed_number}
+use Rattle.mg_script.specs.Parts.{is_among, only_member, has_only, number_at, int64_number, lower_bytes, bytes_at, printed_number}
 
 -- the number, in 32 bits where it fits
 abbrev pub whole : ℤ → bson.Tree
 whole z = if int_le (negsuc 2147483647) z && int_le z (pos 2147483647) then bson.int32 z else bson.int64 z
+
+-- the value of a number, which is whole and fits 64 bits
+abbrev pub whole_at : Place → Num → Result bson.Tree Place
+whole_at p n = found p (as_i64 n) >>= λ z. Ok (whole z)
 
 -- ---- objects of one member that stand for another value than a document
 
@@ -37,30 +41,25 @@ int64_at p d = found p (option_and_then printed_number (as_str d)) >>= λ z. Ok 
 abbrev pub timestamp_at : Place → Data → Result bson.Tree Place
 timestamp_at p d = guard p (has_only (codes "i" ∷ codes "t" ∷ []) d) >>= λ named. number_at p (codes "i") d >>= λ i. number_at p (codes "t") d >>= λ t. Ok (bson.timestamp t i)
 
--- a value that is there
-abbrev pub given : Result bson.Tree Place → Result (Option bson.Tree) Place
-given r = r >>= λ t. Ok (Some t)
+-- whether a member of the name stands for such a value where it is the only one of its object
+abbrev pub is_wrapper : List ℕ → Bool
+is_wrapper k = is_among k (codes "$oid" ∷ codes "$bytes" ∷ codes "$date" ∷ codes "$int64" ∷ codes "$timestamp" ∷ [])
 
--- the value that a member of the name stands for where it is the only one of its object
-abbrev pub named_at : Place → List ℕ → Data → Result (Option bson.Tree) Place
-named_at p k d = if bytes_eq k (codes "$oid") then given (object_id_at p d)
-    else (if bytes_eq k (codes "$bytes") then given (binary_at p d)
-    else (if bytes_eq k (codes "$date") then given (date_at p d)
-    else (if bytes_eq k (codes "$int64") then given (int64_at p d)
-    else (if bytes_eq k (codes "$timestamp") then given (timestamp_at p d) else Ok None))))
+-- the only member, where it stands for such a value
+abbrev pub wrapper : Members → Option (List ℕ × Data)
+wrapper ms = option_and_then (λ m. if is_wrapper m.0 then Some m else None) (only_member ms)
 
-abbrev pub single_value : Place → Option (List ℕ × Data) → Result (Option bson.Tree) Place
-single_value p None = Ok None
-single_value p (Some m) = named_at p m.0 m.1
+-- the value that a member of such a name stands for
+abbrev pub wrapped_at : Place → List ℕ → Data → Result bson.Tree Place
+wrapped_at p k d = if bytes_eq k (codes "$oid") then object_id_at p d
+    else (if bytes_eq k (codes "$bytes") then binary_at p d
+    else (if bytes_eq k (codes "$date") then date_at p d
+    else (if bytes_eq k (codes "$int64") then int64_at p d else timestamp_at p d)))
 
--- the value that an object of these members stands for, where it is no document
-abbrev pub wrapped_at : Place → Members → Result (Option bson.Tree) Place
-wrapped_at p ms = single_value p (only_member ms)
-
--- the value where there is one, and else the document of the fields
-abbrev pub or_document : Option bson.Tree → Result bson.Fields Place → Result bson.Tree Place
-or_document (Some t) r = Ok t
-or_document None r = r >>= λ fs. Ok (bson.document fs)
+-- the value of the member where there is one, and else the document of the fields
+abbrev pub or_document : Place → Option (List ℕ × Data) → Result bson.Fields Place → Result bson.Tree Place
+or_document p (Some m) r = wrapped_at p m.0 m.1
+or_document p None r = r >>= λ fs. Ok (bson.document fs)
 
 -- ---- all values
 
@@ -70,10 +69,10 @@ abbrev mutual
   pub value_at : Place → Data → Result bson.Tree Place
   value_at p null = Ok bson.null
   value_at p (boolean b) = Ok (bson.boolean b)
-  value_at p (number n) = found p (as_i64 n) >>= λ z. Ok (whole z)
+  value_at p (number n) = whole_at p n
   value_at p (string s) = Ok (bson.string s)
   value_at p (array ds) = items_at p ds >>= λ ts. Ok (bson.array ts)
-  value_at p (object ms) = wrapped_at p ms >>= λ w. or_document w (fields_at p ms)
+  value_at p (object ms) = or_document p (wrapper ms) (fields_at p ms)
 
   pub items_at : Place → Items → Result bson.Items Place
   items_at p no_items = Ok bson.no_items

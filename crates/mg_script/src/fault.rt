@@ -29,12 +29,12 @@ impl fmt::Display for Place {
 
     fn fmt<W: fmt::Write>(&self, f: &mut fmt::Formatter<W>) -> fmt::Result {
         match self {
-            Place::NotJson => write!(f, "not json"),
-            Place::Top => write!(f, "top"),
+            Place::NotJson => f.write_str("not json"),
+            Place::Top => f.write_str("top"),
             Place::Job(n) => write!(f, "job {n}"),
             Place::Order(n) => write!(f, "order {n}"),
             Place::Fate(n) => write!(f, "fate {n}"),
-            Place::NotBuilt => write!(f, "not built"),
+            Place::NotBuilt => f.write_str("not built"),
         }
     }
 }

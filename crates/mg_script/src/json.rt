@@ -1,15 +1,15 @@
 //! Values as JSON.
 ghost use Rattle.std.specs.Prelude.{◌≡◌, IfOk, IfErr, string_bytes};
-ghost use Rattle.serde_json.specs.Data.{no_members};
+ghost use Rattle.serde_json.specs.Data.{no_members, object, put as with_member};
 ghost use Rattle.serde_json.specs.View.{view, items_view, members_view};
 ghost use Rattle.mg_bson.specs.View.{tree, items_of};
 ghost use Rattle.mg_link.specs.Errors.{plain};
 ghost use Rattle.mg_link.specs.declared.error.ErrorKind.TheVariants as kinds;
-ghost use Rattle.mg_script.specs.Json.{tagged, hex_json, text_json, flag_json, binary_json, regex_json, pointer_json, timestamp_json, scoped_json, json_of, items_json, fields_json, value_text};
+ghost use Rattle.mg_script.specs.Json.{tagged, hex_json, text_json, flag_json, int64_json, binary_json, regex_json, pointer_json, timestamp_json, scoped_json, json_of, items_json, fields_json, value_text};
 
-use mg_bson::{Binary, Bson, CodeWithScope, DbPointer, Document, Regex, Timestamp};
+use mg_bson::{Binary, Bson, DbPointer, Document, Regex, Timestamp};
 use mg_link::Error;
-use serde_json::{Map, Value, json};
+use serde_json::{Map, Value, put};
 use std::alloc::{AllocError, Global};
 
 // ---- objects of one field, by which a kind is told
@@ -18,7 +18,7 @@ fn tagged(alloc: Global, name: &str, value: Value) -> Result<Value, AllocError>
     ensures { IfOk result (λ v. view v ≡ tagged name.now (view value)) }
 {
     let mut members = Map::new(alloc);
-    drop(members.insert(String::from_str(alloc, name)?, value)?);
+    put(&mut members, alloc, name, value)?;
     Ok(Value::Object(members))
 }
 
@@ -42,53 +42,85 @@ fn flag_json(alloc: Global, name: &str) -> Result<Value, AllocError>
     tagged(alloc, name, Value::Bool(true))
 }
 
+fn int64_json(alloc: Global, n: i64) -> Result<Value, AllocError>
+    ensures { IfOk result (λ v. view v ≡ int64_json n) }
+{
+    let digits = n.to_string(alloc)?;
+    tagged(alloc, "$int64", Value::String(digits))
+}
+
 // ---- kinds of more than one part
+
+/// An object of two members.
+fn two(
+    alloc: Global,
+    first: &str,
+    value: Value,
+    second: &str,
+    other: Value,
+) -> Result<Value, AllocError>
+    ensures { IfOk result (λ v. view v ≡ object (with_member second.now (view other)
+        (with_member first.now (view value) no_members))) }
+{
+    let mut members = Map::new(alloc);
+    let Ok(()) = put(&mut members, alloc, first, value) else {
+        drop(other);
+        return Err(AllocError);
+    };
+    put(&mut members, alloc, second, other)?;
+    Ok(Value::Object(members))
+}
 
 fn binary_json(alloc: Global, binary: &Binary) -> Result<Value, AllocError>
     ensures { IfOk result (λ v. view v ≡ binary_json binary.now.subtype binary.now.bytes.items) }
 {
+    let bytes = binary.bytes.as_slice();
     if binary.subtype == 0 {
-        return hex_json(alloc, "$bytes", binary.bytes.as_slice());
+        return hex_json(alloc, "$bytes", bytes);
     }
-    let bytes = hex::encode(alloc, binary.bytes.as_slice())?;
-    let subtype = binary.subtype;
-    json!(in alloc; {"$binary": {"bytes": (bytes.as_str()), "subtype": subtype}})
+    let bytes = Value::String(hex::encode(alloc, bytes)?);
+    let subtype = Value::from(binary.subtype);
+    let parts = two(alloc, "bytes", bytes, "subtype", subtype)?;
+    tagged(alloc, "$binary", parts)
 }
 
 fn regex_json(alloc: Global, regex: &Regex) -> Result<Value, AllocError>
     ensures { IfOk result
         (λ v. view v ≡ regex_json (string_bytes regex.now.pattern) (string_bytes regex.now.options)) }
 {
-    let options = regex.options.as_str();
-    let pattern = regex.pattern.as_str();
-    json!(in alloc; {"$regex": {"options": options, "pattern": pattern}})
+    let options = regex.options.clone()?;
+    let pattern = regex.pattern.clone()?;
+    let (options, pattern) = (Value::String(options), Value::String(pattern));
+    let parts = two(alloc, "options", options, "pattern", pattern)?;
+    tagged(alloc, "$regex", parts)
 }
 
 fn pointer_json(alloc: Global, pointer: &DbPointer) -> Result<Value, AllocError>
     ensures { IfOk result
         (λ v. view v ≡ pointer_json (string_bytes pointer.now.namespace) pointer.now.id.0) }
 {
-    let id = hex::encode(alloc, pointer.id.0)?;
-    let namespace = pointer.namespace.as_str();
-    json!(in alloc; {"$dbPointer": {"id": (id.as_str()), "ref": namespace}})
+    let id = hex::encode(alloc, &pointer.id.0)?;
+    let namespace = pointer.namespace.clone()?;
+    let (id, namespace) = (Value::String(id), Value::String(namespace));
+    let parts = two(alloc, "id", id, "ref", namespace)?;
+    tagged(alloc, "$dbPointer", parts)
 }
 
 fn timestamp_json(alloc: Global, timestamp: Timestamp) -> Result<Value, AllocError>
     ensures { IfOk result (λ v. view v ≡ timestamp_json timestamp.time timestamp.increment) }
 {
-    let increment = timestamp.increment;
-    let time = timestamp.time;
-    json!(in alloc; {"$timestamp": {"i": increment, "t": time}})
+    let increment = Value::from(timestamp.increment);
+    let time = Value::from(timestamp.time);
+    let parts = two(alloc, "i", increment, "t", time)?;
+    tagged(alloc, "$timestamp", parts)
 }
 
 fn scoped_json(alloc: Global, code: &str, scope: Map<String, Value>) -> Result<Value, AllocError>
     ensures { IfOk result (λ v. view v ≡ scoped_json code.now (members_view scope.entries)) }
 {
-    let mut parts = Map::new(alloc);
-    let code = String::from_str(alloc, code)?;
-    drop(parts.insert(String::from_str(alloc, "code")?, Value::String(code))?);
-    drop(parts.insert(String::from_str(alloc, "scope")?, Value::Object(scope))?);
-    tagged(alloc, "$codeScope", Value::Object(parts))
+    let code = Value::String(String::from_str(alloc, code)?);
+    let parts = two(alloc, "code", code, "scope", Value::Object(scope))?;
+    tagged(alloc, "$codeScope", parts)
 }
 
 // ---- all kinds
@@ -100,7 +132,7 @@ fn json_value(alloc: Global, value: &Bson) -> Result<Value, AllocError>
 {
     match value {
         Bson::Double(bytes) => hex_json(alloc, "$double", bytes),
-        Bson::String(text) => Ok(Value::String(text.clone()?)),
+        Bson::String(text) => Value::try_from_str(alloc, text.as_str()),
         Bson::Document(document) => Ok(Value::Object(json_members(alloc, document)?)),
         Bson::Array(array) => Ok(Value::Array(json_items(alloc, array.as_slice())?)),
         Bson::Binary(binary) => binary_json(alloc, binary),
@@ -119,10 +151,7 @@ fn json_value(alloc: Global, value: &Bson) -> Result<Value, AllocError>
         }
         Bson::Int32(n) => Ok(Value::from(*n)),
         Bson::Timestamp(timestamp) => timestamp_json(alloc, *timestamp),
-        Bson::Int64(n) => {
-            let digits = n.to_string(alloc)?;
-            tagged(alloc, "$int64", Value::String(digits))
-        }
+        Bson::Int64(n) => int64_json(alloc, *n),
         Bson::Decimal128(bytes) => hex_json(alloc, "$decimal", bytes),
         Bson::MinKey => flag_json(alloc, "$minKey"),
         Bson::MaxKey => flag_json(alloc, "$maxKey"),
@@ -147,9 +176,8 @@ fn json_members(alloc: Global, document: &Document) -> Result<Map<String, Value>
     let mut members = Map::new(alloc);
     let mut fields = document.iter();
     while let Some((name, field)) = fields.next() {
-        let name = String::from_str(alloc, name)?;
         let value = json_value(alloc, field)?;
-        drop(members.insert(name, value)?);
+        put(&mut members, alloc, name, value)?;
     }
     Ok(members)
 }

@@ -5,7 +5,7 @@ ghost use Rattle.serde_json.specs.View.{view, items_view};
 ghost use Rattle.mg_link.specs.Namespace.{target};
 ghost use Rattle.mg_script.specs.Plan.{tasks, plan, begin, has_begin, is_collection, task, task_built, is_built};
 ghost use Rattle.mg_script.specs.Reads.{Gives};
-ghost use Rattle.mg_script.specs.Script.{turn_of, turns_of, wire_at, ids_at, moment_at, lists_of, plan_of, data_of, script_of, first_missing, missing};
+ghost use Rattle.mg_script.specs.Script.{turn_of, turns_of, wire_at, ids_at, moment_at, scalars_at, lists_of, plan_of, data_of, script_of, first_missing, missing};
 
 use crate::fault::{Place, ScriptError};
 use crate::parse_fate::fates_of;
@@ -58,6 +58,17 @@ fn moment_at(value: &Value, place: Place) -> Result<DateTime, ScriptError>
         },
         None => Ok(DateTime { millis: 0 }),
     }
+}
+
+/// The wire version, the first bytes of ids and the time of new records.
+#[tactic(auto, unfolding(crate::specs::Script::scalars_at))]
+fn scalars_at(value: &Value, place: Place) -> Result<(i32, [u8; 3], DateTime), ScriptError>
+    ensures { Gives (λ s. (s.0, s.1, s.2.millis)) result (scalars_at place (view value.now)) }
+{
+    let wire = wire_at(value, place)?;
+    let ids = ids_at(value, place)?;
+    let moment = moment_at(value, place)?;
+    Ok((wire, ids, moment))
 }
 
 // ---- the lists
@@ -120,9 +131,7 @@ fn script_from(alloc: Global, value: &Value) -> Result<Script, ScriptError>
         return Err(ScriptError::Fault(Place::Top));
     }
     let lists = lists_of(value)?;
-    let wire = wire_at(value, Place::Top)?;
-    let ids = ids_at(value, Place::Top)?;
-    let moment = moment_at(value, Place::Top)?;
+    let (wire, ids, moment) = scalars_at(value, Place::Top)?;
     let jobs = jobs_of(alloc, lists.jobs)?;
     let order = order_of(alloc, lists.order)?;
     let fates = fates_of(alloc, lists.fates)?;

@@ -5,9 +5,9 @@ ghost use Rattle.mg_bson.specs.View.{tree};
 ghost use Rattle.mg_link.specs.Namespace.{space, target};
 ghost use Rattle.mg_script.specs.Plan.{pieces, task, tasks, begin};
 ghost use Rattle.mg_script.specs.Reads.{Gives, each};
-ghost use Rattle.mg_script.specs.Parts.{bytes_at, text_at, text_or};
+ghost use Rattle.mg_script.specs.Parts.{bytes_at, text_at};
 ghost use Rattle.mg_script.specs.Values.{value_at, document_at};
-ghost use Rattle.mg_script.specs.Script.{space_at, is_name, whole_target, target_at, database_at, insert_of, time_at, begin_by, begin_of, begin_at, filter_at, batch_at, follow_of, id_at, put_of, get_of, task_of, tasks_of};
+ghost use Rattle.mg_script.specs.Script.{space_at, is_name, whole_target, target_at, database_at, inserted, insert_of, time_at, begin_by, begin_of, begin_at, filter_at, batch_at, followed, follow_of, id_at, bucket_at, uploaded, put_of, get_of, task_of, tasks_of};
 
 use crate::fault::{Place, ScriptError};
 use crate::parts::{
@@ -87,19 +87,28 @@ fn documents_of(alloc: Global, values: &[Value], place: Place) -> Result<Vec<Doc
     Ok(documents)
 }
 
-#[tactic(auto, unfolding(crate::specs::Script::insert_of))]
-fn insert_of(alloc: Global, value: &Value, place: Place) -> Result<Job, ScriptError>
-    ensures { Gives task result (insert_of place (view value.now)) }
+/// The namespace and the documents of an insert.
+#[tactic(auto, unfolding(crate::specs::Script::inserted))]
+fn inserted(value: &Value, place: Place) -> Result<(&str, &[Value]), ScriptError>
+    ensures { Gives (λ i. (i.0.now, items_view i.1.now)) result (inserted place (view value.now)) }
 {
     if !has_only(value, &["docs", "job", "ns"]) {
         return Err(ScriptError::Fault(place));
     }
     let ns = text_at(value, "ns", place)?;
-    let ns = space_at(alloc, ns, place)?;
     let docs = array_at(value, "docs", place)?;
     if !is_some(docs) {
         return Err(ScriptError::Fault(place));
     }
+    Ok((ns, docs))
+}
+
+#[tactic(auto, unfolding(crate::specs::Script::insert_of))]
+fn insert_of(alloc: Global, value: &Value, place: Place) -> Result<Job, ScriptError>
+    ensures { Gives task result (insert_of place (view value.now)) }
+{
+    let (ns, docs) = inserted(value, place)?;
+    let ns = space_at(alloc, ns, place)?;
     let docs = documents_of(alloc, docs, place)?;
     Ok(Job::Insert { ns, docs })
 }
@@ -183,22 +192,31 @@ fn batch_at(value: &Value, place: Place) -> Result<Option<u32>, ScriptError>
     }
 }
 
-#[tactic(auto, unfolding(crate::specs::Script::follow_of))]
-fn follow_of(alloc: Global, value: &Value, place: Place) -> Result<Job, ScriptError>
-    ensures { Gives task result (follow_of place (view value.now)) }
+/// The name, the number of calls and the greatest batch of a follow.
+#[tactic(auto, unfolding(crate::specs::Script::followed))]
+fn followed(value: &Value, place: Place) -> Result<(&str, u32, Option<u32>), ScriptError>
+    ensures { Gives (λ f. (f.0.now, f.1, f.2)) result (followed place (view value.now)) }
 {
     if !has_only(value, &["batch", "calls", "job", "match", "on", "start"]) {
         return Err(ScriptError::Fault(place));
     }
     let on = text_at(value, "on", place)?;
-    let target = target_at(alloc, on, place)?;
     let calls = number_at(value, "calls", place)?;
     if calls > 1_048_576 {
         return Err(ScriptError::Fault(place));
     }
+    let batch = batch_at(value, place)?;
+    Ok((on, calls, batch))
+}
+
+#[tactic(auto, unfolding(crate::specs::Script::follow_of))]
+fn follow_of(alloc: Global, value: &Value, place: Place) -> Result<Job, ScriptError>
+    ensures { Gives task result (follow_of place (view value.now)) }
+{
+    let (on, calls, batch) = followed(value, place)?;
+    let target = target_at(alloc, on, place)?;
     let start = start_at(alloc, value, place)?;
     let filter = filter_at(alloc, value, place)?;
-    let batch = batch_at(value, place)?;
     Ok(Job::Follow {
         target,
         calls,
@@ -217,12 +235,15 @@ fn id_at(alloc: Global, value: &Value, place: Place) -> Result<Bson, ScriptError
     value_of(alloc, id, place)
 }
 
-fn bucket_at(alloc: Global, value: &Value, place: Place) -> Result<String, ScriptError>
-    ensures { Gives string_bytes result
-        (text_or place (codes "bucket") (codes "fs") (view value.now)) }
+/// The database and the name of a bucket.
+#[tactic(auto, unfolding(crate::specs::Script::bucket_at))]
+fn bucket_at(alloc: Global, value: &Value, place: Place) -> Result<(String, String), ScriptError>
+    ensures { Gives (λ b. (string_bytes b.0, string_bytes b.1)) result
+        (bucket_at place (view value.now)) }
 {
+    let db = database_at(alloc, value, place)?;
     let bucket = text_or(value, "bucket", "fs", place)?;
-    Ok(String::from_str(alloc, bucket)?)
+    Ok((db, String::from_str(alloc, bucket)?))
 }
 
 fn name_at(alloc: Global, value: &Value, place: Place) -> Result<String, ScriptError>
@@ -244,9 +265,10 @@ fn pieces_of(alloc: Global, values: &[Value], place: Place) -> Result<Vec<Vec<u8
     Ok(pieces)
 }
 
-#[tactic(auto, unfolding(crate::specs::Script::put_of))]
-fn put_of(alloc: Global, value: &Value, place: Place) -> Result<Job, ScriptError>
-    ensures { Gives task result (put_of place (view value.now)) }
+/// The bytes of a chunk and the pieces of a put.
+#[tactic(auto, unfolding(crate::specs::Script::uploaded))]
+fn uploaded(value: &Value, place: Place) -> Result<(u32, &[Value]), ScriptError>
+    ensures { Gives (λ u. (u.0, items_view u.1.now)) result (uploaded place (view value.now)) }
 {
     if !has_only(
         value,
@@ -254,13 +276,20 @@ fn put_of(alloc: Global, value: &Value, place: Place) -> Result<Job, ScriptError
     ) {
         return Err(ScriptError::Fault(place));
     }
-    let db = database_at(alloc, value, place)?;
-    let bucket = bucket_at(alloc, value, place)?;
-    let name = name_at(alloc, value, place)?;
-    let id = id_at(alloc, value, place)?;
     let chunk = number_at(value, "chunk", place)?;
     let pieces = array_at(value, "pieces", place)?;
+    Ok((chunk, pieces))
+}
+
+#[tactic(auto, unfolding(crate::specs::Script::put_of))]
+fn put_of(alloc: Global, value: &Value, place: Place) -> Result<Job, ScriptError>
+    ensures { Gives task result (put_of place (view value.now)) }
+{
+    let (chunk, pieces) = uploaded(value, place)?;
+    let (db, bucket) = bucket_at(alloc, value, place)?;
+    let name = name_at(alloc, value, place)?;
     let pieces = pieces_of(alloc, pieces, place)?;
+    let id = id_at(alloc, value, place)?;
     Ok(Job::Put {
         db,
         bucket,
@@ -278,10 +307,9 @@ fn get_of(alloc: Global, value: &Value, place: Place) -> Result<Job, ScriptError
     if !has_only(value, &["bucket", "db", "id", "job", "read"]) {
         return Err(ScriptError::Fault(place));
     }
-    let db = database_at(alloc, value, place)?;
-    let bucket = bucket_at(alloc, value, place)?;
-    let id = id_at(alloc, value, place)?;
     let read = number_at(value, "read", place)?;
+    let (db, bucket) = bucket_at(alloc, value, place)?;
+    let id = id_at(alloc, value, place)?;
     Ok(Job::Get {
         db,
         bucket,

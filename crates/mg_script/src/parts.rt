@@ -13,7 +13,8 @@ use std::alloc::{AllocError, Global};
 
 // ---- objects
 
-fn is_among(name: &str, names: &[&str]) -> bool
+/// Whether the name is one of these.
+pub(crate) fn is_among(name: &str, names: &[&str]) -> bool
     ensures { result ≡ is_among name.now (map (λ n. n.now) names.now) }
 {
     for known in names {
@@ -202,7 +203,7 @@ pub(crate) fn array_or<'v>(
             Some(items) => Ok(items.as_slice()),
             None => Err(ScriptError::Fault(place)),
         },
-        None => Ok(&[]),
+        None => Ok(Default::default()),
     }
 }
 

@@ -3,7 +3,7 @@ ghost use Rattle.std.specs.Prelude.{◌≡◌, ◌++◌, IfOk, OnOk, codes, deci
 ghost use Rattle.mg_bson.specs.Tree.{document};
 ghost use Rattle.mg_bson.specs.Raw.{fields};
 ghost use Rattle.mg_script.specs.Json.{value_text};
-ghost use Rattle.mg_script.specs.Text.{coded, file_text, error_text, bytes_text, count_text, get_line, line, token_text, token_line, closed_line, answer_line, answers_text, outcome_text, open_line, commands_of, text_of};
+ghost use Rattle.mg_script.specs.Text.{coded, file_text, error_text, bytes_text, count_text, ended_text, get_line, line, token_text, token_line, closed_text, closed_line, opened_text, answer_text, answer_line, answers_text, outcome_text, open_line, commands_of, text_of};
 
 use crate::json::value_text;
 use crate::outcome::{Answer, Ended, Outcome, Run};
@@ -83,6 +83,16 @@ fn token_text(alloc: Global, token: &Option<ResumeToken>) -> Result<String, Allo
 
 // ---- the lines of a job
 
+fn count_text(alloc: Global, ended: &Ended<u64>) -> Result<String, AllocError>
+    ensures { IfOk result (λ s. string_bytes s ≡ count_text ended.now) }
+{
+    match ended {
+        Ended::Unfinished => String::from_str(alloc, "unfinished"),
+        Ended::Gave(n) => format!(in alloc; "ok {n}"),
+        Ended::Failed(error) => error_text(alloc, error),
+    }
+}
+
 /// The line of a job that gives a number.
 fn count_line(
     alloc: Global,
@@ -94,13 +104,17 @@ fn count_line(
     ensures { OnOk result
         (string_bytes out.new ≡ string_bytes out.old ++ line (codes "job " ++ decimal job ++ codes " " ++ word.now ++ codes " " ++ count_text ended.now)) }
 {
+    let count = count_text(alloc, ended)?;
+    writeln!(out, "job {job} {word} {count}")
+}
+
+fn ended_text(alloc: Global, ended: &Ended<()>) -> Result<String, AllocError>
+    ensures { IfOk result (λ s. string_bytes s ≡ ended_text ended.now) }
+{
     match ended {
-        Ended::Unfinished => writeln!(out, "job {job} {word} unfinished"),
-        Ended::Gave(n) => writeln!(out, "job {job} {word} ok {n}"),
-        Ended::Failed(error) => {
-            let error = error_text(alloc, error)?;
-            writeln!(out, "job {job} {word} {error}")
-        }
+        Ended::Unfinished => String::from_str(alloc, "unfinished"),
+        Ended::Gave(_) => String::from_str(alloc, "ok"),
+        Ended::Failed(error) => error_text(alloc, error),
     }
 }
 
@@ -123,13 +137,23 @@ fn get_line(
     ensures { OnOk result
         (string_bytes out.new ≡ string_bytes out.old ++ get_line job bytes.now ended.now) }
 {
+    let ended = ended_text(alloc, ended)?;
     let bytes = bytes_text(alloc, bytes)?;
-    match ended {
-        Ended::Unfinished => writeln!(out, "job {job} get unfinished {bytes}"),
-        Ended::Gave(_) => writeln!(out, "job {job} get ok {bytes}"),
-        Ended::Failed(error) => {
+    writeln!(out, "job {job} get {ended} {bytes}")
+}
+
+fn answer_text(alloc: Global, answer: &Answer) -> Result<String, AllocError>
+    ensures { IfOk result (λ s. string_bytes s ≡ answer_text answer.now) }
+{
+    match answer {
+        Answer::Event(event) => {
+            let event = event_text(alloc, event)?;
+            format!(in alloc; " event {event}")
+        }
+        Answer::Nothing => String::from_str(alloc, " nothing"),
+        Answer::Failed(error) => {
             let error = error_text(alloc, error)?;
-            writeln!(out, "job {job} get {error} {bytes}")
+            format!(in alloc; " {error}")
         }
     }
 }
@@ -144,17 +168,8 @@ fn answer_line(
     ensures { OnOk result
         (string_bytes out.new ≡ string_bytes out.old ++ answer_line job call answer.now) }
 {
-    match answer {
-        Answer::Event(event) => {
-            let event = event_text(alloc, event)?;
-            writeln!(out, "job {job} call {call} event {event}")
-        }
-        Answer::Nothing => writeln!(out, "job {job} call {call} nothing"),
-        Answer::Failed(error) => {
-            let error = error_text(alloc, error)?;
-            writeln!(out, "job {job} call {call} {error}")
-        }
-    }
+    let answer = answer_text(alloc, answer)?;
+    writeln!(out, "job {job} call {call}{answer}")
 }
 
 fn answer_lines(
@@ -183,10 +198,20 @@ fn token_line(
         (string_bytes out.new ≡ string_bytes out.old ++ token_line job token.now alive) }
 {
     let token = token_text(alloc, token)?;
-    if alive {
-        writeln!(out, "job {job} token {token} alive yes")
-    } else {
-        writeln!(out, "job {job} token {token} alive no")
+    let alive = if alive { "yes" } else { "no" };
+    writeln!(out, "job {job} token {token} alive {alive}")
+}
+
+fn closed_text(alloc: Global, closed: &Ended<()>) -> Result<String, AllocError>
+    ensures { IfOk result (λ s. string_bytes s ≡ closed_text closed.now) }
+{
+    match closed {
+        Ended::Unfinished => String::from_str(alloc, " follow unfinished"),
+        Ended::Gave(_) => String::from_str(alloc, " follow done"),
+        Ended::Failed(error) => {
+            let error = error_text(alloc, error)?;
+            format!(in alloc; " follow close failed {error}")
+        }
     }
 }
 
@@ -199,14 +224,27 @@ fn closed_line(
     ensures { OnOk result
         (string_bytes out.new ≡ string_bytes out.old ++ closed_line job closed.now) }
 {
-    match closed {
-        Ended::Unfinished => writeln!(out, "job {job} follow unfinished"),
-        Ended::Gave(_) => writeln!(out, "job {job} follow done"),
-        Ended::Failed(error) => {
-            let error = error_text(alloc, error)?;
-            writeln!(out, "job {job} follow close failed {error}")
-        }
-    }
+    let closed = closed_text(alloc, closed)?;
+    writeln!(out, "job {job}{closed}")
+}
+
+/// The lines of a follow whose stream was opened.
+fn opened_lines(
+    alloc: Global,
+    out: &mut String,
+    job: usize,
+    answers: &[Answer],
+    token: &Option<ResumeToken>,
+    alive: bool,
+    closed: &Ended<()>,
+) -> Result<(), AllocError>
+    ensures { OnOk result
+        (string_bytes out.new ≡ string_bytes out.old ++ opened_text job answers.now token.now alive closed.now) }
+{
+    writeln!(out, "job {job} follow opened")?;
+    answer_lines(alloc, out, job, answers)?;
+    token_line(alloc, out, job, token, alive)?;
+    closed_line(alloc, out, job, closed)
 }
 
 fn outcome_lines(
@@ -235,10 +273,7 @@ fn outcome_lines(
                 writeln!(out, "job {job} follow failed {error}")
             }
             Ended::Gave(_) => {
-                writeln!(out, "job {job} follow opened")?;
-                answer_lines(alloc, out, job, answers.as_slice())?;
-                token_line(alloc, out, job, token, *alive)?;
-                closed_line(alloc, out, job, closed)
+                opened_lines(alloc, out, job, answers.as_slice(), token, *alive, closed)
             }
         },
     }

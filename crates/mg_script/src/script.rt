@@ -70,16 +70,16 @@ impl Drop for Job {
                 db: _,
                 bucket: _,
                 name: _,
-                id: _,
+                id,
                 chunk: _,
                 pieces: _,
-            } => {}
+            } => drop(id),
             Job::Get {
                 db: _,
                 bucket: _,
-                id: _,
+                id,
                 read: _,
-            } => {}
+            } => drop(id),
         }
     }
 }

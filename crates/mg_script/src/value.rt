@@ -1,17 +1,19 @@
 //! Values of documents from JSON.
 ghost use Rattle.std.specs.Prelude.{◌≡◌, IfOk, IfErr, option_map};
-ghost use Rattle.serde_json.specs.View.{view, items_view, members_view};
+ghost use Rattle.serde_json.specs.View.{view, number_view, items_view, members_view};
 ghost use Rattle.mg_bson.specs.View.{tree};
 ghost use Rattle.mg_link.specs.Errors.{plain};
 ghost use Rattle.mg_link.specs.declared.error.ErrorKind.TheVariants as kinds;
 ghost use Rattle.mg_script.specs.Reads.{Gives};
-ghost use Rattle.mg_script.specs.Values.{value_at, items_at, fields_at, whole, object_id_at, binary_at, date_at, int64_at, timestamp_at, named_at, wrapped_at, document_at, value_of};
+ghost use Rattle.mg_script.specs.Values.{value_at, items_at, fields_at, whole, whole_at, object_id_at, binary_at, date_at, int64_at, timestamp_at, wrapper, wrapped_at, document_at, value_of};
 
 use crate::fault::{Place, ScriptError};
-use crate::parts::{bytes_at, has_only, lower_bytes, number_at, only_member, printed_number};
+use crate::parts::{
+    bytes_at, has_only, is_among, lower_bytes, number_at, only_member, printed_number,
+};
 use mg_bson::{Array, Binary, Bson, DateTime, Document, ObjectId, Timestamp};
 use mg_link::Error;
-use serde_json::{Map, Value};
+use serde_json::{Map, Number, Value};
 use std::alloc::{AllocError, Global};
 
 /// The number, in 32 bits where it fits.
@@ -22,6 +24,15 @@ fn whole_number(n: i64) -> Bson
         Bson::Int32(n as i32)
     } else {
         Bson::Int64(n)
+    }
+}
+
+fn whole_of(number: &Number, place: Place) -> Result<Bson, ScriptError>
+    ensures { Gives tree result (whole_at place (number_view number.now)) }
+{
+    match number.as_i64() {
+        Some(n) => Ok(whole_number(n)),
+        None => Err(ScriptError::Fault(place)),
     }
 }
 
@@ -78,43 +89,43 @@ fn timestamp_of(value: &Value, place: Place) -> Result<Bson, ScriptError>
     Ok(Bson::Timestamp(Timestamp { time, increment }))
 }
 
-/// The value that a member of this name stands for where it is the only one of its object, and none where that is a
-/// document.
-fn named_value(
+/// The only member of an object, where its name says that it stands for such a value.
+fn wrapper(members: &Map<String, Value>) -> Option<(&str, &Value)>
+    ensures { option_map (λ m. (m.0.now, view m.1.now)) result
+        ≡ wrapper (members_view members.now.entries) }
+{
+    match only_member(members) {
+        Some((name, value)) => if is_among(
+            name,
+            &["$oid", "$bytes", "$date", "$int64", "$timestamp"],
+        ) {
+            Some((name, value))
+        } else {
+            None
+        },
+        None => None,
+    }
+}
+
+/// The value that the member stands for.
+fn wrapped_value(
     alloc: Global,
     name: &str,
     value: &Value,
     place: Place,
-) -> Result<Option<Bson>, ScriptError>
-    ensures { Gives (option_map tree) result (named_at place name.now (view value.now)) }
+) -> Result<Bson, ScriptError>
+    ensures { Gives tree result (wrapped_at place name.now (view value.now)) }
 {
-    let found = if name == "$oid" {
-        object_id_of(value, place)?
+    if name == "$oid" {
+        object_id_of(value, place)
     } else if name == "$bytes" {
-        binary_of(alloc, value, place)?
+        binary_of(alloc, value, place)
     } else if name == "$date" {
-        date_of(value, place)?
+        date_of(value, place)
     } else if name == "$int64" {
-        int64_of(alloc, value, place)?
-    } else if name == "$timestamp" {
-        timestamp_of(value, place)?
+        int64_of(alloc, value, place)
     } else {
-        return Ok(None);
-    };
-    Ok(Some(found))
-}
-
-fn wrapped_value(
-    alloc: Global,
-    members: &Map<String, Value>,
-    place: Place,
-) -> Result<Option<Bson>, ScriptError>
-    ensures { Gives (option_map tree) result
-        (wrapped_at place (members_view members.now.entries)) }
-{
-    match only_member(members) {
-        Some((name, value)) => named_value(alloc, name, value, place),
-        None => Ok(None),
+        timestamp_of(value, place)
     }
 }
 
@@ -128,14 +139,11 @@ pub(crate) fn value_of(alloc: Global, value: &Value, place: Place) -> Result<Bso
     match value {
         Value::Null => Ok(Bson::Null),
         Value::Bool(b) => Ok(Bson::Boolean(*b)),
-        Value::Number(number) => match number.as_i64() {
-            Some(n) => Ok(whole_number(n)),
-            None => Err(ScriptError::Fault(place)),
-        },
+        Value::Number(number) => whole_of(number, place),
         Value::String(text) => Ok(Bson::String(text.clone()?)),
         Value::Array(items) => Ok(Bson::Array(items_of(alloc, items, place)?)),
-        Value::Object(members) => match wrapped_value(alloc, members, place)? {
-            Some(value) => Ok(value),
+        Value::Object(members) => match wrapper(members) {
+            Some((name, value)) => wrapped_value(alloc, name, value, place),
             None => Ok(Bson::Document(fields_of(alloc, members, place)?)),
         },
     }

@@ -1,9 +1,9 @@
-use super::{bytes_of, one_field, parted, text, with};
+use super::{bytes_of, expect, one_field, parted, text, with};
 use mg_bson::{
     Array, Binary, Bson, BsonError, Document, ObjectId, RawDocumentBuf, Regex, to_bytes,
     to_document,
 };
-use std::alloc::Global;
+use std::alloc::{AllocError, Global};
 use std::test::Fail;
 
 // A document for each kind, a line each: its bytes, and how its value of the name `x` prints.
@@ -200,17 +200,28 @@ fn digits_of(alloc: Global, document: &Document) -> Result<String, BsonError> {
     Ok(hex::encode(alloc, bytes)?)
 }
 
+// How the value of the name `x` prints, behind the digits of its document written again.
+fn vector_of(alloc: Global, bytes: Vec<u8>) -> Result<String, BsonError> {
+    let document = document_of(alloc, bytes)?;
+    let digits = digits_of(alloc, &document)?;
+    Ok(format!(in alloc; "{digits} {:?}", document.get("x"))?)
+}
+
 #[test]
 fn encoding_vectors(rt: HostRuntime) -> Result<(), Fail> {
     let alloc = rt.alloc();
     for line in VECTORS.lines() {
-        let (digits, shown) = parted(line);
-        let document = document_of(alloc, hex::decode(alloc, digits)?)?;
-        let value = format!(in alloc; "{:?}", document.get("x"))?;
-        assert_eq!(rt; value.as_str(), shown);
-        assert_eq!(rt; digits_of(alloc, &document)?.as_str(), digits);
+        let (digits, _) = parted(line);
+        let found = vector_of(alloc, hex::decode(alloc, digits)?)?;
+        expect(&rt, digits, found.as_str(), line);
     }
     Ok(())
+}
+
+// The digits of a document that is read and written again.
+fn rewritten(alloc: Global, bytes: Vec<u8>) -> Result<String, BsonError> {
+    let document = document_of(alloc, bytes)?;
+    digits_of(alloc, &document)
 }
 
 #[test]
@@ -218,19 +229,23 @@ fn renamed_items(rt: HostRuntime) -> Result<(), Fail> {
     let alloc = rt.alloc();
     for line in RENAMED.lines() {
         let (digits, renamed) = parted(line);
-        let document = document_of(alloc, hex::decode(alloc, digits)?)?;
-        assert_eq!(rt; digits_of(alloc, &document)?.as_str(), renamed);
+        let found = rewritten(alloc, hex::decode(alloc, digits)?)?;
+        expect(&rt, digits, found.as_str(), renamed);
     }
     Ok(())
 }
 
+// Whether the bytes are taken for no document.
+fn are_malformed(bytes: Vec<u8>) -> bool {
+    matches!(RawDocumentBuf::from_bytes(bytes), Err(BsonError::Malformed))
+}
+
 #[test]
 fn damaged_bytes(rt: HostRuntime) -> Result<(), Fail> {
-    let alloc = rt.alloc();
     for line in DAMAGED.lines() {
-        let (text, why) = parted(line);
-        let error = RawDocumentBuf::from_bytes(hex::decode(alloc, text)?).err();
-        assert_eq!(rt; error, Some(BsonError::Malformed), "{why}");
+        let (digits, why) = parted(line);
+        let bytes = hex::decode(rt.alloc(), digits)?;
+        assert!(rt; are_malformed(bytes), "{why}");
     }
     Ok(())
 }
@@ -256,37 +271,41 @@ fn nested_bytes(alloc: Global, kind: u8, levels: u32) -> Result<Vec<u8>, BsonErr
     Ok(bytes)
 }
 
+// Whether a document of 100 levels is written as it was read, why one of 101 is not written, and why it is not read.
+fn levels_of(alloc: Global, kind: u8) -> Result<String, BsonError> {
+    let bytes = nested_bytes(alloc, kind, 100)?;
+    let deepest = document_of(alloc, bytes.clone()?)?;
+    let is_same = to_bytes(alloc, &deepest)?.as_bytes() == bytes.as_slice();
+    let deeper = fault_of(alloc, "0", Bson::Document(deepest))?;
+    let unread = RawDocumentBuf::from_bytes(nested_bytes(alloc, kind, 101)?).err();
+    Ok(format!(in alloc; "{is_same} {deeper:?} {unread:?}")?)
+}
+
 #[test]
 fn limits_of_levels(rt: HostRuntime) -> Result<(), Fail> {
-    let alloc = rt.alloc();
-    for kind in [3, 4, 15] {
-        let bytes = nested_bytes(alloc, kind, 100)?;
-        let deepest = document_of(alloc, bytes.clone()?)?;
-        assert_eq!(rt;
-            to_bytes(alloc, &deepest)?.as_bytes(),
-            bytes.as_slice(),
-            "{kind}"
+    for (name, kind) in [("document", 3), ("array", 4), ("code with scope", 15)] {
+        let found = levels_of(rt.alloc(), kind)?;
+        expect(
+            &rt,
+            name,
+            found.as_str(),
+            "true Some(TooDeep) Some(Malformed)",
         );
-        let deeper = one_field(alloc, "0", Bson::Document(deepest))?;
-        assert_eq!(rt;
-            to_bytes(alloc, &deeper).err(),
-            Some(BsonError::TooDeep),
-            "{kind}"
-        );
-        let unread = RawDocumentBuf::from_bytes(nested_bytes(alloc, kind, 101)?).err();
-        assert_eq!(rt; unread, Some(BsonError::Malformed), "{kind}");
     }
     Ok(())
 }
 
+// Why a document of a binary of so many bytes is not written. It takes 13 bytes more than it holds.
+fn fault_of_size(alloc: Global, len: usize) -> Result<Option<BsonError>, BsonError> {
+    let bytes = vec![in alloc; 0; len]?;
+    fault_of(alloc, "x", Bson::Binary(Binary { subtype: 0, bytes }))
+}
+
 #[test]
 fn limits_of_size(rt: HostRuntime) -> Result<(), Fail> {
-    let alloc = rt.alloc();
-    // The document of one binary takes 13 bytes more than it holds.
     for (len, error) in [(47_999_987, None), (47_999_988, Some(BsonError::TooLarge))] {
-        let bytes = vec![in alloc; 0; len]?;
-        let document = one_field(alloc, "x", Bson::Binary(Binary { subtype: 0, bytes }))?;
-        assert_eq!(rt; to_bytes(alloc, &document).err(), error, "{len}");
+        let found = fault_of_size(rt.alloc(), len)?;
+        assert_eq!(rt; found, error, "{len}");
     }
     Ok(())
 }
@@ -297,17 +316,31 @@ fn fault_of(alloc: Global, name: &str, value: Bson) -> Result<Option<BsonError>,
     Ok(to_bytes(alloc, &document).err())
 }
 
+// A regular expression whose pattern holds the character 0.
+fn bad_regex(alloc: Global) -> Result<Bson, BsonError> {
+    let pattern = String::from_str(alloc, "a\0")?;
+    Ok(Bson::Regex(Regex {
+        pattern,
+        options: String::new(alloc),
+    }))
+}
+
+// Why neither a bad name nor a bad pattern is written.
+fn faults_of_zeros(alloc: Global) -> Result<String, BsonError> {
+    let name = fault_of(alloc, "a\0b", Bson::Null)?;
+    let pattern = fault_of(alloc, "x", bad_regex(alloc)?)?;
+    Ok(format!(in alloc; "{name:?} {pattern:?} {}", BsonError::BadName)?)
+}
+
 #[test]
 fn bad_names(rt: HostRuntime) -> Result<(), Fail> {
-    let alloc = rt.alloc();
-    let bad = Some(BsonError::BadName);
-    assert_eq!(rt; fault_of(alloc, "a\0b", Bson::Null)?, bad);
-    let regex = Regex {
-        pattern: String::from_str(alloc, "a\0")?,
-        options: String::new(alloc),
-    };
-    assert_eq!(rt; fault_of(alloc, "x", Bson::Regex(regex))?, bad);
-    assert_eq!(rt; BsonError::BadName.to_string(alloc)?.as_str(), "BadName");
+    let found = faults_of_zeros(rt.alloc())?;
+    expect(
+        &rt,
+        "zeros",
+        found.as_str(),
+        "Some(BadName) Some(BadName) BadName",
+    );
     Ok(())
 }
 
@@ -326,18 +359,23 @@ fn object_ids_of_texts(rt: HostRuntime) -> Result<(), Fail> {
     for line in IDS.lines() {
         let (text, shown) = parted(line);
         let id = format!(in rt.alloc(); "{:?}", ObjectId::parse_str(text))?;
-        assert_eq!(rt; id.as_str(), shown, "{text}");
+        expect(&rt, text, id.as_str(), shown);
     }
     Ok(())
 }
 
+// An object id as its digits, and as it prints.
+fn texts_of(alloc: Global, id: ObjectId) -> Result<String, AllocError> {
+    let digits = id.to_hex(alloc)?;
+    format!(in alloc; "{digits} {id}")
+}
+
 #[test]
 fn texts_of_object_ids(rt: HostRuntime) -> Result<(), Fail> {
-    let alloc = rt.alloc();
     let id = ObjectId([0, 1, 15, 16, 127, 128, 159, 160, 171, 205, 239, 255]);
-    let text = "00010f107f809fa0abcdefff";
-    assert_eq!(rt; id.to_hex(alloc)?.as_str(), text);
-    assert_eq!(rt; id.to_string(alloc)?.as_str(), text);
+    let found = texts_of(rt.alloc(), id)?;
+    let wanted = "00010f107f809fa0abcdefff 00010f107f809fa0abcdefff";
+    expect(&rt, "both texts", found.as_str(), wanted);
     Ok(())
 }
 
@@ -351,41 +389,73 @@ fn sample(alloc: Global) -> Result<Document, BsonError> {
     with(document, "a", Bson::Int32(2))
 }
 
+// Whether a value in the place of another gives that.
+fn replaces(document: &mut Document) -> Result<bool, BsonError> {
+    let old = document.insert("a", Bson::Int64(3))?;
+    Ok(old == Some(Bson::Int32(1)))
+}
+
+// Whether a value of a new name gives none.
+fn adds(document: &mut Document) -> Result<bool, BsonError> {
+    let old = document.insert("c", Bson::Null)?;
+    Ok(old.is_none())
+}
+
+// Whether taking the first value of a name out gives it.
+fn removes(document: &mut Document) -> bool {
+    document.remove("a") == Some(Bson::Int64(3))
+}
+
+// Whether each change gives what it should, the first name behind them, and what is left.
+fn changed(alloc: Global) -> Result<String, BsonError> {
+    let mut document = sample(alloc)?;
+    let replaced = replaces(&mut document)?;
+    let added = adds(&mut document)?;
+    let removed = removes(&mut document);
+    let first = document.keys().next();
+    Ok(format!(in alloc; "{replaced} {added} {removed} {first:?} {document:?}")?)
+}
+
 #[test]
 fn changes_of_a_document(rt: HostRuntime) -> Result<(), Fail> {
-    let alloc = rt.alloc();
-    let mut document = sample(alloc)?;
-    assert!(rt; document.insert("a", Bson::Int64(3))? == Some(Bson::Int32(1)));
-    assert!(rt; document.insert("c", Bson::Null)?.is_none());
-    assert!(rt; document.remove("a") == Some(Bson::Int64(3)));
-    assert_eq!(rt; document.keys().next(), Some("b"));
-    let shown = format!(in alloc; "{document:?}")?;
-    let expected = concat!(
+    let found = changed(rt.alloc())?;
+    let wanted = concat!(
+        "true true true Some(\"b\") ",
         "Document { fields: [Field { name: \"b\", value: Array(Array { items: [Int32(7), String(\"s\")] }) }, ",
         "Field { name: \"a\", value: Int32(2) }, Field { name: \"c\", value: Null }] }",
     );
-    assert_eq!(rt; shown.as_str(), expected);
+    expect(&rt, "changes", found.as_str(), wanted);
     Ok(())
+}
+
+// Whether a copy of a document is the same, and what is read of its bytes too.
+fn copies_are_same(alloc: Global) -> Result<bool, BsonError> {
+    let document = sample(alloc)?;
+    let copy = document.clone()?;
+    let read = document_of(alloc, bytes_of(alloc, &copy)?)?;
+    Ok(copy == document && read == document)
 }
 
 #[test]
 fn copies_of_a_document(rt: HostRuntime) -> Result<(), Fail> {
-    let alloc = rt.alloc();
-    let document = sample(alloc)?;
-    let copy = document.clone()?;
-    assert!(rt; copy == document);
-    let read = document_of(alloc, bytes_of(alloc, &copy)?)?;
-    assert!(rt; read == document);
+    let are_same = copies_are_same(rt.alloc())?;
+    assert!(rt; are_same);
     Ok(())
+}
+
+// Whether a copy of bytes is the same, and has the same bytes.
+fn raw_copies_are_same(alloc: Global) -> Result<bool, BsonError> {
+    let document = sample(alloc)?;
+    let raw = to_bytes(alloc, &document)?;
+    let lent = raw.as_raw().to_buf(alloc)?;
+    let kept = lent.clone()?;
+    Ok(kept == raw && kept.into_bytes().as_slice() == raw.as_bytes())
 }
 
 #[test]
 fn copies_of_bytes(rt: HostRuntime) -> Result<(), Fail> {
-    let alloc = rt.alloc();
-    let raw = to_bytes(alloc, &sample(alloc)?)?;
-    let kept = raw.as_raw().to_buf(alloc)?.clone()?;
-    assert!(rt; kept == raw);
-    assert_eq!(rt; kept.into_bytes().as_slice(), raw.as_bytes());
+    let are_same = raw_copies_are_same(rt.alloc())?;
+    assert!(rt; are_same);
     Ok(())
 }
 
@@ -398,11 +468,16 @@ fn value_of_b(alloc: Global, document: &Document) -> Result<Bson, BsonError> {
     }
 }
 
-#[test]
-fn copies_of_a_value(rt: HostRuntime) -> Result<(), Fail> {
-    let alloc = rt.alloc();
+// Whether the value is the same that is read of the bytes of a document.
+fn value_is_same(alloc: Global) -> Result<bool, BsonError> {
     let document = sample(alloc)?;
     let value = value_of_b(alloc, &document)?;
-    assert!(rt; document.get("b") == Some(&value));
+    Ok(document.get("b") == Some(&value))
+}
+
+#[test]
+fn copies_of_a_value(rt: HostRuntime) -> Result<(), Fail> {
+    let is_same = value_is_same(rt.alloc())?;
+    assert!(rt; is_same);
     Ok(())
 }

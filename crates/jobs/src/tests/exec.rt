@@ -2,13 +2,13 @@ ghost use Rattle.mg_link.specs.Acts.{IsOut};
 ghost use Rattle.mg_link.specs.Exec.{ticket_of};
 ghost use Rattle.mg_link.specs.Places.{out_at};
 
-use super::{bytes_of, one_field, text, with, with_text};
+use super::{bytes_of, expect, one_field, text, with, with_text};
 use mg_bson::{Array, Bson, BsonError, RawDocumentBuf, to_bytes};
 use mg_link::{
     Action, Error, ErrorKind, Exec, Malformed, Retry, ScriptLink, Scripted, ScriptedSeen, Step,
     Verdict, verdict_of,
 };
-use std::alloc::Global;
+use std::alloc::{AllocError, Global};
 use std::test::Fail;
 
 // A reply with this `ok`.
@@ -156,68 +156,106 @@ fn answers_of_other_kinds(rt: HostRuntime) -> Result<(), Fail> {
     Ok(())
 }
 
-#[test]
-fn replies_that_pend(rt: HostRuntime) -> Result<(), Fail> {
-    let alloc = rt.alloc();
-    let mut link = link_of(alloc, 2, ScriptedSeen::Fault)?;
+// How many commands were sent before a ping, how many polls it takes, what comes of it, and how many were sent then.
+fn pinged(alloc: Global, link: &mut ScriptLink) -> Result<(usize, u32, Came, usize), BsonError> {
     let exec = Exec::start(ping(alloc)?, Retry::Read);
-    assert_eq!(rt; link.commands().len(), 0);
-    assert_eq!(rt; polls_to_end(exec, &mut link), (5, Came::Succeeds));
-    assert_eq!(rt; link.commands().len(), 2);
+    let before = link.commands().len();
+    let (polls, came) = polls_to_end(exec, link);
+    Ok((before, polls, came, link.commands().len()))
+}
+
+fn sent_pings(alloc: Global, link: &ScriptLink) -> Result<bool, BsonError> {
     let command = ping(alloc)?;
     for sent in link.commands() {
-        assert_eq!(rt; sent.as_bytes(), command.as_bytes());
+        if sent.as_bytes() != command.as_bytes() {
+            return Ok(false);
+        }
     }
+    Ok(true)
+}
+
+#[test]
+fn replies_that_pend(rt: HostRuntime) -> Result<(), Fail> {
+    let mut link = link_of(rt.alloc(), 2, ScriptedSeen::Fault)?;
+    let found = pinged(rt.alloc(), &mut link)?;
+    assert_eq!(rt; found, (0, 5, Came::Succeeds, 2));
+    let are_pings = sent_pings(rt.alloc(), &link)?;
+    assert!(rt; are_pings);
     Ok(())
+}
+
+// What a ping over a link that answers nothing comes to.
+fn pinged_in_vain(alloc: Global) -> Result<(usize, u32, Came, usize), BsonError> {
+    let mut dead = ScriptLink::new(Vec::new(alloc), 21);
+    pinged(alloc, &mut dead)
 }
 
 #[test]
 fn a_link_with_no_answers(rt: HostRuntime) -> Result<(), Fail> {
-    let alloc = rt.alloc();
-    let mut dead = ScriptLink::new(Vec::new(alloc), 21);
-    let exec = Exec::start(ping(alloc)?, Retry::Read);
-    assert_eq!(rt; polls_to_end(exec, &mut dead), (1, Came::Lost));
-    assert_eq!(rt; dead.commands().len(), 2);
+    let found = pinged_in_vain(rt.alloc())?;
+    assert_eq!(rt; found, (0, 1, Came::Lost, 2));
     Ok(())
+}
+
+// What an error prints as, whether it has the label, how many it has, and its wire version.
+fn said_by(alloc: Global, error: &Error) -> Result<String, AllocError> {
+    let is_labelled = error.contains_label("RetryableError");
+    let labels = error.labels.as_slice().len();
+    format!(in alloc; "{error} {is_labelled} {labels} {:?}", error.wire_version)
+}
+
+// What the refusal of a ping says; nothing where it is none.
+fn said_to(alloc: Global, link: &mut ScriptLink) -> Result<String, BsonError> {
+    let exec = Exec::start(ping(alloc)?, Retry::None);
+    match exec.poll(link) {
+        Step::Failed(error) => Ok(said_by(alloc, &error)?),
+        _ => Ok(String::new(alloc)),
+    }
 }
 
 #[test]
 fn what_refusals_say(rt: HostRuntime) -> Result<(), Fail> {
     let alloc = rt.alloc();
     let mut link = link_of(alloc, 0, ScriptedSeen::Reply(refusal_of(alloc, 63)?))?;
-    let exec = Exec::start(ping(alloc)?, Retry::None);
-    let Step::Failed(error) = exec.poll(&mut link) else {
-        return Err(Fail::from("a refusal is a failure"));
-    };
-    assert!(rt; error.contains_label("RetryableError"));
-    assert_eq!(rt; error.labels.as_slice().len(), 1);
-    assert_eq!(rt; error.wire_version, Some(21));
-    let text = format!(in alloc; "{error}")?;
-    assert_eq!(rt; text.as_str(), "refused with code 63 (Name): not now");
+    let found = said_to(alloc, &mut link)?;
+    let wanted = "refused with code 63 (Name): not now true 1 Some(21)";
+    expect(&rt, "refusal", found.as_str(), wanted);
     Ok(())
+}
+
+// What a reply with this `ok` says.
+fn verdict_by(alloc: Global, ok: Bson) -> Result<Verdict, BsonError> {
+    let reply = RawDocumentBuf::from_bytes(reply_of(alloc, ok)?)?;
+    Ok(verdict_of(&reply.as_raw()))
+}
+
+// What each `ok` says, in the order: 1 of each kind, then 0, 2, 1.5 and a flag.
+fn verdicts(alloc: Global) -> Result<[Verdict; 7], BsonError> {
+    let one = [0, 0, 0, 0, 0, 0, 0xf0, 0x3f];
+    let more = [0, 0, 0, 0, 0, 0, 0xf8, 0x3f];
+    Ok([
+        verdict_by(alloc, Bson::Int32(1))?,
+        verdict_by(alloc, Bson::Int64(1))?,
+        verdict_by(alloc, Bson::Double(one))?,
+        verdict_by(alloc, Bson::Int32(0))?,
+        verdict_by(alloc, Bson::Int64(2))?,
+        verdict_by(alloc, Bson::Double(more))?,
+        verdict_by(alloc, Bson::Boolean(true))?,
+    ])
 }
 
 #[test]
 fn what_ok_says(rt: HostRuntime) -> Result<(), Fail> {
-    let alloc = rt.alloc();
-    let cases = [
-        (Bson::Int32(1), Verdict::Success),
-        (Bson::Int64(1), Verdict::Success),
-        (
-            Bson::Double([0, 0, 0, 0, 0, 0, 0xf0, 0x3f]),
-            Verdict::Success,
-        ),
-        (Bson::Int32(0), Verdict::Refusal),
-        (Bson::Int64(2), Verdict::Refusal),
-        (
-            Bson::Double([0, 0, 0, 0, 0, 0, 0xf8, 0x3f]),
-            Verdict::Refusal,
-        ),
-        (Bson::Boolean(true), Verdict::NoOk),
+    let found = verdicts(rt.alloc())?;
+    let wanted = [
+        Verdict::Success,
+        Verdict::Success,
+        Verdict::Success,
+        Verdict::Refusal,
+        Verdict::Refusal,
+        Verdict::Refusal,
+        Verdict::NoOk,
     ];
-    for (ok, expected) in cases {
-        let reply = RawDocumentBuf::from_bytes(reply_of(alloc, ok)?)?;
-        assert_eq!(rt; verdict_of(&reply.as_raw()), expected);
-    }
+    assert_eq!(rt; found.as_slice(), wanted.as_slice());
     Ok(())
 }

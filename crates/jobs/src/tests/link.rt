@@ -1,37 +1,54 @@
+use super::expect;
 use mg_bson::{Bson, BsonError, Document, ObjectId, to_bytes};
 use mg_link::{
     BadArgument, CommandError, CountedIds, Error, ErrorKind, GridFsErrorKind, GridFsFileIdentifier,
     IdSource, IndexedFailure, InputError, Labels, Log, LoggedCall, Malformed, MemSink, MemSource,
-    Mismatch, Namespace, OperationTarget, Receipt, Seen, Sink, Source, StdSink, StdSource,
-    WriteFailed, WriteFailure, read_all, write_all,
+    Mismatch, Namespace, OperationTarget, OutOfMemory, Receipt, Seen, Sink, Source, StdSink,
+    StdSource, WriteFailed, WriteFailure, read_all, write_all,
 };
 use std::alloc::{AllocError, Global};
+use std::process::Abort;
 use std::test::Fail;
 
-#[test]
-fn source_over_memory(rt: HostRuntime) -> Result<(), Fail> {
-    let alloc = rt.alloc();
+// What a read, a read to the end that meets a fault, and one behind it give.
+fn read_thrice(alloc: Global) -> Result<String, AllocError> {
     let bytes = Vec::from_slice(alloc, b"hello")?;
     let failing = Vec::from_slice(alloc, &[1])?;
     let mut source = MemSource::new(bytes, 2, failing);
     let mut buf = [0u8; 4];
-    assert_eq!(rt; source.read(&mut buf), Ok(2));
-    assert!(rt; matches!(read_all(alloc, &mut source), Err(InputError::Fault)));
-    match read_all(alloc, &mut source) {
-        Ok(rest) => assert_eq!(rt; rest.as_slice(), b"llo".as_slice()),
-        Err(_) => panic!(rt; "no read was to fail"),
-    }
+    let first = source.read(&mut buf);
+    let is_fault = matches!(read_all(alloc, &mut source), Err(InputError::Fault));
+    let rest = read_all(alloc, &mut source).ok();
+    format!(in alloc; "{first:?} {is_fault} {rest:?}")
+}
+
+#[test]
+fn source_over_memory(rt: HostRuntime) -> Result<(), Fail> {
+    let found = read_thrice(rt.alloc())?;
+    expect(
+        &rt,
+        "reads",
+        found.as_str(),
+        "Ok(2) true Some([108, 108, 111])",
+    );
     Ok(())
+}
+
+// What three writes give, of which the second meets a fault, and what was written.
+fn write_thrice(alloc: Global) -> Result<String, AllocError> {
+    let failing = Vec::from_slice(alloc, &[3])?;
+    let mut sink = MemSink::new(alloc, 2, failing);
+    let first = write_all(&mut sink, b"hello");
+    let second = write_all(&mut sink, b"you");
+    let third = write_all(&mut sink, b"!");
+    format!(in alloc; "{first:?} {second:?} {third:?} {:?}", sink.bytes())
 }
 
 #[test]
 fn sink_over_memory(rt: HostRuntime) -> Result<(), Fail> {
-    let alloc = rt.alloc();
-    let mut sink = MemSink::new(alloc, 2, Vec::from_slice(alloc, &[3])?);
-    assert_eq!(rt; write_all(&mut sink, b"hello"), Ok(()));
-    assert_eq!(rt; write_all(&mut sink, b"you"), Err(WriteFailed));
-    assert_eq!(rt; write_all(&mut sink, b"!"), Ok(()));
-    assert_eq!(rt; sink.bytes(), b"hello!".as_slice());
+    let found = write_thrice(rt.alloc())?;
+    let wanted = "Ok(()) Err(WriteFailed) Ok(()) [104, 101, 108, 108, 111, 33]";
+    expect(&rt, "writes", found.as_str(), wanted);
     Ok(())
 }
 
@@ -66,51 +83,54 @@ fn text_of(alloc: Global, kind: ErrorKind) -> Result<String, AllocError> {
     format!(in alloc; "{error}")
 }
 
-#[test]
-fn texts_of_plain_errors(rt: HostRuntime) -> Result<(), Fail> {
-    let size = GridFsErrorKind::WrongSizeChunk {
+// Fails where an error of this kind prints as another text.
+fn prints(rt: &impl Abort, alloc: Global, kind: ErrorKind, wanted: &str) -> Result<(), AllocError> {
+    let printed = text_of(alloc, kind)?;
+    expect(rt, "error", printed.as_str(), wanted);
+    Ok(())
+}
+
+// Each kind that has no part of its own.
+fn plain_kinds_print(rt: &impl Abort, alloc: Global) -> Result<(), AllocError> {
+    prints(rt, alloc, ErrorKind::OutOfMemory, "out of memory")?;
+    prints(rt, alloc, ErrorKind::Io, "the link failed")?;
+    let garbled = "received bytes are no document";
+    prints(rt, alloc, ErrorKind::BsonDeserialization, garbled)?;
+    let unfit = "the document cannot be written";
+    prints(rt, alloc, ErrorKind::BsonSerialization, unfit)?;
+    let nameless = "the event has no _id";
+    prints(rt, alloc, ErrorKind::MissingResumeToken, nameless)?;
+    let large = "the file has too many chunks";
+    prints(rt, alloc, ErrorKind::FileTooLarge, large)?;
+    let empty = "1000 empty replies in a row";
+    prints(rt, alloc, ErrorKind::EmptyBatches, empty)?;
+    let many = "more than 1048576 documents";
+    prints(rt, alloc, ErrorKind::TooManyDocuments, many)?;
+    prints(rt, alloc, ErrorKind::NoSuchJob(3), "no such job: 3")
+}
+
+// Kinds with a kind of their own.
+fn nested_kinds_print(rt: &impl Abort, alloc: Global) -> Result<(), AllocError> {
+    let reply = ErrorKind::InvalidResponse(Malformed::NoOk);
+    prints(rt, alloc, reply, "invalid response: no ok")?;
+    let strength = ErrorKind::InvalidArgument(BadArgument::CollationStrength(6));
+    prints(rt, alloc, strength, "invalid collation strength: 6")?;
+    let nothing = ErrorKind::InvalidArgument(BadArgument::NoDocuments);
+    prints(rt, alloc, nothing, "no documents to insert")?;
+    let revision = ErrorKind::GridFs(GridFsErrorKind::RevisionNotFound(-5));
+    prints(rt, alloc, revision, "no revision -5")?;
+    let size = ErrorKind::GridFs(GridFsErrorKind::WrongSizeChunk {
         n: 0,
         actual: 3,
         expected: 4,
-    };
-    let cases = [
-        (ErrorKind::OutOfMemory, "out of memory"),
-        (ErrorKind::Io, "the link failed"),
-        (
-            ErrorKind::InvalidResponse(Malformed::NoOk),
-            "invalid response: no ok",
-        ),
-        (
-            ErrorKind::BsonDeserialization,
-            "received bytes are no document",
-        ),
-        (
-            ErrorKind::BsonSerialization,
-            "the document cannot be written",
-        ),
-        (ErrorKind::MissingResumeToken, "the event has no _id"),
-        (
-            ErrorKind::InvalidArgument(BadArgument::CollationStrength(6)),
-            "invalid collation strength: 6",
-        ),
-        (
-            ErrorKind::InvalidArgument(BadArgument::NoDocuments),
-            "no documents to insert",
-        ),
-        (
-            ErrorKind::GridFs(GridFsErrorKind::RevisionNotFound(-5)),
-            "no revision -5",
-        ),
-        (ErrorKind::GridFs(size), "chunk 0 has 3 bytes and not 4"),
-        (ErrorKind::FileTooLarge, "the file has too many chunks"),
-        (ErrorKind::EmptyBatches, "1000 empty replies in a row"),
-        (ErrorKind::TooManyDocuments, "more than 1048576 documents"),
-        (ErrorKind::NoSuchJob(3), "no such job: 3"),
-    ];
-    for (kind, expected) in cases {
-        let printed = text_of(rt.alloc(), kind)?;
-        assert_eq!(rt; printed.as_str(), expected);
-    }
+    });
+    prints(rt, alloc, size, "chunk 0 has 3 bytes and not 4")
+}
+
+#[test]
+fn texts_of_plain_errors(rt: HostRuntime) -> Result<(), Fail> {
+    plain_kinds_print(&rt, rt.alloc())?;
+    nested_kinds_print(&rt, rt.alloc())?;
     Ok(())
 }
 
@@ -165,43 +185,51 @@ fn mismatched(alloc: Global) -> Result<ErrorKind, BsonError> {
     Ok(ErrorKind::ReceiptMismatch(Box::new(alloc, mismatch)?))
 }
 
+fn kinds_with_parts_print(rt: &impl Abort, alloc: Global) -> Result<(), BsonError> {
+    let refusal = "refused with code 10107 (NotWritablePrimary): not master";
+    prints(rt, alloc, refused(alloc)?, refusal)?;
+    let unwritten = "write failed with code 9: not master";
+    prints(rt, alloc, not_written(alloc)?, unwritten)?;
+    let uninserted = "insert failed, with 1 failures";
+    prints(rt, alloc, not_inserted(alloc)?, uninserted)?;
+    prints(rt, alloc, no_file_with_id(), "no file with this id")?;
+    prints(rt, alloc, no_file_named(alloc)?, "no file named f")?;
+    let mismatch = "receipt mismatch: worker 2 position 5";
+    prints(rt, alloc, mismatched(alloc)?, mismatch)?;
+    Ok(())
+}
+
 #[test]
 fn texts_of_errors_with_parts(rt: HostRuntime) -> Result<(), Fail> {
-    let alloc = rt.alloc();
-    let mut cases = Vec::new(alloc);
-    let refusal = "refused with code 10107 (NotWritablePrimary): not master";
-    cases.push((refused(alloc)?, refusal))?;
-    cases.push((not_written(alloc)?, "write failed with code 9: not master"))?;
-    cases.push((not_inserted(alloc)?, "insert failed, with 1 failures"))?;
-    cases.push((no_file_with_id(), "no file with this id"))?;
-    cases.push((no_file_named(alloc)?, "no file named f"))?;
-    cases.push((mismatched(alloc)?, "receipt mismatch: worker 2 position 5"))?;
-    for (kind, expected) in cases {
-        let printed = text_of(alloc, kind)?;
-        assert_eq!(rt; printed.as_str(), expected);
-    }
-    Ok(())
+    Ok(kinds_with_parts_print(&rt, rt.alloc())?)
 }
 
 // Whether a change stream goes on after a refusal.
 fn goes_on(alloc: Global, code: i32, label: &str, wire: i32) -> Result<bool, AllocError> {
+    let label = String::from_str(alloc, label)?;
+    let labels = Labels::from_vec(vec![in alloc; label]?);
     let refusal = CommandError {
         code,
         code_name: String::new(alloc),
         message: String::new(alloc),
     };
-    let label = String::from_str(alloc, label)?;
     let error = Error {
         kind: ErrorKind::Command(refusal),
-        labels: Labels::from_vec(vec![in alloc; label]?),
+        labels,
         wire_version: Some(wire),
     };
     Ok(error.is_resumable())
 }
 
+// Whether it does below wire version 9, and from it on.
+fn goes_on_at(alloc: Global, code: i32, label: &str) -> Result<(bool, bool), AllocError> {
+    let old = goes_on(alloc, code, label, 8)?;
+    let new = goes_on(alloc, code, label, 9)?;
+    Ok((old, new))
+}
+
 #[test]
 fn resumable_refusals(rt: HostRuntime) -> Result<(), Fail> {
-    let alloc = rt.alloc();
     // code, label, below wire version 9, from it on
     let cases = [
         (43, "", true, true),
@@ -212,10 +240,7 @@ fn resumable_refusals(rt: HostRuntime) -> Result<(), Fail> {
         (91, "RetryableWriteError", true, false),
     ];
     for (code, label, old, new) in cases {
-        let found = (
-            goes_on(alloc, code, label, 8)?,
-            goes_on(alloc, code, label, 9)?,
-        );
+        let found = goes_on_at(rt.alloc(), code, label)?;
         assert_eq!(rt; found, (old, new), "{code}");
     }
     Ok(())
@@ -236,17 +261,39 @@ fn errors_that_are_no_refusals(rt: HostRuntime) {
     assert!(rt; matches!(&read.kind, ErrorKind::BsonDeserialization));
 }
 
+// The parts of a name, and what a copy prints as.
+fn copied(alloc: Global, name: &Namespace) -> Result<String, AllocError> {
+    let copy = name.clone()?;
+    format!(in alloc; "{} {} {copy}", name.db, name.coll)
+}
+
+fn is_as_its_copy(target: &OperationTarget) -> Result<bool, AllocError> {
+    let copy = target.clone()?;
+    Ok(copy == *target)
+}
+
 #[test]
 fn names(rt: HostRuntime) -> Result<(), Fail> {
-    let alloc = rt.alloc();
-    let name = Namespace::from_str(alloc, "app.fs.files")?.ok_or("a name")?;
-    assert_eq!(rt; (name.db.as_str(), name.coll.as_str()), ("app", "fs.files"));
-    let copy = name.clone()?;
-    assert_eq!(rt; format!(in alloc; "{copy}")?.as_str(), "app.fs.files");
-    let target = OperationTarget::Collection(copy);
-    assert_eq!(rt; target.clone()?, OperationTarget::Collection(name));
+    let Some(name) = Namespace::from_str(rt.alloc(), "app.fs.files")? else {
+        return Err(Fail::from("it is a name"));
+    };
+    let found = copied(rt.alloc(), &name)?;
+    expect(&rt, "name", found.as_str(), "app fs.files app.fs.files");
+    let is_same = is_as_its_copy(&OperationTarget::Collection(name))?;
+    assert!(rt; is_same);
+    Ok(())
+}
+
+fn is_name(alloc: Global, text: &str) -> Result<bool, OutOfMemory> {
+    let name = Namespace::from_str(alloc, text)?;
+    Ok(name.is_some())
+}
+
+#[test]
+fn texts_that_are_no_names(rt: HostRuntime) -> Result<(), Fail> {
     for text in ["", "app", ".c", "app.", "."] {
-        assert!(rt; Namespace::from_str(alloc, text)?.is_none(), "{text}");
+        let is_name = is_name(rt.alloc(), text)?;
+        assert!(rt; !is_name, "{text}");
     }
     Ok(())
 }

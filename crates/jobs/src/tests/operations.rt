@@ -1,6 +1,6 @@
 use super::{namespace, one_field, with, with_text};
 use mg_bson::{Array, Binary, Bson, BsonError, Document, to_bytes};
-use mg_link::{ErrorKind, OperationTarget};
+use mg_link::{Error, ErrorKind, OperationTarget};
 use mg_ops::{ChangeStreamData, GetMore, Insert, Operation, WatchArgs, doc_slices, resume_options};
 use mg_options::{ChangeStreamOptions, ResumeToken};
 use std::alloc::Global;
@@ -126,24 +126,28 @@ fn last_batch(alloc: Global) -> Result<Document, BsonError> {
     with(reply, "cursor", Bson::Document(cursor))
 }
 
-#[test]
-fn one_batch_cursor(rt: HostRuntime) -> Result<(), Fail> {
-    let alloc = rt.alloc();
+// The id that a getMore gave, whether the cursor is exhausted and has no token, and how many documents came.
+fn gave(alloc: Global) -> Result<(i64, bool, bool, usize), Error> {
     let reply = to_bytes(alloc, &last_batch(alloc)?)?;
     let get_more = GetMore {
         ns: namespace(alloc)?,
         id: 1,
         batch_size: None,
     };
-    let Ok(gave) = get_more.read(alloc, reply) else {
+    let gave = get_more.read(alloc, reply)?;
+    let count = match doc_slices(&gave.raw_reply.as_raw()) {
+        Ok(documents) => documents.len(),
+        Err(_) => 0,
+    };
+    let has_no_token = gave.post_batch_resume_token.is_none();
+    Ok((gave.id, gave.exhausted, has_no_token, count))
+}
+
+#[test]
+fn one_batch_cursor(rt: HostRuntime) -> Result<(), Fail> {
+    let Ok(found) = gave(rt.alloc()) else {
         return Err(Fail::from("read"));
     };
-    assert_eq!(rt; gave.id, 0);
-    assert!(rt; gave.exhausted);
-    assert!(rt; gave.post_batch_resume_token.is_none());
-    match doc_slices(&gave.raw_reply.as_raw()) {
-        Ok(documents) => assert_eq!(rt; documents.len(), 2),
-        Err(_) => panic!(rt; "no batch"),
-    }
+    assert_eq!(rt; found, (0, true, true, 2));
     Ok(())
 }

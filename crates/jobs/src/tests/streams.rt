@@ -5,7 +5,7 @@ ghost use Rattle.mg_change.specs.Closings.{closing_ticket};
 ghost use Rattle.mg_change.specs.Openings.{opening_ticket};
 ghost use Rattle.mg_change.specs.Phases.{IsSound, ticket_in};
 
-use super::{bytes_of, namespace, one_field, repeated, with, with_text};
+use super::{bytes_of, expect, namespace, one_field, repeated, with, with_text};
 use mg_bson::{Array, Bson, BsonError, Document, RawArray, RawDocument, Timestamp};
 use mg_change::{ChangeStream, Closing, EventPoll, Opening};
 use mg_link::{
@@ -14,6 +14,7 @@ use mg_link::{
 use mg_ops::WatchArgs;
 use mg_options::{ChangeStreamOptions, ResumeToken};
 use std::alloc::{AllocError, Global};
+use std::process::Abort;
 use std::test::Fail;
 
 // ---- replies
@@ -96,40 +97,70 @@ fn list_of(alloc: Global, script: &str, pend: u32) -> Result<Vec<Scripted>, Fail
 
 // ---- commands
 
+fn document_in<'a>(document: &RawDocument<'a>, name: &str) -> Option<RawDocument<'a>> {
+    match document.get(name) {
+        Some(found) => found.as_document(),
+        None => None,
+    }
+}
+
+fn first_in<'a>(items: &RawArray<'a>) -> Option<RawDocument<'a>> {
+    match items.iter().next() {
+        Some(item) => item.as_document(),
+        None => None,
+    }
+}
+
 // The options of the stage that opens a watch.
 fn stage_of<'a>(command: &RawDocument<'a>) -> Option<RawDocument<'a>> {
-    let mut stages = command.get("pipeline")?.as_array()?.iter();
-    stages
-        .next()?
-        .as_document()?
-        .get("$changeStream")?
-        .as_document()
+    let stages = match command.get("pipeline") {
+        Some(found) => found.as_array(),
+        None => None,
+    };
+    let stage = first_in(&stages?)?;
+    document_in(&stage, "$changeStream")
+}
+
+// The time that a watch starts at.
+fn seconds_in(options: &RawDocument<'_>) -> Option<u32> {
+    match options.get("startAtOperationTime") {
+        Some(found) => Some(found.as_timestamp()?.time),
+        None => None,
+    }
+}
+
+// The token that a watch resumes after.
+fn token_in(options: &RawDocument<'_>) -> Option<i32> {
+    match options.get("resumeAfter") {
+        Some(found) => found.as_i32(),
+        None => None,
+    }
+}
+
+fn start_word(alloc: Global, options: &RawDocument<'_>) -> Result<String, AllocError> {
+    if let Some(seconds) = seconds_in(options) {
+        return format!(in alloc; "/aggregate at {seconds}");
+    }
+    if let Some(n) = token_in(options) {
+        return format!(in alloc; "/aggregate after {n}");
+    }
+    String::from_str(alloc, "/aggregate")
 }
 
 fn aggregate_word(alloc: Global, command: &RawDocument<'_>) -> Result<String, Fail> {
-    let Some(options) = stage_of(command) else {
-        return Err(Fail::from("stage"));
-    };
-    if let Some(time) = options.get("startAtOperationTime") {
-        let seconds = match time.as_timestamp() {
-            Some(time) => time.time,
-            None => 0,
-        };
-        return Ok(format!(in alloc; "/aggregate at {seconds}")?);
+    match stage_of(command) {
+        Some(options) => Ok(start_word(alloc, &options)?),
+        None => Err(Fail::from("stage")),
     }
-    if let Some(token) = options.get("resumeAfter") {
-        let n = token.as_i32().unwrap_or(0);
-        return Ok(format!(in alloc; "/aggregate after {n}")?);
-    }
-    Ok(String::from_str(alloc, "/aggregate")?)
 }
 
-fn kill_word(alloc: Global, ids: &RawArray<'_>) -> Result<String, Fail> {
+fn kill_word(alloc: Global, ids: &RawArray<'_>) -> Result<String, AllocError> {
     let mut word = String::from_str(alloc, "/killCursors")?;
     let mut left = ids.iter();
     'ids: while let Some(id) = left.next() {
         let n = id.as_i64().unwrap_or(0);
-        word.push_str(format!(in alloc; " {n}")?.as_str())?;
+        let shown = format!(in alloc; " {n}")?;
+        word.push_str(shown.as_str())?;
     }
     Ok(word)
 }
@@ -143,7 +174,7 @@ fn command_word(alloc: Global, command: &RawDocument<'_>) -> Result<String, Fail
         let Some(ids) = ids.as_array() else {
             return Err(Fail::from("cursors"));
         };
-        return kill_word(alloc, &ids);
+        return Ok(kill_word(alloc, &ids)?);
     }
     aggregate_word(alloc, command)
 }
@@ -179,18 +210,21 @@ fn answer_word(alloc: Global, poll: &EventPoll) -> Result<String, AllocError> {
     }
 }
 
-fn token_word(alloc: Global, stream: &ChangeStream) -> Result<String, Fail> {
+// The number of a stream's token.
+fn token_of(stream: &ChangeStream) -> Result<Option<i32>, Error> {
     let Some(token) = stream.resume_token() else {
-        return Ok(String::from_str(alloc, "/no token")?);
+        return Ok(None);
     };
-    let Ok(token) = token.to_owned() else {
-        return Err(Fail::from("token"));
-    };
-    let Ok(value) = token.to_value() else {
-        return Err(Fail::from("token"));
-    };
-    let n = value.as_i32().unwrap_or(0);
-    Ok(format!(in alloc; "/token {n}")?)
+    let value = token.to_owned()?.to_value()?;
+    Ok(value.as_i32())
+}
+
+fn token_word(alloc: Global, stream: &ChangeStream) -> Result<String, Fail> {
+    match token_of(stream) {
+        Ok(Some(n)) => Ok(format!(in alloc; "/token {n}")?),
+        Ok(None) => Ok(String::from_str(alloc, "/no token")?),
+        Err(_) => Err(Fail::from("token")),
+    }
 }
 
 // ---- runs
@@ -335,14 +369,21 @@ fn command_words(alloc: Global, link: &ScriptLink) -> Result<String, Fail> {
     Ok(sent)
 }
 
-// Opens a stream, takes the steps and closes it: what was answered, and which commands were sent.
+// Opens a stream, takes the steps and closes it: what was answered.
+fn answers(alloc: Global, link: &mut ScriptLink, start: &str, steps: &str) -> Result<String, Fail> {
+    let args = args_of(alloc, start)?;
+    let mut stream = open(Opening::new(alloc, args), link)?;
+    let seen = steps_words(alloc, &mut stream, link, steps)?;
+    let closed = close_word(stream.close(), link);
+    Ok(format!(in alloc; "{seen}{closed}")?)
+}
+
+// The same over a link that is to be answered so, and which commands were sent.
 fn run(alloc: Global, start: &str, script: &str, steps: &str, pend: u32) -> Result<String, Fail> {
     let mut link = ScriptLink::new(list_of(alloc, script, pend)?, 21);
-    let mut stream = open(Opening::new(alloc, args_of(alloc, start)?), &mut link)?;
-    let seen = steps_words(alloc, &mut stream, &mut link, steps)?;
-    let closed = close_word(stream.close(), &mut link);
+    let seen = answers(alloc, &mut link, start, steps)?;
     let sent = command_words(alloc, &link)?;
-    Ok(format!(in alloc; "{seen}{closed}{sent}")?)
+    Ok(format!(in alloc; "{seen}{sent}")?)
 }
 
 /// Each line is where a stream starts, how its commands are answered, its steps, and what comes of them.
@@ -378,19 +419,24 @@ fn parts(line: &str) -> Option<(&str, &str, &str, &str)> {
     Some((start, script, steps, wanted))
 }
 
+// Runs a line, whose answers each pend so often.
+fn run_line(rt: &impl Abort, alloc: Global, line: &str, pend: u32) -> Result<(), Fail> {
+    let Some((start, script, steps, wanted)) = parts(line) else {
+        return Err(Fail::from("line"));
+    };
+    if pend > 0 && steps.contains('p') {
+        return Ok(());
+    }
+    let seen = run(alloc, start, script, steps, pend)?;
+    expect(rt, script, seen.as_str(), wanted);
+    Ok(())
+}
+
 #[test]
 fn streams_to_their_closing(rt: HostRuntime) -> Result<(), Fail> {
-    let alloc = rt.alloc();
     for line in RUNS.lines() {
-        let Some((start, script, steps, wanted)) = parts(line) else {
-            return Err(Fail::from("line"));
-        };
-        let seen = run(alloc, start, script, steps, 0)?;
-        assert_eq!(rt; seen.as_str(), wanted, "{script}");
-        if !steps.contains('p') {
-            let pended = run(alloc, start, script, steps, 1)?;
-            assert_eq!(rt; pended.as_str(), wanted, "pending {script}");
-        }
+        run_line(&rt, rt.alloc(), line, 0)?;
+        run_line(&rt, rt.alloc(), line, 1)?;
     }
     Ok(())
 }
@@ -407,7 +453,7 @@ fn empty_replies_in_a_row(rt: HostRuntime) -> Result<(), Fail> {
         999,
         "/killCursors 1",
     )?;
-    assert_eq!(rt; seen.as_str(), wanted.as_str(), "999 getMores");
+    expect(&rt, "999 getMores", seen.as_str(), wanted.as_str());
     Ok(())
 }
 
@@ -424,6 +470,6 @@ fn resumptions_without_an_event(rt: HostRuntime) -> Result<(), Fail> {
         1000,
         "/killCursors 1",
     )?;
-    assert_eq!(rt; seen.as_str(), wanted.as_str(), "1000 resumptions");
+    expect(&rt, "1000 resumptions", seen.as_str(), wanted.as_str());
     Ok(())
 }

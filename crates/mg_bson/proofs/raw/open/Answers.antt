@@ -7,7 +7,7 @@ use Rattle.mg_bson.specs.Tree.{double, undefined, object_id, date_time, null, in
 use Rattle.mg_bson.specs.Reading.{le32_at, le64_at}
 use Rattle.mg_bson.proofs.Known.{is_fixed}
 use Rattle.mg_bson.specs.Raw.{IsValue}
-use Rattle.mg_bson.proofs.Lending.{inner_document, inner_array, inner_scope}
+use Rattle.mg_bson.proofs.Lending.{inner_document, inner_array}
 use Rattle.mg_bson.proofs.raw.open.Goals as goal
 
 at : (kind k : Kind) (bs : List ℕ) → kind ≡ k → IsValue (record { kind = kind; bytes = bs }) → IsValue (record { kind = k; bytes = bs })
@@ -25,15 +25,20 @@ invariant_of-result-in-Array c = (inner_array c.args.bytes.now (subst (λ k. IsV
 pub returns-in-Array-clause-value : goal.returns-in-Array-clause-value
 returns-in-Array-clause-value c = rw c.in-Array.is (sym (inner_array c.args.bytes.now (subst (λ k. IsValue (record { kind = k; bytes = c.args.bytes.now })) c.in-Array.is c.requires)).1)
 
-pub invariant_of-result-in-CodeWithScope : goal.invariant_of-result-in-CodeWithScope
-invariant_of-result-in-CodeWithScope c =
-    let p = c.in_ok-code-in-CodeWithScope in
-    (inner_scope c.args.bytes.now p.code.now p.scope.now (subst (λ k. IsValue (record { kind = k; bytes = c.args.bytes.now })) c.in-CodeWithScope.is c.requires) (sym p.ensures)).0
+pub open_scope-requires : goal.open_scope-requires
+open_scope-requires c = at _ _ _ c.in-CodeWithScope.is c.requires
 
-pub returns-in_ok-code-in-CodeWithScope-clause-value : goal.returns-in_ok-code-in-CodeWithScope-clause-value
-returns-in_ok-code-in-CodeWithScope-clause-value c =
-    let p = c.in_ok-code-in-CodeWithScope in
-    rw c.in-CodeWithScope.is (sym (inner_scope c.args.bytes.now p.code.now p.scope.now (subst (λ k. IsValue (record { kind = k; bytes = c.args.bytes.now })) c.in-CodeWithScope.is c.requires) (sym p.ensures)).1)
+pub returns-in-CodeWithScope-clause-value : goal.returns-in-CodeWithScope-clause-value
+returns-in-CodeWithScope-clause-value c = rw c.in-CodeWithScope.is c.open_scope.ensures.value
+
+pub returns-in-Binary-clause-value : goal.returns-in-Binary-clause-value
+returns-in-Binary-clause-value c = rw c.in-Binary.is c.open_binary.ensures.value
+
+pub returns-in-Regex-clause-value : goal.returns-in-Regex-clause-value
+returns-in-Regex-clause-value c = rw c.in-Regex.is c.open_regex.ensures.value
+
+pub returns-in-DbPointer-clause-value : goal.returns-in-DbPointer-clause-value
+returns-in-DbPointer-clause-value c = rw c.in-DbPointer.is c.open_pointer.ensures.value
 
 pub array_8-requires : goal.array_8-requires
 array_8-requires c = (is_fixed 8 double c.args.bytes.now (at _ _ _ c.in-Double.is c.requires)).long

@@ -1,10 +1,13 @@
-use Rattle.std.proofs.Common.{◌≡◌, ◌+◌, ◌++◌, [], drop, string_bytes, append_assoc, sym, ap, subst, ◌∙◌, arith, refl}
-use Rattle.std.proofs.lemmas.Result.{on_ok_weaker, err_from_is_err_and}
+use Rattle.std.proofs.Common.{◌≡◌, ◌+◌, ◌++◌, [], length, drop, string_bytes, append_assoc, sym, ap, subst, ◌∙◌, arith, refl}
+use Rattle.std.proofs.lemmas.Result.{on_ok_weaker, err_from_is_err_and, IfErr-weaker}
 use Rattle.mg_bson.specs.Tree.{field}
-use Rattle.mg_bson.specs.Bytes.{le32, framed, text_bytes, bytes, element, fields_bytes, items_bytes}
+use Rattle.mg_bson.specs.Bytes.{le32, framed, text_bytes, bytes, element, value_bytes, fields_bytes, items_bytes, tree_depth}
+use Rattle.mg_bson.specs.Writable.{has_bad_name}
+use Rattle.mg_bson.specs.Writing.{RefusesAt}
 use Rattle.mg_bson.specs.View.{tree, fields_of, items_of}
 use Rattle.std.specs.Prelude.{decimal}
-use Rattle.mg_bson.proofs.Along.{Along, AlongItems, along_step, along_head, along_value, along_items_head, along_items_value, fields_here, items_here, opened}
+use Rattle.mg_bson.proofs.Along.{Along, AlongItems, refuses_more, along_step, along_head, along_value, along_items_head, along_items_value, fields_here, items_here, opened}
+use Rattle.mg_bson.proofs.Plain.{plain, plain_depth}
 use Rattle.mg_bson.proofs.write.+write.Goals as goal
 
 pub write_document-returns-clause-ok : goal.write_document-returns-clause-ok
@@ -87,3 +90,20 @@ write_scoped-returns-clause-ok t c =
     c.in_ok-write_document.ensures.ok ∙ rw (c.in_ok-put_text.ensures.ok, c.in_ok-put_gap.ensures.ok, c.as_str.ensures.value) (append_assoc (old ++ le32 0) (text_bytes text) (bytes scope)) in
     let o = opened old (text_bytes text ++ bytes scope) mid c.len-start.result (c.len-start.ensures ∙ c.args.out.now.ok.0) body in
     c.end_measured.ensures ∙ rw (o.0, o.1) refl
+
+pub write_value-put_plain-requires : goal.write_value-put_plain-requires
+write_value-put_plain-requires t c = plain c.args.value.now c.in_default.not-Document c.in_default.not-Array c.in_default.not-CodeWithScope
+
+pub write_value-returns-in_default-clause-sound : goal.write_value-returns-in_default-clause-sound
+write_value-returns-in_default-clause-sound t c =
+    let v = c.args.value.now in
+    let flat = plain_depth (tree v) (plain v c.in_default.not-Document c.in_default.not-Array c.in_default.not-CodeWithScope) in
+    on_ok_weaker c.put_plain.result (λ s. (s, omega (arith, flat))) c.put_plain.ensures.sound
+
+pub write_value-returns-in_default-clause-err : goal.write_value-returns-in_default-clause-err
+write_value-returns-in_default-clause-err t c =
+    let v = c.args.value.now in
+    let n = length c.args.out.now.items + length (value_bytes (tree v)) in
+    let b = has_bad_name (tree v) in
+    IfErr-weaker c.put_plain.result (λ e. RefusesAt e n 0 0 b) (λ e. RefusesAt e n c.args.levels (tree_depth (tree v)) b)
+    (λ e h. refuses_more e n n 0 c.args.levels 0 (tree_depth (tree v)) b b h (omega arith) (λ q. absurd (omega arith)) (λ q. q)) c.put_plain.ensures.err

@@ -1,5 +1,6 @@
 use Rattle.std.proofs.Common.{ap, arith}
 use Rattle.serde_json.specs.Data.{no_members}
+use Rattle.serde_json.specs.View.{view, members_view}
 use Rattle.mg_bson.specs.Tree.{fields_size}
 use Rattle.mg_bson.specs.View.{tree, items_of}
 use Rattle.mg_script.specs.Json.{items_json, fields_json}
@@ -18,6 +19,6 @@ json_items-returns t c = items_all c.loop-item.values.items c.args.items.now c.l
 
 pub json_members-loop-name-preserved : goal.json_members-loop-name-preserved
 json_members-loop-name-preserved t c = (
-  fields_made c.loop-name.members.entries c.insert.new.self.entries c.in_ok-name.name c.in_ok-value.value c.in-Some.name.now (tree c.in-Some.field.now) c.loop-name.fields c.next.new.self (fields_json c.args.document.now no_members) c.in-Some.ensures c.in_ok-name.ensures.ok c.in_ok-value.ensures c.in_ok-insert.ensures.entries c.loop-name.invariant.0,
+  fields_made (members_view c.loop-name.members.entries) (members_view c.put.new.map.entries) c.in-Some.name.now (view c.in_ok-value.value) (tree c.in-Some.field.now) c.loop-name.fields c.next.new.self (fields_json c.args.document.now no_members) c.in-Some.ensures c.in_ok-value.ensures c.in_ok-put.ensures.ok c.loop-name.invariant.0,
   omega (arith, c.loop-name.invariant.1, ap fields_size c.in-Some.ensures),
 )
