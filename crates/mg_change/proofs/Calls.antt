@@ -65,20 +65,20 @@ grows_on a b c p q = record {
 -- ---- one attempt
 
 -- where an attempt stands, and what it has seen
-abbrev StandsIn : Awaited → Past → Fields → (ℕ → Type 0) → Attempt → Type 0
+abbrev pub StandsIn : Awaited → Past → Fields → (ℕ → Type 0) → Attempt → Type 0
 StandsIn awaited past command Here not_sent = Unit {0}
 StandsIn awaited past command Here (waits ticket) = (place : ℕ) × WaitsAt awaited past ticket command place × Here place
 StandsIn awaited past command Here (answered seen) = (place : ℕ) × HeardAt past place command seen × Here place
 
 -- what an attempt comes to
-record Tried (awaited : Awaited) (places : List ℕ) (since : ℕ) (calls : List Call) (log' : Told) (wire : ℤ) (command : Fields) (Here : ℕ → Type 0) (attempt : Attempt) : Type 0 where
-  calls' : List Call
-  told : log' ≡ Some calls'
-  keeps : Keeps calls calls'
-  stands : StandsIn awaited (past_of places since calls' wire) command Here attempt
+pub record Tried (awaited : Awaited) (places : List ℕ) (since : ℕ) (calls : List Call) (log' : Told) (wire : ℤ) (command : Fields) (Here : ℕ → Type 0) (attempt : Attempt) : Type 0 where
+  pub calls' : List Call
+  pub told : log' ≡ Some calls'
+  pub keeps : Keeps calls calls'
+  pub stands : StandsIn awaited (past_of places since calls' wire) command Here attempt
 
 module _ (old new : Awaited) (log log' : Told) (calls : List Call) (told : log ≡ Some calls) (places : List ℕ) (since : ℕ) (wire : ℤ) where
-  begun : (command : List ℕ) (attempt : Attempt) (Here : ℕ → Type 0) → since ≤ length calls → Here (length calls) → Begins old new log log' command attempt → Tried new places since calls log' wire (fields command) Here attempt
+  pub begun : (command : List ℕ) (attempt : Attempt) (Here : ℕ → Type 0) → since ≤ length calls → Here (length calls) → Begins old new log log' command attempt → Tried new places since calls log' wire (fields command) Here attempt
   begun command not_sent Here room here b = record { calls' = calls; told = b.log_same ∙ told; keeps = same_keeps calls; stands = tt }
   begun command (waits ticket) Here room here b =
       let add = b.adds calls told in
@@ -99,7 +99,7 @@ module _ (old new : Awaited) (log log' : Told) (calls : List Call) (told : log �
         stands = (length calls, record { own = inr room; call = call; there = get_seam calls [] call; command_is = refl; has_seen = refl }, here);
       }
 
-  gone_on : (ticket : ℕ) (command : Fields) (attempt : Attempt) (Here : ℕ → Type 0) (place : ℕ) → WaitsAt old (past_of places since calls wire) ticket command place → Here place → GoesOn old new log log' ticket attempt → Tried new places since calls log' wire command Here attempt
+  pub gone_on : (ticket : ℕ) (command : Fields) (attempt : Attempt) (Here : ℕ → Type 0) (place : ℕ) → WaitsAt old (past_of places since calls wire) ticket command place → Here place → GoesOn old new log log' ticket attempt → Tried new places since calls log' wire command Here attempt
   gone_on ticket command not_sent Here place w here g = absurd g
   gone_on ticket command (waits given) Here place w here g =
       record {
@@ -131,12 +131,12 @@ module _ (old new : Awaited) (log log' : Told) (calls : List Call) (told : log �
       }
 
 -- a second attempt stands behind one that was lost or refused
-abbrev IsBehind : Past → Fields → Stage → ℕ → Type 0
+abbrev pub IsBehind : Past → Fields → Stage → ℕ → Type 0
 IsBehind past command unsent place = Unit {0}
 IsBehind past command (first ticket) place = Unit {0}
 IsBehind past command (second ticket) place = IsRetried past place command
 
-tried : (old new : Awaited) (log log' : Told) (calls : List Call) → log ≡ Some calls → (places : List ℕ) (since : ℕ) (wire : ℤ) (command : List ℕ) (stage : Stage) (attempt : Attempt) → since ≤ length calls → Flies old (past_of places since calls wire) (fields command) stage → Tries old new log log' command stage attempt → Tried new places since calls log' wire (fields command) (IsBehind (past_of places since calls wire) (fields command) stage) attempt
+pub tried : (old new : Awaited) (log log' : Told) (calls : List Call) → log ≡ Some calls → (places : List ℕ) (since : ℕ) (wire : ℤ) (command : List ℕ) (stage : Stage) (attempt : Attempt) → since ≤ length calls → Flies old (past_of places since calls wire) (fields command) stage → Tries old new log log' command stage attempt → Tried new places since calls log' wire (fields command) (IsBehind (past_of places since calls wire) (fields command) stage) attempt
 tried old new log log' calls told places since wire command unsent attempt room flies t = begun old new log log' calls told places since wire command attempt (λ place. Unit {0}) room tt t
 tried old new log log' calls told places since wire command (first ticket) attempt room flies t = gone_on old new log log' calls told places since wire ticket (fields command) attempt (λ place. Unit {0}) flies.0 flies.1 tt t
 tried old new log log' calls told places since wire command (second ticket) attempt room flies t =

@@ -1,11 +1,10 @@
 -- What the answers of a change stream are caused by, step by step.
 use Rattle.std.proofs.Common.{◌≡◌, ℕ, ◌≤◌, ℤ, pos, Bool, true, false, List, [], ◌∷◌, length, map, Option, Some, None, Ok, refl, sym, ap, ◌∙◌, subst, inl, inr, arith}
-use Rattle.std.specs.Prelude.{◌⊎◌}
+use Rattle.std.specs.Prelude.{◌≢◌}
 use Rattle.mg_bson.specs.Tree.{Tree, Fields, Items}
 use Rattle.mg_bson.specs.Raw.{fields}
-use Rattle.mg_bson.specs.Reading.{doc}
 use Rattle.mg_link.specs.Errors.{plain, command_code}
-use Rattle.mg_link.specs.Exec.{FailsByReply, Runs, Stage, unsent, Sending}
+use Rattle.mg_link.specs.Exec.{IsSuccess, Runs, Sending, Stage, unsent}
 use Rattle.mg_link.specs.Link.{Awaited, Told}
 use Rattle.mg_link.specs.Log.{Sight, reply, fault, Call}
 use Rattle.mg_link.specs.Namespace.{space}
@@ -17,15 +16,16 @@ use Rattle.mg_link.specs.declared.error.ErrorKind.{ErrorKind}
 use Rattle.mg_link.specs.declared.error.ErrorKind.TheVariants as kind
 use Rattle.mg_link.specs.declared.error.Malformed.TheVariants as malformed
 use Rattle.mg_ops.specs.Commands.{get_more_command}
-use Rattle.mg_ops.specs.Cursors.{BreaksIn, Opens, batch_at}
+use Rattle.mg_ops.specs.Cursors.{BreaksIn, Gave, Opens, batch_at}
 use Rattle.mg_ops.specs.Failing.{CannotBeSent, FailsBy}
 use Rattle.mg_ops.specs.declared.aggregate.ChangeStreamAggregate.{ChangeStreamAggregate}
 use Rattle.mg_ops.specs.declared.cursor_reply.CursorInformation.{CursorInformation}
 use Rattle.mg_ops.specs.declared.cursor_reply.CursorSpecification.{CursorSpecification}
+use Rattle.mg_ops.specs.declared.cursor_reply.GetMoreResult.{GetMoreResult}
 use Rattle.mg_ops.specs.declared.get_more.GetMore.{GetMore}
 use Rattle.mg_change.specs.Batches.{HoldsBatch}
 use Rattle.mg_change.specs.Calls.{Failed, Flies, HeardBy, HeardLast, Past, by_fault, by_memory, by_reply, past_of}
-use Rattle.mg_change.specs.Causes.{Breaks, BreaksBatch, ByPhase, CallCame, CallCaused, CallEmpty, CallFailed, CallFails, CannotBuild, FailCause, FailLeads, Has, HasBadItem, IsSettled, IsStart, KillCause, Killed, Leaves, MoreFails, MoreLeads, Next, OweLeads, Replied, Resumed, ResumeLeads, Resumes, SoFar, Standing, StepCalled, StepCame, StepCaused, StepLeads, TakeCause, TellsCursor, again, bad_item, broken, came, came_empty, cannot_ask, cannot_resume, ended, first_broken, first_in, leaves, left, lost, more, more_command, more_failed, no_batch, no_id, no_memory, none, none_left, old_command, opening, owed, owes_in, refused, refused_more, remembered_by, remembered_empty, renewed, resume_command, same, standing_of, token_behind, told, tried, unbuilt}
+use Rattle.mg_change.specs.Causes.{BreaksBatch, ByPhase, CallCame, CallCaused, CallEmpty, CallFailed, CallFails, CannotBuild, FailCause, FailLeads, HasBadItem, HeardMore, IsOwing, IsSettled, IsStart, KillCause, Killed, MayAsk, MayLose, MoreFails, MoreLeads, Next, OweLeads, Replied, Resumed, ResumeLeads, Resumes, SoFar, Standing, Stays, StepCalled, StepCame, StepCaused, StepLeads, TakeCause, TellsCursor, Unkept, Unpopped, again, as_it_was, asking, bad_item, broken, came, came_empty, cannot_ask, cannot_resume, cursor_behind, first_broken, first_in, in_hand, keeping, killing, left, lost, may_lose, more, more_command, more_failed, no_batch, no_id, no_memory, none, none_left, old_command, opening, owed, owes_in, refused, refused_more, remembered_by, remembered_empty, resume_command, resuming, standing_of, token_behind, tried, unanswered_in, unbuilt, unheld, unread}
 use Rattle.mg_change.specs.Following.{buffered}
 use Rattle.mg_change.specs.Phases.{AtRest, Carries, IsAsking, IsKilling, left_with, remembering, resuming_command}
 use Rattle.mg_change.specs.Polls.{ends_cursor}
@@ -37,8 +37,9 @@ use Rattle.mg_change.specs.declared.event_poll.Stepped.TheVariants as stepped
 use Rattle.mg_change.specs.declared.stream.ChangeStream.{ChangeStream}
 use Rattle.mg_change.specs.declared.stream.Phase.{Phase}
 use Rattle.mg_change.specs.declared.stream.Phase.TheVariants as phase
+use Rattle.mg_change.proofs.Heeding.{success_ran}
 use Rattle.mg_change.proofs.Calls.{Ran, request_ran}
-use Rattle.mg_change.proofs.Growing.{leaves_grows, resumed_grows, resumes_grows}
+use Rattle.mg_change.proofs.Growing.{resumed_grows, resumes_grows}
 
 -- ---- errors
 
@@ -62,27 +63,29 @@ batch_resumes : (said : Fields) (e : Error) → BreaksBatch said e → resumes e
 batch_resumes said e (no_batch how at is) = plain_resumes e (kind.InvalidResponse how) is refl
 batch_resumes said e (bad_item batch at has) = plain_resumes e (kind.InvalidResponse malformed.BadItem) has.1 refl
 
-breaks_resumes : (said : Fields) (e : Error) → Breaks said e → resumes e ≡ true
-breaks_resumes said e (inl breaks) = plain_resumes e (kind.InvalidResponse breaks.how) breaks.error refl
-breaks_resumes said e (inr breaks) = batch_resumes said e breaks
+cursor_resumes : (said : Fields) (e : Error) → BreaksIn said e → resumes e ≡ true
+cursor_resumes said e breaks = plain_resumes e (kind.InvalidResponse breaks.how) breaks.error refl
 
 -- an item of a batch that was found is no document
 pub items_break : (said : Fields) (batch : Items) → batch_at said ≡ Ok batch → (e : Error) → FailsBy (HasBadItem batch) e → FailsBy (BreaksBatch said) e
 items_break said batch at e (inl room) = inl room
 items_break said batch at e (inr bad) = inr (bad_item batch at bad)
 
-cursor_breaks : (said : Fields) (e : Error) → FailsBy (BreaksIn said) e → FailsBy (Breaks said) e
-cursor_breaks said e (inl room) = inl room
-cursor_breaks said e (inr breaks) = inr (inl breaks)
+-- the cursor of a reply whose batch was not kept
+pub kept_unheld : (s t : ChangeStream) (bytes : List ℕ) (out : GetMoreResult) (e : Error) → Gave bytes out → (id : ℤ) → id ≡ out.id → t.cursor ≡ record s.cursor { id = id; ns = out.ns } → FailsBy (BreaksBatch (fields out.raw_reply)) e → Unkept s t bytes e
+kept_unheld s t bytes out e gave id same is by =
+    let tells : TellsCursor bytes s.cursor.batch_size (record s.cursor { id = id; ns = out.ns }) out.post_batch_resume_token = record {
+      batch = gave.batch;
+      says = gave.says ∙ ap (λ (i : ℤ). Ok (record { id = i; space = space out.ns; token = out.post_batch_resume_token; batch = gave.batch })) (sym same);
+      size_is = refl;
+    } in
+    unheld out.post_batch_resume_token (subst (λ (c : CursorInformation). TellsCursor bytes s.cursor.batch_size c out.post_batch_resume_token) (sym is) tells)
+    (subst (λ (b : List ℕ). FailsBy (BreaksBatch (fields b)) e) gave.whole by)
 
 -- an error that is no want of memory has its cause
 cannot_by : (cause : Error → Type 0) (e : Error) → FailsBy cause e → (e.kind ≡ kind.OutOfMemory → ⊥) → cause e
 cannot_by cause e (inl room) not = absurd (not (kind_of_plain e kind.OutOfMemory room))
 cannot_by cause e (inr by) not = by
-
-pub batch_breaks : (said : Fields) (e : Error) → FailsBy (BreaksBatch said) e → FailsBy (Breaks said) e
-batch_breaks said e (inl room) = inl room
-batch_breaks said e (inr breaks) = inr (inr breaks)
 
 -- ---- requests
 
@@ -90,10 +93,10 @@ heard_by : (past : Past) (command : Fields) (retries : Bool) (seen : Sight) → 
 heard_by past command retries seen h = record { place = h.place; heard = h.heard }
 
 -- a killCursors that failed was tried, or memory ran out
-kill_tried : (past : Past) (old : CursorInformation) (e : Error) → Failed past (old_command old) false e → (e.kind ≡ kind.OutOfMemory → ⊥) → Killed past old
-kill_tried past old e (by_memory is) not = absurd (not (kind_of_plain e kind.OutOfMemory is))
-kill_tried past old e (by_fault is heard) not = tried fault (λ waits. cc) (heard_by past (old_command old) false fault heard)
-kill_tried past old e (by_reply bytes heard by) not = tried (reply bytes) (λ waits. cc) (heard_by past (old_command old) false (reply bytes) heard)
+kill_tried : (past : Past) (old : CursorInformation) (e : Error) → old.id ≢ pos 0 → Failed past (old_command old) false e → (e.kind ≡ kind.OutOfMemory → ⊥) → Killed past old
+kill_tried past old e held (by_memory is) not = absurd (not (kind_of_plain e kind.OutOfMemory is))
+kill_tried past old e held (by_fault is heard) not = tried held fault (λ waits. cc) (heard_by past (old_command old) false fault heard)
+kill_tried past old e held (by_reply bytes heard by) not = tried held (reply bytes) (λ waits. cc) (heard_by past (old_command old) false (reply bytes) heard)
 
 -- ---- events
 
@@ -103,132 +106,186 @@ next_by past at es es' c c' upto upto' events cursor token next =
     (subst (λ (d : CursorInformation). Next past at es d upto') (sym cursor)
     (subst (λ (t : Option Tree). Next past at es c t) (sym token) next))
 
-replied_has : (past : Past) (at : Standing) (resumed : Bool) (bytes : List ℕ) (c : CursorInformation) (upto : Option Tree) → Replied past at resumed bytes c upto → Has past at c
-replied_has past at resumed bytes c upto (opening not first cursor token) = leaves (same cursor)
-replied_has past at resumed bytes c upto (more not heard tells) = leaves (told bytes upto heard tells)
-replied_has past at resumed bytes c upto (again is r old stays killed) = renewed bytes upto r
+-- where a batch comes nothing that was received is left
+fails_none : (past : Past) (at : Standing) (e : Error) (c : CursorInformation) → MoreFails past at e c → at.events ≡ []
+fails_none past at e c (lost io heard is) = heard.asked.none_left
+fails_none past at e c (refused bytes heard by is) = heard.asked.none_left
+fails_none past at e c (unread bytes heard by is) = heard.asked.none_left
+fails_none past at e c (broken bytes upto heard tells by) = heard.asked.none_left
 
-next_has : (past : Past) (at : Standing) (es : List Fields) (c : CursorInformation) (upto : Option Tree) → Next past at es c upto → Has past at c
-next_has past at es c upto (left quits looked events cursor token) = leaves (same cursor)
-next_has past at es c upto (came resumed bytes replied holds) = replied_has past at resumed bytes c upto replied
+resumes_none : (past : Past) (at : Standing) (c : CursorInformation) → Resumes past at c → at.events ≡ []
+resumes_none past at c (owed owes is) = owes.none_left
+resumes_none past at c (more_failed e why is) = fails_none past at e c why
+resumes_none past at c (first_broken bytes e held empty by is) = empty
 
-has_by : (past : Past) (at : Standing) (c c' : CursorInformation) → c' ≡ c → Has past at c → Has past at c'
-has_by past at c c' cursor has = subst (λ (d : CursorInformation). Has past at d) (sym cursor) has
+replied_none : (past : Past) (at : Standing) (resumed : Bool) (bytes : List ℕ) (c : CursorInformation) (upto : Option Tree) → Replied past at resumed bytes c upto → at.events ≡ []
+replied_none past at resumed bytes c upto (opening not held empty cursor token) = empty
+replied_none past at resumed bytes c upto (more not heard success tells) = heard.asked.none_left
+replied_none past at resumed bytes c upto (again is old r killed) = resumes_none past at old r.why
+
+-- ---- how a stream stands
 
 settled : (s : ChangeStream) → s.phase ≡ phase.Rest → IsSettled (standing_of s)
 settled s is = record { quits = ap owes_in is; looked = ap first_in is }
 
+events_at : (s : ChangeStream) → s.phase ≡ phase.Rest → (standing_of s).events ≡ buffered s
+events_at s is = ap (λ (p : Phase). unanswered_in p (buffered s)) is
+
+owing : (s : ChangeStream) → IsOwing (standing_of (record s { phase = phase.Owing }))
+owing s = record { owes = refl; looked = refl; none_left = refl }
+
+abbrev stand : ChangeStreamAggregate → CursorInformation → List Fields → Option Tree → Option (List ℕ) → Bool → Standing
+stand a c events upto first owes = record { aggregate = a; cursor = c; events = events; upto = upto; first = first; owes = owes }
+
+same_standing : (x y : Standing) → x.aggregate ≡ y.aggregate → x.cursor ≡ y.cursor → x.events ≡ y.events → x.upto ≡ y.upto → x.first ≡ y.first → x.owes ≡ y.owes → x ≡ y
+same_standing x y a c events upto first owes =
+    ap (λ (z : ChangeStreamAggregate). stand z x.cursor x.events x.upto x.first x.owes) a
+    ∙ ap (λ (z : CursorInformation). stand y.aggregate z x.events x.upto x.first x.owes) c
+    ∙ ap (λ (z : List Fields). stand y.aggregate y.cursor z x.upto x.first x.owes) events
+    ∙ ap (λ (z : Option Tree). stand y.aggregate y.cursor y.events z x.first x.owes) upto
+    ∙ ap (λ (z : Option (List ℕ)). stand y.aggregate y.cursor y.events y.upto z x.owes) first
+    ∙ ap (λ (z : Bool). stand y.aggregate y.cursor y.events y.upto y.first z) owes
+
+some_buffered : (s : ChangeStream) → s.buffer.items ≢ [] → buffered s ≢ []
+some_buffered s some = some_mapped s.buffer.items some
+  where
+    some_mapped : (items : List (List ℕ)) → items ≢ [] → map fields items ≢ []
+    some_mapped [] some = λ empty. some refl
+    some_mapped (x ∷ items) some = λ empty. cc
+
 -- ---- steps without a link
 
 module _ (awaited : Awaited) (past : Past) (at : Standing) where
+  -- the next event is not copied
+  unpopped : (s s' : ChangeStream) (e : Error) → s.aggregate ≡ at.aggregate → Next past at (buffered s) s.cursor s.batch_token → buffered s ≢ [] → s'.phase ≡ phase.Rest → Unpopped s s' e → Stays past at (standing_of s')
+  unpopped s s' e kept (left before events cursor upto) some rests h =
+      as_it_was before (same_standing (standing_of s') at (h.aggregate ∙ kept) (h.cursor ∙ cursor) (events_at s' rests ∙ h.events ∙ events) (h.upto ∙ upto) (ap first_in rests ∙ sym before.looked) (ap owes_in rests ∙ sym before.quits))
+  unpopped s s' e kept (came before resumed bytes replied holds) some rests h =
+      let es = events_at s' rests ∙ h.events in
+      in_hand resumed bytes
+      (subst (λ (c : CursorInformation). Replied past at resumed bytes c s'.batch_token) (sym h.cursor) (subst (λ (t : Option Tree). Replied past at resumed bytes s.cursor t) (sym h.upto) replied))
+      (subst (λ (l : List Fields). HoldsBatch (fields bytes) l) (sym es) holds)
+      (λ empty. some (sym es ∙ empty)) (settled s' rests)
+
   -- the next event is taken
-  took : (resumed : Bool) (s s' : ChangeStream) (r : EventPoll) → s.aggregate ≡ at.aggregate → Next past at (buffered s) s.cursor s.batch_token → s'.phase ≡ phase.Rest → TakeCause s s' r → StepCame awaited past at resumed s' (stepped.Gives r)
-  took resumed s s' poll.Pending kept next rests h = absurd h
-  took resumed s s' (poll.Ready None) kept next rests h = absurd h
-  took resumed s s' (poll.Ready (Some event)) kept next rests h =
+  took : (resumed : Bool) (s s' : ChangeStream) (r : EventPoll) → s.aggregate ≡ at.aggregate → Next past at (buffered s) s.cursor s.batch_token → buffered s ≢ [] → s'.phase ≡ phase.Rest → TakeCause s s' r → StepCame awaited past at resumed s' (stepped.Gives r)
+  took resumed s s' poll.Pending kept next some rests h = absurd h
+  took resumed s s' (poll.Ready None) kept next some rests h = absurd h
+  took resumed s s' (poll.Ready (Some event)) kept next some rests h =
+      let es = events_at s' rests in
+      let rest = (standing_of s').events in
       record {
         upto = s.batch_token;
-        next = next_by past at (buffered s) (fields event ∷ buffered s') s.cursor s'.cursor s.batch_token s.batch_token (sym h.whole) h.cursor refl next;
+        next = next_by past at (buffered s) (fields event ∷ rest) s.cursor s'.cursor s.batch_token s.batch_token (ap (λ (l : List Fields). fields event ∷ l) es ∙ sym h.whole) h.cursor refl next;
         id = h.id;
         has = h.has;
-        remembers = h.remembers ∙ ap (remembered_by (token_behind (buffered s') s.batch_token h.id) true) kept;
-        behind = h.behind;
+        remembers = h.remembers ∙ ap (λ (l : List Fields). remembered_by (token_behind l s.batch_token h.id) true s.aggregate) (sym es) ∙ ap (remembered_by (token_behind rest s.batch_token h.id) true) kept;
+        behind = λ some_left. h.behind (λ empty. some_left (es ∙ empty));
         settled = settled s' rests;
       }
-  took resumed s s' (poll.Failed e) kept next rests (inl h) =
+  took resumed s s' (poll.Failed e) kept next some rests (inl h) = record { why = no_memory h.room (unpopped s s' e kept next some rests h); token = h.aggregate ∙ kept }
+  took resumed s s' (poll.Failed e) kept next some rests (inr h) =
+      let es = events_at s' rests in
+      let rest = (standing_of s').events in
       record {
-        why = no_memory h.room (inr (record { next = next_by past at (buffered s) (buffered s') s.cursor s'.cursor s.batch_token s'.batch_token h.events h.cursor h.upto next; settled = settled s' rests }));
+        why = no_id h.event s.batch_token (next_by past at (buffered s) (h.event ∷ rest) s.cursor s'.cursor s.batch_token s.batch_token (ap (λ (l : List Fields). h.event ∷ l) es ∙ sym h.whole) h.cursor refl next) h.lacks h.error h.upto (settled s' rests);
         token = h.aggregate ∙ kept;
-        cursor = has_by past at s.cursor s'.cursor h.cursor (next_has past at (buffered s) s.cursor s.batch_token next);
-      }
-  took resumed s s' (poll.Failed e) kept next rests (inr h) =
-      record {
-        why = no_id h.event s.batch_token (next_by past at (buffered s) (h.event ∷ buffered s') s.cursor s'.cursor s.batch_token s.batch_token (sym h.whole) h.cursor refl next) h.lacks h.error h.upto (settled s' rests);
-        token = h.aggregate ∙ kept;
-        cursor = has_by past at s.cursor s'.cursor h.cursor (next_has past at (buffered s) s.cursor s.batch_token next);
       }
 
   -- at rest
   start_in : (s : ChangeStream) (p : Phase) → IsStart at s → IsStart at (record s { phase = p })
-  start_in s p start = record { quits = start.quits; looked = start.looked; cursor = start.cursor; events = start.events; upto = start.upto }
+  start_in s p start = record { settled = start.settled; cursor = start.cursor; events = start.events; upto = start.upto }
 
   next_at : (s : ChangeStream) → IsStart at s → Next past at (buffered s) s.cursor s.batch_token
-  next_at s start = left start.quits start.looked start.events start.cursor start.upto
+  next_at s start = left start.settled start.events start.cursor start.upto
 
   none_at : (s : ChangeStream) → s.buffer.items ≡ [] → IsStart at s → at.events ≡ []
   none_at s empty start = sym start.events ∙ ap (map fields) empty
 
+  may_ask : (s : ChangeStream) → s.buffer.items ≡ [] → s.cursor.id ≢ pos 0 → IsStart at s → MayAsk at
+  may_ask s empty held start = record { settled = start.settled; none_left = none_at s empty start; held = λ over. held (ap (λ (c : CursorInformation). c.id) start.cursor ∙ over) }
+
+  as_before : (s : ChangeStream) → s.aggregate ≡ at.aggregate → IsStart at s → standing_of (record s { phase = phase.Rest }) ≡ at
+  as_before s kept start = same_standing (standing_of (record s { phase = phase.Rest })) at kept start.cursor start.events start.upto (sym start.settled.looked) (sym start.settled.quits)
+
   module _ (resumed : Bool) (s : ChangeStream) (far : SoFar awaited past at resumed phase.Rest s) where
-    pub rest_takes : (s' : ChangeStream) (r : EventPoll) → s'.phase ≡ phase.Rest → TakeCause s s' r → StepCame awaited past at resumed s' (stepped.Gives r)
-    rest_takes s' r rests h = took resumed s s' r far.same (next_at s far.by.1) rests h
+    pub rest_takes : (s' : ChangeStream) (r : EventPoll) → s.buffer.items ≢ [] → s'.phase ≡ phase.Rest → TakeCause s s' r → StepCame awaited past at resumed s' (stepped.Gives r)
+    rest_takes s' r some rests h = took resumed s s' r far.same (next_at s far.by.1) (some_buffered s some) rests h
 
     pub rest_ends : s.buffer.items ≡ [] → s.cursor.id ≡ pos 0 → CallEmpty past at (standing_of (record s { phase = phase.Rest })) resumed
     rest_ends empty over =
         let start = far.by.1 in
         record {
-          why = none_left far.by.0 start.quits start.looked (none_at s empty start) (ap (λ (c : CursorInformation). c.id) (sym start.cursor) ∙ over) far.same start.cursor;
+          why = none_left far.by.0 start.settled (none_at s empty start) (ap (λ (c : CursorInformation). c.id) (sym start.cursor) ∙ over) far.same start.cursor;
           empty = ap (map fields) empty;
           settled = record { quits = refl; looked = refl };
         }
 
-    pub rest_asks : (get_more : GetMore) (exec : Sending) → s.buffer.items ≡ [] → exec.stage ≡ unsent → SoFar awaited past at resumed (phase.Asking get_more exec) (record s { phase = phase.Asking get_more exec })
-    rest_asks get_more exec empty not_sent =
+    pub rest_asks : (get_more : GetMore) (exec : Sending) → s.buffer.items ≡ [] → s.cursor.id ≢ pos 0 → exec.stage ≡ unsent → SoFar awaited past at resumed (phase.Asking get_more exec) (record s { phase = phase.Asking get_more exec })
+    rest_asks get_more exec empty held not_sent =
         record {
           same = far.same;
-          by = (far.by.0, start_in s (phase.Asking get_more exec) far.by.1, none_at s empty far.by.1, subst (λ (stage : Stage). Flies awaited past (more_command at) stage) (sym not_sent) tt);
+          by = (far.by.0, start_in s (phase.Asking get_more exec) far.by.1, may_ask s empty held far.by.1, subst (λ (stage : Stage). Flies awaited past (more_command at) stage) (sym not_sent) tt);
         }
 
-    rest_cannot : (e : Error) → s.buffer.items ≡ [] → FailsBy (CannotBuild s.cursor.batch_size (get_more_command s.cursor.id (space s.cursor.ns) s.cursor.batch_size)) e → CallFails past at (standing_of (record s { phase = phase.Rest })) e
-    rest_cannot e empty (inl room) = no_memory (kind_of_plain e kind.OutOfMemory room) (inr (record { next = next_at s far.by.1; settled = record { quits = refl; looked = refl } }))
-    rest_cannot e empty (inr by) =
-        cannot_ask (none_at s empty far.by.1) (subst (λ (c : CursorInformation). CannotBuild c.batch_size (get_more_command c.id (space c.ns) c.batch_size) e) far.by.1.cursor by)
-        (record { next = next_at s far.by.1; settled = record { quits = refl; looked = refl } })
+    rest_cannot : (e : Error) → s.buffer.items ≡ [] → s.cursor.id ≢ pos 0 → FailsBy (CannotBuild s.cursor.batch_size (get_more_command s.cursor.id (space s.cursor.ns) s.cursor.batch_size)) e → CallFails past at (standing_of (record s { phase = phase.Rest })) e
+    rest_cannot e empty held (inl room) = no_memory (kind_of_plain e kind.OutOfMemory room) (as_it_was far.by.1.settled (as_before s far.same far.by.1))
+    rest_cannot e empty held (inr by) =
+        cannot_ask (may_ask s empty held far.by.1) (subst (λ (c : CursorInformation). CannotBuild c.batch_size (get_more_command c.id (space c.ns) c.batch_size) e) far.by.1.cursor by) (as_before s far.same far.by.1)
 
-    pub rest_fails : (e : Error) → s.buffer.items ≡ [] → FailsBy (CannotBuild s.cursor.batch_size (get_more_command s.cursor.id (space s.cursor.ns) s.cursor.batch_size)) e → CallFailed past at (standing_of (record s { phase = phase.Rest })) e
-    rest_fails e empty by = record { why = rest_cannot e empty by; token = far.same; cursor = leaves (same far.by.1.cursor) }
+    pub rest_fails : (e : Error) → s.buffer.items ≡ [] → s.cursor.id ≢ pos 0 → FailsBy (CannotBuild s.cursor.batch_size (get_more_command s.cursor.id (space s.cursor.ns) s.cursor.batch_size)) e → CallFailed past at (standing_of (record s { phase = phase.Rest })) e
+    rest_fails e empty held by = record { why = rest_cannot e empty held by; token = far.same }
 
   -- a batch is lost
-  owes_so_far : (s : ChangeStream) → s.aggregate ≡ at.aggregate → Leaves past at s.cursor → Resumes past at → SoFar awaited past at false phase.Owing (record s { phase = phase.Owing })
-  owes_so_far s kept stays why = record { same = kept; by = (refl, why, stays) }
+  owes_so_far : (s : ChangeStream) → s.aggregate ≡ at.aggregate → Resumes past at s.cursor → SoFar awaited past at false phase.Owing (record s { phase = phase.Owing })
+  owes_so_far s kept why = record { same = kept; by = (refl, why) }
 
-  owes_failed : (s : ChangeStream) (e : Error) → s.aggregate ≡ at.aggregate → Leaves past at s.cursor → e.kind ≡ kind.OutOfMemory → CallFailed past at (standing_of (record s { phase = phase.Owing })) e
-  owes_failed s e kept stays room = record { why = no_memory room (inl refl); token = kept; cursor = leaves stays }
+  owes_failed : (s : ChangeStream) (e : Error) → s.aggregate ≡ at.aggregate → e.kind ≡ kind.OutOfMemory → MayLose past at s.cursor → CallFailed past at (standing_of (record s { phase = phase.Owing })) e
+  owes_failed s e kept room may = record { why = may_lose room (owing s) may; token = kept }
 
-  loses : (s : ChangeStream) (e : Error) (r : Stepped) → s.aggregate ≡ at.aggregate → Leaves past at s.cursor → (resumes e ≡ true → Resumes past at) → (resumes e ≡ false → e.kind ≡ kind.OutOfMemory) → FailCause e r → StepCame awaited past at false (record s { phase = phase.Owing }) r
-  loses s e stepped.Goes kept stays why room h = owes_so_far s kept stays (why h)
-  loses s e (stepped.Gives poll.Pending) kept stays why room h = absurd h
-  loses s e (stepped.Gives (poll.Ready event)) kept stays why room h = absurd h
-  loses s e (stepped.Gives (poll.Failed f)) kept stays why room h =
-      owes_failed s f kept stays (ap (λ (x : Error). x.kind) h.0 ∙ room (subst (λ (x : Error). resumes x ≡ false) h.0 h.1))
+  loses : (s : ChangeStream) (e : Error) (r : Stepped) → s.aggregate ≡ at.aggregate → (resumes e ≡ true → Resumes past at s.cursor) → (resumes e ≡ false → (e.kind ≡ kind.OutOfMemory) × MayLose past at s.cursor) → FailCause e r → StepCame awaited past at false (record s { phase = phase.Owing }) r
+  loses s e stepped.Goes kept why room h = owes_so_far s kept (why h)
+  loses s e (stepped.Gives poll.Pending) kept why room h = absurd h
+  loses s e (stepped.Gives (poll.Ready event)) kept why room h = absurd h
+  loses s e (stepped.Gives (poll.Failed f)) kept why room h =
+      let x = room (subst (λ (y : Error). resumes y ≡ false) h.0 h.1) in
+      owes_failed s f kept (ap (λ (y : Error). y.kind) h.0 ∙ x.0) x.1
 
   -- that breaks the grammar
-  broken_loses : (cause : Error → Type 0) (s : ChangeStream) (e : Error) (r : Stepped) → s.aggregate ≡ at.aggregate → Leaves past at s.cursor → (cause e → (resumes e ≡ true) × Resumes past at) → FailsBy cause e → FailCause e r → StepCame awaited past at false (record s { phase = phase.Owing }) r
-  broken_loses cause s e r kept stays why (inl room) h =
-      loses s e r kept stays (λ so. absurd (not_both (resumes e) so (memory_stays e (kind_of_plain e kind.OutOfMemory room)))) (λ not. kind_of_plain e kind.OutOfMemory room) h
-  broken_loses cause s e r kept stays why (inr by) h = loses s e r kept stays (λ so. (why by).1) (λ not. absurd (not_both (resumes e) (why by).0 not)) h
+  broken_loses : (cause : Error → Type 0) (s : ChangeStream) (e : Error) (r : Stepped) → s.aggregate ≡ at.aggregate → MayLose past at s.cursor → (cause e → (resumes e ≡ true) × Resumes past at s.cursor) → FailsBy cause e → FailCause e r → StepCame awaited past at false (record s { phase = phase.Owing }) r
+  broken_loses cause s e r kept may why (inl room) h =
+      loses s e r kept (λ so. absurd (not_both (resumes e) so (memory_stays e (kind_of_plain e kind.OutOfMemory room)))) (λ not. (kind_of_plain e kind.OutOfMemory room, may)) h
+  broken_loses cause s e r kept may why (inr by) h = loses s e r kept (λ so. (why by).1) (λ not. absurd (not_both (resumes e) (why by).0 not)) h
 
   -- the batch of the opening
   module _ (resumed : Bool) (s : ChangeStream) (bytes : List ℕ) (far : SoFar awaited past at resumed (phase.First bytes) s) where
+    first_replied : (b : Bool) → b ≡ false → Replied past at b bytes s.cursor s.batch_token
+    first_replied b not = opening not far.by.1.in_hand far.by.1.none_left far.by.1.cursor far.by.1.upto
+
     pub first_came : (t : ChangeStream) → HoldsBatch (fields bytes) (map fields t.buffer.items) → SoFar awaited past at resumed phase.Fresh (record s { buffer = t.buffer; phase = phase.Fresh })
-    first_came t holds = record { same = far.same; by = record { bytes = bytes; replied = opening far.by.0 far.by.1 far.by.2 far.by.3; holds = holds } }
+    first_came t holds = record { same = far.same; by = record { bytes = bytes; replied = first_replied resumed far.by.0; holds = holds } }
 
     pub first_lost : (s' : ChangeStream) (e : Error) (r : Stepped) → FailsBy (BreaksBatch (fields bytes)) e → s' ≡ record s { phase = phase.Owing } → FailCause e r → StepCame awaited past at resumed s' r
     first_lost s' e r by is h =
         subst (λ (b : Bool). StepCame awaited past at b s' r) (sym far.by.0)
         (subst (λ (t : ChangeStream). StepCame awaited past at false t r) (sym is)
-        (broken_loses (BreaksBatch (fields bytes)) s e r far.same (same far.by.2) (λ breaks. (batch_resumes (fields bytes) e breaks, first_broken bytes e far.by.1 breaks)) by h))
+        (broken_loses (BreaksBatch (fields bytes)) s e r far.same (keeping false bytes s.batch_token (first_replied false refl))
+        (λ breaks. (batch_resumes (fields bytes) e breaks, first_broken bytes e far.by.1.in_hand far.by.1.none_left breaks far.by.1.cursor)) by h))
 
   -- a batch is in hand
   module _ (resumed : Bool) (s : ChangeStream) (far : SoFar awaited past at resumed phase.Fresh s) where
-    pub fresh_takes : (s' : ChangeStream) (r : EventPoll) → s'.phase ≡ phase.Rest → TakeCause s s' r → StepCame awaited past at resumed s' (stepped.Gives r)
-    fresh_takes s' r rests h = took resumed s s' r far.same (came resumed far.by.bytes far.by.replied far.by.holds) rests h
+    none_before : at.events ≡ []
+    none_before = replied_none past at resumed far.by.bytes s.cursor s.batch_token far.by.replied
+
+    pub fresh_takes : (s' : ChangeStream) (r : EventPoll) → s.buffer.items ≢ [] → s'.phase ≡ phase.Rest → TakeCause s s' r → StepCame awaited past at resumed s' (stepped.Gives r)
+    fresh_takes s' r some rests h = took resumed s s' r far.same (came none_before resumed far.by.bytes far.by.replied far.by.holds) (some_buffered s some) rests h
 
     fresh_ends : (s' : ChangeStream) → s.buffer.items ≡ [] → s'.phase ≡ phase.Rest → s'.cursor ≡ s.cursor → s'.buffer ≡ s.buffer → s'.aggregate ≡ remembered_empty s.batch_token s.aggregate → CallEmpty past at (standing_of s') resumed
     fresh_ends s' empty rests cursor buffer remembers =
         record {
-          why = came_empty far.by.bytes s.batch_token (subst (λ (c : CursorInformation). Replied past at resumed far.by.bytes c s.batch_token) (sym cursor) far.by.replied)
+          why = came_empty none_before far.by.bytes s.batch_token (subst (λ (c : CursorInformation). Replied past at resumed far.by.bytes c s.batch_token) (sym cursor) far.by.replied)
               (subst (λ (es : List (List ℕ)). HoldsBatch (fields far.by.bytes) (map fields es)) empty far.by.holds) (remembers ∙ ap (remembered_empty s.batch_token) far.same);
-          empty = ap (λ b. map fields b.items) buffer ∙ ap (map fields) empty;
+          empty = events_at s' rests ∙ ap (λ b. map fields b.items) buffer ∙ ap (map fields) empty;
           settled = settled s' rests;
         }
 
@@ -246,160 +303,153 @@ module _ (awaited : Awaited) (past : Past) (at : Standing) where
 
   -- the reply came
   pub more_kept : (s t : ChangeStream) (bytes : List ℕ) → t.aggregate ≡ s.aggregate → TellsCursor bytes s.cursor.batch_size t.cursor t.batch_token → HoldsBatch (fields bytes) (buffered t)
-      → s.aggregate ≡ at.aggregate → s.cursor ≡ at.cursor → HeardBy past (more_command at) (reply bytes) → SoFar awaited past at false phase.Fresh (record t { phase = phase.Fresh })
-  more_kept s t bytes stays tells holds kept cursor heard =
+      → s.aggregate ≡ at.aggregate → s.cursor ≡ at.cursor → HeardMore past at (reply bytes) → IsSuccess bytes → SoFar awaited past at false phase.Fresh (record t { phase = phase.Fresh })
+  more_kept s t bytes stays tells holds kept cursor heard success =
       record {
         same = stays ∙ kept;
         by = record {
           bytes = bytes;
-          replied = more refl heard (subst (λ (c : CursorInformation). TellsCursor bytes c.batch_size t.cursor t.batch_token) cursor tells);
+          replied = more refl heard success (subst (λ (c : CursorInformation). TellsCursor bytes c.batch_size t.cursor t.batch_token) cursor tells);
           holds = holds;
         };
       }
 
-  more_stays : (s t : ChangeStream) (bytes : List ℕ) → (t.cursor ≡ s.cursor) ⊎ ((upto : Option Tree) × TellsCursor bytes s.cursor.batch_size t.cursor upto) → s.cursor ≡ at.cursor → HeardBy past (more_command at) (reply bytes) → Leaves past at t.cursor
-  more_stays s t bytes (inl is) cursor heard = same (is ∙ cursor)
-  more_stays s t bytes (inr tells) cursor heard = told bytes tells.0 heard (subst (λ (c : CursorInformation). TellsCursor bytes c.batch_size t.cursor tells.0) cursor tells.1)
+  unkept_loses : (s t : ChangeStream) (bytes : List ℕ) (e : Error) (r : Stepped) → t.aggregate ≡ at.aggregate → Unkept s t bytes e → s.cursor ≡ at.cursor → HeardMore past at (reply bytes) → IsSuccess bytes → FailCause e r → StepCame awaited past at false (record t { phase = phase.Owing }) r
+  unkept_loses s t bytes e r kept (unread stays by) cursor heard success h =
+      broken_loses (BreaksIn (fields bytes)) t e r kept (asking heard.asked (stays ∙ cursor))
+      (λ breaks. let so = cursor_resumes (fields bytes) e breaks in (so, more_failed e (unread bytes heard breaks (stays ∙ cursor)) so)) by h
+  unkept_loses s t bytes e r kept (unheld upto tells by) cursor heard success h =
+      let says = subst (λ (c : CursorInformation). TellsCursor bytes c.batch_size t.cursor upto) cursor tells in
+      broken_loses (BreaksBatch (fields bytes)) t e r kept (keeping false bytes upto (more refl heard success says))
+      (λ breaks. let so = batch_resumes (fields bytes) e breaks in (so, more_failed e (broken bytes upto heard says breaks) so)) by h
 
-  pub more_lost : (s t s' : ChangeStream) (bytes : List ℕ) (e : Error) (r : Stepped) → t.aggregate ≡ s.aggregate → (t.cursor ≡ s.cursor) ⊎ ((upto : Option Tree) × TellsCursor bytes s.cursor.batch_size t.cursor upto) → FailsBy (Breaks (fields bytes)) e → s' ≡ record t { phase = phase.Owing } → FailCause e r
-      → s.aggregate ≡ at.aggregate → s.cursor ≡ at.cursor → HeardBy past (more_command at) (reply bytes) → StepCame awaited past at false s' r
-  more_lost s t s' bytes e r stays cursors by is h kept cursor heard =
-      subst (λ (x : ChangeStream). StepCame awaited past at false x r) (sym is)
-      (broken_loses (Breaks (fields bytes)) t e r (stays ∙ kept) (more_stays s t bytes cursors cursor heard)
-      (λ breaks. let so = breaks_resumes (fields bytes) e breaks in (so, more_failed e (broken bytes heard breaks) so)) by h)
+  pub more_lost : (s t s' : ChangeStream) (bytes : List ℕ) (e : Error) (r : Stepped) → t.aggregate ≡ s.aggregate → Unkept s t bytes e → s' ≡ record t { phase = phase.Owing } → FailCause e r
+      → s.aggregate ≡ at.aggregate → s.cursor ≡ at.cursor → HeardMore past at (reply bytes) → IsSuccess bytes → StepCame awaited past at false s' r
+  more_lost s t s' bytes e r stays unkept is h kept cursor heard success =
+      subst (λ (x : ChangeStream). StepCame awaited past at false x r) (sym is) (unkept_loses s t bytes e r (stays ∙ kept) unkept cursor heard success h)
 
   -- it failed
   not_ended : (s : ChangeStream) (e : Error) (k : ErrorKind) → s.cursor ≡ at.cursor → e.kind ≡ k → ends_cursor (command_code k) ≡ false → (left_with s (ends_cursor (command_code e.kind))).cursor ≡ at.cursor
   not_ended s e k cursor is lives = ap (λ (x : ErrorKind). (left_with s (ends_cursor (command_code x))).cursor) is ∙ ap (λ (b : Bool). (left_with s b).cursor) lives ∙ cursor
 
-  refused_stays : (s : ChangeStream) (e : Error) (bytes : List ℕ) (ends : Bool) → ends_cursor (command_code e.kind) ≡ ends → s.cursor ≡ at.cursor → HeardBy past (more_command at) (reply bytes) → FailsByReply (doc bytes) past.wire e → Leaves past at (left_with s ends).cursor
-  refused_stays s e bytes true is cursor heard by = ended bytes e heard by is (ap (λ (c : CursorInformation). record c { id = pos 0 }) cursor)
-  refused_stays s e bytes false is cursor heard by = same cursor
+  heard_more : (seen : Sight) → MayAsk at → HeardLast past (more_command at) false seen → HeardMore past at seen
+  heard_more seen may heard = record { asked = may; heard = heard_by past (more_command at) false seen heard }
 
-  failed_stays : (s : ChangeStream) (e : Error) → s.cursor ≡ at.cursor → Failed past (more_command at) false e → Leaves past at (left_with s (ends_cursor (command_code e.kind))).cursor
-  failed_stays s e cursor (by_memory is) = same (not_ended s e kind.OutOfMemory cursor (kind_of_plain e kind.OutOfMemory is) refl)
-  failed_stays s e cursor (by_fault is heard) = same (not_ended s e kind.Io cursor (kind_of_plain e kind.Io is) refl)
-  failed_stays s e cursor (by_reply bytes heard by) = refused_stays s e bytes (ends_cursor (command_code e.kind)) refl cursor (heard_by past (more_command at) false (reply bytes) heard) by
-
-  more_fails : (e : Error) → Failed past (more_command at) false e → resumes e ≡ true → MoreFails past at e
-  more_fails e (by_memory is) so = absurd (not_both (resumes e) so (memory_stays e (kind_of_plain e kind.OutOfMemory is)))
-  more_fails e (by_fault is heard) so = lost is (heard_by past (more_command at) false fault heard)
-  more_fails e (by_reply bytes heard by) so = refused bytes (heard_by past (more_command at) false (reply bytes) heard) by
+  more_fails : (s : ChangeStream) (e : Error) → s.cursor ≡ at.cursor → MayAsk at → Failed past (more_command at) false e → resumes e ≡ true → MoreFails past at e (left_with s (ends_cursor (command_code e.kind))).cursor
+  more_fails s e cursor may (by_memory is) so = absurd (not_both (resumes e) so (memory_stays e (kind_of_plain e kind.OutOfMemory is)))
+  more_fails s e cursor may (by_fault is heard) so = lost is (heard_more fault may heard) (not_ended s e kind.Io cursor (kind_of_plain e kind.Io is) refl)
+  more_fails s e cursor may (by_reply bytes heard by) so = refused bytes (heard_more (reply bytes) may heard) by (ap (cursor_behind e) cursor)
 
   pub failed_lost : (s t s' : ChangeStream) (e : Error) (r : Stepped) → t ≡ left_with s (ends_cursor (command_code e.kind)) → s' ≡ record t { phase = phase.Owing } → (resumes e ≡ false → e.kind ≡ kind.OutOfMemory) → FailCause e r
-      → s.aggregate ≡ at.aggregate → IsStart at s → Failed past (more_command at) false e → StepCame awaited past at false s' r
-  failed_lost s t s' e r notes is room h kept start failed =
+      → s.aggregate ≡ at.aggregate → IsStart at s → MayAsk at → Failed past (more_command at) false e → StepCame awaited past at false s' r
+  failed_lost s t s' e r notes is room h kept start may failed =
       subst (λ (x : ChangeStream). StepCame awaited past at false x r) (sym (is ∙ ap (λ (x : ChangeStream). record x { phase = phase.Owing }) notes))
-      (loses (left_with s (ends_cursor (command_code e.kind))) e r kept (failed_stays s e start.cursor failed) (λ so. more_failed e (more_fails e failed so) so) room h)
+      (loses (left_with s (ends_cursor (command_code e.kind))) e r kept (λ so. more_failed e (more_fails s e start.cursor may failed so) so)
+      (λ not. let full = room not in (full, asking may (not_ended s e kind.OutOfMemory start.cursor full refl))) h)
 
   -- for good
-  more_refused : (s : ChangeStream) (e : Error) → s.buffer.items ≡ [] → IsStart at s → at.events ≡ [] → resumes e ≡ false → (e.kind ≡ kind.OutOfMemory → ⊥) → Failed past (more_command at) false e → CallFails past at (standing_of (record (left_with s (ends_cursor (command_code e.kind))) { phase = phase.Rest })) e
-  more_refused s e empty start over not room (by_memory is) = absurd (room (kind_of_plain e kind.OutOfMemory is))
-  more_refused s e empty start over not room (by_fault is heard) = absurd (not_both (resumes e) (plain_resumes e kind.Io is refl) not)
-  more_refused s e empty start over not room (by_reply bytes heard by) =
-      refused_more bytes (record { quits = start.quits; looked = start.looked }) over (heard_by past (more_command at) false (reply bytes) heard) by not (ap (map fields) empty) (record { quits = refl; looked = refl })
+  more_refused : (s : ChangeStream) (e : Error) → s.aggregate ≡ at.aggregate → IsStart at s → MayAsk at → resumes e ≡ false → (e.kind ≡ kind.OutOfMemory → ⊥) → Failed past (more_command at) false e → CallFails past at (standing_of (record (left_with s (ends_cursor (command_code e.kind))) { phase = phase.Rest })) e
+  more_refused s e kept start may not room (by_memory is) = absurd (room (kind_of_plain e kind.OutOfMemory is))
+  more_refused s e kept start may not room (by_fault is heard) = absurd (not_both (resumes e) (plain_resumes e kind.Io is refl) not)
+  more_refused s e kept start may not room (by_reply bytes heard by) =
+      refused_more bytes (heard_more (reply bytes) may heard) by (record { stays = not; room = room })
+      (same_standing (standing_of (record (left_with s (ends_cursor (command_code e.kind))) { phase = phase.Rest })) (record at { cursor = cursor_behind e at.cursor })
+      kept (ap (cursor_behind e) start.cursor) start.events start.upto (sym start.settled.looked) (sym start.settled.quits))
 
-  pub failed_rests : (s t : ChangeStream) (e : Error) → t ≡ left_with s (ends_cursor (command_code e.kind)) → s.buffer.items ≡ [] → resumes e ≡ false → (e.kind ≡ kind.OutOfMemory → ⊥)
-      → s.aggregate ≡ at.aggregate → IsStart at s → at.events ≡ [] → Failed past (more_command at) false e → CallFailed past at (standing_of (record t { phase = phase.Rest })) e
-  failed_rests s t e notes empty not room kept start over failed =
+  pub failed_rests : (s t : ChangeStream) (e : Error) → t ≡ left_with s (ends_cursor (command_code e.kind)) → resumes e ≡ false → (e.kind ≡ kind.OutOfMemory → ⊥)
+      → s.aggregate ≡ at.aggregate → IsStart at s → MayAsk at → Failed past (more_command at) false e → CallFailed past at (standing_of (record t { phase = phase.Rest })) e
+  failed_rests s t e notes not room kept start may failed =
       subst (λ (x : ChangeStream). CallFailed past at (standing_of (record x { phase = phase.Rest })) e) (sym notes)
-      (record { why = more_refused s e empty start over not room failed; token = kept; cursor = leaves (failed_stays s e start.cursor failed) })
+      (record { why = more_refused s e kept start may not room failed; token = kept })
 
   -- ---- a resumption
 
   -- its aggregate is to be sent
   pub owing_asks : (resumed : Bool) (s : ChangeStream) (exec : Sending) → exec.stage ≡ unsent → SoFar awaited past at resumed phase.Owing s → SoFar awaited past at resumed (phase.Resuming exec) (record s { phase = phase.Resuming exec })
   owing_asks resumed s exec not_sent far =
-      record { same = far.same; by = (far.by.0, far.by.1, far.by.2, subst (λ (stage : Stage). Flies awaited past (resume_command past.wire at) stage) (sym not_sent) tt) }
+      record { same = far.same; by = (far.by.0, far.by.1, subst (λ (stage : Stage). Flies awaited past (resume_command past.wire at) stage) (sym not_sent) tt) }
 
-  cannot_again : (s : ChangeStream) (e : Error) → FailsBy (CannotBuild s.aggregate.args.options.batch_size (resuming_command s.aggregate past.wire)) e → s.aggregate ≡ at.aggregate → Resumes past at → CallFails past at (standing_of (record s { phase = phase.Owing })) e
-  cannot_again s e (inl room) kept why = no_memory (kind_of_plain e kind.OutOfMemory room) (inl refl)
-  cannot_again s e (inr by) kept why = cannot_resume refl why (subst (λ (a : ChangeStreamAggregate). CannotBuild a.args.options.batch_size (resuming_command a past.wire) e) kept by)
+  cannot_again : (s : ChangeStream) (e : Error) → FailsBy (CannotBuild s.aggregate.args.options.batch_size (resuming_command s.aggregate past.wire)) e → s.aggregate ≡ at.aggregate → Resumes past at s.cursor → CallFails past at (standing_of (record s { phase = phase.Owing })) e
+  cannot_again s e (inl room) kept why = may_lose (kind_of_plain e kind.OutOfMemory room) (owing s) (resuming why)
+  cannot_again s e (inr by) kept why = cannot_resume (owing s) why (subst (λ (a : ChangeStreamAggregate). CannotBuild a.args.options.batch_size (resuming_command a past.wire) e) kept by)
 
   pub owing_fails : (resumed : Bool) (s : ChangeStream) (e : Error) → FailsBy (CannotBuild s.aggregate.args.options.batch_size (resuming_command s.aggregate past.wire)) e → SoFar awaited past at resumed phase.Owing s → CallFailed past at (standing_of (record s { phase = phase.Owing })) e
-  owing_fails resumed s e by far = record { why = cannot_again s e by far.same far.by.1; token = far.same; cursor = leaves far.by.2 }
+  owing_fails resumed s e by far = record { why = cannot_again s e by far.same far.by.1; token = far.same }
 
   -- it failed
-  again_fails : (s : ChangeStream) (e : Error) → Resumes past at → Failed past (resume_command past.wire at) true e → CallFails past at (standing_of (record s { phase = phase.Owing })) e
-  again_fails s e why (by_memory is) = no_memory (kind_of_plain e kind.OutOfMemory is) (inl refl)
-  again_fails s e why (by_fault is heard) = lost refl why is heard
-  again_fails s e why (by_reply bytes heard by) = refused bytes refl why heard by
+  again_fails : (s : ChangeStream) (e : Error) → Resumes past at s.cursor → Failed past (resume_command past.wire at) true e → CallFails past at (standing_of (record s { phase = phase.Owing })) e
+  again_fails s e why (by_memory is) = may_lose (kind_of_plain e kind.OutOfMemory is) (owing s) (resuming why)
+  again_fails s e why (by_fault is heard) = lost (owing s) why is heard
+  again_fails s e why (by_reply bytes heard by) = refused bytes (owing s) why heard by
 
   -- the reply to it came
-  pub resumed_by : (s : ChangeStream) (bytes : List ℕ) (out : CursorSpecification) → Opens s.aggregate.args.options.batch_size bytes out → s.aggregate ≡ at.aggregate → Resumes past at → HeardBy past (resume_command past.wire at) (reply bytes) → Resumed past at out.initial_reply out.info out.post_batch_resume_token
-  resumed_by s bytes out opens kept why heard =
-      subst (λ (b : List ℕ). Resumed past at b out.info out.post_batch_resume_token) (sym opens.whole)
-      (record { why = why; heard = heard; tells = record { batch = opens.batch; says = opens.says; size_is = opens.size_is ∙ ap (λ (a : ChangeStreamAggregate). a.args.options.batch_size) kept } })
+  pub resumed_by : (s : ChangeStream) (bytes : List ℕ) (out : CursorSpecification) → Opens s.aggregate.args.options.batch_size bytes out → s.aggregate ≡ at.aggregate → Resumes past at s.cursor → HeardBy past (resume_command past.wire at) (reply bytes) → IsSuccess bytes
+      → Resumed past at s.cursor out.initial_reply out.info out.post_batch_resume_token
+  resumed_by s bytes out opens kept why heard success =
+      subst (λ (b : List ℕ). Resumed past at s.cursor b out.info out.post_batch_resume_token) (sym opens.whole)
+      (record { why = why; heard = heard; success = success; tells = record { batch = opens.batch; says = opens.says; size_is = opens.size_is ∙ ap (λ (a : ChangeStreamAggregate). a.args.options.batch_size) kept } })
 
-  reply_breaks : (s : ChangeStream) (bytes : List ℕ) (e : Error) → FailsBy (Breaks (fields bytes)) e → Resumes past at → HeardBy past (resume_command past.wire at) (reply bytes) → CallFails past at (standing_of (record s { phase = phase.Owing })) e
-  reply_breaks s bytes e (inl room) why heard = no_memory (kind_of_plain e kind.OutOfMemory room) (inl refl)
-  reply_breaks s bytes e (inr by) why heard = broken bytes refl why heard by
+  reply_unread : (s : ChangeStream) (bytes : List ℕ) (e : Error) → FailsBy (BreaksIn (fields bytes)) e → Resumes past at s.cursor → HeardBy past (resume_command past.wire at) (reply bytes) → CallFails past at (standing_of (record s { phase = phase.Owing })) e
+  reply_unread s bytes e (inl room) why heard = may_lose (kind_of_plain e kind.OutOfMemory room) (owing s) (resuming why)
+  reply_unread s bytes e (inr by) why heard = unread bytes (owing s) why heard by
 
-  pub resumption_breaks : (s : ChangeStream) (bytes : List ℕ) (e : Error) → FailsBy (BreaksIn (fields bytes)) e → s.aggregate ≡ at.aggregate → Resumes past at → Leaves past at s.cursor → HeardBy past (resume_command past.wire at) (reply bytes) → CallFailed past at (standing_of (record s { phase = phase.Owing })) e
-  resumption_breaks s bytes e by kept why stays heard = record { why = reply_breaks s bytes e (cursor_breaks (fields bytes) e by) why heard; token = kept; cursor = leaves stays }
+  pub resumption_breaks : (s : ChangeStream) (bytes : List ℕ) (e : Error) → FailsBy (BreaksIn (fields bytes)) e → s.aggregate ≡ at.aggregate → Resumes past at s.cursor → HeardBy past (resume_command past.wire at) (reply bytes) → CallFailed past at (standing_of (record s { phase = phase.Owing })) e
+  resumption_breaks s bytes e by kept why heard = record { why = reply_unread s bytes e by why heard; token = kept }
 
   -- the old cursor is not killed
-  kill_failed : (s s' : ChangeStream) (e : Error) (r : Stepped) (bytes : List ℕ) → s.aggregate ≡ at.aggregate → Resumed past at bytes s.cursor s.batch_token → (old : CursorInformation) → Leaves past at old → ((e.kind ≡ kind.OutOfMemory → ⊥) → Killed past old) → KillCause e bytes s s' r → StepCame awaited past at false s' r
-  kill_failed s s' e stepped.Goes bytes kept new old stays killed h =
-      subst (λ (x : ChangeStream). SoFar awaited past at false x.phase x) (sym h.0) (record { same = kept; by = (refl, again refl new old stays (killed h.1)) })
-  kill_failed s s' e (stepped.Gives poll.Pending) bytes kept new old stays killed h = absurd h.1
-  kill_failed s s' e (stepped.Gives (poll.Ready event)) bytes kept new old stays killed h = absurd h.1
-  kill_failed s s' e (stepped.Gives (poll.Failed f)) bytes kept new old stays killed h =
-      subst (λ (x : ChangeStream). CallFailed past at (standing_of x) f) (sym h.0) (record { why = no_memory h.1 (inl refl); token = kept; cursor = renewed bytes s.batch_token new })
+  kill_failed : (s s' : ChangeStream) (e : Error) (r : Stepped) (bytes : List ℕ) → s.aggregate ≡ at.aggregate → (old : CursorInformation) → Resumed past at old bytes s.cursor s.batch_token → old.id ≢ pos 0 → ((e.kind ≡ kind.OutOfMemory → ⊥) → Killed past old) → KillCause e bytes s s' r
+      → StepCame awaited past at false s' r
+  kill_failed s s' e stepped.Goes bytes kept old new held killed h =
+      subst (λ (x : ChangeStream). SoFar awaited past at false x.phase x) (sym h.0) (record { same = kept; by = (refl, again refl old new (killed h.1)) })
+  kill_failed s s' e (stepped.Gives poll.Pending) bytes kept old new held killed h = absurd h.1
+  kill_failed s s' e (stepped.Gives (poll.Ready event)) bytes kept old new held killed h = absurd h.1
+  kill_failed s s' e (stepped.Gives (poll.Failed f)) bytes kept old new held killed h =
+      subst (λ (x : ChangeStream). CallFailed past at (standing_of x) f) (sym h.0) (owes_failed s f kept h.1 (killing old bytes s.batch_token new held))
 
   -- its cursor replaces the old one
-  module _ (s : ChangeStream) (out : CursorSpecification) (d old : CursorInformation) (is : d ≡ out.info) (before : old ≡ s.cursor) (kept : s.aggregate ≡ at.aggregate) (stays : Leaves past at s.cursor) (new : Resumed past at out.initial_reply out.info out.post_batch_resume_token) where
-    new_by : Resumed past at out.initial_reply d out.post_batch_resume_token
-    new_by = subst (λ (c : CursorInformation). Resumed past at out.initial_reply c out.post_batch_resume_token) (sym is) new
-
-    left_old : Leaves past at old
-    left_old = subst (λ (c : CursorInformation). Leaves past at c) (sym before) stays
-
-    gone_so_far : Killed past old → SoFar awaited past at false (phase.Resumed out.initial_reply) (record s { cursor = d; batch_token = out.post_batch_resume_token; phase = phase.Resumed out.initial_reply })
-    gone_so_far killed = record { same = kept; by = (refl, again refl new_by old left_old killed) }
+  module _ (s : ChangeStream) (out : CursorSpecification) (d old : CursorInformation) (is : d ≡ out.info) (before : old ≡ s.cursor) (kept : s.aggregate ≡ at.aggregate) (new : Resumed past at s.cursor out.initial_reply out.info out.post_batch_resume_token) where
+    new_by : Resumed past at old out.initial_reply d out.post_batch_resume_token
+    new_by = subst (λ (c : CursorInformation). Resumed past at c out.initial_reply d out.post_batch_resume_token) (sym before) (subst (λ (c : CursorInformation). Resumed past at s.cursor out.initial_reply c out.post_batch_resume_token) (sym is) new)
 
     pub replace_none : old.id ≡ pos 0 → SoFar awaited past at false (phase.Resumed out.initial_reply) (record s { cursor = d; batch_token = out.post_batch_resume_token; phase = phase.Resumed out.initial_reply })
-    replace_none over = gone_so_far (none over)
+    replace_none over = record { same = kept; by = (refl, again refl old new_by (none over)) }
 
-    pub replace_kills : (exec : Sending) (id : ℤ) → old.id ≡ id → fields exec.command ≡ old_command old → exec.stage ≡ unsent → SoFar awaited past at false (phase.Killing exec id out.initial_reply) (record s { cursor = d; batch_token = out.post_batch_resume_token; phase = phase.Killing exec id out.initial_reply })
-    replace_kills exec id named command not_sent =
+    pub replace_kills : (exec : Sending) (id : ℤ) → old.id ≢ pos 0 → old.id ≡ id → fields exec.command ≡ old_command old → exec.stage ≡ unsent → SoFar awaited past at false (phase.Killing exec id out.initial_reply) (record s { cursor = d; batch_token = out.post_batch_resume_token; phase = phase.Killing exec id out.initial_reply })
+    replace_kills exec id held named command not_sent =
         record {
           same = kept;
-          by = (refl, old, record { left = left_old; named = named; resumed = new_by }, command, subst (λ (stage : Stage). Flies awaited past (old_command old) stage) (sym not_sent) tt);
+          by = (refl, old, record { held = held; named = named; resumed = new_by }, command, subst (λ (stage : Stage). Flies awaited past (old_command old) stage) (sym not_sent) tt);
         }
 
     -- or is not killed
-    pub replace_failed : (s' : ChangeStream) (e : Error) (r : Stepped) → FailsBy (CannotBeSent (old_command old)) e → KillCause e out.initial_reply (record s { cursor = d; batch_token = out.post_batch_resume_token }) s' r → StepCame awaited past at false s' r
-    replace_failed s' e r by h = kill_failed (record s { cursor = d; batch_token = out.post_batch_resume_token }) s' e r out.initial_reply kept new_by old left_old (λ not. unbuilt e (cannot_by (CannotBeSent (old_command old)) e by not)) h
+    pub replace_failed : (s' : ChangeStream) (e : Error) (r : Stepped) → old.id ≢ pos 0 → FailsBy (CannotBeSent (old_command old)) e → KillCause e out.initial_reply (record s { cursor = d; batch_token = out.post_batch_resume_token }) s' r → StepCame awaited past at false s' r
+    replace_failed s' e r held by h = kill_failed (record s { cursor = d; batch_token = out.post_batch_resume_token }) s' e r out.initial_reply kept old new_by held (λ not. unbuilt held e (cannot_by (CannotBeSent (old_command old)) e by not)) h
 
   -- the batch of a resumption
-  resumed_in : (c : CursorInformation) (bytes : List ℕ) (upto : Option Tree) → Replied past at true bytes c upto → Resumed past at bytes c upto
-  resumed_in c bytes upto (opening not first cursor token) = absurd cc
-  resumed_in c bytes upto (more not heard tells) = absurd cc
-  resumed_in c bytes upto (again is r old stays killed) = r
-
   module _ (resumed : Bool) (s : ChangeStream) (bytes : List ℕ) (far : SoFar awaited past at resumed (phase.Resumed bytes) s) where
     pub resumed_came : (t : ChangeStream) → HoldsBatch (fields bytes) (map fields t.buffer.items) → SoFar awaited past at true phase.Fresh (record s { buffer = t.buffer; phase = phase.Fresh })
     resumed_came t holds = record { same = far.same; by = record { bytes = bytes; replied = far.by.1; holds = holds } }
 
+    batch_unheld : (e : Error) → FailsBy (BreaksBatch (fields bytes)) e → CallFails past at (standing_of (record s { phase = phase.Owing })) e
+    batch_unheld e (inl room) = may_lose (kind_of_plain e kind.OutOfMemory room) (owing s) (keeping true bytes s.batch_token far.by.1)
+    batch_unheld e (inr by) = broken bytes s.batch_token (owing s) far.by.1 by
+
     pub resumed_breaks : (e : Error) → FailsBy (BreaksBatch (fields bytes)) e → CallFailed past at (standing_of (record s { phase = phase.Owing })) e
-    resumed_breaks e by =
-        let r = resumed_in s.cursor bytes s.batch_token far.by.1 in
-        record { why = reply_breaks s bytes e (batch_breaks (fields bytes) e by) r.why r.heard; token = far.same; cursor = renewed bytes s.batch_token r }
+    resumed_breaks e by = record { why = batch_unheld e by; token = far.same }
 
   -- neither the phase that was taken out nor the counts tell how far a call has come
   start_by : (s : ChangeStream) (q : Phase) (c : Counts) → IsStart at s → IsStart at (record s { phase = q; counts = c })
-  start_by s q c start = record { quits = start.quits; looked = start.looked; cursor = start.cursor; events = start.events; upto = start.upto }
+  start_by s q c start = record { settled = start.settled; cursor = start.cursor; events = start.events; upto = start.upto }
 
   phase_by : (resumed : Bool) (p : Phase) (s : ChangeStream) (q : Phase) (c : Counts) → ByPhase awaited past at resumed p s → ByPhase awaited past at resumed p (record s { phase = q; counts = c })
   phase_by resumed phase.Taken s q c by = (by.0, start_by s q c by.1)
   phase_by resumed phase.Rest s q c by = (by.0, start_by s q c by.1)
-  phase_by resumed (phase.First bytes) s q c by = by
+  phase_by resumed (phase.First bytes) s q c by = (by.0, record { in_hand = by.1.in_hand; none_left = by.1.none_left; cursor = by.1.cursor; upto = by.1.upto })
   phase_by resumed phase.Fresh s q c by = record { bytes = by.bytes; replied = by.replied; holds = by.holds }
   phase_by resumed (phase.Asking get_more exec) s q c by = (by.0, start_by s q c by.1, by.2, by.3)
   phase_by resumed phase.Owing s q c by = by
   phase_by resumed (phase.Resuming exec) s q c by = by
-  phase_by resumed (phase.Killing exec id bytes) s q c by = (by.0, by.1, record { left = by.2.left; named = by.2.named; resumed = by.2.resumed }, by.3, by.4)
+  phase_by resumed (phase.Killing exec id bytes) s q c by = (by.0, by.1, record { held = by.2.held; named = by.2.named; resumed = by.2.resumed }, by.3, by.4)
   phase_by resumed (phase.Resumed bytes) s q c by = by
 
   pub so_far_by : (resumed : Bool) (p : Phase) (s : ChangeStream) (q : Phase) (c : Counts) → SoFar awaited past at resumed p s → SoFar awaited past at resumed p (record s { phase = q; counts = c })
@@ -408,11 +458,11 @@ module _ (awaited : Awaited) (past : Past) (at : Standing) where
 -- a stream between two calls begins a call
 begins_in : (awaited : Awaited) (past : Past) (p : Phase) (s : ChangeStream) → AtRest p → ByPhase awaited past (standing_of (record s { phase = p })) false p (record s { phase = p })
 begins_in awaited past phase.Taken s rests = absurd rests
-begins_in awaited past phase.Rest s rests = (refl, record { quits = refl; looked = refl; cursor = refl; events = refl; upto = refl })
-begins_in awaited past (phase.First bytes) s rests = (refl, refl, refl, refl)
+begins_in awaited past phase.Rest s rests = (refl, record { settled = record { quits = refl; looked = refl }; cursor = refl; events = refl; upto = refl })
+begins_in awaited past (phase.First bytes) s rests = (refl, record { in_hand = refl; none_left = refl; cursor = refl; upto = refl })
 begins_in awaited past phase.Fresh s rests = absurd rests
 begins_in awaited past (phase.Asking get_more exec) s rests = absurd rests
-begins_in awaited past phase.Owing s rests = (refl, owed refl, same refl)
+begins_in awaited past phase.Owing s rests = (refl, owed (owing s) refl)
 begins_in awaited past (phase.Resuming exec) s rests = absurd rests
 begins_in awaited past (phase.Killing exec id bytes) s rests = absurd rests
 begins_in awaited past (phase.Resumed bytes) s rests = absurd rests
@@ -455,7 +505,7 @@ module _ (old new : Awaited) (log log' : Told) (wire : ℤ) (s : ChangeStream) w
           calls = ran.calls';
           told = ran.told;
           room = ran.room;
-          came = subst (λ (b : Bool). StepCame new past at b s' r) (sym far.by.0) (leads new past at far.same far.by.1.cursor (heard_by past (more_command at) false (reply bytes) ran.came));
+          came = subst (λ (b : Bool). StepCame new past at b s' r) (sym far.by.0) (leads new past at far.same far.by.1.cursor (heard_more new past at (reply bytes) far.by.2 ran.came) (success_ran old new log log' wire exec bytes runs));
         }
 
     pub asking_failed : (e : Error) (s' : ChangeStream) (r : Stepped) → Runs old new log log' wire exec (step.Failed e) → FailLeads e s s' r → StepCaused old new log log' wire (phase.Asking get_more exec) s s' r
@@ -474,7 +524,7 @@ module _ (old new : Awaited) (log log' : Told) (wire : ℤ) (s : ChangeStream) w
     asked_again : (result : Step Sending (List ℕ)) → Runs old new log log' wire exec result → (calls : List Call) → log ≡ Some calls → (places : List ℕ) (since : ℕ) (at : Standing) (resumed : Bool) → since ≤ length calls → SoFar old (past_of places since calls wire) at resumed (phase.Resuming exec) s
         → Ran new places since calls log' wire (resume_command wire at) true result
     asked_again result runs calls logged places since at resumed room far =
-        request_ran old new log log' wire exec (resume_command wire at) true result (carries.command_is ∙ ap (λ (a : ChangeStreamAggregate). resuming_command a wire) far.same) carries.retries_is runs calls logged places since room far.by.3
+        request_ran old new log log' wire exec (resume_command wire at) true result (carries.command_is ∙ ap (λ (a : ChangeStreamAggregate). resuming_command a wire) far.same) carries.retries_is runs calls logged places since room far.by.2
 
     pub resuming_waits : (exec' : Sending) → Runs old new log log' wire exec (step.Pending exec') → StepCaused old new log log' wire (phase.Resuming exec) s (record s { phase = phase.Resuming exec' }) (stepped.Gives poll.Pending)
     resuming_waits exec' runs = λ calls logged places since at resumed room far.
@@ -485,7 +535,7 @@ module _ (old new : Awaited) (log log' : Told) (wire : ℤ) (s : ChangeStream) w
           calls = ran.calls';
           told = ran.told;
           room = ran.room;
-          came = record { same = far.same; by = (refl, resumes_grows before past ran.grows at far.by.1, leaves_grows before past ran.grows at s.cursor far.by.2, ran.came) };
+          came = record { same = far.same; by = (refl, resumes_grows before past ran.grows at s.cursor far.by.1, ran.came) };
         }
 
     pub resuming_came : (bytes : List ℕ) (s' : ChangeStream) (r : Stepped) → Runs old new log log' wire exec (step.Done bytes) → ResumeLeads bytes s s' r → StepCaused old new log log' wire (phase.Resuming exec) s s' r
@@ -498,7 +548,7 @@ module _ (old new : Awaited) (log log' : Told) (wire : ℤ) (s : ChangeStream) w
           told = ran.told;
           room = ran.room;
           came = subst (λ (b : Bool). StepCame new past at b s' r) (sym far.by.0)
-              (leads new past at far.same (resumes_grows before past ran.grows at far.by.1) (leaves_grows before past ran.grows at s.cursor far.by.2) (heard_by past (resume_command wire at) true (reply bytes) ran.came));
+              (leads new past at far.same (resumes_grows before past ran.grows at s.cursor far.by.1) (heard_by past (resume_command wire at) true (reply bytes) ran.came) (success_ran old new log log' wire exec bytes runs));
         }
 
     pub resuming_failed : (e : Error) → Runs old new log log' wire exec (step.Failed e) → StepCaused old new log log' wire (phase.Resuming exec) s (record s { phase = phase.Owing }) (stepped.Gives (poll.Failed e))
@@ -511,9 +561,8 @@ module _ (old new : Awaited) (log log' : Told) (wire : ℤ) (s : ChangeStream) w
           told = ran.told;
           room = ran.room;
           came = record {
-            why = again_fails new past at s e (resumes_grows before past ran.grows at far.by.1) ran.came;
+            why = again_fails new past at s e (resumes_grows before past ran.grows at s.cursor far.by.1) ran.came;
             token = far.same;
-            cursor = leaves (leaves_grows before past ran.grows at s.cursor far.by.2);
           };
         }
 
@@ -537,7 +586,7 @@ module _ (old new : Awaited) (log log' : Told) (wire : ℤ) (s : ChangeStream) w
             by = (
               refl,
               far.by.1,
-              record { left = leaves_grows before past ran.grows at far.by.1 far.by.2.left; named = far.by.2.named ∙ sym is; resumed = resumed_grows before past ran.grows at bytes s.cursor s.batch_token far.by.2.resumed },
+              record { held = far.by.2.held; named = far.by.2.named ∙ sym is; resumed = resumed_grows before past ran.grows at far.by.1 bytes s.cursor s.batch_token far.by.2.resumed },
               ap fields (command_stays old new log log' wire exec exec' runs) ∙ far.by.3,
               ran.came,
             );
@@ -557,8 +606,8 @@ module _ (old new : Awaited) (log log' : Told) (wire : ℤ) (s : ChangeStream) w
             same = far.same;
             by = (
               far.by.0,
-              again refl (resumed_grows before past ran.grows at bytes s.cursor s.batch_token far.by.2.resumed) far.by.1 (leaves_grows before past ran.grows at far.by.1 far.by.2.left)
-                  (tried (reply said) (λ waits. cc) (heard_by past (old_command far.by.1) false (reply said) ran.came)),
+              again refl far.by.1 (resumed_grows before past ran.grows at far.by.1 bytes s.cursor s.batch_token far.by.2.resumed)
+                  (tried far.by.2.held (reply said) (λ waits. cc) (heard_by past (old_command far.by.1) false (reply said) ran.came)),
             );
           };
         }
@@ -573,8 +622,8 @@ module _ (old new : Awaited) (log log' : Told) (wire : ℤ) (s : ChangeStream) w
           told = ran.told;
           room = ran.room;
           came = subst (λ (b : Bool). StepCame new past at b s' r) (sym far.by.0)
-              (kill_failed new past at s s' e r bytes far.same (resumed_grows before past ran.grows at bytes s.cursor s.batch_token far.by.2.resumed) far.by.1 (leaves_grows before past ran.grows at far.by.1 far.by.2.left)
-              (kill_tried past far.by.1 e ran.came) h);
+              (kill_failed new past at s s' e r bytes far.same far.by.1 (resumed_grows before past ran.grows at far.by.1 bytes s.cursor s.batch_token far.by.2.resumed) far.by.2.held
+              (kill_tried past far.by.1 e far.by.2.held ran.came) h);
         }
 
 -- ---- steps of a poll

@@ -14,6 +14,9 @@ use Rattle.mg_link.specs.Owner.{IsOf, NamesOwn}
 use Rattle.mg_link.specs.State.{Start, Watch}
 use Rattle.mg_link.specs.declared.action.Step.{Step}
 use Rattle.mg_link.specs.declared.action.Step.TheVariants as step
+use Rattle.mg_link.specs.declared.error.Error.{Error}
+use Rattle.mg_link.specs.Errors.{command_code}
+use Rattle.mg_change.specs.Polls.{ends_cursor}
 use Rattle.mg_link.specs.Acts.{Tickets}
 use Rattle.mg_link.proofs.Onward.{tickets_on}
 use Rattle.mg_link.proofs.Moving.{IdsFrom, known, moved_here, same_opened}
@@ -213,15 +216,15 @@ older_still s s' r id id' same waits is =
     (record { kills = record { at = is.kills.at; carries = carries_on s s' (kill_command is.kills.at (id ∷ [])) false waits is.kills.carries; there = is.kills.there }; alone = is.alone })
 
 -- what is left behind a request that failed
-pub lost_to : (awaited : Awaited) (log log' : Told) (g f : Follow) (r : Remains) (result : Step Closing Remains) → Leaves r result → Moved log log' g (left_of f r) → Moved log log' g (landing_of awaited f result)
-lost_to awaited log log' g f r (step.Pending c) leaves m = absurd leaves
-lost_to awaited log log' g f r (step.Done r') leaves m = subst (λ (x : Remains). Moved log log' g (left_of f x)) (sym leaves) m
-lost_to awaited log log' g f r (step.Failed e) leaves m = moved log log' log' g (left_of f r) (closed f) m (dropped log' f r.cursor.id r.opened)
+pub lost_to : (awaited : Awaited) (log log' : Told) (g f : Follow) (r : Remains) (e : Error) (result : Step Closing Remains) → Leaves e r result → Moved log log' g (left_of f r) → Moved log log' g (landing_of awaited f result)
+lost_to awaited log log' g f r e (step.Pending c) leaves m = absurd leaves
+lost_to awaited log log' g f r e (step.Done r') leaves m = subst (λ (x : Remains). Moved log log' g (left_of f x)) (sym leaves.0) m
+lost_to awaited log log' g f r e (step.Failed x) leaves m = moved log log' log' g (left_of f r) (closed f) m (dropped log' f r.cursor.id r.opened)
 
-pub lost_lands : (wire : ℤ) (r : Remains) (result : Step Closing Remains) → Leaves r result → IsKept r.aggregate r.cursor → Lands wire r.aggregate result
-lost_lands wire r (step.Pending c) leaves kept = absurd leaves
-lost_lands wire r (step.Done r') leaves kept = (subst (λ (x : Remains). IsKept x.aggregate x.cursor) (sym leaves) kept, ap (λ (x : Remains). x.aggregate) leaves)
-lost_lands wire r (step.Failed e) leaves kept = tt
+pub lost_lands : (wire : ℤ) (r : Remains) (e : Error) (result : Step Closing Remains) → Leaves e r result → IsKept r.aggregate r.cursor → Lands wire r.aggregate result
+lost_lands wire r e (step.Pending c) leaves kept = absurd leaves
+lost_lands wire r e (step.Done r') leaves kept = (subst (λ (x : Remains). IsKept x.aggregate x.cursor) (sym leaves.0) kept, ap (λ (x : Remains). x.aggregate) leaves.0)
+lost_lands wire r e (step.Failed x) leaves kept = tt
 
 -- ---- behind a getMore
 
@@ -229,25 +232,26 @@ ended_down : (log : Told) (f : Follow) (c o : ℤ) (ended : Bool) → Moved log 
 ended_down log f c o true = lets_down log (left_as f c o) (pos 0) o tt (λ x of ne. elim of [ inl e ↦ absurd (ne (sym e)) | inr rest ↦ inr rest ])
 ended_down log f c o false = lets_down log (left_as f c o) c o tt (λ x of ne. of)
 
-pub fail_to : (awaited : Awaited) (log log' : Told) (g f : Follow) (r : Remains) (result : Step Closing Remains) → FailLeaves r result → Moved log log' g (left_of f r) → Moved log log' g (landing_of awaited f result)
-fail_to awaited log log' g f r (step.Pending c) leaves m = absurd leaves
-fail_to awaited log log' g f r (step.Done r') leaves m =
-    let id = if leaves.0 then pos 0 else r.cursor.id in
-    subst (λ (x : Remains). Moved log log' g (left_of f x)) (sym leaves.1) (moved log log' log' g (left_of f r) (left_as f id r.opened) m (ended_down log' f r.cursor.id r.opened leaves.0))
-fail_to awaited log log' g f r (step.Failed e) leaves m = moved log log' log' g (left_of f r) (closed f) m (dropped log' f r.cursor.id r.opened)
+pub fail_to : (awaited : Awaited) (log log' : Told) (g f : Follow) (r : Remains) (e : Error) (result : Step Closing Remains) → FailLeaves e r result → Moved log log' g (left_of f r) → Moved log log' g (landing_of awaited f result)
+fail_to awaited log log' g f r e (step.Pending c) leaves m = absurd leaves
+fail_to awaited log log' g f r e (step.Done r') leaves m =
+    let ended = ends_cursor (command_code e.kind) in
+    subst (λ (x : Remains). Moved log log' g (left_of f x)) (sym leaves.0)
+    (moved log log' log' g (left_of f r) (left_as f (if ended then pos 0 else r.cursor.id) r.opened) m (ended_down log' f r.cursor.id r.opened ended))
+fail_to awaited log log' g f r e (step.Failed x) leaves m = moved log log' log' g (left_of f r) (closed f) m (dropped log' f r.cursor.id r.opened)
 
-pub fail_lands : (wire : ℤ) (r : Remains) (result : Step Closing Remains) → FailLeaves r result → IsKept r.aggregate r.cursor → Lands wire r.aggregate result
-fail_lands wire r (step.Pending c) leaves kept = absurd leaves
-fail_lands wire r (step.Done r') leaves kept =
-    (subst (λ (x : Remains). IsKept x.aggregate x.cursor) (sym leaves.1) (record { saved = kept.saved; named = kept.named }), ap (λ (x : Remains). x.aggregate) leaves.1)
-fail_lands wire r (step.Failed e) leaves kept = tt
+pub fail_lands : (wire : ℤ) (r : Remains) (e : Error) (result : Step Closing Remains) → FailLeaves e r result → IsKept r.aggregate r.cursor → Lands wire r.aggregate result
+fail_lands wire r e (step.Pending c) leaves kept = absurd leaves
+fail_lands wire r e (step.Done r') leaves kept =
+    (subst (λ (x : Remains). IsKept x.aggregate x.cursor) (sym leaves.0) (record { saved = kept.saved; named = kept.named }), ap (λ (x : Remains). x.aggregate) leaves.0)
+fail_lands wire r e (step.Failed x) leaves kept = tt
 
 abbrev given_cursor : GetMoreResult → Items → Cursor
 given_cursor out batch = record { id = out.id; space = space out.ns; token = out.post_batch_resume_token; batch = batch }
 
 pub more_to : (awaited : Awaited) (log log' : Told) (g f : Follow) (r : Remains) (bytes : List ℕ) (result : Step Closing Remains) → r.opened ≡ pos 0 → MoreLeaves bytes r result → MoreAnswered (left_of f r) log log' g (reply bytes) → IsSuccess bytes → Moved log log' g (landing_of awaited f result)
 more_to awaited log log' g f r bytes (step.Pending c) alone leaves m success = absurd leaves
-more_to awaited log log' g f r bytes (step.Done r') alone (inl same) m success = subst (λ (x : Remains). Moved log log' g (left_of f x)) (sym same) m.lost
+more_to awaited log log' g f r bytes (step.Done r') alone (inl unread) m success = subst (λ (x : Remains). Moved log log' g (left_of f x)) (sym unread.1) m.lost
 more_to awaited log log' g f r bytes (step.Done r') alone (inr gave) m success =
     let out = gave.0 in
     let c = given_cursor out gave.1.batch in
@@ -262,7 +266,7 @@ more_to awaited log log' g f r bytes (step.Failed e) alone leaves m success = mo
 
 pub more_lands : (wire : ℤ) (r : Remains) (bytes : List ℕ) (result : Step Closing Remains) → MoreLeaves bytes r result → IsKept r.aggregate r.cursor → Lands wire r.aggregate result
 more_lands wire r bytes (step.Pending c) leaves kept = absurd leaves
-more_lands wire r bytes (step.Done r') (inl same) kept = (subst (λ (x : Remains). IsKept x.aggregate x.cursor) (sym same) kept, ap (λ (x : Remains). x.aggregate) same)
+more_lands wire r bytes (step.Done r') (inl unread) kept = (subst (λ (x : Remains). IsKept x.aggregate x.cursor) (sym unread.1) kept, ap (λ (x : Remains). x.aggregate) unread.1)
 more_lands wire r bytes (step.Done r') (inr gave) kept = (
   subst (λ (x : Remains). IsKept x.aggregate x.cursor) (sym gave.2) (record { saved = kept.saved; named = named_read (fields bytes) (given_cursor gave.0 gave.1.batch) gave.1.says }),
   ap (λ (x : Remains). x.aggregate) gave.2,
@@ -276,7 +280,7 @@ opened_cursor out batch = record { id = out.info.id; space = space out.info.ns; 
 
 pub resumption_to : (awaited : Awaited) (log log' : Told) (g f : Follow) (r : Remains) (bytes : List ℕ) (result : Step Closing Remains) → ResumeLeaves bytes r result → Resumed (left_of f r) log log' g bytes → IsSuccess bytes → Moved log log' g (landing_of awaited f result)
 resumption_to awaited log log' g f r bytes (step.Pending c) leaves m success = absurd leaves
-resumption_to awaited log log' g f r bytes (step.Done r') (inl same) m success = subst (λ (x : Remains). Moved log log' g (left_of f x)) (sym same) m.lost
+resumption_to awaited log log' g f r bytes (step.Done r') (inl unread) m success = subst (λ (x : Remains). Moved log log' g (left_of f x)) (sym unread.1) m.lost
 resumption_to awaited log log' g f r bytes (step.Done r') (inr gave) m success =
     let out = gave.0.0 in
     let opens = gave.1.opens in
@@ -292,7 +296,7 @@ resumption_to awaited log log' g f r bytes (step.Failed e) leaves m success = mo
 
 pub resumption_lands : (wire : ℤ) (r : Remains) (bytes : List ℕ) (result : Step Closing Remains) → ResumeLeaves bytes r result → IsKept r.aggregate r.cursor → Lands wire r.aggregate result
 resumption_lands wire r bytes (step.Pending c) leaves kept = absurd leaves
-resumption_lands wire r bytes (step.Done r') (inl same) kept = (subst (λ (x : Remains). IsKept x.aggregate x.cursor) (sym same) kept, ap (λ (x : Remains). x.aggregate) same)
+resumption_lands wire r bytes (step.Done r') (inl unread) kept = (subst (λ (x : Remains). IsKept x.aggregate x.cursor) (sym unread.1) kept, ap (λ (x : Remains). x.aggregate) unread.1)
 resumption_lands wire r bytes (step.Done r') (inr gave) kept = (subst (λ (x : Remains). IsKept x.aggregate x.cursor) (sym gave.2) kept, ap (λ (x : Remains). x.aggregate) gave.2)
 resumption_lands wire r bytes (step.Failed e) leaves kept = tt
 

@@ -94,24 +94,34 @@ midway (Some calls) log' command seen adds =
           );
     }
 
+-- the place at which a reply to an attempt is heard, by the stage before it
+abbrev pub place_at : Awaited → link.Told → Stage → Option ℕ
+place_at old log unsent = next_place log
+place_at old log (first ticket) = old ticket
+place_at old log (second ticket) = old ticket
+
+-- the same of a poll: it is that of its last attempt
+abbrev pub place_heard : (old new : Awaited) (log log' : link.Told) (wire : ℤ) (s : Sending) (result : Polled Sending (List ℕ)) → Runs old new log log' wire s result → Option ℕ
+place_heard old new log log' wire s result (inl once) = place_at old log s.stage
+place_heard old new log log' wire s result (inr twice) = next_place twice.log_between
+
 -- A poll ended with a reply: the request was out, and then this was seen at its place.
-pub record Came (waiting_at : Option ℕ → Follow) (log log' : link.Told) (f : Follow) (bytes : List ℕ) : Type 0 where
+pub record Came (waiting_at : Option ℕ → Follow) (log log' : link.Told) (f : Follow) (bytes : List ℕ) (place : Option ℕ) : Type 0 where
   pub mid : link.Told
-  pub place : Option ℕ
   pub out : Moved log mid f (waiting_at place)
   pub sees : Sees mid log' place (reply bytes)
   pub success : IsSuccess bytes
 
 module _ (command : List ℕ) (idle : Follow) (waiting_at : Option ℕ → Follow) (done : Option ℕ → Batch → Follow) (r : Request command idle waiting_at done) where
-  came_begun : (old new : Awaited) (log log' : link.Told) (bytes : List ℕ) → IsSuccess bytes → Begins old new log log' command (answered (reply bytes)) → Came waiting_at log log' idle bytes
+  came_begun : (old new : Awaited) (log log' : link.Told) (bytes : List ℕ) → IsSuccess bytes → Begins old new log log' command (answered (reply bytes)) → Came waiting_at log log' idle bytes (next_place log)
   came_begun old new log log' bytes success b =
       let m = midway log log' command (reply bytes) b.adds in
-      record { mid = m.mid; place = next_place log; out = r.sent log m.mid (next_place log) m.adds (next_is log); sees = m.sees; success = success }
+      record { mid = m.mid; out = r.sent log m.mid (next_place log) m.adds (next_is log); sees = m.sees; success = success }
 
-  came_on : (old new : Awaited) (log log' : link.Told) (ticket : ℕ) (bytes : List ℕ) → IsSuccess bytes → GoesOn old new log log' ticket (answered (reply bytes)) → Came waiting_at log log' (waiting_at (old ticket)) bytes
-  came_on old new log log' ticket bytes success g = record { mid = log; place = old ticket; out = stayed log log (waiting_at (old ticket)) refl; sees = g.sees; success = success }
+  came_on : (old new : Awaited) (log log' : link.Told) (ticket : ℕ) (bytes : List ℕ) → IsSuccess bytes → GoesOn old new log log' ticket (answered (reply bytes)) → Came waiting_at log log' (waiting_at (old ticket)) bytes (old ticket)
+  came_on old new log log' ticket bytes success g = record { mid = log; out = stayed log log (waiting_at (old ticket)) refl; sees = g.sees; success = success }
 
-  came_tried : (old new : Awaited) (log log' : link.Told) (stage : Stage) (bytes : List ℕ) → IsSuccess bytes → Tries old new log log' command stage (answered (reply bytes)) → Came waiting_at log log' (at_stage idle waiting_at old stage) bytes
+  came_tried : (old new : Awaited) (log log' : link.Told) (stage : Stage) (bytes : List ℕ) → IsSuccess bytes → Tries old new log log' command stage (answered (reply bytes)) → Came waiting_at log log' (at_stage idle waiting_at old stage) bytes (place_at old log stage)
   came_tried old new log log' unsent bytes success t = came_begun old new log log' bytes success t
   came_tried old new log log' (first ticket) bytes success t = came_on old new log log' ticket bytes success t
   came_tried old new log log' (second ticket) bytes success t = came_on old new log log' ticket bytes success t
@@ -129,7 +139,7 @@ module _ (command : List ℕ) (idle : Follow) (waiting_at : Option ℕ → Follo
       not_repeated retries (second old) ticket h = cc
   idle_again old new log log' retries stage (answered seen) again t = (tried command idle waiting_at done r old new log log' stage (answered seen) t).0
 
-  pub came : (old new : Awaited) (log log' : link.Told) (wire : ℤ) (s : Sending) (bytes : List ℕ) → s.command ≡ command → Runs old new log log' wire s (step.Done bytes) → Came waiting_at log log' (at_stage idle waiting_at old s.stage) bytes
+  pub came : (old new : Awaited) (log log' : link.Told) (wire : ℤ) (s : Sending) (bytes : List ℕ) → s.command ≡ command → (runs : Runs old new log log' wire s (step.Done bytes)) → Came waiting_at log log' (at_stage idle waiting_at old s.stage) bytes (place_heard old new log log' wire s (step.Done bytes) runs)
   came old new log log' wire s bytes is (inl once) =
       let t = subst (λ (c : List ℕ). Tries old new log log' c s.stage once.attempt) is once.tries in
       came_tried old new log log' s.stage bytes once.gives.1 (subst (λ (a : Attempt). Tries old new log log' command s.stage a) once.gives.0 t)
@@ -140,8 +150,7 @@ module _ (command : List ℕ) (idle : Follow) (waiting_at : Option ℕ → Follo
       let last = came_begun twice.between new twice.log_between log' bytes twice.gives.1 (subst (λ (a : Attempt). Begins twice.between new twice.log_between log' command a) twice.gives.0 b) in
       record {
         mid = last.mid;
-        place = last.place;
-        out = moved log twice.log_between last.mid (at_stage idle waiting_at old s.stage) idle (waiting_at last.place) first_try last.out;
+        out = moved log twice.log_between last.mid (at_stage idle waiting_at old s.stage) idle (waiting_at (next_place twice.log_between)) first_try last.out;
         sees = last.sees;
         success = last.success;
       }

@@ -10,7 +10,7 @@ use Rattle.mg_link.specs.Retry.{is_retried}
 use Rattle.mg_link.specs.declared.error.Error.{Error}
 use Rattle.mg_ops.specs.declared.cursor_reply.CursorInformation.{CursorInformation}
 use Rattle.mg_change.specs.Calls.{Failed, Flies, Grows, HeardAt, HeardBy, HeardLast, IsRetried, Past, WaitsAt, by_fault, by_memory, by_reply}
-use Rattle.mg_change.specs.Causes.{ByPhase, CallEmpty, CallFailed, CallFails, CallGave, CallNone, Called, CannotBuild, Has, Killed, Leaves, MoreFails, Next, Replied, Resumed, Resumes, SoFar, Standing, Stays, again, broken, came, came_empty, cannot_ask, cannot_resume, ended, first_broken, leaves, left, lost, more, more_command, more_failed, no_id, no_memory, none, none_left, old_command, opening, owed, refused, refused_more, renewed, resume_command, same, told, tried, unbuilt}
+use Rattle.mg_change.specs.Causes.{ByPhase, CallEmpty, CallFailed, CallFails, CallGave, CallNone, Called, CannotBuild, HeardMore, Killed, MayLose, MoreFails, Next, Replied, Resumed, Resumes, SoFar, Standing, Stays, again, as_it_was, asking, broken, came, came_empty, cannot_ask, cannot_resume, first_broken, in_hand, keeping, killing, left, lost, may_lose, more, more_command, more_failed, no_id, no_memory, none, none_left, old_command, opening, owed, refused, refused_more, resume_command, resuming, tried, unbuilt, unread}
 use Rattle.mg_change.specs.Phases.{ticket_in}
 use Rattle.mg_change.specs.declared.event_poll.EventPoll.{EventPoll}
 use Rattle.mg_change.specs.declared.event_poll.EventPoll.TheVariants as poll
@@ -50,13 +50,16 @@ module _ (past past' : Past) (grows : Grows past past') where
   flies_grows awaited awaited' command (first ticket) tickets f = (f.0, waits_grows awaited awaited' ticket command f.0 (tickets ticket refl) f.1)
   flies_grows awaited awaited' command (second ticket) tickets f = (f.0, waits_grows awaited awaited' ticket command f.0 (tickets ticket refl) f.1, retried_grows f.0 command f.2)
 
+pub not_waiting : (bytes : List ℕ) → reply bytes ≡ waiting → ⊥
+not_waiting bytes e = cc
+
 module _ (past past' : Past) (grows : Grows past past') where
   -- ---- requests
 
   pub heard_grows : (command : Fields) (seen : Sight) → (seen ≡ waiting → ⊥) → HeardBy past command seen → HeardBy past' command seen
   heard_grows command seen answer h = record { place = h.place; heard = heard_at_grows past past' grows h.place command seen answer h.heard }
 
-  pub last_grows : (command : Fields) (retries : Bool) (seen : Sight) → (seen ≡ waiting → ⊥) → HeardLast past command retries seen → HeardLast past' command retries seen
+  abbrev pub last_grows : (command : Fields) (retries : Bool) (seen : Sight) → (seen ≡ waiting → ⊥) → HeardLast past command retries seen → HeardLast past' command retries seen
   last_grows command retries seen answer h = record {
     place = h.place;
     heard = heard_at_grows past past' grows h.place command seen answer h.heard;
@@ -66,8 +69,8 @@ module _ (past past' : Past) (grows : Grows past past') where
   heard_reply : (command : Fields) (bytes : List ℕ) → HeardBy past command (reply bytes) → HeardBy past' command (reply bytes)
   heard_reply command bytes h = heard_grows command (reply bytes) (λ e. cc) h
 
-  pub last_reply : (command : Fields) (retries : Bool) (bytes : List ℕ) → HeardLast past command retries (reply bytes) → HeardLast past' command retries (reply bytes)
-  last_reply command retries bytes h = last_grows command retries (reply bytes) (λ e. cc) h
+  abbrev pub last_reply : (command : Fields) (retries : Bool) (bytes : List ℕ) → HeardLast past command retries (reply bytes) → HeardLast past' command retries (reply bytes)
+  last_reply command retries bytes h = last_grows command retries (reply bytes) (not_waiting bytes) h
 
   heard_fault : (command : Fields) → HeardBy past command fault → HeardBy past' command fault
   heard_fault command h = heard_grows command fault (λ e. cc) h
@@ -85,41 +88,44 @@ module _ (past past' : Past) (grows : Grows past past') where
 
   -- ---- a call of a stream
 
-  pub more_fails_grows : (at : Standing) (e : Error) → MoreFails past at e → MoreFails past' at e
-  more_fails_grows at e (lost io h) = lost io (heard_fault (more_command at) h)
-  more_fails_grows at e (refused bytes h by) = refused bytes (heard_reply (more_command at) bytes h) (by_reply_grows (doc bytes) e by)
-  more_fails_grows at e (broken bytes h by) = broken bytes (heard_reply (more_command at) bytes h) by
+  more_grows : (at : Standing) (seen : Sight) → (seen ≡ waiting → ⊥) → HeardMore past at seen → HeardMore past' at seen
+  more_grows at seen answer h = record { asked = h.asked; heard = heard_grows (more_command at) seen answer h.heard }
 
-  pub resumes_grows : (at : Standing) → Resumes past at → Resumes past' at
-  resumes_grows at (owed is) = owed is
-  resumes_grows at (more_failed e why is) = more_failed e (more_fails_grows at e why) is
-  resumes_grows at (first_broken bytes e in_hand by) = first_broken bytes e in_hand by
+  more_reply : (at : Standing) (bytes : List ℕ) → HeardMore past at (reply bytes) → HeardMore past' at (reply bytes)
+  more_reply at bytes h = more_grows at (reply bytes) (λ e. cc) h
 
-  pub leaves_grows : (at : Standing) (c : CursorInformation) → Leaves past at c → Leaves past' at c
-  leaves_grows at c (same is) = same is
-  leaves_grows at c (told bytes upto h tells) = told bytes upto (heard_reply (more_command at) bytes h) tells
-  leaves_grows at c (ended bytes e h by ends is) = ended bytes e (heard_reply (more_command at) bytes h) (by_reply_grows (doc bytes) e by) ends is
+  pub more_fails_grows : (at : Standing) (e : Error) (c : CursorInformation) → MoreFails past at e c → MoreFails past' at e c
+  more_fails_grows at e c (lost io h is) = lost io (more_grows at fault (λ f. cc) h) is
+  more_fails_grows at e c (refused bytes h by is) = refused bytes (more_reply at bytes h) (by_reply_grows (doc bytes) e by) is
+  more_fails_grows at e c (unread bytes h by is) = unread bytes (more_reply at bytes h) by is
+  more_fails_grows at e c (broken bytes upto h tells by) = broken bytes upto (more_reply at bytes h) tells by
+
+  pub resumes_grows : (at : Standing) (c : CursorInformation) → Resumes past at c → Resumes past' at c
+  resumes_grows at c (owed is cursor) = owed is cursor
+  resumes_grows at c (more_failed e why is) = more_failed e (more_fails_grows at e c why) is
+  resumes_grows at c (first_broken bytes e held none_yet by is) = first_broken bytes e held none_yet by is
 
   pub killed_grows : (old : CursorInformation) → Killed past old → Killed past' old
   killed_grows old (none is) = none is
-  killed_grows old (tried seen answer h) = tried seen answer (heard_grows (old_command old) seen answer h)
-  killed_grows old (unbuilt e by) = unbuilt e by
+  killed_grows old (tried held seen answer h) = tried held seen answer (heard_grows (old_command old) seen answer h)
+  killed_grows old (unbuilt held e by) = unbuilt held e by
 
-  pub resumed_grows : (at : Standing) (bytes : List ℕ) (c : CursorInformation) (upto : Option Tree) → Resumed past at bytes c upto → Resumed past' at bytes c upto
-  resumed_grows at bytes c upto r = record {
-    why = resumes_grows at r.why;
+  pub resumed_grows : (at : Standing) (old : CursorInformation) (bytes : List ℕ) (c : CursorInformation) (upto : Option Tree) → Resumed past at old bytes c upto → Resumed past' at old bytes c upto
+  resumed_grows at old bytes c upto r = record {
+    why = resumes_grows at old r.why;
     heard = subst (λ (w : ℤ). HeardBy past' (resume_command w at) (reply bytes)) (sym grows.wire) (heard_reply (resume_command past.wire at) bytes r.heard);
+    success = r.success;
     tells = r.tells;
   }
 
   pub replied_grows : (at : Standing) (by_resumption : Bool) (bytes : List ℕ) (c : CursorInformation) (upto : Option Tree) → Replied past at by_resumption bytes c upto → Replied past' at by_resumption bytes c upto
-  replied_grows at by_resumption bytes c upto (opening none_yet in_hand cursor behind) = opening none_yet in_hand cursor behind
-  replied_grows at by_resumption bytes c upto (more none_yet h tells) = more none_yet (heard_reply (more_command at) bytes h) tells
-  replied_grows at by_resumption bytes c upto (again is r old left_so gone) = again is (resumed_grows at bytes c upto r) old (leaves_grows at old left_so) (killed_grows old gone)
+  replied_grows at by_resumption bytes c upto (opening none_yet held empty cursor behind) = opening none_yet held empty cursor behind
+  replied_grows at by_resumption bytes c upto (more none_yet h success tells) = more none_yet (more_reply at bytes h) success tells
+  replied_grows at by_resumption bytes c upto (again is old r gone) = again is old (resumed_grows at old bytes c upto r) (killed_grows old gone)
 
   pub next_grows : (at : Standing) (events : List Fields) (c : CursorInformation) (upto : Option Tree) → Next past at events c upto → Next past' at events c upto
-  next_grows at events c upto (left quits looked is cursor behind) = left quits looked is cursor behind
-  next_grows at events c upto (came by_resumption bytes replied holds) = came by_resumption bytes (replied_grows at by_resumption bytes c upto replied) holds
+  next_grows at events c upto (left settled is cursor behind) = left settled is cursor behind
+  next_grows at events c upto (came empty by_resumption bytes replied holds) = came empty by_resumption bytes (replied_grows at by_resumption bytes c upto replied) holds
 
   pub gave_grows : (at after : Standing) (event : Fields) → CallGave past at after event → CallGave past' at after event
   gave_grows at after event g = record {
@@ -133,35 +139,40 @@ module _ (past past' : Past) (grows : Grows past past') where
   }
 
   none_grows : (at after : Standing) (by_resumption : Bool) → CallNone past at after by_resumption → CallNone past' at after by_resumption
-  none_grows at after by_resumption (came_empty bytes upto replied holds remembers) = came_empty bytes upto (replied_grows at by_resumption bytes after.cursor upto replied) holds remembers
-  none_grows at after by_resumption (none_left none_yet quits looked empty over aggregate cursor) = none_left none_yet quits looked empty over aggregate cursor
+  none_grows at after by_resumption (came_empty empty bytes upto replied holds remembers) = came_empty empty bytes upto (replied_grows at by_resumption bytes after.cursor upto replied) holds remembers
+  none_grows at after by_resumption (none_left none_yet settled empty over aggregate cursor) = none_left none_yet settled empty over aggregate cursor
 
   pub empty_grows : (at after : Standing) (by_resumption : Bool) → CallEmpty past at after by_resumption → CallEmpty past' at after by_resumption
   empty_grows at after by_resumption e = record { why = none_grows at after by_resumption e.why; empty = e.empty; settled = e.settled }
 
   pub stays_grows : (at after : Standing) → Stays past at after → Stays past' at after
-  stays_grows at after s = record { next = next_grows at after.events after.cursor after.upto s.next; settled = s.settled }
+  stays_grows at after (as_it_was settled is) = as_it_was settled is
+  stays_grows at after (in_hand by_resumption bytes replied holds some settled) = in_hand by_resumption bytes (replied_grows at by_resumption bytes after.cursor after.upto replied) holds some settled
+
+  may_lose_grows : (at : Standing) (c : CursorInformation) → MayLose past at c → MayLose past' at c
+  may_lose_grows at c (asking asked is) = asking asked is
+  may_lose_grows at c (resuming why) = resuming (resumes_grows at c why)
+  may_lose_grows at c (killing old bytes upto r held) = killing old bytes upto (resumed_grows at old bytes c upto r) held
+  may_lose_grows at c (keeping by_resumption bytes upto replied) = keeping by_resumption bytes upto (replied_grows at by_resumption bytes c upto replied)
 
   resume_last : (at : Standing) (seen : Sight) → (seen ≡ waiting → ⊥) → HeardLast past (resume_command past.wire at) true seen → HeardLast past' (resume_command past'.wire at) true seen
   resume_last at seen answer h = subst (λ (w : ℤ). HeardLast past' (resume_command w at) true seen) (sym grows.wire) (last_grows (resume_command past.wire at) true seen answer h)
 
   call_fails_grows : (at after : Standing) (e : Error) → CallFails past at after e → CallFails past' at after e
-  call_fails_grows at after e (no_memory room stands) = no_memory room (elim stands [ inl owes ↦ inl owes | inr stays ↦ inr (stays_grows at after stays) ])
-  call_fails_grows at after e (lost owes why io h) = lost owes (resumes_grows at why) io (resume_last at fault (λ f. cc) h)
-  call_fails_grows at after e (refused bytes owes why h by) = refused bytes owes (resumes_grows at why) (resume_last at (reply bytes) (λ f. cc) h) (by_reply_grows (doc bytes) e by)
-  call_fails_grows at after e (broken bytes owes why h by) =
-      broken bytes owes (resumes_grows at why) (subst (λ (w : ℤ). HeardBy past' (resume_command w at) (reply bytes)) (sym grows.wire) (heard_reply (resume_command past.wire at) bytes h)) by
-  call_fails_grows at after e (cannot_resume owes why by) = cannot_resume owes (resumes_grows at why) (subst (λ (w : ℤ). CannotBuild at.aggregate.args.options.batch_size (resume_command w at) e) (sym grows.wire) by)
-  call_fails_grows at after e (refused_more bytes settled empty h by stays none_after settles) = refused_more bytes settled empty (heard_reply (more_command at) bytes h) (by_reply_grows (doc bytes) e by) stays none_after settles
-  call_fails_grows at after e (cannot_ask empty by stays) = cannot_ask empty by (stays_grows at after stays)
+  call_fails_grows at after e (may_lose room owes may) = may_lose room owes (may_lose_grows at after.cursor may)
+  call_fails_grows at after e (no_memory room stays) = no_memory room (stays_grows at after stays)
+  call_fails_grows at after e (lost owes why io h) = lost owes (resumes_grows at after.cursor why) io (resume_last at fault (λ f. cc) h)
+  call_fails_grows at after e (refused bytes owes why h by) = refused bytes owes (resumes_grows at after.cursor why) (resume_last at (reply bytes) (λ f. cc) h) (by_reply_grows (doc bytes) e by)
+  call_fails_grows at after e (unread bytes owes why h by) =
+      unread bytes owes (resumes_grows at after.cursor why) (subst (λ (w : ℤ). HeardBy past' (resume_command w at) (reply bytes)) (sym grows.wire) (heard_reply (resume_command past.wire at) bytes h)) by
+  call_fails_grows at after e (broken bytes upto owes replied by) = broken bytes upto owes (replied_grows at true bytes after.cursor upto replied) by
+  call_fails_grows at after e (cannot_resume owes why by) = cannot_resume owes (resumes_grows at after.cursor why) (subst (λ (w : ℤ). CannotBuild at.aggregate.args.options.batch_size (resume_command w at) e) (sym grows.wire) by)
+  call_fails_grows at after e (refused_more bytes h by stays is) = refused_more bytes (more_reply at bytes h) (by_reply_grows (doc bytes) e by) stays is
+  call_fails_grows at after e (cannot_ask asked by is) = cannot_ask asked by is
   call_fails_grows at after e (no_id event upto next lacks is behind settles) = no_id event upto (next_grows at (event ∷ after.events) after.cursor upto next) lacks is behind settles
 
-  has_grows : (at : Standing) (c : CursorInformation) → Has past at c → Has past' at c
-  has_grows at c (leaves h) = leaves (leaves_grows at c h)
-  has_grows at c (renewed bytes upto r) = renewed bytes upto (resumed_grows at bytes c upto r)
-
   pub call_failed_grows : (at after : Standing) (e : Error) → CallFailed past at after e → CallFailed past' at after e
-  call_failed_grows at after e f = record { why = call_fails_grows at after e f.why; token = f.token; cursor = has_grows at after.cursor f.cursor }
+  call_failed_grows at after e f = record { why = call_fails_grows at after e f.why; token = f.token }
 
 pub called_grows : (past past' : Past) (at after : Standing) (r : EventPoll) → Grows past past' → Called past at after r → Called past' at after r
 called_grows past past' at after poll.Pending grows h = absurd h
@@ -176,7 +187,7 @@ module _ (awaited awaited' : Awaited) (past past' : Past) (grows : Grows past pa
   killing_grows exec id bytes tickets h = (
     h.0,
     h.1,
-    record { left = leaves_grows past past' grows at h.1 h.2.left; named = h.2.named; resumed = resumed_grows past past' grows at bytes s.cursor s.batch_token h.2.resumed },
+    record { held = h.2.held; named = h.2.named; resumed = resumed_grows past past' grows at h.1 bytes s.cursor s.batch_token h.2.resumed },
     h.3,
     flies_grows past past' grows awaited awaited' (old_command h.1) exec.stage tickets h.4,
   )
@@ -184,9 +195,8 @@ module _ (awaited awaited' : Awaited) (past past' : Past) (grows : Grows past pa
   resuming_grows : (exec : Sending) → ((n : ℕ) → ticket_of exec ≡ Some n → awaited' n ≡ awaited n) → ByPhase awaited past at by_resumption (phase.Resuming exec) s → ByPhase awaited' past' at by_resumption (phase.Resuming exec) s
   resuming_grows exec tickets h = (
     h.0,
-    resumes_grows past past' grows at h.1,
-    leaves_grows past past' grows at s.cursor h.2,
-    subst (λ (w : ℤ). Flies awaited' past' (resume_command w at) exec.stage) (sym grows.wire) (flies_grows past past' grows awaited awaited' (resume_command past.wire at) exec.stage tickets h.3),
+    resumes_grows past past' grows at s.cursor h.1,
+    subst (λ (w : ℤ). Flies awaited' past' (resume_command w at) exec.stage) (sym grows.wire) (flies_grows past past' grows awaited awaited' (resume_command past.wire at) exec.stage tickets h.2),
   )
 
   phase_grows : (p : Phase) → ((n : ℕ) → ticket_in p ≡ Some n → awaited' n ≡ awaited n) → ByPhase awaited past at by_resumption p s → ByPhase awaited' past' at by_resumption p s
@@ -195,7 +205,7 @@ module _ (awaited awaited' : Awaited) (past past' : Past) (grows : Grows past pa
   phase_grows (phase.First bytes) tickets h = h
   phase_grows phase.Fresh tickets h = record { bytes = h.bytes; replied = replied_grows past past' grows at by_resumption h.bytes s.cursor s.batch_token h.replied; holds = h.holds }
   phase_grows (phase.Asking get_more exec) tickets h = (h.0, h.1, h.2, flies_grows past past' grows awaited awaited' (more_command at) exec.stage tickets h.3)
-  phase_grows phase.Owing tickets h = (h.0, resumes_grows past past' grows at h.1, leaves_grows past past' grows at s.cursor h.2)
+  phase_grows phase.Owing tickets h = (h.0, resumes_grows past past' grows at s.cursor h.1)
   phase_grows (phase.Resuming exec) tickets h = resuming_grows exec tickets h
   phase_grows (phase.Killing exec id bytes) tickets h = killing_grows exec id bytes tickets h
   phase_grows (phase.Resumed bytes) tickets h = (h.0, replied_grows past past' grows at true bytes s.cursor s.batch_token h.1)

@@ -188,7 +188,7 @@ module _ (command : List ℕ) (idle : Follow) (waiting_at : Option ℕ → Follo
       (once_more s.retries s.stage twice.attempt twice.between log twice.log_between g twice.repeated a)
       (spoiled_begun twice.between new twice.log_between log' twice.again twice.gives.0 (subst (λ (c : List ℕ). Begins twice.between new twice.log_between log' c twice.again) is twice.begins))
 
-success_ran : (old new : Awaited) (log log' : Told) (wire : ℤ) (s : Sending) (bytes : List ℕ) → Runs old new log log' wire s (step.Done bytes) → IsSuccess bytes
+pub success_ran : (old new : Awaited) (log log' : Told) (wire : ℤ) (s : Sending) (bytes : List ℕ) → Runs old new log log' wire s (step.Done bytes) → IsSuccess bytes
 success_ran old new log log' wire s bytes (inl once) = once.gives.1
 success_ran old new log log' wire s bytes (inr twice) = twice.gives.1
 

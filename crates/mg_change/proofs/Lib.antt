@@ -17,6 +17,7 @@ pub mod Calls
 pub mod Causes
 pub mod OpeningSends
 pub mod OpeningCauses
+pub mod Placed
 pub mod SeekCauses
 pub mod ClosingCauses
 pub mod Growths

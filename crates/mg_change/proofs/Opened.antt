@@ -38,7 +38,7 @@ use Rattle.mg_ops.specs.declared.aggregate.ChangeStreamAggregate.{ChangeStreamAg
 use Rattle.mg_ops.specs.declared.change_stream.ChangeStreamData.{ChangeStreamData}
 use Rattle.mg_change.specs.Phases.{Carries, IsSound, SavedFor, Sends}
 use Rattle.mg_change.proofs.Reading.{batch_as, batch_read, events_read}
-use Rattle.mg_change.proofs.Garbled.{IsHeld, came, start_garbled, still_waits}
+use Rattle.mg_change.proofs.Garbled.{IsHeld, came, place_heard, start_garbled, still_waits}
 
 -- ---- the token of a new stream
 
@@ -188,9 +188,10 @@ module _ (a : WatchArgs) (w : Watch) (start : Start) (old new : Awaited) (log lo
   opening_lost bytes runs = (ran s.command (not_open w start) (waits_at w start) (opened_with (not_open w start)) (opening_request s.command (not_open w start) asks_so) old new log log' wire s (step.Done bytes) refl runs).0
 
   -- A reply came, and a stream was made of it.
-  pub opening_came : (version : ℤ) (bytes : List ℕ) (stream : ChangeStream) → IsOpened a version bytes stream → Runs old new log log' wire s (step.Done bytes) → (opened : Option ℕ) × Moved log log' (opening_in old (Some s) w start) (follow_of new w start stream opened [])
+  pub opening_came : (version : ℤ) (bytes : List ℕ) (stream : ChangeStream) → IsOpened a version bytes stream → (runs : Runs old new log log' wire s (step.Done bytes)) → Moved log log' (opening_in old (Some s) w start) (follow_of new w start stream (place_heard old new log log' wire s (step.Done bytes) runs) [])
   opening_came version bytes stream o runs =
+      let place = place_heard old new log log' wire s (step.Done bytes) runs in
       let c = came s.command (not_open w start) (waits_at w start) (opened_with (not_open w start)) (opening_request s.command (not_open w start) asks_so) old new log log' wire s bytes refl runs in
-      let last = opened_by c.mid log' new a w start c.place version bytes stream o (documents_in o.batch) refl asks c.success c.sees in
-      let here = subst (λ (p : Phase). Moved c.mid log' (waits_at w start c.place) (follow_in new p w start stream c.place [])) (sym o.phase_is) last in
-      (c.place, moved log c.mid log' (opening_in old (Some s) w start) (waits_at w start c.place) (follow_of new w start stream c.place []) c.out here)
+      let last = opened_by c.mid log' new a w start place version bytes stream o (documents_in o.batch) refl asks c.success c.sees in
+      let here = subst (λ (p : Phase). Moved c.mid log' (waits_at w start place) (follow_in new p w start stream place [])) (sym o.phase_is) last in
+      moved log c.mid log' (opening_in old (Some s) w start) (waits_at w start place) (follow_of new w start stream place []) c.out here

@@ -2,7 +2,7 @@
 use Rattle.std.proofs.Common.{refl, sym, ◌∙◌, ◌≡◌, ℕ, ℤ, true, List, length, Option, Some, None, ap, subst, inl, inr, arith}
 use Rattle.mg_bson.specs.Raw.{fields}
 use Rattle.mg_bson.specs.Reading.{doc}
-use Rattle.mg_link.specs.Exec.{Runs, Sending, Stage}
+use Rattle.mg_link.specs.Exec.{IsSuccess, Runs, Sending, Stage}
 use Rattle.mg_link.specs.Link.{Awaited, Told}
 use Rattle.mg_link.specs.Log.{reply}
 use Rattle.mg_link.specs.declared.action.Step.{Step}
@@ -14,23 +14,29 @@ use Rattle.mg_ops.specs.declared.aggregate.ChangeStreamAggregate.{ChangeStreamAg
 use Rattle.mg_ops.specs.declared.change_stream.ChangeStreamData.{ChangeStreamData}
 use Rattle.mg_ops.specs.declared.change_stream.WatchArgs.{WatchArgs}
 use Rattle.mg_change.specs.Calls.{Came, Failed, Flies, Grows, HeardLast, Past, by_fault, by_memory, by_reply, past_of}
-use Rattle.mg_change.specs.Causes.{CannotBuild, Standing, first_in, standing_of}
+use Rattle.mg_change.specs.Causes.{CannotBuild, Standing, first_in, owes_in, standing_of, unanswered_in}
+use Rattle.mg_change.specs.Following.{buffered}
 use Rattle.mg_change.specs.OpeningCauses.{Opened, OpeningCame, OpeningCaused, OpeningFails, OpensSoFar, broken, cannot_open, lost, no_memory, refused}
 use Rattle.mg_change.specs.Openings.{IsNextSent, IsOpened, exec_ticket, first_known, opening_command}
 use Rattle.mg_change.specs.Phases.{Carries, resuming_command}
 use Rattle.mg_change.specs.declared.opening.Opening.{Opening}
 use Rattle.mg_change.specs.declared.stream.ChangeStream.{ChangeStream}
+use Rattle.mg_change.specs.declared.stream.Phase.{Phase}
 use Rattle.mg_change.proofs.Calls.{request_ran}
+use Rattle.mg_change.proofs.Heeding.{success_ran}
 use Rattle.mg_change.proofs.Growing.{by_reply_grows, flies_grows, last_fault, last_reply}
 
 -- ---- its request
 
-opened_by : (past : Past) (a : WatchArgs) (version : ℤ) (bytes : List ℕ) (s : ChangeStream) → version ≡ past.wire → IsOpened a version bytes s → HeardLast past (opening_command a) true (reply bytes) → Opened past a (standing_of s)
-opened_by past a version bytes s at is heard = record {
+abbrev pub opened_by : (past : Past) (a : WatchArgs) (version : ℤ) (bytes : List ℕ) (s : ChangeStream) → version ≡ past.wire → IsOpened a version bytes s → HeardLast past (opening_command a) true (reply bytes) → IsSuccess bytes → Opened past a (standing_of s)
+opened_by past a version bytes s at is heard success = record {
   args_are = is.args_is;
   bytes = bytes;
   heard = heard;
+  success = success;
   in_hand = ap first_in is.phase_is;
+  none_yet = ap (λ (p : Phase). unanswered_in p (buffered s)) is.phase_is;
+  quits = ap owes_in is.phase_is;
   tells = record { batch = is.batch; says = is.says; size_is = is.size_is };
   is_empty = is.is_empty;
   empty = is.empty;
@@ -62,7 +68,7 @@ module _ (a : WatchArgs) (old new : Awaited) (log log' : Told) (wire : ℤ) (exe
 
   -- Its reply came.
   pub opening_came : (version : ℤ) (bytes : List ℕ) (s : ChangeStream) → version ≡ wire → IsOpened a version bytes s → Runs old new log log' wire exec (step.Done bytes) → OpeningCaused old new log log' wire a (Some exec) (step.Done s)
-  opening_came version bytes s same is runs = opening_led (step.Done bytes) (step.Done s) (λ past at heard. opened_by past a version bytes s (same ∙ sym at) is heard) runs
+  opening_came version bytes s same is runs = opening_led (step.Done bytes) (step.Done s) (λ past at heard. opened_by past a version bytes s (same ∙ sym at) is heard (success_ran old new log log' wire exec bytes runs)) runs
 
   -- It was not read.
   pub opening_lost : (bytes : List ℕ) (e : Error) → FailsBy (BreaksIn (fields bytes)) e → Runs old new log log' wire exec (step.Done bytes) → OpeningCaused old new log log' wire a (Some exec) (step.Failed e)
@@ -75,7 +81,7 @@ module _ (a : WatchArgs) (old new : Awaited) (log log' : Told) (wire : ℤ) (exe
 -- ---- before it
 
 -- what is sent next was not sent yet, or is in flight
-next_flies : (awaited : Awaited) (past : Past) (a : ChangeStreamAggregate) (wire : ℤ) (exec : Option Sending) (e : Sending) → IsNextSent a wire exec e → OpensSoFar awaited past a.args exec → OpensSoFar awaited past a.args (Some e)
+pub next_flies : (awaited : Awaited) (past : Past) (a : ChangeStreamAggregate) (wire : ℤ) (exec : Option Sending) (e : Sending) → IsNextSent a wire exec e → OpensSoFar awaited past a.args exec → OpensSoFar awaited past a.args (Some e)
 next_flies awaited past a wire None e next so_far = subst (λ (stage : Stage). Flies awaited past (opening_command a.args) stage) (sym next.0) tt
 next_flies awaited past a wire (Some sent) e next so_far = subst (λ (x : Sending). Flies awaited past (opening_command a.args) x.stage) (sym next) so_far
 
@@ -97,13 +103,16 @@ pub opens_grows : (awaited awaited' : Awaited) (past past' : Past) (a : WatchArg
 opens_grows awaited awaited' past past' a None grows tickets h = tt
 opens_grows awaited awaited' past past' a (Some exec) grows tickets h = flies_grows past past' grows awaited awaited' (opening_command a) exec.stage tickets h
 
-pub opened_grows : (past past' : Past) (a : WatchArgs) (at : Standing) → Grows past past' → Opened past a at → Opened past' a at
+abbrev pub opened_grows : (past past' : Past) (a : WatchArgs) (at : Standing) → Grows past past' → Opened past a at → Opened past' a at
 opened_grows past past' a at grows o =
     record {
       args_are = o.args_are;
       bytes = o.bytes;
       heard = last_reply past past' grows (opening_command a) true o.bytes o.heard;
+      success = o.success;
       in_hand = o.in_hand;
+      none_yet = o.none_yet;
+      quits = o.quits;
       tells = o.tells;
       is_empty = o.is_empty;
       empty = o.empty;

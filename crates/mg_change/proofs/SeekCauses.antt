@@ -17,8 +17,9 @@ use Rattle.mg_link.specs.declared.error.ErrorKind.TheVariants as kind
 use Rattle.mg_link.specs.declared.error.Malformed.TheVariants as malformed
 use Rattle.mg_link.specs.declared.reply.Verdict.{Verdict}
 use Rattle.mg_link.specs.declared.reply.Verdict.TheVariants as verdict
+use Rattle.mg_ops.specs.Cursors.{BreaksIn}
 use Rattle.mg_change.specs.Calls.{Keeps, Past, Stays, past_of}
-use Rattle.mg_change.specs.Causes.{Breaks, CallEmpty, CallFailed, CallFails, CallGave, CannotBuild, SoFar, Standing, StepCame, StepCaused, bad_item, broken, cannot_ask, cannot_resume, is_resumed, lost, more_command, no_batch, no_id, no_memory, refused, refused_more, resume_command, standing_of}
+use Rattle.mg_change.specs.Causes.{BreaksBatch, CallEmpty, CallFailed, CallFails, CallGave, CannotBuild, SoFar, Standing, StepCame, StepCaused, bad_item, broken, cannot_ask, cannot_resume, is_resumed, lost, may_lose, more_command, no_batch, no_id, no_memory, refused, refused_more, resume_command, standing_of, unread}
 use Rattle.mg_change.specs.Following.{IsSpent, StepSpends}
 use Rattle.mg_change.specs.Phases.{AtRest}
 use Rattle.mg_change.specs.Rows.{CountsBy, KeptBy, Seeks, TooManyBy, in_row, looking}
@@ -171,19 +172,26 @@ unbuilt_otherwise : (size : Option ℕ) (command : Fields) (e : Error) → Canno
 unbuilt_otherwise size command e (inl bad) = plainly (kind.InvalidArgument argument.BatchSize) e bad.0 (λ x. absurd cc)
 unbuilt_otherwise size command e (inr bad) = plainly kind.BsonSerialization e bad.0 (λ x. absurd cc)
 
-broken_otherwise : (said : Fields) (e : Error) → Breaks said e → IsNotEmptyBatches e
-broken_otherwise said e (inl by) = plainly (kind.InvalidResponse by.how) e by.error (λ x. absurd cc)
-broken_otherwise said e (inr (no_batch how at is)) = plainly (kind.InvalidResponse how) e is (λ x. absurd cc)
-broken_otherwise said e (inr (bad_item batch at has)) = plainly (kind.InvalidResponse malformed.BadItem) e has.1 (λ x. absurd cc)
+unread_otherwise : (said : Fields) (e : Error) → BreaksIn said e → IsNotEmptyBatches e
+unread_otherwise said e by = plainly (kind.InvalidResponse by.how) e by.error (λ x. absurd cc)
+
+broken_otherwise : (said : Fields) (e : Error) → BreaksBatch said e → IsNotEmptyBatches e
+broken_otherwise said e (no_batch how at is) = plainly (kind.InvalidResponse how) e is (λ x. absurd cc)
+broken_otherwise said e (bad_item batch at has) = plainly (kind.InvalidResponse malformed.BadItem) e has.1 (λ x. absurd cc)
+
+memory_otherwise : (e : Error) → e.kind ≡ kind.OutOfMemory → IsNotEmptyBatches e
+memory_otherwise e room empty = let bad = sym room ∙ empty in absurd cc
 
 fails_otherwise : (past : Past) (at after : Standing) (e : Error) → CallFails past at after e → IsNotEmptyBatches e
-fails_otherwise past at after e (no_memory room stands) empty = let bad = sym room ∙ empty in absurd cc
+fails_otherwise past at after e (may_lose room owes may) empty = memory_otherwise e room empty
+fails_otherwise past at after e (no_memory room stands) empty = memory_otherwise e room empty
 fails_otherwise past at after e (lost owes why io h) empty = plainly kind.Io e io (λ x. absurd cc) empty
 fails_otherwise past at after e (refused bytes owes why h by) empty = replied_otherwise (doc bytes) past.wire e by empty
-fails_otherwise past at after e (broken bytes owes why h by) empty = broken_otherwise (fields bytes) e by empty
+fails_otherwise past at after e (unread bytes owes why h by) empty = unread_otherwise (fields bytes) e by empty
+fails_otherwise past at after e (broken bytes upto owes replied by) empty = broken_otherwise (fields bytes) e by empty
 fails_otherwise past at after e (cannot_resume owes why by) empty = unbuilt_otherwise at.aggregate.args.options.batch_size (resume_command past.wire at) e by empty
-fails_otherwise past at after e (refused_more bytes settled none h by rests none_after settles) empty = replied_otherwise (doc bytes) past.wire e by empty
-fails_otherwise past at after e (cannot_ask none by rests) empty = unbuilt_otherwise at.cursor.batch_size (more_command at) e by empty
+fails_otherwise past at after e (refused_more bytes h by rests is) empty = replied_otherwise (doc bytes) past.wire e by empty
+fails_otherwise past at after e (cannot_ask asked by is) empty = unbuilt_otherwise at.cursor.batch_size (more_command at) e by empty
 fails_otherwise past at after e (no_id event upto next lacks is behind settles) empty = plainly kind.MissingResumeToken e is (λ x. absurd cc) empty
 
 -- the last step of a poll, behind which the counts are left

@@ -1,12 +1,12 @@
 -- What the answers of a change stream are caused by, over all polls of a call.
-use Rattle.std.specs.Prelude.{◌≡◌, ◌≢◌, ◌⊎◌, ◌≤◌, ◌||◌, codes, false, true, ℕ, ℤ, pos, Bool, List, [], ◌∷◌, length, Option, Some, None, option_map, Result, Ok, Err}
+use Rattle.std.specs.Prelude.{◌≡◌, ◌≢◌, ◌⊎◌, ◌≤◌, ◌||◌, codes, false, true, ℕ, ℤ, pos, Bool, List, [], ◌∷◌, length, Option, Some, None, option_map, Result, Ok, Err, if◌then◌else◌}
 use Rattle.mg_bson.specs.Tree.{Tree, Fields, Items}
 use Rattle.mg_bson.specs.Find.{get}
 use Rattle.mg_bson.specs.Raw.{fields}
 use Rattle.mg_bson.specs.Reading.{doc}
 use Rattle.mg_link.specs.Commands.{documents_in}
 use Rattle.mg_link.specs.Errors.{plain, command_code}
-use Rattle.mg_link.specs.Exec.{FailsByReply}
+use Rattle.mg_link.specs.Exec.{FailsByReply, IsSuccess}
 use Rattle.mg_link.specs.Link.{Awaited, Told}
 use Rattle.mg_link.specs.Log.{Sight, waiting, reply, fault, Call}
 use Rattle.mg_link.specs.Namespace.{space}
@@ -17,7 +17,7 @@ use Rattle.mg_link.specs.declared.error.Malformed.{Malformed}
 use Rattle.mg_link.specs.declared.error.Malformed.TheVariants as malformed
 use Rattle.mg_ops.specs.Commands.{get_more_command, kill_command}
 use Rattle.mg_ops.specs.Cursors.{BreaksIn, batch_at, cursor_of}
-use Rattle.mg_ops.specs.Failing.{CannotBeSent, HasBadSize}
+use Rattle.mg_ops.specs.Failing.{CannotBeSent, FailsBy, HasBadSize}
 use Rattle.mg_ops.specs.declared.aggregate.ChangeStreamAggregate.{ChangeStreamAggregate}
 use Rattle.mg_ops.specs.declared.cursor_reply.CursorInformation.{CursorInformation}
 use Rattle.mg_ops.specs.declared.cursor_reply.CursorSpecification.{CursorSpecification}
@@ -42,7 +42,7 @@ pub record Standing : Type 0 where
   pub aggregate : ChangeStreamAggregate
   -- its cursor, whose id is 0 where the server holds none
   pub cursor : CursorInformation
-  -- the events that it received and has not answered, and the token behind the last of them
+  -- the events that it received for this cursor and has not answered, and the token behind the last of them
   pub events : List Fields
   pub upto : Option Tree
   -- the reply to its opening, where the batch in it was not looked at
@@ -73,8 +73,41 @@ owes_in (phase.Resuming exec) = true
 owes_in (phase.Killing exec old bytes) = false
 owes_in (phase.Resumed bytes) = false
 
+-- the events that are left to be answered, where these are in the buffer: none before its batch was looked at, or where it may be lost
+abbrev pub unanswered_in : Phase → List Fields → List Fields
+unanswered_in phase.Taken events = events
+unanswered_in phase.Rest events = events
+unanswered_in (phase.First bytes) events = []
+unanswered_in phase.Fresh events = events
+unanswered_in (phase.Asking get_more exec) events = events
+unanswered_in phase.Owing events = []
+unanswered_in (phase.Resuming exec) events = []
+unanswered_in (phase.Killing exec old bytes) events = []
+unanswered_in (phase.Resumed bytes) events = []
+
 abbrev pub standing_of : ChangeStream → Standing
-standing_of s = record { aggregate = s.aggregate; cursor = s.cursor; events = buffered s; upto = s.batch_token; first = first_in s.phase; owes = owes_in s.phase }
+standing_of s = record { aggregate = s.aggregate; cursor = s.cursor; events = unanswered_in s.phase (buffered s); upto = s.batch_token; first = first_in s.phase; owes = owes_in s.phase }
+
+-- nothing is owed, and the batch of the opening was looked at
+pub record IsSettled (s : Standing) : Type 0 where
+  pub quits : s.owes ≡ false
+  pub looked : s.first ≡ None
+
+-- a resumption is owed, and nothing is in hand
+pub record IsOwing (s : Standing) : Type 0 where
+  pub owes : s.owes ≡ true
+  pub looked : s.first ≡ None
+  pub none_left : s.events ≡ []
+
+-- a getMore may be sent: everything that was received is answered, and the server holds the cursor
+pub record MayAsk (s : Standing) : Type 0 where
+  pub settled : IsSettled s
+  pub none_left : s.events ≡ []
+  pub held : s.cursor.id ≢ pos 0
+
+-- the cursor behind a refusal of its getMore: none where the server says that it holds it no longer
+abbrev pub cursor_behind : Error → CursorInformation → CursorInformation
+cursor_behind e c = record c { id = if ends_cursor (command_code e.kind) then pos 0 else c.id }
 
 -- ---- the commands of a call
 
@@ -110,51 +143,58 @@ pub record TellsCursor (bytes : List ℕ) (size : Option ℕ) (c : CursorInforma
   pub says : cursor_of (fields bytes) ≡ Ok (record { id = c.id; space = space c.ns; token = upto; batch = batch })
   pub size_is : c.batch_size ≡ size
 
--- why a getMore brought no batch
-pub data MoreFails (past : Past) (at : Standing) (e : Error) : Type 0 where
-  lost : e ≡ plain kind.Io → HeardBy past (more_command at) fault → MoreFails past at e
-  refused : (bytes : List ℕ) → HeardBy past (more_command at) (reply bytes) → FailsByReply (doc bytes) past.wire e → MoreFails past at e
-  broken : (bytes : List ℕ) → HeardBy past (more_command at) (reply bytes) → Breaks (fields bytes) e → MoreFails past at e
+-- The getMore of the call saw this.
+pub record HeardMore (past : Past) (at : Standing) (seen : Sight) : Type 0 where
+  pub asked : MayAsk at
+  pub heard : HeardBy past (more_command at) seen
 
--- why the stream resumes: it was owed as the call began, or the failure in this call is one after which a stream resumes
-pub data Resumes (past : Past) (at : Standing) : Type 0 where
-  owed : at.owes ≡ true → Resumes past at
-  more_failed : (e : Error) → MoreFails past at e → is_resumable e.kind e.labels e.wire_version ≡ true → Resumes past at
-  first_broken : (bytes : List ℕ) (e : Error) → at.first ≡ Some bytes → BreaksBatch (fields bytes) e → Resumes past at
+-- why a getMore brought no batch, and the cursor behind it
+pub data MoreFails (past : Past) (at : Standing) (e : Error) (c : CursorInformation) : Type 0 where
+  -- it was lost
+  lost : e ≡ plain kind.Io → HeardMore past at fault → c ≡ at.cursor → MoreFails past at e c
+  -- the reply to it is no success
+  refused : (bytes : List ℕ) → HeardMore past at (reply bytes) → FailsByReply (doc bytes) past.wire e → c ≡ cursor_behind e at.cursor → MoreFails past at e c
+  -- the reply tells no cursor
+  unread : (bytes : List ℕ) → HeardMore past at (reply bytes) → BreaksIn (fields bytes) e → c ≡ at.cursor → MoreFails past at e c
+  -- or no documents of it
+  broken : (bytes : List ℕ) (upto : Option Tree) → HeardMore past at (reply bytes) → TellsCursor bytes at.cursor.batch_size c upto → BreaksBatch (fields bytes) e → MoreFails past at e c
 
--- the cursor of a stream that resumes: its own still, the one that the reply to its getMore tells, or none where the server said so
-pub data Leaves (past : Past) (at : Standing) (c : CursorInformation) : Type 0 where
-  same : c ≡ at.cursor → Leaves past at c
-  told : (bytes : List ℕ) (upto : Option Tree) → HeardBy past (more_command at) (reply bytes) → TellsCursor bytes at.cursor.batch_size c upto → Leaves past at c
-  ended : (bytes : List ℕ) (e : Error) → HeardBy past (more_command at) (reply bytes) → FailsByReply (doc bytes) past.wire e → ends_cursor (command_code e.kind) ≡ true → c ≡ record at.cursor { id = pos 0 } → Leaves past at c
+-- Why the stream resumes, and the cursor that it leaves, whose id is 0 where the server holds it no longer. No event is in hand then.
+pub data Resumes (past : Past) (at : Standing) (c : CursorInformation) : Type 0 where
+  -- it was owed as the call began
+  owed : IsOwing at → c ≡ at.cursor → Resumes past at c
+  -- the getMore in this call failed so that a stream resumes
+  more_failed : (e : Error) → MoreFails past at e c → is_resumable e.kind e.labels e.wire_version ≡ true → Resumes past at c
+  -- the reply to the opening has no batch of documents
+  first_broken : (bytes : List ℕ) (e : Error) → at.first ≡ Some bytes → at.events ≡ [] → BreaksBatch (fields bytes) e → c ≡ at.cursor → Resumes past at c
 
--- what came of the cursor that a resumption replaced: there was none, its killCursors was answered, or that could not be built
+-- what came of the cursor that a resumption replaced: the server held none; or its killCursors was answered, or could not be built
 pub data Killed (past : Past) (old : CursorInformation) : Type 0 where
   none : old.id ≡ pos 0 → Killed past old
-  tried : (seen : Sight) → (seen ≡ waiting → ⊥) → HeardBy past (old_command old) seen → Killed past old
-  unbuilt : (e : Error) → CannotBeSent (old_command old) e → Killed past old
+  tried : old.id ≢ pos 0 → (seen : Sight) → (seen ≡ waiting → ⊥) → HeardBy past (old_command old) seen → Killed past old
+  unbuilt : old.id ≢ pos 0 → (e : Error) → CannotBeSent (old_command old) e → Killed past old
 
--- the reply to the aggregate of a resumption, and the cursor that it gave
-pub record Resumed (past : Past) (at : Standing) (bytes : List ℕ) (c : CursorInformation) (upto : Option Tree) : Type 0 where
-  pub why : Resumes past at
+-- the reply to the aggregate of a resumption, and the cursor that it gave in the place of an old one
+pub record Resumed (past : Past) (at : Standing) (old : CursorInformation) (bytes : List ℕ) (c : CursorInformation) (upto : Option Tree) : Type 0 where
+  pub why : Resumes past at old
   pub heard : HeardBy past (resume_command past.wire at) (reply bytes)
+  pub success : IsSuccess bytes
   pub tells : TellsCursor bytes at.aggregate.args.options.batch_size c upto
 
 -- a reply with a batch, whether it is that of a resumption, and the cursor of the stream behind it
 pub data Replied (past : Past) (at : Standing) (resumed : Bool) (bytes : List ℕ) (c : CursorInformation) (upto : Option Tree) : Type 0 where
   -- to the opening, in the first call
-  opening : resumed ≡ false → at.first ≡ Some bytes → c ≡ at.cursor → upto ≡ at.upto → Replied past at resumed bytes c upto
+  opening : resumed ≡ false → at.first ≡ Some bytes → at.events ≡ [] → c ≡ at.cursor → upto ≡ at.upto → Replied past at resumed bytes c upto
   -- to the getMore of the cursor
-  more : resumed ≡ false → HeardBy past (more_command at) (reply bytes) → TellsCursor bytes at.cursor.batch_size c upto → Replied past at resumed bytes c upto
+  more : resumed ≡ false → HeardMore past at (reply bytes) → IsSuccess bytes → TellsCursor bytes at.cursor.batch_size c upto → Replied past at resumed bytes c upto
   -- to the aggregate of a resumption, which kills the cursor before it
-  again : resumed ≡ true → Resumed past at bytes c upto → (old : CursorInformation) → Leaves past at old → Killed past old → Replied past at resumed bytes c upto
+  again : resumed ≡ true → (old : CursorInformation) → Resumed past at old bytes c upto → Killed past old → Replied past at resumed bytes c upto
 
 -- ---- a call that goes on
 
 -- nothing was sent and nothing is in hand but the buffer
 pub record IsStart (at : Standing) (s : ChangeStream) : Type 0 where
-  pub quits : at.owes ≡ false
-  pub looked : at.first ≡ None
+  pub settled : IsSettled at
   pub cursor : s.cursor ≡ at.cursor
   pub events : buffered s ≡ at.events
   pub upto : s.batch_token ≡ at.upto
@@ -165,21 +205,28 @@ pub record IsFresh (past : Past) (at : Standing) (resumed : Bool) (s : ChangeStr
   pub replied : Replied past at resumed bytes s.cursor s.batch_token
   pub holds : HoldsBatch (fields bytes) (buffered s)
 
+-- the batch of the opening was not looked at
+pub record IsFirst (at : Standing) (bytes : List ℕ) (s : ChangeStream) : Type 0 where
+  pub in_hand : at.first ≡ Some bytes
+  pub none_left : at.events ≡ []
+  pub cursor : s.cursor ≡ at.cursor
+  pub upto : s.batch_token ≡ at.upto
+
 -- the cursor before a resumption is being killed
 pub record IsKilled (past : Past) (at : Standing) (id : ℤ) (bytes : List ℕ) (s : ChangeStream) (old : CursorInformation) : Type 0 where
-  pub left : Leaves past at old
+  pub held : old.id ≢ pos 0
   pub named : old.id ≡ id
-  pub resumed : Resumed past at bytes s.cursor s.batch_token
+  pub resumed : Resumed past at old bytes s.cursor s.batch_token
 
 -- how far a call has come, by its phase
 abbrev pub ByPhase : Awaited → Past → Standing → Bool → Phase → ChangeStream → Type 0
 ByPhase awaited past at resumed phase.Taken s = (resumed ≡ false) × IsStart at s
 ByPhase awaited past at resumed phase.Rest s = (resumed ≡ false) × IsStart at s
-ByPhase awaited past at resumed (phase.First bytes) s = (resumed ≡ false) × (at.first ≡ Some bytes) × (s.cursor ≡ at.cursor) × (s.batch_token ≡ at.upto)
+ByPhase awaited past at resumed (phase.First bytes) s = (resumed ≡ false) × IsFirst at bytes s
 ByPhase awaited past at resumed phase.Fresh s = IsFresh past at resumed s
-ByPhase awaited past at resumed (phase.Asking get_more exec) s = (resumed ≡ false) × IsStart at s × (at.events ≡ []) × Flies awaited past (more_command at) exec.stage
-ByPhase awaited past at resumed phase.Owing s = (resumed ≡ false) × Resumes past at × Leaves past at s.cursor
-ByPhase awaited past at resumed (phase.Resuming exec) s = (resumed ≡ false) × Resumes past at × Leaves past at s.cursor × Flies awaited past (resume_command past.wire at) exec.stage
+ByPhase awaited past at resumed (phase.Asking get_more exec) s = (resumed ≡ false) × IsStart at s × MayAsk at × Flies awaited past (more_command at) exec.stage
+ByPhase awaited past at resumed phase.Owing s = (resumed ≡ false) × Resumes past at s.cursor
+ByPhase awaited past at resumed (phase.Resuming exec) s = (resumed ≡ false) × Resumes past at s.cursor × Flies awaited past (resume_command past.wire at) exec.stage
 ByPhase awaited past at resumed (phase.Killing exec id bytes) s = (resumed ≡ false) × (old : CursorInformation) × IsKilled past at id bytes s old × (fields exec.command ≡ old_command old) × Flies awaited past (old_command old) exec.stage
 ByPhase awaited past at resumed (phase.Resumed bytes) s = (resumed ≡ false) × Replied past at true bytes s.cursor s.batch_token
 
@@ -190,10 +237,10 @@ pub record SoFar (awaited : Awaited) (past : Past) (at : Standing) (resumed : Bo
 
 -- ---- answers
 
--- the events that are next: what is left of a batch, or those of a new one; with the cursor, and the token behind them
+-- The events that are next, with the cursor, and the token behind them: what is left of a batch; or those of a batch that came, where nothing was left.
 pub data Next (past : Past) (at : Standing) (events : List Fields) (c : CursorInformation) (upto : Option Tree) : Type 0 where
-  left : at.owes ≡ false → at.first ≡ None → events ≡ at.events → c ≡ at.cursor → upto ≡ at.upto → Next past at events c upto
-  came : (resumed : Bool) (bytes : List ℕ) → Replied past at resumed bytes c upto → HoldsBatch (fields bytes) events → Next past at events c upto
+  left : IsSettled at → events ≡ at.events → c ≡ at.cursor → upto ≡ at.upto → Next past at events c upto
+  came : at.events ≡ [] → (resumed : Bool) (bytes : List ℕ) → Replied past at resumed bytes c upto → HoldsBatch (fields bytes) events → Next past at events c upto
 
 -- with a new token
 abbrev pub remembered_by : Tree → Bool → ChangeStreamAggregate → ChangeStreamAggregate
@@ -210,11 +257,6 @@ abbrev pub remembered_empty : Option Tree → ChangeStreamAggregate → ChangeSt
 remembered_empty (Some token) a = remembered_by token false a
 remembered_empty None a = a
 
--- nothing is owed, and the batch of the opening was looked at
-pub record IsSettled (after : Standing) : Type 0 where
-  pub quits : after.owes ≡ false
-  pub looked : after.first ≡ None
-
 -- the next event is answered
 pub record CallGave (past : Past) (at after : Standing) (event : Fields) : Type 0 where
   pub upto : Option Tree
@@ -225,10 +267,10 @@ pub record CallGave (past : Past) (at after : Standing) (event : Fields) : Type 
   pub behind : (after.events ≢ []) → after.upto ≡ upto
   pub settled : IsSettled after
 
--- nothing is there: a batch came empty, by a resumption or not, or the server holds no cursor
+-- Nothing is there, and nothing that was received was left: a batch came empty, by a resumption or not, or the server holds no cursor.
 pub data CallNone (past : Past) (at after : Standing) (resumed : Bool) : Type 0 where
-  came_empty : (bytes : List ℕ) (upto : Option Tree) → Replied past at resumed bytes after.cursor upto → HoldsBatch (fields bytes) [] → after.aggregate ≡ remembered_empty upto at.aggregate → CallNone past at after resumed
-  none_left : resumed ≡ false → at.owes ≡ false → at.first ≡ None → at.events ≡ [] → at.cursor.id ≡ pos 0 → after.aggregate ≡ at.aggregate → after.cursor ≡ at.cursor → CallNone past at after resumed
+  came_empty : at.events ≡ [] → (bytes : List ℕ) (upto : Option Tree) → Replied past at resumed bytes after.cursor upto → HoldsBatch (fields bytes) [] → after.aggregate ≡ remembered_empty upto at.aggregate → CallNone past at after resumed
+  none_left : resumed ≡ false → IsSettled at → at.events ≡ [] → at.cursor.id ≡ pos 0 → after.aggregate ≡ at.aggregate → after.cursor ≡ at.cursor → CallNone past at after resumed
 
 -- everything that was received is answered
 pub record CallEmpty (past : Past) (at after : Standing) (resumed : Bool) : Type 0 where
@@ -240,40 +282,54 @@ pub record CallEmpty (past : Past) (at after : Standing) (resumed : Bool) : Type
 abbrev pub CannotBuild : Option ℕ → Fields → Error → Type 0
 CannotBuild size command e = HasBadSize size e ⊎ CannotBeSent command e
 
--- the events that were next stay
-pub record Stays (past : Past) (at after : Standing) : Type 0 where
-  pub next : Next past at after.events after.cursor after.upto
-  pub settled : IsSettled after
+-- Where want of memory may lose a batch, and the cursor of the stream behind it.
+pub data MayLose (past : Past) (at : Standing) (c : CursorInformation) : Type 0 where
+  -- in the getMore
+  asking : MayAsk at → c ≡ at.cursor → MayLose past at c
+  -- in the aggregate of a resumption
+  resuming : Resumes past at c → MayLose past at c
+  -- in the killing of the cursor before it
+  killing : (old : CursorInformation) (bytes : List ℕ) (upto : Option Tree) → Resumed past at old bytes c upto → old.id ≢ pos 0 → MayLose past at c
+  -- while a batch that came is put into the buffer
+  keeping : (resumed : Bool) (bytes : List ℕ) (upto : Option Tree) → Replied past at resumed bytes c upto → MayLose past at c
 
--- why a call fails, and what stands then: a resumption is owed, or the events stay that were not answered
+-- Want of memory in copying the next event, or in building a getMore, leaves the stream as it was; or with the batch that came in hand.
+pub data Stays (past : Past) (at after : Standing) : Type 0 where
+  as_it_was : IsSettled at → after ≡ at → Stays past at after
+  in_hand : (resumed : Bool) (bytes : List ℕ) → Replied past at resumed bytes after.cursor after.upto → HoldsBatch (fields bytes) after.events → after.events ≢ [] → IsSettled after → Stays past at after
+
+-- a refusal after which nothing is to be resumed
+pub record IsFinal (e : Error) : Type 0 where
+  pub stays : is_resumable e.kind e.labels e.wire_version ≡ false
+  pub room : e.kind ≢ kind.OutOfMemory
+
+-- why a call fails, and how the stream stands then
 pub data CallFails (past : Past) (at after : Standing) (e : Error) : Type 0 where
-  -- memory ran out
-  no_memory : e.kind ≡ kind.OutOfMemory → (after.owes ≡ true) ⊎ Stays past at after → CallFails past at after e
+  -- memory ran out, where a batch may be lost
+  may_lose : e.kind ≡ kind.OutOfMemory → IsOwing after → MayLose past at after.cursor → CallFails past at after e
+  -- or elsewhere
+  no_memory : e.kind ≡ kind.OutOfMemory → Stays past at after → CallFails past at after e
   -- the aggregate of a resumption was lost, twice
-  lost : after.owes ≡ true → Resumes past at → e ≡ plain kind.Io → HeardLast past (resume_command past.wire at) true fault → CallFails past at after e
+  lost : IsOwing after → Resumes past at after.cursor → e ≡ plain kind.Io → HeardLast past (resume_command past.wire at) true fault → CallFails past at after e
   -- the reply to it is no success
-  refused : (bytes : List ℕ) → after.owes ≡ true → Resumes past at → HeardLast past (resume_command past.wire at) true (reply bytes) → FailsByReply (doc bytes) past.wire e → CallFails past at after e
-  -- the reply to it breaks the grammar
-  broken : (bytes : List ℕ) → after.owes ≡ true → Resumes past at → HeardBy past (resume_command past.wire at) (reply bytes) → Breaks (fields bytes) e → CallFails past at after e
+  refused : (bytes : List ℕ) → IsOwing after → Resumes past at after.cursor → HeardLast past (resume_command past.wire at) true (reply bytes) → FailsByReply (doc bytes) past.wire e → CallFails past at after e
+  -- the reply to it tells no cursor
+  unread : (bytes : List ℕ) → IsOwing after → Resumes past at after.cursor → HeardBy past (resume_command past.wire at) (reply bytes) → BreaksIn (fields bytes) e → CallFails past at after e
+  -- or no documents of the new one
+  broken : (bytes : List ℕ) (upto : Option Tree) → IsOwing after → Replied past at true bytes after.cursor upto → BreaksBatch (fields bytes) e → CallFails past at after e
   -- it cannot be built
-  cannot_resume : after.owes ≡ true → Resumes past at → CannotBuild at.aggregate.args.options.batch_size (resume_command past.wire at) e → CallFails past at after e
-  -- the reply to the getMore is no success, and nothing is to be resumed
-  refused_more : (bytes : List ℕ) → IsSettled at → at.events ≡ [] → HeardBy past (more_command at) (reply bytes) → FailsByReply (doc bytes) past.wire e → is_resumable e.kind e.labels e.wire_version ≡ false → after.events ≡ [] → IsSettled after → CallFails past at after e
-  -- the getMore cannot be built
-  cannot_ask : at.events ≡ [] → CannotBuild at.cursor.batch_size (more_command at) e → Stays past at after → CallFails past at after e
-  -- the next event names no place to resume from; it is passed over
+  cannot_resume : IsOwing after → Resumes past at after.cursor → CannotBuild at.aggregate.args.options.batch_size (resume_command past.wire at) e → CallFails past at after e
+  -- the reply to the getMore is no success, and nothing is to be resumed: the stream is as it was, but for a cursor that ended
+  refused_more : (bytes : List ℕ) → HeardMore past at (reply bytes) → FailsByReply (doc bytes) past.wire e → IsFinal e → after ≡ record at { cursor = cursor_behind e at.cursor } → CallFails past at after e
+  -- the getMore cannot be built: the stream is as it was
+  cannot_ask : MayAsk at → CannotBuild at.cursor.batch_size (more_command at) e → after ≡ at → CallFails past at after e
+  -- the next event, which was left or came with a reply, names no place to resume from; it is passed over
   no_id : (event : Fields) (upto : Option Tree) → Next past at (event ∷ after.events) after.cursor upto → get (codes "_id") event ≡ None → e ≡ plain kind.MissingResumeToken → after.upto ≡ upto → IsSettled after → CallFails past at after e
-
--- the cursor of a stream behind a call that failed
-pub data Has (past : Past) (at : Standing) (c : CursorInformation) : Type 0 where
-  leaves : Leaves past at c → Has past at c
-  renewed : (bytes : List ℕ) (upto : Option Tree) → Resumed past at bytes c upto → Has past at c
 
 -- the stream keeps its token
 pub record CallFailed (past : Past) (at after : Standing) (e : Error) : Type 0 where
   pub why : CallFails past at after e
   pub token : after.aggregate ≡ at.aggregate
-  pub cursor : Has past at after.cursor
 
 -- A call that has ended: what it answered, how its stream stood before it, and how it stands behind it.
 abbrev pub Called : Past → Standing → Standing → EventPoll → Type 0
@@ -394,21 +450,26 @@ abbrev pub KillCause : Error → List ℕ → ChangeStream → ChangeStream → 
 KillCause e held s s' stepped.Goes = (s' ≡ record s { phase = phase.Resumed held }) × (e.kind ≡ kind.OutOfMemory → ⊥)
 KillCause e held s s' (stepped.Gives p) = (s' ≡ record s { phase = phase.Owing }) × WantsMemory p
 
+-- a reply to a getMore was not kept: it tells no cursor, or no documents of it
+pub data Unkept (s s' : ChangeStream) (bytes : List ℕ) (e : Error) : Type 0 where
+  unread : s'.cursor ≡ s.cursor → FailsBy (BreaksIn (fields bytes)) e → Unkept s s' bytes e
+  unheld : (upto : Option Tree) → TellsCursor bytes s.cursor.batch_size s'.cursor upto → FailsBy (BreaksBatch (fields bytes)) e → Unkept s s' bytes e
+
 -- behind the reply to a getMore
 abbrev pub MoreLeads : List ℕ → ChangeStream → ChangeStream → Stepped → Type 0
-MoreLeads bytes s s' r = (awaited : Awaited) (past : Past) (at : Standing) → s.aggregate ≡ at.aggregate → s.cursor ≡ at.cursor → HeardBy past (more_command at) (reply bytes) → StepCame awaited past at false s' r
+MoreLeads bytes s s' r = (awaited : Awaited) (past : Past) (at : Standing) → s.aggregate ≡ at.aggregate → s.cursor ≡ at.cursor → HeardMore past at (reply bytes) → IsSuccess bytes → StepCame awaited past at false s' r
 
 -- behind a getMore that failed
 abbrev pub FailLeads : Error → ChangeStream → ChangeStream → Stepped → Type 0
-FailLeads e s s' r = (awaited : Awaited) (past : Past) (at : Standing) → s.aggregate ≡ at.aggregate → IsStart at s → at.events ≡ [] → Failed past (more_command at) false e → StepCame awaited past at false s' r
+FailLeads e s s' r = (awaited : Awaited) (past : Past) (at : Standing) → s.aggregate ≡ at.aggregate → IsStart at s → MayAsk at → Failed past (more_command at) false e → StepCame awaited past at false s' r
 
 -- behind the reply to the aggregate of a resumption
 abbrev pub ResumeLeads : List ℕ → ChangeStream → ChangeStream → Stepped → Type 0
-ResumeLeads bytes s s' r = (awaited : Awaited) (past : Past) (at : Standing) → s.aggregate ≡ at.aggregate → Resumes past at → Leaves past at s.cursor → HeardBy past (resume_command past.wire at) (reply bytes) → StepCame awaited past at false s' r
+ResumeLeads bytes s s' r = (awaited : Awaited) (past : Past) (at : Standing) → s.aggregate ≡ at.aggregate → Resumes past at s.cursor → HeardBy past (resume_command past.wire at) (reply bytes) → IsSuccess bytes → StepCame awaited past at false s' r
 
 -- with the cursor of that reply
 abbrev pub ReplaceLeads : CursorSpecification → ChangeStream → ChangeStream → Stepped → Type 0
-ReplaceLeads out s s' r = (awaited : Awaited) (past : Past) (at : Standing) → s.aggregate ≡ at.aggregate → Leaves past at s.cursor → Resumed past at out.initial_reply out.info out.post_batch_resume_token → StepCame awaited past at false s' r
+ReplaceLeads out s s' r = (awaited : Awaited) (past : Past) (at : Standing) → s.aggregate ≡ at.aggregate → Resumed past at s.cursor out.initial_reply out.info out.post_batch_resume_token → StepCame awaited past at false s' r
 
 -- with the aggregate of a resumption to be sent at this wire version
 abbrev pub OweLeads : ℤ → ChangeStream → ChangeStream → Stepped → Type 0

@@ -1,6 +1,7 @@
 -- What the answers of a closing are caused by, over all its polls.
-use Rattle.std.specs.Prelude.{◌≡◌, ◌⊎◌, false, ℕ, ℤ, List, [], length, Some}
-use Rattle.mg_bson.specs.Tree.{Fields}
+use Rattle.std.specs.Prelude.{◌≡◌, ◌≢◌, ◌⊎◌, true, false, ℕ, ℤ, List, [], length, Option, Some}
+use Rattle.mg_bson.specs.Tree.{Fields, Tree}
+use Rattle.mg_bson.specs.Raw.{fields}
 use Rattle.mg_bson.specs.Reading.{doc}
 use Rattle.mg_link.specs.Errors.{plain}
 use Rattle.mg_link.specs.Exec.{FailsByReply, IsSuccess}
@@ -11,11 +12,14 @@ use Rattle.mg_link.specs.declared.action.Step.{Step}
 use Rattle.mg_link.specs.declared.action.Step.TheVariants as step
 use Rattle.mg_link.specs.declared.error.Error.{Error}
 use Rattle.mg_link.specs.declared.error.ErrorKind.TheVariants as kind
-use Rattle.mg_ops.specs.Commands.{kill_command}
+use Rattle.mg_ops.specs.Commands.{get_more_command, kill_command}
+use Rattle.mg_ops.specs.Cursors.{BreaksIn}
 use Rattle.mg_ops.specs.Failing.{CannotBeSent}
 use Rattle.mg_ops.specs.declared.cursor_reply.CursorInformation.{CursorInformation}
-use Rattle.mg_change.specs.Calls.{Flies, HeardLast, Past, past_of}
+use Rattle.mg_change.specs.Calls.{Flies, HeardBy, HeardLast, Keeps, Past, past_of}
+use Rattle.mg_change.specs.Causes.{TellsCursor, cursor_behind}
 use Rattle.mg_change.specs.Closings.{ids_left}
+use Rattle.mg_change.specs.Phases.{resuming_command}
 use Rattle.mg_change.specs.declared.closing.Closing.{Closing}
 use Rattle.mg_change.specs.declared.closing.Remains.{Remains}
 use Rattle.mg_change.specs.declared.closing.Flight.{Flight}
@@ -31,23 +35,28 @@ KillsSoFar awaited past c opened flight.Landed = Unit {0}
 KillsSoFar awaited past c opened (flight.More get_more exec) = ⊥
 KillsSoFar awaited past c opened (flight.Resumption exec) = ⊥
 KillsSoFar awaited past c opened (flight.Older exec id) = ⊥
-KillsSoFar awaited past c opened (flight.Last exec) = Flies awaited past (last_command c opened) exec.stage
+KillsSoFar awaited past c opened (flight.Last exec) = (ids_left c.id opened ≢ []) × Flies awaited past (last_command c opened) exec.stage
 
--- why the killing of what is left fails
-pub data KillFails (past : Past) (c : CursorInformation) (opened : ℤ) (e : Error) : Type 0 where
+-- why what is left is not killed
+pub data NotKilled (past : Past) (c : CursorInformation) (opened : ℤ) (e : Error) : Type 0 where
   -- memory ran out
-  no_memory : e.kind ≡ kind.OutOfMemory → KillFails past c opened e
+  no_memory : e.kind ≡ kind.OutOfMemory → NotKilled past c opened e
   -- the killCursors was lost
-  lost : e ≡ plain kind.Io → HeardLast past (last_command c opened) false fault → KillFails past c opened e
+  lost : e ≡ plain kind.Io → HeardLast past (last_command c opened) false fault → NotKilled past c opened e
   -- the reply to it is no success
-  refused : (bytes : List ℕ) → HeardLast past (last_command c opened) false (reply bytes) → FailsByReply (doc bytes) past.wire e → KillFails past c opened e
+  refused : (bytes : List ℕ) → HeardLast past (last_command c opened) false (reply bytes) → FailsByReply (doc bytes) past.wire e → NotKilled past c opened e
   -- it cannot be built
-  cannot_kill : CannotBeSent (last_command c opened) e → KillFails past c opened e
+  cannot_kill : CannotBeSent (last_command c opened) e → NotKilled past c opened e
 
--- why it is done: nothing was left, or the server answered with success
+-- the killing fails only where something is left
+pub record KillFails (past : Past) (c : CursorInformation) (opened : ℤ) (e : Error) : Type 0 where
+  pub some_left : ids_left c.id opened ≢ []
+  pub why : NotKilled past c opened e
+
+-- why it is done: nothing is left, and no cursor is killed; or the server answered with success
 pub data KillDone (past : Past) (c : CursorInformation) (opened : ℤ) : Type 0 where
   none_left : ids_left c.id opened ≡ [] → KillDone past c opened
-  killed : (bytes : List ℕ) → HeardLast past (last_command c opened) false (reply bytes) → IsSuccess bytes → KillDone past c opened
+  killed : ids_left c.id opened ≢ [] → (bytes : List ℕ) → HeardLast past (last_command c opened) false (reply bytes) → IsSuccess bytes → KillDone past c opened
 
 -- what the killing of what is left comes to
 abbrev pub KillCame : {T : Type 0} → Awaited → Past → Remains → Step Closing T → Type 0
@@ -60,37 +69,88 @@ abbrev pub KillCaused : {T : Type 0} → Awaited → Awaited → Told → Told �
 KillCaused old new log log' wire r f result = (calls : List Call) → log ≡ Some calls → (places : List ℕ) → KillsSoFar old (past_of places (length calls) calls wire) r.cursor r.opened f
     → (calls' : List Call) × (log' ≡ Some calls') × KillCame new (past_of places (length calls) calls' wire) r result
 
--- the request of the stream that is closed is in flight still
-abbrev pub IsWaiting : Flight → Type 0
-IsWaiting flight.Landed = ⊥
-IsWaiting (flight.More get_more exec) = Unit {0}
-IsWaiting (flight.Resumption exec) = Unit {0}
-IsWaiting (flight.Older exec id) = Unit {0}
-IsWaiting (flight.Last exec) = ⊥
+-- ---- the request of the stream that is in flight as it is closed
 
--- it waits still, has ended, or fails by want of memory only
+-- the getMore of its cursor
+abbrev pub asked_more : CursorInformation → Fields
+asked_more c = get_more_command c.id (space c.ns) c.batch_size
+
+-- how far it has come
+abbrev pub FliesSoFar : Awaited → Past → Remains → Flight → Type 0
+FliesSoFar awaited past r flight.Landed = ⊥
+FliesSoFar awaited past r (flight.More get_more exec) = Flies awaited past (asked_more r.cursor) exec.stage
+FliesSoFar awaited past r (flight.Resumption exec) = Flies awaited past (resuming_command r.aggregate past.wire) exec.stage
+FliesSoFar awaited past r (flight.Older exec id) = Unit {0}
+FliesSoFar awaited past r (flight.Last exec) = ⊥
+
+-- what a getMore leaves that has ended
+pub data MoreLeft (past : Past) (r left : Remains) : Type 0 where
+  -- it was lost: the cursor, as it was
+  lost : HeardBy past (asked_more r.cursor) fault → left ≡ r → MoreLeft past r left
+  -- it was refused: none where the server says that it holds it no longer
+  refused : (bytes : List ℕ) (e : Error) → HeardBy past (asked_more r.cursor) (reply bytes) → FailsByReply (doc bytes) past.wire e → e.kind ≢ kind.OutOfMemory → left ≡ record r { cursor = cursor_behind e r.cursor } → MoreLeft past r left
+  -- the reply tells no cursor
+  unread : (bytes : List ℕ) (e : Error) → HeardBy past (asked_more r.cursor) (reply bytes) → BreaksIn (fields bytes) e → left ≡ r → MoreLeft past r left
+  -- the cursor that the reply tells
+  given : (bytes : List ℕ) (c : CursorInformation) (upto : Option Tree) → HeardBy past (asked_more r.cursor) (reply bytes) → TellsCursor bytes r.cursor.batch_size c upto → left ≡ record r { cursor = c } → MoreLeft past r left
+
+-- what the aggregate of a resumption leaves that has ended
+pub data ResumptionLeft (past : Past) (r left : Remains) : Type 0 where
+  -- it was lost, twice
+  lost : HeardLast past (resuming_command r.aggregate past.wire) true fault → left ≡ r → ResumptionLeft past r left
+  -- it was refused
+  refused : (bytes : List ℕ) (e : Error) → HeardLast past (resuming_command r.aggregate past.wire) true (reply bytes) → FailsByReply (doc bytes) past.wire e → left ≡ r → ResumptionLeft past r left
+  -- the reply tells no cursor
+  unread : (bytes : List ℕ) (e : Error) → HeardLast past (resuming_command r.aggregate past.wire) true (reply bytes) → BreaksIn (fields bytes) e → left ≡ r → ResumptionLeft past r left
+  -- one cursor more, which the reply tells
+  brought : (bytes : List ℕ) (c : CursorInformation) (upto : Option Tree) → HeardLast past (resuming_command r.aggregate past.wire) true (reply bytes) → TellsCursor bytes r.aggregate.args.options.batch_size c upto → left ≡ record r { opened = c.id } → ResumptionLeft past r left
+
+-- what the request leaves
+abbrev pub LeftBy : Past → Remains → Flight → Remains → Type 0
+LeftBy past r flight.Landed left = ⊥
+LeftBy past r (flight.More get_more exec) left = MoreLeft past r left
+LeftBy past r (flight.Resumption exec) left = ResumptionLeft past r left
+LeftBy past r (flight.Older exec id) left = left ≡ r
+LeftBy past r (flight.Last exec) left = ⊥
+
+-- a failure that is answered is want of memory
 abbrev pub WantsMemory : {T : Type 0} → Step Closing T → Type 0
-WantsMemory (step.Pending c) = IsWaiting c.flight
+WantsMemory (step.Pending c) = Unit {0}
 WantsMemory (step.Done t) = Unit {0}
 WantsMemory (step.Failed e) = e.kind ≡ kind.OutOfMemory
 
--- what comes behind a request in flight that ended: the killing of what is left
-pub record Kills {T : Type 0} (awaited : Awaited) (since : ℕ) (log : Told) (wire : ℤ) (result : Step Closing T) : Type 0 where
-  pub left : Remains
-  pub calls : List Call
-  pub told : log ≡ Some calls
-  pub came : KillCame awaited (past_of [] since calls wire) left result
+-- it waits still, has ended, or memory ran out
+abbrev pub LandCame : Awaited → Past → Remains → Flight → Step Closing Remains → Type 0
+LandCame awaited past r f (step.Pending c) = (c.remains ≡ r) × FliesSoFar awaited past r c.flight
+LandCame awaited past r f (step.Done left) = LeftBy past r f left
+LandCame awaited past r f (step.Failed e) = e.kind ≡ kind.OutOfMemory
 
--- the request in flight waits still, memory ran out, or what it left is killed
-abbrev pub LandCaused : {T : Type 0} → Awaited → Told → Told → ℤ → Step Closing T → Type 0
-LandCaused new log log' wire (step.Pending c) = IsWaiting c.flight ⊎ ((calls : List Call) → log ≡ Some calls → Kills {T = Unit {0}} new (length calls) log' wire (step.Pending c))
-LandCaused new log log' wire (step.Done t) = (calls : List Call) → log ≡ Some calls → Kills new (length calls) log' wire (step.Done t)
-LandCaused new log log' wire (step.Failed e) = (e.kind ≡ kind.OutOfMemory) ⊎ ((calls : List Call) → log ≡ Some calls → Kills {T = Unit {0}} new (length calls) log' wire (step.Failed e))
+-- a poll led it on
+abbrev pub LandRan : Awaited → Awaited → Told → Told → ℤ → Remains → Flight → Step Closing Remains → Type 0
+LandRan old new log log' wire r f landing = (calls : List Call) → log ≡ Some calls → (places : List ℕ) → FliesSoFar old (past_of places (length calls) calls wire) r f
+    → (calls' : List Call) × (log' ≡ Some calls') × Keeps calls calls' × LandCame new (past_of places (length calls) calls' wire) r f landing
+
+-- what comes behind it: the killing of what it left
+pub record Kills {T : Type 0} (awaited : Awaited) (past : Past) (r : Remains) (f : Flight) (result : Step Closing T) : Type 0 where
+  pub left : Remains
+  pub leaves : LeftBy past r f left
+  pub came : KillCame awaited past left result
+
+-- it waits still, memory ran out, or what it left is killed
+abbrev pub CloseCame : {T : Type 0} → Awaited → Past → Remains → Flight → Step Closing T → Type 0
+CloseCame awaited past r f (step.Pending c) = ((c.remains ≡ r) × FliesSoFar awaited past r c.flight) ⊎ Kills {T = Unit {0}} awaited past r f (step.Pending c)
+CloseCame awaited past r f (step.Done t) = Kills awaited past r f (step.Done t)
+CloseCame awaited past r f (step.Failed e) = (e.kind ≡ kind.OutOfMemory) ⊎ Kills {T = Unit {0}} awaited past r f (step.Failed e)
+
+-- a poll of the closing led it on
+abbrev pub LandCaused : {T : Type 0} → Awaited → Awaited → Told → Told → ℤ → Remains → Flight → Step Closing T → Type 0
+LandCaused old new log log' wire r f result = (calls : List Call) → log ≡ Some calls → (places : List ℕ) → FliesSoFar old (past_of places (length calls) calls wire) r f
+    → (calls' : List Call) × (log' ≡ Some calls') × CloseCame new (past_of places (length calls) calls' wire) r f result
 
 -- what an answer of a closing is caused by, by what was in flight
 abbrev pub ClosingCaused : {T : Type 0} → Awaited → Awaited → Told → Told → ℤ → Remains → Flight → Step Closing T → Type 0
 ClosingCaused old new log log' wire r flight.Landed result = KillCaused old new log log' wire r flight.Landed result
-ClosingCaused old new log log' wire r (flight.More get_more exec) result = LandCaused new log log' wire result
-ClosingCaused old new log log' wire r (flight.Resumption exec) result = LandCaused new log log' wire result
-ClosingCaused old new log log' wire r (flight.Older exec id) result = LandCaused new log log' wire result
+ClosingCaused old new log log' wire r (flight.More get_more exec) result = LandCaused old new log log' wire r (flight.More get_more exec) result
+ClosingCaused old new log log' wire r (flight.Resumption exec) result = LandCaused old new log log' wire r (flight.Resumption exec) result
+ClosingCaused old new log log' wire r (flight.Older exec id) result = LandCaused old new log log' wire r (flight.Older exec id) result
 ClosingCaused old new log log' wire r (flight.Last exec) result = KillCaused old new log log' wire r (flight.Last exec) result

@@ -1,19 +1,23 @@
 -- The closing of a change stream.
-use Rattle.std.specs.Prelude.{◌≡◌, ◌≢◌, ◌⊎◌, ◌++◌, ℕ, ℤ, pos, Bool, false, true, List, [], ◌∷◌, Option, None, if◌then◌else◌}
+use Rattle.std.specs.Prelude.{◌≡◌, ◌≢◌, ◌⊎◌, ◌++◌, ℕ, ℤ, pos, false, true, List, [], ◌∷◌, Option, None, if◌then◌else◌}
 use Rattle.std.specs.Ordering.{int_eq}
 use Rattle.mg_link.specs.Exec.{Runs, Sending, ticket_of, unsent}
 use Rattle.mg_link.specs.Follow.{Follow, asking, owing, resting, resuming}
 use Rattle.mg_link.specs.Link.{Awaited, Told}
+use Rattle.mg_bson.specs.Raw.{fields}
 use Rattle.mg_link.specs.Namespace.{space}
 use Rattle.mg_link.specs.declared.action.Step.{Step}
 use Rattle.mg_link.specs.declared.action.Step.TheVariants as step
+use Rattle.mg_link.specs.declared.error.Error.{Error}
+use Rattle.mg_link.specs.declared.error.ErrorKind.TheVariants as kind
 use Rattle.mg_link.proofs.Retries.{at_stage}
 use Rattle.mg_ops.specs.Commands.{get_more_command, kill_command}
-use Rattle.mg_ops.specs.Cursors.{Gave, OpensAt}
+use Rattle.mg_ops.specs.Cursors.{BreaksIn, Gave, OpensAt}
 use Rattle.mg_ops.specs.declared.aggregate.ChangeStreamAggregate.{ChangeStreamAggregate}
 use Rattle.mg_ops.specs.declared.cursor_reply.CursorSpecification.{CursorSpecification}
 use Rattle.mg_ops.specs.declared.cursor_reply.GetMoreResult.{GetMoreResult}
 use Rattle.mg_bson.specs.declared.tree.Timestamp.{Timestamp}
+use Rattle.mg_change.specs.Causes.{cursor_behind}
 use Rattle.mg_change.specs.Following.{Asks, token_of}
 use Rattle.mg_change.specs.Phases.{Carries, IsKept, IsKilling, resuming_command}
 use Rattle.mg_change.specs.Polls.{IsNotIo}
@@ -203,26 +207,26 @@ closes_to awaited f (step.Failed e) = closed f
 
 -- ---- replies
 
--- behind the reply to a getMore: with the cursor of the reply, or with the old one where nothing was read
+-- behind the reply to a getMore: with the cursor of the reply, or with the old one where the reply tells none
 abbrev pub MoreLeaves : List ℕ → Remains → Step Closing Remains → Type 0
 MoreLeaves bytes r (step.Pending c) = ⊥
-MoreLeaves bytes r (step.Done r') = (r' ≡ r) ⊎ ((out : GetMoreResult) × Gave bytes out × (r' ≡ record r { cursor = record r.cursor { id = out.id; ns = out.ns } }))
+MoreLeaves bytes r (step.Done r') = ((e : Error) × (r' ≡ r) × BreaksIn (fields bytes) e) ⊎ ((out : GetMoreResult) × Gave bytes out × (r' ≡ record r { cursor = record r.cursor { id = out.id; ns = out.ns } }))
 MoreLeaves bytes r (step.Failed e) = Unit {0}
 
 -- behind a getMore that failed: the server may have said that it holds the cursor no longer
-abbrev pub FailLeaves : Remains → Step Closing Remains → Type 0
-FailLeaves r (step.Pending c) = ⊥
-FailLeaves r (step.Done r') = (ended : Bool) × (r' ≡ record r { cursor = record r.cursor { id = (if ended then pos 0 else r.cursor.id) } })
-FailLeaves r (step.Failed e) = Unit {0}
+abbrev pub FailLeaves : Error → Remains → Step Closing Remains → Type 0
+FailLeaves e r (step.Pending c) = ⊥
+FailLeaves e r (step.Done r') = (r' ≡ record r { cursor = cursor_behind e r.cursor }) × (e.kind ≡ kind.OutOfMemory → ⊥)
+FailLeaves e r (step.Failed x) = Unit {0}
 
--- behind the reply to the aggregate of a resumption: with one cursor more, or none where nothing was read
+-- behind the reply to the aggregate of a resumption: with one cursor more, or none where the reply tells none
 abbrev pub ResumeLeaves : List ℕ → Remains → Step Closing Remains → Type 0
 ResumeLeaves bytes r (step.Pending c) = ⊥
-ResumeLeaves bytes r (step.Done r') = (r' ≡ r) ⊎ ((out : CursorSpecification × Option Timestamp) × OpensAt r.aggregate.args.options.batch_size bytes out × (r' ≡ record r { opened = out.0.info.id }))
+ResumeLeaves bytes r (step.Done r') = ((e : Error) × (r' ≡ r) × BreaksIn (fields bytes) e) ⊎ ((out : CursorSpecification × Option Timestamp) × OpensAt r.aggregate.args.options.batch_size bytes out × (r' ≡ record r { opened = out.0.info.id }))
 ResumeLeaves bytes r (step.Failed e) = Unit {0}
 
 -- a failure that is passed over
-abbrev pub Leaves : Remains → Step Closing Remains → Type 0
-Leaves r (step.Pending c) = ⊥
-Leaves r (step.Done r') = r' ≡ r
-Leaves r (step.Failed e) = Unit {0}
+abbrev pub Leaves : Error → Remains → Step Closing Remains → Type 0
+Leaves e r (step.Pending c) = ⊥
+Leaves e r (step.Done r') = (r' ≡ r) × (e.kind ≡ kind.OutOfMemory → ⊥)
+Leaves e r (step.Failed x) = Unit {0}

@@ -1,22 +1,26 @@
 -- What the answers of an opening are caused by, over all its polls.
-use Rattle.std.specs.Prelude.{◌≡◌, ◌↔◌, IsTrue, Bool, true, ℕ, ℤ, List, length, Option, Some, None, option_map}
+use Rattle.std.specs.Prelude.{◌≡◌, ◌↔◌, IsTrue, Bool, true, false, ℕ, ℤ, List, [], length, Option, Some, None, option_map}
 use Rattle.mg_bson.specs.Tree.{no_items}
 use Rattle.mg_bson.specs.Raw.{fields}
 use Rattle.mg_bson.specs.Reading.{doc}
 use Rattle.mg_link.specs.Errors.{plain}
-use Rattle.mg_link.specs.Exec.{FailsByReply, Sending}
+use Rattle.mg_link.specs.Exec.{FailsByReply, IsSuccess, Sending}
+use Rattle.mg_link.specs.Follow.{Moved}
 use Rattle.mg_link.specs.Link.{Awaited, Told}
 use Rattle.mg_link.specs.Log.{reply, fault, Call}
+use Rattle.mg_link.specs.State.{Start, Watch}
 use Rattle.mg_link.specs.declared.action.Step.{Step}
 use Rattle.mg_link.specs.declared.action.Step.TheVariants as step
 use Rattle.mg_link.specs.declared.error.Error.{Error}
 use Rattle.mg_link.specs.declared.error.ErrorKind.TheVariants as kind
 use Rattle.mg_ops.specs.Cursors.{BreaksIn, operation_time, time_parts}
+use Rattle.mg_ops.specs.declared.aggregate.ChangeStreamAggregate.{ChangeStreamAggregate}
 use Rattle.mg_ops.specs.declared.change_stream.WatchArgs.{WatchArgs}
 use Rattle.mg_bson.specs.declared.tree.Timestamp.{Timestamp}
 use Rattle.mg_change.specs.Calls.{Flies, HeardLast, Past, past_of}
 use Rattle.mg_change.specs.Causes.{CannotBuild, Standing, TellsCursor, standing_of}
-use Rattle.mg_change.specs.Openings.{first_known, opening_command}
+use Rattle.mg_change.specs.Following.{Asks, follow_of, opening_in}
+use Rattle.mg_change.specs.Openings.{IsOpening, first_known, opening_command}
 use Rattle.mg_change.specs.declared.opening.Opening.{Opening}
 use Rattle.mg_change.specs.declared.stream.ChangeStream.{ChangeStream}
 
@@ -43,7 +47,10 @@ pub record Opened (past : Past) (args : WatchArgs) (first : Standing) : Type 0 w
   pub args_are : first.aggregate.args ≡ args
   pub bytes : List ℕ
   pub heard : HeardLast past (opening_command args) true (reply bytes)
+  pub success : IsSuccess bytes
   pub in_hand : first.first ≡ Some bytes
+  pub none_yet : first.events ≡ []
+  pub quits : first.owes ≡ false
   pub tells : TellsCursor bytes args.options.batch_size first.cursor first.upto
   pub is_empty : Bool
   pub empty : IsTrue is_empty ↔ (tells.batch ≡ no_items)
@@ -61,3 +68,18 @@ OpeningCame awaited past args (step.Failed e) = OpeningFails past args e
 abbrev pub OpeningCaused : Awaited → Awaited → Told → Told → ℤ → WatchArgs → Option Sending → Step Opening ChangeStream → Type 0
 OpeningCaused old new log log' wire args exec result = (calls : List Call) → log ≡ Some calls → (places : List ℕ) → OpensSoFar old (past_of places (length calls) calls wire) args exec
     → (calls' : List Call) × (log' ≡ Some calls') × OpeningCame new (past_of places (length calls) calls' wire) args result
+
+-- ---- where
+
+-- A stream was opened by the call of the log at whose place its aggregate heard the reply: from there on the stream knows what it watches.
+pub record OpenedAt (old new : Awaited) (log log' : Told) (wire : ℤ) (a : ChangeStreamAggregate) (exec : Option Sending) (s : ChangeStream) : Type 0 where
+  pub place : Option ℕ
+  pub moved : IsOpening a exec → (w : Watch) (start : Start) → Asks a.args w start → Moved log log' (opening_in old exec w start) (follow_of new w start s place [])
+  pub caused : IsOpening a exec → (calls : List Call) → log ≡ Some calls → (places : List ℕ) → OpensSoFar old (past_of places (length calls) calls wire) a.args exec
+      → (calls' : List Call) × (log' ≡ Some calls') × (opened : Opened (past_of places (length calls) calls' wire) a.args (standing_of s)) × (place ≡ Some opened.heard.place)
+
+-- so does each poll that opens one
+abbrev pub OpensAt : Awaited → Awaited → Told → Told → ℤ → ChangeStreamAggregate → Option Sending → Step Opening ChangeStream → Type 0
+OpensAt old new log log' wire a exec (step.Pending o) = Unit {0}
+OpensAt old new log log' wire a exec (step.Done s) = OpenedAt old new log log' wire a exec s
+OpensAt old new log log' wire a exec (step.Failed e) = Unit {0}

@@ -1,5 +1,5 @@
 //! The closing of a change stream.
-ghost use Rattle.std.specs.Prelude.{◌≡◌, ◌≤◌, ℕ, IfErr, IfOk, None, true};
+ghost use Rattle.std.specs.Prelude.{◌≡◌, ◌≢◌, ◌≤◌, ℕ, [], IfErr, IfOk, OnErr, None, true};
 ghost use Rattle.mg_link.specs.Acts.{EndsAtOnce, FailsByFault, IsOut, Pended, Tickets, ticket_after};
 ghost use Rattle.mg_link.specs.Exec.{ticket_of};
 ghost use Rattle.mg_link.specs.Link.{Later};
@@ -8,7 +8,9 @@ ghost use Rattle.mg_link.specs.Link.{Told};
 ghost use Rattle.mg_change.specs.Growths.{Grows};
 ghost use Rattle.mg_change.specs.Closings.{Closes, FailLeaves, IsClosing, IsLanded, IsLast, IsMore, IsOlder, IsQuiet, KillRan, KillsAll, Knew, KnewBy, Lands, Leaves, MoreLeaves, QuietAfter, ResumeLeaves, closes_to, closing_in, closing_of, closing_ticket, flight_in, ids_left, landing_of, left_of};
 ghost use Rattle.mg_change.specs.Calls.{Stays};
-ghost use Rattle.mg_change.specs.ClosingCauses.{ClosingCaused, KillCaused, LandCaused, WantsMemory};
+ghost use Rattle.mg_change.specs.Causes.{cursor_behind};
+ghost use Rattle.mg_change.specs.ClosingCauses.{ClosingCaused, KillCaused, LandCaused, LandRan, WantsMemory};
+ghost use Rattle.mg_link.specs.Link.{Awaited};
 ghost use Rattle.mg_link.specs.Errors.{plain};
 ghost use Rattle.mg_link.specs.declared.error.ErrorKind.TheVariants as kind;
 ghost use Rattle.mg_change.specs.Phases.{Carries, IsKept, resuming_command};
@@ -97,7 +99,7 @@ pub(crate) fn flight_of(phase: Phase) -> Flight
 fn passed(error: Error, remains: Remains) -> Step<Closing, Remains>
     ensures landed { IsLanded result }
     ensures memory { WantsMemory result }
-    ensures leaves { Leaves remains result }
+    ensures leaves { Leaves error remains result }
 {
     if is_memory(&error) {
         Step::Failed(error)
@@ -123,16 +125,23 @@ fn more_came(remains: Remains, get_more: &GetMore, reply: RawDocumentBuf) -> Ste
     }
 }
 
+// Lets go of the cursor, where the error says that the server holds it no longer.
+fn note_end(cursor: &mut CursorInformation, error: &Error)
+    ensures { cursor.new ≡ cursor_behind error.now cursor.old }
+{
+    if ends_cursor(error) {
+        cursor.id = 0;
+    }
+}
+
 // A getMore failed.
 fn more_failed(remains: Remains, error: Error) -> Step<Closing, Remains>
     ensures landed { IsLanded result }
     ensures memory { WantsMemory result }
-    ensures leaves { FailLeaves remains result }
+    ensures leaves { FailLeaves error remains result }
 {
     let mut remains = remains;
-    if ends_cursor(&error) {
-        remains.cursor.id = 0;
-    }
+    note_end(&mut remains.cursor, &error);
     passed(error, remains)
 }
 
@@ -170,7 +179,7 @@ fn land_more<L: Link>(
     ensures moved { IsKept remains.aggregate remains.cursor → IsMore remains exec → (f : Follow)
         → Moved (L.log link.old) (L.log link.new) (closing_in (L.awaited link.old) (Flight.More get_more exec) (left_of f remains)) (landing_of (L.awaited link.new) f result) }
     ensures stays { Stays (L.log link.old) (L.log link.new) }
-    ensures memory { WantsMemory result }
+    ensures ran { IsMore remains exec → LandRan (L.awaited link.old) (L.awaited link.new) (L.log link.old) (L.log link.new) (L.wire link.old) remains (Flight.More get_more exec) result }
 {
     match exec.poll(link) {
         Step::Pending(exec) => Step::Pending(Closing {
@@ -195,7 +204,7 @@ fn land_resumption<L: Link>(link: &mut L, remains: Remains, exec: Exec) -> Step<
     ensures moved { IsKept remains.aggregate remains.cursor → Carries exec (resuming_command remains.aggregate (L.wire link.old)) true → (f : Follow) → Knew remains.aggregate f
         → Moved (L.log link.old) (L.log link.new) (closing_in (L.awaited link.old) (Flight.Resumption exec) (left_of f remains)) (landing_of (L.awaited link.new) f result) }
     ensures stays { Stays (L.log link.old) (L.log link.new) }
-    ensures memory { WantsMemory result }
+    ensures ran { Carries exec (resuming_command remains.aggregate (L.wire link.old)) true → LandRan (L.awaited link.old) (L.awaited link.new) (L.log link.old) (L.log link.new) (L.wire link.old) remains (Flight.Resumption exec) result }
 {
     match exec.poll(link) {
         Step::Pending(exec) => Step::Pending(Closing {
@@ -225,7 +234,7 @@ fn land_older<L: Link>(
     ensures moved { IsOlder remains old exec → (f : Follow)
         → Moved (L.log link.old) (L.log link.new) (closing_in (L.awaited link.old) (Flight.Older exec old) (left_of f remains)) (landing_of (L.awaited link.new) f result) }
     ensures stays { Stays (L.log link.old) (L.log link.new) }
-    ensures memory { WantsMemory result }
+    ensures ran { LandRan (L.awaited link.old) (L.awaited link.new) (L.log link.old) (L.log link.new) (L.wire link.old) remains (Flight.Older exec old) result }
 {
     match exec.poll(link) {
         Step::Pending(exec) => Step::Pending(Closing {
@@ -242,6 +251,7 @@ fn ids_of(alloc: Global, id: i64, opened: i64) -> Result<Vec<i64>, Error>
     ensures ok { IfOk result (λ ids. ids.items ≡ ids_left id opened) }
     ensures err { IfErr result IsNotIo }
     ensures room { IfErr result (λ e. e ≡ plain kind.OutOfMemory) }
+    ensures some { OnErr result (ids_left id opened ≢ []) }
 {
     let mut ids = Vec::new(alloc);
     if id != 0 {
@@ -321,7 +331,8 @@ fn go_on<L: Link>(link: &mut L, landing: Step<Closing, Remains>) -> Step<Closing
     ensures closes { (a : ChangeStreamAggregate) → Lands (L.wire link.old) a landing → Closes (L.wire link.new) a result }
     ensures moved { (f : Follow) → Moved (L.log link.old) (L.log link.new) (landing_of (L.awaited link.old) f landing) (closes_to (L.awaited link.new) f result) }
     ensures stays { Stays (L.log link.old) (L.log link.new) }
-    ensures caused { WantsMemory landing → (log : Told) → Stays log (L.log link.old) → LandCaused (L.awaited link.new) log (L.log link.new) (L.wire link.old) result }
+    ensures caused { (old : Awaited) (log : Told) (r : Remains) (f : Flight) → LandRan old (L.awaited link.old) log (L.log link.old) (L.wire link.old) r f landing
+        → LandCaused old (L.awaited link.new) log (L.log link.new) (L.wire link.old) r f result }
 {
     match landing {
         Step::Pending(closing) => Step::Pending(closing),

@@ -102,7 +102,7 @@ pub follow_same : (r : Result ⊤ Error) (f f' : FollowPlayer) → IsSameFollow 
 follow_same (Ok x) f f' same = tt
 follow_same (Err e) f f' same = (f', refl, same)
 
-length_set : {A : Type 0} (xs : List A) (k : ℕ) (y : A) → length (slice_set xs k y) ≡ length xs
+pub length_set : {A : Type 0} (xs : List A) (k : ℕ) (y : A) → length (slice_set xs k y) ≡ length xs
 length_set [] k y = refl
 length_set (z ∷ xs) zero y = refl
 length_set (z ∷ xs) (suc k) y = ap suc (length_set xs k y)

@@ -1,9 +1,8 @@
 -- What the commands of an insert appended.
-use Rattle.std.proofs.Common.{◌≡◌, ℕ, ℤ, zero, suc, ◌+◌, ◌<◌, ◌≤◌, true, List, [], ◌∷◌, ◌++◌, length, Option, Some, None, refl, sym, ap, ◌∙◌, subst, inl, inr, take, arith, append_assoc, get_or}
-use Rattle.std.specs.Prelude.{slice_get, codes}
+use Rattle.std.proofs.Common.{◌≡◌, ℕ, ℤ, zero, suc, ◌+◌, ◌<◌, ◌≤◌, true, List, [], ◌∷◌, ◌++◌, length, Option, Some, refl, sym, ap, ◌∙◌, subst, inl, inr, take, arith, append_assoc, get_or}
+use Rattle.std.specs.Prelude.{slice_get}
 use Rattle.std.specs.Option.{option_flatten}
-use Rattle.mg_bson.specs.Tree.{Tree, Fields}
-use Rattle.mg_bson.specs.Find.{get}
+use Rattle.mg_bson.specs.Tree.{Fields}
 use Rattle.mg_bson.specs.declared.object_id.ObjectId.{ObjectId}
 use Rattle.mg_link.specs.Commands.{asked, asks_insert, inserted, told}
 use Rattle.mg_link.specs.Exec.{Stage, unsent, first, second, Sending, Attempt, not_sent, waits, answered, Begins, GoesOn, Tries, Gives, Runs, IsSuccess, holding, ticket_at, ticket_of}
@@ -15,8 +14,9 @@ use Rattle.mg_link.specs.declared.action.Step.TheVariants as step
 use Rattle.mg_link.proofs.Places.{get_front, get_seam, get_within}
 use Rattle.mg_change.specs.Calls.{Grows, IsOwn, Keeps, Past, past_of}
 use Rattle.mg_change.proofs.Calls.{grows_by, keeps_longer, see_keeps}
-use Rattle.mg_jobs.specs.Appended.{IsWithId, AreWithIds, InsertsAt, Piece, ArePieces, InsertedBelow, Appended}
-use Rattle.mg_jobs.specs.Underway.{with_id, IsBatch, IsDrawn, AreDrawn, sent_of, Flies, Holding}
+use Rattle.mg_jobs.specs.Appended.{InsertsAt, Piece, ArePieces, InsertedBelow, Appended}
+use Rattle.mg_jobs.specs.Underway.{with_id, IsBatch, IsSameList, sent_of, Flies, Holding}
+use Rattle.mg_jobs.specs.declared.insert.Batches.{Batches}
 
 -- ---- a log that grew
 
@@ -56,34 +56,18 @@ below_more past k k' space before piece lt own done i = record { pieces = record
 
 -- What was appended stays so when the log grows.
 pub appended_grown : (past past' : Past) (space : Space) (ds : List Fields) (n : ℕ) → Grows past past' → Appended past space ds n → Appended past' space ds n
-appended_grown past past' space ds n grows a = record { count = a.count; sent = a.sent; ids = a.ids; stands = below_grown past past' space a.sent grows a.stands }
+appended_grown past past' space ds n grows a = record { count = a.count; stands = below_grown past past' space ds grows a.stands }
 
--- ---- documents with ids
-
-id_of : (d : Fields) (o : Option Tree) → get (codes "_id") d ≡ o → (get (codes "_id") d ≡ None → ⊥) → IsWithId d d
-id_of d None is has = absurd (has is)
-id_of d (Some t) is has = inl (t, is, refl)
-
-one_with_id : (d : Fields) (o : Option ObjectId) → IsDrawn d o → IsWithId d (with_id o d)
-one_with_id d None drawn = id_of d (get (codes "_id") d) refl drawn
-one_with_id d (Some id) drawn = inr (drawn, id.0, refl)
-
-pub all_with_ids : (ds : List Fields) (os : List (Option ObjectId)) → AreDrawn ds os → AreWithIds ds (sent_of os ds)
-all_with_ids [] [] drawn = tt
-all_with_ids (d ∷ ds) (o ∷ os) drawn = (one_with_id d o drawn.0, all_with_ids ds os drawn.1)
-all_with_ids [] (o ∷ os) drawn = tt
-all_with_ids (d ∷ ds) [] drawn = absurd drawn
-
-pub drawn_more : (ds : List Fields) (os : List (Option ObjectId)) (d : Fields) (o : Option ObjectId) → AreDrawn ds os → IsDrawn d o → AreDrawn (ds ++ d ∷ []) (os ++ o ∷ [])
-drawn_more [] [] d o drawn is = (is, tt)
-drawn_more (e ∷ ds) (p ∷ os) d o drawn is = (drawn.0, drawn_more ds os d o drawn.1 is)
-drawn_more [] (p ∷ os) d o drawn is = absurd drawn
-drawn_more (e ∷ ds) [] d o drawn is = absurd drawn
+-- ---- what is sent
 
 pub sent_length : (os : List (Option ObjectId)) (ds : List Fields) → length (sent_of os ds) ≡ length ds
 sent_length os [] = refl
 sent_length [] (d ∷ ds) = ap suc (sent_length [] ds)
 sent_length (o ∷ os) (d ∷ ds) = ap suc (sent_length os ds)
+
+-- batches of the same list send the same
+pub same_sent : (b b' : Batches) → IsSameList b b' → sent_of b'.drawn.items b'.documents.now ≡ sent_of b.drawn.items b.documents.now
+same_sent b b' same = ap (λ v. sent_of v.items b'.documents.now) same.2 ∙ ap (λ d. sent_of b.drawn.items d.now) same.1
 
 pub sent_at : (os : List (Option ObjectId)) (ds : List Fields) (i : ℕ) (d : Fields) → slice_get ds i ≡ Some d → slice_get (sent_of os ds) i ≡ Some (with_id (option_flatten (slice_get os i)) d)
 sent_at os [] i d h = absurd cc
@@ -105,10 +89,6 @@ take_whole (x ∷ xs) (suc k) le = ap (λ l. x ∷ l) (take_whole xs k (omega ar
 
 one_more : (k : ℕ) → suc k ≡ k + 1
 one_more k = omega arith
-
-pub drawn_step : (ds : List Fields) (os : List (Option ObjectId)) (k : ℕ) (d : Fields) (o : Option ObjectId) → slice_get ds k ≡ Some d → AreDrawn (take k ds) os → IsDrawn d o → AreDrawn (take (k + 1) ds) (os ++ o ∷ [])
-drawn_step ds os k d o at drawn is =
-    subst (λ (n : ℕ). AreDrawn (take n ds) (os ++ o ∷ [])) (one_more k) (subst (λ (l : List Fields). AreDrawn l (os ++ o ∷ [])) (sym (take_more ds k d at)) (drawn_more (take k ds) os d o drawn is))
 
 pub at_of : {A : Type 0} (xs : List A) (i : ℕ) (x : A) → i < length xs → x ≡ get_or xs i x → slice_get xs i ≡ Some x
 at_of [] i x lt is = absurd (omega arith)

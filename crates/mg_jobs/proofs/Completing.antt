@@ -1,5 +1,5 @@
 -- How jobs end over a link that loses nothing, where their server holds nothing back.
-use Rattle.std.proofs.Common.{◌≡◌, ◌⊎◌, ◌≤◌, ℕ, suc, ℤ, pos, Bool, true, false, List, [], ◌∷◌, length, take, Contains, Option, Some, None, refl, sym, ap, ◌∙◌, subst, inl, inr, arith}
+use Rattle.std.proofs.Common.{◌≡◌, ◌≤◌, ℕ, suc, ℤ, pos, Bool, true, false, List, [], ◌∷◌, length, take, Contains, Option, Some, None, refl, sym, ap, ◌∙◌, subst, inl, inr, arith}
 use Rattle.std.specs.Prelude.{IfOk, Result, Ok, Err, slice_get, unwrap_or}
 use Rattle.mg_bson.specs.Tree.{Tree, Fields, no_fields}
 use Rattle.mg_bson.specs.Raw.{fields}
@@ -19,30 +19,27 @@ use Rattle.mg_link.specs.declared.reply.Verdict.{Verdict}
 use Rattle.mg_link.specs.declared.reply.Verdict.TheVariants as verdict
 use Rattle.mg_link.proofs.Places.{get_within}
 use Rattle.mg_options.specs.declared.change_stream.ChangeStreamOptions.{ChangeStreamOptions}
-use Rattle.mg_ops.specs.Aims.{aim_of}
-use Rattle.mg_ops.specs.Commands.{get_more_command, insert_command, watch_command}
+use Rattle.mg_ops.specs.Commands.{get_more_command, insert_command}
 use Rattle.mg_ops.specs.Failing.{CannotBeSent}
 use Rattle.mg_ops.specs.Limits.{SizePasses}
 use Rattle.mg_ops.specs.Naming.{IsNamed}
-use Rattle.mg_ops.specs.Resuming.{options_for}
 use Rattle.mg_ops.specs.Writes.{ListsAs}
-use Rattle.mg_ops.specs.declared.aggregate.ChangeStreamAggregate.{ChangeStreamAggregate}
 use Rattle.mg_ops.specs.declared.change_stream.WatchArgs.{WatchArgs}
 use Rattle.mg_ops.specs.declared.cursor_reply.CursorInformation.{CursorInformation}
-use Rattle.mg_ops.proofs.Asking.{asks_as_aimed, asks_for_more, asks_to_insert}
+use Rattle.mg_ops.proofs.Asking.{asks_to_insert}
 use Rattle.mg_change.specs.Calls.{HeardAt, HeardBy, HeardLast, Past}
-use Rattle.mg_change.specs.Causes.{CallEmpty, CallFailed, CallFails, CallGave, CallNone, Called, CannotBuild, Has, Leaves, Next, Replied, Standing, Stays, TellsCursor, more_command, remembered_empty, resume_command}
+use Rattle.mg_change.specs.Causes.{CallEmpty, CallFailed, CallFails, CallGave, CallNone, Called, CannotBuild, MayLose, MoreFails, Next, Replied, Resumes, Standing, Stays, TellsCursor, more_command, remembered_empty, resume_command}
 use Rattle.mg_change.specs.Causes as causes
 use Rattle.mg_change.specs.Closings.{ids_left}
-use Rattle.mg_change.specs.ClosingCauses.{KillFails, last_command}
+use Rattle.mg_change.specs.ClosingCauses.{NotKilled, last_command}
 use Rattle.mg_change.specs.ClosingCauses as closings
 use Rattle.mg_change.specs.OpeningCauses.{Opened, OpeningFails}
 use Rattle.mg_change.specs.OpeningCauses as openings
 use Rattle.mg_change.specs.Openings.{opening_command}
-use Rattle.mg_change.proofs.Reading.{named_read}
-use Rattle.mg_jobs.specs.Causes.{AllCaused, AllSentIn, Answered, ClosedBy, Course, FollowCaused, InsertEnds, OpenCaused, OpenFailed, OutcomeCaused, OwesAlone, SentIn, course, sent_at}
+use Rattle.mg_jobs.specs.Causes.{AllCaused, AllSentIn, Answered, ClosedBy, Course, FollowCaused, InsertEnds, OpenCaused, OpenFailed, OutcomeCaused, SentIn, course, sent_at}
 use Rattle.mg_jobs.specs.Completing.{AllWell, AnswerWell, AnswersAreWell, AnswersWell, AreFresh, CallsWell, EndsWell, FollowWell, InsertWell, IsExcused, IsExcusedInsert, OutcomeWell, SendFresh, asks, kills, opens, resumes}
 use Rattle.mg_jobs.specs.Counts.{Faultless, LosesNothing}
+use Rattle.mg_jobs.specs.Drawing.{as_sent}
 use Rattle.mg_jobs.specs.Follows.{IsArgsFor, poll_of}
 use Rattle.mg_jobs.specs.InsertCauses.{InsertFails, cannot_encode, cannot_insert, listed, lost, no_memory, refused}
 use Rattle.mg_script.specs.Plan.{Begin, Task, follow, get, insert, put}
@@ -55,9 +52,10 @@ use Rattle.mg_script.specs.declared.outcome.Outcome.{Outcome}
 use Rattle.mg_script.specs.declared.outcome.Outcome.TheVariants as outcome
 use Rattle.mg_script.specs.declared.outcome.Played.{Played}
 use Rattle.mg_script.specs.declared.outcome.Turned.{Turned}
-use Rattle.mg_jobs.proofs.Batches.{breaks_not, events_are}
+use Rattle.mg_jobs.proofs.Batches.{breaks_not}
 use Rattle.mg_jobs.proofs.InsertWell.{never_lists}
-use Rattle.mg_jobs.proofs.Prompting.{Brings, HaveIds, IsPrompted, more_brings, prompt_success, prompted, watch_brings}
+use Rattle.mg_jobs.proofs.Prompting.{Brings, IsPrompted, prompt_success, prompted}
+use Rattle.mg_jobs.proofs.Identified.{IsHonest, StandsWell, empty_well, failed_well, gave_well, heard_by, honest_over, next_well, opened_well, replied_well, resumed_brings}
 
 -- ---- what a call heard
 
@@ -65,8 +63,8 @@ use Rattle.mg_jobs.proofs.Prompting.{Brings, HaveIds, IsPrompted, more_brings, p
 record IsServed (past : Past) : Type 0 where
   lost : (command : Fields) → HeardBy past command fault → ⊥
   refused : (command : Fields) (bytes : List ℕ) (wire : ℤ) (e : Error) → HeardBy past command (reply bytes) → FailsByReply (doc bytes) wire e → ⊥
-  watch : (on : Target) (stages : List Fields) (o : ChangeStreamOptions) (bytes : List ℕ) → HeardBy past (watch_command on stages o) (reply bytes) → Brings bytes
-  more : (id : ℤ) (at : Space) (size : Option ℕ) (bytes : List ℕ) → IsNamed at → HeardBy past (get_more_command id at size) (reply bytes) → Brings bytes
+  success : (command : Fields) (bytes : List ℕ) → HeardBy past command (reply bytes) → IsSuccess bytes
+  honest : IsHonest past
 
 fails_as : (o : Option Fields) (wire : ℤ) (e : Error) → verdict_of (unwrap_or o no_fields) ≡ verdict.Success → FailsByReply o wire e → ⊥
 unfolding verdict_of
@@ -76,9 +74,6 @@ fails_as None wire e success fails = absurd cc
 fails_not : (bytes : List ℕ) (wire : ℤ) (e : Error) → IsSuccess bytes → FailsByReply (doc bytes) wire e → ⊥
 unfolding fields
 fails_not bytes wire e success fails = fails_as (doc bytes) wire e success fails
-
-heard_by : (past : Past) (command : Fields) (retries : Bool) (seen : Sight) → HeardLast past command retries seen → HeardBy past command seen
-heard_by past command retries seen h = record { place = h.place; heard = h.heard }
 
 -- the step of a command whose reply was heard
 record Taken (own : List ℕ) (history : List Step) (command : Fields) (bytes : List ℕ) : Type 0 where
@@ -127,30 +122,9 @@ module _ (c : Course) (i k : ℕ) (begun calls : List Call) (wire : ℤ) (places
   serves = record {
     lost = never_lost;
     refused = λ command bytes wire e h fails. let t = taken command bytes h in fails_not bytes wire e (subst IsSuccess (sym t.reply_is) (prompt_success t.step t.at_once)) fails;
-    watch = λ on stages o bytes h. let t = taken (watch_command on stages o) bytes h in subst Brings (sym t.reply_is) (watch_brings t.step t.at_once (aim_of on stages o) (asks_as_aimed t.step.command on stages o t.command_is));
-    more = λ id at size bytes named h. let t = taken (get_more_command id at size) bytes h in subst Brings (sym t.reply_is) (more_brings t.step t.at_once id at (asks_for_more t.step.command id at size named t.command_is));
+    success = λ command bytes h. let t = taken command bytes h in subst IsSuccess (sym t.reply_is) (prompt_success t.step t.at_once);
+    honest = honest_over well.history calls well.legal well.stands places wire;
   }
-
--- ---- how a stream stands
-
--- a cursor for batches of this size, in a namespace that a server takes
-record IsCursor (size : Option ℕ) (c : CursorInformation) : Type 0 where
-  size_is : c.batch_size ≡ size
-  named : IsNamed (space c.ns)
-
--- the arguments are those of the follow; the reply to the opening has a batch; and the events in hand have an `_id`
-record StandsWell (are_its : WatchArgs → Type 0) (s : Standing) : Type 0 where
-  args : are_its s.aggregate.args
-  cursor : IsCursor s.aggregate.args.options.batch_size s.cursor
-  first : (bytes : List ℕ) → s.first ≡ Some bytes → Brings bytes
-  events : s.owes ≡ false → s.first ≡ None → HaveIds s.events
-
-cursor_told : (bytes : List ℕ) (size : Option ℕ) (c : CursorInformation) (upto : Option Tree) → TellsCursor bytes size c upto → IsCursor size c
-cursor_told bytes size c upto tells = record { size_is = tells.size_is; named = named_read (fields bytes) (record { id = c.id; space = space c.ns; token = upto; batch = tells.batch }) tells.says }
-
-args_empty : (upto : Option Tree) (a : ChangeStreamAggregate) → (remembered_empty upto a).args ≡ a.args
-args_empty (Some token) a = refl
-args_empty None a = refl
 
 cannot_build : (size : Option ℕ) (command : Fields) (e : Error) → (SizePasses size → ⊥) → CannotBuild size command e → CannotBeSent command e
 cannot_build size command e fits (inl bad) = absurd (fits bad.1)
@@ -159,126 +133,40 @@ cannot_build size command e fits (inr by) = by
 -- ---- a call
 
 module _ (are_its : WatchArgs → Type 0) (fits : (args : WatchArgs) → are_its args → SizePasses args.options.batch_size → ⊥) (past : Past) (served : IsServed past) (at : Standing) (well : StandsWell are_its at) where
-  abbrev IsItsCursor : CursorInformation → Type 0
-  IsItsCursor c = IsCursor at.aggregate.args.options.batch_size c
+  brings : (bytes : List ℕ) → HeardBy past (resume_command past.wire at) (reply bytes) → Brings bytes
+  brings bytes heard = resumed_brings are_its past served.honest at well bytes heard (served.success (resume_command past.wire at) bytes heard)
 
-  resumed_brings : (bytes : List ℕ) → HeardBy past (resume_command past.wire at) (reply bytes) → Brings bytes
-  resumed_brings bytes heard = served.watch (target at.aggregate.args.target) at.aggregate.args.pipeline.items (options_for at.aggregate.args.options at.aggregate.resume past.wire) bytes heard
-
-  cursor_more : (bytes : List ℕ) (c : CursorInformation) (upto : Option Tree) → TellsCursor bytes at.cursor.batch_size c upto → IsItsCursor c
-  cursor_more bytes c upto tells = subst (λ (size : Option ℕ). IsCursor size c) well.cursor.size_is (cursor_told bytes at.cursor.batch_size c upto tells)
-
-  cursor_same : (c : CursorInformation) → c ≡ at.cursor → IsItsCursor c
-  cursor_same c is = subst (λ (d : CursorInformation). IsItsCursor d) (sym is) well.cursor
-
-  cursor_left : (c : CursorInformation) → Leaves past at c → IsItsCursor c
-  cursor_left c (causes.same is) = cursor_same c is
-  cursor_left c (causes.told bytes upto heard tells) = cursor_more bytes c upto tells
-  cursor_left c (causes.ended bytes e heard fails ends is) = subst (λ (d : CursorInformation). IsItsCursor d) (sym is) (record { size_is = well.cursor.size_is; named = well.cursor.named })
-
-  cursor_has : (c : CursorInformation) → Has past at c → IsItsCursor c
-  cursor_has c (causes.leaves left) = cursor_left c left
-  cursor_has c (causes.renewed bytes upto r) = cursor_told bytes at.aggregate.args.options.batch_size c upto r.tells
-
-  replied_well : (resumed : Bool) (bytes : List ℕ) (c : CursorInformation) (upto : Option Tree) → Replied past at resumed bytes c upto → Brings bytes × IsItsCursor c
-  replied_well resumed bytes c upto (causes.opening new first is behind) = (well.first bytes first, cursor_same c is)
-  replied_well resumed bytes c upto (causes.more new heard tells) = (served.more at.cursor.id (space at.cursor.ns) at.cursor.batch_size bytes well.cursor.named heard, cursor_more bytes c upto tells)
-  replied_well resumed bytes c upto (causes.again new r old left killed) = (resumed_brings bytes r.heard, cursor_told bytes at.aggregate.args.options.batch_size c upto r.tells)
-
-  next_well : (events : List Fields) (c : CursorInformation) (upto : Option Tree) → Next past at events c upto → HaveIds events × IsItsCursor c
-  next_well events c upto (causes.left quits looked are is behind) = (subst HaveIds (sym are) (well.events quits looked), cursor_same c is)
-  next_well events c upto (causes.came resumed bytes r holds) =
-      let w = replied_well resumed bytes c upto r in
-      (subst HaveIds (sym (events_are (fields bytes) w.0.batch events w.0.there holds)) w.0.ids, w.1)
-
-  stands_on : (after : Standing) → after.aggregate.args ≡ at.aggregate.args → IsItsCursor after.cursor → after.first ≡ None → (after.owes ≡ false → HaveIds after.events) → StandsWell are_its after
-  stands_on after same cursor looked events =
-      record {
-        args = subst are_its (sym same) well.args;
-        cursor = subst (λ (a : WatchArgs). IsCursor a.options.batch_size after.cursor) (sym same) cursor;
-        first = λ bytes is. absurd cc;
-        events = λ quits none. events quits;
-      }
-
-  -- with an event
-  gave_well : (after : Standing) (event : Fields) → CallGave past at after event → StandsWell are_its after
-  gave_well after event g =
-      let n = next_well (event ∷ after.events) after.cursor g.upto g.next in
-      stands_on after (ap (λ (a : ChangeStreamAggregate). a.args) g.remembers) n.1 g.settled.looked (λ quits. n.0.1)
-
-  -- with nothing
-  none_well : (after : Standing) (resumed : Bool) → CallNone past at after resumed → (after.aggregate.args ≡ at.aggregate.args) × IsItsCursor after.cursor
-  none_well after resumed (causes.came_empty bytes upto r holds is) = (ap (λ (a : ChangeStreamAggregate). a.args) is ∙ args_empty upto at.aggregate, (replied_well resumed bytes after.cursor upto r).1)
-  none_well after resumed (causes.none_left new quits looked none gone is same) = (ap (λ (a : ChangeStreamAggregate). a.args) is, cursor_same after.cursor same)
-
-  empty_well : (after : Standing) (resumed : Bool) → CallEmpty past at after resumed → StandsWell are_its after
-  empty_well after resumed e =
-      let n = none_well after resumed e.why in
-      stands_on after n.0 n.1 e.settled.looked (λ quits. subst HaveIds (sym e.empty) tt)
-
-  -- with a failure
-  stays_well : (after : Standing) → Stays past at after → HaveIds after.events
-  stays_well after s = (next_well after.events after.cursor after.upto s.next).0
-
-  owes_or_stays : (after : Standing) → (after.owes ≡ true) ⊎ Stays past at after → after.owes ≡ false → HaveIds after.events
-  owes_or_stays after (inl owes) quits = absurd cc
-  owes_or_stays after (inr s) quits = stays_well after s
-
-  alone_or_stays : (after : Standing) → OwesAlone after → (after.owes ≡ true) ⊎ Stays past at after → after.first ≡ None
-  alone_or_stays after alone (inl owes) = alone owes
-  alone_or_stays after alone (inr s) = s.settled.looked
-
-  events_failed : (after : Standing) (e : Error) → CallFails past at after e → after.owes ≡ false → HaveIds after.events
-  events_failed after e (causes.no_memory room how) quits = owes_or_stays after how quits
-  events_failed after e (causes.lost owes why is heard) quits = absurd cc
-  events_failed after e (causes.refused bytes owes why heard fails) quits = absurd cc
-  events_failed after e (causes.broken bytes owes why heard breaks) quits = absurd cc
-  events_failed after e (causes.cannot_resume owes why by) quits = absurd cc
-  events_failed after e (causes.refused_more bytes settled none heard fails final empty settled') quits = subst HaveIds (sym empty) tt
-  events_failed after e (causes.cannot_ask none by s) quits = stays_well after s
-  events_failed after e (causes.no_id event upto next lacks is behind settled) quits = (next_well (event ∷ after.events) after.cursor upto next).0.1
-
-  looked_failed : (after : Standing) (e : Error) → OwesAlone after → CallFails past at after e → after.first ≡ None
-  looked_failed after e alone (causes.no_memory room how) = alone_or_stays after alone how
-  looked_failed after e alone (causes.lost owes why is heard) = alone owes
-  looked_failed after e alone (causes.refused bytes owes why heard fails) = alone owes
-  looked_failed after e alone (causes.broken bytes owes why heard breaks) = alone owes
-  looked_failed after e alone (causes.cannot_resume owes why by) = alone owes
-  looked_failed after e alone (causes.refused_more bytes settled none heard fails final empty settled') = settled'.looked
-  looked_failed after e alone (causes.cannot_ask none by s) = s.settled.looked
-  looked_failed after e alone (causes.no_id event upto next lacks is behind settled) = settled.looked
-
-  failed_well : (after : Standing) (e : Error) → OwesAlone after → CallFailed past at after e → StandsWell are_its after
-  failed_well after e alone f =
-      stands_on after (ap (λ (a : ChangeStreamAggregate). a.args) f.token) (cursor_has after.cursor f.cursor) (looked_failed after e alone f.why) (events_failed after e f.why)
-
-  -- which is excused
+  -- a failure is excused
   fails_well : (after : Standing) (e : Error) → CallFails past at after e → IsExcused are_its e
-  fails_well after e (causes.no_memory room how) = inl room
+  fails_well after e (causes.may_lose room owes may) = inl room
+  fails_well after e (causes.no_memory room stays) = inl room
   fails_well after e (causes.lost owes why is heard) = absurd (served.lost (resume_command past.wire at) (heard_by past (resume_command past.wire at) true fault heard))
   fails_well after e (causes.refused bytes owes why heard fails) = absurd (served.refused (resume_command past.wire at) bytes past.wire e (heard_by past (resume_command past.wire at) true (reply bytes) heard) fails)
-  fails_well after e (causes.broken bytes owes why heard breaks) = let b = resumed_brings bytes heard in absurd (breaks_not (fields bytes) b.batch e b.there breaks)
+  fails_well after e (causes.unread bytes owes why heard breaks) = let b = brings bytes heard in absurd (breaks_not (fields bytes) b.batch e b.there (inl breaks))
+  fails_well after e (causes.broken bytes upto owes r breaks) = let b = (replied_well are_its past served.honest at well true bytes after.cursor upto r).0 in absurd (breaks_not (fields bytes) b.batch e b.there (inr breaks))
   fails_well after e (causes.cannot_resume owes why by) =
       inr (resume_command past.wire at, resumes at.aggregate past.wire well.args refl, cannot_build at.aggregate.args.options.batch_size (resume_command past.wire at) e (fits at.aggregate.args well.args) by)
-  fails_well after e (causes.refused_more bytes settled none heard fails final empty settled') = absurd (served.refused (more_command at) bytes past.wire e heard fails)
-  fails_well after e (causes.cannot_ask none by s) =
+  fails_well after e (causes.refused_more bytes heard fails final is) = absurd (served.refused (more_command at) bytes past.wire e heard.heard fails)
+  fails_well after e (causes.cannot_ask asked by is) =
       inr (
         more_command at,
         asks at.aggregate.args well.args at.cursor.id (space at.cursor.ns) (ap (λ (size : Option ℕ). get_more_command at.cursor.id (space at.cursor.ns) size) well.cursor.size_is),
         cannot_build at.cursor.batch_size (more_command at) e (λ passes. fits at.aggregate.args well.args (subst SizePasses well.cursor.size_is passes)) by,
       )
-  fails_well after e (causes.no_id event upto next lacks is behind settled) = let id = (next_well (event ∷ after.events) after.cursor upto next).0.0 in let has = id.1 in absurd cc
+  fails_well after e (causes.no_id event upto next lacks is behind settled) = let id = (next_well are_its past served.honest at well (event ∷ after.events) after.cursor upto next).0.0 in let has = id.1 in absurd cc
 
-  called_well : (answer : Answer) (after : Standing) → Called past at after (poll_of answer) → OwesAlone after → StandsWell are_its after × AnswerWell are_its answer
-  called_well (answers.Event event) after called alone = (gave_well after (fields event) called, tt)
-  called_well answers.Nothing after called alone = (empty_well after called.0 called.1, tt)
-  called_well (answers.Failed e) after called alone = (failed_well after e alone called, fails_well after e called.why)
+  called_well : (answer : Answer) (after : Standing) → Called past at after (poll_of answer) → StandsWell are_its after × AnswerWell are_its answer
+  called_well (answers.Event event) after called = (gave_well are_its past served.honest at well after (fields event) called, tt)
+  called_well answers.Nothing after called = (empty_well are_its past served.honest at well after called.0 called.1, tt)
+  called_well (answers.Failed e) after called = (failed_well are_its past served.honest at well after e called, fails_well after e called.why)
 
 -- ---- the opening
 
 module _ (are_its : WatchArgs → Type 0) (fits : (args : WatchArgs) → are_its args → SizePasses args.options.batch_size → ⊥) (past : Past) (served : IsServed past) (args : WatchArgs) (its : are_its args) where
   opening_brings : (bytes : List ℕ) → HeardLast past (opening_command args) true (reply bytes) → Brings bytes
-  opening_brings bytes heard = served.watch (target args.target) args.pipeline.items args.options bytes (heard_by past (opening_command args) true (reply bytes) heard)
+  opening_brings bytes heard =
+      let h = heard_by past (opening_command args) true (reply bytes) heard in
+      served.honest.watch (target args.target) args.pipeline.items args.options bytes h (served.success (opening_command args) bytes h)
 
   opening_well : (e : Error) → OpeningFails past args e → IsExcused are_its e
   opening_well e (openings.no_memory room) = inl room
@@ -287,18 +175,9 @@ module _ (are_its : WatchArgs → Type 0) (fits : (args : WatchArgs) → are_its
   opening_well e (openings.broken bytes heard breaks) = let b = opening_brings bytes heard in absurd (breaks_not (fields bytes) b.batch e b.there (inl breaks))
   opening_well e (openings.cannot_open by) = inr (opening_command args, opens args its refl, cannot_build args.options.batch_size (opening_command args) e (fits args its) by)
 
-  opened_well : (first : Standing) → Opened past args first → StandsWell are_its first
-  opened_well first o =
-      record {
-        args = subst are_its (sym o.args_are) its;
-        cursor = subst (λ (a : WatchArgs). IsCursor a.options.batch_size first.cursor) (sym o.args_are) (cursor_told o.bytes args.options.batch_size first.cursor first.upto o.tells);
-        first = λ bytes is. let held = o.in_hand in let same : o.bytes ≡ bytes = cc in subst Brings same (opening_brings o.bytes o.heard);
-        events = λ quits looked. let held = o.in_hand in absurd cc;
-      }
-
 -- ---- the closing
 
-kill_well : (are_its : WatchArgs → Type 0) (past : Past) (c : CursorInformation) (e : Error) → IsServed past → KillFails past c (pos 0) e → IsExcused are_its e
+kill_well : (are_its : WatchArgs → Type 0) (past : Past) (c : CursorInformation) (e : Error) → IsServed past → NotKilled past c (pos 0) e → IsExcused are_its e
 kill_well are_its past c e served (closings.no_memory room) = inl room
 kill_well are_its past c e served (closings.lost is heard) = absurd (served.lost (last_command c (pos 0)) (heard_by past (last_command c (pos 0)) false fault heard))
 kill_well are_its past c e served (closings.refused bytes heard fails) = absurd (served.refused (last_command c (pos 0)) bytes past.wire e (heard_by past (last_command c (pos 0)) false (reply bytes) heard) fails)
@@ -312,8 +191,8 @@ module _ (c : Course) (i : ℕ) (begun calls : List Call) (wire : ℤ) (whole : 
   calls_well at [] [] last sent is stands = (subst (StandsWell are_its) (sym is) stands, tt)
   calls_well at (places ∷ owns) (answer ∷ said) last sent answered stands =
       let mine = sent 0 places refl in
-      let one = called_well are_its fits (sent_at places calls wire) (serves c i mine.0 begun calls wire places whole faultless well mine.1) at stands answer answered.0 answered.1 answered.2 in
-      let more = calls_well answered.0 owns said last (λ k own there. sent (suc k) own there) answered.3 one.0 in
+      let one = called_well are_its fits (sent_at places calls wire) (serves c i mine.0 begun calls wire places whole faultless well mine.1) at stands answer answered.0 answered.1 in
+      let more = calls_well answered.0 owns said last (λ k own there. sent (suc k) own there) answered.2 one.0 in
       (more.0, (more.1, one.1))
   calls_well at [] (answer ∷ said) last sent answered stands = absurd answered
   calls_well at (places ∷ owns) [] last sent answered stands = absurd answered
@@ -325,7 +204,7 @@ never_unfinished count answered k pended (inr all) turns = omega arith
 closed_well : {A : Type 0} (are_its : WatchArgs → Type 0) (closed : Ended A) (count answered k : ℕ) (pended : Bool) (past : Past) (last : Standing) → OpenPlayed closed count answered k pended → suc count ≤ k → IsServed past → ClosedBy past last closed → (answered ≡ count) × EndsWell are_its closed
 closed_well are_its ended.Unfinished count answered k pended past last played turns served by = absurd (never_unfinished count answered k pended played turns)
 closed_well are_its (ended.Gave x) count answered k pended past last played turns served by = (played.0, tt)
-closed_well are_its (ended.Failed e) count answered k pended past last played turns served by = (played.0, kill_well are_its past last.cursor e served by)
+closed_well are_its (ended.Failed e) count answered k pended past last played turns served by = (played.0, kill_well are_its past last.cursor e served by.why)
 
 -- ---- a follow
 
@@ -338,7 +217,7 @@ module _ (c : Course) (i : ℕ) (begun calls : List Call) (wire : ℤ) (whole : 
   open_well count k pended said token alive closed o played turns =
       let fits = size_fits on start filter batch small in
       let a = o.answers in
-      let stands = opened_well (IsArgsFor on start filter batch) fits (sent_at a.places calls wire) (serves c i 0 begun calls wire a.places whole faultless well a.sent) o.args o.args_are a.first a.opened in
+      let stands = opened_well (IsArgsFor on start filter batch) (sent_at a.places calls wire) (honest_over well.history calls well.legal well.stands a.places wire) o.args o.args_are a.first a.opened in
       let all = calls_well c i begun calls wire whole faultless well (IsArgsFor on start filter batch) fits a.first a.owns said o.last (λ k own there. (suc k, a.sent_each k own there)) a.answered stands in
       let end = closed_well (IsArgsFor on start filter batch) closed count (length said) k pended (sent_at o.close.places calls wire) o.last played turns (serves c i (length said) begun calls wire o.close.places whole faultless well o.close.sent) o.close.by in
       record { all = end.0; answered = all.1; closes = end.1 }
@@ -404,8 +283,18 @@ jobs_end_well c i begun calls wire (get db bucket id read) r whole faultless cau
 
 -- ---- a run
 
-all_well : (log log' : Told) (wire : ℤ) (tasks : List Task) (order : List ℕ) (notes : List Turned) (outcomes : List Outcome) → LosesNothing log log' → AllCaused log log' wire tasks order notes outcomes → AllPlayed tasks order notes outcomes → AllWell log log' tasks order notes outcomes
-all_well log log' wire tasks order notes outcomes lossless caused played calls told =
+-- the documents of an insert do not change how far it comes
+played_as_sent : (ids : ℕ → List ℕ) (ts : List Task) (order : List ℕ) (i : ℕ) (t : Task) (k : ℕ) (last : Bool) (r : Outcome) → IsPlayed t k last r → IsPlayed (as_sent ids ts order i t) k last r
+played_as_sent ids ts order i (insert ns docs) k last (outcome.Insert e) played = played
+played_as_sent ids ts order i (insert ns docs) k last (outcome.Follow opened answers token alive closed) played = played
+played_as_sent ids ts order i (insert ns docs) k last (outcome.Put e) played = played
+played_as_sent ids ts order i (insert ns docs) k last (outcome.Get bytes e) played = played
+played_as_sent ids ts order i (follow on count start filter batch) k last r played = played
+played_as_sent ids ts order i (put db bucket name id chunk pieces) k last r played = played
+played_as_sent ids ts order i (get db bucket id read) k last r played = played
+
+all_well : (ids : ℕ → List ℕ) (log log' : Told) (wire : ℤ) (tasks : List Task) (order : List ℕ) (notes : List Turned) (outcomes : List Outcome) → LosesNothing log log' → AllCaused ids log log' wire tasks order notes outcomes → AllPlayed tasks order notes outcomes → AllWell ids log log' tasks order notes outcomes
+all_well ids log log' wire tasks order notes outcomes lossless caused played calls told =
     let by = caused calls told in
     let kept = lossless calls told in
     let here = by.1 in
@@ -413,11 +302,11 @@ all_well log log' wire tasks order notes outcomes lossless caused played calls t
     let same : kept.0 ≡ by.0 = cc in (
       by.0,
       by.1,
-      (λ i t r ht hr. jobs_end_well (course calls order notes) i calls by.0 wire t r refl (subst (λ (cs : List Call). Faultless calls cs) same kept.2) (by.2 i t r ht hr) (played i t r ht hr)),
+      (λ i t r ht hr. jobs_end_well (course calls order notes) i calls by.0 wire (as_sent ids tasks order i t) r refl (subst (λ (cs : List Call). Faultless calls cs) same kept.2) (by.2 i t r ht hr) (played_as_sent ids tasks order i t (turns_done i order notes) (pends_last i order notes) r (played i t r ht hr))),
     )
 
 -- the same of a run, unless memory ran out
-pub well_so : (log log' : Told) (wire : ℤ) (tasks : List Task) (order : List ℕ) (result : Result Played Error) → LosesNothing log log' → IfOk result (λ p. AllCaused log log' wire tasks order p.turns.items p.outcomes.items) → IfOk result (λ p. AllPlayed tasks order p.turns.items p.outcomes.items)
-    → IfOk result (λ p. AllWell log log' tasks order p.turns.items p.outcomes.items)
-well_so log log' wire tasks order (Ok p) lossless caused played = all_well log log' wire tasks order p.turns.items p.outcomes.items lossless caused played
-well_so log log' wire tasks order (Err e) lossless caused played = tt
+pub well_so : (ids : ℕ → List ℕ) (log log' : Told) (wire : ℤ) (tasks : List Task) (order : List ℕ) (result : Result Played Error) → LosesNothing log log' → IfOk result (λ p. AllCaused ids log log' wire tasks order p.turns.items p.outcomes.items) → IfOk result (λ p. AllPlayed tasks order p.turns.items p.outcomes.items)
+    → IfOk result (λ p. AllWell ids log log' tasks order p.turns.items p.outcomes.items)
+well_so ids log log' wire tasks order (Ok p) lossless caused played = all_well ids log log' wire tasks order p.turns.items p.outcomes.items lossless caused played
+well_so ids log log' wire tasks order (Err e) lossless caused played = tt

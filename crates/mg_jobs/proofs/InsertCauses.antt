@@ -26,14 +26,14 @@ use Rattle.mg_change.proofs.Calls.{request_ran}
 use Rattle.mg_change.proofs.Growing.{flies_grows, last_grows}
 use Rattle.mg_jobs.specs.InsertCauses.{CannotEncode, CannotGoOn, FitTogether, HearsCaused, InsertCaused, InsertFails, InsertFlies, InsertsSoFar, IsBuilt, IsLength, IsNextPiece, IsPiece, LeadsCaused, NextCaused, cannot_encode, cannot_insert, listed, lost, max_batch, no_memory, refused, total}
 use Rattle.mg_jobs.specs.Inserts.{held, insert_ticket}
-use Rattle.mg_jobs.specs.Underway.{AreDrawn, IsBatch, IsSameList, IsStarted, sent_of, with_id}
+use Rattle.mg_jobs.specs.Underway.{IsBatch, IsSameList, IsStarted, sent_of, with_id}
 use Rattle.mg_jobs.specs.declared.insert.Batches.{Batches}
 use Rattle.mg_jobs.specs.declared.insert.Command.{Command}
 use Rattle.mg_jobs.specs.declared.insert.Heard.{Heard}
 use Rattle.mg_jobs.specs.declared.insert.Heard.TheVariants as heard
 use Rattle.mg_jobs.specs.declared.insert.Inserting.{Inserting}
 use Rattle.mg_jobs.specs.declared.insert.Next.TheVariants as next
-use Rattle.mg_jobs.proofs.Appending.{all_with_ids, sent_at, sent_length, take_more}
+use Rattle.mg_jobs.proofs.Appending.{same_sent, sent_at, sent_length, take_more}
 use Rattle.mg_jobs.proofs.Plainly.{same_command}
 
 -- ---- what is sent next
@@ -109,12 +109,10 @@ batch_length drawn ds from batch upto these further within =
     let one : length (take upto all) ≡ length (take from all ++ batch) = ap (λ (x : List Fields). length x) these in
     omega (arith, to_last, to_first, both, one)
 
-piece_of_batch : (drawn : List (Option ObjectId)) (ds : List Fields) (from : ℕ) (batch : List Fields) (upto : ℕ) → AreDrawn ds drawn → IsBatch drawn ds from batch upto → 1 ≤ length batch → length batch ≤ max_documents → FitTogether batch → IsPiece ds batch
-piece_of_batch drawn ds from batch upto are b some few together =
+piece_of_batch : (drawn : List (Option ObjectId)) (ds : List Fields) (from : ℕ) (batch : List Fields) (upto : ℕ) → IsBatch drawn ds from batch upto → 1 ≤ length batch → length batch ≤ max_documents → FitTogether batch → IsPiece (sent_of drawn ds) batch
+piece_of_batch drawn ds from batch upto b some few together =
     let all : List Fields = sent_of drawn ds in
     record {
-      sent = all;
-      ids = all_with_ids ds drawn are;
       before = take from all;
       after = drop upto all;
       whole = sym (take-append-drop upto all) ∙ ap (λ (l : List Fields). l ++ drop upto all) b;
@@ -123,45 +121,42 @@ piece_of_batch drawn ds from batch upto are b some few together =
       together = together;
     }
 
-piece_of_one : (drawn : List (Option ObjectId)) (ds : List Fields) (place : ℕ) (d : Fields) → AreDrawn ds drawn → slice_get (sent_of drawn ds) place ≡ Some d → IsPiece ds (d ∷ [])
-piece_of_one drawn ds place d are there = piece_of_batch drawn ds place (d ∷ []) (suc place) are (take_more (sent_of drawn ds) place d there) (omega arith) (omega arith) (inr refl)
+piece_of_one : (drawn : List (Option ObjectId)) (ds : List Fields) (place : ℕ) (d : Fields) → slice_get (sent_of drawn ds) place ≡ Some d → IsPiece (sent_of drawn ds) (d ∷ [])
+piece_of_one drawn ds place d there = piece_of_batch drawn ds place (d ∷ []) (suc place) (take_more (sent_of drawn ds) place d there) (omega arith) (omega arith) (inr refl)
 
-piece_of_next : (b : Batches) (ds piece : List Fields) (upto : ℕ) → b.documents.now ≡ ds → AreDrawn ds b.drawn.items → IsNextPiece b piece upto → IsPiece ds piece
-piece_of_next b ds piece upto documents_are are part =
-    let these : IsBatch b.drawn.items ds b.upto piece upto = subst (λ (l : List Fields). IsBatch b.drawn.items l b.upto piece upto) documents_are part.these in
+piece_of_next : (b : Batches) (sent piece : List Fields) (upto : ℕ) → sent_of b.drawn.items b.documents.now ≡ sent → IsNextPiece b piece upto → IsPiece sent piece
+piece_of_next b sent piece upto sent_is part =
     let further = part.further in
-    let within : upto ≤ length ds = subst (λ (l : List Fields). upto ≤ length l) documents_are part.within in
     let few = part.few in
-    let whole : b.upto + length piece ≡ upto = batch_length b.drawn.items ds b.upto piece upto these (omega (arith, further)) within in
-    piece_of_batch b.drawn.items ds b.upto piece upto are these (omega (arith, whole, further)) (omega (arith, whole, few)) part.together
+    let whole : b.upto + length piece ≡ upto = batch_length b.drawn.items b.documents.now b.upto piece upto part.these (omega (arith, further)) part.within in
+    subst (λ (l : List Fields). IsPiece l piece) sent_is
+    (piece_of_batch b.drawn.items b.documents.now b.upto piece upto part.these (omega (arith, whole, further)) (omega (arith, whole, few)) part.together)
 
 module _ (b b' : Batches) where
-  module _ (past : Past) (at : Space) (ds : List Fields) (e : Error) (at_is : space b.ns.now ≡ at) (documents_are : b.documents.now ≡ ds) (drawn : AreDrawn ds b.drawn.items) where
+  module _ (past : Past) (at : Space) (ds : List Fields) (e : Error) (at_is : space b.ns.now ≡ at) (sent_is : sent_of b.drawn.items b.documents.now ≡ ds) where
     encodes_none : CannotEncode (sent_of b.drawn.items b.documents.now) e → InsertFails past at ds e
-    encodes_none c =
-        cannot_encode c.1 (piece_of_one b.drawn.items ds c.0 c.1 drawn (subst (λ (l : List Fields). slice_get (sent_of b.drawn.items l) c.0 ≡ Some c.1) documents_are c.2)) c.3
+    encodes_none c = cannot_encode c.1 (subst (λ (l : List Fields). IsPiece l (c.1 ∷ [])) sent_is (piece_of_one b.drawn.items b.documents.now c.0 c.1 c.2)) c.3
 
     cannot_go_on : CannotGoOn b e → InsertFails past at ds e
     cannot_go_on (inl c) = encodes_none c
     cannot_go_on (inr c) =
-        cannot_insert c.0 (piece_of_next b ds c.0 c.1 documents_are drawn c.2) (subst (λ (s : Space). CannotBeInserted c.0 e ⊎ CannotBeSent (insert_command s c.0) e) at_is c.3)
+        cannot_insert c.0 (piece_of_next b ds c.0 c.1 sent_is c.2) (subst (λ (s : Space). CannotBeInserted c.0 e ⊎ CannotBeSent (insert_command s c.0) e) at_is c.3)
 
     stopped_by : FailsBy (CannotGoOn b) e → InsertFails past at ds e
     stopped_by (inl room) = no_memory (ap (λ (x : Error). x.kind) room)
     stopped_by (inr c) = cannot_go_on c
 
   pub next_stopped : (e : Error) → FailsBy (CannotGoOn b) e → NextCaused b b' None (next.Stopped e)
-  next_stopped e by awaited past at ds i = stopped_by past at ds e i.at_is i.documents_are i.drawn by
+  next_stopped e by awaited past at ds i = stopped_by past at ds e i.at_is i.sent_is by
 
   pub next_built : (c : Command) → IsSameList b b' → IsBuilt b b'.upto c → NextCaused b b' None (next.Send c)
   next_built c same built awaited past at ds i =
       let piece : List Fields = c.insert.documents.items in
       record {
         at_is = ap (λ n. space n.now) same.0 ∙ i.at_is;
-        documents_are = ap (λ d. d.now) same.1 ∙ i.documents_are;
-        drawn = subst (λ v. AreDrawn ds v.items) (sym same.2) i.drawn;
+        sent_is = same_sent b b' same ∙ i.sent_is;
         flies = record {
-          part = piece_of_next b ds piece b'.upto i.documents_are i.drawn built.part;
+          part = piece_of_next b ds piece b'.upto i.sent_is built.part;
           command_is = built.command_is ∙ ap (λ (s : Space). insert_command s piece) i.at_is;
           once = built.once;
           flies = subst (Flies awaited past (insert_command at piece)) (sym built.stage_is) tt;
@@ -236,14 +231,14 @@ module _ (old mid : Awaited) (log log' : Told) (wire : ℤ) (i : Inserting) (b b
         let x = lead calls told places at ds h in
         let s = goes mid (past_of places (length calls) x.0 wire) at ds x.3 in
         let y = heard_at_wire (heard.Pending c') hears x.0 x.1 places (length calls) x.2 at ds s.flies in
-        (y.0, y.1, record { at_is = s.at_is; documents_are = s.documents_are; drawn = s.drawn; flies = y.3 })
+        (y.0, y.1, record { at_is = s.at_is; sent_is = s.sent_is; flies = y.3 })
 
     pub led_inserted : HearsCaused mid new log' log'' wire' c heard.Inserted → LeadsCaused old new log log'' wire i b' None
     led_inserted hears calls told places at ds h =
         let x = lead calls told places at ds h in
         let s = goes mid (past_of places (length calls) x.0 wire) at ds x.3 in
         let y = heard_at_wire heard.Inserted hears x.0 x.1 places (length calls) x.2 at ds s.flies in
-        (y.0, y.1, y.2, record { at_is = s.at_is; documents_are = s.documents_are; drawn = s.drawn; flies = tt })
+        (y.0, y.1, y.2, record { at_is = s.at_is; sent_is = s.sent_is; flies = tt })
 
     pub led_failed : (e : Error) → HearsCaused mid new log' log'' wire' c (heard.Failed e) → InsertCaused old new log log'' wire i (step.Failed e)
     led_failed e hears calls told places at ds h =
@@ -257,7 +252,7 @@ module _ (old mid : Awaited) (log log' : Told) (wire : ℤ) (i : Inserting) (b b
 -- An insert that has sent nothing, whatever the log is.
 pub inserts_begin : (awaited : Awaited) (past : Past) (at : Space) (ds : List Fields) (i : Inserting) → i.command ≡ None → IsStarted at ds i.batches → InsertsSoFar awaited past at ds i.batches i.command
 inserts_begin awaited past at ds i none s =
-    record { at_is = s.at_is; documents_are = s.documents_are; drawn = s.drawn; flies = subst (InsertFlies awaited past at ds) (sym none) tt }
+    record { at_is = s.at_is; sent_is = s.sent_is; flies = subst (InsertFlies awaited past at ds) (sym none) tt }
 
 module _ (past past' : Past) (grows : Grows past past') (at : Space) (ds : List Fields) where
   heard_grows : (piece : List Fields) (bytes : List ℕ) → HeardLast past (insert_command at piece) false (reply bytes) → HeardLast past' (insert_command at piece) false (reply bytes)
@@ -278,4 +273,4 @@ module _ (past past' : Past) (grows : Grows past past') (at : Space) (ds : List 
         record { part = f.part; command_is = f.command_is; once = f.once; flies = flies_grows past past' grows awaited awaited' (insert_command at c.insert.documents.items) c.exec.stage tickets f.flies }
 
     pub inserts_grow : (i : Inserting) → ((n : ℕ) → insert_ticket i ≡ Some n → awaited' n ≡ awaited n) → InsertsSoFar awaited past at ds i.batches i.command → InsertsSoFar awaited' past' at ds i.batches i.command
-    inserts_grow i tickets h = record { at_is = h.at_is; documents_are = h.documents_are; drawn = h.drawn; flies = insert_flies_grow i.command tickets h.flies }
+    inserts_grow i tickets h = record { at_is = h.at_is; sent_is = h.sent_is; flies = insert_flies_grow i.command tickets h.flies }

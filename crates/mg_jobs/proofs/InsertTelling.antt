@@ -11,11 +11,12 @@ use Rattle.mg_link.specs.declared.error.ErrorKind.TheVariants as kind
 use Rattle.mg_link.proofs.Owners.{same_some}
 use Rattle.mg_change.specs.Calls.{Grows, Past, past_of}
 use Rattle.mg_jobs.specs.Appended.{Appended}
-use Rattle.mg_jobs.specs.Causes.{EndsBy}
+use Rattle.mg_jobs.specs.Causes.{EndsBy, sent_at}
 use Rattle.mg_jobs.specs.InsertCauses.{InsertCaused, InsertFails, InsertsSoFar, no_memory}
 use Rattle.mg_jobs.specs.Playing.{end_of, inserts_ended, inserts_ticket}
 use Rattle.mg_jobs.specs.Progress.{InsertAt}
-use Rattle.mg_jobs.specs.Telling.{InsertTells, InsertTurns}
+use Rattle.mg_jobs.specs.Drawing.{with_ids}
+use Rattle.mg_jobs.specs.Telling.{InsertBegins, InsertTells, InsertTurns, TellsOn}
 use Rattle.mg_jobs.specs.Underway.{HasInserted, Inserts, IsStarted}
 use Rattle.mg_jobs.specs.declared.insert.Inserting.{Inserting}
 use Rattle.mg_script.specs.declared.outcome.Ended.{Ended}
@@ -58,6 +59,18 @@ module _ (old new : Awaited) (log log' : Told) (wire : ℤ) (at : Space) (ds : L
       let x = caused calls told places at ds t.0 in
       subst (λ (c : List Call). InsertFails (past_of places (length calls) c wire) at ds e) (same_some x.0 calls' (sym x.1 ∙ told')) x.2
 
+-- an insert that found its ids, and then took its turn
+pub ready_turns : (ids : ℕ → List ℕ) (old new : Awaited) (log log' : Told) (wire : ℤ) (at : Space) (ds sent : List Fields) (s other s' : InsertStage) → TellsOn ids at ds s other → InsertTurns old new log log' wire at sent other s' → InsertTurns old new log log' wire at sent s s'
+ready_turns ids old new log log' wire at ds sent inserts.Unsent other s' on turns = λ calls calls' told told' places t. absurd t
+ready_turns ids old new log log' wire at ds sent (inserts.Goes i) other s' on turns = subst (λ (x : InsertStage). InsertTurns old new log log' wire at sent x s') on turns
+ready_turns ids old new log log' wire at ds sent (inserts.Ended end) other s' on turns = subst (λ (x : InsertStage). InsertTurns old new log log' wire at sent x s') on turns
+
+-- its first turn
+pub ready_begins : (ids : ℕ → List ℕ) (old new : Awaited) (log log' : Told) (wire : ℤ) (at : Space) (ds : List Fields) (s other s' : InsertStage) → s ≡ inserts.Unsent → TellsOn ids at ds s other → InsertTurns old new log log' wire at (with_ids ids 0 ds) other s' → InsertBegins new log log' wire at (with_ids ids 0 ds) s'
+ready_begins ids old new log log' wire at ds inserts.Unsent other s' is on turns = λ calls calls' told told' places. turns calls calls' told told' places (on old (sent_at places calls wire))
+ready_begins ids old new log log' wire at ds (inserts.Goes i) other s' is on turns = absurd cc
+ready_begins ids old new log log' wire at ds (inserts.Ended end) other s' is on turns = absurd cc
+
 -- the same over the same wire version, by another name
 pub turns_over : (old new : Awaited) (log log' : Told) (wire wire' : ℤ) (at : Space) (ds : List Fields) (s s' : InsertStage) → wire' ≡ wire → InsertTurns old new log log' wire at ds s s' → InsertTurns old new log log' wire' at ds s s'
 turns_over old new log log' wire wire' at ds s s' same turns = subst (λ (w : ℤ). InsertTurns old new log log' w at ds s s') (sym same) turns
@@ -77,13 +90,13 @@ module _ (past past' : Past) (grows : Grows past past') (at : Space) (ds : List 
   ends_grow (ended.Failed e) t = insert_fails_grow past past' grows at ds e t
 
   pub insert_tells_grow : (old new : Awaited) (s : InsertStage) → ((m : ℕ) → inserts_ticket s ≡ Some m → new m ≡ old m) → InsertTells old past at ds s → InsertTells new past' at ds s
-  insert_tells_grow old new inserts.Unsent same t = tt
+  insert_tells_grow old new inserts.Unsent same t = absurd t
   insert_tells_grow old new (inserts.Goes i) same t = (inserts_grow past past' grows at ds old new i same t.0, λ named. has_grown old new past past' grows at ds i same (t.1 named))
   insert_tells_grow old new (inserts.Ended end) same t = ends_grow end t
 
 -- ---- at the end
 
 pub ends_of : (awaited : Awaited) (past : Past) (at : Space) (ds : List Fields) (s : InsertStage) → InsertTells awaited past at ds s → EndsBy past at ds (end_of s)
-ends_of awaited past at ds inserts.Unsent t = tt
+ends_of awaited past at ds inserts.Unsent t = absurd t
 ends_of awaited past at ds (inserts.Goes i) t = tt
 ends_of awaited past at ds (inserts.Ended end) t = t

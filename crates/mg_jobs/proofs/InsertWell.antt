@@ -18,7 +18,7 @@ use Rattle.mg_link.specs.declared.reply.Verdict.TheVariants as verdict
 use Rattle.mg_ops.specs.Cursors.{found, ◌>>=◌}
 use Rattle.mg_ops.specs.Writes.{Inserted, ListsAs, as_count, count_of, failure, failures_of, last_index, write_errors_at, write_errors_in}
 use Rattle.mg_jobs.specs.Completing.{AreFresh}
-use Rattle.mg_jobs.proofs.Prompting.{IsPrompted, may_tell, prompt_success, told_so}
+use Rattle.mg_jobs.proofs.Prompting.{IsPrompted, lawful, may_tell, prompt_success, told_so}
 
 -- ---- the rules of the store let them in
 
@@ -104,12 +104,12 @@ lists_not count said n k i lists = lists
 module _ (step : Step) (p : IsPrompted step) (space : Space) (documents : List Fields) (asks : asked step.command ≡ asks_insert space documents true) (fresh : AreFresh (documents_of p.before space) documents) where
   tells_at_once : (said : Told) → told_at step ≡ said → TellsAtOnce p.before (step_after p.before step) step.made space documents said
   tells_at_once said is = (
-    may_tell step p (asks_insert space documents true) said asks is,
+    may_tell step (lawful step p) (asks_insert space documents true) said asks is,
     subst (λ (c : Asked). AnswersAtOnce p.before (step_after p.before step) c said) asks (subst (λ (t : Told). AnswersAtOnce p.before (step_after p.before step) (asked step.command) t) is p.prompt),
   )
 
   told_inserted : told_at step ≡ unwrap_or (inserted_by (fields step.reply)) garbled
-  told_inserted = told_so step p verdict.Success (prompt_success step p) ∙ ap (λ (c : Asked). told_by verdict.Success c (fields step.reply)) asks
+  told_inserted = told_so step (lawful step p) verdict.Success (prompt_success step p) ∙ ap (λ (c : Asked). told_by verdict.Success c (fields step.reply)) asks
 
   -- it is no failure
   pub never_lists : (count : ℕ) (k : ErrorKind) → ListsAs count (fields step.reply) k → ⊥

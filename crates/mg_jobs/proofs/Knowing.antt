@@ -1,6 +1,6 @@
 -- What the jobs of a run know goes on to hold, turn by turn.
-use Rattle.std.proofs.Common.{◌≡◌, ◌⊎◌, ℕ, zero, suc, ℤ, pos, List, [], ◌∷◌, ◌++◌, Some, None, refl, sym, ap, ◌∙◌, subst, inl, inr, length, map, arith, append_assoc, length-append, ◌+◌, Result, Ok, Err, take}
-use Rattle.std.specs.Prelude.{slice_get, slice_set, IfOk}
+use Rattle.std.proofs.Common.{◌≡◌, ◌⊎◌, ℕ, zero, suc, ℤ, pos, List, [], ◌∷◌, ◌++◌, Option, Some, None, refl, sym, ap, ◌∙◌, subst, inl, inr, length, map, arith, append_assoc, length-append, ◌+◌, take}
+use Rattle.std.specs.Prelude.{cond, nat_eq, slice_get, slice_set}
 use Rattle.mg_link.specs.Link.{Awaited, Told}
 use Rattle.mg_link.specs.Log.{Call}
 use Rattle.mg_link.specs.Owner.{Owner, Holds, Onward, Passes, nobody}
@@ -13,12 +13,10 @@ use Rattle.mg_link.proofs.Answering.{knows_new}
 use Rattle.mg_change.specs.Following.{not_open}
 use Rattle.mg_script.specs.Plan as plan
 use Rattle.mg_script.specs.Plan.{Task, begin, task, tasks}
-use Rattle.mg_link.specs.declared.error.Error.{Error}
-use Rattle.mg_script.specs.declared.outcome.Played.{Played}
 use Rattle.mg_script.specs.declared.script.Job.{Job}
-use Rattle.mg_jobs.specs.Follows.{FollowKnows, FollowTurns, FollowsNothing, HasNothing, IsUnfinished, IsUnwatched, IsWatch, IsWatched, WatchesNothing, filter_in}
+use Rattle.mg_jobs.specs.Follows.{FollowKnows, FollowTurns, FollowsNothing, HasNothing, IsUnfinished, IsUnwatched, IsWatched, Placing, filter_in, same_place}
 use Rattle.mg_jobs.specs.Playing.{IsPlainInsert, IsPlainJob, IsSameFollow, IsSameInsert}
-use Rattle.mg_jobs.specs.Headline.{AllFollowed, AllKnow, AreFirst, DoTasks, Does, IsFirst, IsSameTask, Knowing, Made, OutcomeFollowed, OutcomeOf, OutcomesOf, Plays, PlaysAt, Took, Turns}
+use Rattle.mg_jobs.specs.Headline.{AllKnow, AreFirst, DoTasks, Does, IsFirst, IsSameTask, Knowing, Made, OutcomeOf, OutcomesOf, Plays, PlaysAt, Took, Turns}
 use Rattle.mg_jobs.specs.declared.player.FollowPlayer.{FollowPlayer}
 use Rattle.mg_jobs.specs.declared.player.Stage.{Stage}
 use Rattle.mg_jobs.specs.declared.player.Stage.TheVariants as stage
@@ -28,46 +26,57 @@ use Rattle.mg_jobs.specs.declared.run.Player.TheVariants as player
 use Rattle.mg_link.proofs.Owners.{same_some}
 use Rattle.mg_store.proofs.Standing.{get_set_other, get_set_same}
 use Rattle.mg_jobs.proofs.Apart.{stays, which}
-use Rattle.std.proofs.lemmas.Bool.{cases_eq}
+use Rattle.std.proofs.lemmas.Bool.{cases_eq, eq-eqb, ne_eqb}
 use Rattle.std.proofs.lemmas.List.{length-map}
-use Rattle.mg_jobs.proofs.Turning.{SameParts, kept_follow, outcome_followed, parts_knows, same_follow}
-use Rattle.mg_jobs.proofs.Vainly.{kept_vain, outcome_vain, same_vain, unfinished_not_given, vain_parts}
+use Rattle.mg_jobs.proofs.Turning.{SameParts, kept_follow, parts_knows, same_follow, unfinished_not_given}
+use Rattle.mg_jobs.proofs.Vainly.{kept_vain, same_vain, vain_parts}
 use Rattle.mg_jobs.proofs.Watched.{watch_or_nothing}
 use Rattle.mg_script.specs.declared.outcome.Outcome.{Outcome}
 use Rattle.mg_jobs.specs.declared.player.InsertPlayer.{InsertPlayer}
 
-get_past_other : {A : Type 0} (xs : List A) (k i : ℕ) (x y : A) → (i ≡ k → ⊥) → slice_get xs i ≡ Some x → slice_get (slice_set xs k y) i ≡ Some x
+pub get_past_other : {A : Type 0} (xs : List A) (k i : ℕ) (x y : A) → (i ≡ k → ⊥) → slice_get xs i ≡ Some x → slice_get (slice_set xs k y) i ≡ Some x
 get_past_other [] k i x y ne h = h
 get_past_other (z ∷ xs) zero zero x y ne h = absurd (ne refl)
 get_past_other (z ∷ xs) zero (suc i) x y ne h = h
 get_past_other (z ∷ xs) (suc k) zero x y ne h = h
 get_past_other (z ∷ xs) (suc k) (suc i) x y ne h = get_past_other xs k i x y (λ e. ne (ap suc e)) h
 
-same_player : (old new : Awaited) (calls : List Call) (p : Player) (o : Owner) → ((m : ℕ) → job_ticket p ≡ Some m → new m ≡ old m) → Plays old calls p o → Plays new calls p o
-same_player old new calls (player.Insert job) o same plays = plays
-same_player old new calls (player.Follow job) o same (inl knows) = inl (same_follow old new calls job.stage job o same knows)
-same_player old new calls (player.Follow job) o same (inr vain) = inr (vain.0, same_vain old new calls job.stage job same vain.1)
-same_player old new calls player.Put o same plays = plays
-same_player old new calls player.Get o same plays = plays
+pub same_player : (old new : Awaited) (calls : List Call) (p : Player) (o : Owner) (at : Option ℕ) → ((m : ℕ) → job_ticket p ≡ Some m → new m ≡ old m) → Plays old calls p o at → Plays new calls p o at
+same_player old new calls (player.Insert job) o at same plays = plays
+same_player old new calls (player.Follow job) o at same (inl knows) = inl (same_follow old new calls job.stage job o at same knows)
+same_player old new calls (player.Follow job) o at same (inr vain) = inr (vain.0, same_vain old new calls job.stage job same vain.1)
+same_player old new calls player.Put o at same plays = plays
+same_player old new calls player.Get o at same plays = plays
 
-kept_player : (awaited : Awaited) (calls calls' : List Call) (p : Player) (o : Owner) → Onward calls calls' o → Plays awaited calls p o → Plays awaited calls' p o
-kept_player awaited calls calls' (player.Insert job) o onward plays = plays
-kept_player awaited calls calls' (player.Follow job) o onward (inl knows) = inl (kept_follow awaited calls calls' job.stage job o onward knows)
-kept_player awaited calls calls' (player.Follow job) o onward (inr vain) = inr (vain.0, kept_vain awaited calls calls' job.stage job (subst (Onward calls calls') vain.0 onward) vain.1)
-kept_player awaited calls calls' player.Put o onward plays = plays
-kept_player awaited calls calls' player.Get o onward plays = plays
+pub kept_player : (awaited : Awaited) (calls calls' : List Call) (p : Player) (o : Owner) (at : Option ℕ) → Onward calls calls' o → Plays awaited calls p o at → Plays awaited calls' p o at
+kept_player awaited calls calls' (player.Insert job) o at onward plays = plays
+kept_player awaited calls calls' (player.Follow job) o at onward (inl knows) = inl (kept_follow awaited calls calls' job.stage job o at onward knows)
+kept_player awaited calls calls' (player.Follow job) o at onward (inr vain) = inr (vain.0, kept_vain awaited calls calls' job.stage job (subst (Onward calls calls') vain.0 onward) vain.1)
+kept_player awaited calls calls' player.Put o at onward plays = plays
+kept_player awaited calls calls' player.Get o at onward plays = plays
 
 module _ (old new : Awaited) (log log' : Told) (wire : ℤ) (players : List Player) (k : ℕ) (p p' : Player) (at : slice_get players k ≡ Some p) (apart : AreApart old wire players) (goes : Goes old new log log' wire p p') where
-  knowing_turn : (calls calls' : List Call) (all : AllKnow old calls players) (here : PlaysAt old calls p all.owners k) → Took new calls calls' p' here.owner → AllKnow new calls' (slice_set players k p')
+  -- the places where streams were opened, behind the turn
+  abbrev pub places_on : (ℕ → Option ℕ) → ℕ → Option ℕ
+  places_on places i = cond (nat_eq i k) (goes.next (places k)) (places i)
+
+  pub place_here : (places : ℕ → Option ℕ) (i : ℕ) → i ≡ k → places_on places i ≡ goes.next (places k)
+  place_here places i e = ap (λ b. cond b (goes.next (places k)) (places i)) (eq-eqb i k e)
+
+  pub place_other : (places : ℕ → Option ℕ) (i : ℕ) → (i ≡ k → ⊥) → places_on places i ≡ places i
+  place_other places i ne = ap (λ b. cond b (goes.next (places k)) (places i)) (ne_eqb i k ne)
+
+  abbrev pub knowing_turn : (calls calls' : List Call) (all : AllKnow old calls players) (here : PlaysAt old calls p all.owners k (all.places k)) → Took new calls calls' p' here.owner (goes.next (all.places k)) → AllKnow new calls' (slice_set players k p')
   knowing_turn calls calls' all here took =
       record {
         owners = slice_set all.owners k took.owner;
+        places = places_on all.places;
         apart = apart_after calls calls' all.owners k here.owner took.owner here.there took.passes all.apart;
         each = λ i a ha. elim (which old new log log' wire players k p p' at apart goes i a ha) [
           | inl mine ↦ record {
             owner = took.owner;
             there = subst (λ n. slice_get (slice_set all.owners k took.owner) n ≡ Some took.owner) (sym mine.0) (get_set_same all.owners k here.owner took.owner here.there);
-            plays = subst (λ (x : Player). Plays new calls' x took.owner) mine.1 took.plays;
+            plays = subst (λ (at : Option ℕ). Plays new calls' a took.owner at) (sym (place_here all.places i mine.0)) (subst (λ (x : Player). Plays new calls' x took.owner (goes.next (all.places k))) mine.1 took.plays);
           }
           | inr other ↦
               let was = all.each i a other.1 in
@@ -75,7 +84,8 @@ module _ (old new : Awaited) (log log' : Told) (wire : ℤ) (players : List Play
               record {
                 owner = was.owner;
                 there = get_past_other all.owners k i was.owner took.owner other.0 was.there;
-                plays = same_player old new calls' a was.owner (stays old new log log' wire players k p p' at apart goes i a other.0 other.1) (kept_player old calls calls' a was.owner onward was.plays);
+                plays = subst (λ (at : Option ℕ). Plays new calls' a was.owner at) (sym (place_other all.places i other.0))
+                    (same_player old new calls' a was.owner (all.places i) (stays old new log log' wire players k p p' at apart goes i a other.0 other.1) (kept_player old calls calls' a was.owner (all.places i) onward was.plays));
               }
         ];
       }
@@ -85,57 +95,57 @@ module _ (old new : Awaited) (log log' : Told) (wire : ℤ) (players : List Play
   knowing_on begun knowing calls e =
       let before = knowing calls e in
       let here = before.2.each k p at in
-      let on = goes.turned before.0 before.1 here.owner here.plays in
+      let on = goes.turned before.0 before.1 here.owner (before.2.places k) here.plays in
       (on.0, on.1, knowing_turn before.0 on.0 before.2 here on.2, λ made. on.2.passes.made (before.3 made))
 
 -- ---- turns of each kind
 
 -- an insert names no cursor, and leaves every other job alone
-pub turned_insert : (old new : Awaited) (log log' : Told) (job job' : InsertPlayer) → (IsPlainJob job → PassesPlain log log' × IsPlainJob job') → Turns old new log log' (player.Insert job) (player.Insert job')
-turned_insert old new log log' job job' plain calls told o plays =
+pub turned_insert : (old new : Awaited) (log log' : Told) (job job' : InsertPlayer) → (IsPlainJob job → PassesPlain log log' × IsPlainJob job') → Turns old new log log' (player.Insert job) (player.Insert job') same_place
+turned_insert old new log log' job job' plain calls told o at plays =
     let on = plain plays.1 in
     let m = on.0 calls told in
     (m.0, m.1, record { owner = nobody; plays = (refl, on.1); passes = subst (λ (x : Owner). Passes calls m.0 x nobody) (sym plays.0) m.2 })
 
-pub turned_follow : (old new : Awaited) (log log' : Told) (job job' : FollowPlayer) → FollowTurns old new log log' job.stage job job'.stage job' → Turns old new log log' (player.Follow job) (player.Follow job')
-turned_follow old new log log' job job' turned calls told o (inl knows) =
-    let m = turned.watching calls told o knows in
+pub turned_follow : (old new : Awaited) (log log' : Told) (job job' : FollowPlayer) (next : Placing) → FollowTurns old new log log' job.stage job job'.stage job' next → Turns old new log log' (player.Follow job) (player.Follow job') next
+turned_follow old new log log' job job' next turned calls told o at (inl knows) =
+    let m = turned.watching calls told o at knows in
     (m.0, m.1, record { owner = m.2.owner; plays = inl m.2.knows; passes = m.2.passes })
-turned_follow old new log log' job job' turned calls told o (inr vain) =
+turned_follow old new log log' job job' next turned calls told o at (inr vain) =
     let m = turned.vainly calls told vain.1 in
     (m.0, m.1, record { owner = nobody; plays = inr (refl, m.2); passes = subst (λ (x : Owner). Passes calls m.0 x nobody) (sym vain.0) m.3 })
 
-holds_player : (awaited : Awaited) (calls : List Call) (p : Player) (o : Owner) → Plays awaited calls p o → Holds calls o
-holds_player awaited calls (player.Insert job) o plays = subst (Holds calls) (sym plays.0) (holds_nobody calls)
-holds_player awaited calls (player.Follow job) o (inl knows) = subst (Holds calls) (sym knows.owns) knows.knows.owned
-holds_player awaited calls (player.Follow job) o (inr vain) = subst (Holds calls) (sym vain.0) (holds_nobody calls)
-holds_player awaited calls player.Put o plays = subst (Holds calls) (sym plays) (holds_nobody calls)
-holds_player awaited calls player.Get o plays = subst (Holds calls) (sym plays) (holds_nobody calls)
+holds_player : (awaited : Awaited) (calls : List Call) (p : Player) (o : Owner) (at : Option ℕ) → Plays awaited calls p o at → Holds calls o
+holds_player awaited calls (player.Insert job) o at plays = subst (Holds calls) (sym plays.0) (holds_nobody calls)
+holds_player awaited calls (player.Follow job) o at (inl knows) = subst (Holds calls) (sym knows.owns) knows.knows.owned
+holds_player awaited calls (player.Follow job) o at (inr vain) = subst (Holds calls) (sym vain.0) (holds_nobody calls)
+holds_player awaited calls player.Put o at plays = subst (Holds calls) (sym plays) (holds_nobody calls)
+holds_player awaited calls player.Get o at plays = subst (Holds calls) (sym plays) (holds_nobody calls)
 
 -- a job that does nothing
-pub turned_not : (awaited : Awaited) (log : Told) (p p' : Player) → ((calls : List Call) (o : Owner) → Plays awaited calls p o → Plays awaited calls p' o) → Turns awaited awaited log log p p'
-turned_not awaited log p p' knows calls told o plays = (calls, told, record { owner = o; plays = knows calls o plays; passes = passes_same calls o (holds_player awaited calls p o plays) })
+pub turned_not : (awaited : Awaited) (log : Told) (p p' : Player) → ((calls : List Call) (o : Owner) (at : Option ℕ) → Plays awaited calls p o at → Plays awaited calls p' o at) → Turns awaited awaited log log p p' same_place
+turned_not awaited log p p' knows calls told o at plays = (calls, told, record { owner = o; plays = knows calls o at plays; passes = passes_same calls o (holds_player awaited calls p o at plays) })
 
 -- a job that found a place for its answer, and then took its turn
-pub turned_ready : (old new : Awaited) (log log' : Told) (p q p' : Player) → ((awaited : Awaited) (calls : List Call) (o : Owner) → Plays awaited calls p o → Plays awaited calls q o) → Turns old new log log' q p' → Turns old new log log' p p'
-turned_ready old new log log' p q p' knows turned calls told o plays = turned calls told o (knows old calls o plays)
+pub turned_ready : (old new : Awaited) (log log' : Told) (p q p' : Player) (next : Placing) → ((awaited : Awaited) (calls : List Call) (o : Owner) (at : Option ℕ) → Plays awaited calls p o at → Plays awaited calls q o at) → Turns old new log log' q p' next → Turns old new log log' p p' next
+turned_ready old new log log' p q p' next knows turned calls told o at plays = turned calls told o at (knows old calls o at plays)
 
 -- what differs at most in the room for answers knows the same
 same_parts : (f f' : FollowPlayer) → IsSameFollow f f' → SameParts f f'
 same_parts f f' same = record { watched = same.watched_same; opened = same.opened_same; answers = same.answers_same; token = same.token_same }
 
-pub same_knows : (f f' : FollowPlayer) → IsSameFollow f f' → (awaited : Awaited) (calls : List Call) (o : Owner) → Plays awaited calls (player.Follow f) o → Plays awaited calls (player.Follow f') o
-same_knows f f' same awaited calls o (inl k) = inl (subst (λ s. FollowKnows awaited calls s f' o) (sym same.stage_same) (parts_knows awaited calls f.stage f f' o (same_parts f f' same) k))
-same_knows f f' same awaited calls o (inr v) = inr (v.0, subst (λ s. FollowsNothing awaited calls s f') (sym same.stage_same) (vain_parts awaited calls f.stage f f' (same_parts f f' same) v.1))
+pub same_knows : (f f' : FollowPlayer) → IsSameFollow f f' → (awaited : Awaited) (calls : List Call) (o : Owner) (at : Option ℕ) → Plays awaited calls (player.Follow f) o at → Plays awaited calls (player.Follow f') o at
+same_knows f f' same awaited calls o at (inl k) = inl (subst (λ s. FollowKnows awaited calls s f' o at) (sym same.stage_same) (parts_knows awaited calls f.stage f f' o at (same_parts f f' same) k))
+same_knows f f' same awaited calls o at (inr v) = inr (v.0, subst (λ s. FollowsNothing awaited calls s f') (sym same.stage_same) (vain_parts awaited calls f.stage f f' (same_parts f f' same) v.1))
 
 -- ---- at first
 
-get_map : {A B : Type 0} (f : A → B) (xs : List A) (i : ℕ) (x : A) → slice_get xs i ≡ Some x → slice_get (map f xs) i ≡ Some (f x)
+pub get_map : {A B : Type 0} (f : A → B) (xs : List A) (i : ℕ) (x : A) → slice_get xs i ≡ Some x → slice_get (map f xs) i ≡ Some (f x)
 get_map f [] i x h = absurd cc
 get_map f (y ∷ ys) zero x h = ap (λ z. Some (f z)) (same_some y x h)
 get_map f (y ∷ ys) (suc i) x h = get_map f ys i x h
 
-get_mapped : {A B : Type 0} (f : A → B) (xs : List A) (i : ℕ) (z : B) → slice_get (map f xs) i ≡ Some z → (x : A) × (f x ≡ z)
+pub get_mapped : {A B : Type 0} (f : A → B) (xs : List A) (i : ℕ) (z : B) → slice_get (map f xs) i ≡ Some z → (x : A) × (f x ≡ z)
 get_mapped f [] i z h = absurd cc
 get_mapped f (y ∷ ys) zero z h = (y, same_some (f y) z h)
 get_mapped f (y ∷ ys) (suc i) z h = get_mapped f ys i z h
@@ -169,18 +179,17 @@ owns_by : (job : FollowPlayer) (d : decided job) → OwnsNothing (owner_by job d
 owns_by job (inl watched) = owns_zero
 owns_by job (inr none) = owns_none
 
-owns_first : (p : Player) → OwnsNothing (first_owner p)
+pub owns_first : (p : Player) → OwnsNothing (first_owner p)
 owns_first (player.Insert job) = owns_none
 owns_first (player.Follow job) = owns_by job (watch_or_nothing (target job.watched.target.now) (begin job.watched.start.now) (filter_in job.watched))
 owns_first player.Put = owns_none
 owns_first player.Get = owns_none
 
-at_first : (awaited : Awaited) (calls : List Call) (s : Stage) (p : FollowPlayer) (w : Watch) (start : Start) → s ≡ stage.Unopened → IsUnfinished p.opened → HasNothing p → IsWatched p.watched w start → FollowKnows awaited calls s p (record { ids = pos 0 ∷ pos 0 ∷ []; coming = None ∷ [] })
+at_first : (awaited : Awaited) (calls : List Call) (s : Stage) (p : FollowPlayer) (w : Watch) (start : Start) → s ≡ stage.Unopened → IsUnfinished p.opened → HasNothing p → IsWatched p.watched w start → FollowKnows awaited calls s p (record { ids = pos 0 ∷ pos 0 ∷ []; coming = None ∷ [] }) None
 at_first awaited calls stage.Unopened p w start is unfinished nothing watched =
     record {
       watch = w;
       start = start;
-      opened = None;
       watches = watched;
       asks = tt;
       knows = knows_new calls (not_open w start) refl (record { none_answered = refl; no_cursor = refl; no_old = refl });
@@ -200,11 +209,11 @@ vain_first awaited calls (stage.Open stream) p is unfinished nothing none = absu
 vain_first awaited calls (stage.Closes closing) p is unfinished nothing none = absurd cc
 vain_first awaited calls stage.Ended p is unfinished nothing none = absurd cc
 
-plays_by : (awaited : Awaited) (calls : List Call) (job : FollowPlayer) (d : decided job) → IsFirst (player.Follow job) → Plays awaited calls (player.Follow job) (owner_by job d)
+plays_by : (awaited : Awaited) (calls : List Call) (job : FollowPlayer) (d : decided job) → IsFirst (player.Follow job) → Plays awaited calls (player.Follow job) (owner_by job d) None
 plays_by awaited calls job (inl w) first = inl (at_first awaited calls job.stage job w.0 w.1 first.0 first.1 first.2 w.2)
 plays_by awaited calls job (inr none) first = inr (refl, vain_first awaited calls job.stage job first.0 first.1 first.2 none)
 
-plays_first : (awaited : Awaited) (calls : List Call) (p : Player) → IsFirst p → Plays awaited calls p (first_owner p)
+pub plays_first : (awaited : Awaited) (calls : List Call) (p : Player) → IsFirst p → Plays awaited calls p (first_owner p) None
 plays_first awaited calls (player.Insert job) first = (refl, subst (λ s. IsPlainInsert s) (sym first) tt)
 plays_first awaited calls (player.Follow job) first = plays_by awaited calls job (watch_or_nothing (target job.watched.target.now) (begin job.watched.start.now) (filter_in job.watched)) first
 plays_first awaited calls player.Put first = refl
@@ -216,53 +225,18 @@ get_length [] (z ∷ zs) same i y h = absurd cc
 get_length (x ∷ xs) (z ∷ zs) same zero y h = (x, refl)
 get_length (x ∷ xs) (z ∷ zs) same (suc i) y h = get_length xs zs (omega (arith, same)) i y h
 
--- Jobs that have done nothing know what they should, whatever was called before.
+-- what jobs know that have done nothing, whatever was called before
+abbrev pub know_first : (awaited : Awaited) (calls : List Call) (players : List Player) → AreFirst players → AllKnow awaited calls players
+know_first awaited calls players first =
+    record {
+      owners = map first_owner players;
+      places = λ i. None;
+      apart = apart_at_first calls (map first_owner players) (λ i o h. let x = get_mapped first_owner players i o h in subst OwnsNothing x.1 (owns_first x.0));
+      each = λ i p h. record { owner = first_owner p; there = get_map first_owner players i p h; plays = plays_first awaited calls p (first i p h) };
+    }
+
 pub knowing_first : (awaited : Awaited) (log : Told) (players : List Player) → AreFirst players → Knowing awaited log log players
-knowing_first awaited log players first calls e = (
-  calls,
-  e,
-  record {
-    owners = map first_owner players;
-    apart = apart_at_first calls (map first_owner players) (λ i o h. let x = get_mapped first_owner players i o h in subst OwnsNothing x.1 (owns_first x.0));
-    each = λ i p h. record { owner = first_owner p; there = get_map first_owner players i p h; plays = plays_first awaited calls p (first i p h) };
-  },
-  λ made. made,
-)
-
--- ---- at the end
-
-outcome_of_task : (awaited : Awaited) (calls : List Call) (t : Task) (p : Player) (r : Outcome) (o : Owner) → Does t p → OutcomeOf p r → Plays awaited calls p o → OutcomeFollowed calls t r
-outcome_of_task awaited calls (plan.insert ns docs) p r o does is plays = tt
-outcome_of_task awaited calls (plan.put db bucket name id chunk pieces) p r o does is plays = tt
-outcome_of_task awaited calls (plan.get db bucket id read) p r o does is plays = tt
-outcome_of_task awaited calls (plan.follow on count start filter batch) (player.Insert job) r o does is plays = absurd does
-outcome_of_task awaited calls (plan.follow on count start filter batch) player.Put r o does is plays = absurd does
-outcome_of_task awaited calls (plan.follow on count start filter batch) player.Get r o does is plays = absurd does
-outcome_of_task awaited calls (plan.follow on count start filter batch) (player.Follow job) r o does is (inl plays) =
-    subst (λ (x : Outcome). OutcomeFollowed calls (plan.follow on count start filter batch) x) (sym is) (inl (
-      plays.watch,
-      plays.start,
-      subst (λ f. IsWatch on start f plays.watch plays.start) does.2 (subst (λ b. IsWatch on b (filter_in job.watched) plays.watch plays.start) does.1 (subst (λ u. IsWatch u (begin job.watched.start.now) (filter_in job.watched) plays.watch plays.start) does.0 plays.watches)),
-      outcome_followed awaited calls job.stage job o plays,
-    ))
-outcome_of_task awaited calls (plan.follow on count start filter batch) (player.Follow job) r o does is (inr vain) =
-    subst (λ (x : Outcome). OutcomeFollowed calls (plan.follow on count start filter batch) x) (sym is) (inr (
-      subst (λ f. WatchesNothing on start f) does.2 (subst (λ b. WatchesNothing on b (filter_in job.watched)) does.1 (subst (λ u. WatchesNothing u (begin job.watched.start.now) (filter_in job.watched)) does.0 vain.1.unwatched)),
-      outcome_vain awaited calls job.stage job vain.1,
-    ))
-
--- What the jobs of a run know at its end says what became of them.
-pub all_followed : (awaited : Awaited) (log log' : Told) (tasks : List Task) (players : List Player) (outcomes : List Outcome) → length outcomes ≡ length players → Knowing awaited log log' players → DoTasks tasks players → OutcomesOf players outcomes → AllFollowed log log' tasks outcomes
-all_followed awaited log log' tasks players outcomes count knowing does of calls e =
-    let k = knowing calls e in (
-      k.0,
-      k.1,
-      (λ i t r ht hr.
-          let p = get_length players outcomes count i r hr in
-          let at = k.2.each i p.0 p.1 in
-          outcome_of_task awaited k.0 t p.0 r at.owner (does i t p.0 ht p.1) (of i p.0 r p.1 hr) at.plays),
-      k.3,
-    )
+knowing_first awaited log players first calls e = (calls, e, know_first awaited calls players first, λ made. made)
 
 -- ---- tasks
 
@@ -322,12 +296,6 @@ made_more players rest rest' outcomes p r is made of =
       count = length-append made.gone (p ∷ []) ∙ ap (λ n. n + 1) made.count ∙ sym (length-append outcomes (r ∷ []));
       of = outcomes_more made.gone outcomes p r made.count made.of of;
     }
-
--- what was played is as it should be, unless memory ran out
-pub played_so : (awaited : Awaited) (ts : List Task) (log log' : Told) (result : Result Played Error) (players : List Player) (count : ℕ) → IfOk result (λ p. length p.outcomes.items ≡ count) → IfOk result (λ p. OutcomesOf players p.outcomes.items)
-    → Knowing awaited log log' players → DoTasks ts players → count ≡ length players → IfOk result (λ p. AllFollowed log log' ts p.outcomes.items)
-played_so awaited ts log log' (Ok p) players count counted of knowing does same = all_followed awaited log log' ts players p.outcomes.items (counted ∙ same) knowing does of
-played_so awaited ts log log' (Err e) players count counted of knowing does same = tt
 
 pub take_next : {A : Type 0} (xs : List A) (k : ℕ) (x : A) → slice_get xs k ≡ Some x → take (suc k) xs ≡ take k xs ++ x ∷ []
 take_next [] k x h = absurd cc

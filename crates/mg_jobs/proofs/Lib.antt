@@ -15,7 +15,9 @@ pub mod Telling
 pub mod Told
 pub mod Prompting
 pub mod Batches
+pub mod Identified
 pub mod InsertWell
 pub mod Completing
 pub mod InsertCauses
 pub mod InsertTelling
+pub mod Drawing

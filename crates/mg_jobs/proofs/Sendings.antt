@@ -1,25 +1,26 @@
 -- An insert goes on from one command to the next.
-use Rattle.std.proofs.Common.{◌≡◌, ℕ, ℤ, pos, true, List, length, Option, Some, None, refl, sym, ap, ◌∙◌, subst, take, arith}
+use Rattle.std.proofs.Common.{◌≡◌, ℕ, ℤ, pos, true, List, ◌++◌, length, Option, Some, None, refl, sym, ap, ◌∙◌, subst, take, arith}
 use Rattle.mg_bson.specs.Tree.{Fields}
 use Rattle.mg_bson.specs.Raw.{fields}
-use Rattle.mg_link.specs.Commands.{asked}
+use Rattle.mg_link.specs.Commands.{asked, asks_insert}
 use Rattle.mg_link.specs.Exec.{Runs, ticket_of}
 use Rattle.mg_link.specs.Link.{Awaited, Told}
 use Rattle.mg_link.specs.Namespace.{Space, space}
 use Rattle.mg_link.specs.declared.action.Step.TheVariants as step
 use Rattle.mg_link.specs.declared.error.Error.{Error}
+use Rattle.mg_ops.specs.Naming.{IsNamed}
 use Rattle.mg_ops.specs.Writes.{Inserted}
 use Rattle.mg_ops.proofs.Replying.{tells_of_insert}
 use Rattle.mg_change.specs.Calls.{Grows, Past, past_of}
 use Rattle.mg_jobs.specs.Appended.{Appended, InsertedBelow}
 use Rattle.mg_jobs.specs.Inserts.{held, insert_ticket}
-use Rattle.mg_jobs.specs.Underway.{AreDrawn, AreSent, HasInserted, HearsSent, Holding, Inserts, IsInserting, IsNextOf, IsSameList, IsStarted, LeadsOn, SendsNext, sent_of}
+use Rattle.mg_jobs.specs.Underway.{AreSent, HasInserted, HearsSent, Holding, Inserts, IsInserting, IsNextOf, IsSameList, IsStarted, LeadsOn, SendsNext}
 use Rattle.mg_jobs.specs.declared.insert.Batches.{Batches}
 use Rattle.mg_jobs.specs.declared.insert.Command.{Command}
 use Rattle.mg_jobs.specs.declared.insert.Heard.TheVariants as heard
 use Rattle.mg_jobs.specs.declared.insert.Inserting.{Inserting}
 use Rattle.mg_jobs.specs.declared.insert.Next.TheVariants as next
-use Rattle.mg_jobs.proofs.Appending.{all_with_ids, below_grown, below_none, below_on, insert_ran, sent_length, take_whole}
+use Rattle.mg_jobs.proofs.Appending.{below_grown, below_none, below_on, insert_ran, same_sent, sent_length, take_whole}
 use Rattle.mg_jobs.proofs.Plainly.{same_command}
 
 -- ---- what a poll of a command comes to
@@ -50,24 +51,28 @@ done_sent old new log log' wire c bytes count n r i calls told places since vers
 
 -- ---- what is sent next
 
-list_same : (awaited : Awaited) (past : Past) (at : Space) (ds : List Fields) (b b' : Batches) (w : Option Command) → IsSameList b b' → IsInserting awaited past at ds b w → (space b'.ns.now ≡ at) × (b'.documents.now ≡ ds) × AreDrawn ds b'.drawn.items
-list_same awaited past at ds b b' w same i =
-    (ap (λ n. space n.now) same.0 ∙ i.at_is, ap (λ d. d.now) same.1 ∙ i.documents_are, subst (λ v. AreDrawn ds v.items) (sym same.2) i.drawn)
+pub next_some : (b b' : Batches) (c : Command) → IsSameList b b' → ticket_of c.exec ≡ None → IsNextOf b b' (Some c) → SendsNext b b' None (next.Send c)
+next_some b b' c same unsent n awaited past at ds named i =
+    record {
+      at_is = ap (λ n. space n.now) same.0 ∙ i.at_is;
+      sent_is = same_sent b b' same ∙ i.sent_is;
+      done = record {
+        before = take b.upto ds;
+        piece = n.0;
+        whole = subst (λ (l : List Fields). take b'.upto l ≡ take b.upto l ++ n.0) i.sent_is n.1;
+        asks = subst (λ (s : Space). asked c.exec.command ≡ asks_insert s n.0 true) i.at_is (n.2 (subst IsNamed (sym i.at_is) named));
+        holding = subst (Holding awaited past at (take b.upto ds) n.0) (sym unsent) i.done;
+      };
+    }
 
 pub next_none : (b b' : Batches) → IsSameList b b' → IsNextOf b b' None → SendsNext b b' None next.Finished
 next_none b b' same n awaited past at ds named i =
-    let kept = list_same awaited past at ds b b' None same i in
-    let l : length (sent_of b.drawn.items ds) ≡ length ds = sent_length b.drawn.items ds in
-    let m : length b.documents.now ≡ length ds = ap (λ (x : List Fields). length x) i.documents_are in
-    let le = n.1 in (
-      record {
-        count = refl;
-        sent = sent_of b.drawn.items ds;
-        ids = all_with_ids ds b.drawn.items i.drawn;
-        stands = subst (λ (s : List Fields). InsertedBelow past (length past.calls) at s) (take_whole (sent_of b.drawn.items ds) b.upto (omega (arith, l, m, le))) i.sent;
-      },
-      kept.1,
-    )
+    let all : length ds ≡ length b.documents.now = ap (λ (x : List Fields). length x) (sym i.sent_is) ∙ sent_length b.drawn.items b.documents.now in
+    let le = n.1 in
+    record {
+      count = ap (λ d. length d.now) same.1 ∙ sym all;
+      stands = subst (λ (s : List Fields). InsertedBelow past (length past.calls) at s) (take_whole ds b.upto (omega (arith, all, le))) i.done;
+    }
 
 -- ---- the commands of an insert, one after another
 
@@ -77,7 +82,7 @@ module _ (old mid : Awaited) (log log' : Told) (i : Inserting) (b b' : Batches) 
       let x = lead calls told places wire at ds named h in
       let past : Past = past_of places (length calls) x.0 wire in
       let s = sends mid past at ds named x.3 in
-      (x.0, x.1, subst (Appended past at ds) (sym (is ∙ ap (λ (l : List Fields). length l) s.1)) s.0)
+      (x.0, x.1, subst (Appended past at ds) (sym is) s)
 
   pub leads_stopped : (e : Error) → Inserts old mid log log' i (step.Failed e)
   leads_stopped e calls told places wire at ds named h = let x = lead calls told places wire at ds named h in (x.0, x.1, tt)
@@ -87,21 +92,21 @@ module _ (old mid : Awaited) (log log' : Told) (i : Inserting) (b b' : Batches) 
     leads_pending c' hears calls told places wire at ds named h =
         let x = lead calls told places wire at ds named h in
         let s = sends mid (past_of places (length calls) x.0 wire) at ds named x.3 in
-        let y = hears x.0 x.1 places (length calls) wire x.2 at (take b'.upto (sent_of b'.drawn.items ds)) s.sent in
-        (y.0, y.1, record { at_is = s.at_is; documents_are = s.documents_are; drawn = s.drawn; sent = y.3 })
+        let y = hears x.0 x.1 places (length calls) wire x.2 at (take b'.upto ds) s.done in
+        (y.0, y.1, record { at_is = s.at_is; sent_is = s.sent_is; done = y.3 })
 
     pub leads_inserted : HearsSent mid new log' log'' c heard.Inserted → LeadsOn old new log log'' i b' None
     leads_inserted hears calls told places wire at ds named h =
         let x = lead calls told places wire at ds named h in
         let s = sends mid (past_of places (length calls) x.0 wire) at ds named x.3 in
-        let y = hears x.0 x.1 places (length calls) wire x.2 at (take b'.upto (sent_of b'.drawn.items ds)) s.sent in
-        (y.0, y.1, y.2, record { at_is = s.at_is; documents_are = s.documents_are; drawn = s.drawn; sent = y.3 })
+        let y = hears x.0 x.1 places (length calls) wire x.2 at (take b'.upto ds) s.done in
+        (y.0, y.1, y.2, record { at_is = s.at_is; sent_is = s.sent_is; done = y.3 })
 
     pub leads_failed : (e e' : Error) → HearsSent mid new log' log'' c (heard.Failed e) → Inserts old new log log'' i (step.Failed e')
     leads_failed e e' hears calls told places wire at ds named h =
         let x = lead calls told places wire at ds named h in
         let s = sends mid (past_of places (length calls) x.0 wire) at ds named x.3 in
-        let y = hears x.0 x.1 places (length calls) wire x.2 at (take b'.upto (sent_of b'.drawn.items ds)) s.sent in
+        let y = hears x.0 x.1 places (length calls) wire x.2 at (take b'.upto ds) s.done in
         (y.0, y.1, tt)
 
 -- An insert that has sent nothing, whatever the log is.
@@ -109,9 +114,8 @@ pub started : (awaited : Awaited) (past : Past) (at : Space) (ds : List Fields) 
 started awaited past at ds i none s =
     subst (λ (w : Option Command). IsInserting awaited past at ds i.batches w) (sym none) (record {
       at_is = s.at_is;
-      documents_are = s.documents_are;
-      drawn = s.drawn;
-      sent = below_none past (length past.calls) at (take i.batches.upto (sent_of i.batches.drawn.items ds)) (ap (λ n. take n (sent_of i.batches.drawn.items ds)) s.none);
+      sent_is = s.sent_is;
+      done = below_none past (length past.calls) at (take i.batches.upto ds) (ap (λ n. take n ds) s.none);
     })
 
 -- ---- while others have their turns
@@ -137,4 +141,4 @@ module _ (old new : Awaited) (past past' : Past) (grows : Grows past past') (at 
 
   -- How far an insert has come it has come in any later log.
   pub has_grown : (ds : List Fields) (i : Inserting) → ((m : ℕ) → insert_ticket i ≡ Some m → new m ≡ old m) → HasInserted old past at ds i → HasInserted new past' at ds i
-  has_grown ds i same h = record { at_is = h.at_is; documents_are = h.documents_are; drawn = h.drawn; sent = sent_grown (take i.batches.upto (sent_of i.batches.drawn.items ds)) i.command same h.sent }
+  has_grown ds i same h = record { at_is = h.at_is; sent_is = h.sent_is; done = sent_grown (take i.batches.upto ds) i.command same h.done }

@@ -14,11 +14,11 @@ use Rattle.mg_link.proofs.Places.{get_within}
 use Rattle.mg_ops.specs.declared.change_stream.WatchArgs.{WatchArgs}
 use Rattle.mg_ops.specs.declared.cursor_reply.CursorInformation.{CursorInformation}
 use Rattle.mg_change.specs.Calls.{Grows, Keeps, Past, Stays, past_of}
-use Rattle.mg_change.specs.Causes.{CallCame, CallCaused, Called, SoFar, Standing, first_in, owes_in, standing_of}
+use Rattle.mg_change.specs.Causes.{CallCame, CallCaused, Called, SoFar, Standing, owes_in, standing_of}
 use Rattle.mg_change.specs.ClosingCauses.{ClosingCaused, KillCame, KillCaused, KillDone, KillFails, KillsSoFar}
 use Rattle.mg_change.specs.Closings.{flight_in}
 use Rattle.mg_change.specs.Following.{token_of}
-use Rattle.mg_change.specs.OpeningCauses.{OpeningCaused, OpeningFails, OpensSoFar}
+use Rattle.mg_change.specs.OpeningCauses.{Opened, OpeningCaused, OpeningFails, OpensSoFar}
 use Rattle.mg_change.specs.Openings.{IsOpening}
 use Rattle.mg_change.specs.Phases.{AtRest, IsResuming, without_token}
 use Rattle.mg_change.specs.declared.closing.Closing.{Closing}
@@ -36,8 +36,8 @@ use Rattle.mg_change.proofs.Calls.{keeps_longer, same_keeps}
 use Rattle.mg_change.proofs.Causes.{begins}
 use Rattle.mg_change.proofs.ClosingCauses.{kill_done_grows, kill_fails_grows, kills_grows}
 use Rattle.mg_change.proofs.OpeningCauses.{opened_grows, opening_fails_grows, opens_grows}
-use Rattle.mg_jobs.specs.Causes.{Answered, ClosedBy, IsAlive, OwesAlone, sent_at}
-use Rattle.mg_jobs.specs.Follows.{HasGiven, poll_of}
+use Rattle.mg_jobs.specs.Causes.{Answered, ClosedBy, IsAlive, sent_at}
+use Rattle.mg_jobs.specs.Follows.{HasGiven, Placing, poll_of, same_place}
 use Rattle.mg_jobs.specs.Playing.{stage_ticket}
 use Rattle.mg_jobs.specs.Telling.{Extends, FollowTells, IsNow, IsOpened, IsWatchArgs, Kept, Places, RestTells, Tell, Tells, TellsEnd, TellsFailed, TellsOpen, number}
 use Rattle.mg_script.specs.declared.outcome.Answer.{Answer}
@@ -126,32 +126,33 @@ grows_ended places since calls wire =
 pub answered_later : (calls calls' : List Call) (wire : ℤ) → Keeps calls calls' → (owns : List (List ℕ)) (said : List Answer) (first last : Standing) → Answered calls wire first owns said last → Answered calls' wire first owns said last
 answered_later calls calls' wire keeps [] [] first last a = a
 answered_later calls calls' wire keeps (places ∷ owns) (answer ∷ said) first last a =
-    (a.0, called_grows (sent_at places calls wire) (sent_at places calls' wire) first a.0 (poll_of answer) (grows_later places calls calls' wire keeps) a.1, a.2, answered_later calls calls' wire keeps owns said a.0 last a.3)
+    (a.0, called_grows (sent_at places calls wire) (sent_at places calls' wire) first a.0 (poll_of answer) (grows_later places calls calls' wire keeps) a.1, answered_later calls calls' wire keeps owns said a.0 last a.2)
 answered_later calls calls' wire keeps [] (answer ∷ said) first last a = absurd a
 answered_later calls calls' wire keeps (places ∷ owns) [] first last a = absurd a
 
-answered_more : (calls : List Call) (wire : ℤ) (owns : List (List ℕ)) (said : List Answer) (first mid last : Standing) (places : List ℕ) (answer : Answer) → Answered calls wire first owns said mid → Called (sent_at places calls wire) mid last (poll_of answer) → OwesAlone last → Answered calls wire first (owns ++ places ∷ []) (said ++ answer ∷ []) last
-answered_more calls wire [] [] first mid last places answer a called alone = (last, subst (λ (x : Standing). Called (sent_at places calls wire) x last (poll_of answer)) a called, alone, refl)
-answered_more calls wire (own ∷ owns) (other ∷ said) first mid last places answer a called alone = (a.0, a.1, a.2, answered_more calls wire owns said a.0 mid last places answer a.3 called alone)
-answered_more calls wire [] (other ∷ said) first mid last places answer a called alone = absurd a
-answered_more calls wire (own ∷ owns) [] first mid last places answer a called alone = absurd a
+answered_more : (calls : List Call) (wire : ℤ) (owns : List (List ℕ)) (said : List Answer) (first mid last : Standing) (places : List ℕ) (answer : Answer) → Answered calls wire first owns said mid → Called (sent_at places calls wire) mid last (poll_of answer) → Answered calls wire first (owns ++ places ∷ []) (said ++ answer ∷ []) last
+answered_more calls wire [] [] first mid last places answer a called = (last, subst (λ (x : Standing). Called (sent_at places calls wire) x last (poll_of answer)) a called, refl)
+answered_more calls wire (own ∷ owns) (other ∷ said) first mid last places answer a called = (a.0, a.1, answered_more calls wire owns said a.0 mid last places answer a.2 called)
+answered_more calls wire [] (other ∷ said) first mid last places answer a called = absurd a
+answered_more calls wire (own ∷ owns) [] first mid last places answer a called = absurd a
 
 answered_count : (calls : List Call) (wire : ℤ) (owns : List (List ℕ)) (said : List Answer) (first last : Standing) → Answered calls wire first owns said last → length owns ≡ length said
 answered_count calls wire [] [] first last a = refl
-answered_count calls wire (own ∷ owns) (answer ∷ said) first last a = ap suc (answered_count calls wire owns said a.0 last a.3)
+answered_count calls wire (own ∷ owns) (answer ∷ said) first last a = ap suc (answered_count calls wire owns said a.0 last a.2)
 answered_count calls wire [] (answer ∷ said) first last a = absurd a
 answered_count calls wire (own ∷ owns) [] first last a = absurd a
 
 -- ---- what others do
 
-open_later : (calls calls' : List Call) (wire : ℤ) (opened : List ℕ) (owns : List (List ℕ)) (v : Watched) (o : Ended (Unit {0})) (said : List Answer) (alive : Bool) (last : Standing) → Keeps calls calls' → TellsOpen calls wire opened owns v o said alive last → TellsOpen calls' wire opened owns v o said alive last
-open_later calls calls' wire opened owns v o said alive last keeps t =
+open_later : (calls calls' : List Call) (wire : ℤ) (opened : List ℕ) (owns : List (List ℕ)) (v : Watched) (o : Ended (Unit {0})) (said : List Answer) (alive : Bool) (last : Standing) (at : Option ℕ) → Keeps calls calls' → TellsOpen calls wire opened owns v o said alive last at → TellsOpen calls' wire opened owns v o said alive last at
+open_later calls calls' wire opened owns v o said alive last at keeps t =
     record {
       given = t.given;
       args = t.args;
       args_are = t.args_are;
       first = t.first;
       opened = opened_grows (sent_at opened calls wire) (sent_at opened calls' wire) t.args t.first (grows_later opened calls calls' wire keeps) t.opened;
+      here = t.here;
       answered = answered_later calls calls' wire keeps owns said t.first last t.answered;
       alive_is = t.alive_is;
     }
@@ -161,33 +162,33 @@ closed_by_later past past' last ended.Unfinished grows c = tt
 closed_by_later past past' last (ended.Gave x) grows c = kill_done_grows past past' grows last.cursor (pos 0) c
 closed_by_later past past' last (ended.Failed e) grows c = kill_fails_grows past past' grows last.cursor (pos 0) e c
 
-end_later : {A : Type 0} (calls calls' : List Call) (wire : ℤ) (q : Places) (k : Kept) (o : Ended A) → Keeps calls calls' → TellsEnd calls wire q k o → TellsEnd calls' wire q k o
-end_later calls calls' wire q k ended.Unfinished keeps t = tt
-end_later calls calls' wire q k (ended.Gave x) keeps t =
-    (t.0, open_later calls calls' wire q.opened q.owns k.watched k.opened k.said k.alive t.0 keeps t.1, t.2, closed_by_later (sent_at q.now calls wire) (sent_at q.now calls' wire) t.0 k.closed (grows_later q.now calls calls' wire keeps) t.3)
-end_later calls calls' wire q k (ended.Failed e) keeps (inl room) = inl room
-end_later calls calls' wire q k (ended.Failed e) keeps (inr t) =
+end_later : {A : Type 0} (calls calls' : List Call) (wire : ℤ) (q : Places) (k : Kept) (at : Option ℕ) (o : Ended A) → Keeps calls calls' → TellsEnd calls wire q k at o → TellsEnd calls' wire q k at o
+end_later calls calls' wire q k at ended.Unfinished keeps t = tt
+end_later calls calls' wire q k at (ended.Gave x) keeps t =
+    (t.0, open_later calls calls' wire q.opened q.owns k.watched k.opened k.said k.alive t.0 at keeps t.1, t.2, closed_by_later (sent_at q.now calls wire) (sent_at q.now calls' wire) t.0 k.closed (grows_later q.now calls calls' wire keeps) t.3)
+end_later calls calls' wire q k at (ended.Failed e) keeps (inl room) = inl room
+end_later calls calls' wire q k at (ended.Failed e) keeps (inr t) =
     inr (record { args = t.args; args_are = t.args_are; fails = opening_fails_grows (sent_at q.opened calls wire) (sent_at q.opened calls' wire) t.args e (grows_later q.opened calls calls' wire keeps) t.fails })
 
 -- Where its own ticket goes with the same call, a follow tells in a later log what it told.
-pub tells_later : (old new : Awaited) (calls calls' : List Call) (wire : ℤ) (q : Places) (s : Stage) (k : Kept) → Keeps calls calls' → ((m : ℕ) → stage_ticket s ≡ Some m → new m ≡ old m) → Tells old calls wire q s k → Tells new calls' wire q s k
-tells_later old new calls calls' wire q stage.Unopened k keeps same t = t
-tells_later old new calls calls' wire q (stage.Opens opening) k keeps same t =
+pub tells_later : (old new : Awaited) (calls calls' : List Call) (wire : ℤ) (q : Places) (s : Stage) (k : Kept) (at : Option ℕ) → Keeps calls calls' → ((m : ℕ) → stage_ticket s ≡ Some m → new m ≡ old m) → Tells old calls wire q s k at → Tells new calls' wire q s k at
+tells_later old new calls calls' wire q stage.Unopened k at keeps same t = t
+tells_later old new calls calls' wire q (stage.Opens opening) k at keeps same t =
     (t.0, t.1, t.2, opens_grows old new (sent_at q.now calls wire) (sent_at q.now calls' wire) opening.aggregate.args opening.exec (grows_later q.now calls calls' wire keeps) same t.3)
-tells_later old new calls calls' wire q (stage.Open stream) k keeps same t = (
+tells_later old new calls calls' wire q (stage.Open stream) k at keeps same t = (
   t.0,
-  open_later calls calls' wire q.opened q.owns k.watched k.opened k.said k.alive t.0 keeps t.1,
+  open_later calls calls' wire q.opened q.owns k.watched k.opened k.said k.alive t.0 at keeps t.1,
   so_far_grows old new (sent_at q.now calls wire) (sent_at q.now calls' wire) t.0 false stream.phase stream (grows_later q.now calls calls' wire keeps) same t.2,
 )
-tells_later old new calls calls' wire q (stage.Closes closing) k keeps same t = (
+tells_later old new calls calls' wire q (stage.Closes closing) k at keeps same t = (
   t.0,
-  open_later calls calls' wire q.opened q.owns k.watched k.opened k.said k.alive t.0 keeps t.1,
+  open_later calls calls' wire q.opened q.owns k.watched k.opened k.said k.alive t.0 at keeps t.1,
   t.2,
   t.3,
   t.4,
   kills_grows (sent_at q.now calls wire) (sent_at q.now calls' wire) (grows_later q.now calls calls' wire keeps) t.0.cursor (pos 0) old new closing.flight same t.5,
 )
-tells_later old new calls calls' wire q stage.Ended k keeps same t = end_later calls calls' wire q k k.opened keeps t
+tells_later old new calls calls' wire q stage.Ended k at keeps same t = end_later calls calls' wire q k at k.opened keeps t
 
 -- ---- parts of turns
 
@@ -217,8 +218,8 @@ extends_on q q' q'' n n'' from mid upto room room' a b =
     }
 
 -- the rest of a turn behind a part of it
-tell_on : (new : Awaited) (calls : List Call) (wire : ℤ) (q q' : Places) (n from mid : ℕ) (s : Stage) (k : Kept) → from ≤ mid → Extends q q' n n from mid → Tell new calls wire q' n mid s k → Tell new calls wire q n from s k
-tell_on new calls wire q q' n from mid s k room extends t =
+tell_on : (new : Awaited) (calls : List Call) (wire : ℤ) (q q' : Places) (n from mid : ℕ) (s : Stage) (k : Kept) (at : Option ℕ) → from ≤ mid → Extends q q' n n from mid → Tell new calls wire q' n mid s k at → Tell new calls wire q n from s k at
+tell_on new calls wire q q' n from mid s k at room extends t =
     record {
       longer = let more = t.longer in omega (arith, more, room);
       places = t.places;
@@ -278,37 +279,37 @@ keeps_to : (log log' : Told) (calls calls' : List Call) → log ≡ Some calls �
 keeps_to log log' calls calls' told told' stays = let s = stays calls told in subst (λ (c : List Call). Keeps calls c) (same_told log' s.0 calls' s.1 told') s.2
 
 -- nothing was sent
-tell_same : (awaited : Awaited) (log : Told) (wire : ℤ) (calls calls' : List Call) → log ≡ Some calls → log ≡ Some calls' → (q : Places) (n : ℕ) (s : Stage) (k : Kept) → Tells awaited calls wire q s k → Extends q q n (number s k) (length calls) (length calls) → Tell awaited calls' wire q n (length calls) s k
-tell_same awaited log wire calls calls' told told' q n s k t extends =
-    subst (λ (c : List Call). Tell awaited c wire q n (length calls) s k) (same_told log calls calls' told told') (record { longer = omega arith; places = q; tells = t; extends = extends })
+tell_same : (awaited : Awaited) (log : Told) (wire : ℤ) (calls calls' : List Call) → log ≡ Some calls → log ≡ Some calls' → (q : Places) (n : ℕ) (s : Stage) (k : Kept) (at : Option ℕ) → Tells awaited calls wire q s k at → Extends q q n (number s k) (length calls) (length calls) → Tell awaited calls' wire q n (length calls) s k at
+tell_same awaited log wire calls calls' told told' q n s k at t extends =
+    subst (λ (c : List Call). Tell awaited c wire q n (length calls) s k at) (same_told log calls calls' told told') (record { longer = omega arith; places = q; tells = t; extends = extends })
 
-pub tells_same : (awaited : Awaited) (log : Told) (wire : ℤ) (s : Stage) (k : Kept) → FollowTells awaited awaited log log wire s k s k
-tells_same awaited log wire s k calls calls' told told' q t = tell_same awaited log wire calls calls' told told' q (number s k) s k t (extends_same q (number s k) (length calls))
+pub tells_same : (awaited : Awaited) (log : Told) (wire : ℤ) (s : Stage) (k : Kept) → FollowTells awaited awaited log log wire s k s k same_place
+tells_same awaited log wire s k calls calls' told told' q at t = tell_same awaited log wire calls calls' told told' q (number s k) s k at t (extends_same q (number s k) (length calls))
 
 -- the same stage by another name
-pub tells_at : (old new : Awaited) (log log' : Told) (wire : ℤ) (s s0 : Stage) (k : Kept) (s' s1 : Stage) (k' : Kept) → s ≡ s0 → s1 ≡ s' → FollowTells old new log log' wire s k s' k' → FollowTells old new log log' wire s0 k s1 k'
-tells_at old new log log' wire s s0 k s' s1 k' from to told = subst (λ (x : Stage). FollowTells old new log log' wire s0 k x k') (sym to) (subst (λ (x : Stage). FollowTells old new log log' wire x k s' k') from told)
+pub tells_at : (old new : Awaited) (log log' : Told) (wire : ℤ) (s s0 : Stage) (k : Kept) (s' s1 : Stage) (k' : Kept) (next : Placing) → s ≡ s0 → s1 ≡ s' → FollowTells old new log log' wire s k s' k' next → FollowTells old new log log' wire s0 k s1 k' next
+tells_at old new log log' wire s s0 k s' s1 k' next from to told = subst (λ (x : Stage). FollowTells old new log log' wire s0 k x k' next) (sym to) (subst (λ (x : Stage). FollowTells old new log log' wire x k s' k' next) from told)
 
 -- the same wire version by another name
-pub tells_over : (old new : Awaited) (log log' : Told) (wire wire' : ℤ) (s : Stage) (k : Kept) (s' : Stage) (k' : Kept) → wire' ≡ wire → FollowTells old new log log' wire s k s' k' → FollowTells old new log log' wire' s k s' k'
-tells_over old new log log' wire wire' s k s' k' same told = subst (λ (w : ℤ). FollowTells old new log log' w s k s' k') (sym same) told
+pub tells_over : (old new : Awaited) (log log' : Told) (wire wire' : ℤ) (s : Stage) (k : Kept) (s' : Stage) (k' : Kept) (next : Placing) → wire' ≡ wire → FollowTells old new log log' wire s k s' k' next → FollowTells old new log log' wire' s k s' k' next
+tells_over old new log log' wire wire' s k s' k' next same told = subst (λ (w : ℤ). FollowTells old new log log' w s k s' k' next) (sym same) told
 
 -- The opening begins.
-pub begin_tells : (old new : Awaited) (log log' : Told) (wire : ℤ) (k : Kept) (opening : Opening) (s' : Stage) (k' : Kept) → IsWatchArgs k.watched opening.aggregate.args → IsOpening opening.aggregate opening.exec → opening.exec ≡ None
-    → FollowTells old new log log' wire (stage.Opens opening) k s' k' → FollowTells old new log log' wire stage.Unopened k s' k'
-begin_tells old new log log' wire k opening s' k' args opens unsent rest calls calls' told told' q t =
-    rest calls calls' told told' q (t.0, args, opens, subst (λ (x : Option Sending). OpensSoFar old (sent_at q.now calls wire) opening.aggregate.args x) (sym unsent) tt)
+pub begin_tells : (old new : Awaited) (log log' : Told) (wire : ℤ) (k : Kept) (opening : Opening) (s' : Stage) (k' : Kept) (next : Placing) → IsWatchArgs k.watched opening.aggregate.args → IsOpening opening.aggregate opening.exec → opening.exec ≡ None
+    → FollowTells old new log log' wire (stage.Opens opening) k s' k' next → FollowTells old new log log' wire stage.Unopened k s' k' next
+begin_tells old new log log' wire k opening s' k' next args opens unsent rest calls calls' told told' q at t =
+    rest calls calls' told told' q at (t.0, args, opens, subst (λ (x : Option Sending). OpensSoFar old (sent_at q.now calls wire) opening.aggregate.args x) (sym unsent) tt)
 
 -- Memory ran out before it.
-pub begin_fails : (awaited : Awaited) (log : Told) (wire : ℤ) (k k' : Kept) (e : Error) → k'.opened ≡ ended.Failed e → e.kind ≡ kind.OutOfMemory → FollowTells awaited awaited log log wire stage.Unopened k stage.Ended k'
-begin_fails awaited log wire k k' e failed room calls calls' told told' q t =
-    tell_same awaited log wire calls calls' told told' q 0 stage.Ended k' (subst (λ (o : Ended (Unit {0})). TellsEnd calls wire q k' o) (sym failed) (inl room)) (extends_rest q 0 (length k'.said) (length calls) t.1)
+pub begin_fails : (awaited : Awaited) (log : Told) (wire : ℤ) (k k' : Kept) (e : Error) → k'.opened ≡ ended.Failed e → e.kind ≡ kind.OutOfMemory → FollowTells awaited awaited log log wire stage.Unopened k stage.Ended k' same_place
+begin_fails awaited log wire k k' e failed room calls calls' told told' q at t =
+    tell_same awaited log wire calls calls' told told' q 0 stage.Ended k' at (subst (λ (o : Ended (Unit {0})). TellsEnd calls wire q k' at o) (sym failed) (inl room)) (extends_rest q 0 (length k'.said) (length calls) t.1)
 
 -- The reply to the opening pends.
 pub open_waits_tells : (old new : Awaited) (log log' : Told) (wire : ℤ) (k : Kept) (opening opening' : Opening) → opening'.aggregate.args ≡ opening.aggregate.args → (IsOpening opening.aggregate opening.exec → IsOpening opening'.aggregate opening'.exec)
     → Stays log log' → (IsOpening opening.aggregate opening.exec → OpeningCaused old new log log' wire opening.aggregate.args opening.exec (step.Pending opening'))
-    → FollowTells old new log log' wire (stage.Opens opening) k (stage.Opens opening') k
-open_waits_tells old new log log' wire k opening opening' args opens stays caused calls calls' told told' q t =
+    → FollowTells old new log log' wire (stage.Opens opening) k (stage.Opens opening') k same_place
+open_waits_tells old new log log' wire k opening opening' args opens stays caused calls calls' told told' q at t =
     let args_of = opening.aggregate.args in
     let keeps = keeps_to log log' calls calls' told told' stays in
     let room = keeps_longer calls calls' keeps in
@@ -331,8 +332,8 @@ open_waits_tells old new log log' wire k opening opening' args opens stays cause
 -- It failed.
 pub open_fails_tells : (old new : Awaited) (log log' : Told) (wire : ℤ) (k k' : Kept) (opening : Opening) (e : Error) → k'.watched ≡ k.watched → k'.opened ≡ ended.Failed e
     → Stays log log' → (IsOpening opening.aggregate opening.exec → OpeningCaused old new log log' wire opening.aggregate.args opening.exec (step.Failed e))
-    → FollowTells old new log log' wire (stage.Opens opening) k stage.Ended k'
-open_fails_tells old new log log' wire k k' opening e watched failed stays caused calls calls' told told' q t =
+    → FollowTells old new log log' wire (stage.Opens opening) k stage.Ended k' same_place
+open_fails_tells old new log log' wire k k' opening e watched failed stays caused calls calls' told told' q at t =
     let args_of = opening.aggregate.args in
     let keeps = keeps_to log log' calls calls' told told' stays in
     let room = keeps_longer calls calls' keeps in
@@ -347,7 +348,7 @@ open_fails_tells old new log log' wire k k' opening e watched failed stays cause
     record {
       longer = room;
       places = q';
-      tells = subst (λ (o : Ended (Unit {0})). TellsEnd calls' wire q' k' o) (sym failed) (inr so);
+      tells = subst (λ (o : Ended (Unit {0})). TellsEnd calls' wire q' k' at o) (sym failed) (inr so);
       extends = extends_opened q 0 (length k'.said) (length calls) (length calls') refl room;
     }
 
@@ -373,18 +374,6 @@ owes_resuming (phase.Resuming exec) is = tt
 owes_resuming (phase.Killing exec id bytes) is = absurd cc
 owes_resuming (phase.Resumed bytes) is = absurd cc
 
--- what owes has no reply to its opening in hand
-owes_alone : (p : Phase) → owes_in p ≡ true → first_in p ≡ None
-owes_alone phase.Taken owes = refl
-owes_alone phase.Rest owes = refl
-owes_alone (phase.First bytes) owes = absurd cc
-owes_alone phase.Fresh owes = refl
-owes_alone (phase.Asking get_more exec) owes = refl
-owes_alone phase.Owing owes = refl
-owes_alone (phase.Resuming exec) owes = refl
-owes_alone (phase.Killing exec old bytes) owes = refl
-owes_alone (phase.Resumed bytes) owes = refl
-
 -- what a stream says of itself, by how it stands
 abbrev pub SaysAlive : Bool → ChangeStream → Type 0
 SaysAlive alive s = IsTrue alive ↔ ((s.cursor.id ≢ pos 0) ⊎ IsResuming s.phase)
@@ -395,32 +384,38 @@ alive_as alive s says = (
   λ is. says.1 (elim is [ inl held ↦ inl held | inr owes ↦ inr (owes_resuming s.phase owes) ]),
 )
 
+-- the opening heard its reply at this place
+abbrev HeardAtPlace : Told → Told → Awaited → ℤ → WatchArgs → Option Sending → Standing → Option ℕ → Type 0
+HeardAtPlace log log' old wire args exec first place = (calls : List Call) → log ≡ Some calls → (places : List ℕ) → OpensSoFar old (past_of places (length calls) calls wire) args exec
+    → (calls' : List Call) × (log' ≡ Some calls') × (opened : Opened (past_of places (length calls) calls' wire) args first) × (place ≡ Some opened.heard.place)
+
 -- The stream is open; the rest of the turn follows.
 pub open_done_tells : (old mid new : Awaited) (log log_mid log' : Told) (wire wire_mid : ℤ) (k k1 : Kept) (opening : Opening) (stream : ChangeStream) (s' : Stage) (k' : Kept) → RestTells new log_mid log' wire_mid stream k1 s' k' → k1.watched ≡ k.watched → HasGiven k1.opened → k1.said ≡ k.said → SaysAlive k1.alive stream → wire_mid ≡ wire
-    → Stays log log_mid → (IsOpening opening.aggregate opening.exec → OpeningCaused old mid log log_mid wire opening.aggregate.args opening.exec (step.Done stream))
-    → FollowTells old new log log' wire (stage.Opens opening) k s' k'
-open_done_tells old mid new log log_mid log' wire wire_mid k k1 opening stream s' k' rest watched given said alive same stays caused calls calls' told told' q t =
+    → Stays log log_mid → (place : Option ℕ) → (IsOpening opening.aggregate opening.exec → HeardAtPlace log log_mid old wire opening.aggregate.args opening.exec (standing_of stream) place)
+    → FollowTells old new log log' wire (stage.Opens opening) k s' k' (λ at. place)
+open_done_tells old mid new log log_mid log' wire wire_mid k k1 opening stream s' k' rest watched given said alive same stays place caused calls calls' told told' q at t =
     let args_of = opening.aggregate.args in
     let r = caused t.2 calls told q.now t.3 in
     let keeps = keeps_to log log_mid calls r.0 told r.1 stays in
     let room = keeps_longer calls r.0 keeps in
     let q1 = opened_by q (length calls) (length r.0) in
     let none : k1.said ≡ [] = said ∙ t.0.1 in
-    let opened : TellsOpen r.0 wire q1.opened [] k1.watched k1.opened k1.said k1.alive (standing_of stream) = record {
+    let opened : TellsOpen r.0 wire q1.opened [] k1.watched k1.opened k1.said k1.alive (standing_of stream) place = record {
       given = given;
       args = args_of;
       args_are = subst (λ (v : Watched). IsWatchArgs v args_of) (sym watched) t.1;
       first = standing_of stream;
       opened = opened_grows (past_of q.now (length calls) r.0 wire) (sent_at q1.opened r.0 wire) args_of (standing_of stream) (grows_ended q.now (length calls) r.0 wire) r.2;
+      here = r.3;
       answered = subst (λ (l : List Answer). Answered r.0 wire (standing_of stream) [] l (standing_of stream)) (sym none) refl;
       alive_is = alive_as k1.alive stream alive;
     } in
-    let ends : Tell new calls' wire q1 (length k1.said) (length r.0) s' k' = subst (λ (w : ℤ). IsOpened r.0 w q1 k1 (standing_of stream) → Tell new calls' w q1 (length k1.said) (length r.0) s' k') same (rest r.0 calls' r.1 told' q1 refl) opened in
-    tell_on new calls' wire q q1 0 (length calls) (length r.0) s' k' room (extends_opened q 0 0 (length calls) (length r.0) refl room) (subst (λ (n : ℕ). Tell new calls' wire q1 n (length r.0) s' k') (ap length none) ends)
+    let ends : Tell new calls' wire q1 (length k1.said) (length r.0) s' k' place = subst (λ (w : ℤ). IsOpened r.0 w q1 k1 (standing_of stream) place → Tell new calls' w q1 (length k1.said) (length r.0) s' k' place) same (rest r.0 calls' r.1 told' q1 place refl) opened in
+    tell_on new calls' wire q q1 0 (length calls) (length r.0) s' k' place room (extends_opened q 0 0 (length calls) (length r.0) refl room) (subst (λ (n : ℕ). Tell new calls' wire q1 n (length r.0) s' k' place) (ap length none) ends)
 
 -- A call of the stream pends.
-pub call_waits_tells : (old new : Awaited) (log log' : Told) (wire : ℤ) (k : Kept) (s s1 : ChangeStream) (r : EventPoll) → r ≡ polls.Pending → Stays log log' → CallCaused old new log log' wire s s1 r → FollowTells old new log log' wire (stage.Open s) k (stage.Open s1) k
-call_waits_tells old new log log' wire k s s1 r pends stays caused calls calls' told told' q t =
+pub call_waits_tells : (old new : Awaited) (log log' : Told) (wire : ℤ) (k : Kept) (s s1 : ChangeStream) (r : EventPoll) → r ≡ polls.Pending → Stays log log' → CallCaused old new log log' wire s s1 r → FollowTells old new log log' wire (stage.Open s) k (stage.Open s1) k same_place
+call_waits_tells old new log log' wire k s s1 r pends stays caused calls calls' told told' q place t =
     let keeps = keeps_to log log' calls calls' told told' stays in
     let room = keeps_longer calls calls' keeps in
     let at = t.0 in
@@ -432,7 +427,7 @@ call_waits_tells old new log log' wire k s s1 r pends stays caused calls calls' 
       places = going_on q (length calls) (length calls');
       tells = (
         at,
-        open_later calls calls' wire q.opened q.owns k.watched k.opened k.said k.alive at keeps t.1,
+        open_later calls calls' wire q.opened q.owns k.watched k.opened k.said k.alive at place keeps t.1,
         so_far_grows new new (past_of q.now (length calls) calls' wire) later at false s1.phase s1 (grows_ended q.now (length calls) calls' wire) (λ m e. refl) so_far,
       );
       extends = extends_going q (suc (length k.said)) (suc (length k.said)) (length calls) (length calls') refl room;
@@ -445,8 +440,8 @@ came_called awaited past at s (answers.Failed e) came = came
 
 -- A call of the stream answered; the rest of the turn follows.
 pub call_answers_tells : (old mid new : Awaited) (log log_mid log' : Told) (wire wire_mid : ℤ) (k k1 : Kept) (s s1 : ChangeStream) (r : EventPoll) (answer : Answer) (s' : Stage) (k' : Kept) → RestTells new log_mid log' wire_mid s1 k1 s' k' → k1.watched ≡ k.watched → k1.opened ≡ k.opened → k1.said ≡ k.said ++ answer ∷ [] → SaysAlive k1.alive s1 → wire_mid ≡ wire → r ≡ poll_of answer → Stays log log_mid
-    → CallCaused old mid log log_mid wire s s1 r → FollowTells old new log log' wire (stage.Open s) k s' k'
-call_answers_tells old mid new log log_mid log' wire wire_mid k k1 s s1 r answer s' k' rest watched given said alive same is stays caused calls calls' told told' q t =
+    → CallCaused old mid log log_mid wire s s1 r → FollowTells old new log log' wire (stage.Open s) k s' k' same_place
+call_answers_tells old mid new log log_mid log' wire wire_mid k k1 s s1 r answer s' k' rest watched given said alive same is stays caused calls calls' told told' q place t =
     let at = t.0 in
     let c = subst (λ (x : EventPoll). CallCaused old mid log log_mid wire s s1 x) is caused calls told q.now at t.2 in
     let keeps = keeps_to log log_mid calls c.0 told c.1 stays in
@@ -454,27 +449,28 @@ call_answers_tells old mid new log log_mid log' wire wire_mid k k1 s s1 r answer
     let own = sent_since q.now (length calls) (length c.0) in
     let q1 = answered_by q (length calls) (length c.0) in
     let after = standing_of s1 in
-    let before = open_later calls c.0 wire q.opened q.owns k.watched k.opened k.said k.alive at keeps t.1 in
+    let before = open_later calls c.0 wire q.opened q.owns k.watched k.opened k.said k.alive at place keeps t.1 in
     let called : Called (sent_at own c.0 wire) at after (poll_of answer) = called_grows (past_of q.now (length calls) c.0 wire) (sent_at own c.0 wire) at after (poll_of answer) (grows_ended q.now (length calls) c.0 wire) (came_called mid (past_of q.now (length calls) c.0 wire) at s1 answer c.2) in
-    let opened : TellsOpen c.0 wire q1.opened q1.owns k1.watched k1.opened k1.said k1.alive after = record {
+    let opened : TellsOpen c.0 wire q1.opened q1.owns k1.watched k1.opened k1.said k1.alive after place = record {
       given = subst (λ (o : Ended (Unit {0})). HasGiven o) (sym given) before.given;
       args = before.args;
       args_are = subst (λ (v : Watched). IsWatchArgs v before.args) (sym watched) before.args_are;
       first = before.first;
       opened = before.opened;
-      answered = subst (λ (l : List Answer). Answered c.0 wire before.first q1.owns l after) (sym said) (answered_more c.0 wire q.owns k.said before.first at after own answer before.answered called (owes_alone s1.phase));
+      here = before.here;
+      answered = subst (λ (l : List Answer). Answered c.0 wire before.first q1.owns l after) (sym said) (answered_more c.0 wire q.owns k.said before.first at after own answer before.answered called);
       alive_is = alive_as k1.alive s1 alive;
     } in
     let count : length k1.said ≡ suc (length k.said) = (let joined = length-append k.said (answer ∷ []) in omega (arith, ap length said, joined)) in
-    let ends : Tell new calls' wire q1 (length k1.said) (length c.0) s' k' = subst (λ (w : ℤ). IsOpened c.0 w q1 k1 after → Tell new calls' w q1 (length k1.said) (length c.0) s' k') same (rest c.0 calls' c.1 told' q1 refl) opened in
-    tell_on new calls' wire q q1 (suc (length k.said)) (length calls) (length c.0) s' k' room
+    let ends : Tell new calls' wire q1 (length k1.said) (length c.0) s' k' place = subst (λ (w : ℤ). IsOpened c.0 w q1 k1 after place → Tell new calls' w q1 (length k1.said) (length c.0) s' k' place) same (rest c.0 calls' c.1 told' q1 place refl) opened in
+    tell_on new calls' wire q q1 (suc (length k.said)) (length calls) (length c.0) s' k' place room
     (extends_answered q (suc (length k.said)) (suc (length k.said)) (length calls) (length c.0) (ap suc (sym (answered_count calls wire q.owns k.said t.1.first at t.1.answered))) room)
-    (subst (λ (n : ℕ). Tell new calls' wire q1 n (length c.0) s' k') count ends)
+    (subst (λ (n : ℕ). Tell new calls' wire q1 n (length c.0) s' k' place) count ends)
 
 -- The stream is kept for its next call.
 pub rest_stays_tells : (awaited : Awaited) (log : Told) (wire : ℤ) (stream : ChangeStream) (k : Kept) → AtRest stream.phase → RestTells awaited log log wire stream k (stage.Open stream) k
-rest_stays_tells awaited log wire stream k rest calls calls' told told' q none t =
-    tell_same awaited log wire calls calls' told told' q (length k.said) (stage.Open stream) k
+rest_stays_tells awaited log wire stream k rest calls calls' told told' q at none t =
+    tell_same awaited log wire calls calls' told told' q (length k.said) (stage.Open stream) k at
     (standing_of stream, t, begins awaited (sent_at q.now calls wire) stream rest)
     (extends_rest q (length k.said) (suc (length k.said)) (length calls) none)
 
@@ -493,10 +489,10 @@ kills_at_rest awaited past c opened (phase.Resumed bytes) rest = absurd rest
 -- The stream is closed in the same turn, and its token was handed out.
 pub rest_closes_tells : (awaited new : Awaited) (log log' : Told) (wire : ℤ) (stream left : ChangeStream) (k : Kept) (token : Option Tree) (closing : Closing) (s' : Stage) (k' : Kept) → AtRest stream.phase → left ≡ without_token stream → token ≡ token_of stream.aggregate.resume
     → closing.remains.cursor ≡ left.cursor → closing.remains.opened ≡ pos 0 → closing.flight ≡ flight_in left.phase
-    → FollowTells awaited new log log' wire (stage.Closes closing) (record k { token = token }) s' k' → RestTells new log log' wire stream k s' k'
-rest_closes_tells awaited new log log' wire stream left k token closing s' k' rest is handed cursor opened flying closes calls calls' told told' q none t =
+    → FollowTells awaited new log log' wire (stage.Closes closing) (record k { token = token }) s' k' same_place → RestTells new log log' wire stream k s' k'
+rest_closes_tells awaited new log log' wire stream left k token closing s' k' rest is handed cursor opened flying closes calls calls' told told' q at none t =
     let same : closing.flight ≡ flight_in stream.phase = flying ∙ ap (λ (x : ChangeStream). flight_in x.phase) is in
-    closes calls calls' told told' q (
+    closes calls calls' told told' q at (
       standing_of stream,
       t,
       handed,
@@ -518,19 +514,19 @@ kill_as awaited past f c d opened opened' cursor same h = subst (λ (o : ℤ). K
 
 -- what a poll of a closing comes to
 kill_came : {T : Type 0} (old new : Awaited) (log log' : Told) (wire : ℤ) (closing : Closing) (result : Step Closing T) (k : Kept) → ClosingCaused old new log log' wire closing.remains closing.flight result → (calls calls' : List Call) → log ≡ Some calls → log' ≡ Some calls'
-    → (q : Places) → (t : Tells old calls wire q (stage.Closes closing) k) → KillCame new (past_of q.now (length calls) calls' wire) closing.remains result
-kill_came old new log log' wire closing result k caused calls calls' told told' q t =
+    → (q : Places) (at : Option ℕ) → (t : Tells old calls wire q (stage.Closes closing) k at) → KillCame new (past_of q.now (length calls) calls' wire) closing.remains result
+kill_came old new log log' wire closing result k caused calls calls' told told' q at t =
     let past = past_of q.now (length calls) calls wire in
     let r = kills_only old new log log' wire past t.0.cursor (pos 0) closing.remains closing.flight result t.5 caused calls told q.now (kill_as old past closing.flight t.0.cursor closing.remains.cursor (pos 0) closing.remains.opened (sym t.3) (sym t.4) t.5) in
     subst (λ (c : List Call). KillCame new (past_of q.now (length calls) c wire) closing.remains result) (same_told log' r.0 calls' r.1 told') r.2
 
 -- The killing of its cursor pends.
 pub close_waits_tells : (old new : Awaited) (log log' : Told) (wire : ℤ) (k : Kept) (closing closing' : Closing) → Stays log log' → ClosingCaused {T = Unit {0}} old new log log' wire closing.remains closing.flight (step.Pending closing')
-    → FollowTells old new log log' wire (stage.Closes closing) k (stage.Closes closing') k
-close_waits_tells old new log log' wire k closing closing' stays caused calls calls' told told' q t =
+    → FollowTells old new log log' wire (stage.Closes closing) k (stage.Closes closing') k same_place
+close_waits_tells old new log log' wire k closing closing' stays caused calls calls' told told' q at t =
     let keeps = keeps_to log log' calls calls' told told' stays in
     let room = keeps_longer calls calls' keeps in
-    let came = kill_came {T = Unit {0}} old new log log' wire closing (step.Pending closing') k caused calls calls' told told' q t in
+    let came = kill_came {T = Unit {0}} old new log log' wire closing (step.Pending closing') k caused calls calls' told told' q at t in
     let past = past_of q.now (length calls) calls' wire in
     let later = sent_at (sent_since q.now (length calls) (length calls')) calls' wire in
     record {
@@ -538,7 +534,7 @@ close_waits_tells old new log log' wire k closing closing' stays caused calls ca
       places = going_on q (length calls) (length calls');
       tells = (
         t.0,
-        open_later calls calls' wire q.opened q.owns k.watched k.opened k.said k.alive t.0 keeps t.1,
+        open_later calls calls' wire q.opened q.owns k.watched k.opened k.said k.alive t.0 at keeps t.1,
         t.2,
         ap (λ (r : Remains). r.cursor) came.0 ∙ t.3,
         ap (λ (r : Remains). r.opened) came.0 ∙ t.4,
@@ -547,39 +543,39 @@ close_waits_tells old new log log' wire k closing closing' stays caused calls ca
       extends = extends_going q (length k.said) (length k.said) (length calls) (length calls') refl room;
     }
 
-given_end : {A : Type 0} (calls : List Call) (wire : ℤ) (q : Places) (k : Kept) (o : Ended A) → HasGiven o → (last : Standing) × IsOpened calls wire q k last × (k.token ≡ token_of last.aggregate.resume) × ClosedBy (sent_at q.now calls wire) last k.closed → TellsEnd calls wire q k o
-given_end calls wire q k ended.Unfinished given t = absurd given
-given_end calls wire q k (ended.Gave x) given t = t
-given_end calls wire q k (ended.Failed e) given t = absurd given
+given_end : {A : Type 0} (calls : List Call) (wire : ℤ) (q : Places) (k : Kept) (at : Option ℕ) (o : Ended A) → HasGiven o → (last : Standing) × IsOpened calls wire q k last at × (k.token ≡ token_of last.aggregate.resume) × ClosedBy (sent_at q.now calls wire) last k.closed → TellsEnd calls wire q k at o
+given_end calls wire q k at ended.Unfinished given t = absurd given
+given_end calls wire q k at (ended.Gave x) given t = t
+given_end calls wire q k at (ended.Failed e) given t = absurd given
 
 -- It ended so.
 close_ends_tells : (old new : Awaited) (log log' : Told) (wire : ℤ) (k : Kept) (closed : Ended (Unit {0})) (closing : Closing) (result : Step Closing (Unit {0})) → Stays log log' → ClosingCaused old new log log' wire closing.remains closing.flight result
     → ((past : Past) (last : Standing) → closing.remains.cursor ≡ last.cursor → closing.remains.opened ≡ pos 0 → KillCame new past closing.remains result → ClosedBy past last closed)
-    → FollowTells old new log log' wire (stage.Closes closing) k stage.Ended (record k { closed = closed })
-close_ends_tells old new log log' wire k closed closing result stays caused by calls calls' told told' q t =
+    → FollowTells old new log log' wire (stage.Closes closing) k stage.Ended (record k { closed = closed }) same_place
+close_ends_tells old new log log' wire k closed closing result stays caused by calls calls' told told' q at t =
     let keeps = keeps_to log log' calls calls' told told' stays in
     let room = keeps_longer calls calls' keeps in
     let past = past_of q.now (length calls) calls' wire in
     let q' = going_on q (length calls) (length calls') in
-    let came = by past t.0 t.3 t.4 (kill_came {T = Unit {0}} old new log log' wire closing result k caused calls calls' told told' q t) in
-    let opened = open_later calls calls' wire q.opened q.owns k.watched k.opened k.said k.alive t.0 keeps t.1 in
+    let came = by past t.0 t.3 t.4 (kill_came {T = Unit {0}} old new log log' wire closing result k caused calls calls' told told' q at t) in
+    let opened = open_later calls calls' wire q.opened q.owns k.watched k.opened k.said k.alive t.0 at keeps t.1 in
     record {
       longer = room;
       places = q';
-      tells = given_end calls' wire q' (record k { closed = closed }) k.opened opened.given (t.0, opened, t.2, closed_by_later past (sent_at q'.now calls' wire) t.0 closed (grows_ended q.now (length calls) calls' wire) came);
+      tells = given_end calls' wire q' (record k { closed = closed }) at k.opened opened.given (t.0, opened, t.2, closed_by_later past (sent_at q'.now calls' wire) t.0 closed (grows_ended q.now (length calls) calls' wire) came);
       extends = extends_going q (length k.said) (length k.said) (length calls) (length calls') refl room;
     }
 
 -- The stream is closed.
 pub close_done_tells : (old new : Awaited) (log log' : Told) (wire : ℤ) (k : Kept) (closed : Ended (Unit {0})) (closing : Closing) → closed ≡ ended.Gave tt → Stays log log' → ClosingCaused {T = Unit {0}} old new log log' wire closing.remains closing.flight (step.Done tt)
-    → FollowTells old new log log' wire (stage.Closes closing) k stage.Ended (record k { closed = closed })
+    → FollowTells old new log log' wire (stage.Closes closing) k stage.Ended (record k { closed = closed }) same_place
 close_done_tells old new log log' wire k closed closing is stays caused =
     close_ends_tells old new log log' wire k closed closing (step.Done tt) stays caused
     (λ past last cursor opened done. subst (λ (o : Ended (Unit {0})). ClosedBy past last o) (sym is) (subst (λ (x : ℤ). KillDone past last.cursor x) opened (subst (λ (c : CursorInformation). KillDone past c closing.remains.opened) cursor done)))
 
 -- The closing failed.
 pub close_fails_tells : (old new : Awaited) (log log' : Told) (wire : ℤ) (k : Kept) (closed : Ended (Unit {0})) (closing : Closing) (e : Error) → closed ≡ ended.Failed e → Stays log log' → ClosingCaused {T = Unit {0}} old new log log' wire closing.remains closing.flight (step.Failed e)
-    → FollowTells old new log log' wire (stage.Closes closing) k stage.Ended (record k { closed = closed })
+    → FollowTells old new log log' wire (stage.Closes closing) k stage.Ended (record k { closed = closed }) same_place
 close_fails_tells old new log log' wire k closed closing e is stays caused =
     close_ends_tells old new log log' wire k closed closing (step.Failed e) stays caused
     (λ past last cursor opened fails. subst (λ (o : Ended (Unit {0})). ClosedBy past last o) (sym is) (subst (λ (x : ℤ). KillFails past last.cursor x e) opened (subst (λ (c : CursorInformation). KillFails past c closing.remains.opened e) cursor fails)))

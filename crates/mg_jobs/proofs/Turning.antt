@@ -33,7 +33,7 @@ use Rattle.mg_change.specs.Openings.{IsOpening}
 use Rattle.mg_change.specs.declared.closing.Closing.{Closing}
 use Rattle.mg_change.specs.declared.opening.Opening.{Opening}
 use Rattle.mg_change.specs.declared.stream.ChangeStream.{ChangeStream}
-use Rattle.mg_jobs.specs.Follows.{EndsSo, FollowKnows, FollowMoves, FollowedOr, HasGiven, HasNothing, IsFailed, IsInOrder, IsUnfinished, IsWatched, StageAsks, closed_follow, ended_follow, follow_at, follow_by, events_of, token_at}
+use Rattle.mg_jobs.specs.Follows.{EndsSo, FollowKnows, FollowMoves, Followed, HasGiven, HasNothing, IsFailed, IsInOrder, IsUnfinished, IsWatched, Placing, StageAsks, closed_follow, ended_follow, follow_at, follow_by, events_of, same_place, token_at}
 use Rattle.mg_jobs.specs.Playing.{stage_ticket}
 use Rattle.mg_script.specs.declared.outcome.Answer.{Answer}
 use Rattle.mg_script.specs.declared.outcome.Answer.TheVariants as answers
@@ -53,13 +53,12 @@ same_follow_at old new (stage.Closes closing) o w start opened token answered sa
 same_follow_at old new stage.Ended o w start opened token answered same = refl
 
 -- Where its own ticket goes with the same call, a follow knows what it knew.
-pub same_follow : (old new : Awaited) (calls : List Call) (s : Stage) (p : FollowPlayer) (o : Owner) → ((m : ℕ) → stage_ticket s ≡ Some m → new m ≡ old m) → FollowKnows old calls s p o → FollowKnows new calls s p o
-same_follow old new calls s p o same k =
-    let e : follow_by old s k.watch k.start k.opened p ≡ follow_by new s k.watch k.start k.opened p = same_follow_at old new s p.opened k.watch k.start k.opened p.token (events_of p.answers.items) same in
+pub same_follow : (old new : Awaited) (calls : List Call) (s : Stage) (p : FollowPlayer) (o : Owner) (at : Option ℕ) → ((m : ℕ) → stage_ticket s ≡ Some m → new m ≡ old m) → FollowKnows old calls s p o at → FollowKnows new calls s p o at
+same_follow old new calls s p o at same k =
+    let e : follow_by old s k.watch k.start at p ≡ follow_by new s k.watch k.start at p = same_follow_at old new s p.opened k.watch k.start at p.token (events_of p.answers.items) same in
     record {
       watch = k.watch;
       start = k.start;
-      opened = k.opened;
       watches = k.watches;
       asks = k.asks;
       knows = subst (λ (f : Follow). Knows calls f) e k.knows;
@@ -68,15 +67,14 @@ same_follow old new calls s p o same k =
     }
 
 -- What others do leaves what a follow knows.
-pub kept_follow : (awaited : Awaited) (calls calls' : List Call) (s : Stage) (p : FollowPlayer) (o : Owner) → Onward calls calls' o → FollowKnows awaited calls s p o → FollowKnows awaited calls' s p o
-kept_follow awaited calls calls' s p o onward k =
+pub kept_follow : (awaited : Awaited) (calls calls' : List Call) (s : Stage) (p : FollowPlayer) (o : Owner) (at : Option ℕ) → Onward calls calls' o → FollowKnows awaited calls s p o at → FollowKnows awaited calls' s p o at
+kept_follow awaited calls calls' s p o at onward k =
     record {
       watch = k.watch;
       start = k.start;
-      opened = k.opened;
       watches = k.watches;
       asks = k.asks;
-      knows = knows_kept calls calls' (follow_by awaited s k.watch k.start k.opened p) (subst (Onward calls calls') k.owns onward) k.knows;
+      knows = knows_kept calls calls' (follow_by awaited s k.watch k.start at p) (subst (Onward calls calls') k.owns onward) k.knows;
       owns = k.owns;
       in_order = k.in_order;
     }
@@ -84,70 +82,69 @@ kept_follow awaited calls calls' s p o onward k =
 -- ---- one turn
 
 -- A stream that moved takes its follow along.
-pub took : (old new : Awaited) (log log' : Told) (s : Stage) (p : FollowPlayer) (s' : Stage) (p' : FollowPlayer) → p'.watched ≡ p.watched
-    → ((w : Watch) (start : Start) → IsWatched p.watched w start → StageAsks s w start → IsInOrder p s → (opened : Option ℕ) → (opened' : Option ℕ) × Moved log log' (follow_by old s w start opened p) (follow_by new s' w start opened' p') × StageAsks s' w start × IsInOrder p' s')
-    → FollowMoves old new log log' s p s' p'
-took old new log log' s p s' p' same moves calls told o k =
-    let m = moves k.watch k.start k.watches k.asks k.in_order k.opened in
-    let on = m.1 calls told in (
+pub took : (old new : Awaited) (log log' : Told) (s : Stage) (p : FollowPlayer) (s' : Stage) (p' : FollowPlayer) (next : Placing) → p'.watched ≡ p.watched
+    → ((w : Watch) (start : Start) → IsWatched p.watched w start → StageAsks s w start → IsInOrder p s → (opened : Option ℕ) → Moved log log' (follow_by old s w start opened p) (follow_by new s' w start (next opened) p') × StageAsks s' w start × IsInOrder p' s')
+    → FollowMoves old new log log' s p s' p' next
+took old new log log' s p s' p' next same moves calls told o at k =
+    let m = moves k.watch k.start k.watches k.asks k.in_order at in
+    let on = m.0 calls told in (
       on.0,
       on.1,
       record {
-        owner = owner_of (follow_by new s' k.watch k.start m.0 p');
+        owner = owner_of (follow_by new s' k.watch k.start (next at) p');
         knows = record {
           watch = k.watch;
           start = k.start;
-          opened = m.0;
           watches = subst (λ v. IsWatched v k.watch k.start) (sym same) k.watches;
-          asks = m.2;
+          asks = m.1;
           knows = on.2.knows k.knows;
           owns = refl;
-          in_order = m.3;
+          in_order = m.2;
         };
-        passes = subst (λ (x : Owner). Passes calls on.0 x (owner_of (follow_by new s' k.watch k.start m.0 p'))) (sym k.owns) (on.2.passes k.knows);
+        passes = subst (λ (x : Owner). Passes calls on.0 x (owner_of (follow_by new s' k.watch k.start (next at) p'))) (sym k.owns) (on.2.passes k.knows);
       },
     )
 
 -- One part of a turn after another.
-pub took_on : (old mid new : Awaited) (log log_mid log' : Told) (s : Stage) (p : FollowPlayer) (s_mid : Stage) (p_mid : FollowPlayer) (s' : Stage) (p' : FollowPlayer) → FollowMoves old mid log log_mid s p s_mid p_mid → FollowMoves mid new log_mid log' s_mid p_mid s' p' → FollowMoves old new log log' s p s' p'
-took_on old mid new log log_mid log' s p s_mid p_mid s' p' first second calls told o k =
-    let a = first calls told o k in
-    let b = second a.0 a.1 a.2.owner a.2.knows in
+pub took_on : (old mid new : Awaited) (log log_mid log' : Told) (s : Stage) (p : FollowPlayer) (s_mid : Stage) (p_mid : FollowPlayer) (s' : Stage) (p' : FollowPlayer) (one two : Placing) → FollowMoves old mid log log_mid s p s_mid p_mid one → FollowMoves mid new log_mid log' s_mid p_mid s' p' two → FollowMoves old new log log' s p s' p' (λ at. two (one at))
+took_on old mid new log log_mid log' s p s_mid p_mid s' p' one two first second calls told o at k =
+    let a = first calls told o at k in
+    let b = second a.0 a.1 a.2.owner (one at) a.2.knows in
     (b.0, b.1, record { owner = b.2.owner; knows = b.2.knows; passes = passes_on calls a.0 b.0 o a.2.owner b.2.owner a.2.passes b.2.passes })
 
 -- ---- what a follow comes to
 
-ends_so : {A : Type 0} (calls : List Call) (o : Ended A) (w : Watch) (start : Start) (opened : Option ℕ) (p : FollowPlayer) → Knows calls (ended_follow o w start opened p.token (events_of p.answers.items)) → EndsSo o p → FollowedOr o calls w start (events_of p.answers.items) p.token
-ends_so calls ended.Unfinished w start opened p knows nothing = (ap events_of nothing.no_answer, nothing.no_token)
-ends_so calls (ended.Gave x) w start opened p knows so =
-    let f = closed_follow w start opened p.token (events_of p.answers.items) in
-    record { stream = f; watch_is = refl; start_is = refl; answered_is = refl; token_is = refl; follows = follows_on calls f tt knows }
-ends_so calls (ended.Failed e) w start opened p knows nothing = (ap events_of nothing.no_answer, nothing.no_token)
+-- what a follow knows whose stream was opened by the call at this place
+followed_as : (calls : List Call) (f g : Follow) (place : ℕ) → f.opened ≡ Some place → Continues f g → Knows calls g → Followed calls f.watch f.start f.answered f.token place
+followed_as calls f g place opened same knows =
+    record { stream = g; watch_is = same.watch; start_is = same.start; opened_is = same.opened ∙ opened; answered_is = same.answered; token_is = same.token; follows = follows_on calls g same.is_open knows }
 
-unfinished_so : {A : Type 0} (calls : List Call) (o : Ended A) (w : Watch) (start : Start) (p : FollowPlayer) → IsUnfinished o → HasNothing p → FollowedOr o calls w start (events_of p.answers.items) None
-unfinished_so calls ended.Unfinished w start p is nothing = (ap events_of nothing.no_answer, refl)
-unfinished_so calls (ended.Gave x) w start p is nothing = absurd is
-unfinished_so calls (ended.Failed e) w start p is nothing = absurd is
+ends_so : {A : Type 0} (calls : List Call) (o : Ended A) (w : Watch) (start : Start) (at : Option ℕ) (p : FollowPlayer) (place : ℕ) → HasGiven o → at ≡ Some place → Knows calls (ended_follow o w start at p.token (events_of p.answers.items)) → Followed calls w start (events_of p.answers.items) p.token place
+ends_so calls ended.Unfinished w start at p place given is knows = absurd given
+ends_so calls (ended.Gave x) w start at p place given is knows =
+    let f = closed_follow w start at p.token (events_of p.answers.items) in
+    record { stream = f; watch_is = refl; start_is = refl; opened_is = is; answered_is = refl; token_is = refl; follows = follows_on calls f tt knows }
+ends_so calls (ended.Failed e) w start at p place given is knows = absurd given
 
-given_so : {A : Type 0} (calls : List Call) (o : Ended A) (f g : Follow) → HasGiven o → Continues f g → Knows calls g → FollowedOr o calls f.watch f.start f.answered f.token
-given_so calls ended.Unfinished f g has same knows = absurd has
-given_so calls (ended.Gave x) f g has same knows = record { stream = g; watch_is = same.watch; start_is = same.start; answered_is = same.answered; token_is = same.token; follows = follows_on calls g same.is_open knows }
-given_so calls (ended.Failed e) f g has same knows = absurd has
+pub unfinished_not_given : {A : Type 0} (o : Ended A) → IsUnfinished o → HasGiven o → ⊥
+unfinished_not_given ended.Unfinished is given = given
+unfinished_not_given (ended.Gave x) is given = is
+unfinished_not_given (ended.Failed e) is given = given
 
-outcome_at : (awaited : Awaited) (calls : List Call) (s : Stage) (w : Watch) (start : Start) (opened : Option ℕ) (p : FollowPlayer) → Knows calls (follow_by awaited s w start opened p) → IsInOrder p s → FollowedOr p.opened calls w start (events_of p.answers.items) (token_at s p.token)
-outcome_at awaited calls stage.Unopened w start opened p knows order = unfinished_so calls p.opened w start p order.0 order.1
-outcome_at awaited calls (stage.Opens opening) w start opened p knows order = unfinished_so calls p.opened w start p order.0 order.1
-outcome_at awaited calls (stage.Open stream) w start opened p knows order =
-    let f = idle w start stream opened (events_of p.answers.items) in
-    given_so calls p.opened f (follow_of awaited w start stream opened (events_of p.answers.items)) order (continues_phase awaited stream.phase (buffered stream) stream.batch_token f tt) knows
-outcome_at awaited calls (stage.Closes closing) w start opened p knows order =
-    let f = closed_follow w start opened p.token (events_of p.answers.items) in
-    given_so calls p.opened f (closing_of awaited f closing) order (continues_closing awaited f closing) knows
-outcome_at awaited calls stage.Ended w start opened p knows order = ends_so calls p.opened w start opened p knows order
+followed_at : (awaited : Awaited) (calls : List Call) (s : Stage) (w : Watch) (start : Start) (at : Option ℕ) (p : FollowPlayer) (place : ℕ) → HasGiven p.opened → at ≡ Some place → Knows calls (follow_by awaited s w start at p) → IsInOrder p s → Followed calls w start (events_of p.answers.items) (token_at s p.token) place
+followed_at awaited calls stage.Unopened w start at p place given is knows order = absurd (unfinished_not_given p.opened order.0 given)
+followed_at awaited calls (stage.Opens opening) w start at p place given is knows order = absurd (unfinished_not_given p.opened order.0 given)
+followed_at awaited calls (stage.Open stream) w start at p place given is knows order =
+    let f = idle w start stream at (events_of p.answers.items) in
+    followed_as calls f (follow_of awaited w start stream at (events_of p.answers.items)) place is (continues_phase awaited stream.phase (buffered stream) stream.batch_token f tt) knows
+followed_at awaited calls (stage.Closes closing) w start at p place given is knows order =
+    let f = closed_follow w start at p.token (events_of p.answers.items) in
+    followed_as calls f (closing_of awaited f closing) place is (continues_closing awaited f closing) knows
+followed_at awaited calls stage.Ended w start at p place given is knows order = ends_so calls p.opened w start at p place given is knows
 
--- What became of a follow is as it should be.
-pub outcome_followed : (awaited : Awaited) (calls : List Call) (s : Stage) (p : FollowPlayer) (o : Owner) → (k : FollowKnows awaited calls s p o) → FollowedOr p.opened calls k.watch k.start (events_of p.answers.items) (token_at s p.token)
-outcome_followed awaited calls s p o k = outcome_at awaited calls s k.watch k.start k.opened p k.knows k.in_order
+-- What became of a follow whose stream was opened is as it should be.
+pub follow_followed : (awaited : Awaited) (calls : List Call) (s : Stage) (p : FollowPlayer) (o : Owner) (at : Option ℕ) (place : ℕ) → HasGiven p.opened → at ≡ Some place → (k : FollowKnows awaited calls s p o at) → Followed calls k.watch k.start (events_of p.answers.items) (token_at s p.token) place
+follow_followed awaited calls s p o at place given is k = followed_at awaited calls s k.watch k.start at p place given is k.knows k.in_order
 
 -- ---- the same follow at another stage
 
@@ -178,13 +175,12 @@ parts_order (stage.Open stream) p t same order = subst (λ o. HasGiven o) (sym s
 parts_order (stage.Closes closing) p t same order = subst (λ o. HasGiven o) (sym same.opened) order
 parts_order stage.Ended p t same order = subst (λ o. EndsSo o t) (sym same.opened) (parts_end p.opened p t same order)
 
-pub parts_knows : (awaited : Awaited) (calls : List Call) (s : Stage) (p t : FollowPlayer) (o : Owner) → SameParts p t → FollowKnows awaited calls s p o → FollowKnows awaited calls s t o
-parts_knows awaited calls s p t o same k =
-    let e = parts_follow awaited s p t same k.watch k.start k.opened in
+pub parts_knows : (awaited : Awaited) (calls : List Call) (s : Stage) (p t : FollowPlayer) (o : Owner) (at : Option ℕ) → SameParts p t → FollowKnows awaited calls s p o at → FollowKnows awaited calls s t o at
+parts_knows awaited calls s p t o at same k =
+    let e = parts_follow awaited s p t same k.watch k.start at in
     record {
       watch = k.watch;
       start = k.start;
-      opened = k.opened;
       watches = subst (λ v. IsWatched v k.watch k.start) (sym same.watched) k.watches;
       asks = k.asks;
       knows = subst (λ (f : Follow). Knows calls f) e k.knows;
@@ -193,16 +189,16 @@ parts_knows awaited calls s p t o same k =
     }
 
 -- A turn whose stage was taken out before, and put back behind it.
-pub other_stage : (old new : Awaited) (log log' : Told) (s s0 : Stage) (p t : FollowPlayer) (s' : Stage) (q r : FollowPlayer) → s ≡ s0 → SameParts p t → SameParts q r → r.stage ≡ s' → FollowMoves old new log log' s t s' q → FollowMoves old new log log' s0 p r.stage r
-other_stage old new log log' s s0 p t s' q r from before behind at turned calls told o k =
-    let m = turned calls told o (parts_knows old calls s p t o before (subst (λ x. FollowKnows old calls x p o) (sym from) k)) in
-    (m.0, m.1, record { owner = m.2.owner; knows = subst (λ x. FollowKnows new m.0 x r m.2.owner) (sym at) (parts_knows new m.0 s' q r m.2.owner behind m.2.knows); passes = m.2.passes })
+pub other_stage : (old new : Awaited) (log log' : Told) (s s0 : Stage) (p t : FollowPlayer) (s' : Stage) (q r : FollowPlayer) (next : Placing) → s ≡ s0 → SameParts p t → SameParts q r → r.stage ≡ s' → FollowMoves old new log log' s t s' q next → FollowMoves old new log log' s0 p r.stage r next
+other_stage old new log log' s s0 p t s' q r next from before behind to turned calls told o at k =
+    let m = turned calls told o at (parts_knows old calls s p t o at before (subst (λ x. FollowKnows old calls x p o at) (sym from) k)) in
+    (m.0, m.1, record { owner = m.2.owner; knows = subst (λ x. FollowKnows new m.0 x r m.2.owner (next at)) (sym to) (parts_knows new m.0 s' q r m.2.owner (next at) behind m.2.knows); passes = m.2.passes })
 
 -- ---- the arms of a turn
 
 -- nothing was sent, and the follow is the same
-pub took_same : (awaited : Awaited) (log log' : Told) (s : Stage) (p : FollowPlayer) → log' ≡ log → FollowMoves awaited awaited log log' s p s p
-took_same awaited log log' s p same calls told o k =
+pub took_same : (awaited : Awaited) (log log' : Told) (s : Stage) (p : FollowPlayer) → log' ≡ log → FollowMoves awaited awaited log log' s p s p same_place
+took_same awaited log log' s p same calls told o at k =
     (calls, same ∙ told, record { owner = o; knows = k; passes = passes_same calls o (subst (Holds calls) (sym k.owns) k.knows.owned) })
 
 pub nothing_kept : (p p' : FollowPlayer) → p'.answers.items ≡ p.answers.items → p'.token ≡ p.token → HasNothing p → HasNothing p'
@@ -226,22 +222,20 @@ pub record KeepsNothing (p p' : FollowPlayer) : Type 0 where
   pub token : p'.token ≡ p.token
 
 -- The arguments of the watch were not built: nothing was sent.
-pub begin_failed : (awaited : Awaited) (log : Told) (p p' : FollowPlayer) → KeepsNothing p p' → IsFailed p'.opened → FollowMoves awaited awaited log log stage.Unopened p stage.Ended p'
+pub begin_failed : (awaited : Awaited) (log : Told) (p p' : FollowPlayer) → KeepsNothing p p' → IsFailed p'.opened → FollowMoves awaited awaited log log stage.Unopened p stage.Ended p' same_place
 begin_failed awaited log p p' same failed =
-    took awaited awaited log log stage.Unopened p stage.Ended p' same.watched
+    took awaited awaited log log stage.Unopened p stage.Ended p' same_place same.watched
     (λ w start watched asks order opened. (
-      opened,
       subst (λ (f : Follow). Moved log log (not_open w start) f) (sym (ended_not_open p'.opened w start opened p'.token (events_of p'.answers.items) failed)) (stayed log log (not_open w start) refl),
       tt,
       never_opened p'.opened p' failed (nothing_kept p p' same.answers same.token order.1),
     ))
 
 -- The watch is to be opened: nothing was sent yet.
-pub begins : (awaited : Awaited) (log : Told) (p : FollowPlayer) (opening : Opening) → ((w : Watch) (start : Start) → IsWatched p.watched w start → Asks opening.aggregate.args w start) → IsOpening opening.aggregate opening.exec → opening.exec ≡ None → FollowMoves awaited awaited log log stage.Unopened p (stage.Opens opening) p
+pub begins : (awaited : Awaited) (log : Told) (p : FollowPlayer) (opening : Opening) → ((w : Watch) (start : Start) → IsWatched p.watched w start → Asks opening.aggregate.args w start) → IsOpening opening.aggregate opening.exec → opening.exec ≡ None → FollowMoves awaited awaited log log stage.Unopened p (stage.Opens opening) p same_place
 begins awaited log p opening asks sent none =
-    took awaited awaited log log stage.Unopened p (stage.Opens opening) p refl
+    took awaited awaited log log stage.Unopened p (stage.Opens opening) p same_place refl
     (λ w start watched before order opened. (
-      opened,
       subst (λ (x : Option Sending). Moved log log (not_open w start) (opening_in awaited x w start)) (sym none) (stayed log log (not_open w start) refl),
       (asks w start watched, sent),
       order,
@@ -249,33 +243,30 @@ begins awaited log p opening asks sent none =
 
 -- The reply to the opening pends.
 pub open_pends : (old new : Awaited) (log log' : Told) (p : FollowPlayer) (opening opening' : Opening) → opening'.aggregate.args ≡ opening.aggregate.args → (IsOpening opening.aggregate opening.exec → IsOpening opening'.aggregate opening'.exec)
-    → (IsOpening opening.aggregate opening.exec → (w : Watch) (start : Start) → Asks opening.aggregate.args w start → Moved log log' (opening_in old opening.exec w start) (opening_in new opening'.exec w start)) → FollowMoves old new log log' (stage.Opens opening) p (stage.Opens opening') p
+    → (IsOpening opening.aggregate opening.exec → (w : Watch) (start : Start) → Asks opening.aggregate.args w start → Moved log log' (opening_in old opening.exec w start) (opening_in new opening'.exec w start)) → FollowMoves old new log log' (stage.Opens opening) p (stage.Opens opening') p same_place
 open_pends old new log log' p opening opening' args sent moves =
-    took old new log log' (stage.Opens opening) p (stage.Opens opening') p refl
-    (λ w start watched asks order opened. (opened, moves asks.1 w start asks.0, (subst (λ a. Asks a w start) (sym args) asks.0, sent asks.1), order))
+    took old new log log' (stage.Opens opening) p (stage.Opens opening') p same_place refl
+    (λ w start watched asks order opened. (moves asks.1 w start asks.0, (subst (λ a. Asks a w start) (sym args) asks.0, sent asks.1), order))
 
 -- It failed.
 pub open_failed : (old new : Awaited) (log log' : Told) (p p' : FollowPlayer) (opening : Opening) → KeepsNothing p p' → IsFailed p'.opened
-    → (IsOpening opening.aggregate opening.exec → (w : Watch) (start : Start) → Asks opening.aggregate.args w start → Moved log log' (opening_in old opening.exec w start) (not_open w start)) → FollowMoves old new log log' (stage.Opens opening) p stage.Ended p'
+    → (IsOpening opening.aggregate opening.exec → (w : Watch) (start : Start) → Asks opening.aggregate.args w start → Moved log log' (opening_in old opening.exec w start) (not_open w start)) → FollowMoves old new log log' (stage.Opens opening) p stage.Ended p' same_place
 open_failed old new log log' p p' opening same failed moves =
-    took old new log log' (stage.Opens opening) p stage.Ended p' same.watched
+    took old new log log' (stage.Opens opening) p stage.Ended p' same_place same.watched
     (λ w start watched asks order opened. (
-      opened,
       subst (λ (f : Follow). Moved log log' (opening_in old opening.exec w start) f) (sym (ended_not_open p'.opened w start opened p'.token (events_of p'.answers.items) failed)) (moves asks.1 w start asks.0),
       tt,
       never_opened p'.opened p' failed (nothing_kept p p' same.answers same.token order.1),
     ))
 
 -- The stream is open.
-pub open_done : (old new : Awaited) (log log' : Told) (p p' : FollowPlayer) (opening : Opening) (stream : ChangeStream) → KeepsNothing p p' → HasGiven p'.opened → stream.aggregate.args ≡ opening.aggregate.args
-    → (IsOpening opening.aggregate opening.exec → (w : Watch) (start : Start) → Asks opening.aggregate.args w start → (opened : Option ℕ) × Moved log log' (opening_in old opening.exec w start) (follow_of new w start stream opened [])) → FollowMoves old new log log' (stage.Opens opening) p (stage.Open stream) p'
-open_done old new log log' p p' opening stream same given args moves =
-    took old new log log' (stage.Opens opening) p (stage.Open stream) p' same.watched
+pub open_done : (old new : Awaited) (log log' : Told) (p p' : FollowPlayer) (opening : Opening) (stream : ChangeStream) (place : Option ℕ) → KeepsNothing p p' → HasGiven p'.opened → stream.aggregate.args ≡ opening.aggregate.args
+    → (IsOpening opening.aggregate opening.exec → (w : Watch) (start : Start) → Asks opening.aggregate.args w start → Moved log log' (opening_in old opening.exec w start) (follow_of new w start stream place [])) → FollowMoves old new log log' (stage.Opens opening) p (stage.Open stream) p' (λ at. place)
+open_done old new log log' p p' opening stream place same given args moves =
+    took old new log log' (stage.Opens opening) p (stage.Open stream) p' (λ at. place) same.watched
     (λ w start watched asks order opened.
-    let m = moves asks.1 w start asks.0 in
     let none : events_of p'.answers.items ≡ [] = ap events_of (same.answers ∙ order.1.no_answer) in (
-      m.0,
-      subst (λ l. Moved log log' (opening_in old opening.exec w start) (follow_of new w start stream m.0 l)) (sym none) m.1,
+      subst (λ l. Moved log log' (opening_in old opening.exec w start) (follow_of new w start stream place l)) (sym none) (moves asks.1 w start asks.0),
       subst (λ a. Asks a w start) (sym args) asks.0,
       given,
     ))
@@ -289,15 +280,14 @@ pub record KeepsOpen (p p' : FollowPlayer) : Type 0 where
 -- The stream is to be closed, and the follow has its token now.
 pub to_close : (awaited : Awaited) (log : Told) (p p' : FollowPlayer) (stream left : ChangeStream) (closing : Closing) → KeepsOpen p p' → p'.token ≡ token_of stream.aggregate.resume → left ≡ without_token stream
     → ((w : Watch) (start : Start) (opened : Option ℕ) (token : Option Tree) (answered : List Fields) → Moved log log (in_phase awaited left.phase (buffered left) left.batch_token (idle_by w start opened left.cursor.id token answered)) (closing_of awaited (idle_by w start opened left.cursor.id token answered) closing))
-    → FollowMoves awaited awaited log log (stage.Open stream) p (stage.Closes closing) p'
+    → FollowMoves awaited awaited log log (stage.Open stream) p (stage.Closes closing) p' same_place
 to_close awaited log p p' stream left closing same token is moves =
-    took awaited awaited log log (stage.Open stream) p (stage.Closes closing) p' same.watched
+    took awaited awaited log log (stage.Open stream) p (stage.Closes closing) p' same_place same.watched
     (λ w start watched asks order opened.
     let answered = events_of p.answers.items in
     let kept = token_of stream.aggregate.resume in
     let there : Moved log log (follow_of awaited w start stream opened answered) (closing_of awaited (closed_follow w start opened kept answered) closing) =
     subst (λ (x : ChangeStream). Moved log log (in_phase awaited x.phase (buffered x) x.batch_token (idle_by w start opened x.cursor.id kept answered)) (closing_of awaited (idle_by w start opened x.cursor.id kept answered) closing)) is (moves w start opened kept answered) in (
-      opened,
       subst (λ t. Moved log log (follow_of awaited w start stream opened answered) (closing_of awaited (closed_follow w start opened t (events_of p'.answers.items)) closing)) (sym token)
           (subst (λ l. Moved log log (follow_of awaited w start stream opened answered) (closing_of awaited (closed_follow w start opened kept (events_of l)) closing)) (sym same.answers) there),
       tt,
@@ -306,12 +296,11 @@ to_close awaited log p p' stream left closing same token is moves =
 
 -- A call of the stream pends.
 pub call_pends : (old new : Awaited) (log log' : Told) (p : FollowPlayer) (stream stream' : ChangeStream) (told : List Fields) → told ≡ [] → stream'.aggregate.args ≡ stream.aggregate.args
-    → ((w : Watch) (start : Start) → Asks stream.aggregate.args w start → (opened : Option ℕ) (answered : List Fields) → Moved log log' (follow_of old w start stream opened answered) (follow_of new w start stream' opened (answered ++ told))) → FollowMoves old new log log' (stage.Open stream) p (stage.Open stream') p
+    → ((w : Watch) (start : Start) → Asks stream.aggregate.args w start → (opened : Option ℕ) (answered : List Fields) → Moved log log' (follow_of old w start stream opened answered) (follow_of new w start stream' opened (answered ++ told))) → FollowMoves old new log log' (stage.Open stream) p (stage.Open stream') p same_place
 call_pends old new log log' p stream stream' told none args moves =
-    took old new log log' (stage.Open stream) p (stage.Open stream') p refl
+    took old new log log' (stage.Open stream) p (stage.Open stream') p same_place refl
     (λ w start watched asks order opened.
     let answered = events_of p.answers.items in (
-      opened,
       subst (λ l. Moved log log' (follow_of old w start stream opened answered) (follow_of new w start stream' opened l)) (ap (λ t. answered ++ t) none ∙ append-nil answered) (moves w start asks opened answered),
       subst (λ a. Asks a w start) (sym args) asks,
       order,
@@ -325,12 +314,11 @@ events_joined (answers.Failed e ∷ xs) ys = events_joined xs ys
 
 -- A call of the stream answered.
 pub call_answers : (old new : Awaited) (log log' : Told) (p p' : FollowPlayer) (stream stream' : ChangeStream) (told : List Fields) (answer : Answer) → p'.watched ≡ p.watched → p'.opened ≡ p.opened → p'.answers.items ≡ p.answers.items ++ answer ∷ [] → told ≡ events_of (answer ∷ []) → stream'.aggregate.args ≡ stream.aggregate.args
-    → ((w : Watch) (start : Start) → Asks stream.aggregate.args w start → (opened : Option ℕ) (answered : List Fields) → Moved log log' (follow_of old w start stream opened answered) (follow_of new w start stream' opened (answered ++ told))) → FollowMoves old new log log' (stage.Open stream) p (stage.Open stream') p'
+    → ((w : Watch) (start : Start) → Asks stream.aggregate.args w start → (opened : Option ℕ) (answered : List Fields) → Moved log log' (follow_of old w start stream opened answered) (follow_of new w start stream' opened (answered ++ told))) → FollowMoves old new log log' (stage.Open stream) p (stage.Open stream') p' same_place
 call_answers old new log log' p p' stream stream' told answer watched opened_same items same args moves =
-    took old new log log' (stage.Open stream) p (stage.Open stream') p' watched
+    took old new log log' (stage.Open stream) p (stage.Open stream') p' same_place watched
     (λ w start is asks order opened.
     let e : events_of p.answers.items ++ told ≡ events_of p'.answers.items = ap (λ l. events_of p.answers.items ++ l) same ∙ sym (events_joined p.answers.items (answer ∷ [])) ∙ ap events_of (sym items) in (
-      opened,
       subst (λ l. Moved log log' (follow_of old w start stream opened (events_of p.answers.items)) (follow_of new w start stream' opened l)) e (moves w start asks opened (events_of p.answers.items)),
       subst (λ a. Asks a w start) (sym args) asks,
       subst (λ o. HasGiven o) (sym opened_same) order,
@@ -338,10 +326,10 @@ call_answers old new log log' p p' stream stream' told answer watched opened_sam
 
 -- The killing of its cursors pends.
 pub close_pends : (old new : Awaited) (log log' : Told) (p : FollowPlayer) (closing closing' : Closing)
-    → ((f : Follow) → Moved log log' (closing_of old f closing) (closing_of new f closing')) → FollowMoves old new log log' (stage.Closes closing) p (stage.Closes closing') p
+    → ((f : Follow) → Moved log log' (closing_of old f closing) (closing_of new f closing')) → FollowMoves old new log log' (stage.Closes closing) p (stage.Closes closing') p same_place
 close_pends old new log log' p closing closing' moves =
-    took old new log log' (stage.Closes closing) p (stage.Closes closing') p refl
-    (λ w start watched asks order opened. (opened, moves (closed_follow w start opened p.token (events_of p.answers.items)), tt, order))
+    took old new log log' (stage.Closes closing) p (stage.Closes closing') p same_place refl
+    (λ w start watched asks order opened. (moves (closed_follow w start opened p.token (events_of p.answers.items)), tt, order))
 
 ended_closed : {A : Type 0} (o : Ended A) (w : Watch) (start : Start) (opened : Option ℕ) (token : Option Tree) (answered : List Fields) → HasGiven o → ended_follow o w start opened token answered ≡ closed_follow w start opened token answered
 ended_closed ended.Unfinished w start opened token answered given = absurd given
@@ -355,14 +343,13 @@ ends_given (ended.Failed e) p given = absurd given
 
 -- The stream is closed, or its closing failed.
 pub close_ends : (old new : Awaited) (log log' : Told) (p p' : FollowPlayer) (closing : Closing) → KeepsOpen p p' → p'.token ≡ p.token
-    → ((f : Follow) → Moved log log' (closing_of old f closing) (closed f)) → FollowMoves old new log log' (stage.Closes closing) p stage.Ended p'
+    → ((f : Follow) → Moved log log' (closing_of old f closing) (closed f)) → FollowMoves old new log log' (stage.Closes closing) p stage.Ended p' same_place
 close_ends old new log log' p p' closing same token moves =
-    took old new log log' (stage.Closes closing) p stage.Ended p' same.watched
+    took old new log log' (stage.Closes closing) p stage.Ended p' same_place same.watched
     (λ w start watched asks order opened.
     let given : HasGiven p'.opened = subst (λ o. HasGiven o) (sym same.opened) order in
     let e : closed_follow w start opened p.token (events_of p.answers.items) ≡ closed_follow w start opened p'.token (events_of p'.answers.items) =
     ap (λ t. closed_follow w start opened t (events_of p.answers.items)) (sym token) ∙ ap (λ l. closed_follow w start opened p'.token (events_of l)) (sym same.answers) in (
-      opened,
       subst (λ (f : Follow). Moved log log' (closing_of old (closed_follow w start opened p.token (events_of p.answers.items)) closing) f) (e ∙ sym (ended_closed p'.opened w start opened p'.token (events_of p'.answers.items) given))
           (moves (closed_follow w start opened p.token (events_of p.answers.items))),
       tt,
@@ -427,5 +414,5 @@ pub closes_at_rest : (s left : ChangeStream) (c : Flight) → left ≡ without_t
 closes_at_rest s left c is rest quiet = quiet (subst (λ (x : ChangeStream). AtRest x.phase) (sym is) rest)
 
 -- a follow that has ended does nothing
-pub took_ended : (awaited : Awaited) (log : Told) (s : Stage) (p : FollowPlayer) → s ≡ stage.Ended → FollowMoves awaited awaited log log s p stage.Ended p
-took_ended awaited log s p is = subst (λ x. FollowMoves awaited awaited log log x p stage.Ended p) (sym is) (took_same awaited log log stage.Ended p refl)
+pub took_ended : (awaited : Awaited) (log : Told) (s : Stage) (p : FollowPlayer) → s ≡ stage.Ended → FollowMoves awaited awaited log log s p stage.Ended p same_place
+took_ended awaited log s p is = subst (λ x. FollowMoves awaited awaited log log x p stage.Ended p same_place) (sym is) (took_same awaited log log stage.Ended p refl)

@@ -17,14 +17,14 @@ use Rattle.mg_bson.specs.Tree.{Fields}
 use Rattle.mg_change.specs.declared.closing.Closing.{Closing}
 use Rattle.mg_change.specs.declared.opening.Opening.{Opening}
 use Rattle.mg_change.specs.declared.stream.ChangeStream.{ChangeStream}
-use Rattle.mg_jobs.specs.Follows.{EndsSo, FollowsNothing, HasGiven, HasNothing, IsFailed, IsInOrder, IsInVain, IsUnfinished, IsUnwatched, NeverFollowed, VainMoves, events_of, token_at}
+use Rattle.mg_jobs.specs.Follows.{EndsSo, FollowsNothing, HasGiven, HasNothing, IsFailed, IsInOrder, IsInVain, IsUnwatched, NeverFollowed, VainMoves, events_of, token_at}
 use Rattle.mg_jobs.specs.Playing.{stage_ticket}
 use Rattle.mg_script.specs.declared.outcome.Ended.{Ended}
 use Rattle.mg_script.specs.declared.outcome.Ended.TheVariants as ended
 use Rattle.mg_jobs.specs.declared.player.FollowPlayer.{FollowPlayer}
 use Rattle.mg_jobs.specs.declared.player.Stage.{Stage}
 use Rattle.mg_jobs.specs.declared.player.Stage.TheVariants as stage
-use Rattle.mg_jobs.proofs.Turning.{KeepsNothing, KeepsOpen, SameParts, ends_given, never_opened, nothing_kept, parts_order}
+use Rattle.mg_jobs.proofs.Turning.{KeepsNothing, KeepsOpen, SameParts, ends_given, never_opened, nothing_kept, parts_order, unfinished_not_given}
 
 -- ---- others
 
@@ -115,11 +115,6 @@ failed_not_given : {A : Type 0} (o : Ended A) → IsFailed o → HasGiven o → 
 failed_not_given ended.Unfinished failed given = given
 failed_not_given (ended.Gave x) failed given = failed
 failed_not_given (ended.Failed e) failed given = given
-
-pub unfinished_not_given : {A : Type 0} (o : Ended A) → IsUnfinished o → HasGiven o → ⊥
-unfinished_not_given ended.Unfinished is given = given
-unfinished_not_given (ended.Gave x) is given = is
-unfinished_not_given (ended.Failed e) is given = given
 
 -- The arguments of the watch were not built.
 pub vain_begin_failed : (awaited : Awaited) (log : Told) (p p' : FollowPlayer) → KeepsNothing p p' → IsFailed p'.opened → VainMoves awaited awaited log log stage.Unopened p stage.Ended p'
@@ -214,7 +209,7 @@ ends_nothing ended.Unfinished p so none = so
 ends_nothing (ended.Gave x) p so none = absurd (none tt)
 ends_nothing (ended.Failed e) p so none = so
 
-nothing_at : (s : Stage) (p : FollowPlayer) → IsInOrder p s → (HasGiven p.opened → ⊥) → (events_of p.answers.items ≡ []) × (token_at s p.token ≡ None)
+pub nothing_at : (s : Stage) (p : FollowPlayer) → IsInOrder p s → (HasGiven p.opened → ⊥) → (events_of p.answers.items ≡ []) × (token_at s p.token ≡ None)
 nothing_at stage.Unopened p order none = (ap events_of order.1.no_answer, refl)
 nothing_at (stage.Opens opening) p order none = (ap events_of order.1.no_answer, refl)
 nothing_at (stage.Open stream) p order none = absurd (none order)

@@ -1,22 +1,10 @@
 -- What an insert appended to its collection, and by which commands.
-use Rattle.std.specs.Prelude.{◌≡◌, ◌⊎◌, ◌<◌, ◌++◌, ℕ, ℤ, true, List, [], ◌∷◌, length, Some, None, codes, slice_get}
-use Rattle.mg_bson.specs.Tree.{Tree, object_id, Fields, field}
-use Rattle.mg_bson.specs.Find.{get}
+use Rattle.std.specs.Prelude.{◌≡◌, ◌<◌, ◌++◌, ℕ, ℤ, true, List, [], ◌∷◌, length, Some, slice_get}
+use Rattle.mg_bson.specs.Tree.{Fields}
 use Rattle.mg_link.specs.Commands.{asked, asks_insert, inserted, told}
 use Rattle.mg_link.specs.Log.{reply, Call}
 use Rattle.mg_link.specs.Namespace.{Space}
 use Rattle.mg_change.specs.Calls.{IsOwn, Past}
-
--- what is sent for a document: the document itself where it has an `_id`, and otherwise the document behind an `_id` with a drawn id
-abbrev pub IsWithId : Fields → Fields → Type 0
-IsWithId d e = ((id : Tree) × (get (codes "_id") d ≡ Some id) × (e ≡ d)) ⊎ ((get (codes "_id") d ≡ None) × (id : List ℕ) × (e ≡ field (codes "_id") (object_id id) d))
-
--- what is sent for a list of documents, each in its turn
-abbrev pub AreWithIds : List Fields → List Fields → Type 0
-AreWithIds [] [] = Unit {0}
-AreWithIds (d ∷ ds) (e ∷ es) = IsWithId d e × AreWithIds ds es
-AreWithIds [] (e ∷ es) = ⊥
-AreWithIds (d ∷ ds) [] = ⊥
 
 -- the call at this place asks for these documents to be inserted in order, and saw a reply that tells of no failure
 pub record InsertsAt (calls : List Call) (k : ℕ) (space : Space) (documents : List Fields) : Type 0 where
@@ -43,9 +31,7 @@ pub record InsertedBelow (past : Past) (k : ℕ) (space : Space) (sent : List Fi
   pub pieces : List Piece
   pub are : ArePieces past k space sent pieces
 
--- so many documents were appended in their order by own commands, each with its own `_id` or behind a drawn one
-pub record Appended (past : Past) (space : Space) (documents : List Fields) (n : ℕ) : Type 0 where
-  pub count : n ≡ length documents
-  pub sent : List Fields
-  pub ids : AreWithIds documents sent
+-- so many documents, with their ids, were appended in their order by own commands
+pub record Appended (past : Past) (space : Space) (sent : List Fields) (n : ℕ) : Type 0 where
+  pub count : n ≡ length sent
   pub stands : InsertedBelow past (length past.calls) space sent

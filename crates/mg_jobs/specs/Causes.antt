@@ -1,11 +1,13 @@
 -- What the answers of jobs are caused by: the causes of their calls, by the turns in which these sent their commands.
-use Rattle.std.specs.Prelude.{◌≡◌, ◌≢◌, ◌↔◌, ◌⊎◌, ◌<◌, ◌≤◌, ◌+◌, ◌++◌, IsTrue, true, Bool, ℕ, suc, ℤ, pos, List, [], ◌∷◌, length, Option, Some, None, slice_get}
+use Rattle.std.specs.Prelude.{◌≡◌, ◌≢◌, ◌↔◌, ◌⊎◌, ◌<◌, ◌≤◌, ◌+◌, ◌++◌, IsTrue, true, Bool, ℕ, suc, ℤ, pos, List, [], ◌∷◌, length, Option, Some, slice_get}
 use Rattle.std.specs.List.{sum_by}
 use Rattle.mg_bson.specs.Tree.{Tree, Fields}
+use Rattle.mg_link.specs.History.{IsLegal, Step}
 use Rattle.mg_link.specs.Link.{Told}
 use Rattle.mg_link.specs.Log.{Call}
 use Rattle.mg_link.specs.Namespace.{Space, Target}
 use Rattle.mg_link.specs.Owner.{IsOf}
+use Rattle.mg_link.specs.Standing.{Stands}
 use Rattle.mg_link.specs.declared.error.Error.{Error}
 use Rattle.mg_link.specs.declared.error.ErrorKind.TheVariants as kind
 use Rattle.mg_ops.specs.Naming.{IsNamed}
@@ -16,11 +18,13 @@ use Rattle.mg_change.specs.ClosingCauses.{KillDone, KillFails}
 use Rattle.mg_change.specs.Following.{token_of}
 use Rattle.mg_change.specs.OpeningCauses.{Opened, OpeningFails}
 use Rattle.mg_jobs.specs.Appended.{Appended}
-use Rattle.mg_jobs.specs.Follows.{IsArgsFor, poll_of}
+use Rattle.mg_jobs.specs.Drawing.{as_sent}
+use Rattle.mg_jobs.specs.Follows.{FollowedFrom, IsArgsFor, poll_of}
 use Rattle.mg_jobs.specs.InsertCauses.{InsertFails}
 use Rattle.mg_script.specs.Plan.{Begin, Task, insert, follow, put, get}
 use Rattle.mg_jobs.specs.Progress.{turns_done}
 use Rattle.mg_script.specs.declared.outcome.Answer.{Answer}
+use Rattle.mg_script.specs.declared.outcome.Answer.TheVariants as answers
 use Rattle.mg_script.specs.declared.outcome.Ended.{Ended}
 use Rattle.mg_script.specs.declared.outcome.Ended.TheVariants as ended
 use Rattle.mg_script.specs.declared.outcome.Outcome.{Outcome}
@@ -61,11 +65,11 @@ sent_at places calls wire = past_of places (length calls) calls wire
 
 -- ---- an insert
 
--- it ended well and its own commands appended its documents, where its names may name a collection, or it failed
+-- it ended well and its own commands appended the documents that it sends, where its names may name a collection, or it failed
 abbrev pub EndsBy : Past → Space → List Fields → Ended ℕ → Type 0
-EndsBy past at documents ended.Unfinished = Unit {0}
-EndsBy past at documents (ended.Gave n) = IsNamed at → Appended past at documents n
-EndsBy past at documents (ended.Failed e) = InsertFails past at documents e
+EndsBy past at sent ended.Unfinished = Unit {0}
+EndsBy past at sent (ended.Gave n) = IsNamed at → Appended past at sent n
+EndsBy past at sent (ended.Failed e) = InsertFails past at sent e
 
 -- it sent its commands in its turns up to the first that did not pend
 pub record InsertEnds (c : Course) (i : ℕ) (calls : List Call) (wire : ℤ) (at : Space) (documents : List Fields) (end : Ended ℕ) : Type 0 where
@@ -75,15 +79,11 @@ pub record InsertEnds (c : Course) (i : ℕ) (calls : List Call) (wire : ℤ) (a
 
 -- ---- a follow
 
--- where a resumption is owed no reply to the opening is in hand
-abbrev pub OwesAlone : Standing → Type 0
-OwesAlone s = s.owes ≡ true → s.first ≡ None
-
 -- The calls of a stream, one behind the other: at which places each sent its commands, what it answered with its cause, and how the stream stood
 -- before the first of them and behind the last.
 abbrev pub Answered : List Call → ℤ → Standing → List (List ℕ) → List Answer → Standing → Type 0
 Answered calls wire at [] [] last = last ≡ at
-Answered calls wire at (places ∷ owns) (answer ∷ said) last = (after : Standing) × Called (sent_at places calls wire) at after (poll_of answer) × OwesAlone after × Answered calls wire after owns said last
+Answered calls wire at (places ∷ owns) (answer ∷ said) last = (after : Standing) × Called (sent_at places calls wire) at after (poll_of answer) × Answered calls wire after owns said last
 Answered calls wire at [] (answer ∷ said) last = ⊥
 Answered calls wire at (places ∷ owns) [] last = ⊥
 
@@ -112,6 +112,10 @@ pub record Closed {A : Type 0} (c : Course) (i k : ℕ) (calls : List Call) (wir
 abbrev pub IsAlive : Standing → Type 0
 IsAlive s = (s.cursor.id ≢ pos 0) ⊎ (s.owes ≡ true)
 
+-- no answer says that an event has no `_id`
+abbrev pub NoneMissing : List Answer → Type 0
+NoneMissing said = (k : ℕ) (e : Error) → slice_get said k ≡ Some (answers.Failed e) → e.kind ≡ kind.MissingResumeToken → ⊥
+
 -- a follow whose stream was opened: each answer has its cause, and the token, and whether it is alive, are those behind the last of them
 pub record OpenCaused {A : Type 0} (c : Course) (i : ℕ) (calls : List Call) (wire : ℤ) (on : Target) (start : Begin) (filter : Option Fields) (batch : Option ℕ) (said : List Answer) (token : Option Tree) (alive : Bool) (closed : Ended A) : Type 0 where
   pub args : WatchArgs
@@ -121,6 +125,10 @@ pub record OpenCaused {A : Type 0} (c : Course) (i : ℕ) (calls : List Call) (w
   pub token_is : token ≡ token_of last.aggregate.resume
   pub alive_is : IsTrue alive ↔ IsAlive last
   pub close : Closed c i (length said) calls wire last closed
+  -- its answers are consecutive from the opening place of its own aggregate on
+  pub followed : FollowedFrom calls on start filter said token answers.opened.heard.place
+  -- an event of a legal history has an `_id`
+  pub identified : (history : List Step) → IsLegal history → Stands calls history → NoneMissing said
 
 -- one whose stream was not: its opening has failed, or memory ran out before
 pub record OpenFailed (c : Course) (i : ℕ) (calls : List Call) (wire : ℤ) (on : Target) (start : Begin) (filter : Option Fields) (batch : Option ℕ) (e : Error) : Type 0 where
@@ -149,7 +157,7 @@ OutcomeCaused c i calls wire (insert ns docs) (outcome.Get bytes read) = ⊥
 OutcomeCaused c i calls wire (put db bucket name id chunk pieces) r = Unit {0}
 OutcomeCaused c i calls wire (get db bucket id read) r = Unit {0}
 
--- Over a link that tells its log, each job's outcome has its causes among the commands of its own turns.
-abbrev pub AllCaused : Told → Told → ℤ → List Task → List ℕ → List Turned → List Outcome → Type 0
-AllCaused log log' wire tasks order notes outcomes = (calls : List Call) → log ≡ Some calls → (calls' : List Call) × (log' ≡ Some calls')
-    × ((i : ℕ) (t : Task) (r : Outcome) → slice_get tasks i ≡ Some t → slice_get outcomes i ≡ Some r → OutcomeCaused (course calls order notes) i calls' wire t r)
+-- Over a link that tells its log, each job's outcome has its causes among the commands of its own turns; inserts draw these ids.
+abbrev pub AllCaused : (ℕ → List ℕ) → Told → Told → ℤ → List Task → List ℕ → List Turned → List Outcome → Type 0
+AllCaused ids log log' wire tasks order notes outcomes = (calls : List Call) → log ≡ Some calls → (calls' : List Call) × (log' ≡ Some calls')
+    × ((i : ℕ) (t : Task) (r : Outcome) → slice_get tasks i ≡ Some t → slice_get outcomes i ≡ Some r → OutcomeCaused (course calls order notes) i calls' wire (as_sent ids tasks order i t) r)

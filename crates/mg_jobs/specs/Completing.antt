@@ -21,6 +21,7 @@ use Rattle.mg_ops.specs.declared.change_stream.WatchArgs.{WatchArgs}
 use Rattle.mg_change.specs.Openings.{opening_command}
 use Rattle.mg_change.specs.Phases.{resuming_command}
 use Rattle.mg_jobs.specs.Causes.{Course, SentIn, course}
+use Rattle.mg_jobs.specs.Drawing.{as_sent}
 use Rattle.mg_jobs.specs.Follows.{IsArgsFor}
 use Rattle.mg_jobs.specs.InsertCauses.{IsPiece}
 use Rattle.mg_script.specs.Plan.{Task, insert, follow, put, get}
@@ -60,16 +61,16 @@ abbrev pub SendFresh : List ℕ → List Step → Type 0
 SendFresh own history = (position : ℕ) (step : Step) (space : Space) (documents : List Fields) → Contains own position → slice_get history position ≡ Some step → asked step.command ≡ asks_insert space documents true
     → AreFresh (documents_of (state_of (take position history)) space) documents
 
--- memory ran out, or documents or a command that were to be sent pass the limits
+-- memory ran out, or some of the documents that it sends, or a command with them, pass the limits
 abbrev pub IsExcusedInsert : Space → List Fields → Error → Type 0
-IsExcusedInsert at documents e = (e.kind ≡ kind.OutOfMemory)
-    ⊎ ((piece : List Fields) × IsPiece documents piece × (CannotBeInserted piece e ⊎ CannotBeSent (insert_command at piece) e))
-    ⊎ ((d : Fields) × IsPiece documents (d ∷ []) × CannotBeSent d e)
+IsExcusedInsert at sent e = (e.kind ≡ kind.OutOfMemory)
+    ⊎ ((piece : List Fields) × IsPiece sent piece × (CannotBeInserted piece e ⊎ CannotBeSent (insert_command at piece) e))
+    ⊎ ((d : Fields) × IsPiece sent (d ∷ []) × CannotBeSent d e)
 
 abbrev pub InsertWell : Space → List Fields → Ended ℕ → Type 0
-InsertWell at documents ended.Unfinished = ⊥
-InsertWell at documents (ended.Gave n) = Unit {0}
-InsertWell at documents (ended.Failed e) = IsExcusedInsert at documents e
+InsertWell at sent ended.Unfinished = ⊥
+InsertWell at sent (ended.Gave n) = Unit {0}
+InsertWell at sent (ended.Failed e) = IsExcusedInsert at sent e
 
 -- ---- what a follow comes to
 
@@ -124,7 +125,7 @@ OutcomeWell c i calls (insert ns docs) (outcome.Get bytes read) = ⊥
 OutcomeWell c i calls (put db bucket name id chunk pieces) r = Unit {0}
 OutcomeWell c i calls (get db bucket id read) r = Unit {0}
 
--- each job of a run ends well
-abbrev pub AllWell : Told → Told → List Task → List ℕ → List Turned → List Outcome → Type 0
-AllWell log log' tasks order notes outcomes = (calls : List Call) → log ≡ Some calls → (calls' : List Call) × (log' ≡ Some calls')
-    × ((i : ℕ) (t : Task) (r : Outcome) → slice_get tasks i ≡ Some t → slice_get outcomes i ≡ Some r → OutcomeWell (course calls order notes) i calls' t r)
+-- each job of a run in which inserts draw these ids ends well
+abbrev pub AllWell : (ℕ → List ℕ) → Told → Told → List Task → List ℕ → List Turned → List Outcome → Type 0
+AllWell ids log log' tasks order notes outcomes = (calls : List Call) → log ≡ Some calls → (calls' : List Call) × (log' ≡ Some calls')
+    × ((i : ℕ) (t : Task) (r : Outcome) → slice_get tasks i ≡ Some t → slice_get outcomes i ≡ Some r → OutcomeWell (course calls order notes) i calls' (as_sent ids tasks order i t) r)

@@ -1,5 +1,5 @@
 -- What a follow watches, and what it knows turn by turn.
-use Rattle.std.specs.Prelude.{◌≡◌, Bool, true, ℕ, pos, List, [], ◌∷◌, Option, Some, None, option_and_then, option_map}
+use Rattle.std.specs.Prelude.{◌≡◌, ◌⊎◌, Bool, true, ℕ, pos, List, [], ◌∷◌, Option, Some, None, option_and_then, option_map}
 use Rattle.mg_bson.specs.Tree.{Tree, document, Fields}
 use Rattle.mg_bson.specs.Literal.{◌⇒◌⨾◌, empty}
 use Rattle.mg_bson.specs.Raw.{fields}
@@ -202,27 +202,33 @@ StageAsks (stage.Open stream) w start = Asks stream.aggregate.args w start
 StageAsks (stage.Closes closing) w start = Unit {0}
 StageAsks stage.Ended w start = Unit {0}
 
--- what a follow that is this to other jobs knows of its server
-pub record FollowKnows (awaited : Awaited) (calls : List Call) (s : Stage) (p : FollowPlayer) (o : Owner) : Type 0 where
+-- what a follow that is this to other jobs knows of its server, where the call at this place of the log opened its stream
+pub record FollowKnows (awaited : Awaited) (calls : List Call) (s : Stage) (p : FollowPlayer) (o : Owner) (at : Option ℕ) : Type 0 where
   pub watch : Watch
   pub start : Start
-  -- the place in the log of the aggregate that opened its stream
-  pub opened : Option ℕ
   pub watches : IsWatched p.watched watch start
   pub asks : StageAsks s watch start
-  pub knows : Knows calls (follow_by awaited s watch start opened p)
-  pub owns : o ≡ owner_of (follow_by awaited s watch start opened p)
+  pub knows : Knows calls (follow_by awaited s watch start at p)
+  pub owns : o ≡ owner_of (follow_by awaited s watch start at p)
   pub in_order : IsInOrder p s
 
-pub record FollowTook (awaited : Awaited) (calls calls' : List Call) (s : Stage) (p : FollowPlayer) (o : Owner) : Type 0 where
+pub record FollowTook (awaited : Awaited) (calls calls' : List Call) (s : Stage) (p : FollowPlayer) (o : Owner) (at : Option ℕ) : Type 0 where
   pub owner : Owner
-  pub knows : FollowKnows awaited calls' s p owner
+  pub knows : FollowKnows awaited calls' s p owner at
   pub passes : Passes calls calls' o owner
 
+-- the place of the call that opened a stream, behind a turn, from the one before it
+abbrev pub Placing : Type 0
+Placing = Option ℕ → Option ℕ
+
+-- it stays
+abbrev pub same_place : Placing
+same_place at = at
+
 -- It went from one stage to another: it goes on knowing, and leaves every other job alone.
-abbrev pub FollowMoves : Awaited → Awaited → Told → Told → Stage → FollowPlayer → Stage → FollowPlayer → Type 0
-FollowMoves old new log log' s p s' p' = (calls : List Call) → log ≡ Some calls → (o : Owner) → FollowKnows old calls s p o
-    → (calls' : List Call) × (log' ≡ Some calls') × FollowTook new calls calls' s' p' o
+abbrev pub FollowMoves : Awaited → Awaited → Told → Told → Stage → FollowPlayer → Stage → FollowPlayer → Placing → Type 0
+FollowMoves old new log log' s p s' p' next = (calls : List Call) → log ≡ Some calls → (o : Owner) (at : Option ℕ) → FollowKnows old calls s p o at
+    → (calls' : List Call) × (log' ≡ Some calls') × FollowTook new calls calls' s' p' o (next at)
 
 -- ---- a follow that watches nothing
 
@@ -247,17 +253,18 @@ VainMoves old new log log' s p s' p' = (calls : List Call) → log ≡ Some call
     → (calls' : List Call) × (log' ≡ Some calls') × FollowsNothing new calls' s' p' × Passes calls calls' nobody nobody
 
 -- A follow took a part of a turn, whatever it watches.
-pub record FollowTurns (old new : Awaited) (log log' : Told) (s : Stage) (p : FollowPlayer) (s' : Stage) (p' : FollowPlayer) : Type 0 where
-  pub watching : FollowMoves old new log log' s p s' p'
+pub record FollowTurns (old new : Awaited) (log log' : Told) (s : Stage) (p : FollowPlayer) (s' : Stage) (p' : FollowPlayer) (next : Placing) : Type 0 where
+  pub watching : FollowMoves old new log log' s p s' p' next
   pub vainly : VainMoves old new log log' s p s' p'
 
 -- ---- what this comes to
 
--- In every legal history in which the log stands, the answered events are the first of the view from the opening place on, each once, in order, just up to the place that the token names.
-pub record Followed (calls : List Call) (w : Watch) (start : Start) (answered : List Fields) (token : Option Tree) : Type 0 where
+-- In every legal history in which the log stands, the answered events are the first of the view from the opening place of the call at this place of the log on, each once, in order, just up to the place that the token names.
+pub record Followed (calls : List Call) (w : Watch) (start : Start) (answered : List Fields) (token : Option Tree) (place : ℕ) : Type 0 where
   pub stream : Follow
   pub watch_is : stream.watch ≡ w
   pub start_is : stream.start ≡ start
+  pub opened_is : stream.opened ≡ Some place
   pub answered_is : stream.answered ≡ answered
   pub token_is : stream.token ≡ token
   pub follows : FollowsOn calls stream
@@ -276,8 +283,8 @@ NeverFollowed ended.Unfinished calls answered token = (answered ≡ []) × (toke
 NeverFollowed (ended.Gave x) calls answered token = StandsNowhere calls
 NeverFollowed (ended.Failed e) calls answered token = (answered ≡ []) × (token ≡ None)
 
--- a follow that was opened followed, and any other answered nothing
-abbrev pub FollowedOr : {A : Type 0} → Ended A → List Call → Watch → Start → List Fields → Option Tree → Type 0
-FollowedOr ended.Unfinished calls w start answered token = (answered ≡ []) × (token ≡ None)
-FollowedOr (ended.Gave x) calls w start answered token = Followed calls w start answered token
-FollowedOr (ended.Failed e) calls w start answered token = (answered ≡ []) × (token ≡ None)
+-- What is watched was followed from the call at this place of the log on. A follow that watches nothing no honest server opened.
+abbrev pub FollowedFrom : List Call → Target → Begin → Option Fields → List Answer → Option Tree → ℕ → Type 0
+FollowedFrom calls on start filter said token place =
+    ((w : Watch) × (from : Start) × IsWatch on start filter w from × Followed calls w from (events_of said) token place)
+    ⊎ (WatchesNothing on start filter × StandsNowhere calls)

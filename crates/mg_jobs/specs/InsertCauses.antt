@@ -20,8 +20,7 @@ use Rattle.mg_ops.specs.Failing.{CannotBeInserted, CannotBeSent}
 use Rattle.mg_ops.specs.Limits.{max_documents}
 use Rattle.mg_ops.specs.Writes.{ListsAs}
 use Rattle.mg_change.specs.Calls.{Flies, HeardLast, Past, past_of}
-use Rattle.mg_jobs.specs.Appended.{AreWithIds}
-use Rattle.mg_jobs.specs.Underway.{AreDrawn, IsBatch, sent_of}
+use Rattle.mg_jobs.specs.Underway.{IsBatch, sent_of}
 use Rattle.mg_jobs.specs.declared.insert.Batches.{Batches}
 use Rattle.mg_jobs.specs.declared.insert.Command.{Command}
 use Rattle.mg_jobs.specs.declared.insert.Heard.{Heard}
@@ -42,10 +41,8 @@ total ds = sum_by (λ (d : Fields). length (bytes d)) ds
 abbrev pub FitTogether : List Fields → Type 0
 FitTogether ds = (total ds ≤ max_batch) ⊎ (length ds ≡ 1)
 
--- some of the documents that one command may insert, in their order, each with its own `_id` or behind a drawn one
-pub record IsPiece (documents piece : List Fields) : Type 0 where
-  pub sent : List Fields
-  pub ids : AreWithIds documents sent
+-- some of the documents that are sent, in their order, as one command may insert them
+pub record IsPiece (sent piece : List Fields) : Type 0 where
   pub before : List Fields
   pub after : List Fields
   pub whole : sent ≡ before ++ piece ++ after
@@ -53,49 +50,48 @@ pub record IsPiece (documents piece : List Fields) : Type 0 where
   pub few : length piece ≤ max_documents
   pub together : FitTogether piece
 
--- why an insert of these documents fails
-pub data InsertFails (past : Past) (at : Space) (documents : List Fields) (e : Error) : Type 0 where
+-- why an insert that sends these documents fails
+pub data InsertFails (past : Past) (at : Space) (sent : List Fields) (e : Error) : Type 0 where
   -- memory ran out
-  no_memory : e.kind ≡ kind.OutOfMemory → InsertFails past at documents e
+  no_memory : e.kind ≡ kind.OutOfMemory → InsertFails past at sent e
   -- one of its commands was lost
-  lost : (piece : List Fields) → IsPiece documents piece → e ≡ plain kind.Io → HeardLast past (insert_command at piece) false fault → InsertFails past at documents e
+  lost : (piece : List Fields) → IsPiece sent piece → e ≡ plain kind.Io → HeardLast past (insert_command at piece) false fault → InsertFails past at sent e
   -- the reply to it is no success
-  refused : (piece : List Fields) (bytes : List ℕ) → IsPiece documents piece → HeardLast past (insert_command at piece) false (reply bytes) → FailsByReply (doc bytes) past.wire e → InsertFails past at documents e
+  refused : (piece : List Fields) (bytes : List ℕ) → IsPiece sent piece → HeardLast past (insert_command at piece) false (reply bytes) → FailsByReply (doc bytes) past.wire e → InsertFails past at sent e
   -- the reply lists write errors, or a write concern error, or breaks its grammar
-  listed : (piece : List Fields) (bytes : List ℕ) → IsPiece documents piece → HeardLast past (insert_command at piece) false (reply bytes) → ListsAs (length piece) (fields bytes) e.kind → InsertFails past at documents e
+  listed : (piece : List Fields) (bytes : List ℕ) → IsPiece sent piece → HeardLast past (insert_command at piece) false (reply bytes) → ListsAs (length piece) (fields bytes) e.kind → InsertFails past at sent e
   -- one of the documents cannot be encoded
-  cannot_encode : (d : Fields) → IsPiece documents (d ∷ []) → CannotBeSent d e → InsertFails past at documents e
+  cannot_encode : (d : Fields) → IsPiece sent (d ∷ []) → CannotBeSent d e → InsertFails past at sent e
   -- the next command cannot be built
-  cannot_insert : (piece : List Fields) → IsPiece documents piece → CannotBeInserted piece e ⊎ CannotBeSent (insert_command at piece) e → InsertFails past at documents e
+  cannot_insert : (piece : List Fields) → IsPiece sent piece → CannotBeInserted piece e ⊎ CannotBeSent (insert_command at piece) e → InsertFails past at sent e
 
 -- the command inserts some of the documents, and how far it has come
-pub record IsSentFor (awaited : Awaited) (past : Past) (at : Space) (documents : List Fields) (c : Command) : Type 0 where
-  pub part : IsPiece documents c.insert.documents.items
+pub record IsSentFor (awaited : Awaited) (past : Past) (at : Space) (sent : List Fields) (c : Command) : Type 0 where
+  pub part : IsPiece sent c.insert.documents.items
   pub command_is : fields c.exec.command ≡ insert_command at c.insert.documents.items
   pub once : c.exec.retries ≡ false
   pub flies : Flies awaited past (insert_command at c.insert.documents.items) c.exec.stage
 
 abbrev pub InsertFlies : Awaited → Past → Space → List Fields → Option Command → Type 0
-InsertFlies awaited past at documents None = Unit {0}
-InsertFlies awaited past at documents (Some c) = IsSentFor awaited past at documents c
+InsertFlies awaited past at sent None = Unit {0}
+InsertFlies awaited past at sent (Some c) = IsSentFor awaited past at sent c
 
 -- how far an insert has come
-pub record InsertsSoFar (awaited : Awaited) (past : Past) (at : Space) (documents : List Fields) (b : Batches) (waiting : Option Command) : Type 0 where
+pub record InsertsSoFar (awaited : Awaited) (past : Past) (at : Space) (sent : List Fields) (b : Batches) (waiting : Option Command) : Type 0 where
   pub at_is : space b.ns.now ≡ at
-  pub documents_are : b.documents.now ≡ documents
-  pub drawn : AreDrawn documents b.drawn.items
-  pub flies : InsertFlies awaited past at documents waiting
+  pub sent_is : sent_of b.drawn.items b.documents.now ≡ sent
+  pub flies : InsertFlies awaited past at sent waiting
 
 -- what a poll of an insert comes to
 abbrev pub InsertCame : Awaited → Past → Space → List Fields → Step Inserting ℕ → Type 0
-InsertCame awaited past at documents (step.Pending i) = InsertsSoFar awaited past at documents i.batches i.command
-InsertCame awaited past at documents (step.Done n) = Unit {0}
-InsertCame awaited past at documents (step.Failed e) = InsertFails past at documents e
+InsertCame awaited past at sent (step.Pending i) = InsertsSoFar awaited past at sent i.batches i.command
+InsertCame awaited past at sent (step.Done n) = Unit {0}
+InsertCame awaited past at sent (step.Failed e) = InsertFails past at sent e
 
 -- A poll led an insert on that had sent at these places before.
 abbrev pub InsertCaused : Awaited → Awaited → Told → Told → ℤ → Inserting → Step Inserting ℕ → Type 0
-InsertCaused old new log log' wire i result = (calls : List Call) → log ≡ Some calls → (places : List ℕ) (at : Space) (documents : List Fields) → InsertsSoFar old (past_of places (length calls) calls wire) at documents i.batches i.command
-    → (calls' : List Call) × (log' ≡ Some calls') × InsertCame new (past_of places (length calls) calls' wire) at documents result
+InsertCaused old new log log' wire i result = (calls : List Call) → log ≡ Some calls → (places : List ℕ) (at : Space) (sent : List Fields) → InsertsSoFar old (past_of places (length calls) calls wire) at sent i.batches i.command
+    → (calls' : List Call) × (log' ≡ Some calls') × InsertCame new (past_of places (length calls) calls' wire) at sent result
 
 -- ---- steps
 
@@ -129,25 +125,25 @@ pub record IsBuilt (b : Batches) (upto : ℕ) (c : Command) : Type 0 where
   pub stage_is : c.exec.stage ≡ unsent
 
 abbrev pub NextGoes : Awaited → Past → Space → List Fields → Batches → Next → Type 0
-NextGoes awaited past at documents b (next.Send c) = InsertsSoFar awaited past at documents b (Some c)
-NextGoes awaited past at documents b next.Finished = Unit {0}
-NextGoes awaited past at documents b (next.Stopped e) = InsertFails past at documents e
+NextGoes awaited past at sent b (next.Send c) = InsertsSoFar awaited past at sent b (Some c)
+NextGoes awaited past at sent b next.Finished = Unit {0}
+NextGoes awaited past at sent b (next.Stopped e) = InsertFails past at sent e
 
 -- where an insert had come so far, this is sent next
 abbrev pub NextCaused : Batches → Batches → Option Command → Next → Type 0
-NextCaused b b' waiting result = (awaited : Awaited) (past : Past) (at : Space) (documents : List Fields) → InsertsSoFar awaited past at documents b waiting → NextGoes awaited past at documents b' result
+NextCaused b b' waiting result = (awaited : Awaited) (past : Past) (at : Space) (sent : List Fields) → InsertsSoFar awaited past at sent b waiting → NextGoes awaited past at sent b' result
 
 abbrev pub HeardCame : Awaited → Past → Space → List Fields → Heard → Type 0
-HeardCame awaited past at documents (heard.Pending c) = IsSentFor awaited past at documents c
-HeardCame awaited past at documents heard.Inserted = Unit {0}
-HeardCame awaited past at documents (heard.Failed e) = InsertFails past at documents e
+HeardCame awaited past at sent (heard.Pending c) = IsSentFor awaited past at sent c
+HeardCame awaited past at sent heard.Inserted = Unit {0}
+HeardCame awaited past at sent (heard.Failed e) = InsertFails past at sent e
 
 -- where the log is told, a poll of a command comes to this
 abbrev pub HearsCaused : Awaited → Awaited → Told → Told → ℤ → Command → Heard → Type 0
-HearsCaused old new log log' wire c result = (calls : List Call) → log ≡ Some calls → (places : List ℕ) (since : ℕ) → since ≤ length calls → (at : Space) (documents : List Fields) → IsSentFor old (past_of places since calls wire) at documents c
-    → (calls' : List Call) × (log' ≡ Some calls') × (since ≤ length calls') × HeardCame new (past_of places since calls' wire) at documents result
+HearsCaused old new log log' wire c result = (calls : List Call) → log ≡ Some calls → (places : List ℕ) (since : ℕ) → since ≤ length calls → (at : Space) (sent : List Fields) → IsSentFor old (past_of places since calls wire) at sent c
+    → (calls' : List Call) × (log' ≡ Some calls') × (since ≤ length calls') × HeardCame new (past_of places since calls' wire) at sent result
 
 -- where the log is told, an insert has come from one state to these batches and this command
 abbrev pub LeadsCaused : Awaited → Awaited → Told → Told → ℤ → Inserting → Batches → Option Command → Type 0
-LeadsCaused old new log log' wire i b waiting = (calls : List Call) → log ≡ Some calls → (places : List ℕ) (at : Space) (documents : List Fields) → InsertsSoFar old (past_of places (length calls) calls wire) at documents i.batches i.command
-    → (calls' : List Call) × (log' ≡ Some calls') × (length calls ≤ length calls') × InsertsSoFar new (past_of places (length calls) calls' wire) at documents b waiting
+LeadsCaused old new log log' wire i b waiting = (calls : List Call) → log ≡ Some calls → (places : List ℕ) (at : Space) (sent : List Fields) → InsertsSoFar old (past_of places (length calls) calls wire) at sent i.batches i.command
+    → (calls' : List Call) × (log' ≡ Some calls') × (length calls ≤ length calls') × InsertsSoFar new (past_of places (length calls) calls' wire) at sent b waiting

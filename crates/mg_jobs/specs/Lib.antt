@@ -20,3 +20,4 @@ pub mod Causes
 pub mod Telling
 pub mod Completing
 pub mod InsertCauses
+pub mod Drawing

@@ -37,9 +37,15 @@ end_of inserts.Unsent = ended.Unfinished
 end_of (inserts.Goes inserting) = ended.Unfinished
 end_of (inserts.Ended e) = e
 
--- the two insert the same documents into the same collection
+-- an insert that drew its ids
+abbrev pub HasIds : InsertStage → Type 0
+HasIds inserts.Unsent = ⊥
+HasIds (inserts.Goes inserting) = Unit {0}
+HasIds (inserts.Ended ended) = Unit {0}
+
+-- the two insert the same documents into the same collection, and ids that were drawn stay so
 abbrev pub IsSameInsert : InsertPlayer → InsertPlayer → Type 0
-IsSameInsert job job' = (job'.ns ≡ job.ns) × (job'.documents ≡ job.documents)
+IsSameInsert job job' = (job'.ns ≡ job.ns) × (job'.documents ≡ job.documents) × (HasIds job.stage → HasIds job'.stage)
 
 -- the ticket that a follow holds
 abbrev pub stage_ticket : Stage → Option ℕ

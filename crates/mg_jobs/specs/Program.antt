@@ -5,12 +5,15 @@ use Rattle.std.specs.Str.{bytes_eq}
 use Rattle.std.specs.Io.KnownBytes.{Consumes, Appends}
 use Rattle.mg_link.specs.Causes.{Rose}
 use Rattle.mg_link.specs.Ends.{ReadWhole, TookFront, longest}
+use Rattle.mg_link.specs.Ids.{counted_id}
+use Rattle.mg_link.specs.History.{IsLegal}
 use Rattle.mg_link.specs.Kept.{IsByRules, steps_of}
 use Rattle.mg_link.specs.Log.{Call}
 use Rattle.mg_link.specs.Owner.{NamesItsOwn}
 use Rattle.mg_link.specs.Standing.{Stands}
 use Rattle.mg_jobs.specs.Causes.{OutcomeCaused, course}
 use Rattle.mg_jobs.specs.Counts.{AreNoted}
+use Rattle.mg_jobs.specs.Drawing.{as_sent}
 use Rattle.mg_jobs.specs.Progress.{AllPlayed}
 use Rattle.mg_jobs.specs.Headline.{OutcomeFollowed}
 use Rattle.mg_script.specs.Plan.{Plan, Task, plan, tasks}
@@ -24,6 +27,7 @@ use Rattle.mg_script.specs.Places.{place_text}
 use Rattle.mg_script.specs.Text.{line, text_of}
 use Rattle.mg_script.specs.declared.fault.Place.{Place}
 use Rattle.mg_script.specs.declared.outcome.Run.{Run}
+use Rattle.mg_script.specs.declared.script.Script.{Script}
 use Rattle.mg_jobs.specs.declared.program.Ending.{Ending}
 use Rattle.mg_jobs.specs.declared.program.Ending.TheVariants as endings
 
@@ -65,21 +69,27 @@ ReadMissing old new n = (script : Plan) × ReadScript old new script × LacksJob
 
 -- ---- what came of the words and the input
 
--- What the jobs of a run over one link came to: in every legal history in which the link's log stands each follow answered consecutive entries,
--- the log names its own cursors only, each answer of a follow has its cause among the commands of its own turns, the log stands in the history of
--- the run's own store, whose steps are by the rules, and each of its calls is as the fate of its number in the script says. There is one outcome for
--- each job and one true note for each turn, by which it follows how far each job came; in the turns that pended the polls of the calls did, just as often
--- as their fates say.
+-- the ids that a script's inserts draw: the bytes that it names, a byte 0, and eight bytes that count up
+abbrev pub script_ids : Script → ℕ → List ℕ
+script_ids script n = counted_id (script.ids ++ 0 ∷ []) n
+
+-- What the jobs of a run over one link came to. The link's log stands in the history of the run's own store, which is legal and whose steps are by the
+-- rules; each of its calls is as the fate of its number in the script says, and the log names its own cursors only. In every legal history in which the
+-- log stands each follow answered consecutive entries from its own opening place on; each answer of a follow has its cause among the commands of its own
+-- turns; each insert sends its documents with the script's next ids. There is one outcome for each job and one true note for each turn, by which it follows
+-- how far each job came; in the turns that pended the polls of the calls did, just as often as their fates say.
 pub record RunFollowed (run : Run) : Type 0 where
   pub calls : List Call
   pub log_is : run.logs.items ≡ calls ∷ []
   pub by_rules : IsByRules run.store.history
+  pub legal : IsLegal (steps_of run.store.history)
   pub stands : Stands calls (steps_of run.store.history)
-  pub followed : (i : ℕ) (t : Task) (r : Outcome) → slice_get (tasks run.script.jobs.items) i ≡ Some t → slice_get run.outcomes.items i ≡ Some r → OutcomeFollowed calls t r
-  pub own : NamesItsOwn calls
   pub turns : Vec Turned Global
   pub turns_are : run.turns.items ≡ turns ∷ []
-  pub caused : (i : ℕ) (t : Task) (r : Outcome) → slice_get (tasks run.script.jobs.items) i ≡ Some t → slice_get run.outcomes.items i ≡ Some r → OutcomeCaused (course [] run.script.order.items turns.items) i calls run.script.wire t r
+  pub followed : (i : ℕ) (t : Task) (r : Outcome) → slice_get (tasks run.script.jobs.items) i ≡ Some t → slice_get run.outcomes.items i ≡ Some r → OutcomeFollowed (course [] run.script.order.items turns.items) i calls t r
+  pub own : NamesItsOwn calls
+  pub caused : (i : ℕ) (t : Task) (r : Outcome) → slice_get (tasks run.script.jobs.items) i ≡ Some t → slice_get run.outcomes.items i ≡ Some r
+      → OutcomeCaused (course [] run.script.order.items turns.items) i calls run.script.wire (as_sent (script_ids run.script) (tasks run.script.jobs.items) run.script.order.items i t) r
   pub fates : List Fate
   pub fates_are : plans.fates fates ≡ plans.fates run.script.fates.items
   pub pended : List ℕ

@@ -3,9 +3,11 @@ use Rattle.std.specs.Prelude.{◌≡◌, ℕ, ℤ, Bool, true, false, Option, So
 use Rattle.mg_link.specs.Acts.{IsOut, Tickets}
 use Rattle.mg_link.specs.Link.{Awaited, Told}
 use Rattle.mg_jobs.specs.Counts.{Counted}
+use Rattle.mg_jobs.specs.Follows.{Placing}
 use Rattle.mg_jobs.specs.Headline.{IsSameTask, Turns}
 use Rattle.mg_jobs.specs.Playing.{HasRoom, IsSameFollow, StageHolds, follow_ended, insert_ended, player_ticket, stage_ticket}
-use Rattle.mg_jobs.specs.Telling.{JobTells}
+use Rattle.mg_jobs.specs.Drawing.{AreLater, JobHasIds, turn_draws}
+use Rattle.mg_jobs.specs.Telling.{FirstTells, JobTells}
 use Rattle.mg_script.specs.declared.outcome.Turned.{Turned}
 use Rattle.mg_jobs.specs.declared.player.FollowPlayer.{FollowPlayer}
 use Rattle.mg_jobs.specs.declared.run.Player.{Player}
@@ -60,9 +62,16 @@ pub record CanGo (awaited : Awaited) (wire : ℤ) (p : Player) : Type 0 where
 pub record Goes (old new : Awaited) (log log' : Told) (wire : ℤ) (p p' : Player) : Type 0 where
   pub tickets : Tickets old new (job_ticket p) (job_ticket p')
   pub holds : JobHolds wire p'
-  pub turned : Turns old new log log' p p'
-  pub told : JobTells old new log log' wire p p'
+  pub next : Placing
+  pub turned : Turns old new log log' p p' next
+  pub told : JobTells old new log log' wire p p' next
   pub task : IsSameTask p p'
+
+-- A turn drew what its job needed from a source that gave these ids, and an insert that had its first turn tells what it sends with them.
+pub record Draws (ids later : ℕ → List ℕ) (new : Awaited) (log log' : Told) (wire : ℤ) (p p' : Player) : Type 0 where
+  pub drawn : AreLater ids (turn_draws p) later
+  pub has : JobHasIds p'
+  pub first : FirstTells ids new log log' wire p p'
 
 -- the note is true of the turn
 abbrev pub IsNoted : Turned → (old new : Told) → (before now : ℕ) → (prompts prompts' : Type 0) → Type 0

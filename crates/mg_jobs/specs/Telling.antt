@@ -1,5 +1,5 @@
 -- What a job can tell, turn by turn, of what its answers are caused by.
-use Rattle.std.specs.Prelude.{◌≡◌, ◌↔◌, ◌⊎◌, ◌+◌, ◌<◌, ◌≤◌, IsTrue, Bool, false, ℕ, suc, ℤ, pos, List, [], length, Option, Some, slice_get}
+use Rattle.std.specs.Prelude.{◌≡◌, ◌↔◌, ◌⊎◌, ◌+◌, ◌<◌, ◌≤◌, IsTrue, Bool, true, false, ℕ, suc, ℤ, pos, List, [], length, Option, Some, slice_get}
 use Rattle.std.specs.List.{sum_by}
 use Rattle.mg_bson.specs.Tree.{Fields, Tree}
 use Rattle.mg_link.specs.Link.{Awaited, Told}
@@ -18,9 +18,11 @@ use Rattle.mg_change.specs.Following.{token_of}
 use Rattle.mg_change.specs.Openings.{IsOpening}
 use Rattle.mg_change.specs.declared.stream.ChangeStream.{ChangeStream}
 use Rattle.mg_jobs.specs.Causes.{Answered, ClosedBy, Course, EndsBy, IsAlive, AllSentIn, course, sent_at}
-use Rattle.mg_jobs.specs.Follows.{HasGiven, IsArgsFor, filter_in}
+use Rattle.mg_jobs.specs.Follows.{FollowTurns, HasGiven, IsArgsFor, Placing, filter_in}
+use Rattle.mg_jobs.specs.Headline.{AllKnow}
 use Rattle.mg_jobs.specs.InsertCauses.{InsertsSoFar}
 use Rattle.mg_script.specs.Plan.{Task, begin}
+use Rattle.mg_jobs.specs.Drawing.{first_id, has_turn, with_ids}
 use Rattle.mg_jobs.specs.Playing.{IsSameInsert}
 use Rattle.mg_jobs.specs.Underway.{HasInserted}
 use Rattle.mg_script.specs.declared.outcome.Answer.{Answer}
@@ -63,17 +65,18 @@ abbrev pub TellsFirst : Places → Kept → Type 0
 TellsFirst q k = (q.owns ≡ []) × (k.said ≡ [])
 
 -- its stream was opened, and each call was answered with its cause
-pub record TellsOpen (calls : List Call) (wire : ℤ) (places : List ℕ) (owns : List (List ℕ)) (v : Watched) (o : Ended (Unit {0})) (said : List Answer) (alive : Bool) (last : Standing) : Type 0 where
+pub record TellsOpen (calls : List Call) (wire : ℤ) (places : List ℕ) (owns : List (List ℕ)) (v : Watched) (o : Ended (Unit {0})) (said : List Answer) (alive : Bool) (last : Standing) (at : Option ℕ) : Type 0 where
   pub given : HasGiven o
   pub args : WatchArgs
   pub args_are : IsWatchArgs v args
   pub first : Standing
   pub opened : Opened (sent_at places calls wire) args first
+  pub here : at ≡ Some opened.heard.place
   pub answered : Answered calls wire first owns said last
   pub alive_is : IsTrue alive ↔ IsAlive last
 
-abbrev pub IsOpened : List Call → ℤ → Places → Kept → Standing → Type 0
-IsOpened calls wire q k last = TellsOpen calls wire q.opened q.owns k.watched k.opened k.said k.alive last
+abbrev pub IsOpened : List Call → ℤ → Places → Kept → Standing → Option ℕ → Type 0
+IsOpened calls wire q k last at = TellsOpen calls wire q.opened q.owns k.watched k.opened k.said k.alive last at
 
 -- its opening failed
 pub record TellsFailed (calls : List Call) (wire : ℤ) (places : List ℕ) (v : Watched) (e : Error) : Type 0 where
@@ -82,18 +85,18 @@ pub record TellsFailed (calls : List Call) (wire : ℤ) (places : List ℕ) (v :
   pub fails : OpeningFails (sent_at places calls wire) args e
 
 -- how it ended
-abbrev pub TellsEnd : {A : Type 0} → List Call → ℤ → Places → Kept → Ended A → Type 0
-TellsEnd calls wire q k ended.Unfinished = Unit {0}
-TellsEnd calls wire q k (ended.Gave x) = (last : Standing) × IsOpened calls wire q k last × (k.token ≡ token_of last.aggregate.resume) × ClosedBy (sent_at q.now calls wire) last k.closed
-TellsEnd calls wire q k (ended.Failed e) = (e.kind ≡ kind.OutOfMemory) ⊎ TellsFailed calls wire q.opened k.watched e
+abbrev pub TellsEnd : {A : Type 0} → List Call → ℤ → Places → Kept → Option ℕ → Ended A → Type 0
+TellsEnd calls wire q k at ended.Unfinished = Unit {0}
+TellsEnd calls wire q k at (ended.Gave x) = (last : Standing) × IsOpened calls wire q k last at × (k.token ≡ token_of last.aggregate.resume) × ClosedBy (sent_at q.now calls wire) last k.closed
+TellsEnd calls wire q k at (ended.Failed e) = (e.kind ≡ kind.OutOfMemory) ⊎ TellsFailed calls wire q.opened k.watched e
 
--- what it can tell at each stage
-abbrev pub Tells : Awaited → List Call → ℤ → Places → Stage → Kept → Type 0
-Tells awaited calls wire q stage.Unopened k = TellsFirst q k × (q.now ≡ [])
-Tells awaited calls wire q (stage.Opens opening) k = TellsFirst q k × IsWatchArgs k.watched opening.aggregate.args × IsOpening opening.aggregate opening.exec × OpensSoFar awaited (sent_at q.now calls wire) opening.aggregate.args opening.exec
-Tells awaited calls wire q (stage.Open stream) k = (last : Standing) × IsOpened calls wire q k last × SoFar awaited (sent_at q.now calls wire) last false stream.phase stream
-Tells awaited calls wire q (stage.Closes closing) k = (last : Standing) × IsOpened calls wire q k last × (k.token ≡ token_of last.aggregate.resume) × (closing.remains.cursor ≡ last.cursor) × (closing.remains.opened ≡ pos 0) × KillsSoFar awaited (sent_at q.now calls wire) last.cursor (pos 0) closing.flight
-Tells awaited calls wire q stage.Ended k = TellsEnd calls wire q k k.opened
+-- what it can tell at each stage, where the call at this place opened its stream
+abbrev pub Tells : Awaited → List Call → ℤ → Places → Stage → Kept → Option ℕ → Type 0
+Tells awaited calls wire q stage.Unopened k at = TellsFirst q k × (q.now ≡ [])
+Tells awaited calls wire q (stage.Opens opening) k at = TellsFirst q k × IsWatchArgs k.watched opening.aggregate.args × IsOpening opening.aggregate opening.exec × OpensSoFar awaited (sent_at q.now calls wire) opening.aggregate.args opening.exec
+Tells awaited calls wire q (stage.Open stream) k at = (last : Standing) × IsOpened calls wire q k last at × SoFar awaited (sent_at q.now calls wire) last false stream.phase stream
+Tells awaited calls wire q (stage.Closes closing) k at = (last : Standing) × IsOpened calls wire q k last at × (k.token ≡ token_of last.aggregate.resume) × (closing.remains.cursor ≡ last.cursor) × (closing.remains.opened ≡ pos 0) × KillsSoFar awaited (sent_at q.now calls wire) last.cursor (pos 0) closing.flight
+Tells awaited calls wire q stage.Ended k at = TellsEnd calls wire q k at k.opened
 
 -- the number of what goes on: how many turns that did not pend come before it
 abbrev pub number : Stage → Kept → ℕ
@@ -116,36 +119,48 @@ pub record Extends (q q' : Places) (n n' : ℕ) (from upto : ℕ) : Type 0 where
   pub now : (place : ℕ) → IsOf q'.now place → (n' ≡ n) × IsNow q from upto place
 
 -- what a follow tells that told this before, and has sent from this place on
-pub record Tell (awaited : Awaited) (calls : List Call) (wire : ℤ) (q : Places) (n from : ℕ) (s : Stage) (k : Kept) : Type 0 where
+pub record Tell (awaited : Awaited) (calls : List Call) (wire : ℤ) (q : Places) (n from : ℕ) (s : Stage) (k : Kept) (at : Option ℕ) : Type 0 where
   pub longer : from ≤ length calls
   pub places : Places
-  pub tells : Tells awaited calls wire places s k
+  pub tells : Tells awaited calls wire places s k at
   pub extends : Extends q places n (number s k) from (length calls)
 
 -- A turn, or a part of one, led a follow from one stage to another: it goes on telling.
-abbrev pub FollowTells : Awaited → Awaited → Told → Told → ℤ → Stage → Kept → Stage → Kept → Type 0
-FollowTells old new log log' wire s k s' k' = (calls calls' : List Call) → log ≡ Some calls → log' ≡ Some calls' → (q : Places) → Tells old calls wire q s k → Tell new calls' wire q (number s k) (length calls) s' k'
+abbrev pub FollowTells : Awaited → Awaited → Told → Told → ℤ → Stage → Kept → Stage → Kept → Placing → Type 0
+FollowTells old new log log' wire s k s' k' next = (calls calls' : List Call) → log ≡ Some calls → log' ≡ Some calls' → (q : Places) (at : Option ℕ) → Tells old calls wire q s k at → Tell new calls' wire q (number s k) (length calls) s' k' (next at)
 
 -- The same of the rest of a turn, behind the opening or behind an answered call.
 abbrev pub RestTells : Awaited → Told → Told → ℤ → ChangeStream → Kept → Stage → Kept → Type 0
-RestTells new log log' wire stream k s' k' = (calls calls' : List Call) → log ≡ Some calls → log' ≡ Some calls' → (q : Places) → q.now ≡ [] → IsOpened calls wire q k (standing_of stream) → Tell new calls' wire q (length k.said) (length calls) s' k'
+RestTells new log log' wire stream k s' k' = (calls calls' : List Call) → log ≡ Some calls → log' ≡ Some calls' → (q : Places) (at : Option ℕ) → q.now ≡ [] → IsOpened calls wire q k (standing_of stream) at → Tell new calls' wire q (length k.said) (length calls) s' k' at
+
+-- A follow took a turn: it knows and tells that the same call opened its stream.
+pub record FollowGoesOn (old new : Awaited) (log log' : Told) (wire : ℤ) (s : Stage) (p : FollowPlayer) (s' : Stage) (p' : FollowPlayer) : Type 0 where
+  pub next : Placing
+  pub turned : FollowTurns old new log log' s p s' p' next
+  pub told : FollowTells old new log log' wire s (kept p) s' (kept p') next
 
 -- ---- inserts
 
--- what an insert of these documents can tell at each stage
+-- what an insert that drew its ids, and sends these documents, can tell at each stage
 abbrev pub InsertTells : Awaited → Past → Space → List Fields → InsertStage → Type 0
-InsertTells awaited past at documents inserts.Unsent = Unit {0}
-InsertTells awaited past at documents (inserts.Goes i) = InsertsSoFar awaited past at documents i.batches i.command × (IsNamed at → HasInserted awaited past at documents i)
-InsertTells awaited past at documents (inserts.Ended end) = EndsBy past at documents end
+InsertTells awaited past at sent inserts.Unsent = ⊥
+InsertTells awaited past at sent (inserts.Goes i) = InsertsSoFar awaited past at sent i.batches i.command × (IsNamed at → HasInserted awaited past at sent i)
+InsertTells awaited past at sent (inserts.Ended end) = EndsBy past at sent end
+
+-- A turn led an insert of these documents to a stage: it tells what it should, at whatever places it had sent before.
+abbrev pub InsertBegins : Awaited → Told → Told → ℤ → Space → List Fields → InsertStage → Type 0
+InsertBegins new log log' wire at sent stage' = (calls calls' : List Call) → log ≡ Some calls → log' ≡ Some calls' → (places : List ℕ) → InsertTells new (past_of places (length calls) calls' wire) at sent stage'
 
 -- A turn led an insert of these documents, which had sent at some places before, from one stage to another: it goes on telling.
 abbrev pub InsertTurns : Awaited → Awaited → Told → Told → ℤ → Space → List Fields → InsertStage → InsertStage → Type 0
-InsertTurns old new log log' wire at documents stage stage' = (calls calls' : List Call) → log ≡ Some calls → log' ≡ Some calls' → (places : List ℕ)
-    → InsertTells old (sent_at places calls wire) at documents stage → InsertTells new (past_of places (length calls) calls' wire) at documents stage'
+InsertTurns old new log log' wire at sent stage stage' = (calls calls' : List Call) → log ≡ Some calls → log' ≡ Some calls' → (places : List ℕ)
+    → InsertTells old (sent_at places calls wire) at sent stage → InsertTells new (past_of places (length calls) calls' wire) at sent stage'
 
--- what an insert of these documents tells at one stage, it tells at another
-abbrev pub TellsOn : Space → List Fields → InsertStage → InsertStage → Type 0
-TellsOn at documents stage stage' = (awaited : Awaited) (past : Past) → InsertTells awaited past at documents stage → InsertTells awaited past at documents stage'
+-- An insert that had no ids drew them from a source that gave these, and tells what it should; any other is as it was.
+abbrev pub TellsOn : (ℕ → List ℕ) → Space → List Fields → InsertStage → InsertStage → Type 0
+TellsOn ids at documents inserts.Unsent stage' = (awaited : Awaited) (past : Past) → InsertTells awaited past at (with_ids ids 0 documents) stage'
+TellsOn ids at documents (inserts.Goes i) stage' = stage' ≡ inserts.Goes i
+TellsOn ids at documents (inserts.Ended end) stage' = stage' ≡ inserts.Ended end
 
 -- ---- all jobs
 
@@ -163,54 +178,61 @@ TellsNothing player.Put = Unit {0}
 TellsNothing player.Get = Unit {0}
 
 -- A turn led a job from one state to another: it goes on telling.
-abbrev pub JobTells : Awaited → Awaited → Told → Told → ℤ → Player → Player → Type 0
-JobTells old new log log' wire (player.Follow job) (player.Follow job') = FollowTells old new log log' wire job.stage (kept job) job'.stage (kept job')
-JobTells old new log log' wire (player.Follow job) (player.Insert job') = ⊥
-JobTells old new log log' wire (player.Follow job) player.Put = ⊥
-JobTells old new log log' wire (player.Follow job) player.Get = ⊥
-JobTells old new log log' wire (player.Insert job) (player.Insert job') = IsSameInsert job job' × InsertTurns old new log log' wire (space job.ns.now) job.documents.now job.stage job'.stage
-JobTells old new log log' wire (player.Insert job) (player.Follow job') = ⊥
-JobTells old new log log' wire (player.Insert job) player.Put = ⊥
-JobTells old new log log' wire (player.Insert job) player.Get = ⊥
-JobTells old new log log' wire player.Put p' = TellsNothing p'
-JobTells old new log log' wire player.Get p' = TellsNothing p'
+abbrev pub JobTells : Awaited → Awaited → Told → Told → ℤ → Player → Player → Placing → Type 0
+JobTells old new log log' wire (player.Follow job) (player.Follow job') next = FollowTells old new log log' wire job.stage (kept job) job'.stage (kept job') next
+JobTells old new log log' wire (player.Follow job) (player.Insert job') next = ⊥
+JobTells old new log log' wire (player.Follow job) player.Put next = ⊥
+JobTells old new log log' wire (player.Follow job) player.Get next = ⊥
+JobTells old new log log' wire (player.Insert job) (player.Insert job') next = IsSameInsert job job' × ((sent : List Fields) → InsertTurns old new log log' wire (space job.ns.now) sent job.stage job'.stage)
+JobTells old new log log' wire (player.Insert job) (player.Follow job') next = ⊥
+JobTells old new log log' wire (player.Insert job) player.Put next = ⊥
+JobTells old new log log' wire (player.Insert job) player.Get next = ⊥
+JobTells old new log log' wire player.Put p' next = TellsNothing p'
+JobTells old new log log' wire player.Get p' next = TellsNothing p'
 
--- the two tell the same
-abbrev pub IsSameTeller : Player → Player → Type 0
-IsSameTeller (player.Follow job) (player.Follow job') = (job'.stage ≡ job.stage) × (kept job' ≡ kept job)
-IsSameTeller (player.Follow job) (player.Insert job') = ⊥
-IsSameTeller (player.Follow job) player.Put = ⊥
-IsSameTeller (player.Follow job) player.Get = ⊥
-IsSameTeller (player.Insert job) (player.Insert job') = IsSameInsert job job' × TellsOn (space job.ns.now) job.documents.now job.stage job'.stage
-IsSameTeller (player.Insert job) (player.Follow job') = ⊥
-IsSameTeller (player.Insert job) player.Put = ⊥
-IsSameTeller (player.Insert job) player.Get = ⊥
-IsSameTeller player.Put p' = TellsNothing p'
-IsSameTeller player.Get p' = TellsNothing p'
+-- The first turn of an insert, which drew its ids from a source that gave these, led it to another state: it tells what it should.
+abbrev pub FirstTells : (ℕ → List ℕ) → Awaited → Told → Told → ℤ → Player → Player → Type 0
+FirstTells ids new log log' wire (player.Insert job) p' = (job' : InsertPlayer) → p' ≡ player.Insert job' → job.stage ≡ inserts.Unsent → InsertBegins new log log' wire (space job.ns.now) (with_ids ids 0 job.documents.now) job'.stage
+FirstTells ids new log log' wire (player.Follow job) p' = Unit {0}
+FirstTells ids new log log' wire player.Put p' = Unit {0}
+FirstTells ids new log log' wire player.Get p' = Unit {0}
+
+-- the two tell the same, but for an insert that drew its ids from a source that gave these
+abbrev pub IsSameTeller : (ℕ → List ℕ) → Player → Player → Type 0
+IsSameTeller ids (player.Follow job) (player.Follow job') = (job'.stage ≡ job.stage) × (kept job' ≡ kept job)
+IsSameTeller ids (player.Follow job) (player.Insert job') = ⊥
+IsSameTeller ids (player.Follow job) player.Put = ⊥
+IsSameTeller ids (player.Follow job) player.Get = ⊥
+IsSameTeller ids (player.Insert job) (player.Insert job') = IsSameInsert job job' × TellsOn ids (space job.ns.now) job.documents.now job.stage job'.stage
+IsSameTeller ids (player.Insert job) (player.Follow job') = ⊥
+IsSameTeller ids (player.Insert job) player.Put = ⊥
+IsSameTeller ids (player.Insert job) player.Get = ⊥
+IsSameTeller ids player.Put p' = TellsNothing p'
+IsSameTeller ids player.Get p' = TellsNothing p'
 
 -- a follow tells what it should, and each of its commands stands in a turn of it
-pub record FollowTold (awaited : Awaited) (calls : List Call) (wire : ℤ) (c : Course) (i : ℕ) (s : Stage) (k : Kept) : Type 0 where
+pub record FollowTold (awaited : Awaited) (calls : List Call) (wire : ℤ) (c : Course) (i : ℕ) (s : Stage) (k : Kept) (at : Option ℕ) : Type 0 where
   pub places : Places
-  pub tells : Tells awaited calls wire places s k
+  pub tells : Tells awaited calls wire places s k at
   pub sent : AllSent c i places (number s k)
 
--- so does an insert
-pub record InsertTold (awaited : Awaited) (calls : List Call) (wire : ℤ) (c : Course) (i : ℕ) (job : InsertPlayer) : Type 0 where
+-- so does an insert once it had a turn, which sends its documents with the ids from the one of this number on
+pub record InsertTold (ids : ℕ → List ℕ) (first : ℕ) (awaited : Awaited) (calls : List Call) (wire : ℤ) (c : Course) (i : ℕ) (job : InsertPlayer) : Type 0 where
   pub places : List ℕ
   pub sent : AllSentIn c i 0 places
-  pub tells : InsertTells awaited (sent_at places calls wire) (space job.ns.now) job.documents.now job.stage
+  pub tells : has_turn i c.order ≡ true → InsertTells awaited (sent_at places calls wire) (space job.ns.now) (with_ids ids first job.documents.now) job.stage
 
-abbrev pub JobTold : Awaited → List Call → ℤ → Course → ℕ → Player → Type 0
-JobTold awaited calls wire c i (player.Follow job) = FollowTold awaited calls wire c i job.stage (kept job)
-JobTold awaited calls wire c i (player.Insert job) = InsertTold awaited calls wire c i job
-JobTold awaited calls wire c i player.Put = Unit {0}
-JobTold awaited calls wire c i player.Get = Unit {0}
+abbrev pub JobTold : (ℕ → List ℕ) → ℕ → Awaited → List Call → ℤ → Course → ℕ → Player → Option ℕ → Type 0
+JobTold ids first awaited calls wire c i (player.Follow job) at = FollowTold awaited calls wire c i job.stage (kept job) at
+JobTold ids first awaited calls wire c i (player.Insert job) at = InsertTold ids first awaited calls wire c i job
+JobTold ids first awaited calls wire c i player.Put at = Unit {0}
+JobTold ids first awaited calls wire c i player.Get at = Unit {0}
 
--- each job that has a task tells what it should, and the notes count what was sent
-pub record AllTold (awaited : Awaited) (calls : List Call) (wire : ℤ) (c : Course) (tasks : List Task) (players : List Player) : Type 0 where
+-- each job that has a task tells what it should, where these calls opened their streams, and the notes count what was sent
+pub record AllTold (ids : ℕ → List ℕ) (awaited : Awaited) (calls : List Call) (wire : ℤ) (c : Course) (tasks : List Task) (players : List Player) (places : ℕ → Option ℕ) : Type 0 where
   pub count : length calls ≡ c.begun + sum_by (λ t. t.started) c.notes
-  pub each : (i : ℕ) (t : Task) (p : Player) → slice_get tasks i ≡ Some t → slice_get players i ≡ Some p → JobTold awaited calls wire c i p
+  pub each : (i : ℕ) (t : Task) (p : Player) → slice_get tasks i ≡ Some t → slice_get players i ≡ Some p → JobTold ids (first_id tasks c.order i) awaited calls wire c i p (places i)
 
--- how a run tells that began with one log and has another
-abbrev pub AllTell : Awaited → Told → Told → ℤ → List Task → List ℕ → List Turned → List Player → Type 0
-AllTell awaited log log' wire tasks order notes players = (calls : List Call) → log ≡ Some calls → (calls' : List Call) × (log' ≡ Some calls') × AllTold awaited calls' wire (course calls order notes) tasks players
+-- how a run knows and tells that began with one log and these ids, and has another log
+abbrev pub AllTell : (ℕ → List ℕ) → Awaited → Told → Told → ℤ → List Task → List ℕ → List Turned → List Player → Type 0
+AllTell ids awaited log log' wire tasks order notes players = (calls : List Call) → log ≡ Some calls → (calls' : List Call) × (log' ≡ Some calls') × (known : AllKnow awaited calls' players) × AllTold ids awaited calls' wire (course calls order notes) tasks players known.places

@@ -1,7 +1,6 @@
 -- How far an insert has come, where the log is told.
 use Rattle.std.specs.Prelude.{◌≡◌, ◌≤◌, ◌++◌, ℕ, ℤ, true, List, [], ◌∷◌, length, take, Option, Some, None, slice_get, codes}
 use Rattle.mg_bson.specs.Tree.{object_id, Fields, field}
-use Rattle.mg_bson.specs.Find.{get}
 use Rattle.mg_bson.specs.declared.object_id.ObjectId.{ObjectId}
 use Rattle.mg_link.specs.Commands.{asked, asks_insert}
 use Rattle.mg_link.specs.Exec.{ticket_of}
@@ -27,17 +26,6 @@ use Rattle.mg_jobs.specs.declared.insert.Next.TheVariants as next
 abbrev pub with_id : Option ObjectId → Fields → Fields
 with_id None d = d
 with_id (Some id) d = field (codes "_id") (object_id id.0) d
-
--- an id is drawn just for a document that has none
-abbrev pub IsDrawn : Fields → Option ObjectId → Type 0
-IsDrawn d None = (get (codes "_id") d ≡ None) → ⊥
-IsDrawn d (Some id) = get (codes "_id") d ≡ None
-
-abbrev pub AreDrawn : List Fields → List (Option ObjectId) → Type 0
-AreDrawn [] [] = Unit {0}
-AreDrawn (d ∷ ds) (o ∷ os) = IsDrawn d o × AreDrawn ds os
-AreDrawn [] (o ∷ os) = ⊥
-AreDrawn (d ∷ ds) [] = ⊥
 
 -- what is sent for the documents with the drawn ids
 abbrev pub sent_of : List (Option ObjectId) → List Fields → List Fields
@@ -79,20 +67,18 @@ abbrev pub AreSent : Awaited → Past → Space → List Fields → Option Comma
 AreSent awaited past space sent None = InsertedBelow past (length past.calls) space sent
 AreSent awaited past space sent (Some c) = IsUnderway awaited past space sent c
 
--- the documents that stand in commands are inserted, but for those of the command that is underway
-pub record IsInserting (awaited : Awaited) (past : Past) (at : Space) (documents : List Fields) (b : Batches) (waiting : Option Command) : Type 0 where
+-- of the documents to be sent those that stand in commands are inserted, but for those of the command that is underway
+pub record IsInserting (awaited : Awaited) (past : Past) (at : Space) (sent : List Fields) (b : Batches) (waiting : Option Command) : Type 0 where
   pub at_is : space b.ns.now ≡ at
-  pub documents_are : b.documents.now ≡ documents
-  pub drawn : AreDrawn documents b.drawn.items
-  pub sent : AreSent awaited past at (take b.upto (sent_of b.drawn.items documents)) waiting
+  pub sent_is : sent_of b.drawn.items b.documents.now ≡ sent
+  pub done : AreSent awaited past at (take b.upto sent) waiting
 
 -- ---- steps
 
--- nothing of the list stands in a command
-pub record IsStarted (at : Space) (documents : List Fields) (b : Batches) : Type 0 where
+-- these documents are to be sent, and none of them stands in a command
+pub record IsStarted (at : Space) (sent : List Fields) (b : Batches) : Type 0 where
   pub at_is : space b.ns.now ≡ at
-  pub documents_are : b.documents.now ≡ documents
-  pub drawn : AreDrawn documents b.drawn.items
+  pub sent_is : sent_of b.drawn.items b.documents.now ≡ sent
   pub none : b.upto ≡ 0
 
 abbrev pub IsSameList : Batches → Batches → Type 0
@@ -104,13 +90,13 @@ IsNextOf b b' None = (b'.upto ≡ b.upto) × (length b.documents.now ≤ b.upto)
 IsNextOf b b' (Some c) = (piece : List Fields) × IsBatch b.drawn.items b.documents.now b.upto piece b'.upto × (IsNamed (space b.ns.now) → asked c.exec.command ≡ asks_insert (space b.ns.now) piece true)
 
 abbrev pub NextSends : Awaited → Past → Space → List Fields → Batches → Next → Type 0
-NextSends awaited past at documents b (next.Send c) = IsInserting awaited past at documents b (Some c)
-NextSends awaited past at documents b next.Finished = Appended past at documents (length documents) × (b.documents.now ≡ documents)
-NextSends awaited past at documents b (next.Stopped e) = Unit {0}
+NextSends awaited past at sent b (next.Send c) = IsInserting awaited past at sent b (Some c)
+NextSends awaited past at sent b next.Finished = Appended past at sent (length b.documents.now)
+NextSends awaited past at sent b (next.Stopped e) = Unit {0}
 
 -- where an insert had come so far, this is sent next
 abbrev pub SendsNext : Batches → Batches → Option Command → Next → Type 0
-SendsNext b b' waiting result = (awaited : Awaited) (past : Past) (at : Space) (documents : List Fields) → IsNamed at → IsInserting awaited past at documents b waiting → NextSends awaited past at documents b' result
+SendsNext b b' waiting result = (awaited : Awaited) (past : Past) (at : Space) (sent : List Fields) → IsNamed at → IsInserting awaited past at sent b waiting → NextSends awaited past at sent b' result
 
 abbrev pub HeardSent : Awaited → Past → Space → List Fields → Heard → Type 0
 HeardSent awaited past space sent (heard.Pending c) = IsUnderway awaited past space sent c
@@ -122,21 +108,21 @@ abbrev pub HearsSent : Awaited → Awaited → Told → Told → Command → Hea
 HearsSent old new log log' c result = (calls : List Call) → log ≡ Some calls → (places : List ℕ) (since : ℕ) (wire : ℤ) → since ≤ length calls → (space : Space) (sent : List Fields) → IsUnderway old (past_of places since calls wire) space sent c
     → (calls' : List Call) × (log' ≡ Some calls') × (since ≤ length calls') × HeardSent new (past_of places since calls' wire) space sent result
 
--- the insert of these documents has come so far
+-- the insert that sends these documents has come so far
 abbrev pub HasInserted : Awaited → Past → Space → List Fields → Inserting → Type 0
-HasInserted awaited past at documents i = IsInserting awaited past at documents i.batches i.command
+HasInserted awaited past at sent i = IsInserting awaited past at sent i.batches i.command
 
 abbrev pub StepInserts : Awaited → Past → Space → List Fields → Step Inserting ℕ → Type 0
-StepInserts awaited past at documents (step.Pending i) = HasInserted awaited past at documents i
-StepInserts awaited past at documents (step.Done n) = Appended past at documents n
-StepInserts awaited past at documents (step.Failed e) = Unit {0}
+StepInserts awaited past at sent (step.Pending i) = HasInserted awaited past at sent i
+StepInserts awaited past at sent (step.Done n) = Appended past at sent n
+StepInserts awaited past at sent (step.Failed e) = Unit {0}
 
 -- where the log is told, an insert of documents that had sent at these places before goes on so, and in the end it has appended them
 abbrev pub Inserts : Awaited → Awaited → Told → Told → Inserting → Step Inserting ℕ → Type 0
-Inserts old new log log' i result = (calls : List Call) → log ≡ Some calls → (places : List ℕ) (wire : ℤ) (at : Space) (documents : List Fields) → IsNamed at → HasInserted old (past_of places (length calls) calls wire) at documents i
-    → (calls' : List Call) × (log' ≡ Some calls') × StepInserts new (past_of places (length calls) calls' wire) at documents result
+Inserts old new log log' i result = (calls : List Call) → log ≡ Some calls → (places : List ℕ) (wire : ℤ) (at : Space) (sent : List Fields) → IsNamed at → HasInserted old (past_of places (length calls) calls wire) at sent i
+    → (calls' : List Call) × (log' ≡ Some calls') × StepInserts new (past_of places (length calls) calls' wire) at sent result
 
 -- where the log is told, an insert has come from one state to these batches and this command
 abbrev pub LeadsOn : Awaited → Awaited → Told → Told → Inserting → Batches → Option Command → Type 0
-LeadsOn old new log log' i b waiting = (calls : List Call) → log ≡ Some calls → (places : List ℕ) (wire : ℤ) (at : Space) (documents : List Fields) → IsNamed at → HasInserted old (past_of places (length calls) calls wire) at documents i
-    → (calls' : List Call) × (log' ≡ Some calls') × (length calls ≤ length calls') × IsInserting new (past_of places (length calls) calls' wire) at documents b waiting
+LeadsOn old new log log' i b waiting = (calls : List Call) → log ≡ Some calls → (places : List ℕ) (wire : ℤ) (at : Space) (sent : List Fields) → IsNamed at → HasInserted old (past_of places (length calls) calls wire) at sent i
+    → (calls' : List Call) × (log' ≡ Some calls') × (length calls ≤ length calls') × IsInserting new (past_of places (length calls) calls' wire) at sent b waiting

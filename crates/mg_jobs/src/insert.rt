@@ -12,10 +12,11 @@ ghost use Rattle.mg_ops.specs.Failing.{CannotBeSent, FailsBy};
 ghost use Rattle.mg_ops.specs.Limits.{max_documents};
 ghost use Rattle.mg_jobs.specs.InsertCauses.{CannotEncode, CannotGoOn, FitTogether, HearsCaused, InsertCaused, IsBuilt, IsLength, NextCaused};
 ghost use Rattle.mg_jobs.specs.Inserts.{HeardAtOnce, HeardLost, HeardPends, HeardPlain, HeldPlain, IsPlain, NextFewer, NextNotIo, NextPlain, NextTicket, SendsPlain, StepPlain, heard_ticket, insert_ticket, left_of};
-ghost use Rattle.mg_jobs.specs.Underway.{AreDrawn, HearsSent, Inserts, IsBatch, IsDrawn, IsNextOf, IsSameList, IsStarted, SendsNext, sent_of, with_id};
+ghost use Rattle.mg_jobs.specs.Drawing.{AreLater, lacking, lacks, sent_for, with_ids};
+ghost use Rattle.mg_jobs.specs.Underway.{HearsSent, Inserts, IsBatch, IsNextOf, IsSameList, IsStarted, SendsNext, sent_of, with_id};
 
 use mg_bson::{Bson, BsonError, Document, ObjectId, to_bytes};
-use mg_link::{Action, Error, ErrorKind, Exec, IdSource, Link, Namespace, Retry, Step};
+use mg_link::{Action, Error, ErrorKind, Exec, IdSource, Link, Namespace, Retry, Step, plain};
 use mg_ops::{Insert, Operation, encode};
 use std::alloc::Global;
 
@@ -34,7 +35,8 @@ struct Batch {
 
 /// Draws an id for a document that has none.
 fn drawn_for<I: IdSource>(ids: &mut I, document: &Document) -> Option<ObjectId>
-    ensures { IsDrawn document.now result }
+    ensures sent { with_id result document.now ≡ sent_for (I.ids ids.old 0) document.now }
+    ensures drawn { AreLater (I.ids ids.old) (lacks document.now) (I.ids ids.new) }
 {
     match document.get("_id") {
         Some(_) => None,
@@ -42,20 +44,28 @@ fn drawn_for<I: IdSource>(ids: &mut I, document: &Document) -> Option<ObjectId>
     }
 }
 
-/// Draws an id for each document that has none.
+/// Draws an id for each document that has none, in their order, also where there is no place to keep them: memory does not
+/// change which ids come next.
 fn draw<I: IdSource>(
     alloc: Global,
     ids: &mut I,
     documents: &[Document],
 ) -> Result<Vec<Option<ObjectId>>, Error>
-    ensures ok { IfOk result (λ drawn. AreDrawn documents.now drawn.items) }
+    ensures sent { IfOk result (λ drawn. sent_of drawn.items documents.now ≡ with_ids (I.ids ids.old) 0 documents.now) }
+    ensures drawn { AreLater (I.ids ids.old) (lacking documents.now) (I.ids ids.new) }
     ensures err { IfErr result (λ e. e ≡ plain kinds.OutOfMemory) }
 {
-    let mut drawn = Vec::with_capacity(alloc, documents.len())?;
+    let mut drawn = Vec::new(alloc);
+    let mut fits = true;
     for document in documents {
-        drawn.push(drawn_for(ids, document))?;
+        let id = drawn_for(ids, document);
+        fits = fits && drawn.push(id).is_ok();
     }
-    Ok(drawn)
+    if fits {
+        Ok(drawn)
+    } else {
+        Err(plain(ErrorKind::OutOfMemory))
+    }
 }
 
 /// A copy of the document, with a drawn id as its first field.
@@ -278,7 +288,7 @@ impl Drop for Inserting<'_> {
 }
 
 impl<'a> Inserting<'a> {
-    /// An insert of these documents. Their missing ids are drawn at once, and nothing is sent.
+    /// An insert of these documents. Their missing ids are drawn at once, also where memory runs out, and nothing is sent.
     pub(crate) fn start<I: IdSource>(
         alloc: Global,
         ids: &mut I,
@@ -287,7 +297,8 @@ impl<'a> Inserting<'a> {
     ) -> Result<Inserting<'a>, Error>
         ensures ticket { IfOk result (λ i. insert_ticket i ≡ None) }
         ensures unsent { IfOk result (λ i. i.command ≡ None) }
-        ensures started { IfOk result (λ i. IsStarted (space ns.now) documents.now i.batches) }
+        ensures started { IfOk result (λ i. IsStarted (space ns.now) (with_ids (I.ids ids.old) 0 documents.now) i.batches) }
+        ensures drawn { AreLater (I.ids ids.old) (lacking documents.now) (I.ids ids.new) }
         ensures err { IfErr result (λ e. e ≡ plain kinds.OutOfMemory) }
     {
         let drawn = draw(alloc, ids, documents)?;

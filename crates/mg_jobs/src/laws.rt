@@ -1,7 +1,8 @@
 //! What holds of the definitions.
-ghost use Rattle.std.specs.Prelude.{◌≡◌, ◌++◌, ℕ, ℤ, suc, pos, List, Option, Some, length, take};
+ghost use Rattle.std.specs.Prelude.{◌≡◌, ◌++◌, ◌∷◌, [], ℕ, ℤ, suc, pos, List, Option, Some, length, take};
 ghost use Rattle.mg_bson.specs.Tree.{Fields};
 ghost use Rattle.mg_link.specs.History.{IsLegal, Step, state_of};
+ghost use Rattle.mg_link.specs.Ids.{counted_id};
 ghost use Rattle.mg_link.specs.Log.{Call};
 ghost use Rattle.mg_link.specs.Namespace.{Space};
 ghost use Rattle.mg_link.specs.Standing.{Stands};
@@ -38,6 +39,11 @@ pub fn inserts_append()
 pub fn appended_stays()
     ensures { (past past' : Past) (space : Space) (documents : List Fields) (n : ℕ)
         → Grows past past' → Appended past space documents n → Appended past' space documents n }
+{}
+
+/// Each id that the inserts of a script draw has the twelve bytes of an object id.
+pub fn drawn_ids_fit()
+    ensures { (ids : List ℕ) (n : ℕ) → length ids ≡ 3 → length (counted_id (ids ++ 0 ∷ []) n) ≡ 12 }
 {}
 
 /// A job ends well where its link loses nothing and its server holds nothing back. Of a job whose outcome has the

@@ -10,13 +10,14 @@ ghost use Rattle.mg_change.specs.Calls.{Past};
 ghost use Rattle.mg_change.specs.Closings.{closing_ticket};
 ghost use Rattle.mg_change.specs.Openings.{opening_ticket};
 ghost use Rattle.mg_change.specs.Phases.{AtRest, IsResuming, IsSound, ticket_in};
-ghost use Rattle.mg_jobs.specs.Follows.{FollowTurns, HasNothing, IsAnswer, IsArgsOf, IsUnfinished, all_changes, begun_options, stages_of, start_of, token_at};
+ghost use Rattle.mg_jobs.specs.Follows.{FollowTurns, HasNothing, IsAnswer, IsArgsOf, IsUnfinished, all_changes, begun_options, same_place, stages_of, start_of, token_at};
 ghost use Rattle.mg_link.proofs.Killing.{PassesPlain};
 ghost use Rattle.mg_ops.specs.Naming.{start_in};
 ghost use Rattle.mg_script.specs.Plan.{begin};
 ghost use Rattle.mg_jobs.specs.Progress.{CloseGoes, FollowAt, FollowGoes, InsertAt, InsertGoes, InsertReady, RestGoes, came};
-ghost use Rattle.mg_jobs.specs.Playing.{HasRoom, IsPlainInsert, IsPlainJob, IsSameFollow, IsSameInsert, StageHolds, end_of, follow_ended, insert_ended, inserts_ticket, player_ticket, stage_ticket};
-ghost use Rattle.mg_jobs.specs.Telling.{FollowTells, InsertTells, InsertTurns, IsWatchArgs, RestTells, TellsOn, kept};
+ghost use Rattle.mg_jobs.specs.Drawing.{AreLater, lacking, next_draws, with_ids};
+ghost use Rattle.mg_jobs.specs.Playing.{HasIds, HasRoom, IsPlainInsert, IsPlainJob, IsSameFollow, IsSameInsert, StageHolds, end_of, follow_ended, insert_ended, inserts_ticket, player_ticket, stage_ticket};
+ghost use Rattle.mg_jobs.specs.Telling.{FollowGoesOn, FollowTells, InsertTells, InsertTurns, IsWatchArgs, RestTells, TellsOn, kept};
 
 use crate::insert::Inserting;
 use mg_bson::{Bson, Document};
@@ -64,8 +65,10 @@ fn begun<'a, I: IdSource>(
 ) -> InsertStage<'a>
     ensures ticket { inserts_ticket result ≡ None }
     ensures plain { IsPlainInsert result }
-    ensures tells { (awaited : Awaited) (past : Past) → InsertTells awaited past (space ns.now) documents.now result }
+    ensures tells { (awaited : Awaited) (past : Past) → InsertTells awaited past (space ns.now) (with_ids (I.ids ids.old) 0 documents.now) result }
     ensures at { (k : ℕ) → k ≡ 0 → InsertReady result k }
+    ensures drawn { AreLater (I.ids ids.old) (lacking documents.now) (I.ids ids.new) }
+    ensures has { HasIds result }
 {
     match Inserting::start(alloc, ids, ns, documents) {
         Ok(inserting) => InsertStage::Goes(inserting),
@@ -79,7 +82,8 @@ impl<'a> InsertStage<'a> {
         requires { IsOut (L.awaited link.old) (inserts_ticket self) }
         ensures tickets { Tickets (L.awaited link.old) (L.awaited link.new) (inserts_ticket self.entry) (inserts_ticket result) }
         ensures plain { IsPlainInsert self.entry → PassesPlain (L.log link.old) (L.log link.new) × IsPlainInsert result }
-        ensures told { (at : Space) (documents : List Fields) → InsertTurns (L.awaited link.old) (L.awaited link.new) (L.log link.old) (L.log link.new) (L.wire link.old) at documents self.entry result }
+        ensures told { (at : Space) (sent : List Fields) → InsertTurns (L.awaited link.old) (L.awaited link.new) (L.log link.old) (L.log link.new) (L.wire link.old) at sent self.entry result }
+        ensures has { HasIds self.entry → HasIds result }
         ensures comes { InsertGoes (L.pends link.old) (L.pends link.new) self.entry result }
         ensures later { Later (L.faults link.old) (L.faults link.new) (L.pends link.old) (L.pends link.new)
             (L.wire link.old) (L.wire link.new) (L.prompt link.old) (L.prompt link.new) }
@@ -126,7 +130,9 @@ impl<'a> InsertPlayer<'a> {
         ensures plain { IsPlainJob self.old → IsPlainJob self.new }
         ensures at { (k : ℕ) → InsertAt self.old.stage k → InsertReady self.new.stage k }
         ensures same { IsSameInsert self.old self.new }
-        ensures tells { TellsOn (space self.old.ns.now) self.old.documents.now self.old.stage self.new.stage }
+        ensures tells { TellsOn (I.ids ids.old) (space self.old.ns.now) self.old.documents.now self.old.stage self.new.stage }
+        ensures drawn { AreLater (I.ids ids.old) (next_draws self.old.stage self.old.documents.now) (I.ids ids.new) }
+        ensures has { HasIds self.new.stage }
     {
         match mem::replace(&mut self.stage, InsertStage::Ended(Ended::Unfinished)) {
             InsertStage::Unsent => self.stage = begun(alloc, ids, self.ns, self.documents),
@@ -142,7 +148,7 @@ impl<'a> InsertPlayer<'a> {
         ensures plain { IsPlainJob self.entry → PassesPlain (L.log link.old) (L.log link.new) × IsPlainJob result }
         ensures comes { InsertGoes (L.pends link.old) (L.pends link.new) self.entry.stage result.stage }
         ensures same { IsSameInsert self.entry result }
-        ensures told { (at : Space) (documents : List Fields) → InsertTurns (L.awaited link.old) (L.awaited link.new) (L.log link.old) (L.log link.new) (L.wire link.old) at documents self.entry.stage result.stage }
+        ensures told { (at : Space) (sent : List Fields) → InsertTurns (L.awaited link.old) (L.awaited link.new) (L.log link.old) (L.log link.new) (L.wire link.old) at sent self.entry.stage result.stage }
         ensures later { Later (L.faults link.old) (L.faults link.new) (L.pends link.old) (L.pends link.new)
             (L.wire link.old) (L.wire link.new) (L.prompt link.old) (L.prompt link.new) }
     {
@@ -323,8 +329,7 @@ impl<'a> FollowPlayer<'a> {
         requires room { HasRoom self.old }
         ensures tickets { Tickets (L.awaited link.old) (L.awaited link.new) (stage_ticket self.old.stage) (stage_ticket self.new.stage) }
         ensures holds { StageHolds (L.wire link.new) self.new.stage }
-        ensures turned { FollowTurns (L.awaited link.old) (L.awaited link.new) (L.log link.old) (L.log link.new) self.old.stage self.old self.new.stage self.new }
-        ensures told { FollowTells (L.awaited link.old) (L.awaited link.new) (L.log link.old) (L.log link.new) (L.wire link.old) self.old.stage (kept self.old) self.new.stage (kept self.new) }
+        ensures turned { FollowGoesOn (L.awaited link.old) (L.awaited link.new) (L.log link.old) (L.log link.new) (L.wire link.old) self.old.stage self.old self.new.stage self.new }
         ensures watched { self.new.watched ≡ self.old.watched }
         ensures comes { FollowGoes (L.pends link.old) (L.pends link.new) self.old.stage (came self.old) self.new.stage (came self.new) }
         ensures later { Later (L.faults link.old) (L.faults link.new) (L.pends link.old) (L.pends link.new)
@@ -342,8 +347,7 @@ impl<'a> FollowPlayer<'a> {
         requires room { HasRoom self.old }
         ensures tickets { Tickets (L.awaited link.old) (L.awaited link.new) (stage_ticket stage) (stage_ticket result) }
         ensures holds { StageHolds (L.wire link.new) result }
-        ensures turned { FollowTurns (L.awaited link.old) (L.awaited link.new) (L.log link.old) (L.log link.new) stage self.old result self.new }
-        ensures told { FollowTells (L.awaited link.old) (L.awaited link.new) (L.log link.old) (L.log link.new) (L.wire link.old) stage (kept self.old) result (kept self.new) }
+        ensures turned { FollowGoesOn (L.awaited link.old) (L.awaited link.new) (L.log link.old) (L.log link.new) (L.wire link.old) stage self.old result self.new }
         ensures watched { self.new.watched ≡ self.old.watched }
         ensures comes { FollowGoes (L.pends link.old) (L.pends link.new) stage (came self.old) result (came self.new) }
         ensures later { Later (L.faults link.old) (L.faults link.new) (L.pends link.old) (L.pends link.new)
@@ -362,8 +366,7 @@ impl<'a> FollowPlayer<'a> {
     fn begin<L: Link>(&mut self, alloc: Global, link: &mut L) -> Stage
         ensures tickets { Tickets (L.awaited link.old) (L.awaited link.new) None (stage_ticket result) }
         ensures holds { StageHolds (L.wire link.new) result }
-        ensures turned { FollowTurns (L.awaited link.old) (L.awaited link.new) (L.log link.old) (L.log link.new) Stage.Unopened self.old result self.new }
-        ensures told { FollowTells (L.awaited link.old) (L.awaited link.new) (L.log link.old) (L.log link.new) (L.wire link.old) Stage.Unopened (kept self.old) result (kept self.new) }
+        ensures turned { FollowGoesOn (L.awaited link.old) (L.awaited link.new) (L.log link.old) (L.log link.new) (L.wire link.old) Stage.Unopened self.old result self.new }
         ensures watched { self.new.watched ≡ self.old.watched }
         ensures comes { FollowGoes (L.pends link.old) (L.pends link.new) Stage.Unopened (came self.old) result (came self.new) }
         ensures later { Later (L.faults link.old) (L.faults link.new) (L.pends link.old) (L.pends link.new)
@@ -382,8 +385,7 @@ impl<'a> FollowPlayer<'a> {
         requires { IsOut (L.awaited link.old) (opening_ticket opening) }
         ensures tickets { Tickets (L.awaited link.old) (L.awaited link.new) (opening_ticket opening) (stage_ticket result) }
         ensures holds { StageHolds (L.wire link.new) result }
-        ensures turned { FollowTurns (L.awaited link.old) (L.awaited link.new) (L.log link.old) (L.log link.new) (Stage.Opens opening) self.old result self.new }
-        ensures told { FollowTells (L.awaited link.old) (L.awaited link.new) (L.log link.old) (L.log link.new) (L.wire link.old) (Stage.Opens opening) (kept self.old) result (kept self.new) }
+        ensures turned { FollowGoesOn (L.awaited link.old) (L.awaited link.new) (L.log link.old) (L.log link.new) (L.wire link.old) (Stage.Opens opening) self.old result self.new }
         ensures watched { self.new.watched ≡ self.old.watched }
         ensures comes { FollowGoes (L.pends link.old) (L.pends link.new) (Stage.Opens opening) (came self.old) result (came self.new) }
         ensures later { Later (L.faults link.old) (L.faults link.new) (L.pends link.old) (L.pends link.new)
@@ -410,7 +412,7 @@ impl<'a> FollowPlayer<'a> {
         requires rests { AtRest stream.phase }
         ensures tickets { Tickets (L.awaited link.old) (L.awaited link.new) (ticket_in stream.phase) (stage_ticket result) }
         ensures holds { StageHolds (L.wire link.new) result }
-        ensures turned { FollowTurns (L.awaited link.old) (L.awaited link.new) (L.log link.old) (L.log link.new) (Stage.Open stream) self.old result self.new }
+        ensures turned { FollowTurns (L.awaited link.old) (L.awaited link.new) (L.log link.old) (L.log link.new) (Stage.Open stream) self.old result self.new same_place }
         ensures told { RestTells (L.awaited link.new) (L.log link.old) (L.log link.new) (L.wire link.old) stream (kept self.old) result (kept self.new) }
         ensures watched { self.new.watched ≡ self.old.watched }
         ensures comes { RestGoes (L.pends link.old) (L.pends link.new) (came self.old) result (came self.new) }
@@ -433,8 +435,8 @@ impl<'a> FollowPlayer<'a> {
         requires room { HasRoom self.old }
         ensures tickets { Tickets (L.awaited link.old) (L.awaited link.new) (ticket_in stream.phase) (stage_ticket result) }
         ensures holds { StageHolds (L.wire link.new) result }
-        ensures turned { FollowTurns (L.awaited link.old) (L.awaited link.new) (L.log link.old) (L.log link.new) (Stage.Open stream) self.old result self.new }
-        ensures told { FollowTells (L.awaited link.old) (L.awaited link.new) (L.log link.old) (L.log link.new) (L.wire link.old) (Stage.Open stream) (kept self.old) result (kept self.new) }
+        ensures turned { FollowTurns (L.awaited link.old) (L.awaited link.new) (L.log link.old) (L.log link.new) (Stage.Open stream) self.old result self.new same_place }
+        ensures told { FollowTells (L.awaited link.old) (L.awaited link.new) (L.log link.old) (L.log link.new) (L.wire link.old) (Stage.Open stream) (kept self.old) result (kept self.new) same_place }
         ensures watched { self.new.watched ≡ self.old.watched }
         ensures comes { FollowGoes (L.pends link.old) (L.pends link.new) (Stage.Open stream) (came self.old) result (came self.new) }
         ensures later { Later (L.faults link.old) (L.faults link.new) (L.pends link.old) (L.pends link.new)
@@ -471,8 +473,8 @@ impl<'a> FollowPlayer<'a> {
         requires holds { StageHolds (L.wire link.old) (Stage.Closes closing) }
         ensures tickets { Tickets (L.awaited link.old) (L.awaited link.new) (closing_ticket closing) (stage_ticket result) }
         ensures holds { StageHolds (L.wire link.new) result }
-        ensures turned { FollowTurns (L.awaited link.old) (L.awaited link.new) (L.log link.old) (L.log link.new) (Stage.Closes closing) self.old result self.new }
-        ensures told { FollowTells (L.awaited link.old) (L.awaited link.new) (L.log link.old) (L.log link.new) (L.wire link.old) (Stage.Closes closing) (kept self.old) result (kept self.new) }
+        ensures turned { FollowTurns (L.awaited link.old) (L.awaited link.new) (L.log link.old) (L.log link.new) (Stage.Closes closing) self.old result self.new same_place }
+        ensures told { FollowTells (L.awaited link.old) (L.awaited link.new) (L.log link.old) (L.log link.new) (L.wire link.old) (Stage.Closes closing) (kept self.old) result (kept self.new) same_place }
         ensures watched { self.new.watched ≡ self.old.watched }
         ensures comes { CloseGoes (L.pends link.old) (L.pends link.new) (came self.old) result (came self.new) }
         ensures later { Later (L.faults link.old) (L.faults link.new) (L.pends link.old) (L.pends link.new)

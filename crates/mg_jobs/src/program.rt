@@ -1,5 +1,5 @@
 //! The program, from the words of its command line to its status.
-ghost use Rattle.std.specs.Prelude.{◌≡◌, ◌⊎◌, ◌++◌, [], ℕ, Some, None, map, length, codes, decimal, false, string_bytes, IfErr, IfOk, IfSome, IsSomeAnd};
+ghost use Rattle.std.specs.Prelude.{◌≡◌, ◌⊎◌, ◌++◌, ◌∷◌, [], ℕ, Some, None, map, length, codes, decimal, false, string_bytes, IfErr, IfOk, IfSome, IsSomeAnd};
 ghost use Rattle.std.specs.Io.KnownBytes.{Appends};
 ghost use Rattle.mg_link.specs.Causes.{Rose};
 ghost use Rattle.mg_link.specs.Errors.{plain};
@@ -59,6 +59,14 @@ fn is_run(words: &[String]) -> bool
     }
 }
 
+/// The bytes that all ids begin with which a script's inserts draw.
+fn prefix_of(ids: [u8; 3]) -> [u8; 4]
+    ensures { result ≡ ids ++ 0 ∷ [] }
+{
+    let [a, b, c] = ids;
+    [a, b, c, 0]
+}
+
 /// Runs the jobs of a script over a link that was not used.
 fn run_over<F: Fated>(alloc: Global, script: Script, link: MemLink) -> Result<Run, Error>
     requires jobs { HasJobs (plan script) }
@@ -73,8 +81,7 @@ fn run_over<F: Fated>(alloc: Global, script: Script, link: MemLink) -> Result<Ru
     ensures turns { IfOk result (λ r. length r.turns.items ≡ 1) }
     ensures err { IfErr result (λ e. e ≡ plain kinds.OutOfMemory) }
 {
-    let [a, b, c] = script.ids;
-    let mut ids = CountedIds::new([a, b, c, 0]);
+    let mut ids = CountedIds::new(prefix_of(script.ids));
     let mut link = FatedLink::<F>::new(link);
     let played = run_jobs(
         alloc,
@@ -85,8 +92,6 @@ fn run_over<F: Fated>(alloc: Global, script: Script, link: MemLink) -> Result<Ru
         script.order.as_slice(),
     )?;
     let (store, log) = link.into_link().into_parts();
-    // For the proof alone: a store tells with its history that its steps are by the rules.
-    store.history();
     let logs = vec![in alloc; log]?;
     let turns = vec![in alloc; played.turns]?;
     Ok(Run {

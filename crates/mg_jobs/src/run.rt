@@ -1,11 +1,12 @@
 //! Jobs, run by a list of turns.
-ghost use Rattle.std.specs.Prelude.{◌≡◌, ◌≤◌, ◌<◌, ◌++◌, ◌∷◌, ◌⊎◌, ℕ, Bool, [], false, true, length, List, IfErr, IfOk, IfSome, OnErr, OnOk, Ok, Err, Some};
+ghost use Rattle.std.specs.Prelude.{◌≡◌, ◌≤◌, ◌<◌, ◌++◌, ◌∷◌, ◌⊎◌, ℕ, Bool, [], false, true, length, take, List, Option, IfErr, IfOk, IfSome, OnErr, OnOk, Ok, Err, Some};
 ghost use Rattle.std.specs.List.{All, sum_by};
 ghost use Rattle.mg_link.specs.Errors.{plain};
 ghost use Rattle.mg_link.specs.Link.{Awaited, Later, Told};
 ghost use Rattle.mg_link.specs.Causes.{RoseBy};
 ghost use Rattle.mg_jobs.specs.Counts.{AreNoted, LosesNothing, StartedBy, turns_pended};
-ghost use Rattle.mg_jobs.specs.Runs.{AreNew, AreSameJobs, CanGo, Goes, IsNew, IsNoted, IsReady, IsSameJob, JobHolds, Stands, has_ended, idle, job_ended, job_ticket};
+ghost use Rattle.mg_jobs.specs.Drawing.{AreLater, HaveDrawn, JobHasIds, drawn_in, turn_draws};
+ghost use Rattle.mg_jobs.specs.Runs.{AreNew, AreSameJobs, CanGo, Draws, Goes, IsNew, IsNoted, IsReady, IsSameJob, JobHolds, Stands, has_ended, idle, job_ended, job_ticket};
 ghost use Rattle.mg_link.specs.Log.{Call};
 ghost use Rattle.mg_link.specs.Owner.{Owner};
 ghost use Rattle.mg_jobs.specs.Headline.{AllFollowed, AreFirst, DoTasks, Does, IsFirst, IsSameTask, Knowing, OutcomeOf, OutcomesOf, Plays};
@@ -91,11 +92,14 @@ impl<'a> Player<'a> {
         ensures ticket { job_ticket self.new ≡ job_ticket self.old }
         ensures holds { (wire : _) → JobHolds wire self.old → JobHolds wire self.new }
         ensures ready { OnOk result (IsReady self.new) }
-        ensures knows { (awaited : Awaited) (calls : List Call) (o : Owner) → Plays awaited calls self.old o → Plays awaited calls self.new o }
+        ensures knows { (awaited : Awaited) (calls : List Call) (o : Owner) (at : Option ℕ) → Plays awaited calls self.old o at → Plays awaited calls self.new o at }
         ensures task { IsSameTask self.old self.new }
         ensures at { (calls k : ℕ) (last : Bool) → IsAt calls self.old k last → IsReadyAt calls self.new k last }
         ensures same { OnErr result (IsSameJob self.old self.new) }
-        ensures teller { IsSameTeller self.old self.new }
+        ensures teller { IsSameTeller (I.ids ids.old) self.old self.new }
+        ensures drawn { OnOk result (AreLater (I.ids ids.old) (turn_draws self.old) (I.ids ids.new)) }
+        ensures has { OnOk result (JobHasIds self.new) }
+        ensures undrawn { OnErr result (ids.new ≡ ids.old) }
         ensures err { IfErr result (λ e. e ≡ plain ErrorKind.OutOfMemory) }
     {
         match self {
@@ -214,7 +218,7 @@ fn take_turn<'a, L: Link>(player: &mut Player<'a>, alloc: Global, link: &mut L) 
 }
 
 /// Gives a job its turn, unless it has ended. An error comes only where no place for an answer was found; then nothing
-/// is sent.
+/// is sent, and no id is drawn.
 fn turn_of<'a, L: Link, I: IdSource>(
     player: &mut Player<'a>,
     alloc: Global,
@@ -227,8 +231,9 @@ fn turn_of<'a, L: Link, I: IdSource>(
         (L.wire link.old) (L.wire link.new) (L.prompt link.old) (L.prompt link.new) }
     ensures noted { IfOk result (λ n. IsNoted n (L.log link.old) (L.log link.new) (L.pends link.old) (L.pends link.new) (L.prompt link.old) (L.prompt link.new)) }
     ensures comes { IfOk result (λ n. TurnsBy n player.old player.new) }
+    ensures draws { OnOk result (Draws (I.ids ids.old) (I.ids ids.new) (L.awaited link.new) (L.log link.old) (L.log link.new) (L.wire link.new) player.old player.new) }
     ensures ended { has_ended player.old ≡ true → (result ≡ Ok idle) × (link.new ≡ link.old) × (player.new ≡ player.old) }
-    ensures err { IfErr result (λ e. (e ≡ plain ErrorKind.OutOfMemory) × (link.new ≡ link.old) × IsSameJob player.old player.new) }
+    ensures err { IfErr result (λ e. (e ≡ plain ErrorKind.OutOfMemory) × (link.new ≡ link.old) × (ids.new ≡ ids.old) × IsSameJob player.old player.new) }
 {
     if player.has_ended() {
         return Ok(Turned {
@@ -303,15 +308,20 @@ impl<'a> Runner<'a> {
         // A turn that did not pend brings its job on, as its note says.
         ensures rows { OnOk result ((ts : List Task) (order : List ℕ) → length order ≡ length self.old.turns.items → AllAt ts order self.old.turns.items self.old.players.items
             → AllAt ts (order ++ job ∷ []) self.new.turns.items self.new.players.items) }
-        // Each job goes on telling what caused its answers.
-        ensures told { OnOk result ((begun : Told) (ts : List Task) (order : List ℕ) → length order ≡ length self.old.turns.items → AllAt ts order self.old.turns.items self.old.players.items
-            → AllTell (L.awaited link.old) begun (L.log link.old) (L.wire link.old) ts order self.old.turns.items self.old.players.items
-            → AllTell (L.awaited link.new) begun (L.log link.new) (L.wire link.new) ts (order ++ job ∷ []) self.new.turns.items self.new.players.items) }
+        // The first turn of an insert draws the source's next ids, one for each of its documents that has none.
+        ensures drawn { OnOk result ((first : ℕ → List ℕ) (ts : List Task) (order : List ℕ) → DoTasks ts self.old.players.items
+            → HaveDrawn first (I.ids ids.old) ts order self.old.players.items → HaveDrawn first (I.ids ids.new) ts (order ++ job ∷ []) self.new.players.items) }
+        // Each job goes on telling what caused its answers, and what it sends.
+        ensures told { OnOk result ((first : ℕ → List ℕ) (begun : Told) (ts : List Task) (order : List ℕ) → length order ≡ length self.old.turns.items → AllAt ts order self.old.turns.items self.old.players.items
+            → HaveDrawn first (I.ids ids.old) ts order self.old.players.items
+            → AllTell first (L.awaited link.old) begun (L.log link.old) (L.wire link.old) ts order self.old.turns.items self.old.players.items
+            → AllTell first (L.awaited link.new) begun (L.log link.new) (L.wire link.new) ts (order ++ job ∷ []) self.new.turns.items self.new.players.items) }
         // E15 just where the number names no job, and otherwise want of memory.
         ensures missing { length self.old.players.items ≤ job → result ≡ Err (plain (ErrorKind.NoSuchJob job)) }
         ensures err { IfErr result (λ e. ((e ≡ plain (ErrorKind.NoSuchJob job)) × (length self.old.players.items ≤ job)) ⊎ (e ≡ plain ErrorKind.OutOfMemory)) }
         // An error changes nothing.
         ensures unsent { OnErr result (link.new ≡ link.old) }
+        ensures undrawn { OnErr result (ids.new ≡ ids.old) }
         ensures same { OnErr result (AreSameJobs self.old.players.items self.new.players.items) }
         ensures unnoted { OnErr result (self.new.turns.items ≡ self.old.turns.items) }
         // One note, which is true.
@@ -375,8 +385,14 @@ fn play<L: Link, I: IdSource>(
     ensures knowing { (begun : Told) → Knowing (L.awaited link.old) begun (L.log link.old) runner.old.players.items → Knowing (L.awaited link.new) begun (L.log link.new) runner.new.players.items }
     ensures tasks { (ts : List Task) → DoTasks ts runner.old.players.items → DoTasks ts runner.new.players.items }
     ensures rows { OnOk result ((ts : List Task) → AllAt ts [] [] runner.old.players.items → AllAt ts order.now runner.new.turns.items runner.new.players.items) }
-    ensures told { OnOk result ((begun : Told) (ts : List Task) → AllAt ts [] [] runner.old.players.items → AllTell (L.awaited link.old) begun (L.log link.old) (L.wire link.old) ts [] [] runner.old.players.items
-        → AllTell (L.awaited link.new) begun (L.log link.new) (L.wire link.new) ts order.now runner.new.turns.items runner.new.players.items) }
+    ensures drawn { OnOk result ((first : ℕ → List ℕ) (ts : List Task) → DoTasks ts runner.old.players.items → HaveDrawn first (I.ids ids.old) ts [] runner.old.players.items
+        → HaveDrawn first (I.ids ids.new) ts order.now runner.new.players.items) }
+    ensures stopped { (first : ℕ → List ℕ) (ts : List Task) → DoTasks ts runner.old.players.items → HaveDrawn first (I.ids ids.old) ts [] runner.old.players.items
+        → (n : ℕ) × AreLater first (drawn_in ts (take n order.now)) (I.ids ids.new) }
+    ensures told { OnOk result ((first : ℕ → List ℕ) (begun : Told) (ts : List Task) → DoTasks ts runner.old.players.items → AllAt ts [] [] runner.old.players.items
+        → HaveDrawn first (I.ids ids.old) ts [] runner.old.players.items
+        → AllTell first (L.awaited link.old) begun (L.log link.old) (L.wire link.old) ts [] [] runner.old.players.items
+        → AllTell first (L.awaited link.new) begun (L.log link.new) (L.wire link.new) ts order.now runner.new.turns.items runner.new.players.items) }
     ensures err { IfErr result (λ e. e ≡ plain ErrorKind.OutOfMemory) }
 {
     for number in order {
@@ -398,18 +414,23 @@ pub fn run_jobs<L: Link, I: IdSource>(
     ensures later { Later (L.faults link.old) (L.faults link.new) (L.pends link.old) (L.pends link.new)
         (L.wire link.old) (L.wire link.new) (L.prompt link.old) (L.prompt link.new) }
     // E15 just where a number names no job, with the first such number; and otherwise want of memory.
-    ensures missing { IfSome (first_missing (length jobs.now) order.now) (λ n. (result ≡ Err (plain (ErrorKind.NoSuchJob n))) × (link.new ≡ link.old)) }
+    ensures missing { IfSome (first_missing (length jobs.now) order.now) (λ n. (result ≡ Err (plain (ErrorKind.NoSuchJob n))) × (link.new ≡ link.old) × (ids.new ≡ ids.old)) }
     ensures err { IfErr result (λ e. ((n : ℕ) × (e ≡ plain (ErrorKind.NoSuchJob n)) × (first_missing (length jobs.now) order.now ≡ Some n)) ⊎ (e ≡ plain ErrorKind.OutOfMemory)) }
-    // Each follow answers consecutive matching entries from its opening place on, each once, in order, just up to its token,
-    // also after errors; and the run names its own cursors only.
-    ensures followed { IfOk result (λ p. AllFollowed (L.log link.old) (L.log link.new) (tasks jobs.now) p.outcomes.items) }
+    // Each follow answers consecutive matching entries from the opening place of its own aggregate on, each once, in order,
+    // just up to its token, also after errors; and the run names its own cursors only.
+    ensures followed { IfOk result (λ p. AllFollowed (L.log link.old) (L.log link.new) (tasks jobs.now) order.now p.turns.items p.outcomes.items) }
+    // Each insert drew the source's next ids in its first turn, one for each of its documents that has none.
+    ensures drawn { IfOk result (λ p. AreLater (I.ids ids.old) (drawn_in (tasks jobs.now) order.now) (I.ids ids.new)) }
+    // A run that failed drew those of the turns that it gave.
+    ensures stopped { (n : ℕ) × AreLater (I.ids ids.old) (drawn_in (tasks jobs.now) (take n order.now)) (I.ids ids.new) }
     // How far each job has come follows from the notes of its turns.
     ensures rows { IfOk result (λ p. AllPlayed (tasks jobs.now) order.now p.turns.items p.outcomes.items) }
-    // Each answer of a follow has its cause among the commands of its own turns. By those of its own an insert that ended well
-    // appended its documents, in order, and one that failed did so.
-    ensures caused { IfOk result (λ p. AllCaused (L.log link.old) (L.log link.new) (L.wire link.old) (tasks jobs.now) order.now p.turns.items p.outcomes.items) }
+    // Each answer of a follow has its cause among the commands of its own turns, and the call that opened it is the one from
+    // whose opening place it answers. By those of its own an insert that ended well appended its documents, in order, and
+    // one that failed did so; what it sends has the ids that it drew.
+    ensures caused { IfOk result (λ p. AllCaused (I.ids ids.old) (L.log link.old) (L.log link.new) (L.wire link.old) (tasks jobs.now) order.now p.turns.items p.outcomes.items) }
     // Over a prompt link each job ends well, where its server holds nothing back.
-    ensures complete { L.prompt link.old → IfOk result (λ p. AllWell (L.log link.old) (L.log link.new) (tasks jobs.now) order.now p.turns.items p.outcomes.items) }
+    ensures complete { L.prompt link.old → IfOk result (λ p. AllWell (I.ids ids.old) (L.log link.old) (L.log link.new) (tasks jobs.now) order.now p.turns.items p.outcomes.items) }
     // One outcome for each job, and one note for each turn.
     ensures outcomes { IfOk result (λ p. length p.outcomes.items ≡ length jobs.now) }
     ensures turns { IfOk result (λ p. length p.turns.items ≡ length order.now) }

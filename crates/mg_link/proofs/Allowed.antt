@@ -10,6 +10,7 @@ use Rattle.mg_link.specs.Filter.{Condition}
 use Rattle.mg_link.specs.State.{Entry, Watch, Cursor, query, watching, State, events_between, start_place}
 use Rattle.mg_link.specs.Commands.{Asked, asks_insert, asks_watch, asks_more, asks_kill, Failure, Told, refuses, inserted, opened, gave, killed, asked, told}
 use Rattle.mg_link.specs.Step.{Made, grown, effect, next, documents_of, written, opened_cursor, HaveNewIds, AreInsertEvents, MayGive, May}
+use Rattle.mg_link.specs.Events.{TellInserts, TellsWritten}
 use Rattle.mg_link.specs.Rules.{Request, insert, watch, more, kill, request_of, token_of, token_place, now_of, Inserted, inserting, inserted_reply, batch_place, Answer, answer_with, answer_insert, place_at, watch_reply, more_reply, is_watch_of, answer_more, killed_reply, size_of, answer, no_such_token, bad_request, max_reply, or_code, map_ok, and_then, refusal, refused, fitting, answer_of}
 use Rattle.mg_link.specs.Kept.{made_by, made_none, made_these, given_by, IsCollection, IsStoreState, Kept, IsAllowed, made_of, given_after, rule_entries}
 use Rattle.mg_link.proofs.Tokens.{place_named, place_within}
@@ -20,9 +21,10 @@ use Rattle.mg_link.proofs.Telling.{told_reads, refusal_tells, insert_tells, open
 use Rattle.mg_link.proofs.Batching.{batch_within, inserts_all, batch_ends}
 use Rattle.mg_link.proofs.Cursoring.{documents_put, opened_is, moved_is, killed_are, refused_is, next_unnamed, not_zero}
 
--- a server may tell so of the command, and the state behind it is one of a store
+-- a server may tell so of the command, the events tell of the documents written, and the state behind it is one of a store
 pub record Fits (s : State) (given : ℕ) (started : Bool) (command : Asked) (reply : Told) (entries : List Entry) : Type 0 where
   pub may : May s command reply (made_by s started entries reply)
+  pub tells : TellsWritten command reply (made_by s started entries reply).entries
   pub stays : IsStoreState (next s command reply (made_by s started entries reply)) (given_by given reply) true
 
 -- the same, where the entries can have tokens
@@ -34,6 +36,7 @@ FitsWithin s given started command reply entries = length s.changes + length (ma
 pub refusal_fits : (s : State) (given : ℕ) (started : Bool) (command : Asked) (code : ℤ) (labels : List (List ℕ)) (entries : List Entry) → IsStoreState s given started → FitsWithin s given started command (refuses code labels) entries
 refusal_fits s given started command code labels entries h lt = record {
   may = record { grows = grows_none s given started h (omega arith); tells = record { no_entry = refl; same_time = refl } };
+  tells = tt;
   stays = refused_is (grown s (made_none s started)) given command code labels (state_none s given started h (omega arith));
 }
 
@@ -53,6 +56,7 @@ insert_fits s given started space ds ordered i failures h is lt =
           entries = subst (λ (l : List Fields). AreInsertEvents space l i.entries) (sym same) is.events_are;
         };
       };
+      tells = subst (λ (l : List Fields). TellInserts space l i.entries) (sym same) is.tell_of;
       stays = documents_put (grown s (made_these s started i.entries)) given true _ (state_these s given started i.entries h is.entries_are lt);
     }
 
@@ -128,6 +132,7 @@ watch_fits s given started space filter resume_after from size h at w is lt =
           time_is = grown_now s started;
         };
       };
+      tells = tt;
       stays = subst (λ (b : Bool). IsStoreState (opened_cursor s' w (pos (suc given)) token) (if b then given else suc given) true) (sym (not_zero given)) opens;
     }
 
@@ -154,6 +159,7 @@ more_fits s given started id space w from size h stood lt =
           same = inl refl;
         };
       };
+      tells = tt;
       stays = moved_is s' given id id w from (token_of (batch_place w s.changes from size)) (batch_place w s.changes from size) state (grown_cursors s (made_these s started []) id ∙ stood) named (omega arith);
     }
 
@@ -161,6 +167,7 @@ pub kill_fits : (s : State) (given : ℕ) (started : Bool) (ids : List ℤ) → 
 unfolding effect
 kill_fits s given started ids h lt = record {
   may = record { grows = grows_these s given started [] h tt lt; tells = refl };
+  tells = tt;
   stays = killed_are (grown s (made_these s started [])) given true ids (state_these s given started [] h tt lt);
 }
 
@@ -278,7 +285,7 @@ pub rules_allowed : (s : State) (given : ℕ) (started : Bool) (kept : Kept) →
 unfolding made_of given_after
 rules_allowed s given started kept h lt e =
     let fits = rule_fits s given started kept.command kept.reply (answer_of s (pos (suc given)) (fields kept.command)) h (rule_is s (pos (suc given)) (fields kept.command)) e lt in
-    record { may = fits.may; stays = fits.stays }
+    record { may = fits.may; tells = fits.tells; stays = fits.stays }
 
 -- and so is a refusal that somebody chose
 pub refusal_allowed : (s : State) (given : ℕ) (started : Bool) (kept : Kept) (code : ℤ) (labels : List (List ℕ)) → IsStoreState s given started → length s.changes + length (made_of s given started kept).entries < 2 ^ 64
@@ -286,4 +293,4 @@ pub refusal_allowed : (s : State) (given : ℕ) (started : Bool) (kept : Kept) (
 unfolding made_of given_after
 refusal_allowed s given started kept code labels h lt e =
     let fits = refusal_read s given started kept.command kept.reply code labels (rule_entries s given kept) h e lt in
-    record { may = fits.may; stays = fits.stays }
+    record { may = fits.may; tells = fits.tells; stays = fits.stays }

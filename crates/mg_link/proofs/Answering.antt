@@ -171,7 +171,7 @@ time_of_past s (after t) from h = h
 time_of_past s (at_time time) from h = tt
 
 reached_by : (s : State) (w : Watch) (start : Start) (from : ℕ) (answered : List Fields) (token : Option Tree) (place : ℕ) → HasReached s w start token answered from place → ReachedBy s w start from answered token
-reached_by s w start from answered (Some t) place h = record { place = place; named = h.marks; these = h.these }
+reached_by s w start from answered (Some t) place h = record { place = place; forward = h.forward; named = h.marks; these = h.these }
 reached_by s w start from answered None place h = (h.marks.1, time_of_past s start from h.marks.2)
 
 -- What an open stream answered is the first of its view from the opening place on, just up to its token.

@@ -9,7 +9,7 @@ use Rattle.mg_link.specs.Filter.{Condition}
 use Rattle.mg_link.specs.State.{Entry, Watch, Cursor, watching, State, events_between, put_documents, put_cursor, without_cursors}
 use Rattle.mg_link.specs.Commands.{Asked, asks_insert, asks_watch, asks_more, asks_kill, asks_other, Failure, Told, refuses, inserted, opened, gave, killed, asked, told}
 use Rattle.mg_link.specs.Step.{grown, effect, next, documents_of, written, ends_cursor, watching_at, moved}
-use Rattle.mg_link.specs.Rules.{insert, watch, more, kill, request_of, token_of, now_of, Inserted, inserting, inserted_reply, batch_place, Answer, answer_with, answer_insert, place_at, watch_reply, more_reply, killed_reply, answer, refusal, answer_of}
+use Rattle.mg_link.specs.Rules.{insert, watch, more, kill, request_of, token_of, now_of, Inserted, inserting, inserted_reply, batch_place, Answer, answer_with, answer_insert, place_at, watch_reply, more_reply, killed_reply, refusal, answer_of}
 use Rattle.mg_link.specs.Kept.{made_by, made_none, made_these, given_by, IsStoreState, Kept, made_of, given_after, rule_entries, state_behind}
 use Rattle.mg_link.proofs.Requests.{start_from, request_reads, asked_is}
 use Rattle.mg_link.proofs.Growing.{state_these}

@@ -10,6 +10,7 @@ use Rattle.mg_link.specs.Namespace.{Space}
 use Rattle.mg_link.specs.Filter.{is_same}
 use Rattle.mg_link.specs.Commands.{Failure, documents_in, failures_by}
 use Rattle.mg_link.specs.Step.{is_listed, written, HasNoId, HaveNewIds, IsInsertEvent, AreInsertEvents}
+use Rattle.mg_link.specs.Events.{TellsInsert, TellInserts}
 use Rattle.mg_link.specs.Rules.{insert_entry, same_id, has_id, is_storable, id_or_code, accept, Inserted, no_more, with_document, with_error, write_error, choose, inserting, bad_request, duplicate_id}
 use Rattle.mg_link.specs.Kept.{AreStoreEntries}
 use Rattle.mg_link.proofs.Tokens.{differs_turned}
@@ -77,16 +78,20 @@ accepted there d id h =
 pub record Inserts (space : Space) (ordered : Bool) (index place : ℕ) (there ds : List Fields) (i : Inserted) (fs : List Failure) : Type 0 where
   pub entries_are : AreStoreEntries place i.entries
   pub events_are : AreInsertEvents space i.documents i.entries
+  pub tell_of : TellInserts space i.documents i.entries
   pub ids_are : HaveNewIds there i.documents
   pub written_are : (all : List Failure) → ((m : ℕ) → index ≤ m → is_listed m all ≡ is_listed m fs) → written ordered all index ds ≡ i.documents
   pub failures_are : option_and_then failures_by (documents_in i.errors) ≡ Some fs
   pub none_before : (m : ℕ) → m < index → is_listed m fs ≡ false
 
-is_event : (place : ℕ) (space : Space) (id : Tree) (d : Fields) → IsInsertEvent space d (insert_entry place space id d)
-is_event place space id d = record { at = refl; change_is = refl; token_is = refl; kind = refl; ns = refl; full = refl }
+is_event : (place : ℕ) (space : Space) (id : Tree) (d : Fields) → IsInsertEvent space (insert_entry place space id d)
+is_event place space id d = record { at = refl; change_is = refl; token_is = refl }
+
+tells_of : (place : ℕ) (space : Space) (id : Tree) (d : Fields) → TellsInsert space d (insert_entry place space id d).event
+tells_of place space id d = record { kind = refl; ns = refl; full = refl }
 
 inserts_none : (space : Space) (ordered : Bool) (index place : ℕ) (there : List Fields) → Inserts space ordered index place there [] no_more []
-inserts_none space ordered index place there = record { entries_are = tt; events_are = tt; ids_are = tt; written_are = λ all same. refl; failures_are = refl; none_before = λ m lt. refl }
+inserts_none space ordered index place there = record { entries_are = tt; events_are = tt; tell_of = tt; ids_are = tt; written_are = λ all same. refl; failures_are = refl; none_before = λ m lt. refl }
 
 inserts_one : (space : Space) (ordered : Bool) (index place : ℕ) (there : List Fields) (d : Fields) (ds : List Fields) (id : Tree) (i : Inserted) (fs : List Failure) → accept there d ≡ Ok id → Inserts space ordered (suc index) (suc place) (there ++ d ∷ []) ds i fs
     → Inserts space ordered index place there (d ∷ ds) (with_document d (insert_entry (suc place) space id d) i) fs
@@ -95,6 +100,7 @@ inserts_one space ordered index place there d ds id i fs ok rest =
     record {
       entries_are = (record { token_is = refl; time_is = refl; change_is = refl }, rest.entries_are);
       events_are = (is_event (suc place) space id d, rest.events_are);
+      tell_of = (tells_of (suc place) space id d, rest.tell_of);
       ids_are = ((id, known.0, no_id id there known.1), rest.ids_are);
       written_are = λ all same.
           let not_this : is_listed index all ≡ false = same index (omega arith) ∙ rest.none_before index (omega arith) in
@@ -111,6 +117,7 @@ inserts_no_more : (space : Space) (index place : ℕ) (there : List Fields) (d :
 inserts_no_more space index place there d ds code = record {
   entries_are = tt;
   events_are = tt;
+  tell_of = tt;
   ids_are = tt;
   written_are = λ all same. ap (λ (b : Bool). if b then [] else d ∷ written true all (suc index) ds) (fails_here index code [] all same);
   failures_are = refl;
@@ -122,6 +129,7 @@ inserts_others : (space : Space) (index place : ℕ) (there : List Fields) (d : 
 inserts_others space index place there d ds code i fs rest = record {
   entries_are = rest.entries_are;
   events_are = rest.events_are;
+  tell_of = rest.tell_of;
   ids_are = rest.ids_are;
   written_are = λ all same.
       ap (λ (b : Bool). if b then written false all (suc index) ds else d ∷ written false all (suc index) ds) (fails_here index code fs all same)

@@ -3,6 +3,7 @@ use Rattle.std.proofs.Common.{◌≡◌, ℕ, ℤ, pos, negsuc, zero, suc, ◌+�
 use Rattle.std.proofs.lemmas.Bool.{le-ltb}
 use Rattle.mg_link.specs.State.{State, nothing}
 use Rattle.mg_link.specs.History.{Step, step_after, state_after, IsLegal, IsLegalFrom}
+use Rattle.mg_link.specs.Events.{TellsItsInserts}
 use Rattle.mg_link.specs.Kept.{Kept, made_of, given_after, step_of, state_behind, steps_from, steps_of, state_of_kept, given_from, given_of, started_from, is_started, Follows, by_rules, by_choice, AreByRulesFrom, IsByRules, is_given, IsStoreState, IsAllowed}
 use Rattle.mg_link.proofs.Histories.{step_after-changes, state_after-changes, state_after-append}
 use Rattle.mg_link.proofs.Allowed.{rules_allowed, refusal_allowed}
@@ -70,19 +71,24 @@ fits_before s step steps lt =
 
 pub record Goes (s : State) (given : ℕ) (started : Bool) (kept : List Kept) : Type 0 where
   pub legal : IsLegalFrom s (steps_from s given started kept)
+  pub tells : TellsItsInserts (steps_from s given started kept)
   pub state : IsStoreState (state_after s (steps_from s given started kept)) (given_from given kept) (started_from started kept)
 
 goes_on : (s : State) (given : ℕ) (started : Bool) (kept : List Kept) → IsStoreState s given started → AreByRulesFrom s given started kept → length (state_after s (steps_from s given started kept)).changes < 2 ^ 64 → Goes s given started kept
-unfolding IsLegalFrom AreByRulesFrom steps_from state_after given_from
-goes_on s given started [] h by lt = record { legal = tt; state = h }
+unfolding IsLegalFrom TellsItsInserts AreByRulesFrom steps_from state_after given_from
+goes_on s given started [] h by lt = record { legal = tt; tells = tt; state = h }
 goes_on s given started (k ∷ kept) h by lt =
     let fits = fits_before s (step_of s given started k) (steps_from (state_behind s given started k) (given_after given k) true kept) lt in
     let now = follows_allowed s given started k h fits by.0 in
     let later = goes_on (state_behind s given started k) (given_after given k) true kept now.stays by.1 lt in
-    record { legal = (now.may, later.legal); state = subst (λ (b : Bool). IsStoreState (state_after (state_behind s given started k) (steps_from (state_behind s given started k) (given_after given k) true kept)) (given_from (given_after given k) kept) b) (started_true kept) later.state }
+    record { legal = (now.may, later.legal); tells = (now.tells, later.tells); state = subst (λ (b : Bool). IsStoreState (state_after (state_behind s given started k) (steps_from (state_behind s given started k) (given_after given k) true kept)) (given_from (given_after given k) kept) b) (started_true kept) later.state }
 
 pub kept_is_legal : (kept : List Kept) → IsByRules kept → length (state_of_kept kept).changes < 2 ^ 64 → IsLegal (steps_of kept)
 kept_is_legal kept by lt = (goes_on nothing 0 false kept nothing_is by lt).legal
+
+-- its events tell of the documents that it wrote
+pub kept_tells : (kept : List Kept) → IsByRules kept → length (state_of_kept kept).changes < 2 ^ 64 → TellsItsInserts (steps_of kept)
+kept_tells kept by lt = (goes_on nothing 0 false kept nothing_is by lt).tells
 
 -- and the store stands in a state of its kind
 pub kept_state : (kept : List Kept) → IsByRules kept → length (state_of_kept kept).changes < 2 ^ 64 → IsStoreState (state_of_kept kept) (given_of kept) (is_started kept)

@@ -40,3 +40,5 @@ pub mod Retries
 pub mod Spoiled
 pub mod Asking
 pub mod Killing
+pub mod Identified
+pub mod Resuming

@@ -29,8 +29,12 @@ between_more xs more p q le within =
 pub events_more : (w : Watch) (xs more : List Entry) (p q : ℕ) → p ≤ q → q ≤ length xs → events_between w (xs ++ more) p q ≡ events_between w xs p q
 events_more w xs more p q le within = ap (passed (sees w)) (between_more xs more p q le within)
 
+-- nothing is to be seen from behind the end
+pub events_past : (w : Watch) (xs : List Entry) (p q : ℕ) → q ≤ p → [] ≡ events_between w xs p q
+events_past w xs p q le = let z : 0 ≡ q - p = omega arith in ap (λ n. passed (sees w) (take n (drop p xs))) z
+
 pub events_none : (w : Watch) (xs : List Entry) (p q : ℕ) → q ≡ p → [] ≡ events_between w xs p q
-events_none w xs p q e = let z : 0 ≡ q - p = omega arith in ap (λ n. passed (sees w) (take n (drop p xs))) z
+events_none w xs p q e = events_past w xs p q (omega arith)
 
 -- ---- one place after another
 

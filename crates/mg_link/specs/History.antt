@@ -1,8 +1,8 @@
 -- Histories of a server: the steps that it took, one after the other.
-use Rattle.std.specs.Prelude.{◌≡◌, ℕ, suc, Option, Some, List, [], ◌∷◌, ◌++◌, length, take}
+use Rattle.std.specs.Prelude.{◌≡◌, ◌≤◌, ℕ, suc, Option, Some, List, [], ◌∷◌, ◌++◌, length, take}
 use Rattle.mg_bson.specs.Tree.{Tree, Fields}
 use Rattle.mg_link.specs.State.{State, nothing, Watch, Start, start_place, events_between}
-use Rattle.mg_link.specs.Commands.{Told, asked, told}
+use Rattle.mg_link.specs.Commands.{Told, refuses, inserted, opened, gave, killed, garbled, asked, told}
 use Rattle.mg_link.specs.Step.{Made, May, next}
 
 -- a command as it came, the reply as it was given, and what the step added
@@ -38,13 +38,27 @@ IsLegal history = IsLegalFrom nothing history
 abbrev pub opening : List Step → ℕ → Start → Option ℕ
 opening history position start = start_place (state_of (take (suc position) history)) start
 
+-- the aggregate at this position opened its watch at this place, or was refused
+abbrev pub OpensAt : List Step → ℕ → Start → ℕ → Told → Type 0
+OpensAt history position start place (opened id space events token time) = opening history position start ≡ Some place
+OpensAt history position start place (refuses code labels) = Unit {0}
+OpensAt history position start place (inserted n failures) = ⊥
+OpensAt history position start place (gave id space events token) = ⊥
+OpensAt history position start place killed = ⊥
+OpensAt history position start place garbled = ⊥
+
+-- what a watch is to see from a place on, behind a history
+abbrev pub view_of : List Step → Watch → ℕ → List Fields
+view_of history w from = events_between w (state_of history).changes from (length (state_of history).changes)
+
 -- the events are, in order, the first of the view from the opening place on
 pub record Answers (s : State) (w : Watch) (from : ℕ) (events : List Fields) : Type 0 where
   pub rest : List Fields
   pub these : events_between w s.changes from (length s.changes) ≡ events ++ rest
 
--- the token names a place, and the events are just the view from the opening place up to it
+-- the token names a place not before the opening place, and the events are just the view from there up to it
 pub record Reached (s : State) (w : Watch) (from : ℕ) (events : List Fields) (token : Tree) : Type 0 where
   pub place : ℕ
+  pub forward : from ≤ place
   pub named : s.tokens token ≡ Some place
   pub these : events ≡ events_between w s.changes from place

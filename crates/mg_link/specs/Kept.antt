@@ -9,6 +9,7 @@ use Rattle.mg_link.specs.State.{inserts, Entry, Cursor, query, watching, State, 
 use Rattle.mg_link.specs.Commands.{Told, refuses, inserted, opened, gave, killed, garbled, asked, told}
 use Rattle.mg_link.specs.Step.{Made, Named, May}
 use Rattle.mg_link.specs.History.{Step, step_after, state_of}
+use Rattle.mg_link.specs.Events.{TellsWritten}
 use Rattle.mg_link.specs.Rules.{answer_of, refusal, token_of, token_place, now_of}
 
 -- a command as it came, and the reply as it was given
@@ -160,7 +161,8 @@ pub record IsStoreState (s : State) (given : ℕ) (started : Bool) : Type 0 wher
   pub time_is : IsStoreTime (length s.changes) s.now
   pub empty_before : started ≡ false → s.changes ≡ []
 
--- a server may do what the store did, and the store goes on in a state of its kind
+-- a server may do what the store did, its events tell of the documents that it wrote, and the store goes on in a state of its kind
 pub record IsAllowed (s : State) (given : ℕ) (started : Bool) (kept : Kept) : Type 0 where
   pub may : May s (asked kept.command) (told_kept kept) (made_of s given started kept)
+  pub tells : TellsWritten (asked kept.command) (told_kept kept) (made_of s given started kept).entries
   pub stays : IsStoreState (state_behind s given started kept) (given_after given kept) true

@@ -25,6 +25,7 @@ pub mod State
 pub mod Commands
 pub mod Step
 pub mod History
+pub mod Events
 pub mod Standing
 pub mod Prompt
 pub mod Owner

@@ -1,7 +1,7 @@
 -- What a server may reply, and the state after it (insert, change streams, getMore and killCursors specifications).
 use Rattle.std.specs.Prelude.{◌≡◌, ◌≢◌, ◌⊎◌, ℕ, suc, ◌+◌, ◌≤◌, ℤ, pos, Bool, true, false, Option, Some, None, unwrap_or, List, [], ◌∷◌, ◌++◌, length, codes, if◌then◌else◌}
 use Rattle.std.specs.Ordering.{int_eq}
-use Rattle.mg_bson.specs.Tree.{Tree, string, document, Fields, no_fields, field}
+use Rattle.mg_bson.specs.Tree.{Tree, Fields}
 use Rattle.mg_bson.specs.Find.{get}
 use Rattle.mg_link.specs.Namespace.{Space}
 use Rattle.mg_link.specs.Filter.{is_same}
@@ -122,19 +122,16 @@ abbrev pub HaveNewIds : List Fields → List Fields → Type 0
 HaveNewIds there [] = Unit {0}
 HaveNewIds there (d ∷ ds) = ((id : Tree) × (get (codes "_id") d ≡ Some id) × HasNoId id there) × HaveNewIds (there ++ d ∷ []) ds
 
--- the event of an inserted document: its `_id` is the token
-pub record IsInsertEvent (space : Space) (d : Fields) (e : Entry) : Type 0 where
+-- the entry of an inserted document: its event has the token as its `_id`, and may tell what the server likes
+pub record IsInsertEvent (space : Space) (e : Entry) : Type 0 where
   pub at : e.space ≡ space
   pub change_is : e.change ≡ inserts
   pub token_is : get (codes "_id") e.event ≡ Some e.token
-  pub kind : get (codes "operationType") e.event ≡ Some (string (codes "insert"))
-  pub ns : get (codes "ns") e.event ≡ Some (document (field (codes "db") (string space.db) (field (codes "coll") (string space.coll) no_fields)))
-  pub full : get (codes "fullDocument") e.event ≡ Some (document d)
 
 -- one entry for each document, in order
 abbrev pub AreInsertEvents : Space → List Fields → List Entry → Type 0
 AreInsertEvents space [] [] = Unit {0}
-AreInsertEvents space (d ∷ ds) (e ∷ es) = IsInsertEvent space d e × AreInsertEvents space ds es
+AreInsertEvents space (d ∷ ds) (e ∷ es) = IsInsertEvent space e × AreInsertEvents space ds es
 AreInsertEvents space [] (e ∷ es) = ⊥
 AreInsertEvents space (d ∷ ds) [] = ⊥
 

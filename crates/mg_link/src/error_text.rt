@@ -118,26 +118,26 @@ impl fmt::Display for Error {
     ghost output = { error_text };
 
     fn fmt<W: fmt::Write>(&self, f: &mut fmt::Formatter<W>) -> fmt::Result {
-        match &self.kind {
-            ErrorKind::OutOfMemory => f.write_str("out of memory"),
-            ErrorKind::Io => f.write_str("the link failed"),
-            ErrorKind::Command(refusal) => refusal.fmt(f),
-            ErrorKind::Write(failure) => failure.fmt(f),
+        f.write_str(match &self.kind {
+            ErrorKind::Command(refusal) => return refusal.fmt(f),
+            ErrorKind::Write(failure) => return failure.fmt(f),
             ErrorKind::InsertMany(failures) => {
-                write!(f, "insert failed, with {} failures", failures.len())
+                return write!(f, "insert failed, with {} failures", failures.len());
             }
-            ErrorKind::InvalidResponse(fault) => write!(f, "invalid response: {fault}"),
-            ErrorKind::BsonDeserialization => f.write_str("received bytes are no document"),
-            ErrorKind::BsonSerialization => f.write_str("the document cannot be written"),
-            ErrorKind::MissingResumeToken => f.write_str("the event has no _id"),
-            ErrorKind::InvalidArgument(argument) => argument.fmt(f),
-            ErrorKind::GridFs(failure) => failure.fmt(f),
-            ErrorKind::FileTooLarge => f.write_str("the file has too many chunks"),
-            ErrorKind::EmptyBatches => f.write_str("1000 empty replies in a row"),
-            ErrorKind::TooManyDocuments => f.write_str("more than 1048576 documents"),
-            ErrorKind::NoSuchJob(n) => write!(f, "no such job: {n}"),
-            ErrorKind::ReceiptMismatch(mismatch) => mismatch.fmt(f),
-        }
+            ErrorKind::InvalidResponse(fault) => return write!(f, "invalid response: {fault}"),
+            ErrorKind::InvalidArgument(argument) => return argument.fmt(f),
+            ErrorKind::GridFs(failure) => return failure.fmt(f),
+            ErrorKind::NoSuchJob(n) => return write!(f, "no such job: {n}"),
+            ErrorKind::ReceiptMismatch(mismatch) => return mismatch.fmt(f),
+            ErrorKind::OutOfMemory => "out of memory",
+            ErrorKind::Io => "the link failed",
+            ErrorKind::BsonDeserialization => "received bytes are no document",
+            ErrorKind::BsonSerialization => "the document cannot be written",
+            ErrorKind::MissingResumeToken => "the event has no _id",
+            ErrorKind::FileTooLarge => "the file has too many chunks",
+            ErrorKind::EmptyBatches => "1000 empty replies in a row",
+            ErrorKind::TooManyDocuments => "more than 1048576 documents",
+        })
     }
 }
 

@@ -1,16 +1,19 @@
 //! What holds of the definitions.
 ghost use Rattle.std.specs.Prelude.{◌≡◌, ◌+◌, ◌<◌, ◌≤◌, ◌^◌, ◌++◌, ℕ, suc, ℤ, pos, Bool, Some, List, [], ◌∷◌, length, slice_get, slice_set};
 ghost use Rattle.mg_bson.specs.Raw.{fields};
+ghost use Rattle.mg_bson.specs.Tree.{Fields, Tree};
+ghost use Rattle.mg_link.specs.Commands.{Batch, asked, asks_watch};
+ghost use Rattle.mg_link.specs.Events.{AsksForEvents, HaveIds, TellsItsInserts, events_in};
 ghost use Rattle.mg_link.specs.Example.{IsExample, IsStep, asks_more, gave_two, inserted_two, inserts_two, killed, kills, opened, opens};
-ghost use Rattle.mg_link.specs.Follow.{Follow, FollowsOn, IsOpen, Knows, owner_of};
-ghost use Rattle.mg_link.specs.History.{IsLegal, Step, opening, state_of};
+ghost use Rattle.mg_link.specs.Follow.{Follow, FollowsOn, IsOpen, Knows, Reads, holding, owner_of};
+ghost use Rattle.mg_link.specs.History.{IsLegal, OpensAt, Reached, Step, opening, state_of, told_at, view_of};
 ghost use Rattle.mg_link.specs.Ids.{counted_id};
 ghost use Rattle.mg_link.specs.Kept.{IsAllowed, IsByRules, IsStoreState, Kept, given_of, is_started, made_of, state_of_kept, steps_of};
 ghost use Rattle.mg_link.specs.Log.{Call, see, waiting};
 ghost use Rattle.mg_link.specs.Owner.{AreApart, Onward, Owner, Passes};
 ghost use Rattle.mg_link.specs.Rules.{answer_of, refusal};
 ghost use Rattle.mg_link.specs.Standing.{Stands, history_before};
-ghost use Rattle.mg_link.specs.State.{Entry, Start, State, Watch, events_between};
+ghost use Rattle.mg_link.specs.State.{Entry, Start, State, Watch, after, events_between};
 
 /// Any 2^64 ids that a counter gives in a row differ.
 pub fn counted_ids_differ()
@@ -30,10 +33,34 @@ pub fn view_grows()
         ≡ events_between w entries from (length entries) ++ events_between w more 0 (length more) }
 {}
 
-/// A watch opened at the same place in every longer history.
-pub fn opening_stays()
-    ensures { (before later : List Step) (position : ℕ) (start : Start) → position < length before
-        → opening (before ++ later) position start ≡ opening before position start }
+/// However far a history has grown, what a follow is to see stays: its view in a history is a prefix of its view in each
+/// longer one, and an aggregate that stands in the history opened its watch at the same place in both.
+pub fn longer_histories_agree()
+    ensures view { (history more : List Step) (w : Watch) (from : ℕ) → (later : List Fields) × (view_of (history ++ more) w from ≡ view_of history w from ++ later) }
+    ensures opening { (history more : List Step) (position : ℕ) (start : Start) → position < length history
+        → opening (history ++ more) position start ≡ opening history position start }
+{}
+
+/// Where a follow reached a token, a new watch behind this token opens at the place reached, in every longer history, or
+/// the server refuses it. What was answered, and behind it what the new watch is to see, is the whole view of the follow.
+pub fn resumption_loses_nothing()
+    ensures place { (history more : List Step) (w : Watch) (from : ℕ) (events : List Fields) (token : Tree) (position : ℕ) (step : Step)
+        → IsLegal (history ++ more) → (r : Reached (state_of history) w from events token)
+        → slice_get (history ++ more) position ≡ Some step → asked step.command ≡ asks_watch w (after token)
+        → OpensAt (history ++ more) position (after token) r.place (told_at step) }
+    ensures view { (history more : List Step) (w : Watch) (from : ℕ) (events : List Fields) (token : Tree)
+        → IsLegal (history ++ more) → (r : Reached (state_of history) w from events token)
+        → view_of (history ++ more) w from ≡ events ++ view_of (history ++ more) w r.place }
+{}
+
+/// Over a legal history no event is without `_id`: neither in a view, nor in a reply, nor in the batch that is read of a
+/// reply to an aggregate of a watch or a getMore, nor in what a stream has in hand.
+pub fn events_have_ids()
+    ensures views { (history : List Step) (w : Watch) (from upto : ℕ) → IsLegal history → HaveIds (events_between w (state_of history).changes from upto) }
+    ensures replies { (history : List Step) (position : ℕ) (step : Step) → IsLegal history → slice_get history position ≡ Some step → HaveIds (events_in (told_at step)) }
+    ensures batches { (history : List Step) (position : ℕ) (step : Step) (batch : Batch) → IsLegal history → slice_get history position ≡ Some step
+        → AsksForEvents (asked step.command) → Reads step.reply batch → HaveIds batch.events }
+    ensures streams { (calls : List Call) (f : Follow) (history : List Step) → f.doing ≡ holding → Knows calls f → IsLegal history → Stands calls history → HaveIds f.ahead }
 {}
 
 /// Where a log stands in a legal history, each front of the log stands in a legal front of the history: in what came
@@ -72,6 +99,12 @@ pub fn refusal_is_allowed()
 pub fn kept_is_legal()
     ensures { (kept : List Kept) → IsByRules kept → length (state_of_kept kept).changes < 2 ^ 64
         → IsLegal (steps_of kept) × IsStoreState (state_of_kept kept) (given_of kept) (is_started kept) }
+{}
+
+/// In such a history the events of inserts tell more than legal histories must: their kind, where the document stands, and
+/// the document.
+pub fn kept_tells_its_inserts()
+    ensures { (kept : List Kept) → IsByRules kept → length (state_of_kept kept).changes < 2 ^ 64 → TellsItsInserts (steps_of kept) }
 {}
 
 /// The first script, as `specs/Example` has it: the history of its four steps leads to the states that it should.

@@ -14,10 +14,10 @@ use Rattle.mg_link.specs.State.{Cursor, State, nothing, put_cursor}
 use Rattle.mg_link.specs.Commands.{Asked, asks_insert, asks_watch, asks_more, asks_kill, asks_other, asked}
 use Rattle.mg_link.specs.Step.{documents_of, ends_cursor}
 use Rattle.mg_link.specs.Rules.{is_id_among, refusal}
-use Rattle.mg_link.specs.Kept.{AreByRulesFrom, Kept, IsReply, by_choice, by_rules, given_after, given_of, given_from, is_started, state_behind, state_of_kept, steps_from}
-use Rattle.mg_link.specs.History.{state_after}
+use Rattle.mg_link.specs.Kept.{AreByRulesFrom, Kept, IsReply, by_choice, by_rules, given_after, given_of, given_from, is_started, state_behind, state_of_kept, steps_from, steps_of}
+use Rattle.mg_link.specs.History.{IsLegal, state_after}
 use Rattle.mg_link.proofs.Behind.{behind_refusal, cursors_refused}
-use Rattle.mg_link.proofs.Legal.{by_rules_push, given_push, kept_state, state_push}
+use Rattle.mg_link.proofs.Legal.{by_rules_push, given_push, kept_is_legal, kept_state, state_push}
 use Rattle.mg_store.specs.Contents.{AnswersBy, Becomes, Does, Keeps, MayKeep, Represents, closing, collection_at}
 use Rattle.mg_store.specs.Continued.{continued}
 use Rattle.mg_store.specs.declared.perform.Answer.{Answer}
@@ -47,6 +47,10 @@ keeps_more c c' history command a h may lt commits =
       content_is = subst (λ (x : State). Represents c' x (given_of (history ++ kept ∷ []))) (sym (state_push history kept))
           (subst (Represents c' (state_behind s given started kept)) (sym (given_push 0 history kept)) after);
     }
+
+-- a list that is held has fewer than 2^64 entries, so the history is legal
+pub keeps_legal : (c : Content) (history : List Kept) → Keeps c history → length c.changes.items < 2 ^ 64 → IsLegal (steps_of history)
+keeps_legal c history h lt = kept_is_legal history h.by_rules (omega (arith, lt, changes-length c (state_of_kept history) (given_of history) h.content_is))
 
 -- an answer by the rules may be kept
 pub may_by_rules : (history : List Kept) (command : List ℕ) (a : Answer) → AnswersBy (state_of_kept history) (given_of history) command a → MayKeep history command a

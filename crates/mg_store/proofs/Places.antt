@@ -7,20 +7,19 @@ use Rattle.std.specs.Str.{bytes_eq}
 use Rattle.hex.specs.Hex.{encode_lower, decode_sized}
 use Rattle.hex.specs.declared.error.FromHexError.{FromHexError}
 use Rattle.hex.proofs.HexLemmas.{decode_sized-encode_lower}
-use Rattle.mg_bson.specs.Tree.{Tree, string, Fields}
-use Rattle.mg_bson.specs.Find.{get, as_document, as_string}
+use Rattle.mg_bson.specs.Tree.{Tree, Fields}
+use Rattle.mg_bson.specs.Find.{as_document}
+use Rattle.mg_link.specs.Commands.{text_of}
 use Rattle.mg_link.specs.Filter.{key}
 use Rattle.mg_link.specs.Rules.{token_of, token_fields, token_place}
 use Rattle.mg_link.proofs.Tokens.{number_bytes, place_named}
 
 -- the text of a token
-pub text_of_token : (place : ℕ) (found : Tree) (fs : Fields) (t : Tree) (s : List ℕ) → found ≡ token_of place → Some fs ≡ as_document found → Some t ≡ get (codes "_data") fs → Some s ≡ as_string t → s ≡ encode_lower (to_be_bytes w64 place)
-text_of_token place found fs t s is doc got text =
+pub text_of_token : (place : ℕ) (found : Tree) (fs : Fields) (s : List ℕ) → found ≡ token_of place → Some fs ≡ as_document found → Some s ≡ text_of (codes "_data") fs → s ≡ encode_lower (to_be_bytes w64 place)
+text_of_token place found fs s is doc text =
     let a : Some fs ≡ Some (token_fields place) = doc ∙ ap as_document is in
     let b : fs ≡ token_fields place = cc in
-    let c : Some t ≡ Some (string (encode_lower (to_be_bytes w64 place))) = got ∙ ap (get (codes "_data")) b in
-    let d : t ≡ string (encode_lower (to_be_bytes w64 place)) = cc in
-    let e : Some s ≡ Some (encode_lower (to_be_bytes w64 place)) = text ∙ ap as_string d in
+    let e : Some s ≡ Some (encode_lower (to_be_bytes w64 place)) = text ∙ ap (text_of (codes "_data")) b in
     cc
 
 -- the text decodes to the bytes of the place

@@ -101,7 +101,7 @@ regroup fs space None = refl
 regroup fs space (Some st) = later (has_only (codes "resumeAfter" ∷ []) st.options) (batch_size fs) (conditions_at st.filter) (λ size. record { space = space; stages = st; size = size }) asked_by (λ o. conditions_at o.stages.filter) (λ size. refl)
 
 watch_parts : (fs : Fields) (b : Bool) (ns : Option Space) (a : Option Items) → (if b then (ns >>= λ space. a >>= λ items. by_rules (more_of fs space) (documents_in items)) else None)
-    ≡ opened (if b then (ns >>= λ space. a >>= λ items. stages_of items >>= sized fs space) else None)
+    ≡ opened (if b then (ns >>= λ space. (a >>= stages_of) >>= sized fs space) else None)
 watch_parts fs false ns a = refl
 watch_parts fs true None a = refl
 watch_parts fs true (Some space) None = refl

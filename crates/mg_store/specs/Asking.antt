@@ -5,7 +5,7 @@ use Rattle.mg_bson.specs.Tree.{Tree, Fields, no_fields, field, Items, no_items, 
 use Rattle.mg_bson.specs.Find.{as_document, get}
 use Rattle.mg_link.specs.Namespace.{Space}
 use Rattle.mg_link.specs.Filter as filter
-use Rattle.mg_link.specs.Filter.{key}
+use Rattle.mg_link.specs.Filter.{begins_with_dollar, key}
 use Rattle.mg_link.specs.Rules.{id_of}
 use Rattle.mg_store.specs.declared.reading.LentSpace.{LentSpace}
 use Rattle.mg_store.specs.declared.filter.Condition.{Condition}
@@ -28,6 +28,12 @@ abbrev pub ids_among : Items → List ℤ
 ids_among no_items = []
 ids_among (item t ts) = ahead (id_of t) (ids_among ts)
 
+-- there is just one field
+abbrev pub is_single : Fields → Bool
+is_single no_fields = false
+is_single (field k t no_fields) = true
+is_single (field k t (field l u fs)) = false
+
 -- the document of the only field, where that has the name
 abbrev pub only_document : List ℕ → Fields → Option Fields
 only_document name no_fields = None
@@ -35,6 +41,11 @@ only_document name (field k t no_fields) = if bytes_eq k name then as_document t
 only_document name (field k t (field l u fs)) = None
 
 -- ---- filters
+
+-- the first name is that of an operator
+abbrev pub begins_operator : Fields → Bool
+begins_operator no_fields = false
+begins_operator (field k t fs) = begins_with_dollar k
 
 -- a condition, whose values are held as encodings
 pub record Keyed : Type 0 where

@@ -1,5 +1,5 @@
 -- The request of a command, where filters are held by the encodings of their values.
-use Rattle.std.specs.Prelude.{◌≡◌, ℕ, ℤ, Bool, List, [], ◌∷◌, map, Option, Some, None, option_map, Result, Ok, Err, codes, if◌then◌else◌}
+use Rattle.std.specs.Prelude.{◌≡◌, ℕ, ℤ, Bool, true, false, List, [], ◌∷◌, map, Option, Some, None, option_map, Result, Ok, Err, codes, if◌then◌else◌}
 use Rattle.mg_bson.specs.Tree.{Tree, Fields, Items, no_items, item}
 use Rattle.mg_bson.specs.Find.{as_document}
 use Rattle.mg_bson.specs.Raw.{fields, items}
@@ -66,6 +66,11 @@ pub record Stages : Type 0 where
   pub options : Fields
   pub filter : Option Fields
 
+-- no stage is left
+abbrev pub IsEnd : Bool → Items → Type 0
+IsEnd end no_items = end ≡ true
+IsEnd end (item t ts) = end ≡ false
+
 abbrev pub filter_behind : Items → Option (Option Fields)
 filter_behind no_items = Some None
 filter_behind (item t no_items) = as_document t >>= λ stage. only_document (codes "$match") stage >>= λ filter. Some (Some filter)
@@ -75,6 +80,10 @@ unfoldable pub stages_of : Items → Option Stages
 stages_of no_items = None
 stages_of (item t ts) = as_document t >>= λ stage. only_document (codes "$changeStream") stage >>= λ options. filter_behind ts >>= λ filter. Some (record { options = options; filter = filter })
 
+-- the stages of the pipeline of a command
+abbrev pub stages_at : Fields → Option Stages
+stages_at fs = array_at (codes "pipeline") fs >>= stages_of
+
 pub record Opening : Type 0 where
   pub space : Space
   pub stages : Stages
@@ -82,7 +91,7 @@ pub record Opening : Type 0 where
 
 unfoldable pub opening_of : Fields → Option Opening
 opening_of fs = if has_only (codes "aggregate" ∷ codes "pipeline" ∷ codes "cursor" ∷ []) fs
-    then (named_space (codes "aggregate") fs >>= λ space. array_at (codes "pipeline") fs >>= λ items. stages_of items >>= λ stages.
+    then (named_space (codes "aggregate") fs >>= λ space. stages_at fs >>= λ stages.
     (if has_only (codes "resumeAfter" ∷ []) stages.options then (batch_size fs >>= λ size. Some (record { space = space; stages = stages; size = size })) else None))
     else None
 

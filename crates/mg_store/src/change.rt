@@ -14,7 +14,7 @@ ghost use Rattle.mg_store.specs.Holding.{AreExact, GivesBatch, IsWatch, entries_
 
 use crate::cursor::Watch;
 use crate::filter::matches;
-use crate::reply::{put, put_item, put_text, time, token};
+use crate::reply::{put_item, time, token, with, with_text};
 use mg_bson::{Array, Bson, Document, RawDocumentBuf, to_bytes, to_document};
 use mg_link::{Namespace, OutOfMemory};
 use std::alloc::Global;
@@ -41,19 +41,17 @@ impl Drop for ChangeEntry {
 fn names_of(alloc: Global, ns: &Namespace) -> Result<Document, OutOfMemory>
     ensures { IfOk result (λ d. d ≡ ("db" ⇒ string (space ns.now).db ⨾ "coll" ⇒ string (space ns.now).coll ⨾ empty)) }
 {
-    let mut names = Document::new(alloc);
-    put(&mut names, "db", Bson::String(ns.db.clone()?))?;
-    put(&mut names, "coll", Bson::String(ns.coll.clone()?))?;
-    Ok(names)
+    let db = ns.db.clone()?;
+    let coll = ns.coll.clone()?;
+    let names = with(Document::new(alloc), "db", Bson::String(db))?;
+    with(names, "coll", Bson::String(coll))
 }
 
 /// The document of an `_id` alone.
 fn key_document(alloc: Global, id: Bson) -> Result<Document, OutOfMemory>
     ensures { IfOk result (λ d. d ≡ ("_id" ⇒ tree id ⨾ empty)) }
 {
-    let mut key = Document::new(alloc);
-    put(&mut key, "_id", id)?;
-    Ok(key)
+    with(Document::new(alloc), "_id", id)
 }
 
 /// What the event of an insert says before it comes to the document.
@@ -61,12 +59,12 @@ fn begun_event(alloc: Global, place: u64, ns: &Namespace) -> Result<Document, Ou
     ensures { IfOk result (λ d. d ≡ ("_id" ⇒ token_of place ⨾ "operationType" ⇒ word "insert" ⨾ "clusterTime" ⇒ stamp_of place
         ⨾ "ns" ⇒ document ("db" ⇒ string (space ns.now).db ⨾ "coll" ⇒ string (space ns.now).coll ⨾ empty) ⨾ empty)) }
 {
-    let mut event = Document::new(alloc);
-    put(&mut event, "_id", Bson::Document(token(alloc, place)?))?;
-    put_text(alloc, &mut event, "operationType", "insert")?;
-    put(&mut event, "clusterTime", Bson::Timestamp(time(place)))?;
-    put(&mut event, "ns", Bson::Document(names_of(alloc, ns)?))?;
-    Ok(event)
+    let token = token(alloc, place)?;
+    let event = with(Document::new(alloc), "_id", Bson::Document(token))?;
+    let event = with_text(alloc, event, "operationType", "insert")?;
+    let event = with(event, "clusterTime", Bson::Timestamp(time(place)))?;
+    let names = names_of(alloc, ns)?;
+    with(event, "ns", Bson::Document(names))
 }
 
 /// The event of a document that was inserted, whose entry stands before this place.
@@ -80,10 +78,9 @@ pub(crate) fn insert_event(
     ensures { IfOk result (λ d. d ≡ insert_event place (space ns.now) (tree id) inserted) }
 {
     let key = key_document(alloc, id)?;
-    let mut event = begun_event(alloc, place, ns)?;
-    put(&mut event, "documentKey", Bson::Document(key))?;
-    put(&mut event, "fullDocument", Bson::Document(inserted))?;
-    Ok(event)
+    let event = begun_event(alloc, place, ns)?;
+    let event = with(event, "documentKey", Bson::Document(key))?;
+    with(event, "fullDocument", Bson::Document(inserted))
 }
 
 /// The events of a batch, and the place behind it.

@@ -7,10 +7,10 @@ ghost use Rattle.mg_bson.specs.Tree.{document, field, no_fields};
 ghost use Rattle.mg_bson.specs.View.{tree};
 ghost use Rattle.mg_bson.specs.Writable.{IsWritable};
 ghost use Rattle.mg_link.specs.Filter.{begins_with_dollar, condition_of, conditions_of, document_values, is_top_name, key, operator_values, values_of};
-ghost use Rattle.mg_store.specs.Asking.{held, is_key_among, keyed, keys_of, matches_keys, meets_keys};
+ghost use Rattle.mg_store.specs.Asking.{begins_operator, held, is_key_among, keyed, keys_of, matches_keys, meets_keys};
 
-use crate::reading::has_dot;
-use crate::reply::put;
+use crate::reading::{has_dot, is_single};
+use crate::reply::with;
 use mg_bson::{Bson, Document, RawArray, RawDocument, RawValue, to_bytes};
 use mg_link::OutOfMemory;
 use std::alloc::Global;
@@ -34,8 +34,7 @@ pub(crate) fn key_of(alloc: Global, found: Bson) -> Result<Vec<u8>, OutOfMemory>
     ensures key { IfOk result (λ k. k.items ≡ key (tree found)) }
     ensures writable { OnOk result (IsWritable (field [] (tree found) no_fields)) }
 {
-    let mut document = Document::new(alloc);
-    put(&mut document, "", found)?;
+    let document = with(Document::new(alloc), "", found)?;
     match to_bytes(alloc, &document) {
         Ok(bytes) => Ok(bytes.into_bytes()),
         Err(_) => Err(OutOfMemory),
@@ -109,6 +108,16 @@ fn operator_keys(
     }
 }
 
+/// Whether the first name of the document is that of an operator.
+fn begins_operator(document: &RawDocument<'_>) -> bool
+    ensures { result ≡ begins_operator (fields document.now) }
+{
+    match document.iter().next() {
+        Some((name, _)) => begins_with_dollar(name),
+        None => false,
+    }
+}
+
 /// The encodings of the values that a document in a filter stands for.
 fn document_keys(
     alloc: Global,
@@ -118,17 +127,16 @@ fn document_keys(
     requires { value found.now ≡ document (fields inner.now) }
     ensures { IfOk result (λ ks. option_map (λ v. map (λ k. k.items) v.items) ks ≡ option_map keys_of (document_values (fields inner.now))) }
 {
-    let mut left = inner.iter();
-    let Some((name, operand)) = left.next() else {
-        return Ok(Some(one_key(alloc, found)?));
-    };
-    if !begins_with_dollar(name) {
+    if !begins_operator(inner) {
         return Ok(Some(one_key(alloc, found)?));
     }
-    if left.next().is_some() {
+    if !is_single(inner) {
         return Ok(None);
     }
-    operator_keys(alloc, name, &operand)
+    match inner.iter().next() {
+        Some((name, operand)) => operator_keys(alloc, name, &operand),
+        None => Ok(None),
+    }
 }
 
 /// The encodings of the values that a value in a filter stands for.

@@ -1,10 +1,11 @@
 //! A link to a store in this process.
-ghost use Rattle.std.specs.Prelude.{◌≡◌, ◌<◌, ◌≤◌, [], Some, IfOk, IsErrOf, IsSome, OnErr, length, vec_len};
+ghost use Rattle.std.specs.Prelude.{◌≡◌, ◌<◌, ◌≤◌, [], Some, IfOk, IsErrOf, IsSome, OnErr, length, map, string_bytes, vec_len};
 ghost use Rattle.mg_link.specs.Causes.{Rose};
 ghost use Rattle.mg_link.specs.Kept.{IsReply};
 ghost use Rattle.mg_link.specs.Link.{AnswersAtOnce, Later, PollMeans, PollPends, StartMeans, StartsAtOnce, StaysPrompt};
 ghost use Rattle.mg_link.specs.Places.{out_at};
-ghost use Rattle.mg_store.specs.InMemory.{IsPrompt, IsSmall, NamesNone, StartedAs, Takes, by_rules, fate_at, faults_in, pended_after, pends_in, position_behind};
+ghost use Rattle.mg_link.specs.Rules.{refusal};
+ghost use Rattle.mg_store.specs.InMemory.{IsPrompt, IsSmall, NamesNone, Performed, StartedAs, Takes, by_rules, fate_at, faults_in, pended_after, pends_in, position_behind};
 ghost use Rattle.mg_store.specs.Sending.{HandsOver, HeardAt, Hearing, Honest, PolledAt, Sent, pended_of};
 ghost use Rattle.mg_store.specs.Stored.{Performs};
 
@@ -59,6 +60,30 @@ impl Wait {
     }
 }
 
+/// Performs a command, and gives the reply. An error changes nothing.
+fn perform(store: &mut Store, command: RawDocument<'_>) -> Result<RawDocumentBuf, OutOfMemory>
+    ensures performed { IfOk result (Performed (by_rules command.entry) store.old store.new command.entry) }
+    ensures err { OnErr result (store.new ≡ store.old) }
+{
+    let receipt = store.perform(command)?;
+    Ok(receipt.reply)
+}
+
+/// Refuses a command, and gives the reply. An error changes nothing.
+fn refuse(
+    store: &mut Store,
+    command: RawDocument<'_>,
+    code: i32,
+    labels: &Vec<String>,
+) -> Result<RawDocumentBuf, OutOfMemory>
+    requires { IsSmall (FateKind.Refuse code labels.now) }
+    ensures performed { IfOk result (Performed (λ _. refusal code (map string_bytes labels.now.items)) store.old store.new command.entry) }
+    ensures err { OnErr result (store.new ≡ store.old) }
+{
+    let receipt = store.refuse(command, code, labels.as_slice())?;
+    Ok(receipt.reply)
+}
+
 /// Performs of a command what its fate says, and gives the reply that is to come. An error changes nothing.
 fn take_effect(
     store: &mut Store,
@@ -70,19 +95,13 @@ fn take_effect(
     ensures err { OnErr result (store.new ≡ store.old) }
 {
     match kind {
-        FateKind::Keep => {
-            let receipt = store.perform(command)?;
-            Ok(Some(receipt.reply))
-        }
+        FateKind::Keep => Ok(Some(perform(store, command)?)),
         FateKind::Lose => {
-            let _lost = store.perform(command)?;
+            let _lost = perform(store, command)?;
             Ok(None)
         }
         FateKind::Drop => Ok(None),
-        FateKind::Refuse { code, labels } => {
-            let receipt = store.refuse(command, *code, labels.as_slice())?;
-            Ok(Some(receipt.reply))
-        }
+        FateKind::Refuse { code, labels } => Ok(Some(refuse(store, command, *code, labels)?)),
     }
 }
 
@@ -284,7 +303,8 @@ impl Model for MemLink {
 }
 
 impl MemLink {
-    ghost use Rattle.mg_link.specs.Kept.{steps_of};
+    ghost use Rattle.mg_link.specs.History.{IsLegal};
+    ghost use Rattle.mg_link.specs.Kept.{IsByRules, steps_of};
     ghost use Rattle.mg_link.specs.Standing.{Stands};
     ghost use Rattle.mg_store.specs.InMemory.{AreAsFates, AreKept, ArePlaced, AreSmall, IsPrompt};
 
@@ -312,21 +332,26 @@ impl MemLink {
         &self.store
     }
 
-    /// The calls so far, in the order of their starts. They stand in the history of the store, and each is as its fate
-    /// says, except that it may see want of memory in place of its reply.
+    /// The calls so far, in the order of their starts. They stand in the legal history of the store, and each is as its
+    /// fate says, except that it may see want of memory in place of its reply.
     pub fn log(&self) -> &Log
         ensures calls { result.now ≡ self.now.calls }
+        ensures legal { IsLegal (steps_of self.now.stored.history) }
         ensures stands { Stands self.now.calls (steps_of self.now.stored.history) }
         ensures within { ArePlaced self.now.stored.history self.now.calls }
         ensures fates { AreAsFates self.now.stored.history self.now.fates self.now.calls self.now.pended }
     {
+        // For the proof alone: a store tells with its history that it is legal.
+        self.store.history();
         &self.log
     }
 
-    /// The store and the log.
+    /// The store and the log, which stands in the store's legal history.
     pub fn into_parts(self) -> (Store, Log)
         ensures store { result.0 ≡ self.stored }
         ensures calls { result.1 ≡ self.calls }
+        ensures by_rules { IsByRules self.stored.history }
+        ensures legal { IsLegal (steps_of self.stored.history) }
         ensures stands { Stands self.calls (steps_of self.stored.history) }
         ensures within { ArePlaced self.stored.history self.calls }
         ensures fates { AreAsFates self.stored.history self.fates self.calls self.pended }
@@ -339,6 +364,8 @@ impl MemLink {
             fates: _,
             wire: _,
         } = self;
+        // For the proof alone: a store tells with its history that it is by the rules and legal.
+        store.history();
         (store, log)
     }
 

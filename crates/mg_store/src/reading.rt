@@ -8,7 +8,7 @@ ghost use Rattle.mg_link.specs.Filter.{has_dot};
 ghost use Rattle.mg_link.specs.Namespace.{space};
 ghost use Rattle.mg_link.specs.State.{is_space};
 ghost use Rattle.mg_link.specs.Rules.{array_at, count_of, has_only, id_of, ids_in, ignored, is_name_among, name_at, named_space, optional_count};
-ghost use Rattle.mg_store.specs.Asking.{documents_among, ids_among, lent_space, only_document};
+ghost use Rattle.mg_store.specs.Asking.{documents_among, ids_among, is_single, lent_space, only_document};
 
 use mg_bson::{RawArray, RawDocument, RawValue};
 use mg_link::{Namespace, OutOfMemory};
@@ -253,18 +253,23 @@ pub(crate) fn ids_of<'a>(array: RawArray<'a>) -> Option<RawArray<'a>>
     if are_ids(&array) { Some(array) } else { None }
 }
 
+/// Whether the document has just one field.
+pub(crate) fn is_single(document: &RawDocument<'_>) -> bool
+    ensures { result ≡ is_single (fields document.now) }
+{
+    let mut left = document.iter();
+    match left.next() {
+        Some(_) => left.next().is_none(),
+        None => false,
+    }
+}
+
 /// The document of the only field, where that has the name.
 pub(crate) fn only_document<'a>(stage: &RawDocument<'a>, name: &str) -> Option<RawDocument<'a>>
     ensures { option_map fields result ≡ only_document name.now (fields stage.now) }
 {
-    let mut left = stage.iter();
-    let (first, found) = left.next()?;
-    if left.next().is_some() {
+    if !is_single(stage) {
         return None;
     }
-    if first == name {
-        found.as_document()
-    } else {
-        None
-    }
+    document_at(stage, name)
 }

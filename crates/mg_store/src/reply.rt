@@ -15,27 +15,27 @@ use std::alloc::Global;
 /// The most bytes of a reply.
 pub(crate) const MAX_REPLY: usize = 47_000_000;
 
-/// Adds a field at the end.
-pub(crate) fn put(document: &mut Document, name: &str, value: Bson) -> Result<(), OutOfMemory>
-    ensures { OnOk result (document.new ≡ with_field document.old name.now (tree value)) }
+/// The document with a field more at its end.
+pub(crate) fn with(mut document: Document, name: &str, value: Bson) -> Result<Document, OutOfMemory>
+    ensures { IfOk result (λ d. d ≡ with_field document name.now (tree value)) }
 {
     match document.append(name, value) {
-        Ok(()) => Ok(()),
+        Ok(()) => Ok(document),
         Err(_) => Err(OutOfMemory),
     }
 }
 
-/// Adds a text at the end.
-pub(crate) fn put_text(
+/// The document with a text more at its end.
+pub(crate) fn with_text(
     alloc: Global,
-    document: &mut Document,
+    document: Document,
     name: &str,
     value: &str,
-) -> Result<(), OutOfMemory>
-    ensures { OnOk result (document.new ≡ with_field document.old name.now (string value.now)) }
+) -> Result<Document, OutOfMemory>
+    ensures { IfOk result (λ d. d ≡ with_field document name.now (string value.now)) }
 {
     let value = text(alloc, value)?;
-    put(document, name, value)
+    with(document, name, value)
 }
 
 /// Adds an item at the end.
@@ -68,10 +68,8 @@ pub(crate) fn count(n: u64) -> Bson
 pub(crate) fn token(alloc: Global, place: u64) -> Result<Document, OutOfMemory>
     ensures { IfOk result (λ d. d ≡ token_fields place) }
 {
-    let mut token = Document::new(alloc);
     let digits = hex::encode(alloc, place.to_be_bytes().as_slice())?;
-    put(&mut token, "_data", Bson::String(digits))?;
-    Ok(token)
+    with(Document::new(alloc), "_data", Bson::String(digits))
 }
 
 /// The time behind so many entries, which stays at the greatest number of seconds.
@@ -100,28 +98,21 @@ fn words_of(alloc: Global, labels: &[String]) -> Result<Array, OutOfMemory>
 pub(crate) fn refusal(alloc: Global, code: i32, labels: &[String]) -> Result<Document, OutOfMemory>
     ensures { IfOk result (λ d. d ≡ refusal code (map string_bytes labels.now)) }
 {
-    let mut reply = Document::new(alloc);
-    put(&mut reply, "ok", Bson::Int32(0))?;
-    put_text(alloc, &mut reply, "errmsg", "refused")?;
-    put(&mut reply, "code", Bson::Int32(code))?;
-    put_text(alloc, &mut reply, "codeName", "Refused")?;
-    put(
-        &mut reply,
-        "errorLabels",
-        Bson::Array(words_of(alloc, labels)?),
-    )?;
-    Ok(reply)
+    let reply = with(Document::new(alloc), "ok", Bson::Int32(0))?;
+    let reply = with_text(alloc, reply, "errmsg", "refused")?;
+    let reply = with(reply, "code", Bson::Int32(code))?;
+    let reply = with_text(alloc, reply, "codeName", "Refused")?;
+    let labels = words_of(alloc, labels)?;
+    with(reply, "errorLabels", Bson::Array(labels))
 }
 
 /// The id and the namespace of a cursor.
 fn begun_cursor(alloc: Global, id: i64, ns: &Namespace) -> Result<Document, OutOfMemory>
     ensures { IfOk result (λ d. d ≡ cursor_fields id (space ns.now) empty) }
 {
-    let mut cursor = Document::new(alloc);
-    put(&mut cursor, "id", Bson::Int64(id))?;
     let full_name = format!(in alloc; "{ns}")?;
-    put(&mut cursor, "ns", Bson::String(full_name))?;
-    Ok(cursor)
+    let cursor = with(Document::new(alloc), "id", Bson::Int64(id))?;
+    with(cursor, "ns", Bson::String(full_name))
 }
 
 /// The part of a reply that holds a batch, under this name, and the token behind it.
@@ -135,11 +126,10 @@ fn cursor(
 ) -> Result<Document, OutOfMemory>
     ensures { IfOk result (λ d. d ≡ cursor_fields id (space ns.now) (field batch.now (array events) ("postBatchResumeToken" ⇒ token_of place ⨾ empty))) }
 {
-    let mut cursor = begun_cursor(alloc, id, ns)?;
-    put(&mut cursor, batch, Bson::Array(events))?;
+    let cursor = begun_cursor(alloc, id, ns)?;
+    let cursor = with(cursor, batch, Bson::Array(events))?;
     let token = token(alloc, place)?;
-    put(&mut cursor, "postBatchResumeToken", Bson::Document(token))?;
-    Ok(cursor)
+    with(cursor, "postBatchResumeToken", Bson::Document(token))
 }
 
 /// The reply to the aggregate that opens a watch.
@@ -154,11 +144,9 @@ pub(crate) fn opened(
     ensures { IfOk result (λ d. d ≡ ("cursor" ⇒ document (cursor_fields id (space ns.now) ("firstBatch" ⇒ array events ⨾ "postBatchResumeToken" ⇒ token_of place ⨾ empty)) ⨾ "operationTime" ⇒ timestamp now.time now.increment ⨾ "ok" ⇒ int32 (pos 1) ⨾ empty)) }
 {
     let cursor = cursor(alloc, id, ns, "firstBatch", events, place)?;
-    let mut reply = Document::new(alloc);
-    put(&mut reply, "cursor", Bson::Document(cursor))?;
-    put(&mut reply, "operationTime", Bson::Timestamp(now))?;
-    put(&mut reply, "ok", Bson::Int32(1))?;
-    Ok(reply)
+    let reply = with(Document::new(alloc), "cursor", Bson::Document(cursor))?;
+    let reply = with(reply, "operationTime", Bson::Timestamp(now))?;
+    with(reply, "ok", Bson::Int32(1))
 }
 
 /// The reply to a getMore.
@@ -172,34 +160,29 @@ pub(crate) fn next_batch(
     ensures { IfOk result (λ d. d ≡ ("cursor" ⇒ document (cursor_fields id (space ns.now) ("nextBatch" ⇒ array events ⨾ "postBatchResumeToken" ⇒ token_of place ⨾ empty)) ⨾ "ok" ⇒ int32 (pos 1) ⨾ empty)) }
 {
     let cursor = cursor(alloc, id, ns, "nextBatch", events, place)?;
-    let mut reply = Document::new(alloc);
-    put(&mut reply, "cursor", Bson::Document(cursor))?;
-    put(&mut reply, "ok", Bson::Int32(1))?;
-    Ok(reply)
+    let reply = with(Document::new(alloc), "cursor", Bson::Document(cursor))?;
+    with(reply, "ok", Bson::Int32(1))
 }
 
 /// The reply to an insert: how many documents were appended, and which were not.
 pub(crate) fn inserted(alloc: Global, n: u64, errors: Array) -> Result<Document, OutOfMemory>
     ensures { n < 2 ^ 63 → IfOk result (λ d. d ≡ ("n" ⇒ number_of n ⨾ errors_field errors ("ok" ⇒ int32 (pos 1) ⨾ empty))) }
 {
-    let mut reply = Document::new(alloc);
-    put(&mut reply, "n", count(n))?;
-    if !errors.is_empty() {
-        put(&mut reply, "writeErrors", Bson::Array(errors))?;
+    let reply = with(Document::new(alloc), "n", count(n))?;
+    if errors.is_empty() {
+        return with(reply, "ok", Bson::Int32(1));
     }
-    put(&mut reply, "ok", Bson::Int32(1))?;
-    Ok(reply)
+    let reply = with(reply, "writeErrors", Bson::Array(errors))?;
+    with(reply, "ok", Bson::Int32(1))
 }
 
 /// One document of an insert that was not appended.
 pub(crate) fn write_error(alloc: Global, index: i32, code: i32) -> Result<Document, OutOfMemory>
     ensures { IfOk result (λ d. d ≡ ("index" ⇒ int32 index ⨾ "code" ⇒ int32 code ⨾ "errmsg" ⇒ word "refused" ⨾ empty)) }
 {
-    let mut error = Document::new(alloc);
-    put(&mut error, "index", Bson::Int32(index))?;
-    put(&mut error, "code", Bson::Int32(code))?;
-    put_text(alloc, &mut error, "errmsg", "refused")?;
-    Ok(error)
+    let error = with(Document::new(alloc), "index", Bson::Int32(index))?;
+    let error = with(error, "code", Bson::Int32(code))?;
+    with_text(alloc, error, "errmsg", "refused")
 }
 
 /// The reply to a killCursors.
@@ -210,13 +193,11 @@ pub(crate) fn killed(
 ) -> Result<Document, OutOfMemory>
     ensures { IfOk result (λ d. d ≡ killed_with killed not_found) }
 {
-    let mut reply = Document::new(alloc);
-    put(&mut reply, "cursorsKilled", Bson::Array(killed))?;
-    put(&mut reply, "cursorsNotFound", Bson::Array(not_found))?;
-    put(&mut reply, "cursorsAlive", Bson::Array(Array::new(alloc)))?;
-    put(&mut reply, "cursorsUnknown", Bson::Array(Array::new(alloc)))?;
-    put(&mut reply, "ok", Bson::Int32(1))?;
-    Ok(reply)
+    let reply = with(Document::new(alloc), "cursorsKilled", Bson::Array(killed))?;
+    let reply = with(reply, "cursorsNotFound", Bson::Array(not_found))?;
+    let reply = with(reply, "cursorsAlive", Bson::Array(Array::new(alloc)))?;
+    let reply = with(reply, "cursorsUnknown", Bson::Array(Array::new(alloc)))?;
+    with(reply, "ok", Bson::Int32(1))
 }
 
 /// The bytes of a reply, or none where it is larger or deeper than a reply may be. Its names are of checked documents, so

@@ -1,10 +1,11 @@
 //! What a command asks of the store.
 ghost use Rattle.mg_store.specs.declared.request.Stop.TheVariants.{Memory};
-ghost use Rattle.std.specs.Prelude.{◌≡◌, IfOk, map, option_map};
+ghost use Rattle.std.specs.Prelude.{◌≡◌, IfOk, codes, map, option_map};
+ghost use Rattle.mg_bson.specs.Find.{get};
 ghost use Rattle.mg_bson.specs.Raw.{fields, items, items_left};
 ghost use Rattle.mg_link.specs.Rules.{batch_size, insert_request, kill_request, more_request, request_of, some_size, watch_request};
-ghost use Rattle.mg_store.specs.Asking.{held, keyed};
-ghost use Rattle.mg_store.specs.Wanted.{Asks, OrBadRequest, code_of, conditions_at, filter_behind, lent, lent_opening, lent_stages, opening_of, stages_of, wanted};
+ghost use Rattle.mg_store.specs.Asking.{held, keyed, lent_space};
+ghost use Rattle.mg_store.specs.Wanted.{Asks, IsEnd, OrBadRequest, code_of, conditions_at, filter_behind, lent, lent_opening, lent_stages, opening_of, stages_at, stages_of, wanted, watch};
 
 use crate::filter::{Condition, conditions_of};
 use crate::reading::{
@@ -115,10 +116,26 @@ fn insert_of<'a>(command: &RawDocument<'a>) -> Option<Request<'a>>
 }
 
 /// The stages of a pipeline that opens a watch: the options of the first, and the filter of a second.
-#[derive(Drop)]
 struct Stages<'a> {
     options: RawDocument<'a>,
     filter: Option<RawDocument<'a>>,
+}
+
+// By hand, so that letting one go is one call.
+impl Drop for Stages<'_> {
+    fn drop(self) {
+        let Stages {
+            options: _,
+            filter: _,
+        } = self;
+    }
+}
+
+/// Whether no stage is left. One that is left is passed.
+fn is_end(stages: &mut RawItems<'_>) -> bool
+    ensures { IsEnd result (items_left stages.old) }
+{
+    stages.next().is_none()
 }
 
 /// The filter of the stages that are left: none, or one `$match`.
@@ -128,10 +145,10 @@ fn filter_of<'a>(stages: &mut RawItems<'a>) -> Option<Option<RawDocument<'a>>>
     let Some(stage) = stages.next() else {
         return Some(None);
     };
-    let stage = stage.as_document()?;
-    if stages.next().is_some() {
+    if !is_end(stages) {
         return None;
     }
+    let stage = stage.as_document()?;
     let filter = only_document(&stage, "$match")?;
     Some(Some(filter))
 }
@@ -149,6 +166,14 @@ fn stages_of<'a>(pipeline: &RawArray<'a>) -> Option<Stages<'a>>
     Some(Stages { options, filter })
 }
 
+/// The stages of the pipeline of a command, where they open a watch.
+fn stages_at<'a>(command: &RawDocument<'a>) -> Option<Stages<'a>>
+    ensures { option_map lent_stages result ≡ stages_at (fields command.now) }
+{
+    let pipeline = array_at(command, "pipeline")?;
+    stages_of(&pipeline)
+}
+
 /// The batch size that the field `cursor` of a command asks for.
 #[tactic(auto, unfolding(mg_link::specs::Rules::batch_size))]
 fn batch_size(command: &RawDocument<'_>) -> Option<Option<u64>>
@@ -162,11 +187,21 @@ fn batch_size(command: &RawDocument<'_>) -> Option<Option<u64>>
 }
 
 /// What an aggregate asks for but its conditions.
-#[derive(Drop)]
 struct Opening<'a> {
     space: LentSpace<'a>,
     stages: Stages<'a>,
     batch_size: Option<u64>,
+}
+
+// By hand, so that letting one go is one call.
+impl Drop for Opening<'_> {
+    fn drop(self) {
+        let Opening {
+            space: _,
+            stages: _,
+            batch_size: _,
+        } = self;
+    }
 }
 
 #[tactic(auto, unfolding(crate::specs::Wanted::opening_of))]
@@ -177,7 +212,7 @@ fn opening_of<'a>(command: &RawDocument<'a>) -> Option<Opening<'a>>
         return None;
     }
     let space = space_at(command, "aggregate")?;
-    let stages = stages_of(&array_at(command, "pipeline")?)?;
+    let stages = stages_at(command)?;
     if !has_only(&stages.options, &["resumeAfter"]) {
         return None;
     }
@@ -189,15 +224,25 @@ fn opening_of<'a>(command: &RawDocument<'a>) -> Option<Opening<'a>>
     })
 }
 
-fn filter_conditions(
-    alloc: Global,
-    filter: Option<RawDocument<'_>>,
-) -> Result<Option<Vec<Condition>>, OutOfMemory>
-    ensures { IfOk result (λ cs. option_map (λ v. map held v.items) cs ≡ option_map (map keyed) (conditions_at (option_map fields filter.entry))) }
+/// The conditions of the stages: those of their filter, and none where there is no filter.
+fn conditions_in(alloc: Global, stages: &Stages<'_>) -> Result<Option<Vec<Condition>>, OutOfMemory>
+    ensures { IfOk result (λ cs. option_map (λ v. map held v.items) cs ≡ option_map (map keyed) (conditions_at (option_map fields stages.now.filter))) }
 {
-    match filter {
-        Some(filter) => conditions_of(alloc, &filter),
+    match &stages.filter {
+        Some(filter) => conditions_of(alloc, filter),
         None => Ok(Some(Vec::new(alloc))),
+    }
+}
+
+/// The request of an opening whose filter has these conditions.
+fn watch_with<'a>(opening: &Opening<'a>, filter: Vec<Condition>) -> Request<'a>
+    ensures { lent result ≡ watch (lent_space opening.now.space) (map held filter.items) (get (codes "resumeAfter") (fields opening.now.stages.options)) opening.now.batch_size }
+{
+    Request::Watch {
+        space: opening.space,
+        filter,
+        resume_after: opening.stages.options.get("resumeAfter"),
+        batch_size: opening.batch_size,
     }
 }
 
@@ -210,21 +255,10 @@ fn watch_of<'a>(
     let Some(opening) = opening_of(command) else {
         return Ok(None);
     };
-    let Opening {
-        space,
-        stages,
-        batch_size,
-    } = opening;
-    let Stages { options, filter } = stages;
-    let Some(filter) = filter_conditions(alloc, filter)? else {
-        return Ok(None);
-    };
-    Ok(Some(Request::Watch {
-        space,
-        filter,
-        resume_after: options.get("resumeAfter"),
-        batch_size,
-    }))
+    match conditions_in(alloc, &opening.stages)? {
+        Some(filter) => Ok(Some(watch_with(&opening, filter))),
+        None => Ok(None),
+    }
 }
 
 /// A size of 0 counts as none given.

@@ -2,7 +2,8 @@
 ghost use Rattle.std.specs.Prelude.{◌≡◌, ◌<◌, ◌≤◌, [], length, map, suc, pos, string_bytes, IfOk, OnErr};
 ghost use Rattle.mg_bson.specs.Bytes.{bytes};
 ghost use Rattle.mg_bson.specs.Raw.{fields};
-ghost use Rattle.mg_link.specs.Kept.{IsByRules, IsReply, given_of, state_of_kept};
+ghost use Rattle.mg_link.specs.History.{IsLegal};
+ghost use Rattle.mg_link.specs.Kept.{IsByRules, IsReply, given_of, state_of_kept, steps_of};
 ghost use Rattle.mg_link.specs.Namespace.{space};
 ghost use Rattle.mg_link.specs.Rules.{answer_of, refusal};
 ghost use Rattle.mg_link.specs.Step.{documents_of};
@@ -127,10 +128,11 @@ impl Store {
         self.content.changes.as_slice()
     }
 
-    /// The steps that were taken, in order.
+    /// The steps that were taken, in order: a legal history, where each reply is that of the rules or a chosen refusal.
     pub fn history(&self) -> &[HistoryStep]
         ensures steps { map kept_of result.now ≡ self.now.history }
         ensures by_rules { IsByRules self.now.history }
+        ensures legal { IsLegal (steps_of self.now.history) }
     {
         self.history.as_slice()
     }

@@ -46,11 +46,12 @@ pub returns-in-Failed-clause-stays : goal.returns-in-Failed-clause-stays
 returns-in-Failed-clause-stays g c = stays_same (g.L.Link.log c.args.link.now) (g.L.Link.log c.args.link.now) refl
 
 pub returns-in-Pending-clause-caused : goal.returns-in-Pending-clause-caused
-returns-in-Pending-clause-caused g c = λ memory log grows. causes.waits_on (g.L.Link.awaited c.args.link.now) log (g.L.Link.log c.args.link.now) (g.L.Link.wire c.args.link.now) c.args.landing c.in-Pending.closing c.in-Pending.is memory
+returns-in-Pending-clause-caused g c = λ old log r f ran. causes.waits_on old (g.L.Link.awaited c.args.link.now) log (g.L.Link.log c.args.link.now) (g.L.Link.wire c.args.link.now) r f c.args.landing ran c.in-Pending.closing c.in-Pending.is
 
 pub returns-in-Done-clause-caused : goal.returns-in-Done-clause-caused
-returns-in-Done-clause-caused g c = λ memory log grows.
-    causes.killed_later (g.L.Link.awaited c.args.link.now) (g.L.Link.awaited c.kill_all.new.link) log (g.L.Link.log c.args.link.now) (g.L.Link.log c.kill_all.new.link) (g.L.Link.wire c.args.link.now) c.in-Done.remains grows c.kill_all.result c.kill_all.ensures.caused
+returns-in-Done-clause-caused g c = λ old log r f ran.
+    causes.killed_later old (g.L.Link.awaited c.args.link.now) (g.L.Link.awaited c.kill_all.new.link) log (g.L.Link.log c.args.link.now) (g.L.Link.log c.kill_all.new.link) (g.L.Link.wire c.args.link.now) r c.in-Done.remains f c.args.landing c.in-Done.is ran
+    c.kill_all.ensures.stays c.kill_all.result c.kill_all.ensures.caused
 
 pub returns-in-Failed-clause-caused : goal.returns-in-Failed-clause-caused
-returns-in-Failed-clause-caused g c = λ memory log grows. causes.fails_on (g.L.Link.awaited c.args.link.now) log (g.L.Link.log c.args.link.now) (g.L.Link.wire c.args.link.now) c.args.landing c.in-Failed.error c.in-Failed.is memory
+returns-in-Failed-clause-caused g c = λ old log r f ran. causes.fails_on old (g.L.Link.awaited c.args.link.now) log (g.L.Link.log c.args.link.now) (g.L.Link.wire c.args.link.now) r f c.args.landing ran c.in-Failed.error c.in-Failed.is

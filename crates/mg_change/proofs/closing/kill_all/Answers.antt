@@ -1,5 +1,5 @@
 use mir.Val.{SFits}
-use Rattle.std.proofs.Common.{◌≡◌, ◌==◌, ℕ, ℤ, Bool, true, false, List, [], ◌∷◌, length, sym, arith, refl, inl, inr, to_z, of_z, w64, ap, ◌∙◌, subst, rules}
+use Rattle.std.proofs.Common.{◌≢◌, ◌≡◌, ◌==◌, ℕ, ℤ, Bool, true, false, List, [], ◌∷◌, length, sym, arith, refl, inl, inr, to_z, of_z, w64, ap, ◌∙◌, subst, rules}
 use Rattle.std.proofs.lemmas.Bool.{eqb-true}
 use Rattle.std.proofs.lemmas.Int.{to_z-of_z}
 use Rattle.mg_link.specs.Namespace.{space}
@@ -17,6 +17,11 @@ use Rattle.mg_change.proofs.closing.kill_all.Given.{Over}
 -- the ids, which were handed on
 ids_same : (id opened : ℤ) (ids : List ℤ) → SFits w64 id → SFits w64 opened → ids ≡ ids_left (to_z w64 (of_z w64 id)) (to_z w64 (of_z w64 opened)) → ids ≡ ids_left id opened
 ids_same id opened ids id_fits opened_fits is = is ∙ ap (λ (z : ℤ). ids_left z (to_z w64 (of_z w64 opened))) (to_z-of_z w64 id id_fits) ∙ ap (ids_left id) (to_z-of_z w64 opened opened_fits)
+
+some_held : (id opened : ℤ) → SFits w64 id → SFits w64 opened → ids_left (to_z w64 (of_z w64 id)) (to_z w64 (of_z w64 opened)) ≢ [] → ids_left id opened ≢ []
+some_held id opened id_fits opened_fits some =
+    let same : ids_left (to_z w64 (of_z w64 id)) (to_z w64 (of_z w64 opened)) ≡ ids_left id opened = ap (λ (z : ℤ). ids_left z (to_z w64 (of_z w64 opened))) (to_z-of_z w64 id id_fits) ∙ ap (ids_left id) (to_z-of_z w64 opened opened_fits) in
+    λ none. some (same ∙ none)
 
 -- the command kills what is left
 kills : (g : Over) (c : After-wait g) → IsLast c.args.remains c.in-Ok-kill.exec
@@ -79,16 +84,19 @@ pub returns-in-Err-kill-clause-stays : goal.returns-in-Err-kill-clause-stays
 returns-in-Err-kill-clause-stays g c = stays_same (g.L.Link.log c.args.link.now) (g.L.Link.log c.args.link.now) refl
 
 pub returns-in-Err-clause-caused : goal.returns-in-Err-clause-caused
-returns-in-Err-clause-caused g c = causes.kill_no_memory (g.L.Link.awaited c.args.link.now) (g.L.Link.awaited c.args.link.now) (g.L.Link.log c.args.link.now) (g.L.Link.wire c.args.link.now) c.args.remains c.in-Err.error (ap (λ (e : Error). e.kind) c.in-Err.ensures.room)
+returns-in-Err-clause-caused g c = causes.kill_no_memory (g.L.Link.awaited c.args.link.now) (g.L.Link.awaited c.args.link.now) (g.L.Link.log c.args.link.now) (g.L.Link.wire c.args.link.now) c.args.remains c.in-Err.error
+    (some_held c.args.remains.cursor.id c.args.remains.opened (search rules) (search rules) c.in-Err.ensures.some) (ap (λ (e : Error). e.kind) c.in-Err.ensures.room)
 
 pub returns-then-is_empty-clause-caused : goal.returns-then-is_empty-clause-caused
 returns-then-is_empty-clause-caused g c = causes.kill_none (g.L.Link.awaited c.args.link.now) (g.L.Link.awaited c.args.link.now) (g.L.Link.log c.args.link.now) (g.L.Link.wire c.args.link.now) c.args.remains (sym (ids_same c.args.remains.cursor.id c.args.remains.opened c.in-Ok.ids.items (search rules) (search rules) c.in-Ok.ensures.ok) ∙ no_ids c.in-Ok.ids.items c.in-Ok.ids.len c.is_empty.result c.in-Ok.ids.ok.0 c.is_empty.ensures c.if-is_empty.true)
 
 pub returns-in-Ok-kill-clause-caused : goal.returns-in-Ok-kill-clause-caused
-returns-in-Ok-kill-clause-caused g c = causes.kill_new (g.L.Link.awaited c.args.link.now) (g.L.Link.awaited c.wait.new.link) (g.L.Link.log c.args.link.now) (g.L.Link.log c.wait.new.link) (g.L.Link.wire c.args.link.now) c.args.remains c.in-Ok-kill.exec c.wait.result c.in-Ok-kill.ensures.stage (c.wait.ensures.caused (kills g c))
+returns-in-Ok-kill-clause-caused g c = causes.kill_new (g.L.Link.awaited c.args.link.now) (g.L.Link.awaited c.wait.new.link) (g.L.Link.log c.args.link.now) (g.L.Link.log c.wait.new.link) (g.L.Link.wire c.args.link.now) c.args.remains c.in-Ok-kill.exec c.wait.result
+    (λ e. some_ids c.in-Ok.ids.items c.in-Ok.ids.len c.is_empty.result c.in-Ok.ids.ok.0 c.is_empty.ensures c.if-is_empty.false (ids_same c.args.remains.cursor.id c.args.remains.opened c.in-Ok.ids.items (search rules) (search rules) c.in-Ok.ensures.ok ∙ e)) c.in-Ok-kill.ensures.stage (c.wait.ensures.caused (kills g c))
 
 pub returns-in-Err-kill-clause-caused : goal.returns-in-Err-kill-clause-caused
-returns-in-Err-kill-clause-caused g c = causes.kill_unbuilt (g.L.Link.awaited c.args.link.now) (g.L.Link.awaited c.args.link.now) (g.L.Link.log c.args.link.now) (g.L.Link.wire c.args.link.now) c.args.remains c.in-Ok.ids.items c.in-Err-kill.error (ids_same c.args.remains.cursor.id c.args.remains.opened c.in-Ok.ids.items (search rules) (search rules) c.in-Ok.ensures.ok) c.in-Err-kill.ensures.fails
+returns-in-Err-kill-clause-caused g c = causes.kill_unbuilt (g.L.Link.awaited c.args.link.now) (g.L.Link.awaited c.args.link.now) (g.L.Link.log c.args.link.now) (g.L.Link.wire c.args.link.now) c.args.remains c.in-Ok.ids.items c.in-Err-kill.error (ids_same c.args.remains.cursor.id c.args.remains.opened c.in-Ok.ids.items (search rules) (search rules) c.in-Ok.ensures.ok)
+    (λ e. some_ids c.in-Ok.ids.items c.in-Ok.ids.len c.is_empty.result c.in-Ok.ids.ok.0 c.is_empty.ensures c.if-is_empty.false (ids_same c.args.remains.cursor.id c.args.remains.opened c.in-Ok.ids.items (search rules) (search rules) c.in-Ok.ensures.ok ∙ e)) c.in-Err-kill.ensures.fails
 
 pub returns-in-Ok-kill-clause-pended : goal.returns-in-Ok-kill-clause-pended
 returns-in-Ok-kill-clause-pended g c = c.wait.ensures.pended

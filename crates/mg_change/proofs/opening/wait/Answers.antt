@@ -9,6 +9,7 @@ use Rattle.mg_change.proofs.OpeningSends as sends
 use Rattle.mg_change.proofs.Vain as vain
 use Rattle.mg_change.proofs.Staying.{stays_ran}
 use Rattle.mg_change.proofs.OpeningCauses as causes
+use Rattle.mg_change.proofs.Placed.{opening_placed}
 use Rattle.mg_change.proofs.opening.wait.Goals as goal
 
 pub returns-in-Pending-clause-keeps : goal.returns-in-Pending-clause-keeps
@@ -27,7 +28,7 @@ pub returns-in-Ok-clause-keeps : goal.returns-in-Ok-clause-keeps
 returns-in-Ok-clause-keeps g c = (c.in-Ok.ensures.ok.args_is, opened_sound c.args.aggregate.args _ c.in-Done.reply c.in-Ok.stream c.in-Ok.ensures.ok, subst AtRest (sym c.in-Ok.ensures.ok.phase_is) tt, c.in-Ok.ensures.ok.counts_are)
 
 pub returns-in-Ok-clause-moved : goal.returns-in-Ok-clause-moved
-returns-in-Ok-clause-moved g c = λ o w start asks. opening_came c.args.aggregate.args w start _ _ _ _ _ c.args.exec asks o.sent _ c.in-Done.reply c.in-Ok.stream c.in-Ok.ensures.ok c.in-Done.ensures.runs
+returns-in-Ok-clause-moved g c = λ o w start asks. (_, opening_came c.args.aggregate.args w start _ _ _ _ _ c.args.exec asks o.sent _ c.in-Done.reply c.in-Ok.stream c.in-Ok.ensures.ok c.in-Done.ensures.runs)
 
 pub returns-in-Err-clause-moved : goal.returns-in-Err-clause-moved
 returns-in-Err-clause-moved g c = λ o w start asks. opening_lost c.args.aggregate.args w start _ _ _ _ _ c.args.exec asks o.sent c.in-Done.reply c.in-Done.ensures.runs
@@ -84,3 +85,8 @@ returns-in-Err-clause-caused g c = λ o. causes.opening_lost c.args.aggregate.ar
 
 pub returns-in-Failed-clause-caused : goal.returns-in-Failed-clause-caused
 returns-in-Failed-clause-caused g c = λ o. causes.opening_failed c.args.aggregate.args (g.L.Link.awaited c.args.link.now) (g.L.Link.awaited c.poll.new.link) (g.L.Link.log c.args.link.now) (g.L.Link.log c.poll.new.link) (g.L.Link.wire c.args.link.now) c.args.exec o.sent c.in-Failed.error c.in-Failed.ensures.runs
+
+pub returns-in-Ok-clause-placed : goal.returns-in-Ok-clause-placed
+returns-in-Ok-clause-placed g c =
+    let fits : SFits w32 c.wire_version.result = search rules in
+    opening_placed c.args.aggregate (g.L.Link.awaited c.args.link.now) (g.L.Link.awaited c.poll.new.link) (g.L.Link.log c.args.link.now) (g.L.Link.log c.poll.new.link) (g.L.Link.wire c.args.link.now) c.args.exec _ c.in-Done.reply c.in-Ok.stream (to_z-of_z w32 c.wire_version.result fits ∙ c.wire_version.ensures ∙ c.poll.ensures.later.wire) c.in-Ok.ensures.ok c.in-Done.ensures.runs

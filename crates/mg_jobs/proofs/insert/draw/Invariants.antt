@@ -1,6 +1,11 @@
-use Rattle.std.proofs.Common.{take}
-use Rattle.mg_jobs.specs.Underway.{AreDrawn}
+use Rattle.std.proofs.Common.{◌≡◌, true, length, take}
+use Rattle.mg_jobs.specs.Drawing.{AreLater, lacking, with_ids}
+use Rattle.mg_jobs.specs.Underway.{sent_of}
 use Rattle.mg_jobs.proofs.insert.draw.Given as goal
 
 abbrev pub invariant-loop-document : goal.invariant-loop-document
-invariant-loop-document g l = AreDrawn (take l.document-index l.documents) l.drawn.items
+invariant-loop-document g l = record {
+  drawn : AreLater (g.I.IdSource.ids l.fn.ids) (lacking (take l.document-index l.documents)) (g.I.IdSource.ids l.ids);
+  count : l.fits ≡ true → length l.drawn.items ≡ l.document-index;
+  kept : l.fits ≡ true → sent_of l.drawn.items (take l.document-index l.documents) ≡ with_ids (g.I.IdSource.ids l.fn.ids) 0 (take l.document-index l.documents);
+}

@@ -1,6 +1,8 @@
-use Rattle.std.proofs.Common.{◌≡◌, ℕ, ℤ, List, [], ◌∷◌, Some, ap, length, sym, ◌∙◌, subst}
+use Rattle.std.proofs.Common.{◌≡◌, ◌+◌, ℕ, ℤ, List, [], ◌∷◌, Some, ap, arith, length, sym, ◌∙◌, subst}
 use Rattle.std.specs.Prelude.{slice_get}
-use Rattle.mg_link.specs.Kept.{steps_of}
+use Rattle.mg_link.specs.Ids.{counted_id}
+use Rattle.mg_link.specs.History.{IsLegal}
+use Rattle.mg_link.specs.Kept.{IsByRules, steps_of}
 use Rattle.mg_link.specs.Log.{Call}
 use Rattle.mg_link.specs.Standing.{Stands}
 use Rattle.mg_link.proofs.Owners.{same_some}
@@ -10,8 +12,16 @@ use Rattle.mg_link.specs.Link.{Told}
 use Rattle.mg_jobs.specs.Counts.{AreNoted}
 use Rattle.mg_jobs.specs.Progress.{AllPlayed}
 use Rattle.mg_jobs.specs.Causes.{OutcomeCaused, course}
-use Rattle.mg_script.specs.Plan.{tasks}
+use Rattle.mg_jobs.specs.Drawing.{as_sent}
+use Rattle.mg_jobs.specs.Headline.{OutcomeFollowed}
+use Rattle.mg_jobs.specs.Program.{script_ids}
+use Rattle.mg_script.specs.Plan.{Task, tasks}
+use Rattle.mg_script.specs.declared.script.Job.{Job}
+use Rattle.mg_jobs.proofs.Drawing.{sent_same}
 use Rattle.mg_jobs.proofs.program.run_over.Goals as goal
+
+zero_more : (k : ℕ) → 0 + k ≡ k
+zero_more k = omega arith
 
 pub returns-clause-followed : goal.returns-clause-followed
 returns-clause-followed g c =
@@ -25,20 +35,27 @@ returns-clause-followed g c =
     let calls = ap (λ m. m.calls) c.into_link.ensures.link ∙ same_some c.run_jobs.new.link.calls f.0 f.1 in
     let stored = sym c.into_parts-store.ensures.store in
     let notes = c.in_ok-played.played.turns.items in
+    let drawn : ℕ → List ℕ = λ k. counted_id c.new-ids.result.prefix (c.new-ids.result.next + k) in
+    let same_ids : (k : ℕ) → drawn k ≡ script_ids c.args.script k =
+    λ k. ap (λ m. counted_id m.prefix (m.next + k)) c.new-ids.ensures ∙ ap (λ n. counted_id c.prefix_of.result n) (zero_more k) ∙ ap (λ p. counted_id p k) c.prefix_of.ensures in
     let unpolled = ap (λ m. pends_in m.pended) c.new-link.ensures ∙ ap pends_in c.requires.unpolled in
     record {
       calls = f.0;
       log_is = c.in_ok-logs.ensures.items ∙ ap (λ l. l ∷ []) (c.into_parts-store.ensures.calls ∙ calls);
-      by_rules = c.history.ensures.by_rules;
+      by_rules = subst (λ s. IsByRules s.history) stored c.into_parts-store.ensures.by_rules;
+      legal = subst (λ s. IsLegal (steps_of s.history)) stored c.into_parts-store.ensures.legal;
       stands = subst (λ l. Stands l (steps_of c.into_parts-store.result.0.history)) calls (subst (λ s. Stands link.calls (steps_of s.history)) stored c.into_parts-store.ensures.stands);
-      followed = λ i t r ht hr. f.2 i t r (ap (λ l. slice_get (tasks l) i) jobs ∙ ht) hr;
+      followed = λ i t r ht hr. subst (λ (o : List ℕ). OutcomeFollowed (course [] o c.in_ok-played.played.turns.items) i f.0 t r) c.as_slice-2.ensures.value (f.2 i t r (ap (λ l. slice_get (tasks l) i) jobs ∙ ht) hr);
       own = f.3 names_none_at_first;
       turns = c.in_ok-played.played.turns;
       turns_are = c.in_ok-turns.ensures.items;
       caused = λ i t r ht hr.
-          subst (λ (w : ℤ). OutcomeCaused (course [] c.args.script.order.items c.in_ok-played.played.turns.items) i f.0 w t r) wire
-          (subst (λ (l : List Call). OutcomeCaused (course [] c.args.script.order.items c.in_ok-played.played.turns.items) i l c.new-link.result.wire t r) same
-          (subst (λ (o : List ℕ). OutcomeCaused (course [] o c.in_ok-played.played.turns.items) i told.0 c.new-link.result.wire t r) c.as_slice-2.ensures.value (told.2 i t r (ap (λ l. slice_get (tasks l) i) jobs ∙ ht) hr)));
+          let script = c.args.script in
+          subst (λ (s : Task). OutcomeCaused (course [] script.order.items notes) i f.0 script.wire s r) (sent_same (script_ids script) drawn (tasks script.jobs.items) script.order.items i t same_ids)
+          (subst (λ (w : ℤ). OutcomeCaused (course [] script.order.items notes) i f.0 w (as_sent drawn (tasks script.jobs.items) script.order.items i t) r) wire
+          (subst (λ (l : List Call). OutcomeCaused (course [] script.order.items notes) i l c.new-link.result.wire (as_sent drawn (tasks script.jobs.items) script.order.items i t) r) same
+          (subst (λ (js : List Job). OutcomeCaused (course [] script.order.items notes) i told.0 c.new-link.result.wire (as_sent drawn (tasks js) script.order.items i t) r) jobs
+          (subst (λ (o : List ℕ). OutcomeCaused (course [] o notes) i told.0 c.new-link.result.wire (as_sent drawn (tasks c.as_slice.result.now) o i t) r) c.as_slice-2.ensures.value (told.2 i t r (ap (λ l. slice_get (tasks l) i) jobs ∙ ht) hr)))));
       fates = g.F.Fated.fates;
       fates_are = c.requires.fates;
       pended = link.pended;

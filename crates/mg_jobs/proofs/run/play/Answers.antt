@@ -1,11 +1,15 @@
-use Rattle.std.proofs.Common.{◌≡◌, ◌+◌, ◌∷◌, [], List, false, ap, arith, get_or, sym, take, ◌∙◌, subst, length, length-append}
+use Rattle.std.proofs.Common.{◌≡◌, ◌+◌, ◌∷◌, [], List, false, ap, arith, get_or, refl, sym, take, ◌∙◌, subst, length, length-append}
 use Rattle.std.specs.List.{All, sum_by}
 use Rattle.std.proofs.lemmas.List.Elements.{All-append, All-cons, All-nil}
-use Rattle.mg_link.proofs.Onward.{later_on}
+use Rattle.mg_link.proofs.Onward.{later_on, later_same}
 use Rattle.mg_jobs.specs.Counts.{AreNoted, StartedBy}
+use Rattle.mg_jobs.specs.Progress.{AllAt}
+use Rattle.mg_jobs.specs.Telling.{AllTell}
 use Rattle.mg_script.specs.declared.outcome.Turned.{Turned}
 use Rattle.std.proofs.lemmas.Option.{slice_get-get_or}
 use Rattle.mg_jobs.proofs.Advancing.{at_next}
+use Rattle.mg_jobs.specs.Drawing.{AreLater, drawn_in}
+use Rattle.mg_jobs.proofs.Drawing.{drawn_next, drawn_whole}
 use Rattle.mg_jobs.proofs.Knowing.{length_take}
 use Rattle.mg_jobs.proofs.Tallies.{loses_on, noted_more, started_more}
 use Rattle.mg_jobs.proofs.Told.{tell_next, tell_whole}
@@ -34,11 +38,44 @@ loop-number-preserved g c =
       knowing = λ begun before. c.turn.ensures.knowing begun (c.loop-number.invariant.knowing begun before);
       rows = λ ts before. at_next ts c.args.order.now c.loop-number.number-index (get_or c.args.order.now c.loop-number.number-index 0) c.turn.new.self.turns.items c.turn.new.self.players.items there
           (c.in_ok-turn.ensures.rows ts (take c.loop-number.number-index c.args.order.now) (length_take c.args.order.now c.loop-number.number-index (get_or c.args.order.now c.loop-number.number-index 0) there ∙ sym c.loop-number.invariant.turns) (c.loop-number.invariant.rows ts before));
-      told = λ begun ts first before. tell_next (g.L.Link.awaited c.turn.new.link) begun (g.L.Link.log c.turn.new.link) (g.L.Link.wire c.turn.new.link) ts c.args.order.now c.loop-number.number-index (get_or c.args.order.now c.loop-number.number-index 0) c.turn.new.self.turns.items c.turn.new.self.players.items there
-          (c.in_ok-turn.ensures.told begun ts (take c.loop-number.number-index c.args.order.now) (length_take c.args.order.now c.loop-number.number-index (get_or c.args.order.now c.loop-number.number-index 0) there ∙ sym c.loop-number.invariant.turns) (c.loop-number.invariant.rows ts first) (c.loop-number.invariant.told begun ts first before));
+      drawn = λ first ts does before. drawn_next first (g.I.IdSource.ids c.turn.new.ids) ts c.args.order.now c.loop-number.number-index (get_or c.args.order.now c.loop-number.number-index 0) c.turn.new.self.players.items there
+          (c.in_ok-turn.ensures.drawn first ts (take c.loop-number.number-index c.args.order.now) (c.loop-number.invariant.tasks ts does) (c.loop-number.invariant.drawn first ts does before));
+      told = λ first begun ts does at drawn before. tell_next first (g.L.Link.awaited c.turn.new.link) begun (g.L.Link.log c.turn.new.link) (g.L.Link.wire c.turn.new.link) ts c.args.order.now c.loop-number.number-index (get_or c.args.order.now c.loop-number.number-index 0) c.turn.new.self.turns.items c.turn.new.self.players.items there
+          (c.in_ok-turn.ensures.told first begun ts (take c.loop-number.number-index c.args.order.now) (length_take c.args.order.now c.loop-number.number-index (get_or c.args.order.now c.loop-number.number-index 0) there ∙ sym c.loop-number.invariant.turns) (c.loop-number.invariant.rows ts at) (c.loop-number.invariant.drawn first ts does drawn) (c.loop-number.invariant.told first begun ts does at drawn before));
       tasks = λ ts does. c.turn.ensures.tasks ts (c.loop-number.invariant.tasks ts does);
     }
 
+pub returns-clause-drawn : goal.returns-clause-drawn
+returns-clause-drawn g c = λ first ts does before.
+    drawn_whole first (g.I.IdSource.ids c.loop-number.ids) ts c.args.order.now c.loop-number.number-index c.loop-number.runner.players.items (omega (arith, c.loop-number-test.false)) (c.loop-number.invariant.drawn first ts does before)
+
+pub returns-in_err-turn-clause-stopped : goal.returns-in_err-turn-clause-stopped
+returns-in_err-turn-clause-stopped g c = λ first ts does before.
+    let k = c.loop-number.number-index in
+    (k, subst (λ ids. AreLater first (drawn_in ts (take k c.args.order.now)) (g.I.IdSource.ids ids)) (sym c.in_err-turn.ensures.undrawn) ((c.loop-number.invariant.drawn first ts does before).stands))
+
+pub returns-clause-stopped : goal.returns-clause-stopped
+returns-clause-stopped g c = λ first ts does before. (c.loop-number.number-index, (c.loop-number.invariant.drawn first ts does before).stands)
+
 pub returns-clause-told : goal.returns-clause-told
-returns-clause-told g c = λ begun ts first before.
-    tell_whole (g.L.Link.awaited c.loop-number.link) begun (g.L.Link.log c.loop-number.link) (g.L.Link.wire c.loop-number.link) ts c.args.order.now c.loop-number.number-index c.loop-number.runner.turns.items c.loop-number.runner.players.items (omega (arith, c.loop-number-test.false)) (c.loop-number.invariant.told begun ts first before)
+returns-clause-told g c = λ first begun ts does at drawn before.
+    tell_whole first (g.L.Link.awaited c.loop-number.link) begun (g.L.Link.log c.loop-number.link) (g.L.Link.wire c.loop-number.link) ts c.args.order.now c.loop-number.number-index c.loop-number.runner.turns.items c.loop-number.runner.players.items (omega (arith, c.loop-number-test.false)) (c.loop-number.invariant.told first begun ts does at drawn before)
+
+pub loop-number-init : goal.loop-number-init
+loop-number-init g c =
+    let none = c.requires.new in
+    record {
+      stands = c.requires.stands;
+      later = later_same _ _ _ _;
+      turns = ap length none;
+      started = subst (λ (ts : List Turned). StartedBy (sum_by (λ (t : Turned). t.started) ts) (g.L.Link.log c.args.link.now) (g.L.Link.log c.args.link.now)) (sym none) (λ calls told. (calls, told, omega arith));
+      noted = subst (λ (ts : List Turned). AreNoted ts (g.L.Link.log c.args.link.now) (g.L.Link.log c.args.link.now) (g.L.Link.pends c.args.link.now) (g.L.Link.pends c.args.link.now)) (sym none) (refl, refl);
+      quiet = λ prompt. subst (λ (ts : List Turned). All (λ (t : Turned). t.pended ≡ false) ts) (sym none) (All-nil (λ (t : Turned). t.pended ≡ false));
+      lossless = λ prompt calls told. (calls, told, λ place call there seen. there);
+      jobs = refl;
+      knowing = λ begun knowing. knowing;
+      rows = λ ts rows. subst (λ (ns : List Turned). AllAt ts [] ns c.args.runner.now.players.items) (sym none) rows;
+      drawn = λ first ts does drawn. drawn;
+      told = λ first begun ts does at drawn told. subst (λ (ns : List Turned). AllTell first (g.L.Link.awaited c.args.link.now) begun (g.L.Link.log c.args.link.now) (g.L.Link.wire c.args.link.now) ts [] ns c.args.runner.now.players.items) (sym none) told;
+      tasks = λ ts does. does;
+    }

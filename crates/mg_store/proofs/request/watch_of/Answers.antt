@@ -1,6 +1,6 @@
-use Rattle.std.proofs.Common.{map, option_map, ap, sym, ◌∙◌}
+use Rattle.std.proofs.Common.{Some, codes, map, option_map, refl, ap, sym, ◌∙◌}
+use Rattle.mg_bson.specs.Find.{get}
 use Rattle.mg_bson.specs.Raw.{fields}
-use Rattle.mg_bson.specs.RawView.{value}
 use Rattle.mg_store.specs.Asking.{held}
 use Rattle.mg_store.specs.Wanted.{lent_opening}
 use Rattle.mg_store.proofs.Watching.{watch_none, watch_unfiltered, watch_some}
@@ -9,9 +9,11 @@ use Rattle.mg_store.proofs.request.watch_of.Goals as goal
 pub returns-in_default : goal.returns-in_default
 returns-in_default c = watch_none (fields c.args.command.now) c.in_default.ensures
 
-pub returns-in_default-2 : goal.returns-in_default-2
-returns-in_default-2 c = watch_unfiltered (fields c.args.command.now) (lent_opening c.in-Some.opening) c.in-Some.ensures (ap (option_map (λ v. map held v.items)) (sym c.in_default-2.is) ∙ c.in_ok-filter.ensures)
-
 pub returns : goal.returns
-returns c =
-    watch_some (fields c.args.command.now) (lent_opening c.in-Some.opening) (map held c.in-Some-2.filter.items) (option_map value c.get.result) c.in-Some.ensures (ap (option_map (λ v. map held v.items)) (sym c.in-Some-2.is) ∙ c.in_ok-filter.ensures) c.get.ensures
+returns c = watch_unfiltered (fields c.args.command.now) (lent_opening c.in-Some.opening) c.in-Some.ensures (ap (option_map (λ v. map held v.items)) (sym c.in-None.is) ∙ c.in_ok-filter.ensures)
+
+pub returns-in-Some-2 : goal.returns-in-Some-2
+returns-in-Some-2 c =
+    ap Some c.watch_with.ensures
+    ∙ watch_some (fields c.args.command.now) (lent_opening c.in-Some.opening) (map held c.in-Some-2.filter.items) (get (codes "resumeAfter") (fields c.in-Some.opening.stages.options)) c.in-Some.ensures
+    (ap (option_map (λ v. map held v.items)) (sym c.in-Some-2.is) ∙ c.in_ok-filter.ensures) refl

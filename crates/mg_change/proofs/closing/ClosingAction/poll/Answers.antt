@@ -118,17 +118,23 @@ returns-in-Landed-clause-caused g c = λ is.
 pub returns-in-More-clause-caused : goal.returns-in-More-clause-caused
 returns-in-More-clause-caused g c = λ is.
     causes.flight_is (g.L.Link.awaited c.args.link.now) (g.L.Link.awaited c.go_on.new.link) (g.L.Link.log c.args.link.now) (g.L.Link.log c.go_on.new.link) (g.L.Link.wire c.args.link.now) c.args.self.remains (flight.More c.in-More.get_more c.in-More.exec) c.args.self.flight c.go_on.result c.in-More.is
-    (causes.landed_at (g.L.Link.awaited c.go_on.new.link) (g.L.Link.log c.args.link.now) (g.L.Link.log c.go_on.new.link) (g.L.Link.wire c.args.link.now) _ c.go_on.result c.land_more-landing.ensures.later.wire (c.go_on.ensures.caused c.land_more-landing.ensures.memory (g.L.Link.log c.args.link.now) c.land_more-landing.ensures.stays))
+    (causes.landed_at (g.L.Link.awaited c.args.link.now) (g.L.Link.awaited c.land_more-landing.new.link) (g.L.Link.awaited c.go_on.new.link) (g.L.Link.log c.args.link.now) (g.L.Link.log c.land_more-landing.new.link) (g.L.Link.log c.go_on.new.link) (g.L.Link.wire c.args.link.now) _
+    c.args.self.remains (flight.More c.in-More.get_more c.in-More.exec) c.land_more-landing.result c.go_on.result c.land_more-landing.ensures.later.wire (c.land_more-landing.ensures.ran (flies_as _ c.args.self.remains (flight.More c.in-More.get_more c.in-More.exec) c.args.self.flight c.in-More.is is.flies))
+    (c.go_on.ensures.caused (g.L.Link.awaited c.args.link.now) (g.L.Link.log c.args.link.now) c.args.self.remains (flight.More c.in-More.get_more c.in-More.exec)))
 
 pub returns-in-Resumption-clause-caused : goal.returns-in-Resumption-clause-caused
 returns-in-Resumption-clause-caused g c = λ is.
     causes.flight_is (g.L.Link.awaited c.args.link.now) (g.L.Link.awaited c.go_on-in-Resumption.new.link) (g.L.Link.log c.args.link.now) (g.L.Link.log c.go_on-in-Resumption.new.link) (g.L.Link.wire c.args.link.now) c.args.self.remains (flight.Resumption c.in-Resumption.exec) c.args.self.flight c.go_on-in-Resumption.result c.in-Resumption.is
-    (causes.landed_at (g.L.Link.awaited c.go_on-in-Resumption.new.link) (g.L.Link.log c.args.link.now) (g.L.Link.log c.go_on-in-Resumption.new.link) (g.L.Link.wire c.args.link.now) _ c.go_on-in-Resumption.result c.land_resumption-landing.ensures.later.wire (c.go_on-in-Resumption.ensures.caused c.land_resumption-landing.ensures.memory (g.L.Link.log c.args.link.now) c.land_resumption-landing.ensures.stays))
+    (causes.landed_at (g.L.Link.awaited c.args.link.now) (g.L.Link.awaited c.land_resumption-landing.new.link) (g.L.Link.awaited c.go_on-in-Resumption.new.link) (g.L.Link.log c.args.link.now) (g.L.Link.log c.land_resumption-landing.new.link) (g.L.Link.log c.go_on-in-Resumption.new.link) (g.L.Link.wire c.args.link.now) _
+    c.args.self.remains (flight.Resumption c.in-Resumption.exec) c.land_resumption-landing.result c.go_on-in-Resumption.result c.land_resumption-landing.ensures.later.wire (c.land_resumption-landing.ensures.ran (flies_as _ c.args.self.remains (flight.Resumption c.in-Resumption.exec) c.args.self.flight c.in-Resumption.is is.flies))
+    (c.go_on-in-Resumption.ensures.caused (g.L.Link.awaited c.args.link.now) (g.L.Link.log c.args.link.now) c.args.self.remains (flight.Resumption c.in-Resumption.exec)))
 
 pub returns-in-Older-clause-caused : goal.returns-in-Older-clause-caused
 returns-in-Older-clause-caused g c = λ is.
     causes.flight_is (g.L.Link.awaited c.args.link.now) (g.L.Link.awaited c.go_on-in-Older.new.link) (g.L.Link.log c.args.link.now) (g.L.Link.log c.go_on-in-Older.new.link) (g.L.Link.wire c.args.link.now) c.args.self.remains (older_flight g c) c.args.self.flight c.go_on-in-Older.result (older_is g c)
-    (causes.landed_at (g.L.Link.awaited c.go_on-in-Older.new.link) (g.L.Link.log c.args.link.now) (g.L.Link.log c.go_on-in-Older.new.link) (g.L.Link.wire c.args.link.now) _ c.go_on-in-Older.result c.land_older-landing.ensures.later.wire (c.go_on-in-Older.ensures.caused c.land_older-landing.ensures.memory (g.L.Link.log c.args.link.now) c.land_older-landing.ensures.stays))
+    (causes.landed_at (g.L.Link.awaited c.args.link.now) (g.L.Link.awaited c.land_older-landing.new.link) (g.L.Link.awaited c.go_on-in-Older.new.link) (g.L.Link.log c.args.link.now) (g.L.Link.log c.land_older-landing.new.link) (g.L.Link.log c.go_on-in-Older.new.link) (g.L.Link.wire c.args.link.now) _
+    c.args.self.remains (older_flight g c) c.land_older-landing.result c.go_on-in-Older.result c.land_older-landing.ensures.later.wire c.land_older-landing.ensures.ran
+    (c.go_on-in-Older.ensures.caused (g.L.Link.awaited c.args.link.now) (g.L.Link.log c.args.link.now) c.args.self.remains (older_flight g c)))
 
 pub returns-in-Last-clause-caused : goal.returns-in-Last-clause-caused
 returns-in-Last-clause-caused g c = λ is.

@@ -9,6 +9,7 @@ use Rattle.mg_change.proofs.OpeningSends as sends
 use Rattle.mg_change.proofs.Vain.{next_vain, vainly_unsent}
 use Rattle.mg_change.proofs.Staying.{stays_same}
 use Rattle.mg_change.proofs.OpeningCauses as causes
+use Rattle.mg_change.proofs.Placed.{next_placed}
 use Rattle.mg_change.proofs.opening.OpeningAction.poll.Goals as goal
 
 pub returns-in-Ok-clause-keeps : goal.returns-in-Ok-clause-keeps
@@ -55,3 +56,8 @@ returns-in-Ok-clause-caused g c = λ o.
 pub returns-in-Err-clause-caused : goal.returns-in-Err-clause-caused
 returns-in-Err-clause-caused g c = λ o.
     causes.opening_unsent c.args.self.aggregate (g.L.Link.awaited c.args.link.now) (g.L.Link.awaited c.args.link.now) (g.L.Link.log c.args.link.now) (g.L.Link.wire c.args.link.now) _ c.args.self.exec c.in-Err.error o.first c.in-Err.ensures.fails
+
+pub returns-in-Ok-clause-placed : goal.returns-in-Ok-clause-placed
+returns-in-Ok-clause-placed g c =
+    next_placed c.args.self.aggregate (g.L.Link.awaited c.args.link.now) (g.L.Link.awaited c.wait.new.link) (g.L.Link.log c.args.link.now) (g.L.Link.log c.wait.new.link) (g.L.Link.wire c.args.link.now) _ c.args.self.exec c.in-Ok.exec c.wait.result c.in-Ok.ensures.ok
+    c.wait.ensures.placed

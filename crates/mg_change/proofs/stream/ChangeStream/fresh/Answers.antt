@@ -18,7 +18,7 @@ returns-clause-turned c =
 pub returns-then-not-is_empty-clause-caused : goal.returns-then-not-is_empty-clause-caused
 returns-then-not-is_empty-clause-caused c = λ awaited past at resumed far.
     let some : c.args.self.now.buffer.items ≢ [] = turning.some_items c.args.self.now.buffer.items c.args.self.now.buffer.len c.is_empty.result c.args.self.now.buffer.ok.0 c.is_empty.ensures c.if-not-is_empty.true in
-    causes.fresh_takes awaited past at resumed c.args.self.now far c.take.new.self c.take.result c.take.ensures.phase (c.take.ensures.caused some)
+    causes.fresh_takes awaited past at resumed c.args.self.now far c.take.new.self c.take.result some c.take.ensures.phase (c.take.ensures.caused some)
 
 pub returns-clause-caused : goal.returns-clause-caused
 returns-clause-caused c = λ awaited past at resumed far.

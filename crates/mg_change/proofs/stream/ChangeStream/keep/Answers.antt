@@ -1,5 +1,5 @@
 use mir.Val.{SFits}
-use Rattle.std.proofs.Common.{rules, ◌≡◌, ℕ, List, Result, Ok, Err, map, subst, w64, to_z, of_z}
+use Rattle.std.proofs.Common.{rules, refl, ◌≡◌, ℕ, List, Result, Ok, Err, map, subst, w64, to_z, of_z}
 use Rattle.std.proofs.lemmas.Int.{to_z-of_z}
 use Rattle.std.proofs.lemmas.Result.{err_from_is_err_and}
 use Rattle.std.specs.Result.{OnErr}
@@ -39,8 +39,10 @@ returns-clause-gave c =
     subst (λ (b : List ℕ). HoldsBatch (fields b) (map fields c.in_ok-self.field-0.items)) c.in_ok-gave.ensures.ok.whole
     (subst (λ (b : List ℕ). HoldsBatch (fields b) (map fields c.in_ok-self.field-0.items)) c.as_raw.ensures c.in_ok-self.ensures.ok)
 
-pub returns-in_err-self-clause-fails : goal.returns-in_err-self-clause-fails
-returns-in_err-self-clause-fails c =
+pub returns-in_err-self-clause-lost : goal.returns-in_err-self-clause-lost
+returns-in_err-self-clause-lost c =
     let p = err_from_is_err_and c.from_residual-in_err-self.result c.from_residual-in_err-self.ensures.1 in
-    let fails = subst (λ (b : List ℕ). FailsBy (BreaksBatch (fields b)) c.in_err-self.field-0.0) c.in_ok-gave.ensures.ok.whole (subst (λ (b : List ℕ). FailsBy (BreaksBatch (fields b)) c.in_err-self.field-0.0) c.as_raw.ensures c.in_err-self.ensures.fails) in
-    rw (p.1, p.2) (causes.batch_breaks (fields c.args.reply) c.in_err-self.field-0.0 fails)
+    let fits : SFits w64 c.in_ok-gave.gave.id = search rules in
+    let back : to_z w64 (of_z w64 c.in_ok-gave.gave.id) ≡ c.in_ok-gave.gave.id = to_z-of_z w64 c.in_ok-gave.gave.id fits in
+    rw (p.1, p.2) (causes.kept_unheld c.args.self.now _ c.args.reply c.in_ok-gave.gave c.in_err-self.field-0.0 c.in_ok-gave.ensures.ok (to_z w64 (of_z w64 c.in_ok-gave.gave.id)) back refl
+    (subst (λ (b : List ℕ). FailsBy (BreaksBatch (fields b)) c.in_err-self.field-0.0) c.as_raw.ensures c.in_err-self.ensures.fails))

@@ -16,9 +16,9 @@ returns-in-Err-clause-quiet c =
     (ap (λ (s : ChangeStream). s.aggregate) c.lose.ensures.owes ∙ c.keep.ensures.aggregate)
 
 pub returns-in-Ok-clause-caused : goal.returns-in-Ok-clause-caused
-returns-in-Ok-clause-caused c = λ awaited past at kept cursor heard.
-    rw c.enter.ensures (causes.more_kept awaited past at c.args.self.now c.keep.new.self c.args.reply c.keep.ensures.aggregate c.in-Ok.ensures.tells c.in-Ok.ensures.gave kept cursor heard)
+returns-in-Ok-clause-caused c = λ awaited past at kept cursor heard success.
+    rw c.enter.ensures (causes.more_kept awaited past at c.args.self.now c.keep.new.self c.args.reply c.keep.ensures.aggregate c.in-Ok.ensures.tells c.in-Ok.ensures.gave kept cursor heard success)
 
 pub returns-in-Err-clause-caused : goal.returns-in-Err-clause-caused
-returns-in-Err-clause-caused c = λ awaited past at kept cursor heard.
-    causes.more_lost awaited past at c.args.self.now c.keep.new.self c.lose.new.self c.args.reply c.in-Err.error c.lose.result c.keep.ensures.aggregate c.in-Err.ensures.left c.in-Err.ensures.fails c.lose.ensures.owes c.lose.ensures.passed kept cursor heard
+returns-in-Err-clause-caused c = λ awaited past at kept cursor heard success.
+    causes.more_lost awaited past at c.args.self.now c.keep.new.self c.lose.new.self c.args.reply c.in-Err.error c.lose.result c.keep.ensures.aggregate c.in-Err.ensures.lost c.lose.ensures.owes c.lose.ensures.passed kept cursor heard success

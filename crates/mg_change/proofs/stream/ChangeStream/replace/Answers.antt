@@ -34,18 +34,18 @@ pub returns-clause-turned : goal.returns-clause-turned
 returns-clause-turned c = turning.replaces_failed c.args.self.now c.kill_failed.new.self c.args.opened c.replace-old.new.dest (step_told c.kill_failed.result) c.replace-old.ensures.after c.kill_failed.ensures.turned
 
 pub returns-then-old-eq0-clause-caused : goal.returns-then-old-eq0-clause-caused
-returns-then-old-eq0-clause-caused c = λ awaited past at kept stays new.
+returns-then-old-eq0-clause-caused c = λ awaited past at kept new.
     rw c.enter.ensures (let fits : SFits w64 c.replace-old.result.id = search rules in
     let over : c.replace-old.result.id ≡ pos 0 = sym (to_z-of_z w64 c.replace-old.result.id fits) ∙ ap (to_z w64) c.if-old-eq0.true in
-    causes.replace_none awaited past at c.args.self.now c.args.opened c.replace-old.new.dest c.replace-old.result c.replace-old.ensures.after c.replace-old.ensures.value kept stays new over)
+    causes.replace_none awaited past at c.args.self.now c.args.opened c.replace-old.new.dest c.replace-old.result c.replace-old.ensures.after c.replace-old.ensures.value kept new over)
 
 pub returns-in-Ok-clause-caused : goal.returns-in-Ok-clause-caused
-returns-in-Ok-clause-caused c = λ awaited past at kept stays new.
+returns-in-Ok-clause-caused c = λ awaited past at kept new.
     rw c.enter-in-Ok.ensures (let fits : SFits w64 c.replace-old.result.id = search rules in
-    causes.replace_kills awaited past at c.args.self.now c.args.opened c.replace-old.new.dest c.replace-old.result c.replace-old.ensures.after c.replace-old.ensures.value kept stays new
-    c.in-Ok.exec (to_z w64 (of_z w64 c.replace-old.result.id)) (sym (to_z-of_z w64 c.replace-old.result.id fits)) c.in-Ok.ensures.command.command_is c.in-Ok.ensures.stage)
+    causes.replace_kills awaited past at c.args.self.now c.args.opened c.replace-old.new.dest c.replace-old.result c.replace-old.ensures.after c.replace-old.ensures.value kept new
+    c.in-Ok.exec (to_z w64 (of_z w64 c.replace-old.result.id)) (λ none. c.if-old-eq0.false (ap (of_z w64) none)) (sym (to_z-of_z w64 c.replace-old.result.id fits)) c.in-Ok.ensures.command.command_is c.in-Ok.ensures.stage)
 
 pub returns-clause-caused : goal.returns-clause-caused
-returns-clause-caused c = λ awaited past at kept stays new.
-    causes.replace_failed awaited past at c.args.self.now c.args.opened c.replace-old.new.dest c.replace-old.result c.replace-old.ensures.after c.replace-old.ensures.value kept stays new
-    c.kill_failed.new.self c.in-Err.error c.kill_failed.result c.in-Err.ensures.fails c.kill_failed.ensures.killed
+returns-clause-caused c = λ awaited past at kept new.
+    causes.replace_failed awaited past at c.args.self.now c.args.opened c.replace-old.new.dest c.replace-old.result c.replace-old.ensures.after c.replace-old.ensures.value kept new
+    c.kill_failed.new.self c.in-Err.error c.kill_failed.result (λ none. c.if-old-eq0.false (ap (of_z w64) none)) c.in-Err.ensures.fails c.kill_failed.ensures.killed

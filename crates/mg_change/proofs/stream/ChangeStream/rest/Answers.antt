@@ -40,7 +40,7 @@ returns-in-Ok-clause-quiet c = rw c.enter-in-Ok.ensures (sending.quiet_asking c.
 pub returns-then-not-is_empty-clause-caused : goal.returns-then-not-is_empty-clause-caused
 returns-then-not-is_empty-clause-caused c = λ awaited past at resumed far.
     let some : c.args.self.now.buffer.items ≢ [] = turning.some_items c.args.self.now.buffer.items c.args.self.now.buffer.len c.is_empty.result c.args.self.now.buffer.ok.0 c.is_empty.ensures c.if-not-is_empty.true in
-    causes.rest_takes awaited past at resumed c.args.self.now far c.take.new.self c.take.result c.take.ensures.phase (c.take.ensures.caused some)
+    causes.rest_takes awaited past at resumed c.args.self.now far c.take.new.self c.take.result some c.take.ensures.phase (c.take.ensures.caused some)
 
 pub returns-then-self-eq0-clause-caused : goal.returns-then-self-eq0-clause-caused
 returns-then-self-eq0-clause-caused c = λ awaited past at resumed far.
@@ -52,9 +52,11 @@ returns-then-self-eq0-clause-caused c = λ awaited past at resumed far.
 pub returns-in-Ok-clause-caused : goal.returns-in-Ok-clause-caused
 returns-in-Ok-clause-caused c = λ awaited past at resumed far.
     rw c.enter-in-Ok.ensures (causes.rest_asks awaited past at resumed c.args.self.now far c.in-Ok.get_more c.in-Ok.exec
-    (turning.no_items c.args.self.now.buffer.items c.args.self.now.buffer.len c.is_empty.result c.args.self.now.buffer.ok.0 c.is_empty.ensures c.if-not-is_empty.false) c.in-Ok.ensures.stage)
+    (turning.no_items c.args.self.now.buffer.items c.args.self.now.buffer.len c.is_empty.result c.args.self.now.buffer.ok.0 c.is_empty.ensures c.if-not-is_empty.false)
+    (λ none. c.if-self-eq0.false (ap (of_z w64) none)) c.in-Ok.ensures.stage)
 
 pub returns-in-Err-clause-caused : goal.returns-in-Err-clause-caused
 returns-in-Err-clause-caused c = λ awaited past at resumed far.
     rw c.enter-in-Err.ensures (causes.rest_fails awaited past at resumed c.args.self.now far c.in-Err.error
-    (turning.no_items c.args.self.now.buffer.items c.args.self.now.buffer.len c.is_empty.result c.args.self.now.buffer.ok.0 c.is_empty.ensures c.if-not-is_empty.false) c.in-Err.ensures.fails)
+    (turning.no_items c.args.self.now.buffer.items c.args.self.now.buffer.len c.is_empty.result c.args.self.now.buffer.ok.0 c.is_empty.ensures c.if-not-is_empty.false)
+    (λ none. c.if-self-eq0.false (ap (of_z w64) none)) c.in-Err.ensures.fails)

@@ -13,8 +13,8 @@ returns-in-Ok-clause-turned c =
     hearing.resume_read c.args.self.now.aggregate.args.options.batch_size c.args.reply c.args.self.now c.replace.new.self c.in-Ok.opened (step_told c.replace.result) c.in-Ok.ensures.ok.opens.batch c.in-Ok.ensures.ok.opens.says c.in-Ok.ensures.ok.opens.whole c.replace.ensures.turned
 
 pub returns-in-Ok-clause-caused : goal.returns-in-Ok-clause-caused
-returns-in-Ok-clause-caused c = λ awaited past at kept why stays heard.
-    c.replace.ensures.caused awaited past at kept stays (causes.resumed_by awaited past at c.args.self.now c.args.reply c.in-Ok.opened c.in-Ok.ensures.ok.opens kept why heard)
+returns-in-Ok-clause-caused c = λ awaited past at kept why heard success.
+    c.replace.ensures.caused awaited past at kept (causes.resumed_by awaited past at c.args.self.now c.args.reply c.in-Ok.opened c.in-Ok.ensures.ok.opens kept why heard success)
 
 pub returns-in-Err-clause-caused : goal.returns-in-Err-clause-caused
-returns-in-Err-clause-caused c = λ awaited past at kept why stays heard. rw c.enter.ensures (causes.resumption_breaks awaited past at c.args.self.now c.args.reply c.in-Err.error c.in-Err.ensures.err kept why stays heard)
+returns-in-Err-clause-caused c = λ awaited past at kept why heard success. rw c.enter.ensures (causes.resumption_breaks awaited past at c.args.self.now c.args.reply c.in-Err.error c.in-Err.ensures.err kept why heard)

@@ -1,10 +1,17 @@
-use Rattle.std.proofs.Common.{subst}
+use Rattle.std.proofs.Common.{◌≡◌, None, subst}
 use Rattle.std.specs.Prelude.{IfSome}
+use Rattle.mg_link.specs.Exec.{ticket_of}
 use Rattle.mg_jobs.specs.InsertCauses.{IsBuilt}
 use Rattle.mg_jobs.specs.Underway.{IsNextOf}
 use Rattle.mg_jobs.proofs.InsertCauses.{next_built, next_stopped}
-use Rattle.mg_jobs.proofs.Sendings.{next_none}
+use Rattle.mg_jobs.proofs.Sendings.{next_none, next_some}
 use Rattle.mg_jobs.proofs.insert.Batches.current.Goals as goal
+
+pub returns-in-Ok-Some-clause-sends : goal.returns-in-Ok-Some-clause-sends
+returns-in-Ok-Some-clause-sends c =
+    let is_next = subst (λ o. IsNextOf c.args.self.now c.next.new.self o) c.in-Ok-Some.field-0-is c.in-Ok-Some.ensures.next in
+    let unsent = subst (λ o. IfSome o (λ command. ticket_of command.exec ≡ None)) c.in-Ok-Some.field-0-is c.in-Ok-Some.ensures.unsent in
+    rw c.in_default.is (next_some c.args.self.now c.next.new.self c.in-Ok-Some.command c.in-Ok-Some.ensures.same unsent is_next)
 
 pub returns-in-Ok-None-clause-sends : goal.returns-in-Ok-None-clause-sends
 returns-in-Ok-None-clause-sends c = rw c.in_default.is (next_none c.args.self.now c.next.new.self c.in-Ok-None.ensures.same (subst (λ o. IsNextOf c.args.self.now c.next.new.self o) c.in-Ok-None.field-0-is c.in-Ok-None.ensures.next))

@@ -6,6 +6,7 @@ use Rattle.mg_jobs.proofs.Turning.{call_answers, call_pends, rests_after, took_o
 use Rattle.mg_jobs.proofs.Vainly.{vain_call, vain_on}
 use Rattle.mg_jobs.proofs.Advancing.{ask_goes, ask_waits}
 use Rattle.mg_jobs.proofs.Telling.{call_answers_tells, call_waits_tells}
+use Rattle.mg_jobs.specs.Follows.{same_place}
 use Rattle.mg_jobs.specs.Progress.{came}
 use Rattle.mg_jobs.specs.Telling.{kept}
 use Rattle.mg_jobs.proofs.player.FollowPlayer.ask.Goals as goal
@@ -20,7 +21,7 @@ pub returns-in-Some-clause-turned : goal.returns-in-Some-clause-turned
 returns-in-Some-clause-turned g c =
     record {
       watching =
-          took_on _ _ _ _ _ _ (stage.Open c.args.stream) c.args.self.now (stage.Open c.poll_next_if_any.new.self) c.take.new.self _ _
+          took_on _ _ _ _ _ _ (stage.Open c.args.stream) c.args.self.now (stage.Open c.poll_next_if_any.new.self) c.take.new.self _ _ same_place same_place
           (call_answers _ _ _ _ c.args.self.now c.take.new.self c.args.stream c.poll_next_if_any.new.self (event_told c.poll_next_if_any.result) c.in-Some.answer c.take.ensures.watched c.take.ensures.opened c.take.ensures.answers c.in-Some.ensures.0 c.poll_next_if_any.ensures.args c.poll_next_if_any.ensures.moved)
           c.go_on.ensures.turned.watching;
       vainly =

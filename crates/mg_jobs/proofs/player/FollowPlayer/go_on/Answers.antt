@@ -4,6 +4,7 @@ use Rattle.mg_jobs.proofs.Turning.{closes_at_rest, sound_without, to_close, took
 use Rattle.mg_jobs.proofs.Vainly.{vain_on, vain_same, vain_to_close}
 use Rattle.mg_jobs.proofs.Advancing.{goes_to_close, stays_open}
 use Rattle.mg_jobs.proofs.Telling.{rest_closes_tells, rest_stays_tells}
+use Rattle.mg_jobs.specs.Follows.{same_place}
 use Rattle.mg_jobs.specs.Telling.{kept}
 use Rattle.mg_jobs.proofs.player.FollowPlayer.go_on.Goals as goal
 
@@ -23,7 +24,7 @@ pub returns-clause-turned : goal.returns-clause-turned
 returns-clause-turned g c =
     record {
       watching =
-          took_on _ _ _ _ _ _ (stage.Open c.args.stream) c.args.self.now (stage.Closes c.close-closing.result) _ _ _
+          took_on _ _ _ _ _ _ (stage.Open c.args.stream) c.args.self.now (stage.Closes c.close-closing.result) _ _ _ same_place same_place
           (to_close _ _ c.args.self.now _ c.args.stream c.take_token.new.self c.close-closing.result (record { watched = refl; opened = refl; answers = refl }) c.take_token.ensures.token c.take_token.ensures.rest (c.close-closing.ensures.moved _ _))
           c.close.ensures.turned.watching;
       vainly =

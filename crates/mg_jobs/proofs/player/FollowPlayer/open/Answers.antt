@@ -7,13 +7,17 @@ use Rattle.mg_jobs.proofs.Advancing.{never_open, open_goes, open_waits}
 use Rattle.mg_jobs.proofs.Telling.{open_done_tells, open_fails_tells, open_waits_tells}
 use Rattle.mg_jobs.specs.Progress.{came}
 use Rattle.mg_jobs.specs.Telling.{kept}
-use Rattle.mg_jobs.specs.Follows.{HasGiven, IsFailed}
+use Rattle.mg_jobs.specs.Follows.{HasGiven, IsFailed, same_place}
 use Rattle.mg_jobs.proofs.player.FollowPlayer.open.Goals as goal
 
 pub returns-in-Pending-clause-turned : goal.returns-in-Pending-clause-turned
 returns-in-Pending-clause-turned g c = record {
-  watching = open_pends _ _ _ _ c.args.self.now c.args.opening c.in-Pending.opening c.in-Pending.ensures.keeps.1 c.in-Pending.ensures.keeps.0 c.in-Pending.ensures.moved;
-  vainly = vain_open_pends _ _ _ _ c.args.self.now c.args.opening c.in-Pending.opening c.in-Pending.ensures.keeps.1 c.in-Pending.ensures.keeps.0 c.in-Pending.ensures.vain;
+  next = same_place;
+  turned = record {
+    watching = open_pends _ _ _ _ c.args.self.now c.args.opening c.in-Pending.opening c.in-Pending.ensures.keeps.1 c.in-Pending.ensures.keeps.0 c.in-Pending.ensures.moved;
+    vainly = vain_open_pends _ _ _ _ c.args.self.now c.args.opening c.in-Pending.opening c.in-Pending.ensures.keeps.1 c.in-Pending.ensures.keeps.0 c.in-Pending.ensures.vain;
+  };
+  told = open_waits_tells _ _ _ _ _ (kept c.args.self.now) c.args.opening c.in-Pending.opening c.in-Pending.ensures.keeps.1 c.in-Pending.ensures.keeps.0 c.in-Pending.ensures.stays c.in-Pending.ensures.caused;
 }
 
 pub go_on-requires-clause-held : goal.go_on-requires-clause-held
@@ -31,20 +35,30 @@ returns-in-Done-clause-tickets g c = tickets_on c.in-Done.ensures.tickets (ticke
 pub returns-in-Done-clause-turned : goal.returns-in-Done-clause-turned
 returns-in-Done-clause-turned g c =
     record {
-      watching =
-          took_on _ _ _ _ _ _ (stage.Opens c.args.opening) c.args.self.now (stage.Open c.in-Done.stream) _ _ _
-          (open_done _ _ _ _ c.args.self.now _ c.args.opening c.in-Done.stream (record { watched = refl; answers = refl; token = refl }) (subst (λ o. HasGiven o) (sym c.note.ensures) tt) c.in-Done.ensures.keeps.0 c.in-Done.ensures.moved)
-          c.go_on.ensures.turned.watching;
-      vainly =
-          vain_on _ _ _ _ _ _ (stage.Opens c.args.opening) c.args.self.now (stage.Open c.in-Done.stream) _ _ _
-          (vain_open_done _ _ _ _ c.args.self.now _ c.args.opening c.in-Done.stream (record { watched = refl; answers = refl; token = refl }) (subst (λ o. HasGiven o) (sym c.note.ensures) tt) c.in-Done.ensures.vain)
-          c.go_on.ensures.turned.vainly;
+      next = λ at. c.in-Done.ensures.placed.place;
+      turned = record {
+        watching =
+            took_on _ _ _ _ _ _ (stage.Opens c.args.opening) c.args.self.now (stage.Open c.in-Done.stream) _ _ _ (λ at. c.in-Done.ensures.placed.place) same_place
+            (open_done _ _ _ _ c.args.self.now _ c.args.opening c.in-Done.stream c.in-Done.ensures.placed.place (record { watched = refl; answers = refl; token = refl }) (subst (λ o. HasGiven o) (sym c.note.ensures) tt) c.in-Done.ensures.keeps.0 c.in-Done.ensures.placed.moved)
+            c.go_on.ensures.turned.watching;
+        vainly =
+            vain_on _ _ _ _ _ _ (stage.Opens c.args.opening) c.args.self.now (stage.Open c.in-Done.stream) _ _ _
+            (vain_open_done _ _ _ _ c.args.self.now _ c.args.opening c.in-Done.stream (record { watched = refl; answers = refl; token = refl }) (subst (λ o. HasGiven o) (sym c.note.ensures) tt) c.in-Done.ensures.vain)
+            c.go_on.ensures.turned.vainly;
+      };
+      told =
+          open_done_tells _ (g.L.Link.awaited c.poll.new.link) _ _ _ _ _ _ (kept c.args.self.now) (record (kept c.args.self.now) { opened = c.note.new.slot; alive = c.is_alive-self.result }) c.args.opening c.in-Done.stream _ _ c.go_on.ensures.told refl (subst (λ o. HasGiven o) (sym c.note.ensures) tt) refl c.is_alive-self.ensures c.in-Done.ensures.later.wire
+          c.in-Done.ensures.stays c.in-Done.ensures.placed.place c.in-Done.ensures.placed.caused;
     }
 
 pub returns-in-Failed-clause-turned : goal.returns-in-Failed-clause-turned
 returns-in-Failed-clause-turned g c = record {
-  watching = open_failed _ _ _ _ c.args.self.now _ c.args.opening (record { watched = refl; answers = refl; token = refl }) (subst (λ o. IsFailed o) (sym c.note-in-Failed.ensures) tt) c.in-Failed.ensures.moved;
-  vainly = vain_open_failed _ _ _ _ c.args.self.now _ c.args.opening c.in-Failed.error (record { watched = refl; answers = refl; token = refl }) (subst (λ o. IsFailed o) (sym c.note-in-Failed.ensures) tt) c.in-Failed.ensures.vain;
+  next = same_place;
+  turned = record {
+    watching = open_failed _ _ _ _ c.args.self.now _ c.args.opening (record { watched = refl; answers = refl; token = refl }) (subst (λ o. IsFailed o) (sym c.note-in-Failed.ensures) tt) c.in-Failed.ensures.moved;
+    vainly = vain_open_failed _ _ _ _ c.args.self.now _ c.args.opening c.in-Failed.error (record { watched = refl; answers = refl; token = refl }) (subst (λ o. IsFailed o) (sym c.note-in-Failed.ensures) tt) c.in-Failed.ensures.vain;
+  };
+  told = open_fails_tells _ _ _ _ _ (kept c.args.self.now) _ c.args.opening c.in-Failed.error refl c.note-in-Failed.ensures c.in-Failed.ensures.stays c.in-Failed.ensures.caused;
 }
 
 pub returns-in-Pending-clause-comes : goal.returns-in-Pending-clause-comes
@@ -55,14 +69,3 @@ returns-in-Done-clause-comes g c = open_goes _ _ _ c.args.opening (came c.args.s
 
 pub returns-in-Failed-clause-comes : goal.returns-in-Failed-clause-comes
 returns-in-Failed-clause-comes g c = never_open _ _ _ _ c.in-Failed.ensures.pended (subst (λ o. IsFailed o) (sym c.note-in-Failed.ensures) tt) refl refl
-
-pub returns-in-Pending-clause-told : goal.returns-in-Pending-clause-told
-returns-in-Pending-clause-told g c = open_waits_tells _ _ _ _ _ (kept c.args.self.now) c.args.opening c.in-Pending.opening c.in-Pending.ensures.keeps.1 c.in-Pending.ensures.keeps.0 c.in-Pending.ensures.stays c.in-Pending.ensures.caused
-
-pub returns-in-Done-clause-told : goal.returns-in-Done-clause-told
-returns-in-Done-clause-told g c =
-    open_done_tells _ (g.L.Link.awaited c.poll.new.link) _ _ _ _ _ _ (kept c.args.self.now) (record (kept c.args.self.now) { opened = c.note.new.slot; alive = c.is_alive-self.result }) c.args.opening c.in-Done.stream _ _ c.go_on.ensures.told refl (subst (λ o. HasGiven o) (sym c.note.ensures) tt) refl c.is_alive-self.ensures c.in-Done.ensures.later.wire
-    c.in-Done.ensures.stays c.in-Done.ensures.caused
-
-pub returns-in-Failed-clause-told : goal.returns-in-Failed-clause-told
-returns-in-Failed-clause-told g c = open_fails_tells _ _ _ _ _ (kept c.args.self.now) _ c.args.opening c.in-Failed.error refl c.note-in-Failed.ensures c.in-Failed.ensures.stays c.in-Failed.ensures.caused

@@ -5,7 +5,7 @@ use Rattle.mg_jobs.proofs.Told.{follow_teller}
 use Rattle.mg_jobs.proofs.run.Player.ready.Goals as goal
 
 pub returns-in-Insert-clause-knows : goal.returns-in-Insert-clause-knows
-returns-in-Insert-clause-knows g c = rw c.in-Insert.is (λ awaited calls o plays. (plays.0, c.ready.ensures.plain plays.1))
+returns-in-Insert-clause-knows g c = rw c.in-Insert.is (λ awaited calls o at plays. (plays.0, c.ready.ensures.plain plays.1))
 
 pub returns-in-Insert-clause-task : goal.returns-in-Insert-clause-task
 returns-in-Insert-clause-task g c = rw c.in-Insert.is (same_insert _ _ c.ready.ensures.same)
@@ -29,7 +29,7 @@ pub returns-in-Insert-clause-teller : goal.returns-in-Insert-clause-teller
 returns-in-Insert-clause-teller g c = rw c.in-Insert.is (c.ready.ensures.same, c.ready.ensures.tells)
 
 pub returns-in-Follow-clause-teller : goal.returns-in-Follow-clause-teller
-returns-in-Follow-clause-teller g c = rw c.in-Follow.is (follow_teller _ _ c.ready-in-Follow.ensures.same)
+returns-in-Follow-clause-teller g c = rw c.in-Follow.is (follow_teller (g.I.IdSource.ids c.args.ids.now) _ _ c.ready-in-Follow.ensures.same)
 
 pub returns-in-Put-clause-teller : goal.returns-in-Put-clause-teller
 returns-in-Put-clause-teller g c = rw c.in-Put.is tt

@@ -8,6 +8,7 @@ use Rattle.mg_jobs.specs.declared.run.Player.{Player}
 use Rattle.mg_jobs.proofs.Apart.{apart_as, on_err, same_at, same_job, same_jobs, stands_after}
 use Rattle.mg_jobs.proofs.Knowing.{knowing_on, tasks_after}
 use Rattle.mg_jobs.proofs.Advancing.{at_after}
+use Rattle.mg_jobs.proofs.Drawing.{drawn_on}
 use Rattle.mg_jobs.proofs.Told.{all_turn, tell_as}
 use Rattle.mg_jobs.specs.Progress.{AllAt}
 use Rattle.mg_jobs.specs.Telling.{AllTell}
@@ -45,7 +46,7 @@ returns-in_err-note-clause-same g c =
     let ok = c.args.self.now.players.ok.0 in
     let within : c.args.job < length c.args.self.now.players.items = omega (arith, c.len.ensures, c.if-at-len.false) in
     let at = slice_get_read c.args.self.now.players.items (length c.args.self.now.players.items) c.args.job c.index_mut-player.result.now refl within c.index_mut-player.ensures.value in
-    on_err c.from_residual-in_err-note.result (same_at c.args.self.now.players.items c.args.job c.index_mut-player.result.now c.turn_of.new.player at c.in_err-note.ensures.err.2)
+    on_err c.from_residual-in_err-note.result (same_at c.args.self.now.players.items c.args.job c.index_mut-player.result.now c.turn_of.new.player at c.in_err-note.ensures.err.3)
 
 pub returns-in_err-note-clause-ended : goal.returns-in_err-note-clause-ended
 returns-in_err-note-clause-ended g c = λ e.
@@ -111,14 +112,21 @@ returns-clause-rows g c = λ ts order same all.
     subst (λ (ns : List Turned). AllAt ts (order ++ c.args.job ∷ []) ns (slice_set c.args.self.now.players.items c.args.job c.turn_of.new.player)) (sym (c.push_reserved.ensures ∙ ap (λ l. l ++ c.in_ok-note.note ∷ []) c.in_ok-reserve.ensures.items))
     (at_after order c.args.self.now.turns.items c.args.job c.in_ok-note.note same ts c.args.self.now.players.items c.index_mut-player.result.now c.turn_of.new.player at c.in_ok-note.ensures.comes all)
 
-pub returns-clause-told : goal.returns-clause-told
-returns-clause-told g c = λ begun ts order same all tell.
+pub returns-clause-drawn : goal.returns-clause-drawn
+returns-clause-drawn g c = λ first ts order does drawn.
     let ok = c.args.self.now.players.ok.0 in
     let within : c.args.job < length c.args.self.now.players.items = omega (arith, c.len.ensures, c.if-at-len.false) in
     let at = slice_get_read c.args.self.now.players.items (length c.args.self.now.players.items) c.args.job c.index_mut-player.result.now refl within c.index_mut-player.ensures.value in
-    subst (λ (ns : List Turned). AllTell (g.L.Link.awaited c.turn_of.new.link) begun (g.L.Link.log c.turn_of.new.link) (g.L.Link.wire c.turn_of.new.link) ts (order ++ c.args.job ∷ []) ns (slice_set c.args.self.now.players.items c.args.job c.turn_of.new.player))
+    drawn_on first (g.I.IdSource.ids c.args.ids.now) (g.I.IdSource.ids c.turn_of.new.ids) ts order c.args.self.now.players.items c.args.job c.index_mut-player.result.now c.turn_of.new.player at does c.in_ok-note.ensures.draws.drawn c.in_ok-note.ensures.draws.has drawn
+
+pub returns-clause-told : goal.returns-clause-told
+returns-clause-told g c = λ first begun ts order same all drawn tell.
+    let ok = c.args.self.now.players.ok.0 in
+    let within : c.args.job < length c.args.self.now.players.items = omega (arith, c.len.ensures, c.if-at-len.false) in
+    let at = slice_get_read c.args.self.now.players.items (length c.args.self.now.players.items) c.args.job c.index_mut-player.result.now refl within c.index_mut-player.ensures.value in
+    subst (λ (ns : List Turned). AllTell first (g.L.Link.awaited c.turn_of.new.link) begun (g.L.Link.log c.turn_of.new.link) (g.L.Link.wire c.turn_of.new.link) ts (order ++ c.args.job ∷ []) ns (slice_set c.args.self.now.players.items c.args.job c.turn_of.new.player))
     (sym (c.push_reserved.ensures ∙ ap (λ l. l ++ c.in_ok-note.note ∷ []) c.in_ok-reserve.ensures.items))
     (all_turn (g.L.Link.awaited c.args.link.now) (g.L.Link.awaited c.turn_of.new.link) (g.L.Link.log c.args.link.now) (g.L.Link.log c.turn_of.new.link) (g.L.Link.wire c.turn_of.new.link) c.args.self.now.players.items c.args.job c.index_mut-player.result.now c.turn_of.new.player at
     (apart_as _ _ _ c.args.self.now.players.items c.turn_of.ensures.later.wire c.requires) c.turn_of.ensures.goes c.in_ok-note.note c.in_ok-note.ensures.noted.starts c.in_ok-note.ensures.noted.stays
     (λ over. let idles = c.in_ok-note.ensures.ended over in let is : c.in_ok-note.note ≡ idle = cc idles.0 in ap (λ (n : Turned). n.started) is)
-    begun ts order c.args.self.now.turns.items same all (tell_as _ _ _ _ _ ts order c.args.self.now.turns.items c.args.self.now.players.items c.turn_of.ensures.later.wire tell))
+    (g.I.IdSource.ids c.args.ids.now) c.in_ok-note.ensures.draws.first first begun ts order c.args.self.now.turns.items same all drawn (tell_as _ _ _ _ _ _ ts order c.args.self.now.turns.items c.args.self.now.players.items c.turn_of.ensures.later.wire tell))

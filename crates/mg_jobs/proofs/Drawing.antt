@@ -1,0 +1,307 @@
+-- Which ids the inserts of a run draw, turn by turn.
+use Rattle.std.proofs.Common.{◌≡◌, ◌+◌, ◌<◌, ◌≤◌, ℕ, zero, suc, Bool, true, false, cond, List, [], ◌∷◌, ◌++◌, length, Option, Some, refl, sym, ap, ◌∙◌, subst, inl, inr, ◌⊎◌, Result, Ok, Err, take, arith}
+use Rattle.std.specs.Prelude.{IfOk, slice_get, slice_set, nat_eq}
+use Rattle.std.proofs.lemmas.Bool.{cases_Bool, cases_eq, eq-eqb, ne_eqb}
+use Rattle.std.proofs.lemmas.List.{take_all}
+use Rattle.mg_bson.specs.Tree.{Fields}
+use Rattle.mg_bson.specs.declared.object_id.ObjectId.{ObjectId}
+use Rattle.mg_link.proofs.Owners.{same_some}
+use Rattle.mg_link.proofs.Places.{get_within}
+use Rattle.mg_store.proofs.Standing.{get_set_other, get_set_same}
+use Rattle.mg_link.specs.declared.error.Error.{Error}
+use Rattle.mg_script.specs.Plan as plan
+use Rattle.mg_script.specs.Plan.{Task}
+use Rattle.mg_jobs.specs.Drawing.{AreLater, HadTurn, HaveDrawn, JobHadTurn, JobHasIds, as_sent, before_first, drawn_behind, drawn_in, draws, first_id, has_turn, lacking, lacks, next_draws, sent_for, turn_draws, with_ids}
+use Rattle.mg_jobs.specs.Headline.{AreFirst, DoTasks, Does, IsFirst}
+use Rattle.mg_jobs.specs.Playing.{HasIds, inserts_ended}
+use Rattle.mg_jobs.specs.Runs.{has_ended}
+use Rattle.mg_jobs.specs.Underway.{sent_of, with_id}
+use Rattle.mg_jobs.specs.declared.player.InsertStage.{InsertStage}
+use Rattle.mg_jobs.specs.declared.player.InsertStage.TheVariants as inserts
+use Rattle.mg_jobs.specs.declared.run.Player.{Player}
+use Rattle.mg_script.specs.declared.outcome.Played.{Played}
+use Rattle.mg_jobs.specs.declared.run.Player.TheVariants as player
+use Rattle.mg_jobs.proofs.Apart.{length_set}
+use Rattle.mg_jobs.proofs.Knowing.{length_take, one_more, take_next}
+
+-- ---- a source
+
+pub later_same : (ids : ℕ → List ℕ) → AreLater ids 0 ids
+later_same ids k = ap ids (omega arith)
+
+pub later_on : (ids now later : ℕ → List ℕ) (m n : ℕ) → AreLater ids m now → AreLater now n later → AreLater ids (m + n) later
+later_on ids now later m n before after k = after k ∙ before (n + k) ∙ ap ids (omega arith)
+
+-- documents get the same ids by other numbers
+ids_by : (ids now : ℕ → List ℕ) (n : ℕ) → AreLater ids n now → (m : ℕ) (ds : List Fields) → with_ids now m ds ≡ with_ids ids (n + m) ds
+ids_by ids now n later m [] = refl
+ids_by ids now n later m (d ∷ ds) =
+    ap (λ id. sent_for id d ∷ with_ids now (m + lacks d) ds) (later m)
+    ∙ ap (λ es. sent_for (ids (n + m)) d ∷ es) (ids_by ids now n later (m + lacks d) ds ∙ ap (λ k. with_ids ids k ds) (omega arith))
+
+pub ids_from : (ids now : ℕ → List ℕ) (n : ℕ) (ds : List Fields) → AreLater ids n now → with_ids now 0 ds ≡ with_ids ids n ds
+ids_from ids now n ds later = ids_by ids now n later 0 ds ∙ ap (λ k. with_ids ids k ds) (omega arith)
+
+-- ids that are the same give the same
+pub sent_same : (ids now : ℕ → List ℕ) (ts : List Task) (order : List ℕ) (i : ℕ) (t : Task) → ((k : ℕ) → now k ≡ ids k) → as_sent now ts order i t ≡ as_sent ids ts order i t
+sent_same ids now ts order i (plan.insert ns docs) same =
+    let n = first_id ts order i in
+    ap (λ ds. plan.insert ns ds) (ids_by ids now 0 (λ k. same k ∙ ap ids (omega arith)) n docs ∙ ap (λ k. with_ids ids k docs) (omega arith))
+sent_same ids now ts order i (plan.follow on calls start filter batch) same = refl
+sent_same ids now ts order i (plan.put db bucket name id chunk pieces) same = refl
+sent_same ids now ts order i (plan.get db bucket id read) same = refl
+
+-- ---- one document more
+
+lacking_more : (ds : List Fields) (d : Fields) → lacking (ds ++ d ∷ []) ≡ lacking ds + lacks d
+lacking_more [] d = omega arith
+lacking_more (e ∷ ds) d = let more = lacking_more ds d in omega (arith, more)
+
+ids_more : (ids : ℕ → List ℕ) (n : ℕ) (ds : List Fields) (d : Fields) → with_ids ids n (ds ++ d ∷ []) ≡ with_ids ids n ds ++ sent_for (ids (n + lacking ds)) d ∷ []
+ids_more ids n [] d = ap (λ k. sent_for (ids k) d ∷ []) (omega arith)
+ids_more ids n (e ∷ ds) d = ap (λ es. sent_for (ids n) e ∷ es) (ids_more ids (n + lacks e) ds d ∙ ap (λ k. with_ids ids (n + lacks e) ds ++ sent_for (ids k) d ∷ []) (omega arith))
+
+sent_more : (os : List (Option ObjectId)) (ds : List Fields) (o : Option ObjectId) (d : Fields) → length os ≡ length ds → sent_of (os ++ o ∷ []) (ds ++ d ∷ []) ≡ sent_of os ds ++ with_id o d ∷ []
+sent_more [] [] o d same = refl
+sent_more (p ∷ os) (e ∷ ds) o d same = ap (λ es. with_id p e ∷ es) (sent_more os ds o d (omega (arith, same)))
+sent_more [] (e ∷ ds) o d same = absurd (omega (arith, same))
+sent_more (p ∷ os) [] o d same = absurd (omega (arith, same))
+
+taken_more : (ds : List Fields) (k : ℕ) (d : Fields) → slice_get ds k ≡ Some d → take (k + 1) ds ≡ take k ds ++ d ∷ []
+taken_more ds k d there = ap (λ n. take n ds) (sym (one_more k)) ∙ take_next ds k d there
+
+-- a document's id was drawn
+pub drawn_step : (ids now later : ℕ → List ℕ) (ds : List Fields) (k : ℕ) (d : Fields) → slice_get ds k ≡ Some d → AreLater ids (lacking (take k ds)) now → AreLater now (lacks d) later → AreLater ids (lacking (take (k + 1) ds)) later
+drawn_step ids now later ds k d there before after =
+    subst (λ n. AreLater ids n later) (sym (ap lacking (taken_more ds k d there) ∙ lacking_more (take k ds) d)) (later_on ids now later (lacking (take k ds)) (lacks d) before after)
+
+-- and kept
+pub kept_step : (ids now : ℕ → List ℕ) (ds : List Fields) (os : List (Option ObjectId)) (k : ℕ) (d : Fields) (o : Option ObjectId) → slice_get ds k ≡ Some d → length os ≡ k → AreLater ids (lacking (take k ds)) now → with_id o d ≡ sent_for (now 0) d
+    → sent_of os (take k ds) ≡ with_ids ids 0 (take k ds) → sent_of (os ++ o ∷ []) (take (k + 1) ds) ≡ with_ids ids 0 (take (k + 1) ds)
+kept_step ids now ds os k d o there count before is so_far =
+    let whole = taken_more ds k d there in
+    let id : now 0 ≡ ids (0 + lacking (take k ds)) = before 0 ∙ ap ids (omega arith) in
+    ap (sent_of (os ++ o ∷ [])) whole
+    ∙ sent_more os (take k ds) o d (count ∙ sym (length_take ds k d there))
+    ∙ ap (λ es. es ++ with_id o d ∷ []) so_far
+    ∙ ap (λ e. with_ids ids 0 (take k ds) ++ e ∷ []) (is ∙ ap (λ x. sent_for x d) id)
+    ∙ sym (ids_more ids 0 (take k ds) d)
+    ∙ ap (with_ids ids 0) (sym whole)
+
+-- ---- turns
+
+pub turn_own : (i : ℕ) (order : List ℕ) → has_turn i (order ++ i ∷ []) ≡ true
+turn_own i [] = ap (λ b. cond b true false) (eq-eqb i i refl)
+turn_own i (n ∷ order) =
+    elim (cases_Bool (nat_eq i n)) [
+      | inl is ↦ ap (λ b. cond b true (has_turn i (order ++ i ∷ []))) is
+      | inr not ↦ ap (λ b. cond b true (has_turn i (order ++ i ∷ []))) not ∙ turn_own i order
+    ]
+
+turn_here : (i n : ℕ) (order : List ℕ) → nat_eq i n ≡ true → has_turn i (n ∷ order) ≡ true
+turn_here i n order is = ap (λ b. cond b true (has_turn i order)) is
+
+turn_there : (i n : ℕ) (order : List ℕ) → nat_eq i n ≡ false → has_turn i (n ∷ order) ≡ has_turn i order
+turn_there i n order not = ap (λ b. cond b true (has_turn i order)) not
+
+pub turn_other : (i k : ℕ) (order : List ℕ) → (i ≡ k → ⊥) → has_turn i (order ++ k ∷ []) ≡ has_turn i order
+turn_other i k [] ne = turn_there i k [] (ne_eqb i k ne)
+turn_other i k (n ∷ order) ne = ap (λ b. cond (nat_eq i n) true b) (turn_other i k order ne)
+
+first_here : (i n : ℕ) (order : List ℕ) → nat_eq i n ≡ true → before_first i (n ∷ order) ≡ []
+first_here i n order is = ap (λ b. cond b [] (n ∷ before_first i order)) is
+
+first_there : (i n : ℕ) (order : List ℕ) → nat_eq i n ≡ false → before_first i (n ∷ order) ≡ n ∷ before_first i order
+first_there i n order not = ap (λ b. cond b [] (n ∷ before_first i order)) not
+
+-- a job that had its first turn
+first_had : (i k : ℕ) (order : List ℕ) → has_turn i order ≡ true → before_first i (order ++ k ∷ []) ≡ before_first i order
+first_had i k [] had = absurd cc
+first_had i k (n ∷ order) had =
+    elim (cases_Bool (nat_eq i n)) [
+      | inl is ↦ first_here i n (order ++ k ∷ []) is ∙ sym (first_here i n order is)
+      | inr not ↦ first_there i n (order ++ k ∷ []) not ∙ ap (λ l. n ∷ l) (first_had i k order (sym (turn_there i n order not) ∙ had)) ∙ sym (first_there i n order not)
+    ]
+
+-- one that had none
+first_none : (i : ℕ) (order : List ℕ) → has_turn i order ≡ false → before_first i order ≡ order
+first_none i [] none = refl
+first_none i (n ∷ order) none =
+    elim (cases_Bool (nat_eq i n)) [
+      | inl is ↦ let bad : true ≡ false = sym (turn_here i n order is) ∙ none in cc
+      | inr not ↦ first_there i n order not ∙ ap (λ l. n ∷ l) (first_none i order (sym (turn_there i n order not) ∙ none))
+    ]
+
+first_own : (i : ℕ) (order : List ℕ) → before_first i (order ++ i ∷ []) ≡ before_first i order
+first_own i [] = first_here i i [] (eq-eqb i i refl)
+first_own i (n ∷ order) = ap (λ l. cond (nat_eq i n) [] (n ∷ l)) (first_own i order)
+
+-- so the first id of a job that had a turn, or whose turn it is, stays the same
+pub id_had : (ts : List Task) (i k : ℕ) (order : List ℕ) → has_turn i order ≡ true → first_id ts (order ++ k ∷ []) i ≡ first_id ts order i
+id_had ts i k order had = ap (drawn_in ts) (first_had i k order had)
+
+pub id_own : (ts : List Task) (i : ℕ) (order : List ℕ) → first_id ts (order ++ i ∷ []) i ≡ first_id ts order i
+id_own ts i order = ap (drawn_in ts) (first_own i order)
+
+-- and is the next one before its first turn
+pub id_next : (ts : List Task) (i : ℕ) (order : List ℕ) → has_turn i order ≡ false → first_id ts order i ≡ drawn_in ts order
+id_next ts i order none = ap (drawn_in ts) (first_none i order none)
+
+-- ---- how many ids were drawn
+
+any_turn : (k n : ℕ) (before : List ℕ) → has_turn k before ≡ true → has_turn k (n ∷ before) ≡ true
+any_turn k n before had =
+    elim (cases_Bool (nat_eq k n)) [
+      | inl is ↦ turn_here k n before is
+      | inr not ↦ turn_there k n before not ∙ had
+    ]
+
+either_turn : (k n : ℕ) (before order : List ℕ) → has_turn k (n ∷ order) ≡ true → (has_turn k (n ∷ before) ≡ true) ⊎ (has_turn k order ≡ true)
+either_turn k n before order had =
+    elim (cases_Bool (nat_eq k n)) [
+      | inl is ↦ inl (turn_here k n before is)
+      | inr not ↦ inr (sym (turn_there k n order not) ∙ had)
+    ]
+
+one_drawn : (ts : List Task) (k : ℕ) (before : List ℕ) (b : Bool) → has_turn k before ≡ b → drawn_behind before ts (k ∷ []) ≡ cond b 0 (draws (slice_get ts k))
+one_drawn ts k before b is = ap (λ x. cond x 0 (draws (slice_get ts k)) + 0) is ∙ omega arith
+
+-- a job that had a turn draws nothing
+drawn_had : (ts : List Task) (k : ℕ) (before order : List ℕ) → (has_turn k before ≡ true) ⊎ (has_turn k order ≡ true) → drawn_behind before ts (order ++ k ∷ []) ≡ drawn_behind before ts order
+drawn_had ts k before [] (inl had) = one_drawn ts k before true had
+drawn_had ts k before [] (inr had) = absurd cc
+drawn_had ts k before (n ∷ order) (inl had) = ap (λ m. cond (has_turn n before) 0 (draws (slice_get ts n)) + m) (drawn_had ts k (n ∷ before) order (inl (any_turn k n before had)))
+drawn_had ts k before (n ∷ order) (inr had) = ap (λ m. cond (has_turn n before) 0 (draws (slice_get ts n)) + m) (drawn_had ts k (n ∷ before) order (either_turn k n before order had))
+
+-- its first turn draws what its task needs
+drawn_none : (ts : List Task) (k : ℕ) (before order : List ℕ) → has_turn k before ≡ false → has_turn k order ≡ false → drawn_behind before ts (order ++ k ∷ []) ≡ drawn_behind before ts order + draws (slice_get ts k)
+drawn_none ts k before [] none none' = one_drawn ts k before false none ∙ omega arith
+drawn_none ts k before (n ∷ order) none none' =
+    elim (cases_Bool (nat_eq k n)) [
+      | inl is ↦ let bad : true ≡ false = sym (turn_here k n order is) ∙ none' in cc
+      | inr not ↦
+          let more = drawn_none ts k (n ∷ before) order (turn_there k n before not ∙ none) (sym (turn_there k n order not) ∙ none') in
+          ap (λ m. cond (has_turn n before) 0 (draws (slice_get ts n)) + m) more ∙ omega arith
+    ]
+
+drawn_turn : (ts : List Task) (k : ℕ) (order : List ℕ) (b : Bool) (n : ℕ) → has_turn k order ≡ b → n ≡ cond b 0 (draws (slice_get ts k)) → drawn_in ts (order ++ k ∷ []) ≡ drawn_in ts order + n
+drawn_turn ts k order true n had is = drawn_had ts k [] order (inr had) ∙ omega (arith, is)
+drawn_turn ts k order false n none is = drawn_none ts k [] order refl none ∙ ap (λ m. drawn_in ts order + m) (sym is)
+
+-- ---- jobs
+
+insert_draws : (b : Bool) (s : InsertStage) (ds : List Fields) → HadTurn b s → next_draws s ds ≡ cond b 0 (lacking ds)
+insert_draws true inserts.Unsent ds had = absurd cc
+insert_draws false inserts.Unsent ds had = refl
+insert_draws true (inserts.Goes i) ds had = refl
+insert_draws false (inserts.Goes i) ds had = absurd cc
+insert_draws true (inserts.Ended e) ds had = refl
+insert_draws false (inserts.Ended e) ds had = absurd cc
+
+nothing_drawn : (b : Bool) (n : ℕ) → n ≡ 0 → n ≡ cond b 0 0
+nothing_drawn true n none = none
+nothing_drawn false n none = none
+
+job_draws : (b : Bool) (t : Task) (p : Player) → Does t p → JobHadTurn b p → turn_draws p ≡ cond b 0 (draws (Some t))
+job_draws b (plan.insert ns docs) (player.Insert job) does had = insert_draws b job.stage job.documents.now had ∙ ap (λ ds. cond b 0 (lacking ds)) does.1
+job_draws b (plan.insert ns docs) (player.Follow job) does had = absurd does
+job_draws b (plan.insert ns docs) player.Put does had = absurd does
+job_draws b (plan.insert ns docs) player.Get does had = absurd does
+job_draws b (plan.follow on calls start filter batch) (player.Follow job) does had = nothing_drawn b 0 refl
+job_draws b (plan.follow on calls start filter batch) (player.Insert job) does had = absurd does
+job_draws b (plan.follow on calls start filter batch) player.Put does had = absurd does
+job_draws b (plan.follow on calls start filter batch) player.Get does had = absurd does
+job_draws b (plan.put db bucket name id chunk pieces) player.Put does had = nothing_drawn b 0 refl
+job_draws b (plan.put db bucket name id chunk pieces) (player.Insert job) does had = absurd does
+job_draws b (plan.put db bucket name id chunk pieces) (player.Follow job) does had = absurd does
+job_draws b (plan.put db bucket name id chunk pieces) player.Get does had = absurd does
+job_draws b (plan.get db bucket id read) player.Get does had = nothing_drawn b 0 refl
+job_draws b (plan.get db bucket id read) (player.Insert job) does had = absurd does
+job_draws b (plan.get db bucket id read) (player.Follow job) does had = absurd does
+job_draws b (plan.get db bucket id read) player.Put does had = absurd does
+
+pub none_had : (s : InsertStage) → HadTurn false s → s ≡ inserts.Unsent
+none_had inserts.Unsent had = refl
+none_had (inserts.Goes i) had = absurd cc
+none_had (inserts.Ended e) had = absurd cc
+
+insert_over : (ids : ℕ → List ℕ) (s : InsertStage) (ds : List Fields) → inserts_ended s ≡ true → AreLater ids (next_draws s ds) ids
+insert_over ids inserts.Unsent ds ended = absurd cc
+insert_over ids (inserts.Goes i) ds ended = absurd cc
+insert_over ids (inserts.Ended e) ds ended = later_same ids
+
+over_has : (s : InsertStage) → inserts_ended s ≡ true → HasIds s
+over_has inserts.Unsent ended = absurd cc
+over_has (inserts.Goes i) ended = absurd cc
+over_has (inserts.Ended e) ended = tt
+
+had_ids : (s : InsertStage) → HasIds s → HadTurn true s
+had_ids inserts.Unsent has = absurd has
+had_ids (inserts.Goes i) has = refl
+had_ids (inserts.Ended e) has = refl
+
+job_had : (p : Player) → JobHasIds p → JobHadTurn true p
+job_had (player.Insert job) has = had_ids job.stage has
+job_had (player.Follow job) has = tt
+job_had player.Put has = tt
+job_had player.Get has = tt
+
+-- a job that has ended draws nothing more
+pub ended_draws : (ids : ℕ → List ℕ) (p : Player) → has_ended p ≡ true → AreLater ids (turn_draws p) ids
+ended_draws ids (player.Insert job) ended = insert_over ids job.stage job.documents.now ended
+ended_draws ids (player.Follow job) ended = later_same ids
+ended_draws ids player.Put ended = later_same ids
+ended_draws ids player.Get ended = later_same ids
+
+pub ended_has : (p : Player) → has_ended p ≡ true → JobHasIds p
+ended_has (player.Insert job) ended = over_has job.stage ended
+ended_has (player.Follow job) ended = tt
+ended_has player.Put ended = tt
+ended_has player.Get ended = tt
+
+-- ---- a run
+
+get_some : {A : Type 0} (xs : List A) (k : ℕ) → k < length xs → (x : A) × (slice_get xs k ≡ Some x)
+get_some [] k lt = absurd (omega (arith, lt))
+get_some (x ∷ xs) zero lt = (x, refl)
+get_some (x ∷ xs) (suc k) lt = get_some xs k (omega (arith, lt))
+
+-- Behind the turn of one of its jobs a run has drawn what that job needed.
+pub drawn_on : (ids now later : ℕ → List ℕ) (ts : List Task) (order : List ℕ) (players : List Player) (k : ℕ) (p p' : Player) → slice_get players k ≡ Some p → DoTasks ts players → AreLater now (turn_draws p) later → JobHasIds p' → HaveDrawn ids now ts order players → HaveDrawn ids later ts (order ++ k ∷ []) (slice_set players k p')
+drawn_on ids now later ts order players k p p' there does draws_it has d =
+    let within = get_within players k p there in
+    let t = get_some ts k (omega (arith, within, d.jobs)) in
+    let many : turn_draws p ≡ cond (has_turn k order) 0 (draws (slice_get ts k)) = job_draws (has_turn k order) t.0 p (does k t.0 p t.1 there) (d.each k p there) ∙ ap (λ o. cond (has_turn k order) 0 (draws o)) (sym t.1) in
+    record {
+      stands = subst (λ n. AreLater ids n later) (sym (drawn_turn ts k order (has_turn k order) (turn_draws p) refl many)) (later_on ids now later (drawn_in ts order) (turn_draws p) d.stands draws_it);
+      jobs = length_set players k p' ∙ d.jobs;
+      each = λ i a h. elim (cases_eq i k) [
+        | inl e ↦
+            let is : p' ≡ a = same_some p' a (sym (get_set_same players k p p' there) ∙ ap (λ n. slice_get (slice_set players k p') n) (sym e) ∙ h) in
+            subst (λ (b : Bool). JobHadTurn b a) (sym (ap (λ n. has_turn n (order ++ k ∷ [])) e ∙ turn_own k order)) (job_had a (subst (λ (x : Player). JobHasIds x) is has))
+        | inr ne ↦ subst (λ (b : Bool). JobHadTurn b a) (sym (turn_other i k order ne)) (d.each i a (get_set_other players k i a p' ne h))
+      ];
+    }
+
+first_had_none : (p : Player) → IsFirst p → JobHadTurn false p
+first_had_none (player.Insert job) first = subst (HadTurn false) (sym first) refl
+first_had_none (player.Follow job) first = tt
+first_had_none player.Put first = tt
+first_had_none player.Get first = tt
+
+-- Jobs that have done nothing have drawn nothing.
+pub drawn_first : (ids : ℕ → List ℕ) (ts : List Task) (players : List Player) → length players ≡ length ts → AreFirst players → HaveDrawn ids ids ts [] players
+drawn_first ids ts players jobs first = record { stands = later_same ids; jobs = jobs; each = λ i p h. first_had_none p (first i p h) }
+
+-- one number of the order more was gone through
+pub drawn_next : (ids now : ℕ → List ℕ) (ts : List Task) (order : List ℕ) (k n : ℕ) (players : List Player) → slice_get order k ≡ Some n → HaveDrawn ids now ts (take k order ++ n ∷ []) players → HaveDrawn ids now ts (take (k + 1) order) players
+drawn_next ids now ts order k n players there d = subst (λ (ns : List ℕ). HaveDrawn ids now ts ns players) (sym (take_next order k n there) ∙ ap (λ m. take m order) (one_more k)) d
+
+-- all of them were
+pub drawn_whole : (ids now : ℕ → List ℕ) (ts : List Task) (order : List ℕ) (k : ℕ) (players : List Player) → length order ≤ k → HaveDrawn ids now ts (take k order) players → HaveDrawn ids now ts order players
+drawn_whole ids now ts order k players over d = subst (λ (ns : List ℕ). HaveDrawn ids now ts ns players) (take_all k order over) d
+
+-- the same of a run, unless memory ran out
+pub drawn_so : (ids now : ℕ → List ℕ) (ts : List Task) (order : List ℕ) (players : List Player) (result : Result Played Error) → HaveDrawn ids now ts order players → IfOk result (λ p. AreLater ids (drawn_in ts order) now)
+drawn_so ids now ts order players (Ok p) d = d.stands
+drawn_so ids now ts order players (Err e) d = tt

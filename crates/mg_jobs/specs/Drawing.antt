@@ -1,0 +1,124 @@
+-- Which ids inserts draw, and what they send for their documents.
+use Rattle.std.specs.Prelude.{◌≡◌, ◌+◌, ℕ, Bool, true, false, cond, nat_eq, List, [], ◌∷◌, length, Option, Some, None, codes, slice_get}
+use Rattle.mg_bson.specs.Tree.{Tree, object_id, Fields, field}
+use Rattle.mg_bson.specs.Find.{get}
+use Rattle.mg_script.specs.Plan as plan
+use Rattle.mg_script.specs.Plan.{Task}
+use Rattle.mg_jobs.specs.Playing.{HasIds}
+use Rattle.mg_jobs.specs.declared.player.InsertStage.{InsertStage}
+use Rattle.mg_jobs.specs.declared.player.InsertStage.TheVariants as inserts
+use Rattle.mg_jobs.specs.declared.run.Player.{Player}
+use Rattle.mg_jobs.specs.declared.run.Player.TheVariants as player
+
+-- ---- documents and their ids
+
+-- one where there is no `_id`
+abbrev pub one_unless_there : Option Tree → ℕ
+one_unless_there None = 1
+one_unless_there (Some id) = 0
+
+-- one where the document has no `_id`
+abbrev pub lacks : Fields → ℕ
+lacks d = one_unless_there (get (codes "_id") d)
+
+-- how many of the documents have no `_id`
+abbrev pub lacking : List Fields → ℕ
+lacking [] = 0
+lacking (d ∷ ds) = lacks d + lacking ds
+
+abbrev pub sent_by : Option Tree → List ℕ → Fields → Fields
+sent_by None id d = field (codes "_id") (object_id id) d
+sent_by (Some own) id d = d
+
+-- what is sent for a document: the document itself where it has an `_id`, and otherwise this one as its first field, and the document behind it
+abbrev pub sent_for : List ℕ → Fields → Fields
+sent_for id d = sent_by (get (codes "_id") d) id d
+
+-- What is sent for documents: each that has no `_id` gets the next of these ids, from the one of this number on.
+abbrev pub with_ids : (ℕ → List ℕ) → ℕ → List Fields → List Fields
+with_ids ids n [] = []
+with_ids ids n (d ∷ ds) = sent_for (ids n) d ∷ with_ids ids (n + lacks d) ds
+
+-- ---- the ids of a run
+
+-- whether job i has one of these turns
+abbrev pub has_turn : ℕ → List ℕ → Bool
+has_turn i [] = false
+has_turn i (n ∷ order) = cond (nat_eq i n) true (has_turn i order)
+
+-- the turns before the first one of job i
+abbrev pub before_first : ℕ → List ℕ → List ℕ
+before_first i [] = []
+before_first i (n ∷ order) = cond (nat_eq i n) [] (n ∷ before_first i order)
+
+-- how many ids a task draws: an insert one for each of its documents that has none, at once
+abbrev pub draws : Option Task → ℕ
+draws None = 0
+draws (Some (plan.insert ns docs)) = lacking docs
+draws (Some (plan.follow on calls start filter batch)) = 0
+draws (Some (plan.put db bucket name id chunk pieces)) = 0
+draws (Some (plan.get db bucket id read)) = 0
+
+-- how many are drawn in these turns, behind others: each job draws in its first turn
+abbrev pub drawn_behind : List ℕ → List Task → List ℕ → ℕ
+drawn_behind before tasks [] = 0
+drawn_behind before tasks (n ∷ order) = cond (has_turn n before) 0 (draws (slice_get tasks n)) + drawn_behind (n ∷ before) tasks order
+
+-- how many are drawn in the turns of a run
+abbrev pub drawn_in : List Task → List ℕ → ℕ
+drawn_in tasks order = drawn_behind [] tasks order
+
+-- the number of the first id that job i draws: as many were drawn before its first turn
+abbrev pub first_id : List Task → List ℕ → ℕ → ℕ
+first_id tasks order i = drawn_in tasks (before_first i order)
+
+-- the task of job i with the documents as it sends them
+abbrev pub as_sent : (ℕ → List ℕ) → List Task → List ℕ → ℕ → Task → Task
+as_sent ids tasks order i (plan.insert ns docs) = plan.insert ns (with_ids ids (first_id tasks order i) docs)
+as_sent ids tasks order i (plan.follow on calls start filter batch) = plan.follow on calls start filter batch
+as_sent ids tasks order i (plan.put db bucket name id chunk pieces) = plan.put db bucket name id chunk pieces
+as_sent ids tasks order i (plan.get db bucket id read) = plan.get db bucket id read
+
+-- ---- jobs
+
+-- how many ids an insert of these documents draws in its next turn
+abbrev pub next_draws : InsertStage → List Fields → ℕ
+next_draws inserts.Unsent documents = lacking documents
+next_draws (inserts.Goes inserting) documents = 0
+next_draws (inserts.Ended ended) documents = 0
+
+-- how many ids a job draws in its next turn
+abbrev pub turn_draws : Player → ℕ
+turn_draws (player.Insert job) = next_draws job.stage job.documents.now
+turn_draws (player.Follow job) = 0
+turn_draws player.Put = 0
+turn_draws player.Get = 0
+
+-- a job that drew the ids that it needs
+abbrev pub JobHasIds : Player → Type 0
+JobHasIds (player.Insert job) = HasIds job.stage
+JobHasIds (player.Follow job) = Unit {0}
+JobHasIds player.Put = Unit {0}
+JobHasIds player.Get = Unit {0}
+
+-- the ids that a source gives later are those that it gives now, but for the first so many
+abbrev pub AreLater : (ℕ → List ℕ) → ℕ → (ℕ → List ℕ) → Type 0
+AreLater now n later = (k : ℕ) → later k ≡ now (n + k)
+
+-- an insert has its ids just where it had a turn
+abbrev pub HadTurn : Bool → InsertStage → Type 0
+HadTurn had inserts.Unsent = had ≡ false
+HadTurn had (inserts.Goes inserting) = had ≡ true
+HadTurn had (inserts.Ended ended) = had ≡ true
+
+abbrev pub JobHadTurn : Bool → Player → Type 0
+JobHadTurn had (player.Insert job) = HadTurn had job.stage
+JobHadTurn had (player.Follow job) = Unit {0}
+JobHadTurn had player.Put = Unit {0}
+JobHadTurn had player.Get = Unit {0}
+
+-- The turns of a run took a source from its ids as the run began to those that it gives now, and each insert has its ids from its first turn on.
+pub record HaveDrawn (ids now : ℕ → List ℕ) (tasks : List Task) (order : List ℕ) (players : List Player) : Type 0 where
+  pub stands : AreLater ids (drawn_in tasks order) now
+  pub jobs : length players ≡ length tasks
+  pub each : (i : ℕ) (p : Player) → slice_get players i ≡ Some p → JobHadTurn (has_turn i order) p
