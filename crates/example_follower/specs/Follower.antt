@@ -1,0 +1,60 @@
+-- What a follower hands to the library, and what it reports.
+use Rattle.std.specs.Prelude.{◌≡◌, ◌++◌, ℕ, List, [], ◌∷◌, Option, Some, None, option_and_then, unwrap_or, codes}
+use Rattle.mg_bson.specs.Find.{get, as_document, as_string}
+use Rattle.mg_bson.specs.Literal.{◌⇒◌⨾◌, empty}
+use Rattle.mg_bson.specs.Tree.{Tree, Fields}
+use Rattle.mg_link.specs.Follow.{FollowsOn, Moved}
+use Rattle.mg_link.specs.Link.{Awaited, Told}
+use Rattle.mg_link.specs.Log.{Call}
+use Rattle.mg_link.specs.State.{Start, Watch}
+use Rattle.mg_options.specs.declared.change_stream.ChangeStreamOptions.{ChangeStreamOptions}
+use Rattle.mg_ops.specs.declared.change_stream.WatchArgs.{WatchArgs}
+use Rattle.mg_change.specs.Following.{Asks, Turned, follow_of, idle, not_open}
+use Rattle.mg_change.specs.declared.stream.ChangeStream.{ChangeStream}
+
+-- the options of a watch that goes on behind this token, where there is one
+abbrev pub from_token : Option Tree → ChangeStreamOptions
+from_token token = record { resume_after = token; start_at_operation_time = None; start_after = None; all_changes_for_cluster = None; batch_size = None }
+
+-- the document that keeps a token
+abbrev pub kept_token : Option Tree → Fields
+kept_token None = empty
+kept_token (Some token) = "token" ⇒ token ⨾ empty
+
+-- ---- the report
+
+-- the `_id` of the document that an event tells of, where it is a text
+abbrev pub id_of : Fields → Option (List ℕ)
+id_of event = option_and_then as_string (option_and_then (get (codes "_id")) (option_and_then as_document (get (codes "documentKey") event)))
+
+abbrev pub line_of : Fields → List ℕ
+line_of event = (codes "order " ++ unwrap_or (id_of event) (codes "?")) ++ codes "\n"
+
+abbrev pub lines_of : List Fields → List ℕ
+lines_of [] = []
+lines_of (event ∷ more) = line_of event ++ lines_of more
+
+-- ---- what a stream answered
+
+-- the stream was opened with these arguments, and has answered nothing
+pub record Opens (awaited : Awaited) (log log' : Told) (args : WatchArgs) (s : ChangeStream) : Type 0 where
+  pub args_are : s.aggregate.args ≡ args
+  pub moved : (w : Watch) (start : Start) → Asks args w start → (opened : Option ℕ) × Moved log log' (not_open w start) (follow_of awaited w start s opened [])
+
+-- the stream answered events, and the report has just their lines more
+pub record Reports (old new : Awaited) (log log' : Told) (s s' : ChangeStream) (report report' : List ℕ) : Type 0 where
+  pub events : List Fields
+  pub answered : Turned old new log log' s.phase s s' events
+  pub lines : report' ≡ report ++ lines_of events
+
+-- Where the link tells its log: in every legal history in which that stands, the events are the first that the watch shows from its opening place
+-- on, each once and in order, just up to the place that the stream's token names.
+abbrev pub Followed : Told → Told → WatchArgs → ChangeStream → List Fields → Type 0
+Followed log log' args s events = (w : Watch) (start : Start) → Asks args w start → (calls : List Call) → log ≡ Some calls
+    → (calls' : List Call) × (log' ≡ Some calls') × (opened : Option ℕ) × FollowsOn calls' (idle w start s opened events)
+
+-- a new stream followed, and the report has just the lines of its events more
+pub record ReportsAll (log log' : Told) (args : WatchArgs) (s : ChangeStream) (report report' : List ℕ) : Type 0 where
+  pub events : List Fields
+  pub followed : Followed log log' args s events
+  pub lines : report' ≡ report ++ lines_of events

@@ -1,0 +1,32 @@
+//! An insert, over any link.
+ghost use Rattle.std.specs.Prelude.{◌≡◌};
+
+use crate::follow::POLLS;
+use mg_bson::{Bson, Document};
+use mg_link::{Action, Error, ErrorKind, Exec, Link, Namespace, Step, plain};
+use mg_ops::{Insert, Operation, encode};
+use std::alloc::Global;
+
+/// The insert of one document, which has this `_id` alone.
+fn insert_of(alloc: Global, ns: &Namespace, id: &str) -> Result<Insert, Error> {
+    let id = String::from_str(alloc, id)?;
+    let mut document = Document::new(alloc);
+    document.append("_id", Bson::String(id))?;
+    let mut documents = Vec::new(alloc);
+    documents.push(document)?;
+    let ns = ns.clone()?;
+    Ok(Insert { ns, documents })
+}
+
+/// Inserts a document with this `_id`, and gives how many were inserted.
+pub fn insert<L: Link>(alloc: Global, link: &mut L, ns: &Namespace, id: &str) -> Result<u64, Error>
+    ensures { L.wire link.new ≡ L.wire link.old }
+{
+    let insert = insert_of(alloc, ns, id)?;
+    let command = encode(alloc, &insert, link.wire_version())?;
+    match Exec::start(command, insert.retry()).run(link, POLLS) {
+        Step::Pending(_) => Err(plain(ErrorKind::Io)),
+        Step::Done(reply) => insert.read(alloc, reply),
+        Step::Failed(error) => Err(error),
+    }
+}
