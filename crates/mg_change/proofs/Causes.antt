@@ -110,8 +110,8 @@ next_by past at es es' c c' upto upto' events cursor token next =
 fails_none : (past : Past) (at : Standing) (e : Error) (c : CursorInformation) → MoreFails past at e c → at.events ≡ []
 fails_none past at e c (lost io heard is) = heard.asked.none_left
 fails_none past at e c (refused bytes heard by is) = heard.asked.none_left
-fails_none past at e c (unread bytes heard by is) = heard.asked.none_left
-fails_none past at e c (broken bytes upto heard tells by) = heard.asked.none_left
+fails_none past at e c (unread bytes heard success by is) = heard.asked.none_left
+fails_none past at e c (broken bytes upto heard success tells by) = heard.asked.none_left
 
 resumes_none : (past : Past) (at : Standing) (c : CursorInformation) → Resumes past at c → at.events ≡ []
 resumes_none past at c (owed owes is) = owes.none_left
@@ -317,11 +317,11 @@ module _ (awaited : Awaited) (past : Past) (at : Standing) where
   unkept_loses : (s t : ChangeStream) (bytes : List ℕ) (e : Error) (r : Stepped) → t.aggregate ≡ at.aggregate → Unkept s t bytes e → s.cursor ≡ at.cursor → HeardMore past at (reply bytes) → IsSuccess bytes → FailCause e r → StepCame awaited past at false (record t { phase = phase.Owing }) r
   unkept_loses s t bytes e r kept (unread stays by) cursor heard success h =
       broken_loses (BreaksIn (fields bytes)) t e r kept (asking heard.asked (stays ∙ cursor))
-      (λ breaks. let so = cursor_resumes (fields bytes) e breaks in (so, more_failed e (unread bytes heard breaks (stays ∙ cursor)) so)) by h
+      (λ breaks. let so = cursor_resumes (fields bytes) e breaks in (so, more_failed e (unread bytes heard success breaks (stays ∙ cursor)) so)) by h
   unkept_loses s t bytes e r kept (unheld upto tells by) cursor heard success h =
       let says = subst (λ (c : CursorInformation). TellsCursor bytes c.batch_size t.cursor upto) cursor tells in
       broken_loses (BreaksBatch (fields bytes)) t e r kept (keeping false bytes upto (more refl heard success says))
-      (λ breaks. let so = batch_resumes (fields bytes) e breaks in (so, more_failed e (broken bytes upto heard says breaks) so)) by h
+      (λ breaks. let so = batch_resumes (fields bytes) e breaks in (so, more_failed e (broken bytes upto heard success says breaks) so)) by h
 
   pub more_lost : (s t s' : ChangeStream) (bytes : List ℕ) (e : Error) (r : Stepped) → t.aggregate ≡ s.aggregate → Unkept s t bytes e → s' ≡ record t { phase = phase.Owing } → FailCause e r
       → s.aggregate ≡ at.aggregate → s.cursor ≡ at.cursor → HeardMore past at (reply bytes) → IsSuccess bytes → StepCame awaited past at false s' r
@@ -383,18 +383,18 @@ module _ (awaited : Awaited) (past : Past) (at : Standing) where
   again_fails s e why (by_reply bytes heard by) = refused bytes (owing s) why heard by
 
   -- the reply to it came
-  pub resumed_by : (s : ChangeStream) (bytes : List ℕ) (out : CursorSpecification) → Opens s.aggregate.args.options.batch_size bytes out → s.aggregate ≡ at.aggregate → Resumes past at s.cursor → HeardBy past (resume_command past.wire at) (reply bytes) → IsSuccess bytes
+  pub resumed_by : (s : ChangeStream) (bytes : List ℕ) (out : CursorSpecification) → Opens s.aggregate.args.options.batch_size bytes out → s.aggregate ≡ at.aggregate → Resumes past at s.cursor → HeardLast past (resume_command past.wire at) true (reply bytes) → IsSuccess bytes
       → Resumed past at s.cursor out.initial_reply out.info out.post_batch_resume_token
   resumed_by s bytes out opens kept why heard success =
       subst (λ (b : List ℕ). Resumed past at s.cursor b out.info out.post_batch_resume_token) (sym opens.whole)
-      (record { why = why; heard = heard; success = success; tells = record { batch = opens.batch; says = opens.says; size_is = opens.size_is ∙ ap (λ (a : ChangeStreamAggregate). a.args.options.batch_size) kept } })
+      (record { why = why; heard = heard_by past (resume_command past.wire at) true (reply bytes) heard; success = success; tells = record { batch = opens.batch; says = opens.says; size_is = opens.size_is ∙ ap (λ (a : ChangeStreamAggregate). a.args.options.batch_size) kept } })
 
-  reply_unread : (s : ChangeStream) (bytes : List ℕ) (e : Error) → FailsBy (BreaksIn (fields bytes)) e → Resumes past at s.cursor → HeardBy past (resume_command past.wire at) (reply bytes) → CallFails past at (standing_of (record s { phase = phase.Owing })) e
-  reply_unread s bytes e (inl room) why heard = may_lose (kind_of_plain e kind.OutOfMemory room) (owing s) (resuming why)
-  reply_unread s bytes e (inr by) why heard = unread bytes (owing s) why heard by
+  reply_unread : (s : ChangeStream) (bytes : List ℕ) (e : Error) → FailsBy (BreaksIn (fields bytes)) e → Resumes past at s.cursor → HeardLast past (resume_command past.wire at) true (reply bytes) → IsSuccess bytes → CallFails past at (standing_of (record s { phase = phase.Owing })) e
+  reply_unread s bytes e (inl room) why heard success = may_lose (kind_of_plain e kind.OutOfMemory room) (owing s) (resuming why)
+  reply_unread s bytes e (inr by) why heard success = unread bytes (owing s) why heard success by
 
-  pub resumption_breaks : (s : ChangeStream) (bytes : List ℕ) (e : Error) → FailsBy (BreaksIn (fields bytes)) e → s.aggregate ≡ at.aggregate → Resumes past at s.cursor → HeardBy past (resume_command past.wire at) (reply bytes) → CallFailed past at (standing_of (record s { phase = phase.Owing })) e
-  resumption_breaks s bytes e by kept why heard = record { why = reply_unread s bytes e by why heard; token = kept }
+  pub resumption_breaks : (s : ChangeStream) (bytes : List ℕ) (e : Error) → FailsBy (BreaksIn (fields bytes)) e → s.aggregate ≡ at.aggregate → Resumes past at s.cursor → HeardLast past (resume_command past.wire at) true (reply bytes) → IsSuccess bytes → CallFailed past at (standing_of (record s { phase = phase.Owing })) e
+  resumption_breaks s bytes e by kept why heard success = record { why = reply_unread s bytes e by why heard success; token = kept }
 
   -- the old cursor is not killed
   kill_failed : (s s' : ChangeStream) (e : Error) (r : Stepped) (bytes : List ℕ) → s.aggregate ≡ at.aggregate → (old : CursorInformation) → Resumed past at old bytes s.cursor s.batch_token → old.id ≢ pos 0 → ((e.kind ≡ kind.OutOfMemory → ⊥) → Killed past old) → KillCause e bytes s s' r
@@ -548,7 +548,7 @@ module _ (old new : Awaited) (log log' : Told) (wire : ℤ) (s : ChangeStream) w
           told = ran.told;
           room = ran.room;
           came = subst (λ (b : Bool). StepCame new past at b s' r) (sym far.by.0)
-              (leads new past at far.same (resumes_grows before past ran.grows at s.cursor far.by.1) (heard_by past (resume_command wire at) true (reply bytes) ran.came) (success_ran old new log log' wire exec bytes runs));
+              (leads new past at far.same (resumes_grows before past ran.grows at s.cursor far.by.1) ran.came (success_ran old new log log' wire exec bytes runs));
         }
 
     pub resuming_failed : (e : Error) → Runs old new log log' wire exec (step.Failed e) → StepCaused old new log log' wire (phase.Resuming exec) s (record s { phase = phase.Owing }) (stepped.Gives (poll.Failed e))

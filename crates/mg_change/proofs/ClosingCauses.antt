@@ -28,13 +28,10 @@ use Rattle.mg_change.specs.declared.closing.Flight.TheVariants as flight
 use Rattle.mg_change.specs.declared.closing.Remains.{Remains}
 use Rattle.mg_change.specs.Phases.{Carries, resuming_command}
 use Rattle.mg_change.proofs.Calls.{grows_by, keeps_longer, request_ran, same_keeps}
+use Rattle.mg_change.proofs.Heeding.{success_ran}
 use Rattle.mg_change.proofs.Growing.{by_reply_grows, flies_grows, heard_grows, last_fault, last_grows, last_reply}
 
 -- ---- the killing of what is left
-
-ran_success : (old new : Awaited) (log log' : Told) (wire : ℤ) (s : Sending) (bytes : List ℕ) → Runs old new log log' wire s (step.Done bytes) → IsSuccess bytes
-ran_success old new log log' wire s bytes (inl once) = once.gives.1
-ran_success old new log log' wire s bytes (inr twice) = twice.gives.1
 
 failed_by : (past : Past) (r : Remains) (e : Error) → Failed past (last_command r.cursor r.opened) false e → NotKilled past r.cursor r.opened e
 failed_by past r e (by_memory room) = no_memory (ap (λ (x : Error). x.kind) room)
@@ -53,7 +50,7 @@ module _ (old new : Awaited) (log log' : Told) (wire : ℤ) (r : Remains) (exec 
   kill_waits sent runs = kill_led (step.Pending sent) (step.Pending (record { remains = r; flight = flight.Last sent })) (λ past some flies. (refl, (some, flies))) runs
 
   pub kill_done : (bytes : List ℕ) → Runs old new log log' wire exec (step.Done bytes) → KillCaused old new log log' wire r (flight.Last exec) (step.Done (tt {0}))
-  kill_done bytes runs = kill_led (step.Done bytes) (step.Done (tt {0})) (λ past some heard. killed some bytes heard (ran_success old new log log' wire exec bytes runs)) runs
+  kill_done bytes runs = kill_led (step.Done bytes) (step.Done (tt {0})) (λ past some heard. killed some bytes heard (success_ran old new log log' wire exec bytes runs)) runs
 
   pub kill_fails : (e : Error) → Runs old new log log' wire exec (step.Failed e) → KillCaused {T = Unit {0}} old new log log' wire r (flight.Last exec) (step.Failed e)
   kill_fails e runs = kill_led (step.Failed e) (step.Failed e) (λ past some fails. record { some_left = some; why = failed_by past r e fails }) runs
@@ -134,10 +131,10 @@ fail_left r r' e (step.Failed x) is leaves = tt
 
 module _ (awaited : Awaited) (past : Past) (r : Remains) where
   -- behind a getMore
-  more_kept : (bytes : List ℕ) (left : Remains) → HeardBy past (asked_more r.cursor) (reply bytes) → MoreLeaves bytes r (step.Done left) → MoreLeft past r left
-  more_kept bytes left heard (inl x) = unread bytes x.0 heard x.2 x.1
-  more_kept bytes left heard (inr gave) =
-      given bytes (record r.cursor { id = gave.0.id; ns = gave.0.ns }) gave.0.post_batch_resume_token heard (record { batch = gave.1.batch; says = gave.1.says; size_is = refl }) gave.2
+  more_kept : (bytes : List ℕ) (left : Remains) → HeardBy past (asked_more r.cursor) (reply bytes) → IsSuccess bytes → MoreLeaves bytes r (step.Done left) → MoreLeft past r left
+  more_kept bytes left heard success (inl x) = unread bytes x.0 heard success x.2 x.1
+  more_kept bytes left heard success (inr gave) =
+      given bytes (record r.cursor { id = gave.0.id; ns = gave.0.ns }) gave.0.post_batch_resume_token heard success (record { batch = gave.1.batch; says = gave.1.says; size_is = refl }) gave.2
 
   more_passed : (e : Error) (left : Remains) → Failed past (asked_more r.cursor) false e → FailLeaves e r (step.Done left) → MoreLeft past r left
   more_passed e left (by_memory room) leaves = absurd (full e room leaves.1)
@@ -146,10 +143,10 @@ module _ (awaited : Awaited) (past : Past) (r : Remains) where
       (leaves.0 ∙ ap (λ (x : Error). record r { cursor = cursor_behind x r.cursor }) is)
   more_passed e left (by_reply bytes heard by) leaves = refused bytes e (heard_by past (asked_more r.cursor) false (reply bytes) heard) by leaves.1 leaves.0
 
-  more_ends : (get_more : GetMore) (exec : Sending) (bytes : List ℕ) (landing : Step Closing Remains) → MoreLeaves bytes r landing → WantsMemory landing → HeardLast past (asked_more r.cursor) false (reply bytes) → LandCame awaited past r (flight.More get_more exec) landing
-  more_ends get_more exec bytes (step.Pending c) leaves memory heard = absurd leaves
-  more_ends get_more exec bytes (step.Done left) leaves memory heard = more_kept bytes left (heard_by past (asked_more r.cursor) false (reply bytes) heard) leaves
-  more_ends get_more exec bytes (step.Failed e) leaves memory heard = memory
+  more_ends : (get_more : GetMore) (exec : Sending) (bytes : List ℕ) (landing : Step Closing Remains) → MoreLeaves bytes r landing → WantsMemory landing → HeardLast past (asked_more r.cursor) false (reply bytes) → IsSuccess bytes → LandCame awaited past r (flight.More get_more exec) landing
+  more_ends get_more exec bytes (step.Pending c) leaves memory heard success = absurd leaves
+  more_ends get_more exec bytes (step.Done left) leaves memory heard success = more_kept bytes left (heard_by past (asked_more r.cursor) false (reply bytes) heard) success leaves
+  more_ends get_more exec bytes (step.Failed e) leaves memory heard success = memory
 
   more_lost : (get_more : GetMore) (exec : Sending) (e : Error) (landing : Step Closing Remains) → FailLeaves e r landing → WantsMemory landing → Failed past (asked_more r.cursor) false e → LandCame awaited past r (flight.More get_more exec) landing
   more_lost get_more exec e (step.Pending c) leaves memory failed = absurd leaves
@@ -157,21 +154,21 @@ module _ (awaited : Awaited) (past : Past) (r : Remains) where
   more_lost get_more exec e (step.Failed x) leaves memory failed = memory
 
   -- behind the aggregate of a resumption
-  resumption_kept : (bytes : List ℕ) (left : Remains) → HeardLast past (resuming_command r.aggregate past.wire) true (reply bytes) → ResumeLeaves bytes r (step.Done left) → ResumptionLeft past r left
-  resumption_kept bytes left heard (inl x) = unread bytes x.0 heard x.2 x.1
-  resumption_kept bytes left heard (inr gave) =
+  resumption_kept : (bytes : List ℕ) (left : Remains) → HeardLast past (resuming_command r.aggregate past.wire) true (reply bytes) → IsSuccess bytes → ResumeLeaves bytes r (step.Done left) → ResumptionLeft past r left
+  resumption_kept bytes left heard success (inl x) = unread bytes x.0 heard success x.2 x.1
+  resumption_kept bytes left heard success (inr gave) =
       let opens = gave.1.opens in
-      brought bytes gave.0.0.info gave.0.0.post_batch_resume_token heard (record { batch = opens.batch; says = opens.says; size_is = opens.size_is }) gave.2
+      brought bytes gave.0.0.info gave.0.0.post_batch_resume_token heard success (record { batch = opens.batch; says = opens.says; size_is = opens.size_is }) gave.2
 
   resumption_passed : (e : Error) (left : Remains) → Failed past (resuming_command r.aggregate past.wire) true e → Leaves e r (step.Done left) → ResumptionLeft past r left
   resumption_passed e left (by_memory room) leaves = absurd (full e room leaves.1)
   resumption_passed e left (by_fault is heard) leaves = lost heard leaves.0
   resumption_passed e left (by_reply bytes heard by) leaves = refused bytes e heard by leaves.0
 
-  resumption_ends : (exec : Sending) (bytes : List ℕ) (landing : Step Closing Remains) → ResumeLeaves bytes r landing → WantsMemory landing → HeardLast past (resuming_command r.aggregate past.wire) true (reply bytes) → LandCame awaited past r (flight.Resumption exec) landing
-  resumption_ends exec bytes (step.Pending c) leaves memory heard = absurd leaves
-  resumption_ends exec bytes (step.Done left) leaves memory heard = resumption_kept bytes left heard leaves
-  resumption_ends exec bytes (step.Failed e) leaves memory heard = memory
+  resumption_ends : (exec : Sending) (bytes : List ℕ) (landing : Step Closing Remains) → ResumeLeaves bytes r landing → WantsMemory landing → HeardLast past (resuming_command r.aggregate past.wire) true (reply bytes) → IsSuccess bytes → LandCame awaited past r (flight.Resumption exec) landing
+  resumption_ends exec bytes (step.Pending c) leaves memory heard success = absurd leaves
+  resumption_ends exec bytes (step.Done left) leaves memory heard success = resumption_kept bytes left heard success leaves
+  resumption_ends exec bytes (step.Failed e) leaves memory heard success = memory
 
   resumption_lost : (exec : Sending) (e : Error) (landing : Step Closing Remains) → Leaves e r landing → WantsMemory landing → Failed past (resuming_command r.aggregate past.wire) true e → LandCame awaited past r (flight.Resumption exec) landing
   resumption_lost exec e (step.Pending c) leaves memory failed = absurd leaves
@@ -196,7 +193,7 @@ module _ (old new : Awaited) (log log' : Told) (wire : ℤ) (r : Remains) (exec 
     more_waits get_more' sent runs = more_ran (step.Pending sent) (step.Pending (record { remains = r; flight = flight.More get_more' sent })) (λ past flies. (refl, flies)) runs
 
     pub more_ended : (bytes : List ℕ) (landing : Step Closing Remains) → Runs old new log log' wire exec (step.Done bytes) → MoreLeaves bytes r landing → WantsMemory landing → LandRan old new log log' wire r (flight.More get_more exec) landing
-    more_ended bytes landing runs leaves memory = more_ran (step.Done bytes) landing (λ past heard. more_ends new past r get_more exec bytes landing leaves memory heard) runs
+    more_ended bytes landing runs leaves memory = more_ran (step.Done bytes) landing (λ past heard. more_ends new past r get_more exec bytes landing leaves memory heard (success_ran old new log log' wire exec bytes runs)) runs
 
     pub more_failed : (e : Error) (landing : Step Closing Remains) → Runs old new log log' wire exec (step.Failed e) → FailLeaves e r landing → WantsMemory landing → LandRan old new log log' wire r (flight.More get_more exec) landing
     more_failed e landing runs leaves memory = more_ran (step.Failed e) landing (λ past failed. more_lost new past r get_more exec e landing leaves memory failed) runs
@@ -213,7 +210,7 @@ module _ (old new : Awaited) (log log' : Told) (wire : ℤ) (r : Remains) (exec 
     resumption_waits sent runs = resumption_ran (step.Pending sent) (step.Pending (record { remains = r; flight = flight.Resumption sent })) (λ past same flies. (refl, flies)) runs
 
     pub resumption_ended : (bytes : List ℕ) (landing : Step Closing Remains) → Runs old new log log' wire exec (step.Done bytes) → ResumeLeaves bytes r landing → WantsMemory landing → LandRan old new log log' wire r (flight.Resumption exec) landing
-    resumption_ended bytes landing runs leaves memory = resumption_ran (step.Done bytes) landing (λ past same heard. resumption_ends new past r exec bytes landing leaves memory heard) runs
+    resumption_ended bytes landing runs leaves memory = resumption_ran (step.Done bytes) landing (λ past same heard. resumption_ends new past r exec bytes landing leaves memory heard (success_ran old new log log' wire exec bytes runs)) runs
 
     pub resumption_failed : (e : Error) (landing : Step Closing Remains) → Runs old new log log' wire exec (step.Failed e) → Leaves e r landing → WantsMemory landing → LandRan old new log log' wire r (flight.Resumption exec) landing
     resumption_failed e landing runs leaves memory = resumption_ran (step.Failed e) landing (λ past same failed. resumption_lost new past r exec e landing leaves memory failed) runs
@@ -241,8 +238,8 @@ module _ (past past' : Past) (grows : Grows past past') (r left : Remains) where
   more_left_grows : MoreLeft past r left → MoreLeft past' r left
   more_left_grows (lost heard is) = lost (heard_grows past past' grows (asked_more r.cursor) fault (λ e. cc) heard) is
   more_left_grows (refused bytes e heard by room is) = refused bytes e (heard_reply (asked_more r.cursor) bytes heard) (by_reply_grows past past' grows (doc bytes) e by) room is
-  more_left_grows (unread bytes e heard by is) = unread bytes e (heard_reply (asked_more r.cursor) bytes heard) by is
-  more_left_grows (given bytes c upto heard tells is) = given bytes c upto (heard_reply (asked_more r.cursor) bytes heard) tells is
+  more_left_grows (unread bytes e heard success by is) = unread bytes e (heard_reply (asked_more r.cursor) bytes heard) success by is
+  more_left_grows (given bytes c upto heard success tells is) = given bytes c upto (heard_reply (asked_more r.cursor) bytes heard) success tells is
 
   resumed_last : (seen : Sight) → (seen ≡ waiting → ⊥) → HeardLast past (resuming_command r.aggregate past.wire) true seen → HeardLast past' (resuming_command r.aggregate past'.wire) true seen
   resumed_last seen answer h = subst (λ (w : ℤ). HeardLast past' (resuming_command r.aggregate w) true seen) (sym grows.wire) (last_grows past past' grows (resuming_command r.aggregate past.wire) true seen answer h)
@@ -250,8 +247,8 @@ module _ (past past' : Past) (grows : Grows past past') (r left : Remains) where
   resumption_left_grows : ResumptionLeft past r left → ResumptionLeft past' r left
   resumption_left_grows (lost heard is) = lost (resumed_last fault (λ e. cc) heard) is
   resumption_left_grows (refused bytes e heard by is) = refused bytes e (resumed_last (reply bytes) (λ f. cc) heard) (by_reply_grows past past' grows (doc bytes) e by) is
-  resumption_left_grows (unread bytes e heard by is) = unread bytes e (resumed_last (reply bytes) (λ f. cc) heard) by is
-  resumption_left_grows (brought bytes c upto heard tells is) = brought bytes c upto (resumed_last (reply bytes) (λ e. cc) heard) tells is
+  resumption_left_grows (unread bytes e heard success by is) = unread bytes e (resumed_last (reply bytes) (λ f. cc) heard) success by is
+  resumption_left_grows (brought bytes c upto heard success tells is) = brought bytes c upto (resumed_last (reply bytes) (λ e. cc) heard) success tells is
 
   left_grows : (f : Flight) → LeftBy past r f left → LeftBy past' r f left
   left_grows flight.Landed h = absurd h

@@ -97,8 +97,8 @@ module _ (past past' : Past) (grows : Grows past past') where
   pub more_fails_grows : (at : Standing) (e : Error) (c : CursorInformation) → MoreFails past at e c → MoreFails past' at e c
   more_fails_grows at e c (lost io h is) = lost io (more_grows at fault (λ f. cc) h) is
   more_fails_grows at e c (refused bytes h by is) = refused bytes (more_reply at bytes h) (by_reply_grows (doc bytes) e by) is
-  more_fails_grows at e c (unread bytes h by is) = unread bytes (more_reply at bytes h) by is
-  more_fails_grows at e c (broken bytes upto h tells by) = broken bytes upto (more_reply at bytes h) tells by
+  more_fails_grows at e c (unread bytes h success by is) = unread bytes (more_reply at bytes h) success by is
+  more_fails_grows at e c (broken bytes upto h success tells by) = broken bytes upto (more_reply at bytes h) success tells by
 
   pub resumes_grows : (at : Standing) (c : CursorInformation) → Resumes past at c → Resumes past' at c
   resumes_grows at c (owed is cursor) = owed is cursor
@@ -163,8 +163,7 @@ module _ (past past' : Past) (grows : Grows past past') where
   call_fails_grows at after e (no_memory room stays) = no_memory room (stays_grows at after stays)
   call_fails_grows at after e (lost owes why io h) = lost owes (resumes_grows at after.cursor why) io (resume_last at fault (λ f. cc) h)
   call_fails_grows at after e (refused bytes owes why h by) = refused bytes owes (resumes_grows at after.cursor why) (resume_last at (reply bytes) (λ f. cc) h) (by_reply_grows (doc bytes) e by)
-  call_fails_grows at after e (unread bytes owes why h by) =
-      unread bytes owes (resumes_grows at after.cursor why) (subst (λ (w : ℤ). HeardBy past' (resume_command w at) (reply bytes)) (sym grows.wire) (heard_reply (resume_command past.wire at) bytes h)) by
+  call_fails_grows at after e (unread bytes owes why h success by) = unread bytes owes (resumes_grows at after.cursor why) (resume_last at (reply bytes) (λ f. cc) h) success by
   call_fails_grows at after e (broken bytes upto owes replied by) = broken bytes upto owes (replied_grows at true bytes after.cursor upto replied) by
   call_fails_grows at after e (cannot_resume owes why by) = cannot_resume owes (resumes_grows at after.cursor why) (subst (λ (w : ℤ). CannotBuild at.aggregate.args.options.batch_size (resume_command w at) e) (sym grows.wire) by)
   call_fails_grows at after e (refused_more bytes h by stays is) = refused_more bytes (more_reply at bytes h) (by_reply_grows (doc bytes) e by) stays is

@@ -45,9 +45,9 @@ opened_by past a version bytes s at is heard success = record {
   known = subst (λ (w : ℤ). s.aggregate.resume ≡ Some (first_known a w is.is_empty s.batch_token is.time)) at is.known;
 }
 
-lost_by : (past : Past) (a : WatchArgs) (bytes : List ℕ) (e : Error) → FailsBy (BreaksIn (fields bytes)) e → HeardLast past (opening_command a) true (reply bytes) → OpeningFails past a e
-lost_by past a bytes e (inl room) heard = no_memory (ap (λ (x : Error). x.kind) room)
-lost_by past a bytes e (inr by) heard = broken bytes heard by
+lost_by : (past : Past) (a : WatchArgs) (bytes : List ℕ) (e : Error) → FailsBy (BreaksIn (fields bytes)) e → HeardLast past (opening_command a) true (reply bytes) → IsSuccess bytes → OpeningFails past a e
+lost_by past a bytes e (inl room) heard success = no_memory (ap (λ (x : Error). x.kind) room)
+lost_by past a bytes e (inr by) heard success = broken bytes heard success by
 
 failed_by : (past : Past) (a : WatchArgs) (e : Error) → Failed past (opening_command a) true e → OpeningFails past a e
 failed_by past a e (by_memory room) = no_memory (ap (λ (x : Error). x.kind) room)
@@ -72,7 +72,7 @@ module _ (a : WatchArgs) (old new : Awaited) (log log' : Told) (wire : ℤ) (exe
 
   -- It was not read.
   pub opening_lost : (bytes : List ℕ) (e : Error) → FailsBy (BreaksIn (fields bytes)) e → Runs old new log log' wire exec (step.Done bytes) → OpeningCaused old new log log' wire a (Some exec) (step.Failed e)
-  opening_lost bytes e by runs = opening_led (step.Done bytes) (step.Failed e) (λ past at heard. lost_by past a bytes e by heard) runs
+  opening_lost bytes e by runs = opening_led (step.Done bytes) (step.Failed e) (λ past at heard. lost_by past a bytes e by heard (success_ran old new log log' wire exec bytes runs)) runs
 
   -- It failed.
   pub opening_failed : (e : Error) → Runs old new log log' wire exec (step.Failed e) → OpeningCaused old new log log' wire a (Some exec) (step.Failed e)
@@ -125,5 +125,5 @@ pub opening_fails_grows : (past past' : Past) (a : WatchArgs) (e : Error) → Gr
 opening_fails_grows past past' a e grows (no_memory room) = no_memory room
 opening_fails_grows past past' a e grows (lost io heard) = lost io (last_fault past past' grows (opening_command a) true heard)
 opening_fails_grows past past' a e grows (refused bytes heard by) = refused bytes (last_reply past past' grows (opening_command a) true bytes heard) (by_reply_grows past past' grows (doc bytes) e by)
-opening_fails_grows past past' a e grows (broken bytes heard by) = broken bytes (last_reply past past' grows (opening_command a) true bytes heard) by
+opening_fails_grows past past' a e grows (broken bytes heard success by) = broken bytes (last_reply past past' grows (opening_command a) true bytes heard) success by
 opening_fails_grows past past' a e grows (cannot_open by) = cannot_open by

@@ -154,10 +154,10 @@ pub data MoreFails (past : Past) (at : Standing) (e : Error) (c : CursorInformat
   lost : e ≡ plain kind.Io → HeardMore past at fault → c ≡ at.cursor → MoreFails past at e c
   -- the reply to it is no success
   refused : (bytes : List ℕ) → HeardMore past at (reply bytes) → FailsByReply (doc bytes) past.wire e → c ≡ cursor_behind e at.cursor → MoreFails past at e c
-  -- the reply tells no cursor
-  unread : (bytes : List ℕ) → HeardMore past at (reply bytes) → BreaksIn (fields bytes) e → c ≡ at.cursor → MoreFails past at e c
+  -- the reply is a success, and tells no cursor
+  unread : (bytes : List ℕ) → HeardMore past at (reply bytes) → IsSuccess bytes → BreaksIn (fields bytes) e → c ≡ at.cursor → MoreFails past at e c
   -- or no documents of it
-  broken : (bytes : List ℕ) (upto : Option Tree) → HeardMore past at (reply bytes) → TellsCursor bytes at.cursor.batch_size c upto → BreaksBatch (fields bytes) e → MoreFails past at e c
+  broken : (bytes : List ℕ) (upto : Option Tree) → HeardMore past at (reply bytes) → IsSuccess bytes → TellsCursor bytes at.cursor.batch_size c upto → BreaksBatch (fields bytes) e → MoreFails past at e c
 
 -- Why the stream resumes, and the cursor that it leaves, whose id is 0 where the server holds it no longer. No event is in hand then.
 pub data Resumes (past : Past) (at : Standing) (c : CursorInformation) : Type 0 where
@@ -313,8 +313,8 @@ pub data CallFails (past : Past) (at after : Standing) (e : Error) : Type 0 wher
   lost : IsOwing after → Resumes past at after.cursor → e ≡ plain kind.Io → HeardLast past (resume_command past.wire at) true fault → CallFails past at after e
   -- the reply to it is no success
   refused : (bytes : List ℕ) → IsOwing after → Resumes past at after.cursor → HeardLast past (resume_command past.wire at) true (reply bytes) → FailsByReply (doc bytes) past.wire e → CallFails past at after e
-  -- the reply to it tells no cursor
-  unread : (bytes : List ℕ) → IsOwing after → Resumes past at after.cursor → HeardBy past (resume_command past.wire at) (reply bytes) → BreaksIn (fields bytes) e → CallFails past at after e
+  -- the reply to it is a success, and tells no cursor
+  unread : (bytes : List ℕ) → IsOwing after → Resumes past at after.cursor → HeardLast past (resume_command past.wire at) true (reply bytes) → IsSuccess bytes → BreaksIn (fields bytes) e → CallFails past at after e
   -- or no documents of the new one
   broken : (bytes : List ℕ) (upto : Option Tree) → IsOwing after → Replied past at true bytes after.cursor upto → BreaksBatch (fields bytes) e → CallFails past at after e
   -- it cannot be built
@@ -465,7 +465,7 @@ FailLeads e s s' r = (awaited : Awaited) (past : Past) (at : Standing) → s.agg
 
 -- behind the reply to the aggregate of a resumption
 abbrev pub ResumeLeads : List ℕ → ChangeStream → ChangeStream → Stepped → Type 0
-ResumeLeads bytes s s' r = (awaited : Awaited) (past : Past) (at : Standing) → s.aggregate ≡ at.aggregate → Resumes past at s.cursor → HeardBy past (resume_command past.wire at) (reply bytes) → IsSuccess bytes → StepCame awaited past at false s' r
+ResumeLeads bytes s s' r = (awaited : Awaited) (past : Past) (at : Standing) → s.aggregate ≡ at.aggregate → Resumes past at s.cursor → HeardLast past (resume_command past.wire at) true (reply bytes) → IsSuccess bytes → StepCame awaited past at false s' r
 
 -- with the cursor of that reply
 abbrev pub ReplaceLeads : CursorSpecification → ChangeStream → ChangeStream → Stepped → Type 0

@@ -89,10 +89,10 @@ pub data MoreLeft (past : Past) (r left : Remains) : Type 0 where
   lost : HeardBy past (asked_more r.cursor) fault → left ≡ r → MoreLeft past r left
   -- it was refused: none where the server says that it holds it no longer
   refused : (bytes : List ℕ) (e : Error) → HeardBy past (asked_more r.cursor) (reply bytes) → FailsByReply (doc bytes) past.wire e → e.kind ≢ kind.OutOfMemory → left ≡ record r { cursor = cursor_behind e r.cursor } → MoreLeft past r left
-  -- the reply tells no cursor
-  unread : (bytes : List ℕ) (e : Error) → HeardBy past (asked_more r.cursor) (reply bytes) → BreaksIn (fields bytes) e → left ≡ r → MoreLeft past r left
+  -- the reply is a success, and tells no cursor
+  unread : (bytes : List ℕ) (e : Error) → HeardBy past (asked_more r.cursor) (reply bytes) → IsSuccess bytes → BreaksIn (fields bytes) e → left ≡ r → MoreLeft past r left
   -- the cursor that the reply tells
-  given : (bytes : List ℕ) (c : CursorInformation) (upto : Option Tree) → HeardBy past (asked_more r.cursor) (reply bytes) → TellsCursor bytes r.cursor.batch_size c upto → left ≡ record r { cursor = c } → MoreLeft past r left
+  given : (bytes : List ℕ) (c : CursorInformation) (upto : Option Tree) → HeardBy past (asked_more r.cursor) (reply bytes) → IsSuccess bytes → TellsCursor bytes r.cursor.batch_size c upto → left ≡ record r { cursor = c } → MoreLeft past r left
 
 -- what the aggregate of a resumption leaves that has ended
 pub data ResumptionLeft (past : Past) (r left : Remains) : Type 0 where
@@ -100,10 +100,10 @@ pub data ResumptionLeft (past : Past) (r left : Remains) : Type 0 where
   lost : HeardLast past (resuming_command r.aggregate past.wire) true fault → left ≡ r → ResumptionLeft past r left
   -- it was refused
   refused : (bytes : List ℕ) (e : Error) → HeardLast past (resuming_command r.aggregate past.wire) true (reply bytes) → FailsByReply (doc bytes) past.wire e → left ≡ r → ResumptionLeft past r left
-  -- the reply tells no cursor
-  unread : (bytes : List ℕ) (e : Error) → HeardLast past (resuming_command r.aggregate past.wire) true (reply bytes) → BreaksIn (fields bytes) e → left ≡ r → ResumptionLeft past r left
+  -- the reply is a success, and tells no cursor
+  unread : (bytes : List ℕ) (e : Error) → HeardLast past (resuming_command r.aggregate past.wire) true (reply bytes) → IsSuccess bytes → BreaksIn (fields bytes) e → left ≡ r → ResumptionLeft past r left
   -- one cursor more, which the reply tells
-  brought : (bytes : List ℕ) (c : CursorInformation) (upto : Option Tree) → HeardLast past (resuming_command r.aggregate past.wire) true (reply bytes) → TellsCursor bytes r.aggregate.args.options.batch_size c upto → left ≡ record r { opened = c.id } → ResumptionLeft past r left
+  brought : (bytes : List ℕ) (c : CursorInformation) (upto : Option Tree) → HeardLast past (resuming_command r.aggregate past.wire) true (reply bytes) → IsSuccess bytes → TellsCursor bytes r.aggregate.args.options.batch_size c upto → left ≡ record r { opened = c.id } → ResumptionLeft past r left
 
 -- what the request leaves
 abbrev pub LeftBy : Past → Remains → Flight → Remains → Type 0

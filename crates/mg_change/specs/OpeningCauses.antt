@@ -37,8 +37,8 @@ pub data OpeningFails (past : Past) (args : WatchArgs) (e : Error) : Type 0 wher
   lost : e ≡ plain kind.Io → HeardLast past (opening_command args) true fault → OpeningFails past args e
   -- the reply to it is no success
   refused : (bytes : List ℕ) → HeardLast past (opening_command args) true (reply bytes) → FailsByReply (doc bytes) past.wire e → OpeningFails past args e
-  -- the reply to it breaks the grammar of a cursor
-  broken : (bytes : List ℕ) → HeardLast past (opening_command args) true (reply bytes) → BreaksIn (fields bytes) e → OpeningFails past args e
+  -- the reply to it is a success, and breaks the grammar of a cursor
+  broken : (bytes : List ℕ) → HeardLast past (opening_command args) true (reply bytes) → IsSuccess bytes → BreaksIn (fields bytes) e → OpeningFails past args e
   -- it cannot be built
   cannot_open : CannotBuild args.options.batch_size (opening_command args) e → OpeningFails past args e
 

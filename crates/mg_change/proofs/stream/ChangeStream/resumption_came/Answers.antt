@@ -17,4 +17,4 @@ returns-in-Ok-clause-caused c = λ awaited past at kept why heard success.
     c.replace.ensures.caused awaited past at kept (causes.resumed_by awaited past at c.args.self.now c.args.reply c.in-Ok.opened c.in-Ok.ensures.ok.opens kept why heard success)
 
 pub returns-in-Err-clause-caused : goal.returns-in-Err-clause-caused
-returns-in-Err-clause-caused c = λ awaited past at kept why heard success. rw c.enter.ensures (causes.resumption_breaks awaited past at c.args.self.now c.args.reply c.in-Err.error c.in-Err.ensures.err kept why heard)
+returns-in-Err-clause-caused c = λ awaited past at kept why heard success. rw c.enter.ensures (causes.resumption_breaks awaited past at c.args.self.now c.args.reply c.in-Err.error c.in-Err.ensures.err kept why heard success)
