@@ -1,32 +1,17 @@
 -- A stream at rest: it holds no ticket, and what it answered is all that is known of it.
-use Rattle.std.proofs.Common.{◌≡◌, ℕ, List, [], ◌∷◌, map, Option, Some, None, refl, sym, ◌∙◌}
+use Rattle.std.proofs.Common.{ℕ, List, [], ◌∷◌, map, Option, refl}
 use Rattle.mg_bson.specs.Tree.{Tree, Fields}
 use Rattle.mg_bson.specs.Raw.{fields}
-use Rattle.mg_link.specs.Acts.{IsOut}
 use Rattle.mg_link.specs.Follow.{Moved}
 use Rattle.mg_link.specs.Link.{Awaited, Told}
 use Rattle.mg_link.specs.State.{Start, Watch}
 use Rattle.mg_change.specs.Following.{follow_in, follow_of, idle, in_phase}
-use Rattle.mg_change.specs.Phases.{AtRest, ticket_in}
+use Rattle.mg_change.specs.Phases.{AtRest}
 use Rattle.mg_change.specs.declared.stream.ChangeStream.{ChangeStream}
 use Rattle.mg_change.specs.declared.stream.Phase.{Phase}
 use Rattle.mg_change.specs.declared.stream.Phase.TheVariants as phase
 use Rattle.mg_change.proofs.Forgetting.{gives_up}
 use Rattle.mg_link.proofs.Moves.{stayed}
-
-no_ticket : (p : Phase) → AtRest p → ticket_in p ≡ None
-no_ticket phase.Taken r = absurd r
-no_ticket phase.Rest r = refl
-no_ticket (phase.First reply) r = refl
-no_ticket phase.Fresh r = absurd r
-no_ticket (phase.Asking get_more exec) r = absurd r
-no_ticket phase.Owing r = refl
-no_ticket (phase.Resuming exec) r = absurd r
-no_ticket (phase.Killing exec old reply) r = absurd r
-no_ticket (phase.Resumed reply) r = absurd r
-
-pub out_at_rest : (awaited : Awaited) (p : Phase) → AtRest p → IsOut awaited (ticket_in p)
-out_at_rest awaited p rests n held = let bad : None ≡ Some n = sym (no_ticket p rests) ∙ held in absurd cc
 
 in_hand_forgets : (log : Told) (awaited : Awaited) (items : List (List ℕ)) (upto : Option Tree) (w : Watch) (start : Start) (s : ChangeStream) (opened : Option ℕ) (answered : List Fields)
     → Moved log log (in_phase awaited phase.Rest (map fields items) upto (idle w start s opened answered)) (idle w start s opened answered)

@@ -13,6 +13,7 @@ use mg_link::{Error, Link, Namespace};
 use mg_store::Store;
 use std::alloc::Global;
 use std::io;
+use std::process::ExitCode;
 
 /// The wire version of the server.
 const WIRE: i32 = 21;
@@ -42,14 +43,17 @@ fn run<L: Link>(alloc: Global, link: &mut L, report: &mut String) -> Result<(), 
     visit_twice(alloc, link, &orders, report)
 }
 
-fn main(rt: HostRuntime) -> io::Result<()> {
+fn main(rt: HostRuntime) -> io::Result<ExitCode> {
     let alloc = rt.alloc();
     let mut link = OneCall::new(Store::new(alloc), WIRE);
     let mut report = String::new(alloc);
     let ended = run(alloc, &mut link, &mut report);
     print!(rt; "{report}")?;
     match ended {
-        Ok(()) => Ok(()),
-        Err(error) => println!(rt; "{error}"),
+        Ok(()) => Ok(ExitCode::SUCCESS),
+        Err(error) => {
+            eprintln!(rt; "{error}")?;
+            Ok(ExitCode::FAILURE)
+        }
     }
 }

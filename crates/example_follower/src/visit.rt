@@ -112,7 +112,8 @@ fn leave<L: Link>(
     requires { IsOut (L.awaited link.old) (ticket_in stream.phase) }
 {
     let token = kept(alloc, &stream);
-    close(link, stream.close())?;
+    // A cursor that could not be killed ends by the server's own time; the token is good all the same.
+    let _closed = close(link, stream.close());
     went?;
     token
 }

@@ -59,11 +59,10 @@ use Rattle.mg_jobs.proofs.Identified.{IsHonest, StandsWell, empty_well, failed_w
 
 -- ---- what a call heard
 
--- nothing that it sent was lost, each reply is a success, and has a batch where one was asked for
+-- nothing that it sent was lost or refused, and each success has a batch where one was asked for
 record IsServed (past : Past) : Type 0 where
   lost : (command : Fields) → HeardBy past command fault → ⊥
   refused : (command : Fields) (bytes : List ℕ) (wire : ℤ) (e : Error) → HeardBy past command (reply bytes) → FailsByReply (doc bytes) wire e → ⊥
-  success : (command : Fields) (bytes : List ℕ) → HeardBy past command (reply bytes) → IsSuccess bytes
   honest : IsHonest past
 
 fails_as : (o : Option Fields) (wire : ℤ) (e : Error) → verdict_of (unwrap_or o no_fields) ≡ verdict.Success → FailsByReply o wire e → ⊥
@@ -122,7 +121,6 @@ module _ (c : Course) (i k : ℕ) (begun calls : List Call) (wire : ℤ) (places
   serves = record {
     lost = never_lost;
     refused = λ command bytes wire e h fails. let t = taken command bytes h in fails_not bytes wire e (subst IsSuccess (sym t.reply_is) (prompt_success t.step t.at_once)) fails;
-    success = λ command bytes h. let t = taken command bytes h in subst IsSuccess (sym t.reply_is) (prompt_success t.step t.at_once);
     honest = honest_over well.history calls well.legal well.stands places wire;
   }
 
@@ -133,8 +131,8 @@ cannot_build size command e fits (inr by) = by
 -- ---- a call
 
 module _ (are_its : WatchArgs → Type 0) (fits : (args : WatchArgs) → are_its args → SizePasses args.options.batch_size → ⊥) (past : Past) (served : IsServed past) (at : Standing) (well : StandsWell are_its at) where
-  brings : (bytes : List ℕ) → HeardBy past (resume_command past.wire at) (reply bytes) → Brings bytes
-  brings bytes heard = resumed_brings are_its past served.honest at well bytes heard (served.success (resume_command past.wire at) bytes heard)
+  brings : (bytes : List ℕ) → HeardBy past (resume_command past.wire at) (reply bytes) → IsSuccess bytes → Brings bytes
+  brings bytes heard success = resumed_brings are_its past served.honest at well bytes heard success
 
   -- a failure is excused
   fails_well : (after : Standing) (e : Error) → CallFails past at after e → IsExcused are_its e
@@ -142,7 +140,7 @@ module _ (are_its : WatchArgs → Type 0) (fits : (args : WatchArgs) → are_its
   fails_well after e (causes.no_memory room stays) = inl room
   fails_well after e (causes.lost owes why is heard) = absurd (served.lost (resume_command past.wire at) (heard_by past (resume_command past.wire at) true fault heard))
   fails_well after e (causes.refused bytes owes why heard fails) = absurd (served.refused (resume_command past.wire at) bytes past.wire e (heard_by past (resume_command past.wire at) true (reply bytes) heard) fails)
-  fails_well after e (causes.unread bytes owes why heard breaks) = let b = brings bytes heard in absurd (breaks_not (fields bytes) b.batch e b.there (inl breaks))
+  fails_well after e (causes.unread bytes owes why heard success breaks) = let b = brings bytes (heard_by past (resume_command past.wire at) true (reply bytes) heard) success in absurd (breaks_not (fields bytes) b.batch e b.there (inl breaks))
   fails_well after e (causes.broken bytes upto owes r breaks) = let b = (replied_well are_its past served.honest at well true bytes after.cursor upto r).0 in absurd (breaks_not (fields bytes) b.batch e b.there (inr breaks))
   fails_well after e (causes.cannot_resume owes why by) =
       inr (resume_command past.wire at, resumes at.aggregate past.wire well.args refl, cannot_build at.aggregate.args.options.batch_size (resume_command past.wire at) e (fits at.aggregate.args well.args) by)
@@ -163,16 +161,14 @@ module _ (are_its : WatchArgs → Type 0) (fits : (args : WatchArgs) → are_its
 -- ---- the opening
 
 module _ (are_its : WatchArgs → Type 0) (fits : (args : WatchArgs) → are_its args → SizePasses args.options.batch_size → ⊥) (past : Past) (served : IsServed past) (args : WatchArgs) (its : are_its args) where
-  opening_brings : (bytes : List ℕ) → HeardLast past (opening_command args) true (reply bytes) → Brings bytes
-  opening_brings bytes heard =
-      let h = heard_by past (opening_command args) true (reply bytes) heard in
-      served.honest.watch (target args.target) args.pipeline.items args.options bytes h (served.success (opening_command args) bytes h)
+  opening_brings : (bytes : List ℕ) → HeardLast past (opening_command args) true (reply bytes) → IsSuccess bytes → Brings bytes
+  opening_brings bytes heard success = served.honest.watch (target args.target) args.pipeline.items args.options bytes (heard_by past (opening_command args) true (reply bytes) heard) success
 
   opening_well : (e : Error) → OpeningFails past args e → IsExcused are_its e
   opening_well e (openings.no_memory room) = inl room
   opening_well e (openings.lost is heard) = absurd (served.lost (opening_command args) (heard_by past (opening_command args) true fault heard))
   opening_well e (openings.refused bytes heard fails) = absurd (served.refused (opening_command args) bytes past.wire e (heard_by past (opening_command args) true (reply bytes) heard) fails)
-  opening_well e (openings.broken bytes heard breaks) = let b = opening_brings bytes heard in absurd (breaks_not (fields bytes) b.batch e b.there (inl breaks))
+  opening_well e (openings.broken bytes heard success breaks) = let b = opening_brings bytes heard success in absurd (breaks_not (fields bytes) b.batch e b.there (inl breaks))
   opening_well e (openings.cannot_open by) = inr (opening_command args, opens args its refl, cannot_build args.options.batch_size (opening_command args) e (fits args its) by)
 
 -- ---- the closing
@@ -255,7 +251,7 @@ module _ (c : Course) (i : ℕ) (begun calls : List Call) (wire : ℤ) (whole : 
     insert_fails e (no_memory room) = inl room
     insert_fails e (lost piece part is heard) = absurd (served.lost (insert_command ns piece) (heard_by (sent_at places calls wire) (insert_command ns piece) false fault heard))
     insert_fails e (refused piece bytes part heard fails) = absurd (served.refused (insert_command ns piece) bytes wire e (heard_by (sent_at places calls wire) (insert_command ns piece) false (reply bytes) heard) fails)
-    insert_fails e (listed piece bytes part heard lists) = absurd (never_listed piece bytes e.kind (heard_by (sent_at places calls wire) (insert_command ns piece) false (reply bytes) heard) lists)
+    insert_fails e (listed piece bytes part heard success lists) = absurd (never_listed piece bytes e.kind (heard_by (sent_at places calls wire) (insert_command ns piece) false (reply bytes) heard) lists)
     insert_fails e (cannot_encode d part by) = inr (inr (d, part, by))
     insert_fails e (cannot_insert piece part by) = inr (inl (piece, part, by))
 

@@ -145,8 +145,8 @@ module _ (are_its : WatchArgs → Type 0) (past : Past) (honest : IsHonest past)
   cursor_fails : (e : Error) (c : CursorInformation) → MoreFails past at e c → IsItsCursor c
   cursor_fails e c (causes.lost io heard is) = cursor_same c is
   cursor_fails e c (causes.refused bytes heard fails is) = cursor_ended c _ is
-  cursor_fails e c (causes.unread bytes heard breaks is) = cursor_same c is
-  cursor_fails e c (causes.broken bytes upto heard tells breaks) = cursor_more bytes c upto tells
+  cursor_fails e c (causes.unread bytes heard success breaks is) = cursor_same c is
+  cursor_fails e c (causes.broken bytes upto heard success tells breaks) = cursor_more bytes c upto tells
 
   cursor_left : (c : CursorInformation) → Resumes past at c → IsItsCursor c
   cursor_left c (causes.owed owes is) = cursor_same c is
@@ -210,7 +210,7 @@ module _ (are_its : WatchArgs → Type 0) (past : Past) (honest : IsHonest past)
   failed_so after e (causes.no_memory room stays) = let w = stays_well after stays in (w.0, λ quits. w.1, w.2)
   failed_so after e (causes.lost owes why io heard) = (owes.looked, λ quits. let is = owes.owes in absurd cc, cursor_left after.cursor why)
   failed_so after e (causes.refused bytes owes why heard fails) = (owes.looked, λ quits. let is = owes.owes in absurd cc, cursor_left after.cursor why)
-  failed_so after e (causes.unread bytes owes why heard breaks) = (owes.looked, λ quits. let is = owes.owes in absurd cc, cursor_left after.cursor why)
+  failed_so after e (causes.unread bytes owes why heard success breaks) = (owes.looked, λ quits. let is = owes.owes in absurd cc, cursor_left after.cursor why)
   failed_so after e (causes.broken bytes upto owes r breaks) = (owes.looked, λ quits. let is = owes.owes in absurd cc, (replied_well true bytes after.cursor upto r).1)
   failed_so after e (causes.cannot_resume owes why by) = (owes.looked, λ quits. let is = owes.owes in absurd cc, cursor_left after.cursor why)
   failed_so after e (causes.refused_more bytes heard fails final is) =
@@ -228,7 +228,7 @@ module _ (are_its : WatchArgs → Type 0) (past : Past) (honest : IsHonest past)
   never_missing after e (causes.no_memory room stays) is = other_kind e kind.OutOfMemory room is (λ same. cc)
   never_missing after e (causes.lost owes why io heard) is = other_kind e kind.Io (ap (λ (x : Error). x.kind) io) is (λ same. cc)
   never_missing after e (causes.refused bytes owes why heard fails) is = by_reply (doc bytes) past.wire e fails is
-  never_missing after e (causes.unread bytes owes why heard breaks) is = other_kind e (kind.InvalidResponse breaks.how) (ap (λ (x : Error). x.kind) breaks.error) is (λ same. cc)
+  never_missing after e (causes.unread bytes owes why heard success breaks) is = other_kind e (kind.InvalidResponse breaks.how) (ap (λ (x : Error). x.kind) breaks.error) is (λ same. cc)
   never_missing after e (causes.broken bytes upto owes r breaks) is = by_batch (fields bytes) e breaks is
   never_missing after e (causes.cannot_resume owes why by) is = not_built at.aggregate.args.options.batch_size (resume_command past.wire at) e by is
   never_missing after e (causes.refused_more bytes heard fails final same) is = by_reply (doc bytes) past.wire e fails is

@@ -11,7 +11,7 @@ use Rattle.mg_bson.specs.Tree.{Fields}
 use Rattle.mg_bson.specs.Raw.{fields}
 use Rattle.mg_bson.specs.Reading.{doc}
 use Rattle.mg_bson.specs.declared.object_id.ObjectId.{ObjectId}
-use Rattle.mg_link.specs.Exec.{FailsByReply, Runs, Sending}
+use Rattle.mg_link.specs.Exec.{FailsByReply, IsSuccess, Runs, Sending}
 use Rattle.mg_link.specs.Link.{Awaited, Told}
 use Rattle.mg_link.specs.Log.{reply, fault}
 use Rattle.mg_link.specs.Namespace.{Space, space}
@@ -24,6 +24,7 @@ use Rattle.mg_ops.specs.Writes.{ListsAs}
 use Rattle.mg_change.specs.Calls.{Failed, Flies, Grows, HeardLast, Past, by_fault, by_memory, by_reply, past_of}
 use Rattle.mg_change.proofs.Calls.{request_ran}
 use Rattle.mg_change.proofs.Growing.{flies_grows, last_grows}
+use Rattle.mg_change.proofs.Heeding.{success_ran}
 use Rattle.mg_jobs.specs.InsertCauses.{CannotEncode, CannotGoOn, FitTogether, HearsCaused, InsertCaused, InsertFails, InsertFlies, InsertsSoFar, IsBuilt, IsLength, IsNextPiece, IsPiece, LeadsCaused, NextCaused, cannot_encode, cannot_insert, listed, lost, max_batch, no_memory, refused, total}
 use Rattle.mg_jobs.specs.Inserts.{held, insert_ticket}
 use Rattle.mg_jobs.specs.Underway.{IsBatch, IsSameList, IsStarted, sent_of, with_id}
@@ -175,9 +176,9 @@ module _ (past : Past) (at : Space) (ds piece : List Fields) (e : Error) (part :
   failed_as (by_fault io h) = lost piece part io h
   failed_as (by_reply bytes h by) = refused piece bytes part h by
 
-  unread_as : (bytes : List ℕ) → HeardLast past (insert_command at piece) false (reply bytes) → FailsBy (λ (x : Error). ListsAs (length piece) (fields bytes) x.kind) e → InsertFails past at ds e
-  unread_as bytes h (inl room) = no_memory (ap (λ (x : Error). x.kind) room)
-  unread_as bytes h (inr lists) = listed piece bytes part h lists
+  unread_as : (bytes : List ℕ) → HeardLast past (insert_command at piece) false (reply bytes) → IsSuccess bytes → FailsBy (λ (x : Error). ListsAs (length piece) (fields bytes) x.kind) e → InsertFails past at ds e
+  unread_as bytes h success (inl room) = no_memory (ap (λ (x : Error). x.kind) room)
+  unread_as bytes h success (inr lists) = listed piece bytes part h success lists
 
 module _ (old new : Awaited) (log log' : Told) (wire : ℤ) (c : Command) where
   pub pending_caused : (exec : Sending) → Runs old new log log' wire c.exec (step.Pending exec) → HearsCaused old new log log' wire c (heard.Pending (record { exec = exec; insert = c.insert }))
@@ -204,7 +205,7 @@ module _ (old new : Awaited) (log log' : Told) (wire : ℤ) (c : Command) where
   unread_caused bytes e runs by calls told places since room at ds s =
       let piece : List Fields = c.insert.documents.items in
       let r = request_ran old new log log' wire c.exec (insert_command at piece) false (step.Done bytes) s.command_is s.once runs calls told places since room s.flies in
-      (r.calls', r.told, r.room, unread_as (past_of places since r.calls' wire) at ds piece e s.part bytes r.came by)
+      (r.calls', r.told, r.room, unread_as (past_of places since r.calls' wire) at ds piece e s.part bytes r.came (success_ran old new log log' wire c.exec bytes runs) by)
 
   pub inserted_caused : (bytes : List ℕ) → Runs old new log log' wire c.exec (step.Done bytes) → HearsCaused old new log log' wire c heard.Inserted
   inserted_caused bytes runs calls told places since room at ds s =
@@ -262,7 +263,7 @@ module _ (past past' : Past) (grows : Grows past past') (at : Space) (ds : List 
   insert_fails_grow e (no_memory room) = no_memory room
   insert_fails_grow e (lost piece part io h) = lost piece part io (last_grows past past' grows (insert_command at piece) false fault (λ f. cc) h)
   insert_fails_grow e (refused piece bytes part h by) = refused piece bytes part (heard_grows piece bytes h) (subst (λ (w : ℤ). FailsByReply (doc bytes) w e) (sym grows.wire) by)
-  insert_fails_grow e (listed piece bytes part h lists) = listed piece bytes part (heard_grows piece bytes h) lists
+  insert_fails_grow e (listed piece bytes part h success lists) = listed piece bytes part (heard_grows piece bytes h) success lists
   insert_fails_grow e (cannot_encode d part by) = cannot_encode d part by
   insert_fails_grow e (cannot_insert piece part by) = cannot_insert piece part by
 

@@ -21,3 +21,4 @@ pub mod Completing
 pub mod InsertCauses
 pub mod InsertTelling
 pub mod Drawing
+mod Stepping

@@ -137,3 +137,7 @@ abbrev pub AllFollowed : Told → Told → List Task → List ℕ → List Turne
 AllFollowed log log' tasks order notes outcomes = (calls : List Call) → log ≡ Some calls → (calls' : List Call) × (log' ≡ Some calls')
     × ((i : ℕ) (t : Task) (r : Outcome) → slice_get tasks i ≡ Some t → slice_get outcomes i ≡ Some r → OutcomeFollowed (course calls order notes) i calls' t r)
     × (NamesItsOwn calls → NamesItsOwn calls')
+
+-- a log that names its own cursors only goes on doing so
+abbrev pub GoesOnNaming : Told → Told → Type 0
+GoesOnNaming log log' = (calls : List Call) → log ≡ Some calls → (calls' : List Call) × (log' ≡ Some calls') × (NamesItsOwn calls → NamesItsOwn calls')

@@ -7,7 +7,7 @@ use Rattle.mg_bson.specs.Raw.{fields}
 use Rattle.mg_bson.specs.Reading.{doc}
 use Rattle.mg_bson.specs.Writable.{max_len}
 use Rattle.mg_link.specs.Errors.{plain}
-use Rattle.mg_link.specs.Exec.{FailsByReply, unsent}
+use Rattle.mg_link.specs.Exec.{FailsByReply, IsSuccess, unsent}
 use Rattle.mg_link.specs.Link.{Awaited, Told}
 use Rattle.mg_link.specs.Log.{reply, fault, Call}
 use Rattle.mg_link.specs.Namespace.{Space, space}
@@ -58,8 +58,8 @@ pub data InsertFails (past : Past) (at : Space) (sent : List Fields) (e : Error)
   lost : (piece : List Fields) → IsPiece sent piece → e ≡ plain kind.Io → HeardLast past (insert_command at piece) false fault → InsertFails past at sent e
   -- the reply to it is no success
   refused : (piece : List Fields) (bytes : List ℕ) → IsPiece sent piece → HeardLast past (insert_command at piece) false (reply bytes) → FailsByReply (doc bytes) past.wire e → InsertFails past at sent e
-  -- the reply lists write errors, or a write concern error, or breaks its grammar
-  listed : (piece : List Fields) (bytes : List ℕ) → IsPiece sent piece → HeardLast past (insert_command at piece) false (reply bytes) → ListsAs (length piece) (fields bytes) e.kind → InsertFails past at sent e
+  -- the reply is a success, and lists write errors, or a write concern error, or breaks its grammar
+  listed : (piece : List Fields) (bytes : List ℕ) → IsPiece sent piece → HeardLast past (insert_command at piece) false (reply bytes) → IsSuccess bytes → ListsAs (length piece) (fields bytes) e.kind → InsertFails past at sent e
   -- one of the documents cannot be encoded
   cannot_encode : (d : Fields) → IsPiece sent (d ∷ []) → CannotBeSent d e → InsertFails past at sent e
   -- the next command cannot be built

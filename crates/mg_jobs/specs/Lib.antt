@@ -21,3 +21,4 @@ pub mod Telling
 pub mod Completing
 pub mod InsertCauses
 pub mod Drawing
+pub mod Fated

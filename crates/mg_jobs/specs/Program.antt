@@ -13,6 +13,7 @@ use Rattle.mg_link.specs.Owner.{NamesItsOwn}
 use Rattle.mg_link.specs.Standing.{Stands}
 use Rattle.mg_jobs.specs.Causes.{OutcomeCaused, course}
 use Rattle.mg_jobs.specs.Counts.{AreNoted}
+use Rattle.mg_jobs.specs.Fated.{AreItsSteps}
 use Rattle.mg_jobs.specs.Drawing.{as_sent}
 use Rattle.mg_jobs.specs.Progress.{AllPlayed}
 use Rattle.mg_jobs.specs.Headline.{OutcomeFollowed}
@@ -84,6 +85,7 @@ pub record RunFollowed (run : Run) : Type 0 where
   pub by_rules : IsByRules run.store.history
   pub legal : IsLegal (steps_of run.store.history)
   pub stands : Stands calls (steps_of run.store.history)
+  pub alone : AreItsSteps run.store.history calls
   pub turns : Vec Turned Global
   pub turns_are : run.turns.items ≡ turns ∷ []
   pub followed : (i : ℕ) (t : Task) (r : Outcome) → slice_get (tasks run.script.jobs.items) i ≡ Some t → slice_get run.outcomes.items i ≡ Some r → OutcomeFollowed (course [] run.script.order.items turns.items) i calls t r

@@ -19,7 +19,7 @@ impl Fated for Brand {
     ghost fates = { [] };
 }
 
-/// A link in memory whose fates stay as they are known. To clauses it is the link behind it.
+/// A link in memory whose fates stay as they are known, and which alone uses its store. To clauses it is the link behind it.
 pub(crate) struct FatedLink<F: Fated> {
     link: MemLink,
     fated: PhantomData<F>,
@@ -35,17 +35,21 @@ impl<F: Fated> Drop for FatedLink<F> {
 impl<F: Fated> Model for FatedLink<F> {
     ghost use Rattle.std.specs.Prelude.{◌≡◌};
     ghost use Rattle.mg_store.specs.InMemory.{InMemory};
+    ghost use Rattle.mg_jobs.specs.Fated.{AreItsSteps};
 
     ghost Value = { InMemory };
 
     ghost view = { λ l. l.link };
 
-    ghost invariant = { λ l. l.link.fates ≡ F.fates };
+    ghost invariant = { λ l. (l.link.fates ≡ F.fates) × AreItsSteps l.link.stored.history l.link.calls };
 }
 
 impl<F: Fated> FatedLink<F> {
+    ghost use Rattle.mg_jobs.specs.Fated.{AreItsSteps};
+
     pub(crate) fn new(link: MemLink) -> FatedLink<F>
-        requires { link.fates ≡ F.fates }
+        requires fates { link.fates ≡ F.fates }
+        requires steps { AreItsSteps link.stored.history link.calls }
         ensures { result ≡ link }
     {
         FatedLink {
@@ -57,6 +61,7 @@ impl<F: Fated> FatedLink<F> {
     pub(crate) fn into_link(self) -> MemLink
         ensures link { result ≡ self }
         ensures fates { result.fates ≡ F.fates }
+        ensures steps { AreItsSteps result.stored.history result.calls }
     {
         let FatedLink { link, fated: _ } = self;
         link

@@ -70,6 +70,7 @@ fn prefix_of(ids: [u8; 3]) -> [u8; 4]
 /// Runs the jobs of a script over a link that was not used.
 fn run_over<F: Fated>(alloc: Global, script: Script, link: MemLink) -> Result<Run, Error>
     requires jobs { HasJobs (plan script) }
+    requires fresh { link.stored.history ≡ [] }
     requires unused { link.calls ≡ [] }
     requires unpolled { link.pended ≡ [] }
     requires fated { link.fates ≡ F.fates }

@@ -9,7 +9,7 @@ ghost use Rattle.mg_jobs.specs.Drawing.{AreLater, HaveDrawn, JobHasIds, drawn_in
 ghost use Rattle.mg_jobs.specs.Runs.{AreNew, AreSameJobs, CanGo, Draws, Goes, IsNew, IsNoted, IsReady, IsSameJob, JobHolds, Stands, has_ended, idle, job_ended, job_ticket};
 ghost use Rattle.mg_link.specs.Log.{Call};
 ghost use Rattle.mg_link.specs.Owner.{Owner};
-ghost use Rattle.mg_jobs.specs.Headline.{AllFollowed, AreFirst, DoTasks, Does, IsFirst, IsSameTask, Knowing, OutcomeOf, OutcomesOf, Plays};
+ghost use Rattle.mg_jobs.specs.Headline.{AllFollowed, AreFirst, GoesOnNaming, DoTasks, Does, IsFirst, IsSameTask, Knowing, OutcomeOf, OutcomesOf, Plays};
 ghost use Rattle.mg_script.specs.Plan.{Task, task, tasks};
 ghost use Rattle.mg_jobs.specs.Progress.{AllAt, AllPlayed, GoesBy, IsAt, IsReadyAt, JobGoes, TurnsBy, calls_of};
 ghost use Rattle.mg_jobs.specs.Causes.{AllCaused};
@@ -416,12 +416,14 @@ pub fn run_jobs<L: Link, I: IdSource>(
     // E15 just where a number names no job, with the first such number; and otherwise want of memory.
     ensures missing { IfSome (first_missing (length jobs.now) order.now) (λ n. (result ≡ Err (plain (ErrorKind.NoSuchJob n))) × (link.new ≡ link.old) × (ids.new ≡ ids.old)) }
     ensures err { IfErr result (λ e. ((n : ℕ) × (e ≡ plain (ErrorKind.NoSuchJob n)) × (first_missing (length jobs.now) order.now ≡ Some n)) ⊎ (e ≡ plain ErrorKind.OutOfMemory)) }
+    // Where the log named its own cursors only, it goes on doing so, also where the run failed.
+    ensures naming { GoesOnNaming (L.log link.old) (L.log link.new) }
     // Each follow answers consecutive matching entries from the opening place of its own aggregate on, each once, in order,
-    // just up to its token, also after errors; and the run names its own cursors only.
+    // just up to its token, also after errors.
     ensures followed { IfOk result (λ p. AllFollowed (L.log link.old) (L.log link.new) (tasks jobs.now) order.now p.turns.items p.outcomes.items) }
     // Each insert drew the source's next ids in its first turn, one for each of its documents that has none.
     ensures drawn { IfOk result (λ p. AreLater (I.ids ids.old) (drawn_in (tasks jobs.now) order.now) (I.ids ids.new)) }
-    // A run that failed drew those of the turns that it gave.
+    // A run that failed drew those of some front of its turns.
     ensures stopped { (n : ℕ) × AreLater (I.ids ids.old) (drawn_in (tasks jobs.now) (take n order.now)) (I.ids ids.new) }
     // How far each job has come follows from the notes of its turns.
     ensures rows { IfOk result (λ p. AllPlayed (tasks jobs.now) order.now p.turns.items p.outcomes.items) }

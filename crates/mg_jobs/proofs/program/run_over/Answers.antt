@@ -10,6 +10,7 @@ use Rattle.mg_link.proofs.Runs.{names_none_at_first}
 use Rattle.mg_store.specs.InMemory.{AreAsFates, pends_in}
 use Rattle.mg_link.specs.Link.{Told}
 use Rattle.mg_jobs.specs.Counts.{AreNoted}
+use Rattle.mg_jobs.specs.Fated.{AreItsSteps}
 use Rattle.mg_jobs.specs.Progress.{AllPlayed}
 use Rattle.mg_jobs.specs.Causes.{OutcomeCaused, course}
 use Rattle.mg_jobs.specs.Drawing.{as_sent}
@@ -45,6 +46,7 @@ returns-clause-followed g c =
       by_rules = subst (λ s. IsByRules s.history) stored c.into_parts-store.ensures.by_rules;
       legal = subst (λ s. IsLegal (steps_of s.history)) stored c.into_parts-store.ensures.legal;
       stands = subst (λ l. Stands l (steps_of c.into_parts-store.result.0.history)) calls (subst (λ s. Stands link.calls (steps_of s.history)) stored c.into_parts-store.ensures.stands);
+      alone = subst (λ l. AreItsSteps c.into_parts-store.result.0.history l) calls (subst (λ s. AreItsSteps s.history link.calls) stored c.into_link.ensures.steps);
       followed = λ i t r ht hr. subst (λ (o : List ℕ). OutcomeFollowed (course [] o c.in_ok-played.played.turns.items) i f.0 t r) c.as_slice-2.ensures.value (f.2 i t r (ap (λ l. slice_get (tasks l) i) jobs ∙ ht) hr);
       own = f.3 names_none_at_first;
       turns = c.in_ok-played.played.turns;

@@ -27,6 +27,16 @@ returns-clause-followed g c =
     (c.in_ok-play.ensures.rows _ c.in_ok-runner.ensures.at) (c.play.ensures.tasks _ c.in_ok-runner.ensures.tasks)
     (c.play.ensures.knowing _ (knowing_first _ _ c.in_ok-runner.runner.players.items c.in_ok-runner.ensures.first))
 
+pub returns-in_err-play-clause-naming : goal.returns-in_err-play-clause-naming
+returns-in_err-play-clause-naming g c = λ calls told.
+    let k = c.play.ensures.knowing _ (knowing_first _ _ c.in_ok-runner.runner.players.items c.in_ok-runner.ensures.first) calls told in
+    (k.0, k.1, k.3)
+
+pub returns-clause-naming : goal.returns-clause-naming
+returns-clause-naming g c = λ calls told.
+    let k = c.play.ensures.knowing _ (knowing_first _ _ c.in_ok-runner.runner.players.items c.in_ok-runner.ensures.first) calls told in
+    (k.0, k.1, k.3)
+
 pub returns-clause-rows : goal.returns-clause-rows
 returns-clause-rows g c = rows_so (tasks c.args.jobs.now) c.args.order.now c.play.new.runner.players.items c.play.new.runner.turns.items c.into_played.result c.into_played.ensures.outcomes c.into_played.ensures.each c.into_played.ensures.turns (c.play.ensures.tasks _ c.in_ok-runner.ensures.tasks) (c.in_ok-play.ensures.rows _ c.in_ok-runner.ensures.at)
 
