@@ -1,9 +1,9 @@
 -- What a poll of a request comes to, in a call that sent it.
 use Rattle.std.proofs.Common.{◌≡◌, ℕ, zero, suc, ◌≤◌, ℤ, ◌&&◌, Bool, true, false, List, [], ◌∷◌, ◌++◌, length, Some, refl, sym, ap, ◌∙◌, subst, inl, inr, arith}
-use Rattle.std.specs.Prelude.{slice_get}
+use Rattle.std.specs.Prelude.{◌<◌, IsSome, slice_get}
 use Rattle.mg_bson.specs.Tree.{Fields}
 use Rattle.mg_bson.specs.Raw.{fields}
-use Rattle.mg_link.specs.Exec.{Attempt, not_sent, waits, answered, Stage, unsent, first, second, Sending, Begins, FailsBy, Gives, GoesOn, Once, Runs, Tries, Twice, holding, is_repeated, is_retried_attempt}
+use Rattle.mg_link.specs.Exec.{Attempt, not_sent, waits, answered, Stage, unsent, first, second, Sending, Begins, FailsBy, Gives, GoesOn, Once, Runs, Tries, Twice, holding, is_repeated, is_retried_attempt, ticket_at}
 use Rattle.mg_link.specs.Link.{Awaited, Told}
 use Rattle.mg_link.specs.Log.{Sight, waiting, reply, fault, memory, Call, see}
 use Rattle.mg_link.specs.Retry.{is_retried}
@@ -11,7 +11,7 @@ use Rattle.mg_link.specs.declared.action.Step.{Step}
 use Rattle.mg_link.specs.declared.action.Step.TheVariants as step
 use Rattle.mg_link.specs.declared.error.Error.{Error}
 use Rattle.mg_link.proofs.Places.{get_front, get_seam, get_within}
-use Rattle.mg_change.specs.Calls.{Came, Failed, Flies, Grows, HeardAt, HeardLast, IsRetried, Keeps, Past, WaitsAt, by_fault, by_memory, by_reply, past_of}
+use Rattle.mg_change.specs.Calls.{Came, Failed, Flies, Grows, HeardAt, HeardLast, IsAwaited, IsOwn, IsRetried, Keeps, Past, WaitsAt, by_fault, by_memory, by_reply, past_of}
 use Rattle.mg_change.proofs.Growing.{heard_at_grows, retried_grows}
 
 -- ---- logs
@@ -257,3 +257,30 @@ request_ran old new log log' wire s command retries result sends repeats runs ca
     subst (λ (b : Bool). Ran new places since calls log' wire command b result) repeats
     (subst (λ (c : Fields). Ran new places since calls log' wire c s.retries result) sends
     (ran_by old new log log' wire s result calls told places since room (subst (λ (c : Fields). Flies old (past_of places since calls wire) c s.stage) (sym sends) flies) runs))
+
+-- ---- what waits
+
+pub none_held : {A : Type 0} → false ≡ true → A
+none_held held = absurd cc
+
+-- a command with a ticket was sent
+pub awaited_by : (awaited : Awaited) (past : Past) (command : Fields) (stage : Stage) → Flies awaited past command stage → IsSome (ticket_at stage) → IsAwaited awaited past command
+awaited_by awaited past command unsent flies held = none_held held
+awaited_by awaited past command (first ticket) flies held = record { ticket = ticket; place = flies.0; waits = flies.1 }
+awaited_by awaited past command (second ticket) flies held = record { ticket = ticket; place = flies.0; waits = flies.1 }
+
+-- the call of a ticket is the caller's own
+pub record HoldsOwn (awaited : Awaited) (past : Past) (ticket : ℕ) : Type 0 where
+  pub place : ℕ
+  pub at : awaited ticket ≡ Some place
+  pub own : IsOwn past place
+  pub within : place < length past.calls
+
+own_call : (awaited : Awaited) (past : Past) (command : Fields) (held ticket place : ℕ) → Some held ≡ Some ticket → WaitsAt awaited past held command place → HoldsOwn awaited past ticket
+own_call awaited past command held ticket place same out =
+    record { place = place; at = ap awaited (sym (same_some held ticket same)) ∙ out.at; own = out.own; within = get_within past.calls place out.call out.there }
+
+pub own_by : (awaited : Awaited) (past : Past) (command : Fields) (stage : Stage) (ticket : ℕ) → Flies awaited past command stage → ticket_at stage ≡ Some ticket → HoldsOwn awaited past ticket
+own_by awaited past command unsent ticket flies held = absurd cc
+own_by awaited past command (first at) ticket flies held = own_call awaited past command at ticket flies.0 held flies.1
+own_by awaited past command (second at) ticket flies held = own_call awaited past command at ticket flies.0 held flies.1

@@ -22,3 +22,4 @@ pub mod SeekCauses
 pub mod ClosingCauses
 pub mod Growths
 pub mod Vain
+pub mod Awaiting

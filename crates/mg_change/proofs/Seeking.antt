@@ -1,5 +1,5 @@
 -- The steps of a call that seeks an event.
-use Rattle.std.proofs.Common.{◌≡◌, ℕ, ℤ, pos, Bool, true, false, List, [], Some, None, refl, sym, subst, inl, inr, arith}
+use Rattle.std.proofs.Common.{◌≡◌, ℕ, ℤ, pos, Bool, true, false, List, [], Option, Some, None, refl, sym, subst, inl, inr, arith}
 use Rattle.std.specs.Prelude.{◌<◌, ◌+◌, ◌*◌, ◌↔◌, IsTrue}
 use Rattle.mg_bson.specs.Tree.{Fields}
 use Rattle.mg_link.specs.Errors.{plain}
@@ -29,18 +29,18 @@ sought P c d false (stepped.Gives (poll.Ready None)) r (inr h) p goes fails = su
 sought P c d over (stepped.Gives (poll.Ready (Some event))) r h p goes fails = subst P (sym h) p
 sought P c d over (stepped.Gives (poll.Failed e)) r h p goes fails = subst P (sym h) p
 
-pends_by : (c d : Counts) (over : Bool) (s r : Stepped) (n m : ℕ) → Seeks c d over s r → StepPends s n m → StepPends r n m
-pends_by c d over stepped.Goes r n m h p = subst (λ x. StepPends x n m) (sym h.same) p
-pends_by c d over (stepped.Gives poll.Pending) r n m h p = subst (λ x. StepPends x n m) (sym h.same) p
-pends_by c d true (stepped.Gives (poll.Ready None)) r n m h p = subst (λ x. StepPends x n m) (sym h) p
-pends_by c d false (stepped.Gives (poll.Ready None)) r n m (inl h) p = subst (λ x. StepPends x n m) (sym h.goes) p
-pends_by c d false (stepped.Gives (poll.Ready None)) r n m (inr h) p = subst (λ x. StepPends x n m) (sym h.fails) p
-pends_by c d over (stepped.Gives (poll.Ready (Some event))) r n m h p = subst (λ x. StepPends x n m) (sym h) p
-pends_by c d over (stepped.Gives (poll.Failed e)) r n m h p = subst (λ x. StepPends x n m) (sym h) p
+pends_by : (c d : Counts) (over : Bool) (s r : Stepped) (ticket : Option ℕ) (n m : ℕ) → Seeks c d over s r → StepPends s ticket n m → StepPends r ticket n m
+pends_by c d over stepped.Goes r ticket n m h p = subst (λ x. StepPends x ticket n m) (sym h.same) p
+pends_by c d over (stepped.Gives poll.Pending) r ticket n m h p = subst (λ x. StepPends x ticket n m) (sym h.same) p
+pends_by c d true (stepped.Gives (poll.Ready None)) r ticket n m h p = subst (λ x. StepPends x ticket n m) (sym h) p
+pends_by c d false (stepped.Gives (poll.Ready None)) r ticket n m (inl h) p = subst (λ x. StepPends x ticket n m) (sym h.goes) p
+pends_by c d false (stepped.Gives (poll.Ready None)) r ticket n m (inr h) p = subst (λ x. StepPends x ticket n m) (sym h.fails) p
+pends_by c d over (stepped.Gives (poll.Ready (Some event))) r ticket n m h p = subst (λ x. StepPends x ticket n m) (sym h) p
+pends_by c d over (stepped.Gives (poll.Failed e)) r ticket n m h p = subst (λ x. StepPends x ticket n m) (sym h) p
 
 module _ (c d : Counts) (over : Bool) (s r : Stepped) (seeks : Seeks c d over s r) where
-  pub pends_so : (n m : ℕ) → StepPends s n m → StepPends r n m
-  pends_so n m p = pends_by c d over s r n m seeks p
+  pub pends_so : (ticket : Option ℕ) (n m : ℕ) → StepPends s ticket n m → StepPends r ticket n m
+  pends_so ticket n m p = pends_by c d over s r ticket n m seeks p
 
   pub loses_so : (n m : ℕ) → StepLoses s n m → StepLoses r n m
   loses_so n m p = sought (λ x. StepLoses x n m) c d over s r seeks p tt (λ io. absurd cc)

@@ -66,6 +66,12 @@ pub record WaitsAt (awaited : Awaited) (past : Past) (ticket : ℕ) (command : F
   pub there : slice_get past.calls place ≡ Some call
   pub command_is : fields call.command ≡ command
 
+-- the reply to this command of the call is waited for
+pub record IsAwaited (awaited : Awaited) (past : Past) (command : Fields) : Type 0 where
+  pub ticket : ℕ
+  pub place : ℕ
+  pub waits : WaitsAt awaited past ticket command place
+
 -- how far the command has come: where it was sent, the call sent it
 abbrev pub Flies : Awaited → Past → Fields → Stage → Type 0
 Flies awaited past command unsent = Unit {0}

@@ -1,4 +1,4 @@
--- What the answers of a change stream are caused by, over all polls of a call.
+-- What the answers of a change stream are caused by, over all polls of a call, and what a call waits for.
 use Rattle.std.specs.Prelude.{◌≡◌, ◌≢◌, ◌⊎◌, ◌≤◌, ◌||◌, codes, false, true, ℕ, ℤ, pos, Bool, List, [], ◌∷◌, length, Option, Some, None, option_map, Result, Ok, Err, if◌then◌else◌}
 use Rattle.mg_bson.specs.Tree.{Tree, Fields, Items}
 use Rattle.mg_bson.specs.Find.{get}
@@ -22,7 +22,7 @@ use Rattle.mg_ops.specs.declared.aggregate.ChangeStreamAggregate.{ChangeStreamAg
 use Rattle.mg_ops.specs.declared.cursor_reply.CursorInformation.{CursorInformation}
 use Rattle.mg_ops.specs.declared.cursor_reply.CursorSpecification.{CursorSpecification}
 use Rattle.mg_change.specs.Batches.{HoldsBatch}
-use Rattle.mg_change.specs.Calls.{Failed, Flies, HeardBy, HeardLast, Past, past_of}
+use Rattle.mg_change.specs.Calls.{Failed, Flies, HeardBy, HeardLast, IsAwaited, Past, past_of}
 use Rattle.mg_change.specs.Following.{buffered}
 use Rattle.mg_change.specs.Phases.{remembered, resuming_command}
 use Rattle.mg_change.specs.Polls.{ends_cursor}
@@ -234,6 +234,15 @@ ByPhase awaited past at resumed (phase.Resumed bytes) s = (resumed ≡ false) ×
 pub record SoFar (awaited : Awaited) (past : Past) (at : Standing) (resumed : Bool) (p : Phase) (s : ChangeStream) : Type 0 where
   pub same : s.aggregate ≡ at.aggregate
   pub by : ByPhase awaited past at resumed p s
+
+-- What a call waits for that began where its stream stood so.
+pub data CallWaits (awaited : Awaited) (past : Past) (at : Standing) : Type 0 where
+  -- the reply to the getMore of its cursor
+  more : MayAsk at → IsAwaited awaited past (more_command at) → CallWaits awaited past at
+  -- the reply to the aggregate that resumes the stream
+  resumption : (c : CursorInformation) → Resumes past at c → IsAwaited awaited past (resume_command past.wire at) → CallWaits awaited past at
+  -- the reply to the killing of the cursor that a resumption replaced
+  killing : (old c : CursorInformation) (bytes : List ℕ) (upto : Option Tree) → old.id ≢ pos 0 → Resumed past at old bytes c upto → IsAwaited awaited past (old_command old) → CallWaits awaited past at
 
 -- ---- answers
 

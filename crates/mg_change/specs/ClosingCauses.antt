@@ -1,4 +1,4 @@
--- What the answers of a closing are caused by, over all its polls.
+-- What the answers of a closing are caused by, over all its polls, and what it waits for.
 use Rattle.std.specs.Prelude.{◌≡◌, ◌≢◌, ◌⊎◌, true, false, ℕ, ℤ, List, [], length, Option, Some}
 use Rattle.mg_bson.specs.Tree.{Fields, Tree}
 use Rattle.mg_bson.specs.Raw.{fields}
@@ -16,7 +16,7 @@ use Rattle.mg_ops.specs.Commands.{get_more_command, kill_command}
 use Rattle.mg_ops.specs.Cursors.{BreaksIn}
 use Rattle.mg_ops.specs.Failing.{CannotBeSent}
 use Rattle.mg_ops.specs.declared.cursor_reply.CursorInformation.{CursorInformation}
-use Rattle.mg_change.specs.Calls.{Flies, HeardBy, HeardLast, Keeps, Past, past_of}
+use Rattle.mg_change.specs.Calls.{Flies, HeardBy, HeardLast, IsAwaited, Keeps, Past, past_of}
 use Rattle.mg_change.specs.Causes.{TellsCursor, cursor_behind}
 use Rattle.mg_change.specs.Closings.{ids_left}
 use Rattle.mg_change.specs.Phases.{resuming_command}
@@ -36,6 +36,11 @@ KillsSoFar awaited past c opened (flight.More get_more exec) = ⊥
 KillsSoFar awaited past c opened (flight.Resumption exec) = ⊥
 KillsSoFar awaited past c opened (flight.Older exec id) = ⊥
 KillsSoFar awaited past c opened (flight.Last exec) = (ids_left c.id opened ≢ []) × Flies awaited past (last_command c opened) exec.stage
+
+-- the reply to the killing of what is left is waited for
+pub record KillWaits (awaited : Awaited) (past : Past) (c : CursorInformation) (opened : ℤ) : Type 0 where
+  pub some_left : ids_left c.id opened ≢ []
+  pub waits : IsAwaited awaited past (last_command c opened)
 
 -- why what is left is not killed
 pub data NotKilled (past : Past) (c : CursorInformation) (opened : ℤ) (e : Error) : Type 0 where

@@ -1,6 +1,7 @@
 -- What a poll of a change stream may answer.
 use Rattle.std.specs.Prelude.{◌≡◌, ◌<◌, ℕ, ℤ, Bool, false, Option, Some, None}
 use Rattle.mg_link.specs.Step.{ends_cursor as ended_by}
+use Rattle.mg_link.specs.Acts.{PendsAfter}
 use Rattle.mg_link.specs.Causes.{Rose}
 use Rattle.mg_link.specs.declared.error.Error.{Error}
 use Rattle.mg_link.specs.declared.error.ErrorKind.TheVariants as kind
@@ -15,11 +16,11 @@ use Rattle.mg_change.specs.declared.event_poll.Stepped.TheVariants as stepped
 abbrev pub IsNotIo : Error → Type 0
 IsNotIo e = e.kind ≡ kind.Io → ⊥
 
--- it pends just where the count of pending replies rose
-abbrev pub Pends : EventPoll → ℕ → ℕ → Type 0
-Pends poll.Pending before now = Rose before now
-Pends (poll.Ready event) before now = now ≡ before
-Pends (poll.Failed e) before now = now ≡ before
+-- it pends after one poll that pended, and this ticket is held, or the count of pending replies is the same
+abbrev pub Pends : EventPoll → Option ℕ → ℕ → ℕ → Type 0
+Pends poll.Pending ticket before now = PendsAfter 1 ticket before now
+Pends (poll.Ready event) ticket before now = now ≡ before
+Pends (poll.Failed e) ticket before now = now ≡ before
 
 -- it fails by the link only where the count of faults rose
 abbrev pub Loses : EventPoll → ℕ → ℕ → Type 0
@@ -35,9 +36,9 @@ IsAtOnce (poll.Failed e) = IsNotIo e
 
 -- the same of a step, which may go on
 
-abbrev pub StepPends : Stepped → ℕ → ℕ → Type 0
-StepPends stepped.Goes before now = now ≡ before
-StepPends (stepped.Gives p) before now = Pends p before now
+abbrev pub StepPends : Stepped → Option ℕ → ℕ → ℕ → Type 0
+StepPends stepped.Goes ticket before now = now ≡ before
+StepPends (stepped.Gives p) ticket before now = Pends p ticket before now
 
 abbrev pub StepLoses : Stepped → ℕ → ℕ → Type 0
 StepLoses stepped.Goes before now = Unit {0}

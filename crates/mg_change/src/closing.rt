@@ -170,7 +170,7 @@ fn land_more<L: Link>(
 ) -> Step<Closing, Remains>
     requires { IsOut (L.awaited link.old) (ticket_of exec) }
     ensures tickets { Tickets (L.awaited link.old) (L.awaited link.new) (ticket_of exec) (ticket_after closing_ticket result) }
-    ensures pended { Pended result (L.pends link.old) (L.pends link.new) }
+    ensures pended { Pended closing_ticket result (L.pends link.old) (L.pends link.new) }
     ensures lost { FailsByFault result (L.faults link.old) (L.faults link.new) }
     ensures prompt { L.prompt link.old → EndsAtOnce result }
     ensures later { Later (L.faults link.old) (L.faults link.new) (L.pends link.old) (L.pends link.new)
@@ -195,7 +195,7 @@ fn land_more<L: Link>(
 fn land_resumption<L: Link>(link: &mut L, remains: Remains, exec: Exec) -> Step<Closing, Remains>
     requires { IsOut (L.awaited link.old) (ticket_of exec) }
     ensures tickets { Tickets (L.awaited link.old) (L.awaited link.new) (ticket_of exec) (ticket_after closing_ticket result) }
-    ensures pended { Pended result (L.pends link.old) (L.pends link.new) }
+    ensures pended { Pended closing_ticket result (L.pends link.old) (L.pends link.new) }
     ensures lost { FailsByFault result (L.faults link.old) (L.faults link.new) }
     ensures prompt { L.prompt link.old → EndsAtOnce result }
     ensures later { Later (L.faults link.old) (L.faults link.new) (L.pends link.old) (L.pends link.new)
@@ -225,7 +225,7 @@ fn land_older<L: Link>(
 ) -> Step<Closing, Remains>
     requires { IsOut (L.awaited link.old) (ticket_of exec) }
     ensures tickets { Tickets (L.awaited link.old) (L.awaited link.new) (ticket_of exec) (ticket_after closing_ticket result) }
-    ensures pended { Pended result (L.pends link.old) (L.pends link.new) }
+    ensures pended { Pended closing_ticket result (L.pends link.old) (L.pends link.new) }
     ensures lost { FailsByFault result (L.faults link.old) (L.faults link.new) }
     ensures prompt { L.prompt link.old → EndsAtOnce result }
     ensures later { Later (L.faults link.old) (L.faults link.new) (L.pends link.old) (L.pends link.new)
@@ -267,7 +267,7 @@ fn ids_of(alloc: Global, id: i64, opened: i64) -> Result<Vec<i64>, Error>
 fn wait<L: Link>(link: &mut L, remains: Remains, exec: Exec) -> Step<Closing, ()>
     requires { IsOut (L.awaited link.old) (ticket_of exec) }
     ensures tickets { Tickets (L.awaited link.old) (L.awaited link.new) (ticket_of exec) (ticket_after closing_ticket result) }
-    ensures pended { Pended result (L.pends link.old) (L.pends link.new) }
+    ensures pended { Pended closing_ticket result (L.pends link.old) (L.pends link.new) }
     ensures lost { FailsByFault result (L.faults link.old) (L.faults link.new) }
     ensures prompt { L.prompt link.old → EndsAtOnce result }
     ensures later { Later (L.faults link.old) (L.faults link.new) (L.pends link.old) (L.pends link.new)
@@ -293,7 +293,7 @@ fn wait<L: Link>(link: &mut L, remains: Remains, exec: Exec) -> Step<Closing, ()
 // Kills the cursors that the server holds.
 fn kill_all<L: Link>(link: &mut L, remains: Remains) -> Step<Closing, ()>
     ensures tickets { Tickets (L.awaited link.old) (L.awaited link.new) (None) (ticket_after closing_ticket result) }
-    ensures pended { Pended result (L.pends link.old) (L.pends link.new) }
+    ensures pended { Pended closing_ticket result (L.pends link.old) (L.pends link.new) }
     ensures lost { FailsByFault result (L.faults link.old) (L.faults link.new) }
     ensures prompt { L.prompt link.old → EndsAtOnce result }
     ensures later { Later (L.faults link.old) (L.faults link.new) (L.pends link.old) (L.pends link.new)
@@ -322,7 +322,7 @@ fn kill_all<L: Link>(link: &mut L, remains: Remains) -> Step<Closing, ()>
 fn go_on<L: Link>(link: &mut L, landing: Step<Closing, Remains>) -> Step<Closing, ()>
     requires { IsOut (L.awaited link.old) (ticket_after closing_ticket landing) }
     ensures tickets { Tickets (L.awaited link.old) (L.awaited link.new) (ticket_after closing_ticket landing) (ticket_after closing_ticket result) }
-    ensures pended { (n : ℕ) → Pended landing n (L.pends link.old) → Pended result n (L.pends link.new) }
+    ensures pended { (n : ℕ) → Pended closing_ticket landing n (L.pends link.old) → Pended closing_ticket result n (L.pends link.new) }
     ensures lost { (n : ℕ) → n ≤ L.faults link.old → FailsByFault landing n (L.faults link.old) → FailsByFault result n (L.faults link.new) }
     ensures prompt { L.prompt link.old → EndsAtOnce landing → EndsAtOnce result }
     ensures later { Later (L.faults link.old) (L.faults link.new) (L.pends link.old) (L.pends link.new)
@@ -351,7 +351,7 @@ impl Action for Closing {
     fn poll<L: Link>(self, link: &mut L) -> Step<Closing, ()>
         requires { IsOut (L.awaited link.old) (closing_ticket self) }
         ensures tickets { Tickets (L.awaited link.old) (L.awaited link.new) (closing_ticket self) (ticket_after closing_ticket result) }
-        ensures pended { Pended result (L.pends link.old) (L.pends link.new) }
+        ensures pended { Pended closing_ticket result (L.pends link.old) (L.pends link.new) }
         ensures lost { FailsByFault result (L.faults link.old) (L.faults link.new) }
         ensures prompt { L.prompt link.old → EndsAtOnce result }
         ensures later { Later (L.faults link.old) (L.faults link.new) (L.pends link.old) (L.pends link.new)

@@ -133,7 +133,7 @@ fn wait<L: Link>(
 ) -> Step<Opening, ChangeStream>
     requires { IsOut (L.awaited link.old) (ticket_of exec) }
     ensures tickets { Tickets (L.awaited link.old) (L.awaited link.new) (ticket_of exec) (ticket_after opening_ticket result) }
-    ensures pended { Pended result (L.pends link.old) (L.pends link.new) }
+    ensures pended { Pended opening_ticket result (L.pends link.old) (L.pends link.new) }
     ensures lost { FailsByFault result (L.faults link.old) (L.faults link.new) }
     ensures prompt { L.prompt link.old → EndsAtOnce result }
     ensures later { Later (L.faults link.old) (L.faults link.new) (L.pends link.old) (L.pends link.new)
@@ -187,7 +187,7 @@ impl Action for Opening {
     fn poll<L: Link>(self, link: &mut L) -> Step<Opening, ChangeStream>
         requires { IsOut (L.awaited link.old) (opening_ticket self) }
         ensures tickets { Tickets (L.awaited link.old) (L.awaited link.new) (opening_ticket self) (ticket_after opening_ticket result) }
-        ensures pended { Pended result (L.pends link.old) (L.pends link.new) }
+        ensures pended { Pended opening_ticket result (L.pends link.old) (L.pends link.new) }
         ensures lost { FailsByFault result (L.faults link.old) (L.faults link.new) }
         ensures prompt { L.prompt link.old → EndsAtOnce result }
         ensures later { Later (L.faults link.old) (L.faults link.new) (L.pends link.old) (L.pends link.new)

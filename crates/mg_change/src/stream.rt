@@ -97,7 +97,7 @@ impl ChangeStream {
         requires held { IsOut (L.awaited link.old) (ticket_in self.old.phase) }
         requires sound { IsSound (L.wire link.old) self.old }
         ensures tickets { Tickets (L.awaited link.old) (L.awaited link.new) (ticket_in self.old.phase) (ticket_in self.new.phase) }
-        ensures pended { Pends result (L.pends link.old) (L.pends link.new) }
+        ensures pended { Pends result (ticket_in self.new.phase) (L.pends link.old) (L.pends link.new) }
         ensures lost { Loses result (L.faults link.old) (L.faults link.new) }
         ensures prompt { L.prompt link.old → IsAtOnce result }
         ensures later { Later (L.faults link.old) (L.faults link.new) (L.pends link.old) (L.pends link.new)
@@ -134,7 +134,7 @@ impl ChangeStream {
         requires held { IsOut (L.awaited link.old) (ticket_in self.old.phase) }
         requires sound { IsSound (L.wire link.old) self.old }
         ensures tickets { Tickets (L.awaited link.old) (L.awaited link.new) (ticket_in self.old.phase) (ticket_in self.new.phase) }
-        ensures pended { Pends result (L.pends link.old) (L.pends link.new) }
+        ensures pended { Pends result (ticket_in self.new.phase) (L.pends link.old) (L.pends link.new) }
         ensures lost { Loses result (L.faults link.old) (L.faults link.new) }
         ensures prompt { L.prompt link.old → IsAtOnce result }
         ensures later { Later (L.faults link.old) (L.faults link.new) (L.pends link.old) (L.pends link.new)
@@ -176,7 +176,7 @@ impl ChangeStream {
         requires held { IsOut (L.awaited link.old) (ticket_in self.old.phase) }
         requires sound { IsSound (L.wire link.old) self.old }
         ensures tickets { Tickets (L.awaited link.old) (L.awaited link.new) (ticket_in self.old.phase) (ticket_in self.new.phase) }
-        ensures pended { StepPends result (L.pends link.old) (L.pends link.new) }
+        ensures pended { StepPends result (ticket_in self.new.phase) (L.pends link.old) (L.pends link.new) }
         ensures lost { StepLoses result (L.faults link.old) (L.faults link.new) }
         ensures prompt { L.prompt link.old → IsStepAtOnce result }
         ensures later { Later (L.faults link.old) (L.faults link.new) (L.pends link.old) (L.pends link.new)
@@ -280,7 +280,7 @@ impl ChangeStream {
         requires held { IsOut (L.awaited link.old) (ticket_in self.old.phase) }
         requires sound { IsSound (L.wire link.old) self.old }
         ensures tickets { Tickets (L.awaited link.old) (L.awaited link.new) (ticket_in self.old.phase) (ticket_in self.new.phase) }
-        ensures pended { StepPends result (L.pends link.old) (L.pends link.new) }
+        ensures pended { StepPends result (ticket_in self.new.phase) (L.pends link.old) (L.pends link.new) }
         ensures lost { StepLoses result (L.faults link.old) (L.faults link.new) }
         ensures prompt { L.prompt link.old → IsStepAtOnce result }
         ensures later { Later (L.faults link.old) (L.faults link.new) (L.pends link.old) (L.pends link.new)
@@ -320,7 +320,7 @@ impl ChangeStream {
         requires taken { self.old.phase ≡ Phase.Taken }
         requires kept { IsKept self.old.aggregate self.old.cursor }
         ensures ticket { ticket_in self.new.phase ≡ None }
-        ensures no_pend { (n : ℕ) → StepPends result n n }
+        ensures no_pend { (n : ℕ) → StepPends result (ticket_in self.new.phase) n n }
         ensures no_loss { (n m : ℕ) → StepLoses result n m }
         ensures at_once { IsStepAtOnce result }
         ensures sound { (w : ℤ) → w ≡ wire → IsSound w self.new }

@@ -1,23 +1,27 @@
 -- How far jobs come, turn by turn.
-use Rattle.std.proofs.Common.{◌≡◌, ◌+◌, ◌-◌, ◌<◌, ◌≤◌, ◌⊎◌, ℕ, zero, suc, Bool, true, false, cond, List, [], ◌∷◌, ◌++◌, Some, Result, Ok, Err, refl, sym, ap, ◌∙◌, subst, inl, inr, length, take, arith}
-use Rattle.std.specs.Prelude.{slice_get, slice_set, nat_eq, nat_lt, IfOk}
+use Rattle.std.proofs.Common.{◌≡◌, ◌+◌, ◌-◌, ◌<◌, ◌≤◌, ◌⊎◌, ℕ, zero, suc, Bool, true, false, cond, List, [], ◌∷◌, ◌++◌, Option, Some, None, Result, Ok, Err, refl, sym, ap, ◌∙◌, subst, inl, inr, length, take, arith}
+use Rattle.std.specs.Prelude.{slice_get, slice_set, nat_eq, nat_lt, IfOk, is_some}
 use Rattle.std.proofs.lemmas.Bool.{cases_eq, eq-eqb, ne_eqb, lt-ltb}
 use Rattle.std.proofs.lemmas.List.{length-map}
-use Rattle.mg_link.specs.Causes.{Rose}
+use Rattle.mg_link.specs.Acts.{PendsAfter}
+use Rattle.mg_link.specs.Causes.{RoseJust}
 use Rattle.mg_link.specs.declared.error.Error.{Error}
+use Rattle.mg_change.specs.Closings.{closing_ticket}
+use Rattle.mg_change.specs.Openings.{opening_ticket}
+use Rattle.mg_change.specs.Phases.{AtRest, ticket_in}
 use Rattle.mg_change.specs.Polls.{Pends}
 use Rattle.mg_change.specs.declared.closing.Closing.{Closing}
 use Rattle.mg_change.specs.declared.event_poll.EventPoll.{EventPoll}
 use Rattle.mg_change.specs.declared.event_poll.EventPoll.TheVariants as polls
 use Rattle.mg_change.specs.declared.opening.Opening.{Opening}
 use Rattle.mg_change.specs.declared.stream.ChangeStream.{ChangeStream}
-use Rattle.mg_jobs.specs.Counts.{PendedAs}
+use Rattle.mg_jobs.specs.Counts.{PendedAs, one_if}
 use Rattle.mg_jobs.specs.Follows.{HasEnded, HasGiven, IsFailed, IsUnfinished}
 use Rattle.mg_jobs.specs.Headline.{DoTasks, Does, OutcomeOf, OutcomesOf}
 use Rattle.mg_script.specs.Plan as plan
 use Rattle.mg_script.specs.Plan.{Task, task, tasks}
 use Rattle.mg_jobs.specs.Playing.{IsSameFollow, end_of, follow_ended, inserts_ended}
-use Rattle.mg_jobs.specs.Progress.{AllAt, AllPlayed, Came, CloseGoes, FollowAt, FollowGoes, FollowPlayed, GoesBy, InsertAt, InsertGoes, InsertPlayed, InsertReady, IsAt, IsFinished, IsPlayed, JobGoes, OpenPlayed, RestGoes, TurnsBy, calls_of, came, one_unless, pended_since, pends_last, turns_done}
+use Rattle.mg_jobs.specs.Progress.{AllAt, AllPlayed, Came, CloseGoes, FollowAt, FollowGoes, FollowPlayed, GoesBy, InsertAt, InsertGoes, InsertPlayed, InsertReady, IsAt, IsFinished, IsPlayed, JobGoes, NotOpen, OpenPlayed, RestGoes, TurnsBy, calls_of, came, one_unless, pended_since, pends_last, turns_done}
 use Rattle.mg_jobs.specs.Runs.{has_ended, idle}
 use Rattle.mg_script.specs.declared.outcome.Ended.{Ended}
 use Rattle.mg_script.specs.declared.outcome.Ended.TheVariants as ended
@@ -33,6 +37,7 @@ use Rattle.mg_jobs.specs.declared.run.Player.{Player}
 use Rattle.mg_jobs.specs.declared.run.Player.TheVariants as player
 use Rattle.mg_script.specs.declared.script.Job.{Job}
 use Rattle.mg_link.proofs.Owners.{same_some}
+use Rattle.mg_change.proofs.Awaiting.{rests_without}
 use Rattle.mg_store.proofs.Standing.{get_set_other, get_set_same}
 use Rattle.mg_jobs.proofs.Knowing.{get_length, length_take, map_joined, one_more, take_next}
 
@@ -41,30 +46,39 @@ use Rattle.mg_jobs.proofs.Knowing.{get_length, length_take, map_joined, one_more
 pended_on : (pended : Bool) (old mid new : ℕ) → mid ≡ old → PendedAs pended mid new → PendedAs pended old new
 pended_on pended old mid new same h = subst (λ m. PendedAs pended m new) same h
 
-pub never_open : (before now : ℕ) (c c' : Came) → now ≡ before → IsFailed c'.opened → c'.closed ≡ c.closed → c'.answered ≡ c.answered → FollowGoes before now stage.Unopened c stage.Ended c'
-never_open before now c c' same failed closed answered = (
+pub never_open : (before now : ℕ) (s : Stage) (c c' : Came) → ((calls k : ℕ) (last : Bool) → FollowAt calls s c k last → NotOpen calls c k) → now ≡ before → IsFailed c'.opened → c'.closed ≡ c.closed → c'.answered ≡ c.answered → c'.alive ≡ c.alive → FollowGoes before now s c stage.Ended c'
+never_open before now s c c' not_open same failed closed answered alive = (
   false,
   same,
   λ calls k last at. inl (record {
     opened = failed;
-    closed = subst (λ e. IsUnfinished e) (sym closed) at.closed;
-    no_answer = answered ∙ at.no_answer;
+    closed = subst (λ e. IsUnfinished e) (sym closed) (not_open calls k last at).closed;
+    no_answer = answered ∙ (not_open calls k last at).no_answer;
+    no_more = alive ∙ (not_open calls k last at).no_more;
     some = omega arith;
   }),
 )
 
-pub open_waits : (before now : ℕ) (o o' : Opening) (c : Came) → Rose before now → FollowGoes before now (stage.Opens o) c (stage.Opens o') c
-open_waits before now o o' c rose = (
+pub open_waits : (before now : ℕ) (o o' : Opening) (c : Came) → PendsAfter 1 (opening_ticket o') before now → FollowGoes before now (stage.Opens o) c (stage.Opens o') c
+open_waits before now o o' c waits = (
   true,
-  rose,
-  λ calls k last at. record {
-    none = omega (arith, at.none);
-    opened = at.opened;
-    closed = at.closed;
-    no_answer = at.no_answer;
-    all_left = at.all_left;
-  },
+  waits.1,
+  λ calls k last at. (
+    record {
+      none = omega (arith, at.0.none);
+      opened = at.0.opened;
+      closed = at.0.closed;
+      no_answer = at.0.no_answer;
+      all_left = at.0.all_left;
+      no_more = at.0.no_more;
+    },
+    waits.0,
+  ),
 )
+
+-- an opening that has sent nothing yet
+pub begins_open : (before now : ℕ) (o : Opening) (c c' : Came) (s : Stage) → opening_ticket o ≡ None → FollowGoes before now (stage.Opens o) c s c' → FollowGoes before now stage.Unopened c s c'
+begins_open before now o c c' s none g = (g.0, g.1, λ calls k last at. g.2 calls k last (at.0, ap (λ t. is_some t) none ∙ sym at.1))
 
 pub open_goes : (old mid new : ℕ) (o : Opening) (c c' c'' : Came) (s : Stage) → mid ≡ old → HasGiven c'.opened → c'.closed ≡ c.closed → c'.answered ≡ c.answered → c'.left ≡ c.left → RestGoes mid new c' s c'' → FollowGoes old new (stage.Opens o) c s c''
 open_goes old mid new o c c' c'' s same given closed answered left g = (
@@ -72,23 +86,20 @@ open_goes old mid new o c c' c'' s same given closed answered left g = (
   pended_on g.0 old mid new same g.1,
   λ calls k last at. g.2 calls k last (record {
     opened = given;
-    closed = subst (λ e. IsUnfinished e) (sym closed) at.closed;
-    answered = omega (arith, answered, at.no_answer, at.none);
-    rest = omega (arith, answered, left, at.no_answer, at.all_left);
+    closed = subst (λ e. IsUnfinished e) (sym closed) at.0.closed;
+    answered = omega (arith, answered, at.0.no_answer, at.0.none);
+    rest = omega (arith, answered, left, at.0.no_answer, at.0.all_left);
   }),
 )
 
-pub stays_open : (before : ℕ) (stream : ChangeStream) (c : Came) → 0 < c.left → RestGoes before before c (stage.Open stream) c
-stays_open before stream c more = (
+pub stays_open : (before : ℕ) (stream : ChangeStream) (c : Came) → AtRest stream.phase → 0 < c.left → RestGoes before before c (stage.Open stream) c
+stays_open before stream c rests more = (
   false,
   refl,
-  λ calls k last at. record {
-    opened = at.opened;
-    closed = at.closed;
-    answered = omega (arith, at.answered);
-    rest = at.rest;
-    more = more;
-  },
+  λ calls k last at. (
+    record { opened = at.opened; closed = at.closed; answered = omega (arith, at.answered); rest = at.rest; more = more },
+    ap (λ t. is_some t) (rests_without stream.phase rests),
+  ),
 )
 
 pub goes_to_close : (before now : ℕ) (c c' : Came) (s : Stage) → c.left ≡ 0 → CloseGoes before now c s c' → RestGoes before now c s c'
@@ -103,46 +114,42 @@ goes_to_close before now c c' s none g = (
   }),
 )
 
-pends_so : (poll : EventPoll) (before now : ℕ) → poll ≡ polls.Pending → Pends poll before now → Rose before now
-pends_so poll before now is h = subst (λ q. Pends q before now) is h
+pends_not : (poll : EventPoll) (ticket : Option ℕ) (before now : ℕ) → HasEnded poll → Pends poll ticket before now → now ≡ before
+pends_not polls.Pending ticket before now over h = absurd over
+pends_not (polls.Ready event) ticket before now over h = h
+pends_not (polls.Failed e) ticket before now over h = h
 
-pends_not : (poll : EventPoll) (before now : ℕ) → HasEnded poll → Pends poll before now → now ≡ before
-pends_not polls.Pending before now over h = absurd over
-pends_not (polls.Ready event) before now over h = h
-pends_not (polls.Failed e) before now over h = h
+pub ask_waits : (before now : ℕ) (stream stream' : ChangeStream) (c : Came) (poll : EventPoll) → poll ≡ polls.Pending → Pends poll (ticket_in stream'.phase) before now → FollowGoes before now (stage.Open stream) c (stage.Open stream') c
+ask_waits before now stream stream' c poll is pended =
+    let waits = subst (λ q. Pends q (ticket_in stream'.phase) before now) is pended in (
+      true,
+      waits.1,
+      λ calls k last at. (
+        record { opened = at.0.opened; closed = at.0.closed; answered = omega (arith, at.0.answered); rest = at.0.rest; more = at.0.more },
+        waits.0,
+      ),
+    )
 
-pub ask_waits : (before now : ℕ) (stream stream' : ChangeStream) (c : Came) (poll : EventPoll) → poll ≡ polls.Pending → Pends poll before now → FollowGoes before now (stage.Open stream) c (stage.Open stream') c
-ask_waits before now stream stream' c poll is pended = (
-  true,
-  pends_so poll before now is pended,
-  λ calls k last at. record {
-    opened = at.opened;
-    closed = at.closed;
-    answered = omega (arith, at.answered);
-    rest = at.rest;
-    more = at.more;
-  },
-)
-
-pub ask_goes : (old mid new : ℕ) (stream : ChangeStream) (c c' c'' : Came) (s : Stage) (poll : EventPoll) → HasEnded poll → Pends poll old mid → c'.opened ≡ c.opened → c'.closed ≡ c.closed → c'.answered ≡ c.answered + 1 → c'.left ≡ c.left - 1 → RestGoes mid new c' s c'' → FollowGoes old new (stage.Open stream) c s c''
-ask_goes old mid new stream c c' c'' s poll over pended opened closed answered left g = (
+pub ask_goes : (old mid new : ℕ) (stream : ChangeStream) (c c' c'' : Came) (s : Stage) (poll : EventPoll) (ticket : Option ℕ) → HasEnded poll → Pends poll ticket old mid → c'.opened ≡ c.opened → c'.closed ≡ c.closed → c'.answered ≡ c.answered + 1 → c'.left ≡ c.left - 1 → RestGoes mid new c' s c'' → FollowGoes old new (stage.Open stream) c s c''
+ask_goes old mid new stream c c' c'' s poll ticket over pended opened closed answered left g = (
   g.0,
-  pended_on g.0 old mid new (pends_not poll old mid over pended) g.1,
+  pended_on g.0 old mid new (pends_not poll ticket old mid over pended) g.1,
   λ calls k last at. g.2 calls k last (record {
-    opened = subst (λ e. HasGiven e) (sym opened) at.opened;
-    closed = subst (λ e. IsUnfinished e) (sym closed) at.closed;
-    answered = omega (arith, answered, at.answered);
-    rest = omega (arith, answered, left, at.rest, at.more);
+    opened = subst (λ e. HasGiven e) (sym opened) at.0.opened;
+    closed = subst (λ e. IsUnfinished e) (sym closed) at.0.closed;
+    answered = omega (arith, answered, at.0.answered);
+    rest = omega (arith, answered, left, at.0.rest, at.0.more);
   }),
 )
 
-pub close_waits : (before now : ℕ) (closing : Closing) (c : Came) → Rose before now → CloseGoes before now c (stage.Closes closing) c
-close_waits before now closing c rose = (
+pub close_waits : (before now : ℕ) (closing : Closing) (c : Came) → PendsAfter 1 (closing_ticket closing) before now → CloseGoes before now c (stage.Closes closing) c
+close_waits before now closing c waits = (
   true,
-  rose,
+  waits.1,
   λ calls k last at. (
     record { opened = at.opened; closed = at.closed; answered = at.answered; all = omega (arith, at.all) },
     refl,
+    waits.0,
   ),
 )
 
@@ -164,7 +171,7 @@ closing_goes before now closing c c' s g = (g.0, g.1, λ calls k last at. g.2 ca
 ended_on : (calls k : ℕ) (last last' : Bool) (c : Came) → FollowAt calls stage.Ended c k last → FollowAt calls stage.Ended c (k + 1) last'
 ended_on calls k last last' c at =
     elim at [
-      | inl never ↦ inl (record { opened = never.opened; closed = never.closed; no_answer = never.no_answer; some = omega arith })
+      | inl never ↦ inl (record { opened = never.opened; closed = never.closed; no_answer = never.no_answer; no_more = never.no_more; some = omega arith })
       | inr closed ↦ inr (record { opened = closed.opened; closed = closed.closed; answered = closed.answered; all = omega (arith, closed.all) })
     ]
 
@@ -173,13 +180,13 @@ stays_ended before c = (false, refl, λ calls k last at. ended_on calls k last f
 
 pub same_came : (f f' : FollowPlayer) → IsSameFollow f f' → (calls k : ℕ) (last : Bool) → FollowAt calls f.stage (came f) k last → FollowAt calls f'.stage (came f') k last
 same_came f f' same calls k last at =
-    let is : came f' ≡ came f = cc (same.opened_same, same.closed_same, ap (λ xs. length xs) same.answers_same, same.left_same) in
+    let is : came f' ≡ came f = cc (same.opened_same, same.closed_same, ap (λ xs. length xs) same.answers_same, same.left_same, same.alive_same) in
     subst (λ s. FollowAt calls s (came f') k last) (sym same.stage_same) (subst (λ c. FollowAt calls f.stage c k last) (sym is) at)
 
 -- ---- an insert
 
-pub insert_waits : (before now : ℕ) (p p' : InsertStage) → Rose before now → ((k : ℕ) → InsertReady p k → InsertAt p' k) → InsertGoes before now p p'
-insert_waits before now p p' rose so = (true, rose, λ calls k last at. subst (λ n. InsertAt p' n) (omega arith) (so k at))
+pub insert_waits : (before now : ℕ) (p p' : InsertStage) → RoseJust 1 before now → ((k : ℕ) → InsertReady p k → InsertAt p' k true) → InsertGoes before now p p'
+insert_waits before now p p' rose so = (true, rose, λ calls k last at. subst (λ n. InsertAt p' n true) (omega arith) (so k at))
 
 pub insert_done : (before now : ℕ) (p : InsertStage) (e : Ended ℕ) → now ≡ before → IsFinished e → InsertGoes before now p (inserts.Ended e)
 insert_done before now p e same finished = (false, same, λ calls k last at. (omega arith, finished))
@@ -187,10 +194,10 @@ insert_done before now p e same finished = (false, same, λ calls k last at. (om
 pub insert_over : (before : ℕ) (e : Ended ℕ) → InsertGoes before before (inserts.Ended e) (inserts.Ended e)
 insert_over before e = (false, refl, λ calls k last at. (omega arith, at))
 
-insert_stays : (k : ℕ) (p : InsertStage) → inserts_ended p ≡ true → InsertAt p k → InsertAt p (k + 1)
-insert_stays k inserts.Unsent over at = absurd cc
-insert_stays k (inserts.Goes inserting) over at = absurd cc
-insert_stays k (inserts.Ended e) over at = (omega arith, at.1)
+insert_stays : (k : ℕ) (last : Bool) (p : InsertStage) → inserts_ended p ≡ true → InsertAt p k last → InsertAt p (k + 1) false
+insert_stays k last inserts.Unsent over at = absurd cc
+insert_stays k last (inserts.Goes inserting) over at = absurd cc
+insert_stays k last (inserts.Ended e) over at = (omega arith, at.1)
 
 -- ---- a job
 
@@ -203,20 +210,25 @@ follow_stays calls k last stage.Ended c over at = ended_on calls k last false c 
 
 -- the turn of a job that has ended counts as one that did not pend
 pub over_turns : (p : Player) → has_ended p ≡ true → TurnsBy idle p p
-over_turns (player.Insert job) over calls k last at = insert_stays k job.stage over at
+over_turns (player.Insert job) over calls k last at = insert_stays k last job.stage over at
 over_turns (player.Follow job) over calls k last at = follow_stays calls k last job.stage (came job) over at
 over_turns player.Put over calls k last at = tt
 over_turns player.Get over calls k last at = tt
 
-counted_so : (pended : Bool) (now : ℕ) → PendedAs pended 0 now → nat_lt 0 now ≡ pended
-counted_so true now h = let some : 1 ≤ now = h in lt-ltb 0 now (omega (arith, some))
-counted_so false now h = ap (nat_lt 0) h
+counted_so : (pended : Bool) (now : ℕ) → PendedAs pended 0 now → (nat_lt 0 now ≡ pended) × (now ≡ one_if pended)
+counted_so true now h = let some = h.0 in let one = h.1 in (lt-ltb 0 now (omega (arith, some)), omega (arith, some, one))
+counted_so false now h = (ap (nat_lt 0) h, h)
 
--- over a link that counts from 0 the note is whether the turn pended
-pub noted_so : (before now : ℕ) (note : Turned) (p p' : Player) → before ≡ 0 → note.pended ≡ nat_lt 0 now → JobGoes before now p p' → GoesBy note p p'
-noted_so before now note p p' none is g calls k last at =
-    let same : note.pended ≡ g.0 = is ∙ counted_so g.0 now (subst (λ m. PendedAs g.0 m now) none g.1) in
-    subst (λ b. IsAt calls p' (k + one_unless b) b) (sym same) (g.2 calls k last at)
+-- over a link that counts from 0 the note is whether the turn pended, which it did once
+module _ (before now : ℕ) (note : Turned) (p p' : Player) (none : before ≡ 0) (is : note.pended ≡ nat_lt 0 now) (g : JobGoes before now p p') where
+  its_pends : (nat_lt 0 now ≡ g.0) × (now ≡ one_if g.0)
+  its_pends = counted_so g.0 now (subst (λ m. PendedAs g.0 m now) none g.1)
+
+  pub noted_so : GoesBy note p p'
+  noted_so calls k last at = subst (λ b. IsAt calls p' (k + one_unless b) b) (sym (is ∙ its_pends.0)) (g.2 calls k last at)
+
+  pub noted_once : now ≡ one_if note.pended
+  noted_once = its_pends.1 ∙ ap one_if (sym (is ∙ its_pends.0))
 
 -- ---- all jobs
 
@@ -277,27 +289,27 @@ at_next ts order k n notes players there all = subst (λ ns. AllAt ts ns notes p
 
 -- ---- at the end
 
-insert_played : (k : ℕ) (p : InsertStage) → InsertAt p k → InsertPlayed (end_of p) k
-insert_played k inserts.Unsent at = at
-insert_played k (inserts.Goes inserting) at = at
-insert_played k (inserts.Ended ended.Unfinished) at = absurd at.1
-insert_played k (inserts.Ended (ended.Gave n)) at = at.0
-insert_played k (inserts.Ended (ended.Failed e)) at = at.0
+insert_played : (k : ℕ) (last : Bool) (p : InsertStage) → InsertAt p k last → InsertPlayed (end_of p) k
+insert_played k last inserts.Unsent at = at.0
+insert_played k last (inserts.Goes inserting) at = at.0
+insert_played k last (inserts.Ended ended.Unfinished) at = absurd at.1
+insert_played k last (inserts.Ended (ended.Gave n)) at = at.0
+insert_played k last (inserts.Ended (ended.Failed e)) at = at.0
 
-given_so : (opened closed : Ended (Unit {0})) (calls answered k : ℕ) (last : Bool) → HasGiven opened → OpenPlayed closed calls answered k last → FollowPlayed opened closed calls answered k last
-given_so ended.Unfinished closed calls answered k last given h = absurd given
-given_so (ended.Gave x) closed calls answered k last given h = h
-given_so (ended.Failed e) closed calls answered k last given h = absurd given
+given_so : (opened closed : Ended (Unit {0})) (calls answered : ℕ) (alive : Bool) (k : ℕ) (last : Bool) → HasGiven opened → OpenPlayed closed calls answered k last → FollowPlayed opened closed calls answered alive k last
+given_so ended.Unfinished closed calls answered alive k last given h = absurd given
+given_so (ended.Gave x) closed calls answered alive k last given h = h
+given_so (ended.Failed e) closed calls answered alive k last given h = absurd given
 
-not_open_so : (opened closed : Ended (Unit {0})) (calls answered k : ℕ) (last : Bool) → IsUnfinished opened → (k ≡ 0) × (answered ≡ 0) × IsUnfinished closed → FollowPlayed opened closed calls answered k last
-not_open_so ended.Unfinished closed calls answered k last un h = h
-not_open_so (ended.Gave x) closed calls answered k last un h = absurd un
-not_open_so (ended.Failed e) closed calls answered k last un h = absurd un
+not_open_so : (opened closed : Ended (Unit {0})) (calls answered : ℕ) (alive : Bool) (k : ℕ) (last : Bool) → IsUnfinished opened → (k ≡ 0) × (answered ≡ 0) × (alive ≡ false) × IsUnfinished closed → FollowPlayed opened closed calls answered alive k last
+not_open_so ended.Unfinished closed calls answered alive k last un h = h
+not_open_so (ended.Gave x) closed calls answered alive k last un h = absurd un
+not_open_so (ended.Failed e) closed calls answered alive k last un h = absurd un
 
-failed_so : (opened closed : Ended (Unit {0})) (calls answered k : ℕ) (last : Bool) → IsFailed opened → (1 ≤ k) × (answered ≡ 0) × IsUnfinished closed → FollowPlayed opened closed calls answered k last
-failed_so ended.Unfinished closed calls answered k last failed h = absurd failed
-failed_so (ended.Gave x) closed calls answered k last failed h = absurd failed
-failed_so (ended.Failed e) closed calls answered k last failed h = h
+failed_so : (opened closed : Ended (Unit {0})) (calls answered : ℕ) (alive : Bool) (k : ℕ) (last : Bool) → IsFailed opened → (1 ≤ k) × (answered ≡ 0) × (alive ≡ false) × IsUnfinished closed → FollowPlayed opened closed calls answered alive k last
+failed_so ended.Unfinished closed calls answered alive k last failed h = absurd failed
+failed_so (ended.Gave x) closed calls answered alive k last failed h = absurd failed
+failed_so (ended.Failed e) closed calls answered alive k last failed h = h
 
 open_so : (closed : Ended (Unit {0})) (calls answered k : ℕ) (last : Bool) → IsUnfinished closed → ((answered + 1 ≡ k) × (answered < calls)) ⊎ ((answered ≡ calls) × (k ≡ calls) × (last ≡ true)) → OpenPlayed closed calls answered k last
 open_so ended.Unfinished calls answered k last un h = h
@@ -309,21 +321,21 @@ closed_so ended.Unfinished calls answered k last finished h = absurd finished
 closed_so (ended.Gave x) calls answered k last finished h = h
 closed_so (ended.Failed e) calls answered k last finished h = h
 
-follow_played : (calls k : ℕ) (last : Bool) (s : Stage) (c : Came) → FollowAt calls s c k last → FollowPlayed c.opened c.closed calls c.answered k last
-follow_played calls k last stage.Unopened c at = not_open_so c.opened c.closed calls c.answered k last at.opened (at.none, at.no_answer, at.closed)
-follow_played calls k last (stage.Opens opening) c at = not_open_so c.opened c.closed calls c.answered k last at.opened (at.none, at.no_answer, at.closed)
-follow_played calls k last (stage.Open stream) c at = given_so c.opened c.closed calls c.answered k last at.opened (open_so c.closed calls c.answered k last at.closed (inl (at.answered, omega (arith, at.rest, at.more))))
-follow_played calls k last (stage.Closes closing) c at = given_so c.opened c.closed calls c.answered k last at.0.opened (open_so c.closed calls c.answered k last at.0.closed (inr (at.0.answered, at.0.all, at.1)))
+follow_played : (calls k : ℕ) (last : Bool) (s : Stage) (c : Came) → FollowAt calls s c k last → FollowPlayed c.opened c.closed calls c.answered c.alive k last
+follow_played calls k last stage.Unopened c at = not_open_so c.opened c.closed calls c.answered c.alive k last at.0.opened (at.0.none, at.0.no_answer, at.0.no_more, at.0.closed)
+follow_played calls k last (stage.Opens opening) c at = not_open_so c.opened c.closed calls c.answered c.alive k last at.0.opened (at.0.none, at.0.no_answer, at.0.no_more, at.0.closed)
+follow_played calls k last (stage.Open stream) c at = given_so c.opened c.closed calls c.answered c.alive k last at.0.opened (open_so c.closed calls c.answered k last at.0.closed (inl (at.0.answered, omega (arith, at.0.rest, at.0.more))))
+follow_played calls k last (stage.Closes closing) c at = given_so c.opened c.closed calls c.answered c.alive k last at.0.opened (open_so c.closed calls c.answered k last at.0.closed (inr (at.0.answered, at.0.all, at.1)))
 follow_played calls k last stage.Ended c at =
     elim at [
-      | inl never ↦ failed_so c.opened c.closed calls c.answered k last never.opened (never.some, never.no_answer, never.closed)
-      | inr closed ↦ given_so c.opened c.closed calls c.answered k last closed.opened (closed_so c.closed calls c.answered k last closed.closed (closed.answered, closed.all))
+      | inl never ↦ failed_so c.opened c.closed calls c.answered c.alive k last never.opened (never.some, never.no_answer, never.no_more, never.closed)
+      | inr closed ↦ given_so c.opened c.closed calls c.answered c.alive k last closed.opened (closed_so c.closed calls c.answered k last closed.closed (closed.answered, closed.all))
     ]
 
 played_at : (t : Task) (p : Player) (r : Outcome) (k : ℕ) (last : Bool) → Does t p → OutcomeOf p r → IsAt (calls_of t) p k last → IsPlayed t k last r
 played_at (plan.put db bucket name id chunk pieces) p r k last does of at = tt
 played_at (plan.get db bucket id read) p r k last does of at = tt
-played_at (plan.insert ns docs) (player.Insert job) r k last does of at = subst (λ (x : Outcome). IsPlayed (plan.insert ns docs) k last x) (sym of) (insert_played k job.stage at)
+played_at (plan.insert ns docs) (player.Insert job) r k last does of at = subst (λ (x : Outcome). IsPlayed (plan.insert ns docs) k last x) (sym of) (insert_played k last job.stage at)
 played_at (plan.insert ns docs) (player.Follow job) r k last does of at = absurd does
 played_at (plan.insert ns docs) player.Put r k last does of at = absurd does
 played_at (plan.insert ns docs) player.Get r k last does of at = absurd does

@@ -6,7 +6,7 @@ use Rattle.mg_bson.specs.Raw.{fields}
 use Rattle.mg_bson.specs.Reading.{doc}
 use Rattle.mg_link.specs.Exec.{FailsAs, FailsByReply, IsSuccess}
 use Rattle.mg_link.specs.History.{Step, state_of}
-use Rattle.mg_link.specs.Link.{Told}
+use Rattle.mg_link.specs.Link.{Awaited, Told}
 use Rattle.mg_link.specs.Log.{Sight, fault, reply, Call}
 use Rattle.mg_link.specs.Namespace.{Space, Target, space, target}
 use Rattle.mg_link.specs.Reply.{verdict_of}
@@ -28,15 +28,15 @@ use Rattle.mg_ops.specs.declared.change_stream.WatchArgs.{WatchArgs}
 use Rattle.mg_ops.specs.declared.cursor_reply.CursorInformation.{CursorInformation}
 use Rattle.mg_ops.proofs.Asking.{asks_to_insert}
 use Rattle.mg_change.specs.Calls.{HeardAt, HeardBy, HeardLast, Past}
-use Rattle.mg_change.specs.Causes.{CallEmpty, CallFailed, CallFails, CallGave, CallNone, Called, CannotBuild, MayLose, MoreFails, Next, Replied, Resumes, Standing, Stays, TellsCursor, more_command, remembered_empty, resume_command}
+use Rattle.mg_change.specs.Causes.{CallFails, Called, CannotBuild, Standing, more_command, resume_command}
 use Rattle.mg_change.specs.Causes as causes
 use Rattle.mg_change.specs.Closings.{ids_left}
 use Rattle.mg_change.specs.ClosingCauses.{NotKilled, last_command}
 use Rattle.mg_change.specs.ClosingCauses as closings
-use Rattle.mg_change.specs.OpeningCauses.{Opened, OpeningFails}
+use Rattle.mg_change.specs.OpeningCauses.{OpeningFails}
 use Rattle.mg_change.specs.OpeningCauses as openings
 use Rattle.mg_change.specs.Openings.{opening_command}
-use Rattle.mg_jobs.specs.Causes.{AllCaused, AllSentIn, Answered, ClosedBy, Course, FollowCaused, InsertEnds, OpenCaused, OpenFailed, OutcomeCaused, SentIn, course, sent_at}
+use Rattle.mg_jobs.specs.Causes.{AllCaused, AllSentIn, Answered, Closed, CloseCaused, Course, FollowCaused, InsertEnds, OpenCaused, OpenFailed, OutcomeCaused, SentIn, course, sent_at}
 use Rattle.mg_jobs.specs.Completing.{AllWell, AnswerWell, AnswersAreWell, AnswersWell, AreFresh, CallsWell, EndsWell, FollowWell, InsertWell, IsExcused, IsExcusedInsert, OutcomeWell, SendFresh, asks, kills, opens, resumes}
 use Rattle.mg_jobs.specs.Counts.{Faultless, LosesNothing}
 use Rattle.mg_jobs.specs.Drawing.{as_sent}
@@ -197,32 +197,36 @@ never_unfinished : (count answered k : ℕ) (pended : Bool) → OpenPlayed {A = 
 never_unfinished count answered k pended (inl more) turns = omega arith
 never_unfinished count answered k pended (inr all) turns = omega arith
 
-closed_well : {A : Type 0} (are_its : WatchArgs → Type 0) (closed : Ended A) (count answered k : ℕ) (pended : Bool) (past : Past) (last : Standing) → OpenPlayed closed count answered k pended → suc count ≤ k → IsServed past → ClosedBy past last closed → (answered ≡ count) × EndsWell are_its closed
-closed_well are_its ended.Unfinished count answered k pended past last played turns served by = absurd (never_unfinished count answered k pended played turns)
-closed_well are_its (ended.Gave x) count answered k pended past last played turns served by = (played.0, tt)
-closed_well are_its (ended.Failed e) count answered k pended past last played turns served by = (played.0, kill_well are_its past last.cursor e served by.why)
+module _ (awaited : Awaited) (c : Course) (i : ℕ) (begun calls : List Call) (wire : ℤ) (whole : length begun ≡ c.begun) (faultless : Faultless begun calls) (well : AnswersWell c i calls) where
+  served_so : {A : Type 0} (k : ℕ) (last : Standing) (closed : Ended A) (close : Closed c i k calls wire last closed) → IsServed (sent_at close.places calls wire)
+  served_so k last closed close = serves c i k begun calls wire close.places whole faultless well close.sent
+
+  closed_well : {A : Type 0} (are_its : WatchArgs → Type 0) (closed : Ended A) (count answered k : ℕ) (pended : Bool) (last : Standing) → OpenPlayed closed count answered k pended → suc count ≤ k → CloseCaused awaited c i count answered calls wire last closed → (answered ≡ count) × EndsWell are_its closed
+  closed_well are_its ended.Unfinished count answered k pended last played turns close = absurd (never_unfinished count answered k pended played turns)
+  closed_well are_its (ended.Gave x) count answered k pended last played turns close = (played.0, tt)
+  closed_well are_its (ended.Failed e) count answered k pended last played turns close = (played.0, kill_well are_its (sent_at close.places calls wire) last.cursor e (served_so answered last (ended.Failed e) close) close.by.why)
 
 -- ---- a follow
 
 size_fits : (on : Target) (start : Begin) (filter : Option Fields) (batch : Option ℕ) → (SizePasses batch → ⊥) → (args : WatchArgs) → IsArgsFor on start filter batch args → SizePasses args.options.batch_size → ⊥
 size_fits on start filter batch small args are passes = small (subst SizePasses (ap (λ (o : ChangeStreamOptions). o.batch_size) are.options_are) passes)
 
-module _ (c : Course) (i : ℕ) (begun calls : List Call) (wire : ℤ) (whole : length begun ≡ c.begun) (faultless : Faultless begun calls) (well : AnswersWell c i calls) (on : Target) (start : Begin) (filter : Option Fields) (batch : Option ℕ) (small : SizePasses batch → ⊥) where
-  open_well : {A : Type 0} (count k : ℕ) (pended : Bool) (said : List Answer) (token : Option Tree) (alive : Bool) (closed : Ended A) → OpenCaused c i calls wire on start filter batch said token alive closed → OpenPlayed closed count (length said) k pended → suc count ≤ k
+module _ (awaited : Awaited) (c : Course) (i : ℕ) (begun calls : List Call) (wire : ℤ) (whole : length begun ≡ c.begun) (faultless : Faultless begun calls) (well : AnswersWell c i calls) (on : Target) (start : Begin) (filter : Option Fields) (batch : Option ℕ) (small : SizePasses batch → ⊥) where
+  open_well : {A : Type 0} (count k : ℕ) (pended : Bool) (said : List Answer) (token : Option Tree) (alive : Bool) (closed : Ended A) → OpenCaused awaited c i count calls wire on start filter batch said token alive closed → OpenPlayed closed count (length said) k pended → suc count ≤ k
       → CallsWell (IsArgsFor on start filter batch) count said closed
   open_well count k pended said token alive closed o played turns =
       let fits = size_fits on start filter batch small in
       let a = o.answers in
       let stands = opened_well (IsArgsFor on start filter batch) (sent_at a.places calls wire) (honest_over well.history calls well.legal well.stands a.places wire) o.args o.args_are a.first a.opened in
       let all = calls_well c i begun calls wire whole faultless well (IsArgsFor on start filter batch) fits a.first a.owns said o.last (λ k own there. (suc k, a.sent_each k own there)) a.answered stands in
-      let end = closed_well (IsArgsFor on start filter batch) closed count (length said) k pended (sent_at o.close.places calls wire) o.last played turns (serves c i (length said) begun calls wire o.close.places whole faultless well o.close.sent) o.close.by in
+      let end = closed_well awaited c i begun calls wire whole faultless well (IsArgsFor on start filter batch) closed count (length said) k pended o.last played turns o.close in
       record { all = end.0; answered = all.1; closes = end.1 }
 
   unopened_well : (e : Error) → OpenFailed c i calls wire on start filter batch e → IsExcused (IsArgsFor on start filter batch) e
   unopened_well e f =
       opening_well (IsArgsFor on start filter batch) (size_fits on start filter batch small) (sent_at f.places calls wire) (serves c i 0 begun calls wire f.places whole faultless well f.sent) f.args f.args_are e f.fails
 
-  follow_well : {A : Type 0} (opened : Ended A) (count k : ℕ) (pended : Bool) (said : List Answer) (token : Option Tree) (alive : Bool) (closed : Ended A) → FollowCaused c i calls wire on start filter batch opened said token alive closed → FollowPlayed opened closed count (length said) k pended → suc count ≤ k
+  follow_well : {A : Type 0} (opened : Ended A) (count k : ℕ) (pended : Bool) (said : List Answer) (token : Option Tree) (alive : Bool) (closed : Ended A) → FollowCaused awaited c i count calls wire on start filter batch opened said token alive closed → FollowPlayed opened closed count (length said) alive k pended → suc count ≤ k
       → FollowWell (IsArgsFor on start filter batch) count opened said closed
   follow_well ended.Unfinished count k pended said token alive closed caused played turns = let none_done = played.0 in omega arith
   follow_well (ended.Gave x) count k pended said token alive closed caused played turns = open_well count k pended said token alive closed caused played turns
@@ -234,7 +238,7 @@ module _ (c : Course) (i : ℕ) (begun calls : List Call) (wire : ℤ) (whole : 
 
 -- ---- an insert
 
-module _ (c : Course) (i : ℕ) (begun calls : List Call) (wire : ℤ) (whole : length begun ≡ c.begun) (faultless : Faultless begun calls) (well : AnswersWell c i calls) (ns : Space) (docs : List Fields) (named : IsNamed ns) (fresh : SendFresh well.own well.history) where
+module _ (awaited : Awaited) (c : Course) (i : ℕ) (begun calls : List Call) (wire : ℤ) (whole : length begun ≡ c.begun) (faultless : Faultless begun calls) (well : AnswersWell c i calls) (ns : Space) (docs : List Fields) (named : IsNamed ns) (fresh : SendFresh well.own well.history) where
   module _ (places : List ℕ) (sent : AllSentIn c i 0 places) where
     -- its server lists no failure
     never_listed : (piece : List Fields) (bytes : List ℕ) (k : ErrorKind) → HeardBy (sent_at places calls wire) (insert_command ns piece) (reply bytes) → ListsAs (length piece) (fields bytes) k → ⊥
@@ -255,27 +259,27 @@ module _ (c : Course) (i : ℕ) (begun calls : List Call) (wire : ℤ) (whole : 
     insert_fails e (cannot_encode d part by) = inr (inr (d, part, by))
     insert_fails e (cannot_insert piece part by) = inr (inl (piece, part, by))
 
-  insert_well : (end : Ended ℕ) (k : ℕ) → InsertEnds c i calls wire ns docs end → InsertPlayed end k → 1 ≤ k → InsertWell ns docs end
+  insert_well : (end : Ended ℕ) (k : ℕ) → InsertEnds awaited c i calls wire ns docs end → InsertPlayed end k → 1 ≤ k → InsertWell ns docs end
   insert_well ended.Unfinished k ends played turns = omega arith
   insert_well (ended.Gave n) k ends played turns = tt
   insert_well (ended.Failed e) k ends played turns = insert_fails ends.places ends.sent e ends.by
 
 -- ---- the law
 
-pub jobs_end_well : (c : Course) (i : ℕ) (begun calls : List Call) (wire : ℤ) (t : Task) (r : Outcome) → length begun ≡ c.begun → Faultless begun calls → OutcomeCaused c i calls wire t r
+pub jobs_end_well : (awaited : Awaited) (c : Course) (i : ℕ) (begun calls : List Call) (wire : ℤ) (t : Task) (r : Outcome) → length begun ≡ c.begun → Faultless begun calls → OutcomeCaused awaited c i calls wire t r
     → IsPlayed t (turns_done i c.order c.notes) (pends_last i c.order c.notes) r → OutcomeWell c i calls t r
-jobs_end_well c i begun calls wire (follow on count start filter batch) (outcome.Follow opened said token alive closed) whole faultless caused played = λ well small turns.
-    follow_well c i begun calls wire whole faultless well on start filter batch small opened count (turns_done i c.order c.notes) (pends_last i c.order c.notes) said.items token alive closed caused played turns
-jobs_end_well c i begun calls wire (follow on count start filter batch) (outcome.Insert e) whole faultless caused played = caused
-jobs_end_well c i begun calls wire (follow on count start filter batch) (outcome.Put e) whole faultless caused played = caused
-jobs_end_well c i begun calls wire (follow on count start filter batch) (outcome.Get bytes e) whole faultless caused played = caused
-jobs_end_well c i begun calls wire (insert ns docs) (outcome.Insert end) whole faultless caused played = λ well named fresh turns.
-    insert_well c i begun calls wire whole faultless well ns docs named fresh end (turns_done i c.order c.notes) caused played turns
-jobs_end_well c i begun calls wire (insert ns docs) (outcome.Follow opened said token alive closed) whole faultless caused played = caused
-jobs_end_well c i begun calls wire (insert ns docs) (outcome.Put e) whole faultless caused played = caused
-jobs_end_well c i begun calls wire (insert ns docs) (outcome.Get bytes e) whole faultless caused played = caused
-jobs_end_well c i begun calls wire (put db bucket name id chunk pieces) r whole faultless caused played = tt
-jobs_end_well c i begun calls wire (get db bucket id read) r whole faultless caused played = tt
+jobs_end_well awaited c i begun calls wire (follow on count start filter batch) (outcome.Follow opened said token alive closed) whole faultless caused played = λ well small turns.
+    follow_well awaited c i begun calls wire whole faultless well on start filter batch small opened count (turns_done i c.order c.notes) (pends_last i c.order c.notes) said.items token alive closed caused played turns
+jobs_end_well awaited c i begun calls wire (follow on count start filter batch) (outcome.Insert e) whole faultless caused played = caused
+jobs_end_well awaited c i begun calls wire (follow on count start filter batch) (outcome.Put e) whole faultless caused played = caused
+jobs_end_well awaited c i begun calls wire (follow on count start filter batch) (outcome.Get bytes e) whole faultless caused played = caused
+jobs_end_well awaited c i begun calls wire (insert ns docs) (outcome.Insert end) whole faultless caused played = λ well named fresh turns.
+    insert_well awaited c i begun calls wire whole faultless well ns docs named fresh end (turns_done i c.order c.notes) caused played turns
+jobs_end_well awaited c i begun calls wire (insert ns docs) (outcome.Follow opened said token alive closed) whole faultless caused played = caused
+jobs_end_well awaited c i begun calls wire (insert ns docs) (outcome.Put e) whole faultless caused played = caused
+jobs_end_well awaited c i begun calls wire (insert ns docs) (outcome.Get bytes e) whole faultless caused played = caused
+jobs_end_well awaited c i begun calls wire (put db bucket name id chunk pieces) r whole faultless caused played = tt
+jobs_end_well awaited c i begun calls wire (get db bucket id read) r whole faultless caused played = tt
 
 -- ---- a run
 
@@ -289,8 +293,8 @@ played_as_sent ids ts order i (follow on count start filter batch) k last r play
 played_as_sent ids ts order i (put db bucket name id chunk pieces) k last r played = played
 played_as_sent ids ts order i (get db bucket id read) k last r played = played
 
-all_well : (ids : ℕ → List ℕ) (log log' : Told) (wire : ℤ) (tasks : List Task) (order : List ℕ) (notes : List Turned) (outcomes : List Outcome) → LosesNothing log log' → AllCaused ids log log' wire tasks order notes outcomes → AllPlayed tasks order notes outcomes → AllWell ids log log' tasks order notes outcomes
-all_well ids log log' wire tasks order notes outcomes lossless caused played calls told =
+all_well : (ids : ℕ → List ℕ) (awaited : Awaited) (log log' : Told) (wire : ℤ) (tasks : List Task) (order : List ℕ) (notes : List Turned) (outcomes : List Outcome) → LosesNothing log log' → AllCaused ids awaited log log' wire tasks order notes outcomes → AllPlayed tasks order notes outcomes → AllWell ids log log' tasks order notes outcomes
+all_well ids awaited log log' wire tasks order notes outcomes lossless caused played calls told =
     let by = caused calls told in
     let kept = lossless calls told in
     let here = by.1 in
@@ -298,11 +302,11 @@ all_well ids log log' wire tasks order notes outcomes lossless caused played cal
     let same : kept.0 ≡ by.0 = cc in (
       by.0,
       by.1,
-      (λ i t r ht hr. jobs_end_well (course calls order notes) i calls by.0 wire (as_sent ids tasks order i t) r refl (subst (λ (cs : List Call). Faultless calls cs) same kept.2) (by.2 i t r ht hr) (played_as_sent ids tasks order i t (turns_done i order notes) (pends_last i order notes) r (played i t r ht hr))),
+      (λ i t r ht hr. jobs_end_well awaited (course calls order notes) i calls by.0 wire (as_sent ids tasks order i t) r refl (subst (λ (cs : List Call). Faultless calls cs) same kept.2) (by.2 i t r ht hr) (played_as_sent ids tasks order i t (turns_done i order notes) (pends_last i order notes) r (played i t r ht hr))),
     )
 
 -- the same of a run, unless memory ran out
-pub well_so : (ids : ℕ → List ℕ) (log log' : Told) (wire : ℤ) (tasks : List Task) (order : List ℕ) (result : Result Played Error) → LosesNothing log log' → IfOk result (λ p. AllCaused ids log log' wire tasks order p.turns.items p.outcomes.items) → IfOk result (λ p. AllPlayed tasks order p.turns.items p.outcomes.items)
+pub well_so : (ids : ℕ → List ℕ) (awaited : Awaited) (log log' : Told) (wire : ℤ) (tasks : List Task) (order : List ℕ) (result : Result Played Error) → LosesNothing log log' → IfOk result (λ p. AllCaused ids awaited log log' wire tasks order p.turns.items p.outcomes.items) → IfOk result (λ p. AllPlayed tasks order p.turns.items p.outcomes.items)
     → IfOk result (λ p. AllWell ids log log' tasks order p.turns.items p.outcomes.items)
-well_so ids log log' wire tasks order (Ok p) lossless caused played = all_well ids log log' wire tasks order p.turns.items p.outcomes.items lossless caused played
-well_so ids log log' wire tasks order (Err e) lossless caused played = tt
+well_so ids awaited log log' wire tasks order (Ok p) lossless caused played = all_well ids awaited log log' wire tasks order p.turns.items p.outcomes.items lossless caused played
+well_so ids awaited log log' wire tasks order (Err e) lossless caused played = tt

@@ -1,5 +1,5 @@
 -- What an insert tells goes on to hold, turn by turn.
-use Rattle.std.proofs.Common.{◌≡◌, ◌⊎◌, ℕ, ℤ, true, List, None, length, Some, refl, sym, ap, ◌∙◌, subst, inl, inr}
+use Rattle.std.proofs.Common.{◌≡◌, ◌⊎◌, ℕ, ℤ, true, List, None, length, Some, refl, sym, ap, ◌∙◌, subst, inl, inr, Bool}
 use Rattle.mg_bson.specs.Tree.{Fields}
 use Rattle.mg_link.specs.Errors.{plain}
 use Rattle.mg_link.specs.Link.{Awaited, Told}
@@ -76,10 +76,10 @@ pub turns_over : (old new : Awaited) (log log' : Told) (wire wire' : ℤ) (at : 
 turns_over old new log log' wire wire' at ds s s' same turns = subst (λ (w : ℤ). InsertTurns old new log log' w at ds s s') (sym same) turns
 
 -- an insert goes on where it was after so many turns, unless it has ended
-pub none_done : (s : InsertStage) (done : ℕ) → InsertAt s done → (0 ≡ done) ⊎ (inserts_ended s ≡ true)
-none_done inserts.Unsent done at = inl (sym at)
-none_done (inserts.Goes i) done at = inl (sym at)
-none_done (inserts.Ended end) done at = inr refl
+pub none_done : (s : InsertStage) (done : ℕ) (last : Bool) → InsertAt s done last → (0 ≡ done) ⊎ (inserts_ended s ≡ true)
+none_done inserts.Unsent done last at = inl (sym at.0)
+none_done (inserts.Goes i) done last at = inl (sym at.0)
+none_done (inserts.Ended end) done last at = inr refl
 
 -- ---- a later time
 

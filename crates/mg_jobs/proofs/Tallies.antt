@@ -1,5 +1,5 @@
 -- What is counted of a turn, poll by poll.
-use Rattle.std.proofs.Common.{◌≡◌, ◌+◌, ◌++◌, ◌∷◌, [], List, ℕ, zero, suc, Bool, true, false, cond, Option, Result, Ok, Err, IfOk, arith, refl, sym, ◌∙◌, subst}
+use Rattle.std.proofs.Common.{◌≡◌, ◌+◌, ◌<◌, ◌≤◌, ◌^◌, ◌++◌, ◌∷◌, [], List, length, ℕ, zero, suc, min, ◌-◌, Bool, true, false, Option, Result, Ok, Err, IfOk, arith, refl, sym, ◌∙◌, subst}
 use Rattle.std.specs.List.{sum_by}
 use Rattle.std.proofs.lemmas.List.Sums.{sum_by-append}
 use Rattle.mg_link.specs.declared.error.Error.{Error}
@@ -7,10 +7,12 @@ use Rattle.mg_script.specs.declared.outcome.Played.{Played}
 use Rattle.mg_script.specs.declared.outcome.Turned.{Turned}
 use Rattle.mg_link.specs.Link.{Sees, Told}
 use Rattle.mg_link.specs.Log.{Sight, fault, Call, see}
+use Rattle.mg_link.proofs.Onward.{rose_on}
 use Rattle.mg_link.proofs.Outs.{length-see}
 use Rattle.mg_change.proofs.Staying.{stays_on, stays_sees}
-use Rattle.mg_link.specs.Causes.{RoseBy}
-use Rattle.mg_jobs.specs.Counts.{AreNoted, Counted, Faultless, LosesNothing, PendedAs, StartedBy, turns_pended}
+use Rattle.mg_change.specs.Calls.{Stays}
+use Rattle.mg_link.specs.Causes.{RoseJust}
+use Rattle.mg_jobs.specs.Counts.{AreNoted, Counted, Faultless, IsNoted, LosesNothing, PendedAs, StartedBy, one_if, turns_pended}
 
 -- ---- what is lost
 
@@ -39,12 +41,12 @@ started_seen n old log log' place seen started sees calls e =
     (see r.0 seen s.0, r.5, length-see r.0 seen s.0 ∙ s.2)
 
 -- a call has seen its answer
-pub counted_seen : (old log log' : Told) (n before pends pends' : ℕ) (pended : Bool) (prompts p p' : Type 0) (place : Option ℕ) (seen : Sight) → Counted old log n before pends pended prompts p → Sees log log' place seen → pends' ≡ pends → (p → p') → (p → seen ≡ fault → ⊥) → Counted old log' n before pends' pended prompts p'
-counted_seen old log log' n before pends pends' pended prompts p p' place seen counted sees same stays saved =
+pub counted_seen : (old log log' : Told) (n pended before pends pends' : ℕ) (prompts p p' : Type 0) (place : Option ℕ) (seen : Sight) → Counted old log n pended before pends prompts p → Sees log log' place seen → pends' ≡ pends → (p → p') → (p → seen ≡ fault → ⊥) → Counted old log' n pended before pends' prompts p'
+counted_seen old log log' n pended before pends pends' prompts p p' place seen counted sees same stays saved =
     record {
       starts = started_seen n old log log' place seen counted.starts sees;
       stays = stays_on old log log' counted.stays (stays_sees log log' place seen sees);
-      pends = subst (λ m. PendedAs pended before m) (sym same) counted.pends;
+      pends = λ few. subst (λ m. RoseJust pended before m) (sym same) (counted.pends few);
       never_less = omega (arith, same, counted.never_less);
       prompt = λ was. let r = counted.prompt was in (stays r.0, r.1, loses_on old log log' r.2 (loses_sees log log' place seen (saved r.0) sees));
     }
@@ -61,30 +63,73 @@ started_more xs note old mid new first second calls e =
     let y = b.2 in
     (b.0, b.1, omega (arith, x, y, all, one))
 
-pub noted_more : (xs : List Turned) (note : Turned) (old mid new : Told) (before count now : ℕ) → AreNoted xs old mid before count → StartedBy note.started mid new → PendedAs note.pended count now → AreNoted (xs ++ note ∷ []) old new before now
-noted_more [] note old mid new before count now first started pended =
-    (new, now, subst (λ (l : Told). StartedBy note.started l new) first.0 started, subst (λ (n : ℕ). PendedAs note.pended n now) first.1 pended, (refl, refl))
-noted_more (x ∷ xs) note old mid new before count now first started pended =
-    (first.0, first.1, first.2, first.3, noted_more xs note first.0 mid new first.1 count now first.4 started pended)
+pub noted_more : (xs : List Turned) (note : Turned) (old mid new : Told) (before count now : ℕ) → AreNoted xs old mid before count → StartedBy note.started mid new → Stays mid new → PendedAs note.pended count now → AreNoted (xs ++ note ∷ []) old new before now
+noted_more [] note old mid new before count now first started stays pended =
+    (new, now, subst (λ (l : Told). StartedBy note.started l new) first.0 started, subst (λ (l : Told). Stays l new) first.0 stays, subst (λ (n : ℕ). PendedAs note.pended n now) first.1 pended, (refl, refl))
+noted_more (x ∷ xs) note old mid new before count now first started stays pended =
+    (first.0, first.1, first.2, first.3, first.4, noted_more xs note first.0 mid new first.1 count now first.5 started stays pended)
+
+-- a poll pends, and the counter of such polls goes on, or stays at its greatest number
+pub counted_pends : (old log log' : Told) (n pended more before pends pends' : ℕ) (prompts p p' : Type 0) → Counted old log n pended before pends prompts p → log' ≡ log → more ≡ min (pended + 1) (2 ^ 64 - 1) → RoseJust 1 pends pends' → pends ≤ pends' → (p → ⊥) → Counted old log' n more before pends' prompts p'
+counted_pends old log log' n pended more before pends pends' prompts p p' counted same is rose later never =
+    record {
+      starts = subst (λ (l : Told). StartedBy n old l) (sym same) counted.starts;
+      stays = subst (λ (l : Told). Stays old l) (sym same) counted.stays;
+      pends = λ few.
+          let one : more ≡ pended + 1 = omega (arith, few, is) in
+          subst (λ m. RoseJust m before pends') (sym one) (rose_on pended 1 before pends pends' (counted.pends (omega (arith, few, one))) rose);
+      never_less = omega (arith, later, counted.never_less);
+      prompt = λ was. absurd (never (counted.prompt was).0);
+    }
 
 -- a turn that pended raised the count
-pended_by : (pended : Bool) (before now : ℕ) → PendedAs pended before now → RoseBy (cond pended 1 0) before now
+pended_by : (pended : Bool) (before now : ℕ) → PendedAs pended before now → RoseJust (one_if pended) before now
 pended_by true before now p = p
-pended_by false before now p = omega (arith, p)
+pended_by false before now p = (omega (arith, p), omega (arith, p))
 
-rose_on : (m n a b c : ℕ) → RoseBy m a b → RoseBy n b c → RoseBy (m + n) a c
-rose_on m n a b c first second = omega (arith, first, second)
-
--- no more turns pended than the count rose by
-pub noted_rose : (xs : List Turned) (old new : Told) (before now : ℕ) → AreNoted xs old new before now → RoseBy (turns_pended xs) before now
-noted_rose [] old new before now noted = omega (arith, noted.1)
+-- just as many turns pended as the count rose by
+pub noted_rose : (xs : List Turned) (old new : Told) (before now : ℕ) → AreNoted xs old new before now → RoseJust (turns_pended xs) before now
+noted_rose [] old new before now noted = (omega (arith, noted.1), omega (arith, noted.1))
 noted_rose (x ∷ xs) old new before now noted =
-    rose_on _ _ before noted.1 now (pended_by x.pended before noted.1 noted.3) (noted_rose xs noted.0 new noted.1 now noted.4)
+    rose_on (one_if x.pended) (turns_pended xs) before noted.1 now (pended_by x.pended before noted.1 noted.4) (noted_rose xs noted.0 new noted.1 now noted.5)
+
+one_at_most : (pended : Bool) → one_if pended ≤ 1
+one_at_most true = omega arith
+one_at_most false = omega arith
+
+few_pended : (xs : List Turned) → turns_pended xs ≤ length xs
+few_pended [] = omega arith
+few_pended (x ∷ xs) = let more = few_pended xs in let one = one_at_most x.pended in omega (arith, more, one)
+
+-- a count that began at 0, over fewer than 2^64 turns
+pub turns_counted : (xs : List Turned) (now : ℕ) → length xs < 2 ^ 64 → RoseJust (turns_pended xs) 0 now → now ≡ turns_pended xs
+turns_counted xs now few rose = let least = rose.0 in let most = rose.1 in let within = few_pended xs in omega (arith, few, least, most, within)
+
+noted_as : (pended : Bool) (before now : ℕ) → RoseJust (one_if pended) before now → before ≤ now → PendedAs pended before now
+noted_as true before now rose later = rose
+noted_as false before now rose later = let most = rose.1 in omega (arith, most, later)
+
+none_if : (pended : Bool) → one_if pended ≡ 0 → pended ≡ false
+none_if true e = absurd cc
+none_if false e = refl
+
+-- the note of a turn whose polls were counted
+pub is_noted : (note : Turned) (old new : Told) (n before now : ℕ) (prompts prompts' : Type 0) → n ≡ one_if note.pended → Counted old new note.started n before now prompts prompts' → IsNoted note old new before now prompts prompts'
+is_noted note old new n before now prompts prompts' is counted =
+    record {
+      starts = counted.starts;
+      stays = counted.stays;
+      pends =
+          let one = one_at_most note.pended in
+          noted_as note.pended before now (subst (λ m. RoseJust m before now) is (counted.pends (omega (arith, is, one)))) counted.never_less;
+      never_less = counted.never_less;
+      prompt = λ was. let r = counted.prompt was in (r.0, none_if note.pended (sym is ∙ r.1), r.2);
+    }
 
 pub noted_so : (played : Result Played Error) (notes : List Turned) (old new : Told) (before now : ℕ) → IfOk played (λ p. p.turns.items ≡ notes) → AreNoted notes old new before now → IfOk played (λ p. AreNoted p.turns.items old new before now)
 noted_so (Ok p) notes old new before now same noted = subst (λ (ts : List Turned). AreNoted ts old new before now) (sym same) noted
 noted_so (Err e) notes old new before now same noted = tt
 
-pub pended_so : (played : Result Played Error) (old new : Told) (before now : ℕ) → IfOk played (λ p. AreNoted p.turns.items old new before now) → IfOk played (λ p. RoseBy (turns_pended p.turns.items) before now)
+pub pended_so : (played : Result Played Error) (old new : Told) (before now : ℕ) → IfOk played (λ p. AreNoted p.turns.items old new before now) → IfOk played (λ p. RoseJust (turns_pended p.turns.items) before now)
 pended_so (Ok p) old new before now noted = noted_rose p.turns.items old new before now noted
 pended_so (Err e) old new before now noted = tt

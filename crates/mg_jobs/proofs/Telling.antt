@@ -158,7 +158,7 @@ open_later calls calls' wire opened owns v o said alive last at keeps t =
     }
 
 closed_by_later : {A : Type 0} (past past' : Past) (last : Standing) (closed : Ended A) → Grows past past' → ClosedBy past last closed → ClosedBy past' last closed
-closed_by_later past past' last ended.Unfinished grows c = tt
+closed_by_later past past' last ended.Unfinished grows c = absurd c
 closed_by_later past past' last (ended.Gave x) grows c = kill_done_grows past past' grows last.cursor (pos 0) c
 closed_by_later past past' last (ended.Failed e) grows c = kill_fails_grows past past' grows last.cursor (pos 0) e c
 

@@ -1,6 +1,6 @@
 -- What the jobs of a run tell of their causes, turn by turn and at its end.
-use Rattle.std.proofs.Common.{◌≡◌, ◌⊎◌, ◌+◌, ◌≤◌, ℕ, suc, ℤ, Bool, true, false, List, [], ◌∷◌, ◌++◌, length, Option, Some, None, Result, Ok, Err, refl, sym, ap, ◌∙◌, subst, inl, inr, take, arith, append_assoc}
-use Rattle.std.specs.Prelude.{slice_get, slice_set, IfOk}
+use Rattle.std.proofs.Common.{◌≡◌, ◌⊎◌, ◌+◌, ◌≤◌, ℕ, suc, ℤ, pos, Bool, true, false, List, [], ◌∷◌, ◌++◌, length, Option, Some, None, Result, Ok, Err, refl, sym, ap, ◌∙◌, subst, inl, inr, take, arith, append_assoc}
+use Rattle.std.specs.Prelude.{slice_get, slice_set, IfOk, IsSome}
 use Rattle.std.specs.List.{sum_by}
 use Rattle.std.proofs.lemmas.List.{take_all}
 use Rattle.std.proofs.lemmas.List.Sums.{sum_by-append}
@@ -16,7 +16,15 @@ use Rattle.mg_ops.specs.declared.change_stream.WatchArgs.{WatchArgs}
 use Rattle.mg_change.specs.Calls.{Keeps, Past, Stays, past_of}
 use Rattle.mg_change.specs.Causes.{Standing}
 use Rattle.mg_change.specs.Following.{token_of}
-use Rattle.mg_jobs.specs.Causes.{AllCaused, AllSentIn, ClosedBy, Course, EndsBy, FollowCaused, InsertEnds, OpenCaused, OutcomeCaused, SentIn, course, sent_at}
+use Rattle.mg_change.specs.Phases.{ticket_in}
+use Rattle.mg_change.specs.declared.stream.ChangeStream.{ChangeStream}
+use Rattle.mg_change.proofs.Awaiting.{call_awaits, kill_awaits, opening_awaits}
+use Rattle.mg_change.proofs.Calls.{awaited_by}
+use Rattle.mg_ops.specs.Commands.{insert_command}
+use Rattle.mg_jobs.specs.InsertCauses.{InsertFlies}
+use Rattle.mg_jobs.specs.Inserts.{held}
+use Rattle.mg_jobs.specs.declared.insert.Command.{Command}
+use Rattle.mg_jobs.specs.Causes.{AllCaused, AllSentIn, ClosedBy, CloseCaused, Course, EndsBy, FollowCaused, OpenStands, InsertEnds, InsertWaits, InsertWaits, OpenCaused, OpenWaits, OutcomeCaused, SentIn, at_rest, course, in_call, in_closing, sent_at}
 use Rattle.mg_jobs.specs.Counts.{StartedBy}
 use Rattle.mg_jobs.specs.Drawing.{AreLater, HadTurn, HaveDrawn, JobHadTurn, JobHasIds, as_sent, drawn_in, first_id, has_turn, with_ids}
 use Rattle.mg_jobs.specs.Follows.{Followed, FollowedFrom, HasGiven, IsArgsFor, IsUnfinished, Placing, events_of, filter_in, same_place, token_at}
@@ -24,7 +32,7 @@ use Rattle.mg_jobs.specs.Headline.{AllFollowed, AllKnow, AreFirst, DoTasks, Does
 use Rattle.mg_script.specs.Plan as plan
 use Rattle.mg_script.specs.Plan.{Begin, Task, begin}
 use Rattle.mg_jobs.specs.Playing.{IsSameFollow, IsSameInsert, end_of, follow_ended, inserts_ended, stage_ticket}
-use Rattle.mg_jobs.specs.Progress.{AllAt, Came, FollowAt, IsAt, calls_of, came, turns_done}
+use Rattle.mg_jobs.specs.Progress.{AllAt, Came, FollowAt, HoldsIf, InsertAt, IsAt, IsOpen, calls_of, came, pends_last, turns_done}
 use Rattle.mg_jobs.specs.Runs.{AreApart, Goes, IsSameJob, has_ended, job_ticket}
 use Rattle.mg_jobs.specs.Telling.{AllSent, AllTell, Extends, FirstTells, FollowTells, FollowTold, InsertBegins, InsertTells, InsertTold, InsertTurns, IsNow, IsOpened, IsSameTeller, JobTells, JobTold, Kept, Places, TellsEnd, TellsNothing, TellsOn, kept, number}
 use Rattle.mg_script.specs.declared.outcome.Ended.{Ended}
@@ -48,7 +56,7 @@ use Rattle.mg_jobs.proofs.Drawing.{id_had, id_next, id_own, ids_from, none_had, 
 use Rattle.mg_jobs.proofs.Identified.{calls_identified, honest_over, opened_well}
 use Rattle.mg_jobs.proofs.InsertTelling.{ends_of, insert_tells_grow, none_done, ready_begins, ready_turns, stage_stays}
 use Rattle.mg_jobs.proofs.Telling.{grows_ended, grows_later, sent_since, since_is, tells_at, tells_later, tells_same}
-use Rattle.mg_jobs.proofs.Turning.{follow_followed, unfinished_not_given}
+use Rattle.mg_jobs.proofs.Turning.{failed_not_unfinished, follow_followed, unfinished_not_given}
 use Rattle.mg_jobs.proofs.Vainly.{nothing_at, outcome_vain}
 
 -- ---- jobs that stay the same
@@ -148,9 +156,9 @@ turned_has old new log log' wire player.Get (player.Insert job') next told has =
 
 -- a follow goes on where it was after so many turns, unless it has ended
 number_at : (calls : ℕ) (s : Stage) (k : Kept) (c : Came) (done : ℕ) (last : Bool) → c.answered ≡ length k.said → FollowAt calls s c done last → (number s k ≡ done) ⊎ (follow_ended s ≡ true)
-number_at calls stage.Unopened k c done last same at = inl (sym at.none)
-number_at calls (stage.Opens opening) k c done last same at = inl (sym at.none)
-number_at calls (stage.Open stream) k c done last same at = inl (omega (arith, same, at.answered))
+number_at calls stage.Unopened k c done last same at = inl (sym at.0.none)
+number_at calls (stage.Opens opening) k c done last same at = inl (sym at.0.none)
+number_at calls (stage.Open stream) k c done last same at = inl (omega (arith, same, at.0.answered))
 number_at calls (stage.Closes closing) k c done last same at = inl (omega (arith, same, at.0.answered, at.0.all))
 number_at calls stage.Ended k c done last same at = inr refl
 
@@ -289,7 +297,7 @@ module _ (begun : ℕ) (order : List ℕ) (notes : List Turned) (j : ℕ) (note 
   job_turn : (ids given : ℕ → List ℕ) (ts : List Task) (old new : Awaited) (log log' : Told) (calls calls' : List Call) (wire : ℤ) (p p' : Player) (next : Placing) (at : Option ℕ) (n : ℕ) (last : Bool) → log ≡ Some calls → log' ≡ Some calls' → length notes ≡ length order → length calls ≡ begun + sum_by (λ (t : Turned). t.started) notes → length calls' ≡ length calls + note.started
       → IsAt n p (turns_done j order notes) last → (has_ended p ≡ true → note.started ≡ 0) → AreLater ids (drawn_in ts order) given → JobHadTurn (has_turn j order) p → JobTells old new log log' wire p p' next → FirstTells given new log log' wire p p' → JobTold ids (first_id ts order j) old calls wire now j p at → JobTold ids (first_id ts (order ++ j ∷ []) j) new calls' wire then j p' (next at)
   job_turn ids given ts old new log log' calls calls' wire (player.Insert job) (player.Insert job') next at n last is is' abreast count more is_at quiet stands had tells first t =
-      insert_turn ids given ts old new log log' calls calls' wire job job' is is' abreast count more (counts_at 0 (has_ended (player.Insert job)) (none_done job.stage (turns_done j order notes) is_at) quiet) stands had tells.0 tells.1 (first job' refl) t
+      insert_turn ids given ts old new log log' calls calls' wire job job' is is' abreast count more (counts_at 0 (has_ended (player.Insert job)) (none_done job.stage (turns_done j order notes) _ is_at) quiet) stands had tells.0 tells.1 (first job' refl) t
   job_turn ids given ts old new log log' calls calls' wire (player.Insert job) (player.Follow job') next at n last is is' abreast count more is_at quiet stands had tells first t = absurd tells
   job_turn ids given ts old new log log' calls calls' wire (player.Insert job) player.Put next at n last is is' abreast count more is_at quiet stands had tells first t = absurd tells
   job_turn ids given ts old new log log' calls calls' wire (player.Insert job) player.Get next at n last is is' abreast count more is_at quiet stands had tells first t = absurd tells
@@ -370,6 +378,9 @@ tell_first ids awaited log wire ts players first calls told = (calls, told, know
 
 -- ---- at the end
 
+not_both : {b : Bool} → b ≡ false → b ≡ true → ⊥
+not_both first second = let bad : false ≡ true = sym first ∙ second in cc
+
 module _ (awaited : Awaited) (c : Course) (i : ℕ) (calls : List Call) (wire : ℤ) (job : FollowPlayer) (at : Option ℕ) (owner : Owner) (plays : Plays awaited calls (player.Follow job) owner at) (t : FollowTold awaited calls wire c i job.stage (kept job) at) where
   abbrev its_target : Target
   its_target = target job.watched.target.now
@@ -386,62 +397,89 @@ module _ (awaited : Awaited) (c : Course) (i : ℕ) (calls : List Call) (wire : 
   abbrev token : Option Tree
   token = token_at job.stage job.token
 
-  abbrev Caused : Ended (Unit {0}) → Type 0
-  Caused o = FollowCaused c i calls wire its_target its_start (filter_in job.watched) job.watched.batch_size o job.answers.items token job.alive job.closed
+  abbrev pended_last : Bool
+  pended_last = pends_last i c.order c.notes
+
+  abbrev Caused : ℕ → Ended (Unit {0}) → Type 0
+  Caused count o = FollowCaused awaited c i count calls wire its_target its_start (filter_in job.watched) job.watched.batch_size o job.answers.items token job.alive job.closed
 
   -- it followed from the call on that opened its stream
   followed_by : (o : Owner) (place : ℕ) → HasGiven job.opened → at ≡ Some place → Plays awaited calls (player.Follow job) o at → FollowedFrom calls its_target its_start (filter_in job.watched) job.answers.items token place
   followed_by o place given is (inl knows) = inl (knows.watch, knows.start, knows.watches, follow_followed awaited calls job.stage job o at place given is knows)
   followed_by o place given is (inr vain) = inr (vain.1.unwatched, vain.1.never given)
 
-  unfinished_caused : (o : Ended (Unit {0})) → IsUnfinished o → Caused o
-  unfinished_caused ended.Unfinished is = tt
-  unfinished_caused (ended.Gave x) is = absurd is
-  unfinished_caused (ended.Failed e) is = absurd is
+  unfinished_caused : (count : ℕ) (o : Ended (Unit {0})) → IsUnfinished o → (pended_last ≡ true → OpenWaits awaited c i calls wire its_target its_start (filter_in job.watched) job.watched.batch_size) → Caused count o
+  unfinished_caused count ended.Unfinished is waits = waits
+  unfinished_caused count (ended.Gave x) is waits = absurd is
+  unfinished_caused count (ended.Failed e) is waits = absurd is
 
-  given_caused : (o : Ended (Unit {0})) → HasGiven o → OpenCaused c i calls wire its_target its_start (filter_in job.watched) job.watched.batch_size job.answers.items token job.alive job.closed → Caused o
-  given_caused ended.Unfinished given open_so = absurd given
-  given_caused (ended.Gave x) given open_so = open_so
-  given_caused (ended.Failed e) given open_so = absurd given
+  given_caused : (count : ℕ) (o : Ended (Unit {0})) → HasGiven o → OpenCaused awaited c i count calls wire its_target its_start (filter_in job.watched) job.watched.batch_size job.answers.items token job.alive job.closed → Caused count o
+  given_caused count ended.Unfinished given open_so = absurd given
+  given_caused count (ended.Gave x) given open_so = open_so
+  given_caused count (ended.Failed e) given open_so = absurd given
 
-  not_closed : (places : List ℕ) (last : Standing) (o : Ended (Unit {0})) → IsUnfinished o → ClosedBy (sent_at places calls wire) last o
-  not_closed places last ended.Unfinished is = tt
-  not_closed places last (ended.Gave x) is = absurd is
-  not_closed places last (ended.Failed e) is = absurd is
+  still_open : (count : ℕ) (last : Standing) (o : Ended (Unit {0})) → IsUnfinished o → OpenStands awaited c i count (length job.answers.items) calls wire last → CloseCaused awaited c i count (length job.answers.items) calls wire last o
+  still_open count last ended.Unfinished is so = so
+  still_open count last (ended.Gave x) is so = absurd is
+  still_open count last (ended.Failed e) is so = absurd is
+
+  was_closed : (count : ℕ) (places : List ℕ) (last : Standing) (o : Ended (Unit {0})) → AllSentIn c i (length job.answers.items) places → ClosedBy (sent_at places calls wire) last o → CloseCaused awaited c i count (length job.answers.items) calls wire last o
+  was_closed count places last ended.Unfinished sent by = absurd by
+  was_closed count places last (ended.Gave x) sent by = record { places = places; sent = sent; by = by }
+  was_closed count places last (ended.Failed e) sent by = record { places = places; sent = sent; by = by }
 
   -- what an open follow tells
-  open_caused : (q : Places) (n : ℕ) (last : Standing) (places : List ℕ) → AllSent c i q n → (t : IsOpened calls wire q (kept job) last at) → token ≡ token_of last.aggregate.resume → AllSentIn c i (length job.answers.items) places → ClosedBy (sent_at places calls wire) last job.closed → Caused job.opened
-  open_caused q n last places sent t token_is closing closed =
-      given_caused job.opened t.given (record {
+  open_caused : (count : ℕ) (q : Places) (n : ℕ) (last : Standing) → AllSent c i q n → (t : IsOpened calls wire q (kept job) last at) → token ≡ token_of last.aggregate.resume → CloseCaused awaited c i count (length job.answers.items) calls wire last job.closed → Caused count job.opened
+  open_caused count q n last sent t token_is closed =
+      given_caused count job.opened t.given (record {
         args = t.args;
         args_are = t.args_are;
         last = last;
         answers = record { first = t.first; places = q.opened; sent = sent.opened; opened = t.opened; owns = q.owns; sent_each = sent.owns; answered = t.answered };
         token_is = token_is;
         alive_is = t.alive_is;
-        close = record { places = places; sent = closing; by = closed };
+        close = closed;
         followed = followed_by owner t.opened.heard.place t.given t.here plays;
         identified = λ history legal stands.
             calls_identified history calls wire legal stands IsIts t.first q.owns job.answers.items last t.answered
             (opened_well IsIts (sent_at q.opened calls wire) (honest_over history calls legal stands q.opened wire) t.args t.args_are t.first t.opened);
       })
 
-  end_caused : (q : Places) (o : Ended (Unit {0})) → o ≡ job.opened → token ≡ job.token → AllSent c i q (length job.answers.items) → TellsEnd calls wire q (kept job) at o → Caused o
-  end_caused q ended.Unfinished is same sent t = tt
-  end_caused q (ended.Gave x) is same sent t = subst (λ (o : Ended (Unit {0})). Caused o) (sym is) (open_caused q (length job.answers.items) t.0 q.now sent t.1 (same ∙ t.2) sent.now t.3)
-  end_caused q (ended.Failed e) is same sent (inl room) = inl room
-  end_caused q (ended.Failed e) is same sent (inr t) = inr (record { args = t.args; args_are = t.args_are; places = q.opened; sent = sent.opened; fails = t.fails })
+  end_caused : (count : ℕ) (q : Places) (o : Ended (Unit {0})) → o ≡ job.opened → token ≡ job.token → AllSent c i q (length job.answers.items) → (IsUnfinished o → ⊥) → TellsEnd calls wire q (kept job) at o → Caused count o
+  end_caused count q ended.Unfinished is same sent over t = absurd (over tt)
+  end_caused count q (ended.Gave x) is same sent over t = subst (λ (o : Ended (Unit {0})). Caused count o) (sym is) (open_caused count q (length job.answers.items) t.0 sent t.1 (same ∙ t.2) (was_closed count q.now t.0 job.closed sent.now t.3))
+  end_caused count q (ended.Failed e) is same sent over (inl room) = inl room
+  end_caused count q (ended.Failed e) is same sent over (inr t) = inr (record { args = t.args; args_are = t.args_are; places = q.opened; sent = sent.opened; fails = t.fails })
 
-  stage_caused : (s : Stage) (n done : ℕ) (last : Bool) → s ≡ job.stage → FollowAt n s (came job) done last → FollowTold awaited calls wire c i s (kept job) at → Caused job.opened
-  stage_caused stage.Unopened n done last is at_stage told = unfinished_caused job.opened at_stage.opened
-  stage_caused (stage.Opens opening) n done last is at_stage told = unfinished_caused job.opened at_stage.opened
-  stage_caused (stage.Open stream) n done last is at_stage told =
-      open_caused told.places (suc (length job.answers.items)) told.tells.0 [] told.sent told.tells.1 (ap (λ (s : Stage). token_at s job.token) (sym is) ∙ ap (λ a. token_of a.resume) told.tells.2.same) (λ place of. absurd of)
-      (not_closed [] told.tells.0 job.closed at_stage.closed)
-  stage_caused (stage.Closes closing) n done last is at_stage told =
-      open_caused told.places (length job.answers.items) told.tells.0 told.places.now told.sent told.tells.1 (ap (λ (s : Stage). token_at s job.token) (sym is) ∙ told.tells.2) told.sent.now
-      (not_closed told.places.now told.tells.0 job.closed at_stage.0.closed)
-  stage_caused stage.Ended n done last is at_stage told = end_caused told.places job.opened refl (ap (λ (s : Stage). token_at s job.token) (sym is)) told.sent told.tells
+  -- how a follow goes on whose stream is open
+  rests_or_waits : (count : ℕ) (b : Bool) → pended_last ≡ b → (stream : ChangeStream) (told : FollowTold awaited calls wire c i (stage.Open stream) (kept job) at) → IsOpen count (came job) (turns_done i c.order c.notes) → HoldsIf b (ticket_in stream.phase) → OpenStands awaited c i count (length job.answers.items) calls wire told.tells.0
+  rests_or_waits count false is stream told so holds = at_rest is (omega (arith, so.rest, so.more))
+  rests_or_waits count true is stream told so holds =
+      in_call is (omega (arith, so.rest, so.more)) told.places.now told.sent.now (call_awaits awaited (sent_at told.places.now calls wire) told.tells.0 stream.phase stream told.tells.2 holds)
+
+  over_not_unfinished : (count : ℕ) → FollowAt count stage.Ended (came job) (turns_done i c.order c.notes) pended_last → IsUnfinished job.opened → ⊥
+  over_not_unfinished count (inl never) is = failed_not_unfinished job.opened never.opened is
+  over_not_unfinished count (inr closed) is = unfinished_not_given job.opened is closed.opened
+
+  stage_caused : (s : Stage) (count : ℕ) → s ≡ job.stage → FollowAt count s (came job) (turns_done i c.order c.notes) pended_last → FollowTold awaited calls wire c i s (kept job) at → Caused count job.opened
+  stage_caused stage.Unopened count is at_stage told = unfinished_caused count job.opened at_stage.0.opened (λ pended. absurd (not_both at_stage.1 pended))
+  stage_caused (stage.Opens opening) count is at_stage told =
+      unfinished_caused count job.opened at_stage.0.opened
+      (λ pended. record {
+        args = opening.aggregate.args;
+        args_are = told.tells.1;
+        places = told.places.now;
+        sent = told.sent.now;
+        waits = opening_awaits awaited (sent_at told.places.now calls wire) opening.aggregate.args opening.exec told.tells.3 (at_stage.1 ∙ pended);
+      })
+  stage_caused (stage.Open stream) count is at_stage told =
+      open_caused count told.places (suc (length job.answers.items)) told.tells.0 told.sent told.tells.1 (ap (λ (s : Stage). token_at s job.token) (sym is) ∙ ap (λ a. token_of a.resume) told.tells.2.same)
+      (still_open count told.tells.0 job.closed at_stage.0.closed (rests_or_waits count pended_last refl stream told at_stage.0 at_stage.1))
+  stage_caused (stage.Closes closing) count is at_stage told =
+      open_caused count told.places (length job.answers.items) told.tells.0 told.sent told.tells.1 (ap (λ (s : Stage). token_at s job.token) (sym is) ∙ told.tells.2)
+      (still_open count told.tells.0 job.closed at_stage.0.closed
+      (in_closing at_stage.1 at_stage.0.answered told.places.now told.sent.now (kill_awaits awaited (sent_at told.places.now calls wire) told.tells.0.cursor (pos 0) closing.flight told.tells.5 at_stage.2)))
+  stage_caused stage.Ended count is at_stage told = end_caused count told.places job.opened refl (ap (λ (s : Stage). token_at s job.token) (sym is)) told.sent (over_not_unfinished count at_stage) told.tells
 
   -- the call that opened its stream is one of its own, sent in a turn before which none had ended
   abbrev IsPlaced : Type 0
@@ -462,8 +500,8 @@ module _ (awaited : Awaited) (c : Course) (i : ℕ) (calls : List Call) (wire : 
   end_place q n (ended.Failed e) given sent t = absurd given
 
   stage_place : (s : Stage) (n done : ℕ) (last : Bool) → HasGiven job.opened → FollowAt n s (came job) done last → FollowTold awaited calls wire c i s (kept job) at → IsPlaced
-  stage_place stage.Unopened n done last given at_stage told = absurd (unfinished_not_given job.opened at_stage.opened given)
-  stage_place (stage.Opens opening) n done last given at_stage told = absurd (unfinished_not_given job.opened at_stage.opened given)
+  stage_place stage.Unopened n done last given at_stage told = absurd (unfinished_not_given job.opened at_stage.0.opened given)
+  stage_place (stage.Opens opening) n done last given at_stage told = absurd (unfinished_not_given job.opened at_stage.0.opened given)
   stage_place (stage.Open stream) n done last given at_stage told = opened_place told.places (suc (length job.answers.items)) told.tells.0 told.sent told.tells.1
   stage_place (stage.Closes closing) n done last given at_stage told = opened_place told.places (length job.answers.items) told.tells.0 told.sent told.tells.1
   stage_place stage.Ended n done last given at_stage told = end_place told.places (length job.answers.items) job.opened given told.sent told.tells
@@ -493,38 +531,60 @@ insert_ends awaited past at ds false inserts.Unsent had tells = tt
 insert_ends awaited past at ds false (inserts.Goes i) had tells = absurd cc
 insert_ends awaited past at ds false (inserts.Ended e) had tells = absurd cc
 
--- what became of a job, by what it knows and tells
-abbrev OutcomeOfTask : (ℕ → List ℕ) → List Task → Course → ℕ → List Call → ℤ → Task → Outcome → Type 0
-OutcomeOfTask ids ts c i calls wire t r = OutcomeFollowed c i calls t r × OutcomeCaused c i calls wire (as_sent ids ts c.order i t) r
+-- what an insert waits for
+insert_holds : (awaited : Awaited) (past : Past) (at : Space) (ds : List Fields) (waiting : Option Command) → InsertFlies awaited past at ds waiting → IsSome (held waiting) → InsertWaits awaited past at ds
+insert_holds awaited past at ds None flies holds = absurd cc
+insert_holds awaited past at ds (Some c) flies holds = record { piece = c.insert.documents.items; part = flies.part; waits = awaited_by awaited past (insert_command at c.insert.documents.items) c.exec.stage flies.flies holds }
 
-outcome_of_task : (ids : ℕ → List ℕ) (ts : List Task) (awaited : Awaited) (c : Course) (i : ℕ) (calls : List Call) (wire : ℤ) (t : Task) (p : Player) (r : Outcome) (o : Owner) (at : Option ℕ) (done : ℕ) (last : Bool) → Does t p → OutcomeOf p r → IsAt (calls_of t) p done last → JobHadTurn (has_turn i c.order) p → Plays awaited calls p o at → JobTold ids (first_id ts c.order i) awaited calls wire c i p at → OutcomeOfTask ids ts c i calls wire t r
-outcome_of_task ids ts awaited c i calls wire (plan.insert ns docs) (player.Insert job) r o at done last does is is_at had plays told =
-    let sent : List Fields = with_ids ids (first_id ts c.order i) job.documents.now in (
+insert_awaits : (awaited : Awaited) (past : Past) (at : Space) (ds : List Fields) (b : Bool) (s : InsertStage) (k : ℕ) (last : Bool) → HadTurn b s → (b ≡ true → InsertTells awaited past at ds s) → InsertAt s k last → last ≡ true → IsUnfinished (end_of s) → InsertWaits awaited past at ds
+insert_awaits awaited past at ds b inserts.Unsent k last had tells is_at pended is = absurd (not_both is_at.1 pended)
+insert_awaits awaited past at ds true (inserts.Goes i) k last had tells is_at pended is = insert_holds awaited past at ds i.command (tells refl).0.flies (is_at.1 ∙ pended)
+insert_awaits awaited past at ds false (inserts.Goes i) k last had tells is_at pended is = absurd cc
+insert_awaits awaited past at ds b (inserts.Ended ended.Unfinished) k last had tells is_at pended is = absurd is_at.1
+insert_awaits awaited past at ds b (inserts.Ended (ended.Gave n)) k last had tells is_at pended is = absurd is
+insert_awaits awaited past at ds b (inserts.Ended (ended.Failed e)) k last had tells is_at pended is = absurd is
+
+-- what became of a job, by what it knows and tells
+abbrev OutcomeOfTask : (ℕ → List ℕ) → List Task → Awaited → Course → ℕ → List Call → ℤ → Task → Outcome → Type 0
+OutcomeOfTask ids ts awaited c i calls wire t r = OutcomeFollowed c i calls t r × OutcomeCaused awaited c i calls wire (as_sent ids ts c.order i t) r
+
+abbrev IsNowAt : Course → ℕ → Task → Player → Type 0
+IsNowAt c i t p = IsAt (calls_of t) p (turns_done i c.order c.notes) (pends_last i c.order c.notes)
+
+outcome_of_task : (ids : ℕ → List ℕ) (ts : List Task) (awaited : Awaited) (c : Course) (i : ℕ) (calls : List Call) (wire : ℤ) (t : Task) (p : Player) (r : Outcome) (o : Owner) (at : Option ℕ) → Does t p → OutcomeOf p r → IsNowAt c i t p → JobHadTurn (has_turn i c.order) p → Plays awaited calls p o at → JobTold ids (first_id ts c.order i) awaited calls wire c i p at → OutcomeOfTask ids ts awaited c i calls wire t r
+outcome_of_task ids ts awaited c i calls wire (plan.insert ns docs) (player.Insert job) r o at does of is_at had plays told =
+    let sent : List Fields = with_ids ids (first_id ts c.order i) job.documents.now in
+    let past : Past = sent_at told.places calls wire in (
       tt,
-      subst (λ (x : Outcome). OutcomeCaused c i calls wire (as_sent ids ts c.order i (plan.insert ns docs)) x) (sym is)
-          (subst (λ (d : List Fields). InsertEnds c i calls wire ns (with_ids ids (first_id ts c.order i) d) (end_of job.stage)) does.1
-          (subst (λ (s : Space). InsertEnds c i calls wire s sent (end_of job.stage)) does.0
-          (record { places = told.places; sent = told.sent; by = insert_ends awaited (sent_at told.places calls wire) (space job.ns.now) sent (has_turn i c.order) job.stage had told.tells }))),
+      subst (λ (x : Outcome). OutcomeCaused awaited c i calls wire (as_sent ids ts c.order i (plan.insert ns docs)) x) (sym of)
+          (subst (λ (d : List Fields). InsertEnds awaited c i calls wire ns (with_ids ids (first_id ts c.order i) d) (end_of job.stage)) does.1
+          (subst (λ (s : Space). InsertEnds awaited c i calls wire s sent (end_of job.stage)) does.0
+          (record {
+            places = told.places;
+            sent = told.sent;
+            by = insert_ends awaited past (space job.ns.now) sent (has_turn i c.order) job.stage had told.tells;
+            waits = λ pended is. insert_awaits awaited past (space job.ns.now) sent (has_turn i c.order) job.stage (turns_done i c.order c.notes) (pends_last i c.order c.notes) had told.tells is_at pended is;
+          }))),
     )
-outcome_of_task ids ts awaited c i calls wire (plan.insert ns docs) (player.Follow job) r o at done last does is is_at had plays told = absurd does
-outcome_of_task ids ts awaited c i calls wire (plan.insert ns docs) player.Put r o at done last does is is_at had plays told = absurd does
-outcome_of_task ids ts awaited c i calls wire (plan.insert ns docs) player.Get r o at done last does is is_at had plays told = absurd does
-outcome_of_task ids ts awaited c i calls wire (plan.put db bucket name id chunk pieces) p r o at done last does is is_at had plays told = (tt, tt)
-outcome_of_task ids ts awaited c i calls wire (plan.get db bucket id read) p r o at done last does is is_at had plays told = (tt, tt)
-outcome_of_task ids ts awaited c i calls wire (plan.follow on count start filter batch) (player.Insert job) r o at done last does is is_at had plays told = absurd does
-outcome_of_task ids ts awaited c i calls wire (plan.follow on count start filter batch) player.Put r o at done last does is is_at had plays told = absurd does
-outcome_of_task ids ts awaited c i calls wire (plan.follow on count start filter batch) player.Get r o at done last does is is_at had plays told = absurd does
-outcome_of_task ids ts awaited c i calls wire (plan.follow on count start filter batch) (player.Follow job) r o at done last does is is_at had plays told =
-    subst (λ (x : Outcome). OutcomeOfTask ids ts c i calls wire (plan.follow on count start filter batch) x) (sym is)
-    (subst (λ (b : Option ℕ). OutcomeOfTask ids ts c i calls wire (plan.follow on count start filter b) (outcome.Follow job.opened job.answers (token_at job.stage job.token) job.alive job.closed)) does.3
-    (subst (λ (f : Option Fields). OutcomeOfTask ids ts c i calls wire (plan.follow on count start f job.watched.batch_size) (outcome.Follow job.opened job.answers (token_at job.stage job.token) job.alive job.closed)) does.2
-    (subst (λ (b : Begin). OutcomeOfTask ids ts c i calls wire (plan.follow on count b (filter_in job.watched) job.watched.batch_size) (outcome.Follow job.opened job.answers (token_at job.stage job.token) job.alive job.closed)) does.1
-    (subst (λ (u : Target). OutcomeOfTask ids ts c i calls wire (plan.follow u count (begin job.watched.start.now) (filter_in job.watched) job.watched.batch_size) (outcome.Follow job.opened job.answers (token_at job.stage job.token) job.alive job.closed)) does.0
-    (follow_outcome awaited c i calls wire job at o plays told count done last is_at o plays, stage_caused awaited c i calls wire job at o plays told job.stage count done last refl is_at told)))))
+outcome_of_task ids ts awaited c i calls wire (plan.insert ns docs) (player.Follow job) r o at does is is_at had plays told = absurd does
+outcome_of_task ids ts awaited c i calls wire (plan.insert ns docs) player.Put r o at does is is_at had plays told = absurd does
+outcome_of_task ids ts awaited c i calls wire (plan.insert ns docs) player.Get r o at does is is_at had plays told = absurd does
+outcome_of_task ids ts awaited c i calls wire (plan.put db bucket name id chunk pieces) p r o at does is is_at had plays told = (tt, tt)
+outcome_of_task ids ts awaited c i calls wire (plan.get db bucket id read) p r o at does is is_at had plays told = (tt, tt)
+outcome_of_task ids ts awaited c i calls wire (plan.follow on count start filter batch) (player.Insert job) r o at does is is_at had plays told = absurd does
+outcome_of_task ids ts awaited c i calls wire (plan.follow on count start filter batch) player.Put r o at does is is_at had plays told = absurd does
+outcome_of_task ids ts awaited c i calls wire (plan.follow on count start filter batch) player.Get r o at does is is_at had plays told = absurd does
+outcome_of_task ids ts awaited c i calls wire (plan.follow on count start filter batch) (player.Follow job) r o at does is is_at had plays told =
+    subst (λ (x : Outcome). OutcomeOfTask ids ts awaited c i calls wire (plan.follow on count start filter batch) x) (sym is)
+    (subst (λ (b : Option ℕ). OutcomeOfTask ids ts awaited c i calls wire (plan.follow on count start filter b) (outcome.Follow job.opened job.answers (token_at job.stage job.token) job.alive job.closed)) does.3
+    (subst (λ (f : Option Fields). OutcomeOfTask ids ts awaited c i calls wire (plan.follow on count start f job.watched.batch_size) (outcome.Follow job.opened job.answers (token_at job.stage job.token) job.alive job.closed)) does.2
+    (subst (λ (b : Begin). OutcomeOfTask ids ts awaited c i calls wire (plan.follow on count b (filter_in job.watched) job.watched.batch_size) (outcome.Follow job.opened job.answers (token_at job.stage job.token) job.alive job.closed)) does.1
+    (subst (λ (u : Target). OutcomeOfTask ids ts awaited c i calls wire (plan.follow u count (begin job.watched.start.now) (filter_in job.watched) job.watched.batch_size) (outcome.Follow job.opened job.answers (token_at job.stage job.token) job.alive job.closed)) does.0
+    (follow_outcome awaited c i calls wire job at o plays told count (turns_done i c.order c.notes) (pends_last i c.order c.notes) is_at o plays, stage_caused awaited c i calls wire job at o plays told job.stage count refl is_at told)))))
 
 -- What the jobs of a run know and tell at its end says what became of them.
 all_outcomes : (ids given : ℕ → List ℕ) (awaited : Awaited) (log log' : Told) (wire : ℤ) (ts : List Task) (order : List ℕ) (notes : List Turned) (players : List Player) (outcomes : List Outcome) → length outcomes ≡ length players → HaveDrawn ids given ts order players → AllTell ids awaited log log' wire ts order notes players → AllAt ts order notes players → DoTasks ts players → OutcomesOf players outcomes
-    → (calls : List Call) → log ≡ Some calls → (calls' : List Call) × (log' ≡ Some calls') × ((i : ℕ) (t : Task) (r : Outcome) → slice_get ts i ≡ Some t → slice_get outcomes i ≡ Some r → OutcomeOfTask ids ts (course calls order notes) i calls' wire t r)
+    → (calls : List Call) → log ≡ Some calls → (calls' : List Call) × (log' ≡ Some calls') × ((i : ℕ) (t : Task) (r : Outcome) → slice_get ts i ≡ Some t → slice_get outcomes i ≡ Some r → OutcomeOfTask ids ts awaited (course calls order notes) i calls' wire t r)
 all_outcomes ids given awaited log log' wire ts order notes players outcomes count drawn tell all does of calls told =
     let at = tell calls told in (
       at.0,
@@ -532,10 +592,10 @@ all_outcomes ids given awaited log log' wire ts order notes players outcomes cou
       (λ i t r ht hr.
           let p = get_length players outcomes count i r hr in
           let k = at.2.each i p.0 p.1 in
-          outcome_of_task ids ts awaited (course calls order notes) i at.0 wire t p.0 r k.owner (at.2.places i) (turns_done i order notes) _ (does i t p.0 ht p.1) (of i p.0 r p.1 hr) (all i t p.0 ht p.1) (drawn.each i p.0 p.1) k.plays (at.3.each i t p.0 ht p.1)),
+          outcome_of_task ids ts awaited (course calls order notes) i at.0 wire t p.0 r k.owner (at.2.places i) (does i t p.0 ht p.1) (of i p.0 r p.1 hr) (all i t p.0 ht p.1) (drawn.each i p.0 p.1) k.plays (at.3.each i t p.0 ht p.1)),
     )
 
-all_caused : (ids given : ℕ → List ℕ) (awaited : Awaited) (log log' : Told) (wire : ℤ) (ts : List Task) (order : List ℕ) (notes : List Turned) (players : List Player) (outcomes : List Outcome) → length outcomes ≡ length players → HaveDrawn ids given ts order players → AllTell ids awaited log log' wire ts order notes players → AllAt ts order notes players → DoTasks ts players → OutcomesOf players outcomes → AllCaused ids log log' wire ts order notes outcomes
+all_caused : (ids given : ℕ → List ℕ) (awaited : Awaited) (log log' : Told) (wire : ℤ) (ts : List Task) (order : List ℕ) (notes : List Turned) (players : List Player) (outcomes : List Outcome) → length outcomes ≡ length players → HaveDrawn ids given ts order players → AllTell ids awaited log log' wire ts order notes players → AllAt ts order notes players → DoTasks ts players → OutcomesOf players outcomes → AllCaused ids awaited log log' wire ts order notes outcomes
 all_caused ids given awaited log log' wire ts order notes players outcomes count drawn tell all does of calls told =
     let o = all_outcomes ids given awaited log log' wire ts order notes players outcomes count drawn tell all does of calls told in
     (o.0, o.1, λ i t r ht hr. (o.2 i t r ht hr).1)
@@ -549,8 +609,8 @@ all_followed ids given awaited log log' wire ts order notes players outcomes cou
 
 -- the same of a run, unless memory ran out
 pub caused_so : (ids given : ℕ → List ℕ) (awaited : Awaited) (log log' : Told) (wire : ℤ) (ts : List Task) (order : List ℕ) (notes : List Turned) (players : List Player) (result : Result Played Error) → IfOk result (λ p. length p.outcomes.items ≡ length players) → IfOk result (λ p. OutcomesOf players p.outcomes.items) → IfOk result (λ p. p.turns.items ≡ notes)
-    → HaveDrawn ids given ts order players → AllTell ids awaited log log' wire ts order notes players → AllAt ts order notes players → DoTasks ts players → IfOk result (λ p. AllCaused ids log log' wire ts order p.turns.items p.outcomes.items)
-caused_so ids given awaited log log' wire ts order notes players (Ok p) count of turns drawn tell all does = subst (λ (ns : List Turned). AllCaused ids log log' wire ts order ns p.outcomes.items) (sym turns) (all_caused ids given awaited log log' wire ts order notes players p.outcomes.items count drawn tell all does of)
+    → HaveDrawn ids given ts order players → AllTell ids awaited log log' wire ts order notes players → AllAt ts order notes players → DoTasks ts players → IfOk result (λ p. AllCaused ids awaited log log' wire ts order p.turns.items p.outcomes.items)
+caused_so ids given awaited log log' wire ts order notes players (Ok p) count of turns drawn tell all does = subst (λ (ns : List Turned). AllCaused ids awaited log log' wire ts order ns p.outcomes.items) (sym turns) (all_caused ids given awaited log log' wire ts order notes players p.outcomes.items count drawn tell all does of)
 caused_so ids given awaited log log' wire ts order notes players (Err e) count of turns drawn tell all does = tt
 
 pub followed_so : (ids given : ℕ → List ℕ) (awaited : Awaited) (log log' : Told) (wire : ℤ) (ts : List Task) (order : List ℕ) (notes : List Turned) (players : List Player) (result : Result Played Error) → IfOk result (λ p. length p.outcomes.items ≡ length players) → IfOk result (λ p. OutcomesOf players p.outcomes.items) → IfOk result (λ p. p.turns.items ≡ notes)

@@ -126,6 +126,11 @@ ends_so calls (ended.Gave x) w start at p place given is knows =
     record { stream = f; watch_is = refl; start_is = refl; opened_is = is; answered_is = refl; token_is = refl; follows = follows_on calls f tt knows }
 ends_so calls (ended.Failed e) w start at p place given is knows = absurd given
 
+pub failed_not_unfinished : {A : Type 0} (o : Ended A) → IsFailed o → IsUnfinished o → ⊥
+failed_not_unfinished ended.Unfinished failed is = failed
+failed_not_unfinished (ended.Gave x) failed is = failed
+failed_not_unfinished (ended.Failed e) failed is = is
+
 pub unfinished_not_given : {A : Type 0} (o : Ended A) → IsUnfinished o → HasGiven o → ⊥
 unfinished_not_given ended.Unfinished is given = given
 unfinished_not_given (ended.Gave x) is given = is

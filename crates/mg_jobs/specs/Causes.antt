@@ -1,28 +1,30 @@
--- What the answers of jobs are caused by: the causes of their calls, by the turns in which these sent their commands.
-use Rattle.std.specs.Prelude.{◌≡◌, ◌≢◌, ◌↔◌, ◌⊎◌, ◌<◌, ◌≤◌, ◌+◌, ◌++◌, IsTrue, true, Bool, ℕ, suc, ℤ, pos, List, [], ◌∷◌, length, Option, Some, slice_get}
+-- What the answers of jobs are caused by, and what jobs wait for: by the turns in which they sent their commands.
+use Rattle.std.specs.Prelude.{◌≡◌, ◌≢◌, ◌↔◌, ◌⊎◌, ◌<◌, ◌≤◌, ◌+◌, ◌++◌, IsTrue, false, true, Bool, ℕ, suc, ℤ, pos, List, [], ◌∷◌, length, Option, Some, slice_get}
 use Rattle.std.specs.List.{sum_by}
 use Rattle.mg_bson.specs.Tree.{Tree, Fields}
 use Rattle.mg_link.specs.History.{IsLegal, Step}
-use Rattle.mg_link.specs.Link.{Told}
+use Rattle.mg_link.specs.Link.{Awaited, Told}
 use Rattle.mg_link.specs.Log.{Call}
 use Rattle.mg_link.specs.Namespace.{Space, Target}
 use Rattle.mg_link.specs.Owner.{IsOf}
 use Rattle.mg_link.specs.Standing.{Stands}
 use Rattle.mg_link.specs.declared.error.Error.{Error}
 use Rattle.mg_link.specs.declared.error.ErrorKind.TheVariants as kind
+use Rattle.mg_ops.specs.Commands.{insert_command}
 use Rattle.mg_ops.specs.Naming.{IsNamed}
 use Rattle.mg_ops.specs.declared.change_stream.WatchArgs.{WatchArgs}
-use Rattle.mg_change.specs.Calls.{Past, past_of}
-use Rattle.mg_change.specs.Causes.{Called, Standing}
-use Rattle.mg_change.specs.ClosingCauses.{KillDone, KillFails}
+use Rattle.mg_change.specs.Calls.{IsAwaited, Past, past_of}
+use Rattle.mg_change.specs.Causes.{CallWaits, Called, Standing}
+use Rattle.mg_change.specs.ClosingCauses.{KillDone, KillFails, KillWaits}
 use Rattle.mg_change.specs.Following.{token_of}
 use Rattle.mg_change.specs.OpeningCauses.{Opened, OpeningFails}
+use Rattle.mg_change.specs.Openings.{opening_command}
 use Rattle.mg_jobs.specs.Appended.{Appended}
 use Rattle.mg_jobs.specs.Drawing.{as_sent}
-use Rattle.mg_jobs.specs.Follows.{FollowedFrom, IsArgsFor, poll_of}
-use Rattle.mg_jobs.specs.InsertCauses.{InsertFails}
+use Rattle.mg_jobs.specs.Follows.{FollowedFrom, IsArgsFor, IsUnfinished, poll_of}
+use Rattle.mg_jobs.specs.InsertCauses.{InsertFails, IsPiece}
 use Rattle.mg_script.specs.Plan.{Begin, Task, insert, follow, put, get}
-use Rattle.mg_jobs.specs.Progress.{turns_done}
+use Rattle.mg_jobs.specs.Progress.{pends_last, turns_done}
 use Rattle.mg_script.specs.declared.outcome.Answer.{Answer}
 use Rattle.mg_script.specs.declared.outcome.Answer.TheVariants as answers
 use Rattle.mg_script.specs.declared.outcome.Ended.{Ended}
@@ -71,11 +73,19 @@ EndsBy past at sent ended.Unfinished = Unit {0}
 EndsBy past at sent (ended.Gave n) = IsNamed at → Appended past at sent n
 EndsBy past at sent (ended.Failed e) = InsertFails past at sent e
 
+-- it waits for the reply to a command that inserts some of the documents
+pub record InsertWaits (awaited : Awaited) (past : Past) (at : Space) (sent : List Fields) : Type 0 where
+  pub piece : List Fields
+  pub part : IsPiece sent piece
+  pub waits : IsAwaited awaited past (insert_command at piece)
+
 -- it sent its commands in its turns up to the first that did not pend
-pub record InsertEnds (c : Course) (i : ℕ) (calls : List Call) (wire : ℤ) (at : Space) (documents : List Fields) (end : Ended ℕ) : Type 0 where
+pub record InsertEnds (awaited : Awaited) (c : Course) (i : ℕ) (calls : List Call) (wire : ℤ) (at : Space) (documents : List Fields) (end : Ended ℕ) : Type 0 where
   pub places : List ℕ
   pub sent : AllSentIn c i 0 places
   pub by : EndsBy (sent_at places calls wire) at documents end
+  -- where its newest turn pended and it has not ended
+  pub waits : pends_last i c.order c.notes ≡ true → IsUnfinished end → InsertWaits awaited (sent_at places calls wire) at documents
 
 -- ---- a follow
 
@@ -99,7 +109,7 @@ pub record Answers (c : Course) (i : ℕ) (calls : List Call) (wire : ℤ) (args
 
 -- the closing sent its command behind the last call, or in the same turn
 abbrev pub ClosedBy : {A : Type 0} → Past → Standing → Ended A → Type 0
-ClosedBy past last ended.Unfinished = Unit {0}
+ClosedBy past last ended.Unfinished = ⊥
 ClosedBy past last (ended.Gave x) = KillDone past last.cursor (pos 0)
 ClosedBy past last (ended.Failed e) = KillFails past last.cursor (pos 0) e
 
@@ -107,6 +117,21 @@ pub record Closed {A : Type 0} (c : Course) (i k : ℕ) (calls : List Call) (wir
   pub places : List ℕ
   pub sent : AllSentIn c i k places
   pub by : ClosedBy (sent_at places calls wire) last closed
+
+-- Where an open stream stands of whose calls so many were answered.
+pub data OpenStands (awaited : Awaited) (c : Course) (i count answered : ℕ) (calls : List Call) (wire : ℤ) (last : Standing) : Type 0 where
+  -- its newest turn did not pend, and a call is left
+  at_rest : pends_last i c.order c.notes ≡ false → answered < count → OpenStands awaited c i count answered calls wire last
+  -- its next call waits for a reply
+  in_call : pends_last i c.order c.notes ≡ true → answered < count → (places : List ℕ) → AllSentIn c i (suc answered) places → CallWaits awaited (sent_at places calls wire) last → OpenStands awaited c i count answered calls wire last
+  -- all its calls are answered, and its closing waits for a reply
+  in_closing : pends_last i c.order c.notes ≡ true → answered ≡ count → (places : List ℕ) → AllSentIn c i answered places → KillWaits awaited (sent_at places calls wire) last.cursor (pos 0) → OpenStands awaited c i count answered calls wire last
+
+-- how it stands with its closing
+abbrev pub CloseCaused : {A : Type 0} → Awaited → Course → (i count answered : ℕ) → List Call → ℤ → Standing → Ended A → Type 0
+CloseCaused {A} awaited c i count answered calls wire last ended.Unfinished = OpenStands awaited c i count answered calls wire last
+CloseCaused {A} awaited c i count answered calls wire last (ended.Gave x) = Closed {A = A} c i answered calls wire last (ended.Gave x)
+CloseCaused {A} awaited c i count answered calls wire last (ended.Failed e) = Closed {A = A} c i answered calls wire last (ended.Failed e)
 
 -- the stream has more: the server holds its cursor, or a resumption is owed
 abbrev pub IsAlive : Standing → Type 0
@@ -117,20 +142,28 @@ abbrev pub NoneMissing : List Answer → Type 0
 NoneMissing said = (k : ℕ) (e : Error) → slice_get said k ≡ Some (answers.Failed e) → e.kind ≡ kind.MissingResumeToken → ⊥
 
 -- a follow whose stream was opened: each answer has its cause, and the token, and whether it is alive, are those behind the last of them
-pub record OpenCaused {A : Type 0} (c : Course) (i : ℕ) (calls : List Call) (wire : ℤ) (on : Target) (start : Begin) (filter : Option Fields) (batch : Option ℕ) (said : List Answer) (token : Option Tree) (alive : Bool) (closed : Ended A) : Type 0 where
+pub record OpenCaused {A : Type 0} (awaited : Awaited) (c : Course) (i count : ℕ) (calls : List Call) (wire : ℤ) (on : Target) (start : Begin) (filter : Option Fields) (batch : Option ℕ) (said : List Answer) (token : Option Tree) (alive : Bool) (closed : Ended A) : Type 0 where
   pub args : WatchArgs
   pub args_are : IsArgsFor on start filter batch args
   pub last : Standing
   pub answers : Answers c i calls wire args said last
   pub token_is : token ≡ token_of last.aggregate.resume
   pub alive_is : IsTrue alive ↔ IsAlive last
-  pub close : Closed c i (length said) calls wire last closed
+  pub close : CloseCaused awaited c i count (length said) calls wire last closed
   -- its answers are consecutive from the opening place of its own aggregate on
   pub followed : FollowedFrom calls on start filter said token answers.opened.heard.place
   -- an event of a legal history has an `_id`
   pub identified : (history : List Step) → IsLegal history → Stands calls history → NoneMissing said
 
--- one whose stream was not: its opening has failed, or memory ran out before
+-- one that is being opened: its aggregate waits for its reply
+pub record OpenWaits (awaited : Awaited) (c : Course) (i : ℕ) (calls : List Call) (wire : ℤ) (on : Target) (start : Begin) (filter : Option Fields) (batch : Option ℕ) : Type 0 where
+  pub args : WatchArgs
+  pub args_are : IsArgsFor on start filter batch args
+  pub places : List ℕ
+  pub sent : AllSentIn c i 0 places
+  pub waits : IsAwaited awaited (sent_at places calls wire) (opening_command args)
+
+-- one whose stream was not opened: its opening has failed, or memory ran out before
 pub record OpenFailed (c : Course) (i : ℕ) (calls : List Call) (wire : ℤ) (on : Target) (start : Begin) (filter : Option Fields) (batch : Option ℕ) (e : Error) : Type 0 where
   pub args : WatchArgs
   pub args_are : IsArgsFor on start filter batch args
@@ -138,26 +171,33 @@ pub record OpenFailed (c : Course) (i : ℕ) (calls : List Call) (wire : ℤ) (o
   pub sent : AllSentIn c i 0 places
   pub fails : OpeningFails (sent_at places calls wire) args e
 
-abbrev pub FollowCaused : {A B : Type 0} → Course → ℕ → List Call → ℤ → Target → Begin → Option Fields → Option ℕ → Ended A → List Answer → Option Tree → Bool → Ended B → Type 0
-FollowCaused c i calls wire on start filter batch ended.Unfinished said token alive closed = Unit {0}
-FollowCaused c i calls wire on start filter batch (ended.Gave x) said token alive closed = OpenCaused c i calls wire on start filter batch said token alive closed
-FollowCaused c i calls wire on start filter batch (ended.Failed e) said token alive closed = (e.kind ≡ kind.OutOfMemory) ⊎ OpenFailed c i calls wire on start filter batch e
+-- it is being opened, and waits where its newest turn pended; or it was opened; or it was not
+abbrev pub FollowCaused : {A B : Type 0} → Awaited → Course → (i count : ℕ) → List Call → ℤ → Target → Begin → Option Fields → Option ℕ → Ended A → List Answer → Option Tree → Bool → Ended B → Type 0
+FollowCaused awaited c i count calls wire on start filter batch ended.Unfinished said token alive closed = pends_last i c.order c.notes ≡ true → OpenWaits awaited c i calls wire on start filter batch
+FollowCaused awaited c i count calls wire on start filter batch (ended.Gave x) said token alive closed = OpenCaused awaited c i count calls wire on start filter batch said token alive closed
+FollowCaused awaited c i count calls wire on start filter batch (ended.Failed e) said token alive closed = (e.kind ≡ kind.OutOfMemory) ⊎ OpenFailed c i calls wire on start filter batch e
 
 -- ---- all jobs
 
-abbrev pub OutcomeCaused : Course → ℕ → List Call → ℤ → Task → Outcome → Type 0
-OutcomeCaused c i calls wire (follow on count start filter batch) (outcome.Follow opened said token alive closed) = FollowCaused c i calls wire on start filter batch opened said.items token alive closed
-OutcomeCaused c i calls wire (follow on count start filter batch) (outcome.Insert n) = ⊥
-OutcomeCaused c i calls wire (follow on count start filter batch) (outcome.Put n) = ⊥
-OutcomeCaused c i calls wire (follow on count start filter batch) (outcome.Get bytes read) = ⊥
-OutcomeCaused c i calls wire (insert ns docs) (outcome.Insert end) = InsertEnds c i calls wire ns docs end
-OutcomeCaused c i calls wire (insert ns docs) (outcome.Follow opened said token alive closed) = ⊥
-OutcomeCaused c i calls wire (insert ns docs) (outcome.Put n) = ⊥
-OutcomeCaused c i calls wire (insert ns docs) (outcome.Get bytes read) = ⊥
-OutcomeCaused c i calls wire (put db bucket name id chunk pieces) r = Unit {0}
-OutcomeCaused c i calls wire (get db bucket id read) r = Unit {0}
+abbrev pub OutcomeCaused : Awaited → Course → ℕ → List Call → ℤ → Task → Outcome → Type 0
+OutcomeCaused awaited c i calls wire (follow on count start filter batch) (outcome.Follow opened said token alive closed) = FollowCaused awaited c i count calls wire on start filter batch opened said.items token alive closed
+OutcomeCaused awaited c i calls wire (follow on count start filter batch) (outcome.Insert n) = ⊥
+OutcomeCaused awaited c i calls wire (follow on count start filter batch) (outcome.Put n) = ⊥
+OutcomeCaused awaited c i calls wire (follow on count start filter batch) (outcome.Get bytes read) = ⊥
+OutcomeCaused awaited c i calls wire (insert ns docs) (outcome.Insert end) = InsertEnds awaited c i calls wire ns docs end
+OutcomeCaused awaited c i calls wire (insert ns docs) (outcome.Follow opened said token alive closed) = ⊥
+OutcomeCaused awaited c i calls wire (insert ns docs) (outcome.Put n) = ⊥
+OutcomeCaused awaited c i calls wire (insert ns docs) (outcome.Get bytes read) = ⊥
+OutcomeCaused awaited c i calls wire (put db bucket name id chunk pieces) r = Unit {0}
+OutcomeCaused awaited c i calls wire (get db bucket id read) r = Unit {0}
 
--- Over a link that tells its log, each job's outcome has its causes among the commands of its own turns; inserts draw these ids.
-abbrev pub AllCaused : (ℕ → List ℕ) → Told → Told → ℤ → List Task → List ℕ → List Turned → List Outcome → Type 0
-AllCaused ids log log' wire tasks order notes outcomes = (calls : List Call) → log ≡ Some calls → (calls' : List Call) × (log' ≡ Some calls')
-    × ((i : ℕ) (t : Task) (r : Outcome) → slice_get tasks i ≡ Some t → slice_get outcomes i ≡ Some r → OutcomeCaused (course calls order notes) i calls' wire (as_sent ids tasks order i t) r)
+-- Over a link that tells its log and awaits these replies, each job's outcome has its causes, and what it waits for, among the commands of its own turns;
+-- inserts draw these ids.
+abbrev pub AllCaused : (ℕ → List ℕ) → Awaited → Told → Told → ℤ → List Task → List ℕ → List Turned → List Outcome → Type 0
+AllCaused ids awaited log log' wire tasks order notes outcomes = (calls : List Call) → log ≡ Some calls → (calls' : List Call) × (log' ≡ Some calls')
+    × ((i : ℕ) (t : Task) (r : Outcome) → slice_get tasks i ≡ Some t → slice_get outcomes i ≡ Some r → OutcomeCaused awaited (course calls order notes) i calls' wire (as_sent ids tasks order i t) r)
+
+-- A call that waits for its reply, and was sent in a turn of a job, is of one whose newest turn pended, unless its ticket was out before.
+abbrev pub AllSettled : (before awaited : Awaited) → Told → List ℕ → List Turned → Type 0
+AllSettled before awaited log order notes = (calls : List Call) → log ≡ Some calls → (ticket place i k : ℕ) → awaited ticket ≡ Some place → SentIn (course calls order notes) i k place
+    → (pends_last i order notes ≡ true) ⊎ (before ticket ≡ Some place)

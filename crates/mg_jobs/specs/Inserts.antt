@@ -4,6 +4,7 @@ use Rattle.mg_link.specs.Commands.{asked}
 use Rattle.mg_link.specs.Standing.{Names}
 use Rattle.mg_link.specs.declared.action.Step.{Step}
 use Rattle.mg_link.specs.declared.action.Step.TheVariants as step
+use Rattle.mg_link.specs.Acts.{PendsAfter}
 use Rattle.mg_link.specs.Causes.{Rose}
 use Rattle.mg_link.specs.Exec.{ticket_of}
 use Rattle.mg_link.specs.declared.error.ErrorKind.TheVariants as kind
@@ -27,9 +28,9 @@ heard_ticket (heard.Pending c) = ticket_of c.exec
 heard_ticket heard.Inserted = None
 heard_ticket (heard.Failed e) = None
 
--- it pends just where the count of pending replies rose
+-- it pends after one poll that pended, or the count of pending replies is the same
 abbrev pub HeardPends : Heard → ℕ → ℕ → Type 0
-HeardPends (heard.Pending c) before now = Rose before now
+HeardPends (heard.Pending c) before now = PendsAfter 1 (ticket_of c.exec) before now
 HeardPends heard.Inserted before now = now ≡ before
 HeardPends (heard.Failed e) before now = now ≡ before
 

@@ -10,9 +10,10 @@ use Rattle.mg_link.specs.History.{IsLegal}
 use Rattle.mg_link.specs.Kept.{IsByRules, steps_of}
 use Rattle.mg_link.specs.Log.{Call}
 use Rattle.mg_link.specs.Owner.{NamesItsOwn}
+use Rattle.mg_link.specs.Places.{out_at}
 use Rattle.mg_link.specs.Standing.{Stands}
-use Rattle.mg_jobs.specs.Causes.{OutcomeCaused, course}
-use Rattle.mg_jobs.specs.Counts.{AreNoted}
+use Rattle.mg_jobs.specs.Causes.{AllSettled, OutcomeCaused, course}
+use Rattle.mg_jobs.specs.Counts.{AreNoted, turns_pended}
 use Rattle.mg_jobs.specs.Fated.{AreItsSteps}
 use Rattle.mg_jobs.specs.Drawing.{as_sent}
 use Rattle.mg_jobs.specs.Progress.{AllPlayed}
@@ -77,8 +78,9 @@ script_ids script n = counted_id (script.ids ++ 0 ∷ []) n
 -- What the jobs of a run over one link came to. The link's log stands in the history of the run's own store, which is legal and whose steps are by the
 -- rules; each of its calls is as the fate of its number in the script says, and the log names its own cursors only. In every legal history in which the
 -- log stands each follow answered consecutive entries from its own opening place on; each answer of a follow has its cause among the commands of its own
--- turns; each insert sends its documents with the script's next ids. There is one outcome for each job and one true note for each turn, by which it follows
--- how far each job came; in the turns that pended the polls of the calls did, just as often as their fates say.
+-- turns; each insert sends its documents with the script's next ids. There is one outcome for each job and one note for each turn, by which it follows
+-- how far each job came. As many turns pended as polls of the calls did, each of these as often as its fate says, or less while it waits; and a call that
+-- waits was sent by a job whose newest turn pended.
 pub record RunFollowed (run : Run) : Type 0 where
   pub calls : List Call
   pub log_is : run.logs.items ≡ calls ∷ []
@@ -91,7 +93,7 @@ pub record RunFollowed (run : Run) : Type 0 where
   pub followed : (i : ℕ) (t : Task) (r : Outcome) → slice_get (tasks run.script.jobs.items) i ≡ Some t → slice_get run.outcomes.items i ≡ Some r → OutcomeFollowed (course [] run.script.order.items turns.items) i calls t r
   pub own : NamesItsOwn calls
   pub caused : (i : ℕ) (t : Task) (r : Outcome) → slice_get (tasks run.script.jobs.items) i ≡ Some t → slice_get run.outcomes.items i ≡ Some r
-      → OutcomeCaused (course [] run.script.order.items turns.items) i calls run.script.wire (as_sent (script_ids run.script) (tasks run.script.jobs.items) run.script.order.items i t) r
+      → OutcomeCaused (out_at calls) (course [] run.script.order.items turns.items) i calls run.script.wire (as_sent (script_ids run.script) (tasks run.script.jobs.items) run.script.order.items i t) r
   pub fates : List Fate
   pub fates_are : plans.fates fates ≡ plans.fates run.script.fates.items
   pub pended : List ℕ
@@ -100,6 +102,8 @@ pub record RunFollowed (run : Run) : Type 0 where
   pub rows : AllPlayed (tasks run.script.jobs.items) run.script.order.items turns.items run.outcomes.items
   pub notes : length turns.items ≡ length run.script.order.items
   pub noted : AreNoted turns.items (Some []) (Some calls) 0 (pends_in pended)
+  pub pended_in_turns : pends_in pended ≡ turns_pended turns.items
+  pub settled : AllSettled (out_at []) (out_at calls) (Some []) run.script.order.items turns.items
 
 -- the run is of the script that was read, over one link
 pub record Ran (old new : Option (List ℕ)) (run : Run) : Type 0 where

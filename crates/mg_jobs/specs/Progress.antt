@@ -1,6 +1,10 @@
 -- How far each job comes by its turns.
-use Rattle.std.specs.Prelude.{◌≡◌, ◌+◌, ◌<◌, ◌≤◌, ◌⊎◌, ℕ, Bool, true, false, cond, nat_eq, List, [], ◌∷◌, length, Some, slice_get}
+use Rattle.std.specs.Prelude.{◌≡◌, ◌+◌, ◌<◌, ◌≤◌, ◌⊎◌, ℕ, Bool, true, false, cond, nat_eq, List, [], ◌∷◌, length, Option, Some, IsSome, is_some, slice_get}
 use Rattle.mg_jobs.specs.Counts.{PendedAs}
+use Rattle.mg_change.specs.Closings.{closing_ticket}
+use Rattle.mg_change.specs.Openings.{opening_ticket}
+use Rattle.mg_change.specs.Phases.{ticket_in}
+use Rattle.mg_jobs.specs.Inserts.{insert_ticket}
 use Rattle.mg_jobs.specs.Follows.{HasGiven, IsFailed, IsUnfinished}
 use Rattle.mg_script.specs.Plan.{Task, insert, follow, put, get}
 use Rattle.mg_script.specs.declared.outcome.Ended.{Ended}
@@ -47,11 +51,15 @@ IsFinished ended.Unfinished = ⊥
 IsFinished (ended.Gave x) = Unit {0}
 IsFinished (ended.Failed e) = Unit {0}
 
+-- it holds the ticket of a command just where its newest turn pended
+abbrev pub HoldsIf : Bool → Option ℕ → Type 0
+HoldsIf last ticket = is_some ticket ≡ last
+
 -- an insert after so many turns that did not pend: it ends in the first of them
-abbrev pub InsertAt : InsertStage → ℕ → Type 0
-InsertAt inserts.Unsent k = k ≡ 0
-InsertAt (inserts.Goes inserting) k = k ≡ 0
-InsertAt (inserts.Ended e) k = (1 ≤ k) × IsFinished e
+abbrev pub InsertAt : InsertStage → ℕ → Bool → Type 0
+InsertAt inserts.Unsent k last = (k ≡ 0) × (last ≡ false)
+InsertAt (inserts.Goes inserting) k last = (k ≡ 0) × HoldsIf last (insert_ticket inserting)
+InsertAt (inserts.Ended e) k last = (1 ≤ k) × IsFinished e
 
 -- an insert that drew its ids, which may have failed
 abbrev pub InsertReady : InsertStage → ℕ → Type 0
@@ -59,15 +67,16 @@ InsertReady inserts.Unsent k = ⊥
 InsertReady (inserts.Goes inserting) k = k ≡ 0
 InsertReady (inserts.Ended e) k = IsFinished e
 
--- what a follow has come to: its opening and its closing, how many calls were answered, and how many are left
+-- what a follow has come to: its opening and its closing, how many calls were answered, how many are left, and whether its stream has more
 pub record Came : Type 0 where
   pub opened : Ended (Unit {0})
   pub closed : Ended (Unit {0})
   pub answered : ℕ
   pub left : ℕ
+  pub alive : Bool
 
 abbrev pub came : FollowPlayer → Came
-came p = record { opened = p.opened; closed = p.closed; answered = length p.answers.items; left = p.left }
+came p = record { opened = p.opened; closed = p.closed; answered = length p.answers.items; left = p.left; alive = p.alive }
 
 -- its stream is not open yet
 pub record NotOpen (calls : ℕ) (c : Came) (k : ℕ) : Type 0 where
@@ -76,6 +85,7 @@ pub record NotOpen (calls : ℕ) (c : Came) (k : ℕ) : Type 0 where
   pub closed : IsUnfinished c.closed
   pub no_answer : c.answered ≡ 0
   pub all_left : c.left ≡ calls
+  pub no_more : c.alive ≡ false
 
 -- its stream is open, and each turn behind the opening one answered a call
 pub record Rests (calls : ℕ) (c : Came) (k : ℕ) : Type 0 where
@@ -104,6 +114,7 @@ pub record NeverOpen (c : Came) (k : ℕ) : Type 0 where
   pub opened : IsFailed c.opened
   pub closed : IsUnfinished c.closed
   pub no_answer : c.answered ≡ 0
+  pub no_more : c.alive ≡ false
   pub some : 1 ≤ k
 
 -- all calls are answered, and its stream was closed
@@ -115,15 +126,15 @@ pub record IsClosed (calls : ℕ) (c : Came) (k : ℕ) : Type 0 where
 
 -- a follow of so many calls at a stage, after k turns that did not pend
 abbrev pub FollowAt : ℕ → Stage → Came → ℕ → Bool → Type 0
-FollowAt calls stage.Unopened c k last = NotOpen calls c k
-FollowAt calls (stage.Opens opening) c k last = NotOpen calls c k
-FollowAt calls (stage.Open stream) c k last = IsOpen calls c k
-FollowAt calls (stage.Closes closing) c k last = Closes calls c k × (last ≡ true)
+FollowAt calls stage.Unopened c k last = NotOpen calls c k × (last ≡ false)
+FollowAt calls (stage.Opens opening) c k last = NotOpen calls c k × HoldsIf last (opening_ticket opening)
+FollowAt calls (stage.Open stream) c k last = IsOpen calls c k × HoldsIf last (ticket_in stream.phase)
+FollowAt calls (stage.Closes closing) c k last = Closes calls c k × (last ≡ true) × IsSome (closing_ticket closing)
 FollowAt calls stage.Ended c k last = NeverOpen c k ⊎ IsClosed calls c k
 
 -- a job of so many calls, after k turns that did not pend
 abbrev pub IsAt : ℕ → Player → ℕ → Bool → Type 0
-IsAt calls (player.Insert job) k last = InsertAt job.stage k
+IsAt calls (player.Insert job) k last = InsertAt job.stage k last
 IsAt calls (player.Follow job) k last = FollowAt calls job.stage (came job) k last
 IsAt calls player.Put k last = Unit {0}
 IsAt calls player.Get k last = Unit {0}
@@ -166,7 +177,7 @@ CloseGoes before now c s' c' = ComesTo (λ calls k last. Closes calls c k) (λ c
 
 -- a turn takes an insert on
 abbrev pub InsertGoes : ℕ → ℕ → InsertStage → InsertStage → Type 0
-InsertGoes before now p p' = ComesTo (λ calls k last. InsertReady p k) (λ calls k last. InsertAt p' k) before now
+InsertGoes before now p p' = ComesTo (λ calls k last. InsertReady p k) (λ calls k last. InsertAt p' k last) before now
 
 -- a turn takes a job on
 abbrev pub JobGoes : ℕ → ℕ → Player → Player → Type 0
@@ -194,11 +205,11 @@ OpenPlayed ended.Unfinished calls answered k last = ((answered + 1 ≡ k) × (an
 OpenPlayed (ended.Gave x) calls answered k last = (answered ≡ calls) × (calls + 1 ≤ k)
 OpenPlayed (ended.Failed e) calls answered k last = (answered ≡ calls) × (calls + 1 ≤ k)
 
--- a follow is opened in its first turn that does not pend
-abbrev pub FollowPlayed : {A : Type 0} → Ended A → Ended A → ℕ → ℕ → ℕ → Bool → Type 0
-FollowPlayed ended.Unfinished closed calls answered k last = (k ≡ 0) × (answered ≡ 0) × IsUnfinished closed
-FollowPlayed (ended.Gave x) closed calls answered k last = OpenPlayed closed calls answered k last
-FollowPlayed (ended.Failed e) closed calls answered k last = (1 ≤ k) × (answered ≡ 0) × IsUnfinished closed
+-- a follow is opened in its first turn that does not pend; a stream that is not open has no more
+abbrev pub FollowPlayed : {A : Type 0} → Ended A → Ended A → ℕ → ℕ → Bool → ℕ → Bool → Type 0
+FollowPlayed ended.Unfinished closed calls answered alive k last = (k ≡ 0) × (answered ≡ 0) × (alive ≡ false) × IsUnfinished closed
+FollowPlayed (ended.Gave x) closed calls answered alive k last = OpenPlayed closed calls answered k last
+FollowPlayed (ended.Failed e) closed calls answered alive k last = (1 ≤ k) × (answered ≡ 0) × (alive ≡ false) × IsUnfinished closed
 
 -- a task comes to this outcome by k turns that did not pend, where its newest turn pended or not
 abbrev pub IsPlayed : Task → ℕ → Bool → Outcome → Type 0
@@ -206,7 +217,7 @@ IsPlayed (insert ns docs) k last (outcome.Insert e) = InsertPlayed e k
 IsPlayed (insert ns docs) k last (outcome.Follow opened answers token alive closed) = ⊥
 IsPlayed (insert ns docs) k last (outcome.Put e) = ⊥
 IsPlayed (insert ns docs) k last (outcome.Get bytes e) = ⊥
-IsPlayed (follow on calls start filter batch) k last (outcome.Follow opened answers token alive closed) = FollowPlayed opened closed calls (length answers.items) k last
+IsPlayed (follow on calls start filter batch) k last (outcome.Follow opened answers token alive closed) = FollowPlayed opened closed calls (length answers.items) alive k last
 IsPlayed (follow on calls start filter batch) k last (outcome.Insert e) = ⊥
 IsPlayed (follow on calls start filter batch) k last (outcome.Put e) = ⊥
 IsPlayed (follow on calls start filter batch) k last (outcome.Get bytes e) = ⊥

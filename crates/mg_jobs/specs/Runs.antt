@@ -1,8 +1,7 @@
 -- Jobs that share a link, turn by turn.
-use Rattle.std.specs.Prelude.{◌≡◌, ℕ, ℤ, Bool, true, false, Option, Some, None, List, length, slice_get}
+use Rattle.std.specs.Prelude.{◌≡◌, ◌⊎◌, ℕ, ℤ, Bool, true, false, Option, Some, None, IsSome, List, length, slice_get}
 use Rattle.mg_link.specs.Acts.{IsOut, Tickets}
 use Rattle.mg_link.specs.Link.{Awaited, Told}
-use Rattle.mg_jobs.specs.Counts.{Counted}
 use Rattle.mg_jobs.specs.Follows.{Placing}
 use Rattle.mg_jobs.specs.Headline.{IsSameTask, Turns}
 use Rattle.mg_jobs.specs.Playing.{HasRoom, IsSameFollow, StageHolds, follow_ended, insert_ended, player_ticket, stage_ticket}
@@ -73,10 +72,6 @@ pub record Draws (ids later : ℕ → List ℕ) (new : Awaited) (log log' : Told
   pub has : JobHasIds p'
   pub first : FirstTells ids new log log' wire p p'
 
--- the note is true of the turn
-abbrev pub IsNoted : Turned → (old new : Told) → (before now : ℕ) → (prompts prompts' : Type 0) → Type 0
-IsNoted note old new before now prompts prompts' = Counted old new note.started before now note.pended prompts prompts'
-
 -- the note of a turn in which nothing was sent
 abbrev pub idle : Turned
 idle = record { started = 0; pended = false }
@@ -91,6 +86,17 @@ pub record AreApart (awaited : Awaited) (wire : ℤ) (players : List Player) : T
 -- the runner may give turns over a link of these tickets and this wire version
 abbrev pub Stands : Awaited → ℤ → Runner → Type 0
 Stands awaited wire runner = AreApart awaited wire runner.players.items
+
+-- a job holds the ticket
+pub record HeldBy (players : List Player) (ticket : ℕ) : Type 0 where
+  pub job : ℕ
+  pub player : Player
+  pub there : slice_get players job ≡ Some player
+  pub holds : job_ticket player ≡ Some ticket
+
+-- each ticket that is out is held by a job, or was out before, of the same call
+abbrev pub AreHeld : (before awaited : Awaited) → List Player → Type 0
+AreHeld before awaited players = (ticket : ℕ) → IsSome (awaited ticket) → HeldBy players ticket ⊎ (awaited ticket ≡ before ticket)
 
 -- a job that has done nothing
 pub record IsNew (p : Player) : Type 0 where

@@ -40,14 +40,14 @@ pub(crate) struct Counting<L: Link, B: Began> {
 }
 
 impl<L: Link, B: Began> Model for Counting<L, B> {
-    ghost use Rattle.std.specs.Prelude.{ℕ, nat_lt};
+    ghost use Rattle.std.specs.Prelude.{ℕ};
     ghost use Rattle.mg_jobs.specs.Counts.{Counted};
 
     ghost Value = { L × ℕ };
 
     ghost view = { λ c. (c.link, c.pended) };
 
-    ghost invariant = { λ c. Counted B.calls (L.log c.link) c.started B.pends (L.pends c.link) (nat_lt 0 c.pended) B.prompts (L.prompt c.link) };
+    ghost invariant = { λ c. Counted B.calls (L.log c.link) c.started c.pended B.pends (L.pends c.link) B.prompts (L.prompt c.link) };
 }
 
 impl<L: Link, B: Began> Counting<L, B> {
@@ -70,7 +70,7 @@ impl<L: Link, B: Began> Counting<L, B> {
     /// The link, and what was counted.
     pub(crate) fn into_parts(self) -> (L, Turned)
         ensures link { result.0 ≡ self.0 }
-        ensures counted { Counted B.calls (L.log self.0) result.1.started B.pends (L.pends self.0) result.1.pended B.prompts (L.prompt self.0) }
+        ensures counted { Counted B.calls (L.log self.0) result.1.started self.1 B.pends (L.pends self.0) B.prompts (L.prompt self.0) }
         ensures pended { result.1.pended ≡ nat_lt 0 self.1 }
     {
         let Counting {

@@ -323,7 +323,7 @@ impl<'a> Action for Inserting<'a> {
     fn poll<L: Link>(self, link: &mut L) -> Step<Inserting<'a>, u64>
         requires { IsOut (L.awaited link.old) (insert_ticket self) }
         ensures tickets { Tickets (L.awaited link.old) (L.awaited link.new) (insert_ticket self.entry) (ticket_after insert_ticket result) }
-        ensures pended { Pended result (L.pends link.old) (L.pends link.new) }
+        ensures pended { Pended insert_ticket result (L.pends link.old) (L.pends link.new) }
         ensures lost { FailsByFault result (L.faults link.old) (L.faults link.new) }
         ensures prompt { L.prompt link.old → EndsAtOnce result }
         ensures later { Later (L.faults link.old) (L.faults link.new) (L.pends link.old) (L.pends link.new)

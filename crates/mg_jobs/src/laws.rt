@@ -3,6 +3,7 @@ ghost use Rattle.std.specs.Prelude.{◌≡◌, ◌++◌, ◌∷◌, [], ℕ, ℤ
 ghost use Rattle.mg_bson.specs.Tree.{Fields};
 ghost use Rattle.mg_link.specs.History.{IsLegal, Step, state_of};
 ghost use Rattle.mg_link.specs.Ids.{counted_id};
+ghost use Rattle.mg_link.specs.Link.{Awaited};
 ghost use Rattle.mg_link.specs.Log.{Call};
 ghost use Rattle.mg_link.specs.Namespace.{Space};
 ghost use Rattle.mg_link.specs.Standing.{Stands};
@@ -53,7 +54,7 @@ pub fn drawn_ids_fit()
 /// closed; and an insert that had one such turn, and whose documents could be stored as its commands took effect,
 /// inserted them. What may still fail is excused: memory ran out, or a document or command passes the limits.
 pub fn jobs_end_well()
-    ensures { (c : Course) (i : ℕ) (begun calls : List Call) (wire : ℤ) (t : Task) (r : Outcome)
-        → length begun ≡ c.begun → Faultless begun calls → OutcomeCaused c i calls wire t r
+    ensures { (awaited : Awaited) (c : Course) (i : ℕ) (begun calls : List Call) (wire : ℤ) (t : Task) (r : Outcome)
+        → length begun ≡ c.begun → Faultless begun calls → OutcomeCaused awaited c i calls wire t r
         → IsPlayed t (turns_done i c.order c.notes) (pends_last i c.order c.notes) r → OutcomeWell c i calls t r }
 {}

@@ -1,5 +1,5 @@
 //! Jobs that go on turn by turn.
-ghost use Rattle.std.specs.Prelude.{◌≡◌, ◌≢◌, ◌↔◌, ◌⊎◌, IsTrue, pos, List, ◌-◌, ◌++◌, ◌∷◌, ℕ, [], None, Some, false, IfErr, IfOk, OnOk, option_map};
+ghost use Rattle.std.specs.Prelude.{◌≡◌, ◌≢◌, ◌↔◌, ◌⊎◌, IsTrue, Bool, pos, List, ◌-◌, ◌++◌, ◌∷◌, ℕ, [], None, Some, false, IfErr, IfOk, OnOk, option_map};
 ghost use Rattle.mg_link.specs.Acts.{IsOut, Tickets};
 ghost use Rattle.mg_link.specs.Errors.{plain};
 ghost use Rattle.mg_link.specs.declared.error.ErrorKind.TheVariants as kinds;
@@ -128,7 +128,7 @@ impl<'a> InsertPlayer<'a> {
     pub(crate) fn ready<I: IdSource>(&mut self, alloc: Global, ids: &mut I)
         ensures ticket { player_ticket self.new ≡ player_ticket self.old }
         ensures plain { IsPlainJob self.old → IsPlainJob self.new }
-        ensures at { (k : ℕ) → InsertAt self.old.stage k → InsertReady self.new.stage k }
+        ensures at { (k : ℕ) (last : Bool) → InsertAt self.old.stage k last → InsertReady self.new.stage k }
         ensures same { IsSameInsert self.old self.new }
         ensures tells { TellsOn (I.ids ids.old) (space self.old.ns.now) self.old.documents.now self.old.stage self.new.stage }
         ensures drawn { AreLater (I.ids ids.old) (next_draws self.old.stage self.old.documents.now) (I.ids ids.new) }

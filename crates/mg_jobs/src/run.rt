@@ -3,16 +3,16 @@ ghost use Rattle.std.specs.Prelude.{◌≡◌, ◌≤◌, ◌<◌, ◌++◌, ◌
 ghost use Rattle.std.specs.List.{All, sum_by};
 ghost use Rattle.mg_link.specs.Errors.{plain};
 ghost use Rattle.mg_link.specs.Link.{Awaited, Later, Told};
-ghost use Rattle.mg_link.specs.Causes.{RoseBy};
-ghost use Rattle.mg_jobs.specs.Counts.{AreNoted, LosesNothing, StartedBy, turns_pended};
+ghost use Rattle.mg_link.specs.Causes.{RoseJust};
+ghost use Rattle.mg_jobs.specs.Counts.{AreNoted, IsNoted, LosesNothing, StartedBy, turns_pended};
 ghost use Rattle.mg_jobs.specs.Drawing.{AreLater, HaveDrawn, JobHasIds, drawn_in, turn_draws};
-ghost use Rattle.mg_jobs.specs.Runs.{AreNew, AreSameJobs, CanGo, Draws, Goes, IsNew, IsNoted, IsReady, IsSameJob, JobHolds, Stands, has_ended, idle, job_ended, job_ticket};
+ghost use Rattle.mg_jobs.specs.Runs.{AreHeld, AreNew, AreSameJobs, CanGo, Draws, Goes, IsNew, IsReady, IsSameJob, JobHolds, Stands, has_ended, idle, job_ended, job_ticket};
 ghost use Rattle.mg_link.specs.Log.{Call};
 ghost use Rattle.mg_link.specs.Owner.{Owner};
 ghost use Rattle.mg_jobs.specs.Headline.{AllFollowed, AreFirst, GoesOnNaming, DoTasks, Does, IsFirst, IsSameTask, Knowing, OutcomeOf, OutcomesOf, Plays};
 ghost use Rattle.mg_script.specs.Plan.{Task, task, tasks};
 ghost use Rattle.mg_jobs.specs.Progress.{AllAt, AllPlayed, GoesBy, IsAt, IsReadyAt, JobGoes, TurnsBy, calls_of};
-ghost use Rattle.mg_jobs.specs.Causes.{AllCaused};
+ghost use Rattle.mg_jobs.specs.Causes.{AllCaused, AllSettled};
 ghost use Rattle.mg_jobs.specs.Completing.{AllWell};
 ghost use Rattle.mg_script.specs.Script.{first_missing};
 ghost use Rattle.mg_jobs.specs.Telling.{AllTell, IsSameTeller};
@@ -302,6 +302,8 @@ impl<'a> Runner<'a> {
         ensures later { Later (L.faults link.old) (L.faults link.new) (L.pends link.old) (L.pends link.new)
             (L.wire link.old) (L.wire link.new) (L.prompt link.old) (L.prompt link.new) }
         ensures jobs { length self.new.players.items ≡ length self.old.players.items }
+        // No ticket is out but those of jobs, and those that were out before.
+        ensures held { (before : Awaited) → AreHeld before (L.awaited link.old) self.old.players.items → AreHeld before (L.awaited link.new) self.new.players.items }
         // The jobs go on knowing what they should, and none touches a cursor of another.
         ensures knowing { (begun : Told) → Knowing (L.awaited link.old) begun (L.log link.old) self.old.players.items → Knowing (L.awaited link.new) begun (L.log link.new) self.new.players.items }
         ensures tasks { (ts : List Task) → DoTasks ts self.old.players.items → DoTasks ts self.new.players.items }
@@ -382,6 +384,7 @@ fn play<L: Link, I: IdSource>(
     ensures prompt { L.prompt link.old → OnOk result (All (λ t. t.pended ≡ false) runner.new.turns.items) }
     ensures lossless { L.prompt link.old → OnOk result (LosesNothing (L.log link.old) (L.log link.new)) }
     ensures jobs { length runner.new.players.items ≡ length runner.old.players.items }
+    ensures held { (before : Awaited) → AreHeld before (L.awaited link.old) runner.old.players.items → AreHeld before (L.awaited link.new) runner.new.players.items }
     ensures knowing { (begun : Told) → Knowing (L.awaited link.old) begun (L.log link.old) runner.old.players.items → Knowing (L.awaited link.new) begun (L.log link.new) runner.new.players.items }
     ensures tasks { (ts : List Task) → DoTasks ts runner.old.players.items → DoTasks ts runner.new.players.items }
     ensures rows { OnOk result ((ts : List Task) → AllAt ts [] [] runner.old.players.items → AllAt ts order.now runner.new.turns.items runner.new.players.items) }
@@ -429,16 +432,20 @@ pub fn run_jobs<L: Link, I: IdSource>(
     ensures rows { IfOk result (λ p. AllPlayed (tasks jobs.now) order.now p.turns.items p.outcomes.items) }
     // Each answer of a follow has its cause among the commands of its own turns, and the call that opened it is the one from
     // whose opening place it answers. By those of its own an insert that ended well appended its documents, in order, and
-    // one that failed did so; what it sends has the ids that it drew.
-    ensures caused { IfOk result (λ p. AllCaused (I.ids ids.old) (L.log link.old) (L.log link.new) (L.wire link.old) (tasks jobs.now) order.now p.turns.items p.outcomes.items) }
+    // one that failed did so; what it sends has the ids that it drew. One that is unfinished, and whose last turn pended,
+    // waits for the reply to a command of its own.
+    ensures caused { IfOk result (λ p. AllCaused (I.ids ids.old) (L.awaited link.new) (L.log link.old) (L.log link.new) (L.wire link.old) (tasks jobs.now) order.now p.turns.items p.outcomes.items) }
+    // A call that waits for its reply was sent by a job whose newest turn pended.
+    ensures settled { IfOk result (λ p. AllSettled (L.awaited link.old) (L.awaited link.new) (L.log link.old) order.now p.turns.items) }
     // Over a prompt link each job ends well, where its server holds nothing back.
     ensures complete { L.prompt link.old → IfOk result (λ p. AllWell (I.ids ids.old) (L.log link.old) (L.log link.new) (tasks jobs.now) order.now p.turns.items p.outcomes.items) }
     // One outcome for each job, and one note for each turn.
     ensures outcomes { IfOk result (λ p. length p.outcomes.items ≡ length jobs.now) }
     ensures turns { IfOk result (λ p. length p.turns.items ≡ length order.now) }
-    // Each note is true of its turn, and no more turns pended than the link's count of pending replies rose by.
+    // Turn by turn the notes lead from the log and the count of pending replies before the run to those behind it, and just as
+    // many turns pended as that count rose by.
     ensures noted { IfOk result (λ p. AreNoted p.turns.items (L.log link.old) (L.log link.new) (L.pends link.old) (L.pends link.new)) }
-    ensures pended { IfOk result (λ p. RoseBy (turns_pended p.turns.items) (L.pends link.old) (L.pends link.new)) }
+    ensures pended { IfOk result (λ p. RoseJust (turns_pended p.turns.items) (L.pends link.old) (L.pends link.new)) }
     // The notes count what was started, and over a prompt link no turn pends.
     ensures started { IfOk result (λ p. StartedBy (sum_by (λ t. t.started) p.turns.items) (L.log link.old) (L.log link.new)) }
     ensures prompt { L.prompt link.old → IfOk result (λ p. All (λ t. t.pended ≡ false) p.turns.items) }

@@ -1,6 +1,6 @@
 -- The polls of an exec.
 use Rattle.std.proofs.Common.{◌≡◌, ◌⊎◌, ◌&&◌, ◌≤◌, ℕ, ℤ, List, Bool, true, false, Option, Some, None, refl, sym, ap, ◌∙◌, subst, inl, inr, arith}
-use Rattle.std.proofs.lemmas.Bool.{and_parts}
+use Rattle.std.proofs.lemmas.Bool.{and_parts, cases_eq}
 use Rattle.std.specs.Prelude.{IsSome, is_some}
 use Rattle.mg_bson.specs.Tree.{Fields}
 use Rattle.mg_bson.specs.Reading.{doc}
@@ -82,10 +82,10 @@ retried_calm (answered memory) f f' p p' is counts = counts
 -- ---- what a poll answers, by its last attempt
 
 module _ (a : Attempt) (wire : ℤ) (hold : ℕ → Sending) where
-  pub gives_pended : (result : Step Sending (List ℕ)) (f f' p p' : ℕ) → HasCounts a f f' p p' → Gives a wire hold result → Pended result p p'
-  gives_pended (step.Pending s) f f' p p' counts g = subst (λ x. HasCounts x f f' p p') g.1 counts
-  gives_pended (step.Done bytes) f f' p p' counts g = subst (λ x. HasCounts x f f' p p') g.0 counts
-  gives_pended (step.Failed e) f f' p p' counts g = failed_calm a wire e f f' p p' g counts
+  pub gives_pended : (result : Step Sending (List ℕ)) (f f' p p' : ℕ) → ((ticket : ℕ) → IsSome (ticket_of (hold ticket))) → HasCounts a f f' p p' → Gives a wire hold result → Pended ticket_of result p p'
+  gives_pended (step.Pending s) f f' p p' holds counts g = (subst (λ x. IsSome (ticket_of x)) (sym g.2) (holds g.0), subst (λ x. HasCounts x f f' p p') g.1 counts)
+  gives_pended (step.Done bytes) f f' p p' holds counts g = subst (λ x. HasCounts x f f' p p') g.0 counts
+  gives_pended (step.Failed e) f f' p p' holds counts g = failed_calm a wire e f f' p p' g counts
 
   pub gives_lost : (result : Step Sending (List ℕ)) (f f' p p' : ℕ) → HasCounts a f f' p p' → Gives a wire hold result → FailsByFault result f f'
   gives_lost (step.Pending s) f f' p p' counts g = tt
@@ -116,7 +116,7 @@ ticket_given a wire hold holds (step.Done bytes) g = ap ticket_in (sym g.0)
 ticket_given a wire hold holds (step.Failed e) g = fails_without a wire e g
 
 none_out : (old new : Awaited) → ((m : ℕ) → new m ≡ old m) → Tickets old new None None
-none_out old new same = record { held = λ n e. cc; rest = λ m ne is. same m; origin = λ m e. cc }
+none_out old new same = record { held = λ n e. cc; rest = λ m ne is. same m; origin = λ m e. cc; only = λ m is. inr (subst (λ o. IsSome o) (same m) is, λ e. cc) }
 
 out_is : (old : Awaited) (n : ℕ) → old n ≡ None → (m : ℕ) → m ≡ n → IsSome (old m) → ⊥
 out_is old n none m is out = let bad : false ≡ true = ap (λ o. is_some o) (sym none) ∙ ap (λ k. is_some (old k)) (sym is) ∙ out in cc
@@ -128,6 +128,7 @@ begins_tickets old new log log' command (waits ticket) b =
       held = λ n e. let is : ticket ≡ n = cc in subst (λ k. IsSome (new k)) is b.out;
       rest = λ m ne out. b.rest m (λ is. out_is old ticket b.fresh m is out);
       origin = λ m e. let is : ticket ≡ m = cc in inr (ap old (sym is) ∙ b.fresh);
+      only = λ m is. elim (cases_eq m ticket) [ inl e ↦ inl (ap Some (sym e)) | inr ne ↦ inr (subst (λ o. IsSome o) (b.rest m ne) is, λ e. cc) ];
     }
 begins_tickets old new log log' command (answered seen) b = none_out old new b.rest
 
@@ -138,9 +139,21 @@ goes_on_tickets old new log log' number (waits given) out g =
       held = λ n e. let is : given ≡ n = cc in subst (λ o. IsSome o) (sym (g.rest n) ∙ refl) (subst (λ k. IsSome (old k)) (sym g.same ∙ is) out);
       rest = λ m ne is. g.rest m;
       origin = λ m e. inl (ap Some (sym g.same) ∙ e);
+      only = λ m is. elim (cases_eq m given) [
+        | inl e ↦ inl (ap Some (sym e))
+        | inr ne ↦ inr (subst (λ o. IsSome o) (g.rest m) is, λ e. let it : number ≡ m = cc in ne (sym (g.same ∙ it)))
+      ];
     }
 goes_on_tickets old new log log' number (answered seen) out g =
-    record { held = λ n e. cc; rest = λ m ne is. g.rest m (λ e. ne (ap Some (sym e))); origin = λ m e. cc }
+    record {
+      held = λ n e. cc;
+      rest = λ m ne is. g.rest m (λ e. ne (ap Some (sym e)));
+      origin = λ m e. cc;
+      only = λ m is. elim (cases_eq m number) [
+        | inl e ↦ absurd (out_is new number g.gone m e is)
+        | inr ne ↦ inr (subst (λ o. IsSome o) (g.rest m ne) is, λ e. let it : number ≡ m = cc in ne (sym it))
+      ];
+    }
 
 tries_tickets : (old new : Awaited) (log log' : Told) (command : List ℕ) (stage : Stage) (a : Attempt) → IsOut old (ticket_at stage) → Tries old new log log' command stage a → Tickets old new (ticket_at stage) (ticket_in a)
 tries_tickets old new log log' command unsent a out t = begins_tickets old new log log' command a t
@@ -234,13 +247,13 @@ module _ (old mid new : Awaited) (log between log' : Told) (wire wire1 : ℤ) (s
         })
       ]
 
-  pub first_pended : HasCounts attempt f f1 p p1 → Settles → Pended result p p'
+  pub first_pended : HasCounts attempt f f1 p p1 → Settles → Pended ticket_of result p p'
   first_pended counts settles =
       elim settles [
-        | inl stops ↦ subst (Pended result p) (sym stops.pended_same) (gives_pended attempt wire1 (held s.command s.retries false) result f f1 p p1 counts stops.gives)
+        | inl stops ↦ subst (Pended ticket_of result p) (sym stops.pended_same) (gives_pended attempt wire1 (held s.command s.retries false) result f f1 p p1 (λ ticket. refl) counts stops.gives)
         | inr repeats ↦
             let retried = (and_parts s.retries (is_retried_attempt attempt) repeats.repeated).1 in
-            subst (λ q. Pended result q p') (retried_calm attempt f f1 p p1 retried counts) (gives_pended repeats.again wire1 (held s.command s.retries true) result f1 f' p1 p' repeats.counts repeats.gives)
+            subst (λ q. Pended ticket_of result q p') (retried_calm attempt f f1 p p1 retried counts) (gives_pended repeats.again wire1 (held s.command s.retries true) result f1 f' p1 p' (λ ticket. refl) repeats.counts repeats.gives)
       ]
 
   pub first_lost : HasCounts attempt f f1 p p1 → f ≤ f1 → f1 ≤ f' → Settles → FailsByFault result f f'

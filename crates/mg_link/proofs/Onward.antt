@@ -1,9 +1,12 @@
 -- Calls on a link, one after another.
-use Rattle.std.proofs.Common.{◌≡◌, ◌⊎◌, ℕ, ℤ, Option, Some, None, false, true, refl, sym, ap, ◌∙◌, subst, inl, inr, arith}
+use Rattle.std.proofs.Common.{◌≡◌, ◌⊎◌, ◌+◌, ℕ, ℤ, Option, Some, None, false, true, refl, sym, ap, ◌∙◌, subst, inl, inr, arith}
 use Rattle.std.specs.Prelude.{IsSome, is_some}
 use Rattle.std.proofs.lemmas.Bool.{cases_eq}
 use Rattle.mg_link.specs.Link.{Awaited, Later}
-use Rattle.mg_link.specs.Acts.{IsOut, Tickets}
+use Rattle.mg_link.specs.Acts.{IsOut, Pended, PendsBy, Tickets}
+use Rattle.mg_link.specs.Causes.{RoseJust}
+use Rattle.mg_link.specs.declared.action.Step.{Step}
+use Rattle.mg_link.specs.declared.action.Step.TheVariants as step
 
 -- a number is that of the ticket, or not
 ticket_is : (ticket : Option ℕ) (m : ℕ) → (ticket ≡ Some m) ⊎ (ticket ≡ Some m → ⊥)
@@ -14,7 +17,7 @@ some_is_out : (o : Option ℕ) → IsSome o → o ≡ None → ⊥
 some_is_out o out none = let bad : false ≡ true = ap (λ o. is_some o) (sym none) ∙ out in cc
 
 pub tickets_same : (awaited : Awaited) (ticket : Option ℕ) → IsOut awaited ticket → Tickets awaited awaited ticket ticket
-tickets_same awaited ticket out = record { held = out; rest = λ m ne is. refl; origin = λ m e. inl e }
+tickets_same awaited ticket out = record { held = out; rest = λ m ne is. refl; origin = λ m e. inl e; only = λ m is. elim (ticket_is ticket m) [ inl e ↦ inl e | inr ne ↦ inr (is, ne) ] }
 
 pub tickets_on : {old mid new : Awaited} {a b c : Option ℕ} → Tickets old mid a b → Tickets mid new b c → Tickets old new a c
 tickets_on {old} {mid} {new} {a} {b} {c} p q =
@@ -33,6 +36,13 @@ tickets_on {old} {mid} {new} {a} {b} {c} p q =
             | inl is ↦ inr is
             | inr is ↦ absurd (some_is_out (old m) is (sym (p.rest m ne is) ∙ none))
           ]
+        ]
+      ];
+      only = λ m is. elim (q.only m is) [
+        | inl e ↦ inl e
+        | inr was ↦ elim (p.only m was.0) [
+          | inl e ↦ absurd (was.1 e)
+          | inr before ↦ inr before
         ]
       ];
     }
@@ -55,3 +65,17 @@ later_on a b =
           let second = b.prompt first.stays in
           record { stays = second.stays; no_fault = second.no_fault ∙ first.no_fault; no_pend = second.no_pend ∙ first.no_pend };
     }
+
+pub rose_on : (m n before mid now : ℕ) → RoseJust m before mid → RoseJust n mid now → RoseJust (m + n) before now
+rose_on m n before mid now first second =
+    let least = first.0 in
+    let most = first.1 in
+    let least_more = second.0 in
+    let most_more = second.1 in
+    (omega (arith, least, most, least_more, most_more), omega (arith, most, most_more))
+
+-- one poll behind so many that pended
+pub polled_once_more : {S T : Type 0} (ticket : S → Option ℕ) (n k : ℕ) (result : Step S T) (before mid now : ℕ) → n ≡ k + 1 → RoseJust k before mid → Pended ticket result mid now → PendsBy n ticket result before now
+polled_once_more ticket n k (step.Pending s) before mid now count first pended = (pended.0, subst (λ m. RoseJust m before now) (sym count) (rose_on k 1 before mid now first pended.1))
+polled_once_more ticket n k (step.Done t) before mid now count first pended = omega (arith, count, first.1, pended)
+polled_once_more ticket n k (step.Failed e) before mid now count first pended = omega (arith, count, first.1, pended)

@@ -6,7 +6,7 @@ use Rattle.mg_link.specs.declared.attempt.Attempt.TheVariants as attempt
 use Rattle.mg_link.specs.declared.attempt.Judged.{Judged}
 use Rattle.mg_link.specs.declared.attempt.Judged.TheVariants as judged
 use Rattle.mg_link.specs.declared.reply.Verdict.TheVariants as verdict
-use Rattle.mg_link.specs.Causes.{Rose}
+use Rattle.mg_link.specs.Causes.{Rose, RoseJust}
 use Rattle.mg_link.specs.Log.{waiting, reply, fault, memory}
 use Rattle.mg_link.specs.Reply.{verdict_of}
 use Rattle.mg_link.specs.declared.action.Step.{Step}
@@ -20,10 +20,10 @@ attempt_of (attempt.Reply bytes) = exec.answered (reply bytes.items)
 attempt_of attempt.Fault = exec.answered fault
 attempt_of attempt.Memory = exec.answered memory
 
--- the count of pending replies rose just where the attempt waits, and that of faults where it is lost
+-- the count of pending replies rose by one just where the attempt waits, and that of faults where it is lost
 abbrev pub HasCounts : exec.Attempt → ℕ → ℕ → ℕ → ℕ → Type 0
 HasCounts exec.not_sent faulted faulted' pended pended' = pended' ≡ pended
-HasCounts (exec.waits ticket) faulted faulted' pended pended' = Rose pended pended'
+HasCounts (exec.waits ticket) faulted faulted' pended pended' = RoseJust 1 pended pended'
 HasCounts (exec.answered waiting) faulted faulted' pended pended' = pended' ≡ pended
 HasCounts (exec.answered (reply bytes)) faulted faulted' pended pended' = pended' ≡ pended
 HasCounts (exec.answered fault) faulted faulted' pended pended' = Rose faulted faulted' × (pended' ≡ pended)

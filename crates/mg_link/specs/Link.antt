@@ -5,7 +5,7 @@ use Rattle.mg_link.specs.declared.link.LinkError.TheVariants as error
 use Rattle.mg_link.specs.declared.link.Polled.{Polled}
 use Rattle.mg_link.specs.declared.link.Polled.TheVariants as polled
 use Rattle.mg_link.specs.declared.link.Ticket.{Ticket}
-use Rattle.mg_link.specs.Causes.{Rose}
+use Rattle.mg_link.specs.Causes.{RoseJust}
 use Rattle.mg_link.specs.Log.{Sight, waiting, reply, fault, memory, Call, see}
 
 -- the tickets that are out, each with the place of its call in the log
@@ -67,9 +67,9 @@ PollMeans old new log log' number (polled.Reply bytes) = Ends old new log log' n
 PollMeans old new log log' number polled.Failed = Ends old new log log' number fault
 PollMeans old new log log' number polled.Memory = Ends old new log log' number memory
 
--- the count of pending replies rises where a reply pends, and only there
+-- the count of pending replies rises by one where a reply pends, and only there
 abbrev pub PollPends : Polled → ℕ → ℕ → Type 0
-PollPends (polled.Pending given) before now = Rose before now
+PollPends (polled.Pending given) before now = RoseJust 1 before now
 PollPends (polled.Reply bytes) before now = now ≡ before
 PollPends polled.Failed before now = now ≡ before
 PollPends polled.Memory before now = now ≡ before

@@ -29,7 +29,7 @@ pub trait Action: Sized {
     fn poll<L: Link>(self, link: &mut L) -> Step<Self, Self::Output>
         requires { IsOut (L.awaited link.old) (ticket self) }
         ensures tickets { Tickets (L.awaited link.old) (L.awaited link.new) (ticket self) (ticket_after ticket result) }
-        ensures pended { Pended result (L.pends link.old) (L.pends link.new) }
+        ensures pended { Pended ticket result (L.pends link.old) (L.pends link.new) }
         ensures lost { FailsByFault result (L.faults link.old) (L.faults link.new) }
         ensures prompt { L.prompt link.old → EndsAtOnce result }
         ensures later { Later (L.faults link.old) (L.faults link.new) (L.pends link.old) (L.pends link.new)
@@ -39,7 +39,7 @@ pub trait Action: Sized {
     final fn run<L: Link>(self, link: &mut L, polls: u32) -> Step<Self, Self::Output>
         requires { IsOut (L.awaited link.old) (ticket self) }
         ensures tickets { Tickets (L.awaited link.old) (L.awaited link.new) (ticket self) (ticket_after ticket result) }
-        ensures pended { PendsBy (max polls 1) result (L.pends link.old) (L.pends link.new) }
+        ensures pended { PendsBy (max polls 1) ticket result (L.pends link.old) (L.pends link.new) }
         ensures lost { FailsByFault result (L.faults link.old) (L.faults link.new) }
         ensures prompt { L.prompt link.old → EndsAtOnce result }
         ensures later { Later (L.faults link.old) (L.faults link.new) (L.pends link.old) (L.pends link.new)

@@ -163,7 +163,7 @@ impl Action for Exec {
         requires { IsOut (L.awaited link.old) (ticket_of self) }
         ensures runs { Runs (L.awaited link.old) (L.awaited link.new) (L.log link.old) (L.log link.new) (L.wire link.old) self result }
         ensures tickets { Tickets (L.awaited link.old) (L.awaited link.new) (ticket_of self) (ticket_after ticket_of result) }
-        ensures pended { Pended result (L.pends link.old) (L.pends link.new) }
+        ensures pended { Pended ticket_of result (L.pends link.old) (L.pends link.new) }
         ensures lost { FailsByFault result (L.faults link.old) (L.faults link.new) }
         ensures prompt { L.prompt link.old → EndsAtOnce result }
         ensures later { Later (L.faults link.old) (L.faults link.new) (L.pends link.old) (L.pends link.new)

@@ -66,7 +66,8 @@ pub trait Link {
     /// How many faults it answered. The count never falls, and stays at its greatest number.
     ghost faults: { Self → ℕ };
 
-    /// How many polls it answered by a reply that pends. The count never falls, and stays at its greatest number.
+    /// How many polls it answered by a reply that pends. The count rises by one with each, never falls, and may stay at
+    /// 2^64 - 1 once it is there.
     ghost pends: { Self → ℕ };
 
     /// Its calls, in the order of their starts, where it tells them.

@@ -3,7 +3,7 @@ use Rattle.std.proofs.Common.{◌≡◌, ◌⊎◌, ℕ, zero, suc, ◌+◌, ◌
 use Rattle.std.specs.Prelude.{slice_get, slice_set, IsSome, string_bytes}
 use Rattle.std.proofs.lemmas.Bool.{cases_eq}
 use Rattle.mg_bson.specs.Tree.{Fields}
-use Rattle.mg_link.specs.Causes.{Rose}
+use Rattle.mg_link.specs.Causes.{Rose, RoseJust}
 use Rattle.mg_link.specs.History.{Step}
 use Rattle.mg_link.specs.Kept.{Kept, steps_of}
 use Rattle.mg_link.specs.Link.{AnswersAtOnce, Ends, PollMeans, PollPends, StaysPrompt}
@@ -242,8 +242,8 @@ pends_more (v ∷ waits) (suc at) w h = let e = pends_more waits at w h in omega
 pends_rise : (pend : ℕ) (calls calls' : List Call) (waits waits' : List Wait) (at given : ℕ) → PolledAt (polled.Pending given) pend waits waits' calls calls' at → pends_in (pended_of waits') ≡ pends_in (pended_of waits) + 1
 pends_rise pend calls calls' waits waits' at given h = ap pends_in (pended_polled pend calls calls' waits waits' at (polled.Pending given) h) ∙ pends_more waits at h.1.wait h.1.found
 
-rose_more : (before now : ℕ) → now ≡ before + 1 → Rose before now
-rose_more before now e = omega arith
+rose_more : (before now : ℕ) → now ≡ before + 1 → RoseJust 1 before now
+rose_more before now e = (omega arith, omega arith)
 
 pub pends_polled : (pend : ℕ) (calls calls' : List Call) (waits waits' : List Wait) (at : ℕ) (result : Polled) → PolledAt result pend waits waits' calls calls' at → PollPends result (pends_in (pended_of waits)) (pends_in (pended_of waits'))
 pends_polled pend calls calls' waits waits' at (polled.Pending given) h = rose_more (pends_in (pended_of waits)) (pends_in (pended_of waits')) (pends_rise pend calls calls' waits waits' at given h)
@@ -274,7 +274,7 @@ pub faults_later : (pend : ℕ) (calls calls' : List Call) (waits waits' : List 
 faults_later pend calls calls' waits waits' at result out h = let e = faults_polled pend calls calls' waits waits' at result out h in omega arith
 
 pub fault_polled : (pend : ℕ) (calls calls' : List Call) (waits waits' : List Wait) (at : ℕ) (result : Polled) → IsSome (out_at calls at) → PolledAt result pend waits waits' calls calls' at → result ≡ polled.Failed → Rose (faults_in calls) (faults_in calls')
-fault_polled pend calls calls' waits waits' at result out h failed = rose_more (faults_in calls) (faults_in calls') (faults_polled pend calls calls' waits waits' at result out h ∙ ap (λ r. faults_in calls + fault_of r) failed)
+fault_polled pend calls calls' waits waits' at result out h failed = (rose_more (faults_in calls) (faults_in calls') (faults_polled pend calls calls' waits waits' at result out h ∙ ap (λ r. faults_in calls + fault_of r) failed)).0
 
 -- ---- prompt
 

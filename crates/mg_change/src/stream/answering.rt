@@ -19,7 +19,7 @@ impl ChangeStream {
         requires taken { self.old.phase ≡ Phase.Taken }
         requires kept { IsKept self.old.aggregate self.old.cursor }
         ensures ticket { ticket_in self.new.phase ≡ None }
-        ensures no_pend { (n : ℕ) → StepPends result n n }
+        ensures no_pend { (n : ℕ) → StepPends result (ticket_in self.new.phase) n n }
         ensures no_loss { (n m : ℕ) → StepLoses result n m }
         ensures at_once { IsStepAtOnce result }
         ensures sound { (w : ℤ) → IsSound w self.new }
@@ -44,7 +44,7 @@ impl ChangeStream {
     pub(super) fn take(&mut self) -> EventPoll
         requires taken { self.old.phase ≡ Phase.Taken }
         requires kept { IsKept self.old.aggregate self.old.cursor }
-        ensures no_pend { (n : ℕ) → Pends result n n }
+        ensures no_pend { (n : ℕ) → Pends result (ticket_in self.new.phase) n n }
         ensures no_loss { (n m : ℕ) → Loses result n m }
         ensures at_once { IsAtOnce result }
         ensures phase { self.new.phase ≡ Phase.Rest }

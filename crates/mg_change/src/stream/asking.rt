@@ -28,7 +28,7 @@ impl ChangeStream {
         requires taken { self.old.phase ≡ Phase.Taken }
         requires kept { IsKept self.old.aggregate self.old.cursor }
         ensures ticket { ticket_in self.new.phase ≡ None }
-        ensures no_pend { (n : ℕ) → StepPends result n n }
+        ensures no_pend { (n : ℕ) → StepPends result (ticket_in self.new.phase) n n }
         ensures no_loss { (n m : ℕ) → StepLoses result n m }
         ensures at_once { IsStepAtOnce result }
         ensures sound { (w : ℤ) → IsSound w self.new }
@@ -56,7 +56,7 @@ impl ChangeStream {
         requires taken { self.old.phase ≡ Phase.Taken }
         requires kept { IsKept self.old.aggregate self.old.cursor }
         ensures tickets { Tickets (L.awaited link.old) (L.awaited link.new) (ticket_of exec) (ticket_in self.new.phase) }
-        ensures pended { StepPends result (L.pends link.old) (L.pends link.new) }
+        ensures pended { StepPends result (ticket_in self.new.phase) (L.pends link.old) (L.pends link.new) }
         ensures lost { StepLoses result (L.faults link.old) (L.faults link.new) }
         ensures prompt { L.prompt link.old → IsStepAtOnce result }
         ensures later { Later (L.faults link.old) (L.faults link.new) (L.pends link.old) (L.pends link.new)
@@ -85,7 +85,7 @@ impl ChangeStream {
         requires taken { self.old.phase ≡ Phase.Taken }
         requires kept { IsKept self.old.aggregate self.old.cursor }
         ensures ticket { ticket_in self.new.phase ≡ None }
-        ensures no_pend { (n : ℕ) → StepPends result n n }
+        ensures no_pend { (n : ℕ) → StepPends result (ticket_in self.new.phase) n n }
         ensures no_loss { (n m : ℕ) → StepLoses result n m }
         ensures at_once { IsStepAtOnce result }
         ensures sound { (w : ℤ) → IsSound w self.new }
@@ -132,7 +132,7 @@ impl ChangeStream {
         requires kept { IsKept self.old.aggregate self.old.cursor }
         requires empty { self.old.buffer.items ≡ [] }
         ensures ticket { ticket_in self.new.phase ≡ None }
-        ensures no_pend { (n : ℕ) → StepPends result n n }
+        ensures no_pend { (n : ℕ) → StepPends result (ticket_in self.new.phase) n n }
         ensures no_loss { (n m : ℕ) → StepLoses result n m }
         ensures at_once { IsStepAtOnce result }
         ensures sound { (w : ℤ) → IsSound w self.new }
@@ -163,7 +163,7 @@ impl ChangeStream {
     // A batch may be lost: the stream is to resume, now where that helps.
     fn lose(&mut self, error: Error) -> Stepped
         ensures owes { self.new ≡ record self.old { phase = Phase.Owing } }
-        ensures no_pend { (n : ℕ) → StepPends result n n }
+        ensures no_pend { (n : ℕ) → StepPends result (ticket_in self.new.phase) n n }
         ensures no_loss { (n m : ℕ) → StepLoses result n m }
         ensures at_once { IsStepAtOnce result }
         ensures falls { Falls result 7 (rank self.new.phase) }

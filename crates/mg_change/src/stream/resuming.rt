@@ -29,7 +29,7 @@ impl ChangeStream {
         requires taken { self.old.phase ≡ Phase.Taken }
         requires kept { IsKept self.old.aggregate self.old.cursor }
         ensures ticket { ticket_in self.new.phase ≡ None }
-        ensures no_pend { (n : ℕ) → StepPends result n n }
+        ensures no_pend { (n : ℕ) → StepPends result (ticket_in self.new.phase) n n }
         ensures no_loss { (n m : ℕ) → StepLoses result n m }
         ensures at_once { IsStepAtOnce result }
         ensures sound { (w : ℤ) → w ≡ wire → IsSound w self.new }
@@ -59,7 +59,7 @@ impl ChangeStream {
         requires taken { self.old.phase ≡ Phase.Taken }
         requires kept { IsKept self.old.aggregate self.old.cursor }
         ensures tickets { Tickets (L.awaited link.old) (L.awaited link.new) (ticket_of exec) (ticket_in self.new.phase) }
-        ensures pended { StepPends result (L.pends link.old) (L.pends link.new) }
+        ensures pended { StepPends result (ticket_in self.new.phase) (L.pends link.old) (L.pends link.new) }
         ensures lost { StepLoses result (L.faults link.old) (L.faults link.new) }
         ensures prompt { L.prompt link.old → IsStepAtOnce result }
         ensures later { Later (L.faults link.old) (L.faults link.new) (L.pends link.old) (L.pends link.new)
@@ -91,7 +91,7 @@ impl ChangeStream {
         requires taken { self.old.phase ≡ Phase.Taken }
         requires kept { IsKept self.old.aggregate self.old.cursor }
         ensures ticket { ticket_in self.new.phase ≡ None }
-        ensures no_pend { (n : ℕ) → StepPends result n n }
+        ensures no_pend { (n : ℕ) → StepPends result (ticket_in self.new.phase) n n }
         ensures no_loss { (n m : ℕ) → StepLoses result n m }
         ensures at_once { IsStepAtOnce result }
         ensures sound { (w : ℤ) → IsSound w self.new }
@@ -117,7 +117,7 @@ impl ChangeStream {
         requires kept { IsKept self.old.aggregate self.old.cursor }
         requires named { IsNamed (space opened.info.ns) }
         ensures ticket { ticket_in self.new.phase ≡ None }
-        ensures no_pend { (n : ℕ) → StepPends result n n }
+        ensures no_pend { (n : ℕ) → StepPends result (ticket_in self.new.phase) n n }
         ensures no_loss { (n m : ℕ) → StepLoses result n m }
         ensures at_once { IsStepAtOnce result }
         ensures sound { (w : ℤ) → IsSound w self.new }
@@ -162,7 +162,7 @@ impl ChangeStream {
         requires taken { self.old.phase ≡ Phase.Taken }
         requires kept { IsKept self.old.aggregate self.old.cursor }
         ensures tickets { Tickets (L.awaited link.old) (L.awaited link.new) (ticket_of exec) (ticket_in self.new.phase) }
-        ensures pended { StepPends result (L.pends link.old) (L.pends link.new) }
+        ensures pended { StepPends result (ticket_in self.new.phase) (L.pends link.old) (L.pends link.new) }
         ensures lost { StepLoses result (L.faults link.old) (L.faults link.new) }
         ensures prompt { L.prompt link.old → IsStepAtOnce result }
         ensures later { Later (L.faults link.old) (L.faults link.new) (L.pends link.old) (L.pends link.new)
@@ -194,7 +194,7 @@ impl ChangeStream {
         requires taken { self.old.phase ≡ Phase.Taken }
         requires kept { IsKept self.old.aggregate self.old.cursor }
         ensures ticket { ticket_in self.new.phase ≡ None }
-        ensures no_pend { (n : ℕ) → StepPends result n n }
+        ensures no_pend { (n : ℕ) → StepPends result (ticket_in self.new.phase) n n }
         ensures no_loss { (n m : ℕ) → StepLoses result n m }
         ensures at_once { IsStepAtOnce result }
         ensures sound { (w : ℤ) → IsSound w self.new }
@@ -218,7 +218,7 @@ impl ChangeStream {
         requires taken { self.old.phase ≡ Phase.Taken }
         requires kept { IsKept self.old.aggregate self.old.cursor }
         ensures ticket { ticket_in self.new.phase ≡ None }
-        ensures no_pend { (n : ℕ) → StepPends result n n }
+        ensures no_pend { (n : ℕ) → StepPends result (ticket_in self.new.phase) n n }
         ensures no_loss { (n m : ℕ) → StepLoses result n m }
         ensures at_once { IsStepAtOnce result }
         ensures sound { (w : ℤ) → IsSound w self.new }

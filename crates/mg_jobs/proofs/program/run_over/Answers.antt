@@ -4,6 +4,7 @@ use Rattle.mg_link.specs.Ids.{counted_id}
 use Rattle.mg_link.specs.History.{IsLegal}
 use Rattle.mg_link.specs.Kept.{IsByRules, steps_of}
 use Rattle.mg_link.specs.Log.{Call}
+use Rattle.mg_link.specs.Places.{out_at}
 use Rattle.mg_link.specs.Standing.{Stands}
 use Rattle.mg_link.proofs.Owners.{same_some}
 use Rattle.mg_link.proofs.Runs.{names_none_at_first}
@@ -12,13 +13,14 @@ use Rattle.mg_link.specs.Link.{Told}
 use Rattle.mg_jobs.specs.Counts.{AreNoted}
 use Rattle.mg_jobs.specs.Fated.{AreItsSteps}
 use Rattle.mg_jobs.specs.Progress.{AllPlayed}
-use Rattle.mg_jobs.specs.Causes.{OutcomeCaused, course}
+use Rattle.mg_jobs.specs.Causes.{AllSettled, OutcomeCaused, course}
 use Rattle.mg_jobs.specs.Drawing.{as_sent}
 use Rattle.mg_jobs.specs.Headline.{OutcomeFollowed}
 use Rattle.mg_jobs.specs.Program.{script_ids}
 use Rattle.mg_script.specs.Plan.{Task, tasks}
 use Rattle.mg_script.specs.declared.script.Job.{Job}
 use Rattle.mg_jobs.proofs.Drawing.{sent_same}
+use Rattle.mg_jobs.proofs.Tallies.{noted_rose, turns_counted}
 use Rattle.mg_jobs.proofs.program.run_over.Goals as goal
 
 zero_more : (k : ℕ) → 0 + k ≡ k
@@ -40,6 +42,11 @@ returns-clause-followed g c =
     let same_ids : (k : ℕ) → drawn k ≡ script_ids c.args.script k =
     λ k. ap (λ m. counted_id m.prefix (m.next + k)) c.new-ids.ensures ∙ ap (λ n. counted_id c.prefix_of.result n) (zero_more k) ∙ ap (λ p. counted_id p k) c.prefix_of.ensures in
     let unpolled = ap (λ m. pends_in m.pended) c.new-link.ensures ∙ ap pends_in c.requires.unpolled in
+    let noted : AreNoted notes (Some []) (Some f.0) 0 (pends_in link.pended) =
+    subst (λ (n : ℕ). AreNoted notes (Some []) (Some f.0) 0 n) (sym (ap (λ m. pends_in m.pended) c.into_link.ensures.link))
+    (subst (λ (n : ℕ). AreNoted notes (Some []) (Some f.0) n (pends_in c.run_jobs.new.link.pended)) unpolled
+    (subst (λ (l : Told). AreNoted notes l (Some f.0) (pends_in c.new-link.result.pended) (pends_in c.run_jobs.new.link.pended)) begins
+    (subst (λ (l : Told). AreNoted notes (Some c.new-link.result.calls) l (pends_in c.new-link.result.pended) (pends_in c.run_jobs.new.link.pended)) f.1 c.in_ok-played.ensures.noted))) in
     record {
       calls = f.0;
       log_is = c.in_ok-logs.ensures.items ∙ ap (λ l. l ∷ []) (c.into_parts-store.ensures.calls ∙ calls);
@@ -53,11 +60,13 @@ returns-clause-followed g c =
       turns_are = c.in_ok-turns.ensures.items;
       caused = λ i t r ht hr.
           let script = c.args.script in
-          subst (λ (s : Task). OutcomeCaused (course [] script.order.items notes) i f.0 script.wire s r) (sent_same (script_ids script) drawn (tasks script.jobs.items) script.order.items i t same_ids)
-          (subst (λ (w : ℤ). OutcomeCaused (course [] script.order.items notes) i f.0 w (as_sent drawn (tasks script.jobs.items) script.order.items i t) r) wire
-          (subst (λ (l : List Call). OutcomeCaused (course [] script.order.items notes) i l c.new-link.result.wire (as_sent drawn (tasks script.jobs.items) script.order.items i t) r) same
-          (subst (λ (js : List Job). OutcomeCaused (course [] script.order.items notes) i told.0 c.new-link.result.wire (as_sent drawn (tasks js) script.order.items i t) r) jobs
-          (subst (λ (o : List ℕ). OutcomeCaused (course [] o notes) i told.0 c.new-link.result.wire (as_sent drawn (tasks c.as_slice.result.now) o i t) r) c.as_slice-2.ensures.value (told.2 i t r (ap (λ l. slice_get (tasks l) i) jobs ∙ ht) hr)))));
+          let waits = out_at c.run_jobs.new.link.calls in
+          subst (λ (l : List Call). OutcomeCaused (out_at l) (course [] script.order.items notes) i f.0 script.wire (as_sent (script_ids script) (tasks script.jobs.items) script.order.items i t) r) (same_some c.run_jobs.new.link.calls f.0 f.1)
+          (subst (λ (s : Task). OutcomeCaused waits (course [] script.order.items notes) i f.0 script.wire s r) (sent_same (script_ids script) drawn (tasks script.jobs.items) script.order.items i t same_ids)
+          (subst (λ (w : ℤ). OutcomeCaused waits (course [] script.order.items notes) i f.0 w (as_sent drawn (tasks script.jobs.items) script.order.items i t) r) wire
+          (subst (λ (l : List Call). OutcomeCaused waits (course [] script.order.items notes) i l c.new-link.result.wire (as_sent drawn (tasks script.jobs.items) script.order.items i t) r) same
+          (subst (λ (js : List Job). OutcomeCaused waits (course [] script.order.items notes) i told.0 c.new-link.result.wire (as_sent drawn (tasks js) script.order.items i t) r) jobs
+          (subst (λ (o : List ℕ). OutcomeCaused waits (course [] o notes) i told.0 c.new-link.result.wire (as_sent drawn (tasks c.as_slice.result.now) o i t) r) c.as_slice-2.ensures.value (told.2 i t r (ap (λ l. slice_get (tasks l) i) jobs ∙ ht) hr))))));
       fates = g.F.Fated.fates;
       fates_are = c.requires.fates;
       pended = link.pended;
@@ -68,8 +77,11 @@ returns-clause-followed g c =
       rows = subst (λ (o : List ℕ). AllPlayed (tasks c.args.script.jobs.items) o notes c.in_ok-played.played.outcomes.items) c.as_slice-2.ensures.value
           (subst (λ l. AllPlayed (tasks l) c.as_slice-2.result.now notes c.in_ok-played.played.outcomes.items) jobs c.in_ok-played.ensures.rows);
       notes = c.in_ok-played.ensures.turns ∙ ap length c.as_slice-2.ensures.value;
-      noted = subst (λ (n : ℕ). AreNoted notes (Some []) (Some f.0) 0 n) (sym (ap (λ m. pends_in m.pended) c.into_link.ensures.link))
-          (subst (λ (n : ℕ). AreNoted notes (Some []) (Some f.0) n (pends_in c.run_jobs.new.link.pended)) unpolled
-          (subst (λ (l : Told). AreNoted notes l (Some f.0) (pends_in c.new-link.result.pended) (pends_in c.run_jobs.new.link.pended)) begins
-          (subst (λ (l : Told). AreNoted notes (Some c.new-link.result.calls) l (pends_in c.new-link.result.pended) (pends_in c.run_jobs.new.link.pended)) f.1 c.in_ok-played.ensures.noted)));
+      noted = noted;
+      pended_in_turns = let few = c.in_ok-played.played.turns.ok.0 in turns_counted notes (pends_in link.pended) (omega (arith, few)) (noted_rose notes (Some []) (Some f.0) 0 (pends_in link.pended) noted);
+      settled =
+          let begun = ap (λ m. m.calls) c.new-link.ensures ∙ c.requires.unused in
+          subst (λ (l : List Call). AllSettled (out_at l) (out_at f.0) (Some l) c.args.script.order.items notes) begun
+          (subst (λ (l : List Call). AllSettled (out_at c.new-link.result.calls) (out_at l) (Some c.new-link.result.calls) c.args.script.order.items notes) (same_some c.run_jobs.new.link.calls f.0 f.1)
+          (subst (λ (o : List ℕ). AllSettled (out_at c.new-link.result.calls) (out_at c.run_jobs.new.link.calls) (Some c.new-link.result.calls) o notes) c.as_slice-2.ensures.value c.in_ok-played.ensures.settled));
     }

@@ -18,6 +18,9 @@ use Rattle.mg_jobs.proofs.run.play.Goals as goal
 pub returns-in_err-turn-clause-knowing : goal.returns-in_err-turn-clause-knowing
 returns-in_err-turn-clause-knowing g c = λ begun before. c.turn.ensures.knowing begun (c.loop-number.invariant.knowing begun before)
 
+pub returns-in_err-turn-clause-held : goal.returns-in_err-turn-clause-held
+returns-in_err-turn-clause-held g c = λ before was. c.turn.ensures.held before (c.loop-number.invariant.held before was)
+
 pub loop-number-preserved : goal.loop-number-preserved
 loop-number-preserved g c =
     let noted = c.in_ok-turn.ensures.noted in
@@ -30,11 +33,12 @@ loop-number-preserved g c =
       started = subst (λ (ts : List Turned). StartedBy (sum_by (λ (t : Turned). t.started) ts) (g.L.Link.log c.args.link.now) (g.L.Link.log c.turn.new.link)) (sym noted.1)
           (started_more xs noted.0 _ _ _ c.loop-number.invariant.started noted.2.starts);
       noted = subst (λ (ts : List Turned). AreNoted ts (g.L.Link.log c.args.link.now) (g.L.Link.log c.turn.new.link) (g.L.Link.pends c.args.link.now) (g.L.Link.pends c.turn.new.link)) (sym noted.1)
-          (noted_more xs noted.0 _ _ _ _ _ _ c.loop-number.invariant.noted noted.2.starts noted.2.pends);
+          (noted_more xs noted.0 _ _ _ _ _ _ c.loop-number.invariant.noted noted.2.starts noted.2.stays noted.2.pends);
       quiet = λ prompt. subst (λ (ts : List Turned). All (λ (t : Turned). t.pended ≡ false) ts) (sym noted.1)
           (All-append (λ (t : Turned). t.pended ≡ false) xs (noted.0 ∷ []) (c.loop-number.invariant.quiet prompt) (All-cons (λ (t : Turned). t.pended ≡ false) noted.0 [] (noted.2.prompt (c.loop-number.invariant.later.prompt prompt).stays).1 (All-nil (λ (t : Turned). t.pended ≡ false))));
       lossless = λ prompt. loses_on _ _ _ (c.loop-number.invariant.lossless prompt) (noted.2.prompt (c.loop-number.invariant.later.prompt prompt).stays).2;
       jobs = c.turn.ensures.jobs ∙ c.loop-number.invariant.jobs;
+      held = λ first was. c.turn.ensures.held first (c.loop-number.invariant.held first was);
       knowing = λ begun before. c.turn.ensures.knowing begun (c.loop-number.invariant.knowing begun before);
       rows = λ ts before. at_next ts c.args.order.now c.loop-number.number-index (get_or c.args.order.now c.loop-number.number-index 0) c.turn.new.self.turns.items c.turn.new.self.players.items there
           (c.in_ok-turn.ensures.rows ts (take c.loop-number.number-index c.args.order.now) (length_take c.args.order.now c.loop-number.number-index (get_or c.args.order.now c.loop-number.number-index 0) there ∙ sym c.loop-number.invariant.turns) (c.loop-number.invariant.rows ts before));
@@ -73,6 +77,7 @@ loop-number-init g c =
       quiet = λ prompt. subst (λ (ts : List Turned). All (λ (t : Turned). t.pended ≡ false) ts) (sym none) (All-nil (λ (t : Turned). t.pended ≡ false));
       lossless = λ prompt calls told. (calls, told, λ place call there seen. there);
       jobs = refl;
+      held = λ first was. was;
       knowing = λ begun knowing. knowing;
       rows = λ ts rows. subst (λ (ns : List Turned). AllAt ts [] ns c.args.runner.now.players.items) (sym none) rows;
       drawn = λ first ts does drawn. drawn;

@@ -1,12 +1,12 @@
 use Rattle.std.proofs.Common.{◌≡◌, ℕ, List, [], length, take, false}
 use Rattle.std.specs.List.{All, sum_by}
-use Rattle.mg_link.specs.Link.{Later, Told}
+use Rattle.mg_link.specs.Link.{Awaited, Later, Told}
 use Rattle.mg_jobs.specs.Counts.{AreNoted, LosesNothing, StartedBy}
 use Rattle.mg_jobs.specs.Drawing.{HaveDrawn}
 use Rattle.mg_jobs.specs.Headline.{DoTasks, Knowing}
 use Rattle.mg_script.specs.Plan.{Task}
 use Rattle.mg_jobs.specs.Progress.{AllAt}
-use Rattle.mg_jobs.specs.Runs.{Stands}
+use Rattle.mg_jobs.specs.Runs.{AreHeld, Stands}
 use Rattle.mg_jobs.specs.Telling.{AllTell}
 use Rattle.mg_script.specs.declared.outcome.Turned.{Turned}
 use Rattle.mg_jobs.proofs.run.play.Given as goal
@@ -21,6 +21,7 @@ invariant-loop-number g l = record {
   quiet : g.L.Link.prompt l.initial.link → All (λ (t : Turned). t.pended ≡ false) l.runner.turns.items;
   lossless : g.L.Link.prompt l.initial.link → LosesNothing (g.L.Link.log l.initial.link) (g.L.Link.log l.link);
   jobs : length l.runner.players.items ≡ length l.initial.runner.players.items;
+  held : (before : Awaited) → AreHeld before (g.L.Link.awaited l.initial.link) l.initial.runner.players.items → AreHeld before (g.L.Link.awaited l.link) l.runner.players.items;
   knowing : (begun : Told) → Knowing (g.L.Link.awaited l.initial.link) begun (g.L.Link.log l.initial.link) l.initial.runner.players.items → Knowing (g.L.Link.awaited l.link) begun (g.L.Link.log l.link) l.runner.players.items;
   rows : (ts : List Task) → AllAt ts [] [] l.initial.runner.players.items → AllAt ts (take l.number-index l.fn.order) l.runner.turns.items l.runner.players.items;
   drawn : (first : ℕ → List ℕ) (ts : List Task) → DoTasks ts l.initial.runner.players.items → HaveDrawn first (g.I.IdSource.ids l.initial.ids) ts [] l.initial.runner.players.items → HaveDrawn first (g.I.IdSource.ids l.ids) ts (take l.number-index l.fn.order) l.runner.players.items;

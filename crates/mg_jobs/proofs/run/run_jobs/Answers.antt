@@ -1,4 +1,4 @@
-use Rattle.std.proofs.Common.{◌≡◌, ◌<◌, length, None, sym, ◌∙◌, subst}
+use Rattle.std.proofs.Common.{◌≡◌, ◌<◌, length, None, inr, refl, sym, ◌∙◌, subst}
 use Rattle.std.specs.List.{All}
 use Rattle.mg_script.specs.Script.{first_missing}
 use Rattle.mg_jobs.proofs.Orders.{none_missing}
@@ -8,6 +8,7 @@ use Rattle.mg_jobs.proofs.Knowing.{knowing_first}
 use Rattle.mg_jobs.proofs.Advancing.{rows_so}
 use Rattle.mg_jobs.proofs.Completing.{well_so}
 use Rattle.mg_jobs.proofs.Drawing.{drawn_first, drawn_so}
+use Rattle.mg_jobs.proofs.Settled.{settled_so}
 use Rattle.mg_jobs.proofs.Tallies.{noted_so, pended_so}
 use Rattle.mg_jobs.proofs.Told.{caused_so, followed_so, tell_as, tell_first}
 use Rattle.mg_jobs.proofs.run.run_jobs.Goals as goal
@@ -66,8 +67,18 @@ returns-clause-caused g c =
     (c.in_ok-play.ensures.told _ (g.L.Link.log c.args.link.now) (tasks c.args.jobs.now) c.in_ok-runner.ensures.tasks c.in_ok-runner.ensures.at first (tell_first _ _ _ _ (tasks c.args.jobs.now) c.in_ok-runner.runner.players.items c.in_ok-runner.ensures.first)))
     (c.in_ok-play.ensures.rows _ c.in_ok-runner.ensures.at) (c.play.ensures.tasks _ c.in_ok-runner.ensures.tasks)
 
+pub returns-clause-settled : goal.returns-clause-settled
+returns-clause-settled g c =
+    let jobs = c.in_ok-runner.ensures.jobs ∙ sym (length-map c.args.jobs.now task) in
+    let first = drawn_first (g.I.IdSource.ids c.args.ids.now) (tasks c.args.jobs.now) c.in_ok-runner.runner.players.items jobs c.in_ok-runner.ensures.first in
+    settled_so (g.I.IdSource.ids c.args.ids.now) (g.I.IdSource.ids c.play.new.ids) (g.L.Link.awaited c.args.link.now) _ _ _ _ (tasks c.args.jobs.now) c.args.order.now c.play.new.runner.turns.items c.play.new.runner.players.items c.into_played.result c.into_played.ensures.turns
+    (c.in_ok-play.ensures.drawn _ (tasks c.args.jobs.now) c.in_ok-runner.ensures.tasks first)
+    (c.in_ok-play.ensures.told _ (g.L.Link.log c.args.link.now) (tasks c.args.jobs.now) c.in_ok-runner.ensures.tasks c.in_ok-runner.ensures.at first (tell_first _ _ _ _ (tasks c.args.jobs.now) c.in_ok-runner.runner.players.items c.in_ok-runner.ensures.first))
+    (c.in_ok-play.ensures.rows _ c.in_ok-runner.ensures.at)
+    (c.play.ensures.held (g.L.Link.awaited c.args.link.now) (λ ticket out. inr refl))
+
 pub returns-clause-complete : goal.returns-clause-complete
-returns-clause-complete g c = λ prompt. well_so _ _ _ _ (tasks c.args.jobs.now) c.args.order.now c.into_played.result (c.in_ok-play.ensures.lossless prompt) (returns-clause-caused g c) (returns-clause-rows g c)
+returns-clause-complete g c = λ prompt. well_so _ _ _ _ _ (tasks c.args.jobs.now) c.args.order.now c.into_played.result (c.in_ok-play.ensures.lossless prompt) (returns-clause-caused g c) (returns-clause-rows g c)
 
 pub returns-clause-noted : goal.returns-clause-noted
 returns-clause-noted g c = noted_so c.into_played.result c.play.new.runner.turns.items _ _ _ _ c.into_played.ensures.turns c.in_ok-play.ensures.noted

@@ -1,3 +1,4 @@
+use Rattle.mg_change.specs.Phases.{ticket_in}
 use Rattle.mg_change.specs.Rows.{looking}
 use Rattle.mg_change.proofs.Seeking as seeking
 use Rattle.mg_change.proofs.Sent as sending
@@ -5,7 +6,7 @@ use Rattle.mg_change.proofs.SeekCauses as causes
 use Rattle.mg_change.proofs.stream.ChangeStream.seek.Goals as goal
 
 pub returns-clause-pended : goal.returns-clause-pended
-returns-clause-pended g c = seeking.pends_so (looking c.resumes-resumes.result c.args.counts.now) c.after.new.self c.is_over.result c.advance-stepped.result c.after.result c.after.ensures (g.L.Link.pends c.args.link.now) (g.L.Link.pends c.advance-stepped.new.link) c.advance-stepped.ensures.pended
+returns-clause-pended g c = seeking.pends_so (looking c.resumes-resumes.result c.args.counts.now) c.after.new.self c.is_over.result c.advance-stepped.result c.after.result c.after.ensures (ticket_in c.advance-stepped.new.self.phase) (g.L.Link.pends c.args.link.now) (g.L.Link.pends c.advance-stepped.new.link) c.advance-stepped.ensures.pended
 
 pub returns-clause-lost : goal.returns-clause-lost
 returns-clause-lost g c = seeking.loses_so (looking c.resumes-resumes.result c.args.counts.now) c.after.new.self c.is_over.result c.advance-stepped.result c.after.result c.after.ensures (g.L.Link.faults c.args.link.now) (g.L.Link.faults c.advance-stepped.new.link) c.advance-stepped.ensures.lost

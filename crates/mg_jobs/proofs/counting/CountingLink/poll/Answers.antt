@@ -1,4 +1,4 @@
-use Rattle.mg_jobs.proofs.Tallies.{counted_seen}
+use Rattle.mg_jobs.proofs.Tallies.{counted_pends, counted_seen}
 use Rattle.mg_jobs.proofs.counting.CountingLink.poll.Goals as goal
 
 pub invariant_of-self-in-Reply : goal.invariant_of-self-in-Reply
@@ -9,3 +9,6 @@ invariant_of-self-in-Failed g c = counted_seen _ _ _ _ _ _ _ _ _ _ _ _ _ c.self.
 
 pub invariant_of-self-in-Memory : goal.invariant_of-self-in-Memory
 invariant_of-self-in-Memory g c = counted_seen _ _ _ _ _ _ _ _ _ _ _ _ _ c.self.invariant c.in-Memory.ensures.polls.sees c.in-Memory.ensures.pended (λ was. (c.in-Memory.ensures.later.prompt was).stays) (λ was is. absurd cc)
+
+pub invariant_of-self : goal.invariant_of-self
+invariant_of-self g c = counted_pends _ _ _ _ _ _ _ _ _ _ _ _ c.self.invariant c.in-Pending.ensures.polls.log_same c.saturating_add-self-inside.ensures c.in-Pending.ensures.pended c.in-Pending.ensures.later.pends c.in-Pending.ensures.prompt

@@ -2,6 +2,7 @@ use Rattle.std.proofs.Common.{ap, refl, length, length-append, ◌∷◌, [], �
 use Rattle.mg_change.specs.Following.{event_told}
 use Rattle.mg_link.proofs.Onward.{tickets_on}
 use Rattle.mg_jobs.specs.declared.player.Stage.TheVariants as stage
+use Rattle.mg_change.specs.Phases.{ticket_in}
 use Rattle.mg_jobs.proofs.Turning.{call_answers, call_pends, rests_after, took_on}
 use Rattle.mg_jobs.proofs.Vainly.{vain_call, vain_on}
 use Rattle.mg_jobs.proofs.Advancing.{ask_goes, ask_waits}
@@ -38,7 +39,7 @@ returns-in-None-clause-turned g c =
     }
 
 pub returns-in-Some-clause-comes : goal.returns-in-Some-clause-comes
-returns-in-Some-clause-comes g c = ask_goes _ _ _ c.args.stream (came c.args.self.now) (came c.take.new.self) _ _ c.poll_next_if_any.result c.in-Some.ensures.1 c.poll_next_if_any.ensures.pended c.take.ensures.opened c.take.ensures.closed (ap length c.take.ensures.answers ∙ length-append c.args.self.now.answers.items (c.in-Some.answer ∷ [])) c.take.ensures.left c.go_on.ensures.comes
+returns-in-Some-clause-comes g c = ask_goes _ _ _ c.args.stream (came c.args.self.now) (came c.take.new.self) _ _ c.poll_next_if_any.result (ticket_in c.poll_next_if_any.new.self.phase) c.in-Some.ensures.1 c.poll_next_if_any.ensures.pended c.take.ensures.opened c.take.ensures.closed (ap length c.take.ensures.answers ∙ length-append c.args.self.now.answers.items (c.in-Some.answer ∷ [])) c.take.ensures.left c.go_on.ensures.comes
 
 pub returns-in-None-clause-comes : goal.returns-in-None-clause-comes
 returns-in-None-clause-comes g c = ask_waits _ _ c.args.stream c.poll_next_if_any.new.self _ c.poll_next_if_any.result c.in-None.ensures c.poll_next_if_any.ensures.pended

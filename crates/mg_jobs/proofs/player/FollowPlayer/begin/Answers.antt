@@ -6,7 +6,7 @@ use Rattle.mg_jobs.specs.declared.player.Stage.TheVariants as stage
 use Rattle.mg_jobs.proofs.Turning.{begin_failed, begins, took_on}
 use Rattle.mg_jobs.proofs.Vainly.{vain_begin_failed, vain_begins, vain_on}
 use Rattle.mg_jobs.proofs.Watched.{args_ask, args_ask_nothing}
-use Rattle.mg_jobs.proofs.Advancing.{never_open}
+use Rattle.mg_jobs.proofs.Advancing.{begins_open, never_open}
 use Rattle.mg_jobs.proofs.Telling.{begin_fails, begin_tells}
 use Rattle.mg_jobs.specs.Telling.{IsWatchArgs, kept}
 use Rattle.mg_jobs.proofs.player.FollowPlayer.begin.Goals as goal
@@ -41,7 +41,7 @@ returns-in-Err-clause-turned g c = record {
 }
 
 pub returns-in-Ok-clause-comes : goal.returns-in-Ok-clause-comes
-returns-in-Ok-clause-comes g c = c.open.ensures.comes
+returns-in-Ok-clause-comes g c = begins_open _ _ c.new.result _ _ _ c.new.ensures.ticket c.open.ensures.comes
 
 pub returns-in-Err-clause-comes : goal.returns-in-Err-clause-comes
-returns-in-Err-clause-comes g c = never_open _ _ _ _ refl (subst (λ o. IsFailed o) (sym c.note.ensures) tt) refl refl
+returns-in-Err-clause-comes g c = never_open _ _ stage.Unopened _ _ (λ calls k last at. at.0) refl (subst (λ o. IsFailed o) (sym c.note.ensures) tt) refl refl refl

@@ -34,7 +34,7 @@ returns-clause-turned g c =
     }
 
 pub returns-then-self-gt0-clause-comes : goal.returns-then-self-gt0-clause-comes
-returns-then-self-gt0-clause-comes g c = stays_open _ c.args.stream _ (omega (arith, c.if-self-gt0.true))
+returns-then-self-gt0-clause-comes g c = stays_open _ c.args.stream _ c.requires.rests (omega (arith, c.if-self-gt0.true))
 
 pub returns-clause-comes : goal.returns-clause-comes
 returns-clause-comes g c = goes_to_close _ _ _ _ _ (omega (arith, c.if-self-gt0.false)) c.close.ensures.comes

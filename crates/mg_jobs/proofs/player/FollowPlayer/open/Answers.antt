@@ -68,4 +68,4 @@ pub returns-in-Done-clause-comes : goal.returns-in-Done-clause-comes
 returns-in-Done-clause-comes g c = open_goes _ _ _ c.args.opening (came c.args.self.now) _ _ _ c.in-Done.ensures.pended (subst (λ o. HasGiven o) (sym c.note.ensures) tt) refl refl refl c.go_on.ensures.comes
 
 pub returns-in-Failed-clause-comes : goal.returns-in-Failed-clause-comes
-returns-in-Failed-clause-comes g c = never_open _ _ _ _ c.in-Failed.ensures.pended (subst (λ o. IsFailed o) (sym c.note-in-Failed.ensures) tt) refl refl
+returns-in-Failed-clause-comes g c = never_open _ _ (stage.Opens c.args.opening) _ _ (λ calls k last at. at.0) c.in-Failed.ensures.pended (subst (λ o. IsFailed o) (sym c.note-in-Failed.ensures) tt) refl refl refl

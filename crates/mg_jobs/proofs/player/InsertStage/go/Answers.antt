@@ -31,7 +31,7 @@ pub returns-in-Unsent-clause-comes : goal.returns-in-Unsent-clause-comes
 returns-in-Unsent-clause-comes g c = rw c.in-Unsent.is (false, refl, λ calls k last at. absurd at)
 
 pub returns-in-Pending-clause-comes : goal.returns-in-Pending-clause-comes
-returns-in-Pending-clause-comes g c = rw c.in-Goes.is (insert_waits _ _ (inserts.Goes c.in-Goes.inserting) (inserts.Goes c.in-Pending.inserting) c.in-Pending.ensures.pended (λ k at. at))
+returns-in-Pending-clause-comes g c = rw c.in-Goes.is (insert_waits _ _ (inserts.Goes c.in-Goes.inserting) (inserts.Goes c.in-Pending.inserting) c.in-Pending.ensures.pended.1 (λ k at. (at, c.in-Pending.ensures.pended.0)))
 
 pub returns-in-Done-clause-comes : goal.returns-in-Done-clause-comes
 returns-in-Done-clause-comes g c = rw c.in-Goes.is (insert_done _ _ (inserts.Goes c.in-Goes.inserting) (ended.Gave c.in-Done.count) c.in-Done.ensures.pended tt)

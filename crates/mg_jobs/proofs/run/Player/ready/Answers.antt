@@ -20,7 +20,7 @@ pub returns-in-Follow-clause-task : goal.returns-in-Follow-clause-task
 returns-in-Follow-clause-task g c = rw c.in-Follow.is (same_watch _ _ c.ready-in-Follow.ensures.same.watched_same)
 
 pub returns-in-Insert-clause-at : goal.returns-in-Insert-clause-at
-returns-in-Insert-clause-at g c = rw c.in-Insert.is (λ calls k last at. c.ready.ensures.at k at)
+returns-in-Insert-clause-at g c = rw c.in-Insert.is (λ calls k last at. c.ready.ensures.at k last at)
 
 pub returns-in-Follow-clause-at : goal.returns-in-Follow-clause-at
 returns-in-Follow-clause-at g c = rw c.in-Follow.is (same_came _ _ c.ready-in-Follow.ensures.same)

@@ -44,7 +44,7 @@ pub returns-in-Second-clause-tickets : goal.returns-in-Second-clause-tickets
 returns-in-Second-clause-tickets g c = runs_tickets _ _ _ _ (g.L.Link.wire c.args.link.now) c.args.self c.answer.result c.requires (returns-in-Second-clause-runs g c)
 
 pub returns-in-Second-clause-pended : goal.returns-in-Second-clause-pended
-returns-in-Second-clause-pended g c = gives_pended (attempt g c) _ (held c.self.inside.command (reads c.self.inside.retry) true) c.answer.result _ _ _ _ c.go_on-attempt-in-Second.ensures.counts (gives g c)
+returns-in-Second-clause-pended g c = gives_pended (attempt g c) _ (held c.self.inside.command (reads c.self.inside.retry) true) c.answer.result _ _ _ _ (λ ticket. refl) c.go_on-attempt-in-Second.ensures.counts (gives g c)
 
 pub returns-in-Second-clause-lost : goal.returns-in-Second-clause-lost
 returns-in-Second-clause-lost g c = gives_lost (attempt g c) _ (held c.self.inside.command (reads c.self.inside.retry) true) c.answer.result _ _ _ _ c.go_on-attempt-in-Second.ensures.counts (gives g c)

@@ -1,0 +1,204 @@
+-- Whose call it is that waits for its reply.
+use Rattle.std.proofs.Common.{◌≡◌, ◌⊎◌, ◌+◌, ◌<◌, ◌≤◌, ℕ, zero, suc, ℤ, pos, Bool, true, List, [], ◌∷◌, ◌++◌, length, Option, Some, None, Result, Ok, Err, IfOk, refl, sym, ap, ◌∙◌, subst, inl, inr, arith}
+use Rattle.std.specs.Prelude.{is_some, slice_get, slice_set}
+use Rattle.std.specs.List.{sum_by}
+use Rattle.std.proofs.lemmas.Bool.{cases_eq}
+use Rattle.std.proofs.lemmas.List.Sums.{sum_by-cons}
+use Rattle.mg_bson.specs.Tree.{Fields}
+use Rattle.mg_link.specs.Acts.{Tickets}
+use Rattle.mg_link.specs.Link.{Awaited, Told}
+use Rattle.mg_link.specs.Log.{Call}
+use Rattle.mg_link.specs.Namespace.{Space, space}
+use Rattle.mg_link.specs.declared.error.Error.{Error}
+use Rattle.mg_link.proofs.Owners.{same_some}
+use Rattle.mg_store.proofs.Standing.{get_set_same}
+use Rattle.mg_ops.specs.Commands.{insert_command}
+use Rattle.mg_change.specs.Calls.{Past}
+use Rattle.mg_change.proofs.Awaiting.{call_own, kill_own, opening_own}
+use Rattle.mg_change.proofs.Calls.{HoldsOwn, own_by}
+use Rattle.mg_jobs.specs.Causes.{AllSentIn, AllSettled, Course, SentIn, course, sent_at}
+use Rattle.mg_jobs.specs.Drawing.{HadTurn, HaveDrawn, JobHadTurn, first_id, has_turn}
+use Rattle.mg_jobs.specs.InsertCauses.{InsertFlies}
+use Rattle.mg_jobs.specs.Inserts.{held}
+use Rattle.mg_jobs.specs.Playing.{inserts_ticket, stage_ticket}
+use Rattle.mg_jobs.specs.Progress.{AllAt, Came, FollowAt, InsertAt, IsAt, calls_of, came, pends_last, turns_done}
+use Rattle.mg_jobs.specs.Runs.{AreHeld, job_ticket}
+use Rattle.mg_jobs.specs.Telling.{AllTell, FollowTold, InsertTells, JobTold, Kept, kept, number}
+use Rattle.mg_script.specs.Plan.{Task}
+use Rattle.mg_script.specs.declared.outcome.Played.{Played}
+use Rattle.mg_script.specs.declared.outcome.Turned.{Turned}
+use Rattle.mg_jobs.specs.declared.insert.Command.{Command}
+use Rattle.mg_jobs.specs.declared.player.InsertStage.{InsertStage}
+use Rattle.mg_jobs.specs.declared.player.InsertStage.TheVariants as inserts
+use Rattle.mg_jobs.specs.declared.player.Stage.{Stage}
+use Rattle.mg_jobs.specs.declared.player.Stage.TheVariants as stage
+use Rattle.mg_jobs.specs.declared.run.Player.{Player}
+use Rattle.mg_jobs.specs.declared.run.Player.TheVariants as player
+use Rattle.mg_jobs.proofs.Knowing.{get_length}
+
+-- ---- the tickets that are out
+
+get_set_still : {A : Type 0} (xs : List A) (k i : ℕ) (x y : A) → (i ≡ k → ⊥) → slice_get xs i ≡ Some x → slice_get (slice_set xs k y) i ≡ Some x
+get_set_still [] k i x y ne h = h
+get_set_still (z ∷ xs) zero zero x y ne h = absurd (ne refl)
+get_set_still (z ∷ xs) zero (suc i) x y ne h = h
+get_set_still (z ∷ xs) (suc k) zero x y ne h = h
+get_set_still (z ∷ xs) (suc k) (suc i) x y ne h = get_set_still xs k i x y (λ e. ne (ap suc e)) h
+
+-- behind the turn of a job its own new ticket and those of the others are out, and no other
+pub held_turn : (before old new : Awaited) (players : List Player) (k : ℕ) (p p' : Player) → slice_get players k ≡ Some p → Tickets old new (job_ticket p) (job_ticket p') → AreHeld before old players → AreHeld before new (slice_set players k p')
+held_turn before old new players k p p' at tickets holds m out =
+    elim (tickets.only m out) [
+      | inl e ↦ inl (record { job = k; player = p'; there = get_set_same players k p p' at; holds = e })
+      | inr was ↦ elim (holds m was.0) [
+        | inl by ↦ elim (cases_eq by.job k) [
+          | inl e ↦
+              let same : by.player ≡ p = same_some by.player p (sym by.there ∙ ap (λ n. slice_get players n) e ∙ at) in
+              absurd (was.1 (ap (λ (x : Player). job_ticket x) (sym same) ∙ by.holds))
+          | inr ne ↦ inl (record { job = by.job; player = by.player; there = get_set_still players k by.job by.player p' ne by.there; holds = by.holds })
+        ]
+        | inr same ↦ inr (tickets.rest m was.1 was.0 ∙ same)
+      ]
+    ]
+
+-- ---- one place, one turn
+
+abbrev started_in : List Turned → ℕ
+started_in notes = sum_by (λ (t : Turned). t.started) notes
+
+-- a turn comes behind all that an earlier one started
+starts_behind : (xs ys : List Turned) (x y : Turned) (more more' : List Turned) → xs ++ x ∷ more ≡ ys ++ y ∷ more' → length xs < length ys → started_in xs + x.started ≤ started_in ys
+starts_behind xs [] x y more more' e less = absurd (omega (arith, less))
+starts_behind [] (w ∷ ys) x y more more' e less =
+    let same : x ≡ w = cc e in
+    let count = sum_by-cons (λ (t : Turned). t.started) w ys in
+    let one : x.started ≡ w.started = ap (λ (t : Turned). t.started) same in
+    omega (arith, count, one)
+starts_behind (v ∷ xs) (w ∷ ys) x y more more' e less =
+    let same : v ≡ w = cc e in
+    let rest : xs ++ x ∷ more ≡ ys ++ y ∷ more' = cc e in
+    let count = sum_by-cons (λ (t : Turned). t.started) w ys in
+    let count' = sum_by-cons (λ (t : Turned). t.started) v xs in
+    let one : v.started ≡ w.started = ap (λ (t : Turned). t.started) same in
+    let further = starts_behind xs ys x y more more' rest (omega (arith, less)) in
+    omega (arith, count, count', one, further)
+
+at_split : {A : Type 0} (xs ys : List A) (x : A) → slice_get (xs ++ x ∷ ys) (length xs) ≡ Some x
+at_split [] ys x = refl
+at_split (z ∷ xs) ys x = at_split xs ys x
+
+-- what stands at a place was sent by one job alone
+pub sent_by_one : (c : Course) (i j k k' place : ℕ) → SentIn c i k place → SentIn c j k' place → i ≡ j
+sent_by_one c i j k k' place s t =
+    elim (cases_eq (length s.before) (length t.before)) [
+      | inl same ↦
+          let here : slice_get c.order (length s.before) ≡ Some i = ap (λ l. slice_get l (length s.before)) s.order_is ∙ at_split s.before s.after i in
+          let there : slice_get c.order (length t.before) ≡ Some j = ap (λ l. slice_get l (length t.before)) t.order_is ∙ at_split t.before t.after j in
+          same_some i j (sym here ∙ ap (λ n. slice_get c.order n) same ∙ there)
+      | inr ne ↦ elim (apart (length s.before) (length t.before) ne) [
+        | inl less ↦
+            let behind = starts_behind s.noted t.noted s.note t.note s.later t.later (sym s.notes_are ∙ t.notes_are) (omega (arith, less, s.abreast, t.abreast)) in
+            absurd (omega (arith, behind, s.upto, t.from))
+        | inr more ↦
+            let behind = starts_behind t.noted s.noted t.note s.note t.later s.later (sym t.notes_are ∙ s.notes_are) (omega (arith, more, s.abreast, t.abreast)) in
+            absurd (omega (arith, behind, t.upto, s.from))
+      ]
+    ]
+  where
+    apart : (n m : ℕ) → (n ≡ m → ⊥) → (n < m) ⊎ (m < n)
+    apart zero zero ne = absurd (ne refl)
+    apart zero (suc m) ne = inl (omega arith)
+    apart (suc n) zero ne = inr (omega arith)
+    apart (suc n) (suc m) ne = elim (apart n m (λ e. ne (ap suc e))) [ inl less ↦ inl (omega (arith, less)) | inr more ↦ inr (omega (arith, more)) ]
+
+-- ---- the job that holds a ticket
+
+some_if : (held : Option ℕ) (ticket : ℕ) (last : Bool) → is_some held ≡ last → held ≡ Some ticket → last ≡ true
+some_if held ticket last holds is = sym holds ∙ ap (λ o. is_some o) is
+
+-- its newest turn pended
+insert_pended : (s : InsertStage) (k : ℕ) (last : Bool) (ticket : ℕ) → InsertAt s k last → inserts_ticket s ≡ Some ticket → last ≡ true
+insert_pended inserts.Unsent k last ticket at holds = absurd cc
+insert_pended (inserts.Goes i) k last ticket at holds = some_if (inserts_ticket (inserts.Goes i)) ticket last at.1 holds
+insert_pended (inserts.Ended e) k last ticket at holds = absurd cc
+
+follow_pended : (calls : ℕ) (s : Stage) (c : Came) (k : ℕ) (last : Bool) (ticket : ℕ) → FollowAt calls s c k last → stage_ticket s ≡ Some ticket → last ≡ true
+follow_pended calls stage.Unopened c k last ticket at holds = absurd cc
+follow_pended calls (stage.Opens opening) c k last ticket at holds = some_if (stage_ticket (stage.Opens opening)) ticket last at.1 holds
+follow_pended calls (stage.Open stream) c k last ticket at holds = some_if (stage_ticket (stage.Open stream)) ticket last at.1 holds
+follow_pended calls (stage.Closes closing) c k last ticket at holds = at.1
+follow_pended calls stage.Ended c k last ticket at holds = absurd cc
+
+job_pended : (calls : ℕ) (p : Player) (k : ℕ) (last : Bool) (ticket : ℕ) → IsAt calls p k last → job_ticket p ≡ Some ticket → last ≡ true
+job_pended calls (player.Insert job) k last ticket at holds = insert_pended job.stage k last ticket at holds
+job_pended calls (player.Follow job) k last ticket at holds = follow_pended calls job.stage (came job) k last ticket at holds
+job_pended calls player.Put k last ticket at holds = absurd cc
+job_pended calls player.Get k last ticket at holds = absurd cc
+
+-- the call of its ticket is one that it sent
+pub record SentOwn (awaited : Awaited) (c : Course) (i ticket : ℕ) : Type 0 where
+  pub place : ℕ
+  pub at : awaited ticket ≡ Some place
+  pub done : ℕ
+  pub sent : SentIn c i done place
+
+sent_own : (awaited : Awaited) (c : Course) (i done : ℕ) (places : List ℕ) (calls : List Call) (wire : ℤ) (ticket : ℕ) → AllSentIn c i done places → HoldsOwn awaited (sent_at places calls wire) ticket → SentOwn awaited c i ticket
+sent_own awaited c i done places calls wire ticket sent own =
+    record {
+      place = own.place;
+      at = own.at;
+      done = done;
+      sent = elim own.own [
+        | inl is ↦ sent own.place is
+        | inr late ↦ let within = own.within in absurd (omega (arith, late, within))
+      ];
+    }
+
+follow_own : (awaited : Awaited) (calls : List Call) (wire : ℤ) (c : Course) (i : ℕ) (s : Stage) (k : Kept) (at : Option ℕ) (ticket : ℕ) → FollowTold awaited calls wire c i s k at → stage_ticket s ≡ Some ticket → SentOwn awaited c i ticket
+follow_own awaited calls wire c i stage.Unopened k at ticket t holds = absurd cc
+follow_own awaited calls wire c i (stage.Opens opening) k at ticket t holds =
+    sent_own awaited c i (number (stage.Opens opening) k) t.places.now calls wire ticket t.sent.now (opening_own awaited (sent_at t.places.now calls wire) opening.aggregate.args opening.exec ticket t.tells.3 holds)
+follow_own awaited calls wire c i (stage.Open stream) k at ticket t holds =
+    sent_own awaited c i (number (stage.Open stream) k) t.places.now calls wire ticket t.sent.now (call_own awaited (sent_at t.places.now calls wire) t.tells.0 stream.phase stream ticket t.tells.2 holds)
+follow_own awaited calls wire c i (stage.Closes closing) k at ticket t holds =
+    sent_own awaited c i (number (stage.Closes closing) k) t.places.now calls wire ticket t.sent.now (kill_own awaited (sent_at t.places.now calls wire) t.tells.0.cursor (pos 0) closing.flight ticket t.tells.5 holds)
+follow_own awaited calls wire c i stage.Ended k at ticket t holds = absurd cc
+
+command_own : (awaited : Awaited) (past : Past) (at : Space) (sent : List Fields) (waiting : Option Command) (ticket : ℕ) → InsertFlies awaited past at sent waiting → held waiting ≡ Some ticket → HoldsOwn awaited past ticket
+command_own awaited past at sent None ticket flies holds = absurd cc
+command_own awaited past at sent (Some c) ticket flies holds = own_by awaited past (insert_command at c.insert.documents.items) c.exec.stage ticket flies.flies holds
+
+insert_own : (awaited : Awaited) (past : Past) (at : Space) (sent : List Fields) (had : Bool) (s : InsertStage) (ticket : ℕ) → HadTurn had s → (had ≡ true → InsertTells awaited past at sent s) → inserts_ticket s ≡ Some ticket → HoldsOwn awaited past ticket
+insert_own awaited past at sent had inserts.Unsent ticket turn tells holds = absurd cc
+insert_own awaited past at sent had (inserts.Goes i) ticket turn tells holds = command_own awaited past at sent i.command ticket (tells turn).0.flies holds
+insert_own awaited past at sent had (inserts.Ended e) ticket turn tells holds = absurd cc
+
+job_own : (ids : ℕ → List ℕ) (first : ℕ) (awaited : Awaited) (calls : List Call) (wire : ℤ) (c : Course) (i : ℕ) (p : Player) (at : Option ℕ) (ticket : ℕ) → JobHadTurn (has_turn i c.order) p → JobTold ids first awaited calls wire c i p at → job_ticket p ≡ Some ticket → SentOwn awaited c i ticket
+job_own ids first awaited calls wire c i (player.Insert job) at ticket had t holds =
+    sent_own awaited c i 0 t.places calls wire ticket t.sent (insert_own awaited (sent_at t.places calls wire) (space job.ns.now) _ (has_turn i c.order) job.stage ticket had t.tells holds)
+job_own ids first awaited calls wire c i (player.Follow job) at ticket had t holds = follow_own awaited calls wire c i job.stage (kept job) at ticket t holds
+job_own ids first awaited calls wire c i player.Put at ticket had t holds = absurd cc
+job_own ids first awaited calls wire c i player.Get at ticket had t holds = absurd cc
+
+-- ---- at the end of a run
+
+all_settled : (ids given : ℕ → List ℕ) (before awaited : Awaited) (log log' : Told) (wire : ℤ) (ts : List Task) (order : List ℕ) (notes : List Turned) (players : List Player) → HaveDrawn ids given ts order players → AllTell ids awaited log log' wire ts order notes players → AllAt ts order notes players → AreHeld before awaited players → AllSettled before awaited log order notes
+all_settled ids given before awaited log log' wire ts order notes players drawn tell all holds calls told ticket place i k at sent =
+    let run = tell calls told in
+    let c : Course = course calls order notes in
+    elim (holds ticket (ap (λ o. is_some o) at)) [
+      | inl by ↦
+          let t = get_length ts players drawn.jobs by.job by.player by.there in
+          let own = job_own ids (first_id ts order by.job) awaited run.0 wire c by.job by.player (run.2.places by.job) ticket (drawn.each by.job by.player by.there) (run.3.each by.job t.0 by.player t.1 by.there) by.holds in
+          let same : own.place ≡ place = same_some own.place place (sym own.at ∙ at) in
+          let it : by.job ≡ i = sent_by_one c by.job i own.done k place (subst (λ n. SentIn c by.job own.done n) same own.sent) sent in
+          inl (subst (λ n. pends_last n order notes ≡ true) it (job_pended (calls_of t.0) by.player (turns_done by.job order notes) (pends_last by.job order notes) ticket (all by.job t.0 by.player t.1 by.there) by.holds))
+      | inr same ↦ inr (sym same ∙ at)
+    ]
+
+-- the same of a run, unless memory ran out
+pub settled_so : (ids given : ℕ → List ℕ) (before awaited : Awaited) (log log' : Told) (wire : ℤ) (ts : List Task) (order : List ℕ) (notes : List Turned) (players : List Player) (result : Result Played Error) → IfOk result (λ p. p.turns.items ≡ notes)
+    → HaveDrawn ids given ts order players → AllTell ids awaited log log' wire ts order notes players → AllAt ts order notes players → AreHeld before awaited players → IfOk result (λ p. AllSettled before awaited log order p.turns.items)
+settled_so ids given before awaited log log' wire ts order notes players (Ok p) turns drawn tell all holds =
+    subst (λ (ns : List Turned). AllSettled before awaited log order ns) (sym turns) (all_settled ids given before awaited log log' wire ts order notes players drawn tell all holds)
+settled_so ids given before awaited log log' wire ts order notes players (Err e) turns drawn tell all holds = tt
