@@ -72,9 +72,6 @@ module _ (past past' : Past) (grows : Grows past past') where
   abbrev pub last_reply : (command : Fields) (retries : Bool) (bytes : List ℕ) → HeardLast past command retries (reply bytes) → HeardLast past' command retries (reply bytes)
   last_reply command retries bytes h = last_grows command retries (reply bytes) (not_waiting bytes) h
 
-  heard_fault : (command : Fields) → HeardBy past command fault → HeardBy past' command fault
-  heard_fault command h = heard_grows command fault (λ e. cc) h
-
   pub last_fault : (command : Fields) (retries : Bool) → HeardLast past command retries fault → HeardLast past' command retries fault
   last_fault command retries h = last_grows command retries fault (λ e. cc) h
 

@@ -6,6 +6,7 @@ use Rattle.mg_link.specs.Log.{Sight, waiting, Call, see}
 use Rattle.mg_link.specs.Link.{Awaited, Told, Adds, Sees}
 use Rattle.mg_link.specs.Owner.{Onward, Passes, nobody}
 use Rattle.mg_link.proofs.Apart.{apart_nobody, holds_nobody, nobody_named, onward_foreign, onward_on, onward_refl, onward_seen}
+use Rattle.mg_link.proofs.SelfMade.{made_nowhere}
 use Rattle.mg_change.specs.Closings.{KillsAll}
 use Rattle.mg_change.specs.Growths.{Grows, StandsNowhere}
 use Rattle.mg_change.specs.declared.closing.Closing.{Closing}
@@ -67,5 +68,5 @@ passes_nowhere calls calls' onward nowhere =
       holds = holds_nobody calls';
       onward = λ g h apart. record { grown = onward.grown; earlier = λ history legal stands. absurd (still_nowhere calls calls' onward nowhere history legal stands) };
       apart = λ g h apart. apart_nobody calls' g;
-      made = λ made history legal stands. absurd (still_nowhere calls calls' onward nowhere history legal stands);
+      made = made_nowhere calls calls' onward.grown nowhere;
     }

@@ -58,7 +58,7 @@ pub record KillFails (past : Past) (c : CursorInformation) (opened : ℤ) (e : E
   pub some_left : ids_left c.id opened ≢ []
   pub why : NotKilled past c opened e
 
--- why it is done: nothing is left, and no cursor is killed; or the server answered with success
+-- why it is done: nothing is left; or the server answered with success
 pub data KillDone (past : Past) (c : CursorInformation) (opened : ℤ) : Type 0 where
   none_left : ids_left c.id opened ≡ [] → KillDone past c opened
   killed : ids_left c.id opened ≢ [] → (bytes : List ℕ) → HeardLast past (last_command c opened) false (reply bytes) → IsSuccess bytes → KillDone past c opened

@@ -1,6 +1,7 @@
 -- What a call of one job leaves to the others, and which cursors are whose afterwards.
-use Rattle.std.proofs.Common.{◌≡◌, ◌≢◌, ◌⊎◌, ℕ, ◌≤◌, ℤ, pos, true, false, List, [], ◌∷◌, ◌++◌, length, Option, Some, None, refl, sym, ap, ◌∙◌, subst, inl, inr, arith, append_assoc, append-nil}
+use Rattle.std.proofs.Common.{◌≡◌, ◌≢◌, ◌⊎◌, ℕ, ◌≤◌, ℤ, pos, true, false, List, [], ◌∷◌, ◌++◌, length, Option, Some, None, refl, sym, ap, ◌∙◌, subst, inl, inr, take, arith, append_assoc, append-nil}
 use Rattle.std.specs.Prelude.{slice_get}
+use Rattle.std.proofs.lemmas.List.{take-append-le, take_all}
 use Rattle.mg_link.specs.State.{State, nothing}
 use Rattle.mg_link.specs.Commands.{asked}
 use Rattle.mg_link.specs.History.{Step, step_after, state_after, IsLegal, IsLegalFrom, state_of, told_at}
@@ -10,6 +11,7 @@ use Rattle.mg_link.specs.Owner.{IsOf, Owner, nobody, Owns, by_id, by_reply, Hold
 use Rattle.mg_link.proofs.Places.{get_within, get_seam, get_push}
 use Rattle.mg_link.proofs.Histories.{state_after-append}
 use Rattle.mg_link.proofs.Later.{opens_new}
+use Rattle.mg_link.proofs.SelfMade.{front_before}
 use Rattle.mg_link.proofs.Owners.{same_some, legal_parts, grown_push, grown_see, grown_refl, grown_on, took_grown, given_on, took_back, given_in_state, BackTo, back_to, stands_without, stands_unseen, see_from, seen_grown}
 
 -- ---- the earlier history
@@ -246,22 +248,27 @@ holds_added calls call o o' sends holds =
 
 -- the log names its own cursors still
 made_added : (calls : List Call) (call : Call) (o : Owner) → NamesOwn o (asked call.command) → Holds calls o → NamesItsOwn calls → NamesItsOwn (calls ++ call ∷ [])
-made_added calls call o own holds made history legal stands k c x found names =
-    let e = earlier_by calls call nobody history call.position refl (nobody_named calls call) legal stands in
+made_added calls call o own holds made j c x history legal stands found names =
     let grown = grown_push calls call in
-    elim (get_push calls call k c found) [
-      | inl old ↦ seen_grown calls (calls ++ call ∷ []) k k x grown (omega arith) (made e.before e.legal e.stands k c x old names)
+    elim (get_push calls call j c found) [
+      | inl old ↦
+          let lt = get_within calls j c old in
+          let front = take-append-le j calls (call ∷ []) (omega (arith, lt)) in
+          seen_grown calls (calls ++ call ∷ []) j j x grown (omega arith) (made j c x history legal (subst (λ (l : List Call). Stands l history) front stands) old names)
       | inr new ↦
-          let r = own x (subst (λ (d : Call). Names (asked d.command) x) (sym new.1) names) in
           let k_is = new.0 in
-          seen_grown calls (calls ++ call ∷ []) (length calls) k x grown (omega arith) (holds.seen e.before e.legal e.stands x r.0 r.1)
+          let front : take j (calls ++ call ∷ []) ≡ calls = take-append-le j calls (call ∷ []) (omega (arith, k_is)) ∙ take_all j calls (omega (arith, k_is)) in
+          let r = own x (subst (λ (d : Call). Names (asked d.command) x) (sym new.1) names) in
+          seen_grown calls (calls ++ call ∷ []) (length calls) j x grown (omega (arith, k_is)) (holds.seen history legal (subst (λ (l : List Call). Stands l history) front stands) x r.0 r.1)
     ]
 
 made_seen : (k : ℕ) (seen : Sight) (calls : List Call) (call : Call) → slice_get calls k ≡ Some call → call.seen ≡ waiting → NamesItsOwn calls → NamesItsOwn (see k seen calls)
-made_seen k seen calls call found waits made history legal stands j c x at names =
+made_seen k seen calls call found waits made j c x history legal stands at names =
     let old = see_from k seen calls j c at in
-    let stands' = stands_unseen k seen calls call history found waits stands in
-    seen_grown calls (see k seen calls) j j x (grown_see k seen calls call found waits) (omega arith) (made history legal stands' j old.0 x old.1 (subst (λ (d : List ℕ). Names (asked d) x) old.2 names))
+    let lt = get_within calls j old.0 old.1 in
+    let grown = grown_see k seen calls call found waits in
+    seen_grown calls (see k seen calls) j j x grown (omega arith)
+    (made j old.0 x history legal (front_before calls (see k seen calls) j history grown (omega (arith, lt)) stands) old.1 (subst (λ (d : List ℕ). Names (asked d) x) old.2 names))
 
 -- A call was added that names the job's own cursors only.
 pub passes_added : (calls : List Call) (call : Call) (o o' : Owner) → NamesOwn o (asked call.command) → Sends calls o o' → Holds calls o → Passes calls (calls ++ call ∷ []) o o'

@@ -23,6 +23,7 @@ pub mod Behind
 pub mod Later
 pub mod Timed
 pub mod Owners
+pub mod SelfMade
 pub mod Apart
 pub mod Numbered
 pub mod Views

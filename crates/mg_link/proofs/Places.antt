@@ -1,6 +1,6 @@
 -- Elements of lists by their places.
-use Rattle.std.proofs.Common.{◌≡◌, ◌⊎◌, ℕ, zero, suc, ◌+◌, ◌<◌, List, [], ◌∷◌, ◌++◌, length, Some, refl, sym, ap, subst, inl, inr, take, arith}
-use Rattle.std.specs.Prelude.{slice_get}
+use Rattle.std.proofs.Common.{◌≡◌, ◌⊎◌, ℕ, zero, suc, ◌+◌, ◌<◌, List, [], ◌∷◌, ◌++◌, length, Some, refl, sym, ap, ◌∙◌, subst, inl, inr, take, arith}
+use Rattle.std.specs.Prelude.{slice_get, slice_set}
 
 pub get_front : {A : Type 0} (xs ys : List A) (k : ℕ) (x : A) → slice_get xs k ≡ Some x → slice_get (xs ++ ys) k ≡ Some x
 get_front [] ys k x h = cc
@@ -36,6 +36,14 @@ taken_below (suc n) [] k x h = cc
 taken_below (suc n) (y ∷ xs) zero x h = omega arith
 taken_below (suc n) (y ∷ xs) (suc k) x h = let i = taken_below n xs k x h in omega arith
 
+pub taken_get : {A : Type 0} (n : ℕ) (xs : List A) (k : ℕ) (x : A) → slice_get (take n xs) k ≡ Some x → slice_get xs k ≡ Some x
+taken_get n xs k x h = sym (get_take n xs k (taken_below n xs k x h)) ∙ h
+
+pub get_some : {A : Type 0} (xs : List A) (k : ℕ) → k < length xs → (x : A) × (slice_get xs k ≡ Some x)
+get_some [] k lt = absurd (omega (arith, lt))
+get_some (x ∷ xs) zero lt = (x, refl)
+get_some (x ∷ xs) (suc k) lt = get_some xs k (omega (arith, lt))
+
 pub get_seam : {A : Type 0} (xs ys : List A) (y : A) → slice_get (xs ++ y ∷ ys) (length xs) ≡ Some y
 get_seam [] ys y = refl
 get_seam (x ∷ xs) ys y = get_seam xs ys y
@@ -66,3 +74,24 @@ pub get_joined : {A : Type 0} (xs ys : List A) (k : ℕ) (x : A) → slice_get (
 get_joined [] ys k x h = inr (k, omega arith, h)
 get_joined (y ∷ xs) ys zero x h = inl h
 get_joined (y ∷ xs) ys (suc k) x h = elim (get_joined xs ys k x h) [ inl e ↦ inl e | inr e ↦ inr (e.0, (let f = e.1 in omega arith), e.2) ]
+
+-- ---- a list with another element at one place
+
+pub get_set_same : {A : Type 0} (xs : List A) (k : ℕ) (x y : A) → slice_get xs k ≡ Some x → slice_get (slice_set xs k y) k ≡ Some y
+get_set_same [] k x y h = cc
+get_set_same (z ∷ xs) zero x y h = refl
+get_set_same (z ∷ xs) (suc k) x y h = get_set_same xs k x y h
+
+pub get_set_other : {A : Type 0} (xs : List A) (k i : ℕ) (x y : A) → (i ≡ k → ⊥) → slice_get (slice_set xs k y) i ≡ Some x → slice_get xs i ≡ Some x
+get_set_other [] k i x y ne h = h
+get_set_other (z ∷ xs) zero zero x y ne h = absurd (ne refl)
+get_set_other (z ∷ xs) zero (suc i) x y ne h = h
+get_set_other (z ∷ xs) (suc k) zero x y ne h = h
+get_set_other (z ∷ xs) (suc k) (suc i) x y ne h = get_set_other xs k i x y (λ e. ne (ap suc e)) h
+
+pub get_past_other : {A : Type 0} (xs : List A) (k i : ℕ) (x y : A) → (i ≡ k → ⊥) → slice_get xs i ≡ Some x → slice_get (slice_set xs k y) i ≡ Some x
+get_past_other [] k i x y ne h = h
+get_past_other (z ∷ xs) zero zero x y ne h = absurd (ne refl)
+get_past_other (z ∷ xs) zero (suc i) x y ne h = h
+get_past_other (z ∷ xs) (suc k) zero x y ne h = h
+get_past_other (z ∷ xs) (suc k) (suc i) x y ne h = get_past_other xs k i x y (λ e. ne (ap suc e)) h

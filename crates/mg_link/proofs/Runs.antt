@@ -1,5 +1,5 @@
 -- The jobs of a run stay apart.
-use Rattle.std.proofs.Common.{◌≡◌, ◌⊎◌, ℕ, zero, suc, ℤ, pos, List, [], ◌∷◌, Some, refl, sym, ap, ◌∙◌, subst, inl, inr}
+use Rattle.std.proofs.Common.{◌≡◌, ◌⊎◌, ℕ, ℤ, pos, List, [], Some, sym, ap, ◌∙◌, subst, inl, inr}
 use Rattle.std.specs.Prelude.{slice_get, slice_set}
 use Rattle.std.proofs.lemmas.Bool.{cases_eq}
 use Rattle.mg_link.specs.Log.{Call}
@@ -7,18 +7,7 @@ use Rattle.mg_link.specs.History.{Step}
 use Rattle.mg_link.specs.Owner.{IsOf, Owner, Owns, by_id, by_reply, Holds, Apart, Onward, NamesItsOwn, Passes, AreApart}
 use Rattle.mg_link.proofs.Owners.{same_some}
 use Rattle.mg_link.proofs.Apart.{holds_kept, apart_still}
-
-get_set_same : {A : Type 0} (xs : List A) (k : ℕ) (x y : A) → slice_get xs k ≡ Some x → slice_get (slice_set xs k y) k ≡ Some y
-get_set_same [] k x y h = absurd cc
-get_set_same (z ∷ xs) zero x y h = refl
-get_set_same (z ∷ xs) (suc k) x y h = get_set_same xs k x y h
-
-get_set_other : {A : Type 0} (xs : List A) (k i : ℕ) (x y : A) → (i ≡ k → ⊥) → slice_get (slice_set xs k y) i ≡ Some x → slice_get xs i ≡ Some x
-get_set_other [] k i x y ne h = h
-get_set_other (z ∷ xs) zero zero x y ne h = absurd (ne refl)
-get_set_other (z ∷ xs) zero (suc i) x y ne h = h
-get_set_other (z ∷ xs) (suc k) zero x y ne h = h
-get_set_other (z ∷ xs) (suc k) (suc i) x y ne h = get_set_other xs k i x y (λ e. ne (ap suc e)) h
+use Rattle.mg_link.proofs.Places.{get_set_other, get_set_same}
 
 -- two jobs are apart either way
 pub apart_turned : (calls : List Call) (o g : Owner) → Apart calls o g → Apart calls g o
@@ -83,4 +72,4 @@ module _ (calls calls' : List Call) (owners : List Owner) (k : ℕ) (o o' : Owne
 
 -- A log without calls names its own cursors only.
 pub names_none_at_first : NamesItsOwn []
-names_none_at_first history legal stands k call x found names = absurd cc
+names_none_at_first k call x history legal stands found names = absurd cc

@@ -10,7 +10,7 @@ use Rattle.mg_link.specs.Link.{Awaited}
 abbrev pub IsOut : Awaited → Option ℕ → Type 0
 IsOut awaited ticket = (n : ℕ) → ticket ≡ Some n → IsSome (awaited n)
 
--- one ticket at most goes and one comes: it is the same or new, all others stay, and no other comes
+-- one ticket at most goes and one comes: its number is the same or new, all others stay, and no other comes
 pub record Tickets (old new : Awaited) (ticket ticket' : Option ℕ) : Type 0 where
   pub held : IsOut new ticket'
   pub rest : (m : ℕ) → (ticket ≡ Some m → ⊥) → IsSome (old m) → new m ≡ old m

@@ -1,9 +1,9 @@
 -- Which cursors a job owns, and what the calls of others leave of it.
-use Rattle.std.specs.Prelude.{◌≡◌, ◌≢◌, ◌⊎◌, ℕ, ℤ, pos, Option, Some, List, [], ◌∷◌, ◌++◌, length, slice_get}
+use Rattle.std.specs.Prelude.{◌≡◌, ◌≢◌, ◌⊎◌, ℕ, ℤ, pos, Option, Some, List, [], ◌∷◌, ◌++◌, length, slice_get, take}
 use Rattle.mg_link.specs.Log.{reply, Call}
 use Rattle.mg_link.specs.Commands.{Asked, asked}
 use Rattle.mg_link.specs.History.{Step, IsLegal, IsLegalFrom, state_of, told_at}
-use Rattle.mg_link.specs.Standing.{Names, OpensId, TookEffect, GivenTo, SeenGiven, IsSelfMade, Stands}
+use Rattle.mg_link.specs.Standing.{Names, OpensId, TookEffect, GivenTo, SeenGiven, Stands}
 
 -- it is one of the list
 abbrev pub IsOf : {A : Type 0} → List A → A → Type 0
@@ -64,9 +64,10 @@ pub record Onward (calls calls' : List Call) (o : Owner) : Type 0 where
   pub grown : IsGrown calls calls'
   pub earlier : (history : List Step) → IsLegal history → Stands calls' history → Earlier calls o history
 
--- where it stands in a legal history the log names its own cursors only
+-- Where the front of the log before a call stands in a legal history, the call names only cursors that this front saw given. What stands of the log is enough:
+-- a call whose own reply no server could have given, or one behind it, takes nothing from what is said of those before.
 abbrev pub NamesItsOwn : List Call → Type 0
-NamesItsOwn calls = (history : List Step) → IsLegal history → Stands calls history → IsSelfMade calls
+NamesItsOwn calls = (k : ℕ) (call : Call) (x : ℤ) (history : List Step) → IsLegal history → Stands (take k calls) history → slice_get calls k ≡ Some call → Names (asked call.command) x → SeenGiven calls k x
 
 -- A job went from one log and owner to another: every other job is left alone, and is apart still.
 pub record Passes (calls calls' : List Call) (o o' : Owner) : Type 0 where

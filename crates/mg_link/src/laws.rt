@@ -10,9 +10,9 @@ ghost use Rattle.mg_link.specs.History.{IsLegal, OpensAt, Reached, Step, opening
 ghost use Rattle.mg_link.specs.Ids.{counted_id};
 ghost use Rattle.mg_link.specs.Kept.{IsAllowed, IsByRules, IsStoreState, Kept, given_of, is_started, made_of, state_of_kept, steps_of};
 ghost use Rattle.mg_link.specs.Log.{Call, see, waiting};
-ghost use Rattle.mg_link.specs.Owner.{AreApart, Onward, Owner, Passes};
+ghost use Rattle.mg_link.specs.Owner.{AreApart, NamesItsOwn, Onward, Owner, Passes};
 ghost use Rattle.mg_link.specs.Rules.{answer_of, refusal};
-ghost use Rattle.mg_link.specs.Standing.{Stands, history_before};
+ghost use Rattle.mg_link.specs.Standing.{IsSelfMade, Stands, history_before};
 ghost use Rattle.mg_link.specs.State.{Entry, Start, State, Watch, after, events_between};
 
 /// Any 2^64 ids that a counter gives in a row differ.
@@ -68,6 +68,12 @@ pub fn events_have_ids()
 pub fn front_stands()
     ensures { (calls later : List Call) (history : List Step) → IsLegal history → Stands (calls ++ later) history
         → IsLegal (history_before later history) × Stands calls (history_before later history) }
+{}
+
+/// Where each call of a log names cursors that the front before it saw given, the whole log names its own in every legal
+/// history in which it stands.
+pub fn whole_log_is_self_made()
+    ensures { (calls : List Call) (history : List Step) → NamesItsOwn calls → IsLegal history → Stands calls history → IsSelfMade calls }
 {}
 
 /// A log stands where it stood, also with less seen.

@@ -21,7 +21,8 @@ use Rattle.mg_store.specs.declared.fate.FateKind.{FateKind}
 use Rattle.mg_store.specs.declared.fate.FateKind.TheVariants as kinds
 use Rattle.mg_store.specs.declared.link.Wait.{Wait}
 use Rattle.mg_store.proofs.Sending.{get-steps}
-use Rattle.mg_store.proofs.Standing.{same_some, get_seam, get_set_same, get_see_here, get_set_other, length-set, see_old, stands_see}
+use Rattle.mg_store.proofs.Standing.{same_some, get_seam, get_see_here, length-set, see_old, stands_see}
+use Rattle.mg_link.proofs.Places.{get_set_other, get_set_same}
 
 -- ---- what comes
 

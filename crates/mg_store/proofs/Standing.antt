@@ -34,18 +34,6 @@ get_push_other [] x (suc m) ne = refl
 get_push_other (y ∷ xs) x zero ne = refl
 get_push_other (y ∷ xs) x (suc m) ne = get_push_other xs x m (λ e. ne (ap suc e))
 
-pub get_set_same : {A : Type 0} (xs : List A) (k : ℕ) (x y : A) → slice_get xs k ≡ Some x → slice_get (slice_set xs k y) k ≡ Some y
-get_set_same [] k x y h = cc
-get_set_same (z ∷ xs) zero x y h = refl
-get_set_same (z ∷ xs) (suc k) x y h = get_set_same xs k x y h
-
-pub get_set_other : {A : Type 0} (xs : List A) (k i : ℕ) (x y : A) → (i ≡ k → ⊥) → slice_get (slice_set xs k y) i ≡ Some x → slice_get xs i ≡ Some x
-get_set_other [] k i x y ne h = h
-get_set_other (z ∷ xs) zero zero x y ne h = absurd (ne refl)
-get_set_other (z ∷ xs) zero (suc i) x y ne h = h
-get_set_other (z ∷ xs) (suc k) zero x y ne h = h
-get_set_other (z ∷ xs) (suc k) (suc i) x y ne h = get_set_other xs k i x y (λ e. ne (ap suc e)) h
-
 pub length-set : {A : Type 0} (xs : List A) (k : ℕ) (y : A) → length (slice_set xs k y) ≡ length xs
 length-set [] k y = refl
 length-set (x ∷ xs) zero y = refl
