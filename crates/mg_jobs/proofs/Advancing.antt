@@ -15,7 +15,7 @@ use Rattle.mg_change.specs.declared.event_poll.EventPoll.{EventPoll}
 use Rattle.mg_change.specs.declared.event_poll.EventPoll.TheVariants as polls
 use Rattle.mg_change.specs.declared.opening.Opening.{Opening}
 use Rattle.mg_change.specs.declared.stream.ChangeStream.{ChangeStream}
-use Rattle.mg_jobs.specs.Counts.{PendedAs, one_if}
+use Rattle.mg_jobs.specs.Counts.{RoseIf, one_if}
 use Rattle.mg_jobs.specs.Follows.{HasEnded, HasGiven, IsFailed, IsUnfinished}
 use Rattle.mg_jobs.specs.Headline.{DoTasks, Does, OutcomeOf, OutcomesOf}
 use Rattle.mg_script.specs.Plan as plan
@@ -38,25 +38,28 @@ use Rattle.mg_jobs.specs.declared.run.Player.TheVariants as player
 use Rattle.mg_script.specs.declared.script.Job.{Job}
 use Rattle.mg_link.proofs.Owners.{same_some}
 use Rattle.mg_change.proofs.Awaiting.{rests_without}
-use Rattle.mg_store.proofs.Standing.{get_set_other, get_set_same}
+use Rattle.mg_link.proofs.Places.{get_set_other, get_set_same}
 use Rattle.mg_jobs.proofs.Knowing.{get_length, length_take, map_joined, one_more, take_next}
 
 -- ---- a follow
 
-pended_on : (pended : Bool) (old mid new : ℕ) → mid ≡ old → PendedAs pended mid new → PendedAs pended old new
-pended_on pended old mid new same h = subst (λ m. PendedAs pended m new) same h
+pended_on : (pended : Bool) (old mid new : ℕ) → mid ≡ old → RoseIf pended mid new → RoseIf pended old new
+pended_on pended old mid new same h = subst (λ m. RoseIf pended m new) same h
 
 pub never_open : (before now : ℕ) (s : Stage) (c c' : Came) → ((calls k : ℕ) (last : Bool) → FollowAt calls s c k last → NotOpen calls c k) → now ≡ before → IsFailed c'.opened → c'.closed ≡ c.closed → c'.answered ≡ c.answered → c'.alive ≡ c.alive → FollowGoes before now s c stage.Ended c'
 never_open before now s c c' not_open same failed closed answered alive = (
   false,
   same,
-  λ calls k last at. inl (record {
-    opened = failed;
-    closed = subst (λ e. IsUnfinished e) (sym closed) (not_open calls k last at).closed;
-    no_answer = answered ∙ (not_open calls k last at).no_answer;
-    no_more = alive ∙ (not_open calls k last at).no_more;
-    some = omega arith;
-  }),
+  λ calls k last at. (
+    inl (record {
+      opened = failed;
+      closed = subst (λ e. IsUnfinished e) (sym closed) (not_open calls k last at).closed;
+      no_answer = answered ∙ (not_open calls k last at).no_answer;
+      no_more = alive ∙ (not_open calls k last at).no_more;
+      some = omega arith;
+    }),
+    refl,
+  ),
 )
 
 pub open_waits : (before now : ℕ) (o o' : Opening) (c : Came) → PendsAfter 1 (opening_ticket o') before now → FollowGoes before now (stage.Opens o) c (stage.Opens o') c
@@ -157,26 +160,29 @@ pub close_done : (before now : ℕ) (c c' : Came) → now ≡ before → IsFinis
 close_done before now c c' same finished opened answered = (
   false,
   same,
-  λ calls k last at. inr (record {
-    opened = subst (λ e. HasGiven e) (sym opened) at.opened;
-    closed = finished;
-    answered = answered ∙ at.answered;
-    all = omega (arith, at.all);
-  }),
+  λ calls k last at. (
+    inr (record {
+      opened = subst (λ e. HasGiven e) (sym opened) at.opened;
+      closed = finished;
+      answered = answered ∙ at.answered;
+      all = omega (arith, at.all);
+    }),
+    refl,
+  ),
 )
 
 pub closing_goes : (before now : ℕ) (closing : Closing) (c c' : Came) (s : Stage) → CloseGoes before now c s c' → FollowGoes before now (stage.Closes closing) c s c'
 closing_goes before now closing c c' s g = (g.0, g.1, λ calls k last at. g.2 calls k last at.0)
 
-ended_on : (calls k : ℕ) (last last' : Bool) (c : Came) → FollowAt calls stage.Ended c k last → FollowAt calls stage.Ended c (k + 1) last'
-ended_on calls k last last' c at =
-    elim at [
-      | inl never ↦ inl (record { opened = never.opened; closed = never.closed; no_answer = never.no_answer; no_more = never.no_more; some = omega arith })
-      | inr closed ↦ inr (record { opened = closed.opened; closed = closed.closed; answered = closed.answered; all = omega (arith, closed.all) })
+ended_on : (calls k : ℕ) (last : Bool) (c : Came) → FollowAt calls stage.Ended c k last → FollowAt calls stage.Ended c (k + 1) false
+ended_on calls k last c at =
+    elim at.0 [
+      | inl never ↦ (inl (record { opened = never.opened; closed = never.closed; no_answer = never.no_answer; no_more = never.no_more; some = omega arith }), refl)
+      | inr closed ↦ (inr (record { opened = closed.opened; closed = closed.closed; answered = closed.answered; all = omega (arith, closed.all) }), refl)
     ]
 
 pub stays_ended : (before : ℕ) (c : Came) → FollowGoes before before stage.Ended c stage.Ended c
-stays_ended before c = (false, refl, λ calls k last at. ended_on calls k last false c at)
+stays_ended before c = (false, refl, λ calls k last at. ended_on calls k last c at)
 
 pub same_came : (f f' : FollowPlayer) → IsSameFollow f f' → (calls k : ℕ) (last : Bool) → FollowAt calls f.stage (came f) k last → FollowAt calls f'.stage (came f') k last
 same_came f f' same calls k last at =
@@ -189,15 +195,15 @@ pub insert_waits : (before now : ℕ) (p p' : InsertStage) → RoseJust 1 before
 insert_waits before now p p' rose so = (true, rose, λ calls k last at. subst (λ n. InsertAt p' n true) (omega arith) (so k at))
 
 pub insert_done : (before now : ℕ) (p : InsertStage) (e : Ended ℕ) → now ≡ before → IsFinished e → InsertGoes before now p (inserts.Ended e)
-insert_done before now p e same finished = (false, same, λ calls k last at. (omega arith, finished))
+insert_done before now p e same finished = (false, same, λ calls k last at. (omega arith, finished, refl))
 
 pub insert_over : (before : ℕ) (e : Ended ℕ) → InsertGoes before before (inserts.Ended e) (inserts.Ended e)
-insert_over before e = (false, refl, λ calls k last at. (omega arith, at))
+insert_over before e = (false, refl, λ calls k last at. (omega arith, at, refl))
 
 insert_stays : (k : ℕ) (last : Bool) (p : InsertStage) → inserts_ended p ≡ true → InsertAt p k last → InsertAt p (k + 1) false
 insert_stays k last inserts.Unsent over at = absurd cc
 insert_stays k last (inserts.Goes inserting) over at = absurd cc
-insert_stays k last (inserts.Ended e) over at = (omega arith, at.1)
+insert_stays k last (inserts.Ended e) over at = (omega arith, at.1, refl)
 
 -- ---- a job
 
@@ -206,7 +212,7 @@ follow_stays calls k last stage.Unopened c over at = absurd cc
 follow_stays calls k last (stage.Opens opening) c over at = absurd cc
 follow_stays calls k last (stage.Open stream) c over at = absurd cc
 follow_stays calls k last (stage.Closes closing) c over at = absurd cc
-follow_stays calls k last stage.Ended c over at = ended_on calls k last false c at
+follow_stays calls k last stage.Ended c over at = ended_on calls k last c at
 
 -- the turn of a job that has ended counts as one that did not pend
 pub over_turns : (p : Player) → has_ended p ≡ true → TurnsBy idle p p
@@ -215,14 +221,14 @@ over_turns (player.Follow job) over calls k last at = follow_stays calls k last 
 over_turns player.Put over calls k last at = tt
 over_turns player.Get over calls k last at = tt
 
-counted_so : (pended : Bool) (now : ℕ) → PendedAs pended 0 now → (nat_lt 0 now ≡ pended) × (now ≡ one_if pended)
+counted_so : (pended : Bool) (now : ℕ) → RoseIf pended 0 now → (nat_lt 0 now ≡ pended) × (now ≡ one_if pended)
 counted_so true now h = let some = h.0 in let one = h.1 in (lt-ltb 0 now (omega (arith, some)), omega (arith, some, one))
 counted_so false now h = (ap (nat_lt 0) h, h)
 
 -- over a link that counts from 0 the note is whether the turn pended, which it did once
 module _ (before now : ℕ) (note : Turned) (p p' : Player) (none : before ≡ 0) (is : note.pended ≡ nat_lt 0 now) (g : JobGoes before now p p') where
   its_pends : (nat_lt 0 now ≡ g.0) × (now ≡ one_if g.0)
-  its_pends = counted_so g.0 now (subst (λ m. PendedAs g.0 m now) none g.1)
+  its_pends = counted_so g.0 now (subst (λ m. RoseIf g.0 m now) none g.1)
 
   pub noted_so : GoesBy note p p'
   noted_so calls k last at = subst (λ b. IsAt calls p' (k + one_unless b) b) (sym (is ∙ its_pends.0)) (g.2 calls k last at)
@@ -289,12 +295,12 @@ at_next ts order k n notes players there all = subst (λ ns. AllAt ts ns notes p
 
 -- ---- at the end
 
-insert_played : (k : ℕ) (last : Bool) (p : InsertStage) → InsertAt p k last → InsertPlayed (end_of p) k
+insert_played : (k : ℕ) (last : Bool) (p : InsertStage) → InsertAt p k last → InsertPlayed (end_of p) k last
 insert_played k last inserts.Unsent at = at.0
 insert_played k last (inserts.Goes inserting) at = at.0
 insert_played k last (inserts.Ended ended.Unfinished) at = absurd at.1
-insert_played k last (inserts.Ended (ended.Gave n)) at = at.0
-insert_played k last (inserts.Ended (ended.Failed e)) at = at.0
+insert_played k last (inserts.Ended (ended.Gave n)) at = (at.0, at.2)
+insert_played k last (inserts.Ended (ended.Failed e)) at = (at.0, at.2)
 
 given_so : (opened closed : Ended (Unit {0})) (calls answered : ℕ) (alive : Bool) (k : ℕ) (last : Bool) → HasGiven opened → OpenPlayed closed calls answered k last → FollowPlayed opened closed calls answered alive k last
 given_so ended.Unfinished closed calls answered alive k last given h = absurd given
@@ -306,7 +312,7 @@ not_open_so ended.Unfinished closed calls answered alive k last un h = h
 not_open_so (ended.Gave x) closed calls answered alive k last un h = absurd un
 not_open_so (ended.Failed e) closed calls answered alive k last un h = absurd un
 
-failed_so : (opened closed : Ended (Unit {0})) (calls answered : ℕ) (alive : Bool) (k : ℕ) (last : Bool) → IsFailed opened → (1 ≤ k) × (answered ≡ 0) × (alive ≡ false) × IsUnfinished closed → FollowPlayed opened closed calls answered alive k last
+failed_so : (opened closed : Ended (Unit {0})) (calls answered : ℕ) (alive : Bool) (k : ℕ) (last : Bool) → IsFailed opened → (1 ≤ k) × (answered ≡ 0) × (alive ≡ false) × IsUnfinished closed × (last ≡ false) → FollowPlayed opened closed calls answered alive k last
 failed_so ended.Unfinished closed calls answered alive k last failed h = absurd failed
 failed_so (ended.Gave x) closed calls answered alive k last failed h = absurd failed
 failed_so (ended.Failed e) closed calls answered alive k last failed h = h
@@ -316,7 +322,7 @@ open_so ended.Unfinished calls answered k last un h = h
 open_so (ended.Gave x) calls answered k last un h = absurd un
 open_so (ended.Failed e) calls answered k last un h = absurd un
 
-closed_so : (closed : Ended (Unit {0})) (calls answered k : ℕ) (last : Bool) → IsFinished closed → (answered ≡ calls) × (calls + 1 ≤ k) → OpenPlayed closed calls answered k last
+closed_so : (closed : Ended (Unit {0})) (calls answered k : ℕ) (last : Bool) → IsFinished closed → (answered ≡ calls) × (calls + 1 ≤ k) × (last ≡ false) → OpenPlayed closed calls answered k last
 closed_so ended.Unfinished calls answered k last finished h = absurd finished
 closed_so (ended.Gave x) calls answered k last finished h = h
 closed_so (ended.Failed e) calls answered k last finished h = h
@@ -327,9 +333,9 @@ follow_played calls k last (stage.Opens opening) c at = not_open_so c.opened c.c
 follow_played calls k last (stage.Open stream) c at = given_so c.opened c.closed calls c.answered c.alive k last at.0.opened (open_so c.closed calls c.answered k last at.0.closed (inl (at.0.answered, omega (arith, at.0.rest, at.0.more))))
 follow_played calls k last (stage.Closes closing) c at = given_so c.opened c.closed calls c.answered c.alive k last at.0.opened (open_so c.closed calls c.answered k last at.0.closed (inr (at.0.answered, at.0.all, at.1)))
 follow_played calls k last stage.Ended c at =
-    elim at [
-      | inl never ↦ failed_so c.opened c.closed calls c.answered c.alive k last never.opened (never.some, never.no_answer, never.no_more, never.closed)
-      | inr closed ↦ given_so c.opened c.closed calls c.answered c.alive k last closed.opened (closed_so c.closed calls c.answered k last closed.closed (closed.answered, closed.all))
+    elim at.0 [
+      | inl never ↦ failed_so c.opened c.closed calls c.answered c.alive k last never.opened (never.some, never.no_answer, never.no_more, never.closed, at.1)
+      | inr closed ↦ given_so c.opened c.closed calls c.answered c.alive k last closed.opened (closed_so c.closed calls c.answered k last closed.closed (closed.answered, closed.all, at.1))
     ]
 
 played_at : (t : Task) (p : Player) (r : Outcome) (k : ℕ) (last : Bool) → Does t p → OutcomeOf p r → IsAt (calls_of t) p k last → IsPlayed t k last r

@@ -259,10 +259,10 @@ module _ (awaited : Awaited) (c : Course) (i : ℕ) (begun calls : List Call) (w
     insert_fails e (cannot_encode d part by) = inr (inr (d, part, by))
     insert_fails e (cannot_insert piece part by) = inr (inl (piece, part, by))
 
-  insert_well : (end : Ended ℕ) (k : ℕ) → InsertEnds awaited c i calls wire ns docs end → InsertPlayed end k → 1 ≤ k → InsertWell ns docs end
-  insert_well ended.Unfinished k ends played turns = omega arith
-  insert_well (ended.Gave n) k ends played turns = tt
-  insert_well (ended.Failed e) k ends played turns = insert_fails ends.places ends.sent e ends.by
+  insert_well : (end : Ended ℕ) (k : ℕ) (last : Bool) → InsertEnds awaited c i calls wire ns docs end → InsertPlayed end k last → 1 ≤ k → InsertWell ns docs end
+  insert_well ended.Unfinished k last ends played turns = omega arith
+  insert_well (ended.Gave n) k last ends played turns = tt
+  insert_well (ended.Failed e) k last ends played turns = insert_fails ends.places ends.sent e ends.by
 
 -- ---- the law
 
@@ -274,7 +274,7 @@ jobs_end_well awaited c i begun calls wire (follow on count start filter batch) 
 jobs_end_well awaited c i begun calls wire (follow on count start filter batch) (outcome.Put e) whole faultless caused played = caused
 jobs_end_well awaited c i begun calls wire (follow on count start filter batch) (outcome.Get bytes e) whole faultless caused played = caused
 jobs_end_well awaited c i begun calls wire (insert ns docs) (outcome.Insert end) whole faultless caused played = λ well named fresh turns.
-    insert_well awaited c i begun calls wire whole faultless well ns docs named fresh end (turns_done i c.order c.notes) caused played turns
+    insert_well awaited c i begun calls wire whole faultless well ns docs named fresh end (turns_done i c.order c.notes) (pends_last i c.order c.notes) caused played turns
 jobs_end_well awaited c i begun calls wire (insert ns docs) (outcome.Follow opened said token alive closed) whole faultless caused played = caused
 jobs_end_well awaited c i begun calls wire (insert ns docs) (outcome.Put e) whole faultless caused played = caused
 jobs_end_well awaited c i begun calls wire (insert ns docs) (outcome.Get bytes e) whole faultless caused played = caused

@@ -1,5 +1,5 @@
 -- Which ids the inserts of a run draw, turn by turn.
-use Rattle.std.proofs.Common.{◌≡◌, ◌+◌, ◌<◌, ◌≤◌, ℕ, zero, suc, Bool, true, false, cond, List, [], ◌∷◌, ◌++◌, length, Option, Some, refl, sym, ap, ◌∙◌, subst, inl, inr, ◌⊎◌, Result, Ok, Err, take, arith}
+use Rattle.std.proofs.Common.{◌≡◌, ◌+◌, ◌≤◌, ℕ, Bool, true, false, cond, List, [], ◌∷◌, ◌++◌, length, Option, Some, refl, sym, ap, ◌∙◌, subst, inl, inr, ◌⊎◌, Result, Ok, Err, take, arith}
 use Rattle.std.specs.Prelude.{IfOk, slice_get, slice_set, nat_eq}
 use Rattle.std.proofs.lemmas.Bool.{cases_Bool, cases_eq, eq-eqb, ne_eqb}
 use Rattle.std.proofs.lemmas.List.{take_all}
@@ -7,7 +7,7 @@ use Rattle.mg_bson.specs.Tree.{Fields}
 use Rattle.mg_bson.specs.declared.object_id.ObjectId.{ObjectId}
 use Rattle.mg_link.proofs.Owners.{same_some}
 use Rattle.mg_link.proofs.Places.{get_within}
-use Rattle.mg_store.proofs.Standing.{get_set_other, get_set_same}
+use Rattle.mg_link.proofs.Places.{get_set_other, get_set_same, get_some}
 use Rattle.mg_link.specs.declared.error.Error.{Error}
 use Rattle.mg_script.specs.Plan as plan
 use Rattle.mg_script.specs.Plan.{Task}
@@ -260,11 +260,6 @@ ended_has player.Put ended = tt
 ended_has player.Get ended = tt
 
 -- ---- a run
-
-get_some : {A : Type 0} (xs : List A) (k : ℕ) → k < length xs → (x : A) × (slice_get xs k ≡ Some x)
-get_some [] k lt = absurd (omega (arith, lt))
-get_some (x ∷ xs) zero lt = (x, refl)
-get_some (x ∷ xs) (suc k) lt = get_some xs k (omega (arith, lt))
 
 -- Behind the turn of one of its jobs a run has drawn what that job needed.
 pub drawn_on : (ids now later : ℕ → List ℕ) (ts : List Task) (order : List ℕ) (players : List Player) (k : ℕ) (p p' : Player) → slice_get players k ≡ Some p → DoTasks ts players → AreLater now (turn_draws p) later → JobHasIds p' → HaveDrawn ids now ts order players → HaveDrawn ids later ts (order ++ k ∷ []) (slice_set players k p')

@@ -24,7 +24,7 @@ use Rattle.mg_jobs.specs.Runs.{AreApart, Goes, job_ticket}
 use Rattle.mg_jobs.specs.declared.run.Player.{Player}
 use Rattle.mg_jobs.specs.declared.run.Player.TheVariants as player
 use Rattle.mg_link.proofs.Owners.{same_some}
-use Rattle.mg_store.proofs.Standing.{get_set_other, get_set_same}
+use Rattle.mg_link.proofs.Places.{get_past_other, get_set_other, get_set_same}
 use Rattle.mg_jobs.proofs.Apart.{stays, which}
 use Rattle.std.proofs.lemmas.Bool.{cases_eq, eq-eqb, ne_eqb}
 use Rattle.std.proofs.lemmas.List.{length-map}
@@ -33,13 +33,6 @@ use Rattle.mg_jobs.proofs.Vainly.{kept_vain, same_vain, vain_parts}
 use Rattle.mg_jobs.proofs.Watched.{watch_or_nothing}
 use Rattle.mg_script.specs.declared.outcome.Outcome.{Outcome}
 use Rattle.mg_jobs.specs.declared.player.InsertPlayer.{InsertPlayer}
-
-pub get_past_other : {A : Type 0} (xs : List A) (k i : ℕ) (x y : A) → (i ≡ k → ⊥) → slice_get xs i ≡ Some x → slice_get (slice_set xs k y) i ≡ Some x
-get_past_other [] k i x y ne h = h
-get_past_other (z ∷ xs) zero zero x y ne h = absurd (ne refl)
-get_past_other (z ∷ xs) zero (suc i) x y ne h = h
-get_past_other (z ∷ xs) (suc k) zero x y ne h = h
-get_past_other (z ∷ xs) (suc k) (suc i) x y ne h = get_past_other xs k i x y (λ e. ne (ap suc e)) h
 
 pub same_player : (old new : Awaited) (calls : List Call) (p : Player) (o : Owner) (at : Option ℕ) → ((m : ℕ) → job_ticket p ≡ Some m → new m ≡ old m) → Plays old calls p o at → Plays new calls p o at
 same_player old new calls (player.Insert job) o at same plays = plays

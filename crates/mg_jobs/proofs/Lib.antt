@@ -13,7 +13,7 @@ pub mod Appended
 pub mod Sendings
 pub mod Telling
 pub mod Told
-pub mod Settled
+pub mod Waiting
 pub mod Prompting
 pub mod Batches
 pub mod Identified

@@ -12,7 +12,7 @@ use Rattle.mg_link.proofs.Outs.{length-see}
 use Rattle.mg_change.proofs.Staying.{stays_on, stays_sees}
 use Rattle.mg_change.specs.Calls.{Stays}
 use Rattle.mg_link.specs.Causes.{RoseJust}
-use Rattle.mg_jobs.specs.Counts.{AreNoted, Counted, Faultless, IsNoted, LosesNothing, PendedAs, StartedBy, one_if, turns_pended}
+use Rattle.mg_jobs.specs.Counts.{AreNoted, Counted, Faultless, IsNoted, LosesNothing, RoseIf, StartedBy, one_if, turns_pended}
 
 -- ---- what is lost
 
@@ -63,9 +63,9 @@ started_more xs note old mid new first second calls e =
     let y = b.2 in
     (b.0, b.1, omega (arith, x, y, all, one))
 
-pub noted_more : (xs : List Turned) (note : Turned) (old mid new : Told) (before count now : ℕ) → AreNoted xs old mid before count → StartedBy note.started mid new → Stays mid new → PendedAs note.pended count now → AreNoted (xs ++ note ∷ []) old new before now
+pub noted_more : (xs : List Turned) (note : Turned) (old mid new : Told) (before count now : ℕ) → AreNoted xs old mid before count → StartedBy note.started mid new → Stays mid new → RoseIf note.pended count now → AreNoted (xs ++ note ∷ []) old new before now
 noted_more [] note old mid new before count now first started stays pended =
-    (new, now, subst (λ (l : Told). StartedBy note.started l new) first.0 started, subst (λ (l : Told). Stays l new) first.0 stays, subst (λ (n : ℕ). PendedAs note.pended n now) first.1 pended, (refl, refl))
+    (new, now, subst (λ (l : Told). StartedBy note.started l new) first.0 started, subst (λ (l : Told). Stays l new) first.0 stays, subst (λ (n : ℕ). RoseIf note.pended n now) first.1 pended, (refl, refl))
 noted_more (x ∷ xs) note old mid new before count now first started stays pended =
     (first.0, first.1, first.2, first.3, first.4, noted_more xs note first.0 mid new first.1 count now first.5 started stays pended)
 
@@ -83,7 +83,7 @@ counted_pends old log log' n pended more before pends pends' prompts p p' counte
     }
 
 -- a turn that pended raised the count
-pended_by : (pended : Bool) (before now : ℕ) → PendedAs pended before now → RoseJust (one_if pended) before now
+pended_by : (pended : Bool) (before now : ℕ) → RoseIf pended before now → RoseJust (one_if pended) before now
 pended_by true before now p = p
 pended_by false before now p = (omega (arith, p), omega (arith, p))
 
@@ -105,7 +105,7 @@ few_pended (x ∷ xs) = let more = few_pended xs in let one = one_at_most x.pend
 pub turns_counted : (xs : List Turned) (now : ℕ) → length xs < 2 ^ 64 → RoseJust (turns_pended xs) 0 now → now ≡ turns_pended xs
 turns_counted xs now few rose = let least = rose.0 in let most = rose.1 in let within = few_pended xs in omega (arith, few, least, most, within)
 
-noted_as : (pended : Bool) (before now : ℕ) → RoseJust (one_if pended) before now → before ≤ now → PendedAs pended before now
+noted_as : (pended : Bool) (before now : ℕ) → RoseJust (one_if pended) before now → before ≤ now → RoseIf pended before now
 noted_as true before now rose later = rose
 noted_as false before now rose later = let most = rose.1 in omega (arith, most, later)
 

@@ -458,8 +458,8 @@ module _ (awaited : Awaited) (c : Course) (i : ℕ) (calls : List Call) (wire : 
       in_call is (omega (arith, so.rest, so.more)) told.places.now told.sent.now (call_awaits awaited (sent_at told.places.now calls wire) told.tells.0 stream.phase stream told.tells.2 holds)
 
   over_not_unfinished : (count : ℕ) → FollowAt count stage.Ended (came job) (turns_done i c.order c.notes) pended_last → IsUnfinished job.opened → ⊥
-  over_not_unfinished count (inl never) is = failed_not_unfinished job.opened never.opened is
-  over_not_unfinished count (inr closed) is = unfinished_not_given job.opened is closed.opened
+  over_not_unfinished count (inl never, newest) is = failed_not_unfinished job.opened never.opened is
+  over_not_unfinished count (inr closed, newest) is = unfinished_not_given job.opened is closed.opened
 
   stage_caused : (s : Stage) (count : ℕ) → s ≡ job.stage → FollowAt count s (came job) (turns_done i c.order c.notes) pended_last → FollowTold awaited calls wire c i s (kept job) at → Caused count job.opened
   stage_caused stage.Unopened count is at_stage told = unfinished_caused count job.opened at_stage.0.opened (λ pended. absurd (not_both at_stage.1 pended))

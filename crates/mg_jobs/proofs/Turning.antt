@@ -12,6 +12,7 @@ use Rattle.mg_link.proofs.Answering.{follows_on}
 use Rattle.mg_link.proofs.Apart.{passes_on, passes_same}
 use Rattle.mg_link.proofs.Moves.{stayed}
 use Rattle.mg_link.proofs.Follows.{knows_kept}
+use Rattle.mg_change.proofs.Awaiting.{rests_without}
 use Rattle.mg_change.proofs.Sames.{Continues, continues_phase, same_phase, same_opening}
 use Rattle.mg_change.proofs.SameClosings.{continues_closing, same_closing}
 use Rattle.mg_change.specs.Closings.{IsQuiet, KnewBy, closed, closing_of}
@@ -364,19 +365,8 @@ close_ends old new log log' p p' closing same token moves =
 -- ---- streams at rest
 
 -- nothing is in flight, so no ticket is held
-pub rest_none : (p : Phase) → AtRest p → ticket_in p ≡ None
-rest_none phase.Taken rest = refl
-rest_none phase.Rest rest = refl
-rest_none (phase.First reply) rest = refl
-rest_none phase.Fresh rest = refl
-rest_none (phase.Asking get_more exec) rest = absurd rest
-rest_none phase.Owing rest = refl
-rest_none (phase.Resuming exec) rest = absurd rest
-rest_none (phase.Killing exec old reply) rest = absurd rest
-rest_none (phase.Resumed reply) rest = refl
-
 pub rest_out : (awaited : Awaited) (p : Phase) → AtRest p → IsOut awaited (ticket_in p)
-rest_out awaited p rest n e = let bad : None ≡ Some n = sym (rest_none p rest) ∙ e in absurd cc
+rest_out awaited p rest n e = let bad : None ≡ Some n = sym (rests_without p rest) ∙ e in absurd cc
 
 -- a closing in which no resumption is in flight needs to know nothing of its stream
 pub quiet_knew : (c : Flight) (a : ChangeStreamAggregate) (f : Follow) → IsQuiet c → KnewBy c a f
@@ -406,7 +396,7 @@ pub sound_without : (wire : ℤ) (s left : ChangeStream) → left ≡ without_to
 sound_without wire s left is rest sound = subst (IsSound wire) (sym is) (record { kept = record { saved = saved_without s.aggregate.args.options s.aggregate.resume sound.kept.saved; named = sound.kept.named }; sends = rest_sends wire (without_token s) s.phase rest })
 
 pub tickets_rest : (mid new : Awaited) (p : Phase) (ticket : Option ℕ) → AtRest p → Tickets mid new (ticket_in p) ticket → Tickets mid new None ticket
-tickets_rest mid new p ticket rest t = subst (λ (h : Option ℕ). Tickets mid new h ticket) (rest_none p rest) t
+tickets_rest mid new p ticket rest t = subst (λ (h : Option ℕ). Tickets mid new h ticket) (rests_without p rest) t
 
 -- a call that has ended leaves its stream at rest
 pub rests_after : (poll : EventPoll) (p : Phase) → HasEnded poll → RestsAfter poll p → AtRest p

@@ -197,7 +197,15 @@ abbrev pub AllCaused : (ℕ → List ℕ) → Awaited → Told → Told → ℤ 
 AllCaused ids awaited log log' wire tasks order notes outcomes = (calls : List Call) → log ≡ Some calls → (calls' : List Call) × (log' ≡ Some calls')
     × ((i : ℕ) (t : Task) (r : Outcome) → slice_get tasks i ≡ Some t → slice_get outcomes i ≡ Some r → OutcomeCaused awaited (course calls order notes) i calls' wire (as_sent ids tasks order i t) r)
 
--- A call that waits for its reply, and was sent in a turn of a job, is of one whose newest turn pended, unless its ticket was out before.
-abbrev pub AllSettled : (before awaited : Awaited) → Told → List ℕ → List Turned → Type 0
-AllSettled before awaited log order notes = (calls : List Call) → log ≡ Some calls → (ticket place i k : ℕ) → awaited ticket ≡ Some place → SentIn (course calls order notes) i k place
-    → (pends_last i order notes ≡ true) ⊎ (before ticket ≡ Some place)
+-- The call of this ticket was sent in a turn of a job whose newest turn pended, and the job waits for no other, but where a ticket was out before.
+pub record WaitsAlone (before awaited : Awaited) (c : Course) (ticket place : ℕ) : Type 0 where
+  pub job : ℕ
+  pub done : ℕ
+  pub sent : SentIn c job done place
+  pub pended : pends_last job c.order c.notes ≡ true
+  pub alone : (other place' done' : ℕ) → awaited other ≡ Some place' → SentIn c job done' place' → (other ≡ ticket) ⊎ (before other ≡ Some place')
+
+-- Over a link that tells its log, each call that waits for its reply is such a one, unless its ticket was out for it before.
+abbrev pub AllWaitAlone : (before awaited : Awaited) → Told → List ℕ → List Turned → Type 0
+AllWaitAlone before awaited log order notes = (calls : List Call) → log ≡ Some calls → (ticket place : ℕ) → awaited ticket ≡ Some place
+    → (before ticket ≡ Some place) ⊎ WaitsAlone before awaited (course calls order notes) ticket place

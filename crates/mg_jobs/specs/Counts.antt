@@ -11,9 +11,9 @@ abbrev pub StartedBy : ℕ → Told → Told → Type 0
 StartedBy n old new = (calls : List Call) → old ≡ Some calls → (calls' : List Call) × (new ≡ Some calls') × (length calls' ≡ length calls + n)
 
 -- the count of pending replies rose by one, or is the same
-abbrev pub PendedAs : Bool → ℕ → ℕ → Type 0
-PendedAs true before now = RoseJust 1 before now
-PendedAs false before now = now ≡ before
+abbrev pub RoseIf : Bool → ℕ → ℕ → Type 0
+RoseIf true before now = RoseJust 1 before now
+RoseIf false before now = now ≡ before
 
 -- a call that has seen a fault had seen it before
 abbrev pub Faultless : List Call → List Call → Type 0
@@ -39,7 +39,7 @@ pub record Counted (old new : Told) (started pended before now : ℕ) (prompts p
 pub record IsNoted (note : Turned) (old new : Told) (before now : ℕ) (prompts prompts' : Type 0) : Type 0 where
   pub starts : StartedBy note.started old new
   pub stays : Stays old new
-  pub pends : PendedAs note.pended before now
+  pub pends : RoseIf note.pended before now
   pub never_less : before ≤ now
   pub prompt : StayedPrompt old new prompts prompts' (note.pended ≡ false)
 
@@ -50,7 +50,7 @@ pub record IsNoted (note : Turned) (old new : Told) (before now : ℕ) (prompts 
 abbrev pub AreNoted : List Turned → (old new : Told) → (before now : ℕ) → Type 0
 AreNoted [] old new before now = (new ≡ old) × (now ≡ before)
 AreNoted (note ∷ notes) old new before now =
-    (log : Told) × (count : ℕ) × StartedBy note.started old log × Stays old log × PendedAs note.pended before count × AreNoted notes log new count now
+    (log : Told) × (count : ℕ) × StartedBy note.started old log × Stays old log × RoseIf note.pended before count × AreNoted notes log new count now
 
 -- one where a turn pended
 abbrev pub one_if : Bool → ℕ

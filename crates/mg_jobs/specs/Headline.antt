@@ -132,12 +132,12 @@ pub record Made (players rest : List Player) (outcomes : List Outcome) : Type 0 
   pub count : length gone ≡ length outcomes
   pub of : OutcomesOf gone outcomes
 
--- Over a link that tells its log, each follow's answers are as they should be, and the log names its own cursors only.
+-- Over a link that tells its log, each follow's answers are as they should be, and the log goes on naming its own cursors only, call by call.
 abbrev pub AllFollowed : Told → Told → List Task → List ℕ → List Turned → List Outcome → Type 0
 AllFollowed log log' tasks order notes outcomes = (calls : List Call) → log ≡ Some calls → (calls' : List Call) × (log' ≡ Some calls')
     × ((i : ℕ) (t : Task) (r : Outcome) → slice_get tasks i ≡ Some t → slice_get outcomes i ≡ Some r → OutcomeFollowed (course calls order notes) i calls' t r)
     × (NamesItsOwn calls → NamesItsOwn calls')
 
--- a log that names its own cursors only goes on doing so
+-- a log that names its own cursors only, call by call, goes on doing so
 abbrev pub GoesOnNaming : Told → Told → Type 0
 GoesOnNaming log log' = (calls : List Call) → log ≡ Some calls → (calls' : List Call) × (log' ≡ Some calls') × (NamesItsOwn calls → NamesItsOwn calls')

@@ -1,6 +1,6 @@
 -- How far each job comes by its turns.
 use Rattle.std.specs.Prelude.{◌≡◌, ◌+◌, ◌<◌, ◌≤◌, ◌⊎◌, ℕ, Bool, true, false, cond, nat_eq, List, [], ◌∷◌, length, Option, Some, IsSome, is_some, slice_get}
-use Rattle.mg_jobs.specs.Counts.{PendedAs}
+use Rattle.mg_jobs.specs.Counts.{RoseIf}
 use Rattle.mg_change.specs.Closings.{closing_ticket}
 use Rattle.mg_change.specs.Openings.{opening_ticket}
 use Rattle.mg_change.specs.Phases.{ticket_in}
@@ -55,11 +55,12 @@ IsFinished (ended.Failed e) = Unit {0}
 abbrev pub HoldsIf : Bool → Option ℕ → Type 0
 HoldsIf last ticket = is_some ticket ≡ last
 
--- an insert after so many turns that did not pend: it ends in the first of them
+-- an insert after so many turns that did not pend, where its newest turn pended or not: it ends in the first of them, and the newest turn of one that has
+-- ended did not pend
 abbrev pub InsertAt : InsertStage → ℕ → Bool → Type 0
 InsertAt inserts.Unsent k last = (k ≡ 0) × (last ≡ false)
 InsertAt (inserts.Goes inserting) k last = (k ≡ 0) × HoldsIf last (insert_ticket inserting)
-InsertAt (inserts.Ended e) k last = (1 ≤ k) × IsFinished e
+InsertAt (inserts.Ended e) k last = (1 ≤ k) × IsFinished e × (last ≡ false)
 
 -- an insert that drew its ids, which may have failed
 abbrev pub InsertReady : InsertStage → ℕ → Type 0
@@ -124,15 +125,15 @@ pub record IsClosed (calls : ℕ) (c : Came) (k : ℕ) : Type 0 where
   pub answered : c.answered ≡ calls
   pub all : calls + 1 ≤ k
 
--- a follow of so many calls at a stage, after k turns that did not pend
+-- a follow of so many calls at a stage, after k turns that did not pend, where its newest turn pended or not
 abbrev pub FollowAt : ℕ → Stage → Came → ℕ → Bool → Type 0
 FollowAt calls stage.Unopened c k last = NotOpen calls c k × (last ≡ false)
 FollowAt calls (stage.Opens opening) c k last = NotOpen calls c k × HoldsIf last (opening_ticket opening)
 FollowAt calls (stage.Open stream) c k last = IsOpen calls c k × HoldsIf last (ticket_in stream.phase)
 FollowAt calls (stage.Closes closing) c k last = Closes calls c k × (last ≡ true) × IsSome (closing_ticket closing)
-FollowAt calls stage.Ended c k last = NeverOpen c k ⊎ IsClosed calls c k
+FollowAt calls stage.Ended c k last = (NeverOpen c k ⊎ IsClosed calls c k) × (last ≡ false)
 
--- a job of so many calls, after k turns that did not pend
+-- a job of so many calls, after k turns that did not pend, where its newest turn pended or not
 abbrev pub IsAt : ℕ → Player → ℕ → Bool → Type 0
 IsAt calls (player.Insert job) k last = InsertAt job.stage k last
 IsAt calls (player.Follow job) k last = FollowAt calls job.stage (came job) k last
@@ -161,7 +162,7 @@ AllAt tasks order notes players = (i : ℕ) (t : Task) (p : Player) → slice_ge
 
 -- from one state to the other, in a turn that pended just where the count of pending replies rose
 abbrev pub ComesTo : (ℕ → ℕ → Bool → Type 0) → (ℕ → ℕ → Bool → Type 0) → ℕ → ℕ → Type 0
-ComesTo P Q before now = (pended : Bool) × PendedAs pended before now × ((calls k : ℕ) (last : Bool) → P calls k last → Q calls (k + one_unless pended) pended)
+ComesTo P Q before now = (pended : Bool) × RoseIf pended before now × ((calls k : ℕ) (last : Bool) → P calls k last → Q calls (k + one_unless pended) pended)
 
 -- a turn takes a follow from one stage to another
 abbrev pub FollowGoes : ℕ → ℕ → Stage → Came → Stage → Came → Type 0
@@ -193,27 +194,28 @@ TurnsBy note p p' = (calls k : ℕ) (last : Bool) → IsAt calls p k last → Is
 
 -- ---- what this comes to
 
--- an insert is unfinished just where it had no turn that did not pend
-abbrev pub InsertPlayed : {A : Type 0} → Ended A → ℕ → Type 0
-InsertPlayed ended.Unfinished k = k ≡ 0
-InsertPlayed (ended.Gave x) k = 1 ≤ k
-InsertPlayed (ended.Failed e) k = 1 ≤ k
+-- an insert is unfinished just where it had no turn that did not pend; the newest turn of one that has ended did not pend
+abbrev pub InsertPlayed : {A : Type 0} → Ended A → ℕ → Bool → Type 0
+InsertPlayed ended.Unfinished k last = k ≡ 0
+InsertPlayed (ended.Gave x) k last = (1 ≤ k) × (last ≡ false)
+InsertPlayed (ended.Failed e) k last = (1 ≤ k) × (last ≡ false)
 
--- an open follow: one call was answered in each turn behind the first, and the last of them, or the next, closes it
+-- an open follow: one call was answered in each turn behind the first, and the last of them, or the next, closes it, and did not pend
 abbrev pub OpenPlayed : {A : Type 0} → Ended A → ℕ → ℕ → ℕ → Bool → Type 0
 OpenPlayed ended.Unfinished calls answered k last = ((answered + 1 ≡ k) × (answered < calls)) ⊎ ((answered ≡ calls) × (k ≡ calls) × (last ≡ true))
-OpenPlayed (ended.Gave x) calls answered k last = (answered ≡ calls) × (calls + 1 ≤ k)
-OpenPlayed (ended.Failed e) calls answered k last = (answered ≡ calls) × (calls + 1 ≤ k)
+OpenPlayed (ended.Gave x) calls answered k last = (answered ≡ calls) × (calls + 1 ≤ k) × (last ≡ false)
+OpenPlayed (ended.Failed e) calls answered k last = (answered ≡ calls) × (calls + 1 ≤ k) × (last ≡ false)
 
--- a follow is opened in its first turn that does not pend; a stream that is not open has no more
+-- a follow is opened in its first turn that does not pend; a stream that was not opened has no more, and the newest turn of one that could not be opened
+-- did not pend
 abbrev pub FollowPlayed : {A : Type 0} → Ended A → Ended A → ℕ → ℕ → Bool → ℕ → Bool → Type 0
 FollowPlayed ended.Unfinished closed calls answered alive k last = (k ≡ 0) × (answered ≡ 0) × (alive ≡ false) × IsUnfinished closed
 FollowPlayed (ended.Gave x) closed calls answered alive k last = OpenPlayed closed calls answered k last
-FollowPlayed (ended.Failed e) closed calls answered alive k last = (1 ≤ k) × (answered ≡ 0) × (alive ≡ false) × IsUnfinished closed
+FollowPlayed (ended.Failed e) closed calls answered alive k last = (1 ≤ k) × (answered ≡ 0) × (alive ≡ false) × IsUnfinished closed × (last ≡ false)
 
 -- a task comes to this outcome by k turns that did not pend, where its newest turn pended or not
 abbrev pub IsPlayed : Task → ℕ → Bool → Outcome → Type 0
-IsPlayed (insert ns docs) k last (outcome.Insert e) = InsertPlayed e k
+IsPlayed (insert ns docs) k last (outcome.Insert e) = InsertPlayed e k last
 IsPlayed (insert ns docs) k last (outcome.Follow opened answers token alive closed) = ⊥
 IsPlayed (insert ns docs) k last (outcome.Put e) = ⊥
 IsPlayed (insert ns docs) k last (outcome.Get bytes e) = ⊥

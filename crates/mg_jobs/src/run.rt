@@ -12,7 +12,7 @@ ghost use Rattle.mg_link.specs.Owner.{Owner};
 ghost use Rattle.mg_jobs.specs.Headline.{AllFollowed, AreFirst, GoesOnNaming, DoTasks, Does, IsFirst, IsSameTask, Knowing, OutcomeOf, OutcomesOf, Plays};
 ghost use Rattle.mg_script.specs.Plan.{Task, task, tasks};
 ghost use Rattle.mg_jobs.specs.Progress.{AllAt, AllPlayed, GoesBy, IsAt, IsReadyAt, JobGoes, TurnsBy, calls_of};
-ghost use Rattle.mg_jobs.specs.Causes.{AllCaused, AllSettled};
+ghost use Rattle.mg_jobs.specs.Causes.{AllCaused, AllWaitAlone};
 ghost use Rattle.mg_jobs.specs.Completing.{AllWell};
 ghost use Rattle.mg_script.specs.Script.{first_missing};
 ghost use Rattle.mg_jobs.specs.Telling.{AllTell, IsSameTeller};
@@ -303,7 +303,7 @@ impl<'a> Runner<'a> {
             (L.wire link.old) (L.wire link.new) (L.prompt link.old) (L.prompt link.new) }
         ensures jobs { length self.new.players.items ≡ length self.old.players.items }
         // No ticket is out but those of jobs, and those that were out before.
-        ensures held { (before : Awaited) → AreHeld before (L.awaited link.old) self.old.players.items → AreHeld before (L.awaited link.new) self.new.players.items }
+        ensures none_lost { (before : Awaited) → AreHeld before (L.awaited link.old) self.old.players.items → AreHeld before (L.awaited link.new) self.new.players.items }
         // The jobs go on knowing what they should, and none touches a cursor of another.
         ensures knowing { (begun : Told) → Knowing (L.awaited link.old) begun (L.log link.old) self.old.players.items → Knowing (L.awaited link.new) begun (L.log link.new) self.new.players.items }
         ensures tasks { (ts : List Task) → DoTasks ts self.old.players.items → DoTasks ts self.new.players.items }
@@ -384,7 +384,7 @@ fn play<L: Link, I: IdSource>(
     ensures prompt { L.prompt link.old → OnOk result (All (λ t. t.pended ≡ false) runner.new.turns.items) }
     ensures lossless { L.prompt link.old → OnOk result (LosesNothing (L.log link.old) (L.log link.new)) }
     ensures jobs { length runner.new.players.items ≡ length runner.old.players.items }
-    ensures held { (before : Awaited) → AreHeld before (L.awaited link.old) runner.old.players.items → AreHeld before (L.awaited link.new) runner.new.players.items }
+    ensures none_lost { (before : Awaited) → AreHeld before (L.awaited link.old) runner.old.players.items → AreHeld before (L.awaited link.new) runner.new.players.items }
     ensures knowing { (begun : Told) → Knowing (L.awaited link.old) begun (L.log link.old) runner.old.players.items → Knowing (L.awaited link.new) begun (L.log link.new) runner.new.players.items }
     ensures tasks { (ts : List Task) → DoTasks ts runner.old.players.items → DoTasks ts runner.new.players.items }
     ensures rows { OnOk result ((ts : List Task) → AllAt ts [] [] runner.old.players.items → AllAt ts order.now runner.new.turns.items runner.new.players.items) }
@@ -419,7 +419,7 @@ pub fn run_jobs<L: Link, I: IdSource>(
     // E15 just where a number names no job, with the first such number; and otherwise want of memory.
     ensures missing { IfSome (first_missing (length jobs.now) order.now) (λ n. (result ≡ Err (plain (ErrorKind.NoSuchJob n))) × (link.new ≡ link.old) × (ids.new ≡ ids.old)) }
     ensures err { IfErr result (λ e. ((n : ℕ) × (e ≡ plain (ErrorKind.NoSuchJob n)) × (first_missing (length jobs.now) order.now ≡ Some n)) ⊎ (e ≡ plain ErrorKind.OutOfMemory)) }
-    // Where the log named its own cursors only, it goes on doing so, also where the run failed.
+    // Where each call of the log named its own cursors only, that stays so, also where the run failed.
     ensures naming { GoesOnNaming (L.log link.old) (L.log link.new) }
     // Each follow answers consecutive matching entries from the opening place of its own aggregate on, each once, in order,
     // just up to its token, also after errors.
@@ -435,8 +435,9 @@ pub fn run_jobs<L: Link, I: IdSource>(
     // one that failed did so; what it sends has the ids that it drew. One that is unfinished, and whose last turn pended,
     // waits for the reply to a command of its own.
     ensures caused { IfOk result (λ p. AllCaused (I.ids ids.old) (L.awaited link.new) (L.log link.old) (L.log link.new) (L.wire link.old) (tasks jobs.now) order.now p.turns.items p.outcomes.items) }
-    // A call that waits for its reply was sent by a job whose newest turn pended.
-    ensures settled { IfOk result (λ p. AllSettled (L.awaited link.old) (L.awaited link.new) (L.log link.old) order.now p.turns.items) }
+    // Over a link that tells its log, each call that waits for its reply was sent in a turn of a job whose newest turn pended,
+    // and that job waits for no other, unless a ticket was out for the same call before the run.
+    ensures waits_alone { IfOk result (λ p. AllWaitAlone (L.awaited link.old) (L.awaited link.new) (L.log link.old) order.now p.turns.items) }
     // Over a prompt link each job ends well, where its server holds nothing back.
     ensures complete { L.prompt link.old → IfOk result (λ p. AllWell (I.ids ids.old) (L.log link.old) (L.log link.new) (tasks jobs.now) order.now p.turns.items p.outcomes.items) }
     // One outcome for each job, and one note for each turn.

@@ -13,7 +13,7 @@ use Rattle.mg_link.specs.Link.{Told}
 use Rattle.mg_jobs.specs.Counts.{AreNoted}
 use Rattle.mg_jobs.specs.Fated.{AreItsSteps}
 use Rattle.mg_jobs.specs.Progress.{AllPlayed}
-use Rattle.mg_jobs.specs.Causes.{AllSettled, OutcomeCaused, course}
+use Rattle.mg_jobs.specs.Causes.{AllWaitAlone, OutcomeCaused, course}
 use Rattle.mg_jobs.specs.Drawing.{as_sent}
 use Rattle.mg_jobs.specs.Headline.{OutcomeFollowed}
 use Rattle.mg_jobs.specs.Program.{script_ids}
@@ -79,9 +79,9 @@ returns-clause-followed g c =
       notes = c.in_ok-played.ensures.turns ∙ ap length c.as_slice-2.ensures.value;
       noted = noted;
       pended_in_turns = let few = c.in_ok-played.played.turns.ok.0 in turns_counted notes (pends_in link.pended) (omega (arith, few)) (noted_rose notes (Some []) (Some f.0) 0 (pends_in link.pended) noted);
-      settled =
+      waits_alone =
           let begun = ap (λ m. m.calls) c.new-link.ensures ∙ c.requires.unused in
-          subst (λ (l : List Call). AllSettled (out_at l) (out_at f.0) (Some l) c.args.script.order.items notes) begun
-          (subst (λ (l : List Call). AllSettled (out_at c.new-link.result.calls) (out_at l) (Some c.new-link.result.calls) c.args.script.order.items notes) (same_some c.run_jobs.new.link.calls f.0 f.1)
-          (subst (λ (o : List ℕ). AllSettled (out_at c.new-link.result.calls) (out_at c.run_jobs.new.link.calls) (Some c.new-link.result.calls) o notes) c.as_slice-2.ensures.value c.in_ok-played.ensures.settled));
+          subst (λ (l : List Call). AllWaitAlone (out_at l) (out_at f.0) (Some l) c.args.script.order.items notes) begun
+          (subst (λ (l : List Call). AllWaitAlone (out_at c.new-link.result.calls) (out_at l) (Some c.new-link.result.calls) c.args.script.order.items notes) (same_some c.run_jobs.new.link.calls f.0 f.1)
+          (subst (λ (o : List ℕ). AllWaitAlone (out_at c.new-link.result.calls) (out_at c.run_jobs.new.link.calls) (Some c.new-link.result.calls) o notes) c.as_slice-2.ensures.value c.in_ok-played.ensures.waits_alone));
     }

@@ -18,8 +18,8 @@ use Rattle.mg_jobs.proofs.run.play.Goals as goal
 pub returns-in_err-turn-clause-knowing : goal.returns-in_err-turn-clause-knowing
 returns-in_err-turn-clause-knowing g c = λ begun before. c.turn.ensures.knowing begun (c.loop-number.invariant.knowing begun before)
 
-pub returns-in_err-turn-clause-held : goal.returns-in_err-turn-clause-held
-returns-in_err-turn-clause-held g c = λ before was. c.turn.ensures.held before (c.loop-number.invariant.held before was)
+pub returns-in_err-turn-clause-none_lost : goal.returns-in_err-turn-clause-none_lost
+returns-in_err-turn-clause-none_lost g c = λ before was. c.turn.ensures.none_lost before (c.loop-number.invariant.none_lost before was)
 
 pub loop-number-preserved : goal.loop-number-preserved
 loop-number-preserved g c =
@@ -38,7 +38,7 @@ loop-number-preserved g c =
           (All-append (λ (t : Turned). t.pended ≡ false) xs (noted.0 ∷ []) (c.loop-number.invariant.quiet prompt) (All-cons (λ (t : Turned). t.pended ≡ false) noted.0 [] (noted.2.prompt (c.loop-number.invariant.later.prompt prompt).stays).1 (All-nil (λ (t : Turned). t.pended ≡ false))));
       lossless = λ prompt. loses_on _ _ _ (c.loop-number.invariant.lossless prompt) (noted.2.prompt (c.loop-number.invariant.later.prompt prompt).stays).2;
       jobs = c.turn.ensures.jobs ∙ c.loop-number.invariant.jobs;
-      held = λ first was. c.turn.ensures.held first (c.loop-number.invariant.held first was);
+      none_lost = λ first was. c.turn.ensures.none_lost first (c.loop-number.invariant.none_lost first was);
       knowing = λ begun before. c.turn.ensures.knowing begun (c.loop-number.invariant.knowing begun before);
       rows = λ ts before. at_next ts c.args.order.now c.loop-number.number-index (get_or c.args.order.now c.loop-number.number-index 0) c.turn.new.self.turns.items c.turn.new.self.players.items there
           (c.in_ok-turn.ensures.rows ts (take c.loop-number.number-index c.args.order.now) (length_take c.args.order.now c.loop-number.number-index (get_or c.args.order.now c.loop-number.number-index 0) there ∙ sym c.loop-number.invariant.turns) (c.loop-number.invariant.rows ts before));
@@ -77,7 +77,7 @@ loop-number-init g c =
       quiet = λ prompt. subst (λ (ts : List Turned). All (λ (t : Turned). t.pended ≡ false) ts) (sym none) (All-nil (λ (t : Turned). t.pended ≡ false));
       lossless = λ prompt calls told. (calls, told, λ place call there seen. there);
       jobs = refl;
-      held = λ first was. was;
+      none_lost = λ first was. was;
       knowing = λ begun knowing. knowing;
       rows = λ ts rows. subst (λ (ns : List Turned). AllAt ts [] ns c.args.runner.now.players.items) (sym none) rows;
       drawn = λ first ts does drawn. drawn;

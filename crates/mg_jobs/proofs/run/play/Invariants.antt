@@ -21,7 +21,7 @@ invariant-loop-number g l = record {
   quiet : g.L.Link.prompt l.initial.link → All (λ (t : Turned). t.pended ≡ false) l.runner.turns.items;
   lossless : g.L.Link.prompt l.initial.link → LosesNothing (g.L.Link.log l.initial.link) (g.L.Link.log l.link);
   jobs : length l.runner.players.items ≡ length l.initial.runner.players.items;
-  held : (before : Awaited) → AreHeld before (g.L.Link.awaited l.initial.link) l.initial.runner.players.items → AreHeld before (g.L.Link.awaited l.link) l.runner.players.items;
+  none_lost : (before : Awaited) → AreHeld before (g.L.Link.awaited l.initial.link) l.initial.runner.players.items → AreHeld before (g.L.Link.awaited l.link) l.runner.players.items;
   knowing : (begun : Told) → Knowing (g.L.Link.awaited l.initial.link) begun (g.L.Link.log l.initial.link) l.initial.runner.players.items → Knowing (g.L.Link.awaited l.link) begun (g.L.Link.log l.link) l.runner.players.items;
   rows : (ts : List Task) → AllAt ts [] [] l.initial.runner.players.items → AllAt ts (take l.number-index l.fn.order) l.runner.turns.items l.runner.players.items;
   drawn : (first : ℕ → List ℕ) (ts : List Task) → DoTasks ts l.initial.runner.players.items → HaveDrawn first (g.I.IdSource.ids l.initial.ids) ts [] l.initial.runner.players.items → HaveDrawn first (g.I.IdSource.ids l.ids) ts (take l.number-index l.fn.order) l.runner.players.items;

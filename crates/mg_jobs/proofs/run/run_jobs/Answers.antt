@@ -8,7 +8,7 @@ use Rattle.mg_jobs.proofs.Knowing.{knowing_first}
 use Rattle.mg_jobs.proofs.Advancing.{rows_so}
 use Rattle.mg_jobs.proofs.Completing.{well_so}
 use Rattle.mg_jobs.proofs.Drawing.{drawn_first, drawn_so}
-use Rattle.mg_jobs.proofs.Settled.{settled_so}
+use Rattle.mg_jobs.proofs.Waiting.{wait_so}
 use Rattle.mg_jobs.proofs.Tallies.{noted_so, pended_so}
 use Rattle.mg_jobs.proofs.Told.{caused_so, followed_so, tell_as, tell_first}
 use Rattle.mg_jobs.proofs.run.run_jobs.Goals as goal
@@ -67,15 +67,15 @@ returns-clause-caused g c =
     (c.in_ok-play.ensures.told _ (g.L.Link.log c.args.link.now) (tasks c.args.jobs.now) c.in_ok-runner.ensures.tasks c.in_ok-runner.ensures.at first (tell_first _ _ _ _ (tasks c.args.jobs.now) c.in_ok-runner.runner.players.items c.in_ok-runner.ensures.first)))
     (c.in_ok-play.ensures.rows _ c.in_ok-runner.ensures.at) (c.play.ensures.tasks _ c.in_ok-runner.ensures.tasks)
 
-pub returns-clause-settled : goal.returns-clause-settled
-returns-clause-settled g c =
+pub returns-clause-waits_alone : goal.returns-clause-waits_alone
+returns-clause-waits_alone g c =
     let jobs = c.in_ok-runner.ensures.jobs ∙ sym (length-map c.args.jobs.now task) in
     let first = drawn_first (g.I.IdSource.ids c.args.ids.now) (tasks c.args.jobs.now) c.in_ok-runner.runner.players.items jobs c.in_ok-runner.ensures.first in
-    settled_so (g.I.IdSource.ids c.args.ids.now) (g.I.IdSource.ids c.play.new.ids) (g.L.Link.awaited c.args.link.now) _ _ _ _ (tasks c.args.jobs.now) c.args.order.now c.play.new.runner.turns.items c.play.new.runner.players.items c.into_played.result c.into_played.ensures.turns
+    wait_so (g.I.IdSource.ids c.args.ids.now) (g.I.IdSource.ids c.play.new.ids) (g.L.Link.awaited c.args.link.now) _ _ _ _ (tasks c.args.jobs.now) c.args.order.now c.play.new.runner.turns.items c.play.new.runner.players.items c.into_played.result c.into_played.ensures.turns
     (c.in_ok-play.ensures.drawn _ (tasks c.args.jobs.now) c.in_ok-runner.ensures.tasks first)
     (c.in_ok-play.ensures.told _ (g.L.Link.log c.args.link.now) (tasks c.args.jobs.now) c.in_ok-runner.ensures.tasks c.in_ok-runner.ensures.at first (tell_first _ _ _ _ (tasks c.args.jobs.now) c.in_ok-runner.runner.players.items c.in_ok-runner.ensures.first))
     (c.in_ok-play.ensures.rows _ c.in_ok-runner.ensures.at)
-    (c.play.ensures.held (g.L.Link.awaited c.args.link.now) (λ ticket out. inr refl))
+    (c.play.ensures.none_lost (g.L.Link.awaited c.args.link.now) (λ ticket out. inr refl))
 
 pub returns-clause-complete : goal.returns-clause-complete
 returns-clause-complete g c = λ prompt. well_so _ _ _ _ _ (tasks c.args.jobs.now) c.args.order.now c.into_played.result (c.in_ok-play.ensures.lossless prompt) (returns-clause-caused g c) (returns-clause-rows g c)

@@ -9,7 +9,7 @@ use Rattle.mg_jobs.proofs.Apart.{apart_as, on_err, same_at, same_job, same_jobs,
 use Rattle.mg_jobs.proofs.Knowing.{knowing_on, tasks_after}
 use Rattle.mg_jobs.proofs.Advancing.{at_after}
 use Rattle.mg_jobs.proofs.Drawing.{drawn_on}
-use Rattle.mg_jobs.proofs.Settled.{held_turn}
+use Rattle.mg_jobs.proofs.Waiting.{held_turn}
 use Rattle.mg_jobs.proofs.Told.{all_turn, tell_as}
 use Rattle.mg_jobs.specs.Progress.{AllAt}
 use Rattle.mg_jobs.specs.Telling.{AllTell}
@@ -77,8 +77,8 @@ returns-clause-ended g c = λ e.
       c.push_reserved.ensures ∙ ap (λ l. l ++ c.in_ok-note.note ∷ []) c.in_ok-reserve.ensures.items ∙ ap (λ (n : Turned). c.args.self.now.turns.items ++ n ∷ []) noted,
     )
 
-pub returns-in_err-note-clause-held : goal.returns-in_err-note-clause-held
-returns-in_err-note-clause-held g c = λ before was.
+pub returns-in_err-note-clause-none_lost : goal.returns-in_err-note-clause-none_lost
+returns-in_err-note-clause-none_lost g c = λ before was.
     let ok = c.args.self.now.players.ok.0 in
     let within : c.args.job < length c.args.self.now.players.items = omega (arith, c.len.ensures, c.if-at-len.false) in
     let at = slice_get_read c.args.self.now.players.items (length c.args.self.now.players.items) c.args.job c.index_mut-player.result.now refl within c.index_mut-player.ensures.value in
@@ -98,8 +98,8 @@ returns-in_err-note-clause-tasks g c =
     let at = slice_get_read c.args.self.now.players.items (length c.args.self.now.players.items) c.args.job c.index_mut-player.result.now refl within c.index_mut-player.ensures.value in
     tasks_after c.args.self.now.players.items c.args.job c.index_mut-player.result.now c.turn_of.new.player at c.turn_of.ensures.goes.task
 
-pub returns-clause-held : goal.returns-clause-held
-returns-clause-held g c = λ before was.
+pub returns-clause-none_lost : goal.returns-clause-none_lost
+returns-clause-none_lost g c = λ before was.
     let ok = c.args.self.now.players.ok.0 in
     let within : c.args.job < length c.args.self.now.players.items = omega (arith, c.len.ensures, c.if-at-len.false) in
     let at = slice_get_read c.args.self.now.players.items (length c.args.self.now.players.items) c.args.job c.index_mut-player.result.now refl within c.index_mut-player.ensures.value in

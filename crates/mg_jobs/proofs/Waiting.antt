@@ -1,8 +1,8 @@
 -- Whose call it is that waits for its reply.
-use Rattle.std.proofs.Common.{◌≡◌, ◌⊎◌, ◌+◌, ◌<◌, ◌≤◌, ℕ, zero, suc, ℤ, pos, Bool, true, List, [], ◌∷◌, ◌++◌, length, Option, Some, None, Result, Ok, Err, IfOk, refl, sym, ap, ◌∙◌, subst, inl, inr, arith}
+use Rattle.std.proofs.Common.{◌≡◌, ◌⊎◌, ◌+◌, ◌<◌, ◌≤◌, ℕ, ℤ, pos, Bool, true, List, [], ◌∷◌, ◌++◌, length, Option, Some, None, Result, Ok, Err, IfOk, sym, ap, ◌∙◌, subst, inl, inr, arith}
 use Rattle.std.specs.Prelude.{is_some, slice_get, slice_set}
 use Rattle.std.specs.List.{sum_by}
-use Rattle.std.proofs.lemmas.Bool.{cases_eq}
+use Rattle.std.proofs.lemmas.Bool.{cases_eq, cases_order}
 use Rattle.std.proofs.lemmas.List.Sums.{sum_by-cons}
 use Rattle.mg_bson.specs.Tree.{Fields}
 use Rattle.mg_link.specs.Acts.{Tickets}
@@ -11,19 +11,19 @@ use Rattle.mg_link.specs.Log.{Call}
 use Rattle.mg_link.specs.Namespace.{Space, space}
 use Rattle.mg_link.specs.declared.error.Error.{Error}
 use Rattle.mg_link.proofs.Owners.{same_some}
-use Rattle.mg_store.proofs.Standing.{get_set_same}
+use Rattle.mg_link.proofs.Places.{get_past_other, get_seam, get_set_same}
 use Rattle.mg_ops.specs.Commands.{insert_command}
 use Rattle.mg_change.specs.Calls.{Past}
 use Rattle.mg_change.proofs.Awaiting.{call_own, kill_own, opening_own}
 use Rattle.mg_change.proofs.Calls.{HoldsOwn, own_by}
-use Rattle.mg_jobs.specs.Causes.{AllSentIn, AllSettled, Course, SentIn, course, sent_at}
+use Rattle.mg_jobs.specs.Causes.{AllSentIn, AllWaitAlone, Course, WaitsAlone, SentIn, course, sent_at}
 use Rattle.mg_jobs.specs.Drawing.{HadTurn, HaveDrawn, JobHadTurn, first_id, has_turn}
 use Rattle.mg_jobs.specs.InsertCauses.{InsertFlies}
 use Rattle.mg_jobs.specs.Inserts.{held}
 use Rattle.mg_jobs.specs.Playing.{inserts_ticket, stage_ticket}
 use Rattle.mg_jobs.specs.Progress.{AllAt, Came, FollowAt, InsertAt, IsAt, calls_of, came, pends_last, turns_done}
-use Rattle.mg_jobs.specs.Runs.{AreHeld, job_ticket}
-use Rattle.mg_jobs.specs.Telling.{AllTell, FollowTold, InsertTells, JobTold, Kept, kept, number}
+use Rattle.mg_jobs.specs.Runs.{AreHeld, HeldBy, job_ticket}
+use Rattle.mg_jobs.specs.Telling.{AllTell, AllTold, FollowTold, InsertTells, JobTold, Kept, kept, number}
 use Rattle.mg_script.specs.Plan.{Task}
 use Rattle.mg_script.specs.declared.outcome.Played.{Played}
 use Rattle.mg_script.specs.declared.outcome.Turned.{Turned}
@@ -38,13 +38,6 @@ use Rattle.mg_jobs.proofs.Knowing.{get_length}
 
 -- ---- the tickets that are out
 
-get_set_still : {A : Type 0} (xs : List A) (k i : ℕ) (x y : A) → (i ≡ k → ⊥) → slice_get xs i ≡ Some x → slice_get (slice_set xs k y) i ≡ Some x
-get_set_still [] k i x y ne h = h
-get_set_still (z ∷ xs) zero zero x y ne h = absurd (ne refl)
-get_set_still (z ∷ xs) zero (suc i) x y ne h = h
-get_set_still (z ∷ xs) (suc k) zero x y ne h = h
-get_set_still (z ∷ xs) (suc k) (suc i) x y ne h = get_set_still xs k i x y (λ e. ne (ap suc e)) h
-
 -- behind the turn of a job its own new ticket and those of the others are out, and no other
 pub held_turn : (before old new : Awaited) (players : List Player) (k : ℕ) (p p' : Player) → slice_get players k ≡ Some p → Tickets old new (job_ticket p) (job_ticket p') → AreHeld before old players → AreHeld before new (slice_set players k p')
 held_turn before old new players k p p' at tickets holds m out =
@@ -55,7 +48,7 @@ held_turn before old new players k p p' at tickets holds m out =
           | inl e ↦
               let same : by.player ≡ p = same_some by.player p (sym by.there ∙ ap (λ n. slice_get players n) e ∙ at) in
               absurd (was.1 (ap (λ (x : Player). job_ticket x) (sym same) ∙ by.holds))
-          | inr ne ↦ inl (record { job = by.job; player = by.player; there = get_set_still players k by.job by.player p' ne by.there; holds = by.holds })
+          | inr ne ↦ inl (record { job = by.job; player = by.player; there = get_past_other players k by.job by.player p' ne by.there; holds = by.holds })
         ]
         | inr same ↦ inr (tickets.rest m was.1 was.0 ∙ same)
       ]
@@ -83,19 +76,15 @@ starts_behind (v ∷ xs) (w ∷ ys) x y more more' e less =
     let further = starts_behind xs ys x y more more' rest (omega (arith, less)) in
     omega (arith, count, count', one, further)
 
-at_split : {A : Type 0} (xs ys : List A) (x : A) → slice_get (xs ++ x ∷ ys) (length xs) ≡ Some x
-at_split [] ys x = refl
-at_split (z ∷ xs) ys x = at_split xs ys x
-
 -- what stands at a place was sent by one job alone
 pub sent_by_one : (c : Course) (i j k k' place : ℕ) → SentIn c i k place → SentIn c j k' place → i ≡ j
 sent_by_one c i j k k' place s t =
-    elim (cases_eq (length s.before) (length t.before)) [
+    elim (cases_order (length s.before) (length t.before)) [
       | inl same ↦
-          let here : slice_get c.order (length s.before) ≡ Some i = ap (λ l. slice_get l (length s.before)) s.order_is ∙ at_split s.before s.after i in
-          let there : slice_get c.order (length t.before) ≡ Some j = ap (λ l. slice_get l (length t.before)) t.order_is ∙ at_split t.before t.after j in
+          let here : slice_get c.order (length s.before) ≡ Some i = ap (λ l. slice_get l (length s.before)) s.order_is ∙ get_seam s.before s.after i in
+          let there : slice_get c.order (length t.before) ≡ Some j = ap (λ l. slice_get l (length t.before)) t.order_is ∙ get_seam t.before t.after j in
           same_some i j (sym here ∙ ap (λ n. slice_get c.order n) same ∙ there)
-      | inr ne ↦ elim (apart (length s.before) (length t.before) ne) [
+      | inr ne ↦ elim ne [
         | inl less ↦
             let behind = starts_behind s.noted t.noted s.note t.note s.later t.later (sym s.notes_are ∙ t.notes_are) (omega (arith, less, s.abreast, t.abreast)) in
             absurd (omega (arith, behind, s.upto, t.from))
@@ -104,12 +93,6 @@ sent_by_one c i j k k' place s t =
             absurd (omega (arith, behind, t.upto, s.from))
       ]
     ]
-  where
-    apart : (n m : ℕ) → (n ≡ m → ⊥) → (n < m) ⊎ (m < n)
-    apart zero zero ne = absurd (ne refl)
-    apart zero (suc m) ne = inl (omega arith)
-    apart (suc n) zero ne = inr (omega arith)
-    apart (suc n) (suc m) ne = elim (apart n m (λ e. ne (ap suc e))) [ inl less ↦ inl (omega (arith, less)) | inr more ↦ inr (omega (arith, more)) ]
 
 -- ---- the job that holds a ticket
 
@@ -182,23 +165,49 @@ job_own ids first awaited calls wire c i player.Get at ticket had t holds = absu
 
 -- ---- at the end of a run
 
-all_settled : (ids given : ℕ → List ℕ) (before awaited : Awaited) (log log' : Told) (wire : ℤ) (ts : List Task) (order : List ℕ) (notes : List Turned) (players : List Player) → HaveDrawn ids given ts order players → AllTell ids awaited log log' wire ts order notes players → AllAt ts order notes players → AreHeld before awaited players → AllSettled before awaited log order notes
-all_settled ids given before awaited log log' wire ts order notes players drawn tell all holds calls told ticket place i k at sent =
+module _ (ids given : ℕ → List ℕ) (before awaited : Awaited) (calls calls' : List Call) (wire : ℤ) (ts : List Task) (order : List ℕ) (notes : List Turned) (players : List Player) (drawn : HaveDrawn ids given ts order players) (places : ℕ → Option ℕ) (tell : AllTold ids awaited calls' wire (course calls order notes) ts players places) where
+  -- the call of a ticket that a job holds
+  held_own : (ticket place : ℕ) → awaited ticket ≡ Some place → (by : HeldBy players ticket) → (done : ℕ) × SentIn (course calls order notes) by.job done place
+  held_own ticket place at by =
+      let t = get_length ts players drawn.jobs by.job by.player by.there in
+      let own = job_own ids (first_id ts order by.job) awaited calls' wire (course calls order notes) by.job by.player (places by.job) ticket (drawn.each by.job by.player by.there) (tell.each by.job t.0 by.player t.1 by.there) by.holds in
+      (own.done, subst (λ n. SentIn (course calls order notes) by.job own.done n) (same_some own.place place (sym own.at ∙ at)) own.sent)
+
+  -- two tickets whose calls a job sent are one, or not of a job
+  held_alone : AreHeld before awaited players → (ticket : ℕ) (by : HeldBy players ticket) (other place done : ℕ) → awaited other ≡ Some place → SentIn (course calls order notes) by.job done place → (other ≡ ticket) ⊎ (before other ≡ Some place)
+  held_alone holds ticket by other place done at sent =
+      elim (holds other (ap (λ o. is_some o) at)) [
+        | inl by' ↦
+            let own = held_own other place at by' in
+            let it : by'.job ≡ by.job = sent_by_one (course calls order notes) by'.job by.job own.0 done place own.1 sent in
+            let same : by'.player ≡ by.player = same_some by'.player by.player (sym by'.there ∙ ap (λ n. slice_get players n) it ∙ by.there) in
+            inl (same_some other ticket (sym by'.holds ∙ ap (λ (x : Player). job_ticket x) same ∙ by.holds))
+        | inr same ↦ inr (sym same ∙ at)
+      ]
+
+  held_waits : AllAt ts order notes players → AreHeld before awaited players → (ticket place : ℕ) → awaited ticket ≡ Some place → HeldBy players ticket → WaitsAlone before awaited (course calls order notes) ticket place
+  held_waits all holds ticket place at by =
+      let t = get_length ts players drawn.jobs by.job by.player by.there in
+      let own = held_own ticket place at by in
+      record {
+        job = by.job;
+        done = own.0;
+        sent = own.1;
+        pended = job_pended (calls_of t.0) by.player (turns_done by.job order notes) (pends_last by.job order notes) ticket (all by.job t.0 by.player t.1 by.there) by.holds;
+        alone = held_alone holds ticket by;
+      }
+
+all_wait : (ids given : ℕ → List ℕ) (before awaited : Awaited) (log log' : Told) (wire : ℤ) (ts : List Task) (order : List ℕ) (notes : List Turned) (players : List Player) → HaveDrawn ids given ts order players → AllTell ids awaited log log' wire ts order notes players → AllAt ts order notes players → AreHeld before awaited players → AllWaitAlone before awaited log order notes
+all_wait ids given before awaited log log' wire ts order notes players drawn tell all holds calls told ticket place at =
     let run = tell calls told in
-    let c : Course = course calls order notes in
     elim (holds ticket (ap (λ o. is_some o) at)) [
-      | inl by ↦
-          let t = get_length ts players drawn.jobs by.job by.player by.there in
-          let own = job_own ids (first_id ts order by.job) awaited run.0 wire c by.job by.player (run.2.places by.job) ticket (drawn.each by.job by.player by.there) (run.3.each by.job t.0 by.player t.1 by.there) by.holds in
-          let same : own.place ≡ place = same_some own.place place (sym own.at ∙ at) in
-          let it : by.job ≡ i = sent_by_one c by.job i own.done k place (subst (λ n. SentIn c by.job own.done n) same own.sent) sent in
-          inl (subst (λ n. pends_last n order notes ≡ true) it (job_pended (calls_of t.0) by.player (turns_done by.job order notes) (pends_last by.job order notes) ticket (all by.job t.0 by.player t.1 by.there) by.holds))
-      | inr same ↦ inr (sym same ∙ at)
+      | inl by ↦ inr (held_waits ids given before awaited calls run.0 wire ts order notes players drawn run.2.places run.3 all holds ticket place at by)
+      | inr same ↦ inl (sym same ∙ at)
     ]
 
 -- the same of a run, unless memory ran out
-pub settled_so : (ids given : ℕ → List ℕ) (before awaited : Awaited) (log log' : Told) (wire : ℤ) (ts : List Task) (order : List ℕ) (notes : List Turned) (players : List Player) (result : Result Played Error) → IfOk result (λ p. p.turns.items ≡ notes)
-    → HaveDrawn ids given ts order players → AllTell ids awaited log log' wire ts order notes players → AllAt ts order notes players → AreHeld before awaited players → IfOk result (λ p. AllSettled before awaited log order p.turns.items)
-settled_so ids given before awaited log log' wire ts order notes players (Ok p) turns drawn tell all holds =
-    subst (λ (ns : List Turned). AllSettled before awaited log order ns) (sym turns) (all_settled ids given before awaited log log' wire ts order notes players drawn tell all holds)
-settled_so ids given before awaited log log' wire ts order notes players (Err e) turns drawn tell all holds = tt
+pub wait_so : (ids given : ℕ → List ℕ) (before awaited : Awaited) (log log' : Told) (wire : ℤ) (ts : List Task) (order : List ℕ) (notes : List Turned) (players : List Player) (result : Result Played Error) → IfOk result (λ p. p.turns.items ≡ notes)
+    → HaveDrawn ids given ts order players → AllTell ids awaited log log' wire ts order notes players → AllAt ts order notes players → AreHeld before awaited players → IfOk result (λ p. AllWaitAlone before awaited log order p.turns.items)
+wait_so ids given before awaited log log' wire ts order notes players (Ok p) turns drawn tell all holds =
+    subst (λ (ns : List Turned). AllWaitAlone before awaited log order ns) (sym turns) (all_wait ids given before awaited log log' wire ts order notes players drawn tell all holds)
+wait_so ids given before awaited log log' wire ts order notes players (Err e) turns drawn tell all holds = tt
