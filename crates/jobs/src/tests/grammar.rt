@@ -1,7 +1,8 @@
-use super::repeated;
+use super::{expect, repeated};
 use mg_jobs::{ScriptError, json_text, parse_script, value_from_json};
 use serde_json::Value;
 use std::alloc::{AllocError, Global};
+use std::process::Abort;
 use std::test::Fail;
 
 // ---- values
@@ -289,47 +290,68 @@ fn place_of(alloc: Global, script: &str) -> Result<String, AllocError> {
     }
 }
 
-#[test]
-fn places(rt: HostRuntime) -> Result<(), Fail> {
-    let alloc = rt.alloc();
-    let tables = [
-        ("", SCRIPTS, ""),
-        ("{\"jobs\":[", JOBS, "],\"order\":[]}"),
-        ("{\"fates\":[{},", FATES, "],\"jobs\":[],\"order\":[]}"),
-    ];
-    let mut rows: usize = 0;
-    for (before, table, behind) in tables {
-        for line in table.lines() {
-            let Some((place, text)) = line.split_once('~') else {
-                return Ok(assert!(rt; false, "{line}"));
-            };
-            let script = format!(in alloc; "{before}{text}{behind}")?;
-            let found = place_of(alloc, script.as_str())?;
-            assert_eq!(rt; found.as_str(), place, "{text}");
-            rows = rows.saturating_add(1);
-        }
+/// Fails where the first fault of a script stands at another place.
+fn is_at(rt: &impl Abort, alloc: Global, script: &str, place: &str) -> Result<(), AllocError> {
+    let found = place_of(alloc, script)?;
+    expect(rt, script, found.as_str(), place);
+    Ok(())
+}
+
+/// The same of the texts of a table, each between these.
+fn are_at(
+    rt: &impl Abort,
+    alloc: Global,
+    before: &str,
+    table: &str,
+    behind: &str,
+) -> Result<(), Fail> {
+    for line in table.lines() {
+        let Some((place, text)) = line.split_once('~') else {
+            return Err(Fail::from("line"));
+        };
+        let script = format!(in alloc; "{before}{text}{behind}")?;
+        is_at(rt, alloc, script.as_str(), place)?;
     }
-    assert!(rt; rows >= 60);
     Ok(())
 }
 
 #[test]
-fn nesting_and_counts(rt: HostRuntime) -> Result<(), Fail> {
+fn places(rt: HostRuntime) -> Result<(), Fail> {
     let alloc = rt.alloc();
-    // Each script has an entry that is no job, which is found where the text is JSON and its list is not too long.
-    // Three brackets stand around the arrays of the first two.
-    let deep = repeated(alloc, "", "]", 124, "}],\"order\":[]}")?;
-    let deeper = repeated(alloc, "", "]", 125, "}],\"order\":[]}")?;
-    let rows = [
-        ("{\"jobs\":[{\"a\":", "[", 124, deep.as_str(), "job 0"),
-        ("{\"jobs\":[{\"a\":", "[", 125, deeper.as_str(), "not json"),
-        ("{\"jobs\":[", "0,", 65_535, "0],\"order\":[]}", "job 0"),
-        ("{\"jobs\":[", "0,", 65_536, "0],\"order\":[]}", "top"),
-    ];
-    for (before, text, count, behind, place) in rows {
-        let script = repeated(alloc, before, text, count, behind)?;
-        let found = place_of(alloc, script.as_str())?;
-        assert_eq!(rt; found.as_str(), place, "{before}");
-    }
+    are_at(&rt, alloc, "", SCRIPTS, "")?;
+    are_at(&rt, alloc, "{\"jobs\":[", JOBS, "],\"order\":[]}")?;
+    let behind = "],\"jobs\":[],\"order\":[]}";
+    are_at(&rt, alloc, "{\"fates\":[{},", FATES, behind)
+}
+
+/// The place of the first fault of a script with an entry that holds so many arrays, one in the other. It is no job, which is
+/// found where the text is JSON. Three brackets stand around the arrays.
+fn place_of_nested(alloc: Global, levels: u32) -> Result<String, AllocError> {
+    let end = repeated(alloc, "", "]", levels, "}],\"order\":[]}")?;
+    let script = repeated(alloc, "{\"jobs\":[{\"a\":", "[", levels, end.as_str())?;
+    place_of(alloc, script.as_str())
+}
+
+/// The same of one with so many entries before the last. None is a job, which is found where its list is not too long.
+fn place_of_many(alloc: Global, entries: u32) -> Result<String, AllocError> {
+    let script = repeated(alloc, "{\"jobs\":[", "0,", entries, "0],\"order\":[]}")?;
+    place_of(alloc, script.as_str())
+}
+
+#[test]
+fn nesting(rt: HostRuntime) -> Result<(), Fail> {
+    let found = place_of_nested(rt.alloc(), 124)?;
+    expect(&rt, "124 levels", found.as_str(), "job 0");
+    let found = place_of_nested(rt.alloc(), 125)?;
+    expect(&rt, "125 levels", found.as_str(), "not json");
+    Ok(())
+}
+
+#[test]
+fn counts(rt: HostRuntime) -> Result<(), Fail> {
+    let found = place_of_many(rt.alloc(), 65_535)?;
+    expect(&rt, "65,536 jobs", found.as_str(), "job 0");
+    let found = place_of_many(rt.alloc(), 65_536)?;
+    expect(&rt, "65,537 jobs", found.as_str(), "top");
     Ok(())
 }

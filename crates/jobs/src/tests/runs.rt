@@ -1,80 +1,87 @@
+use super::expect;
 use mg_jobs::{MemSink, MemSource, run_program};
 use std::alloc::{AllocError, Global};
+use std::process::Abort;
 use std::test::Fail;
 
-/// The status and the text of a run over ends in memory, where these reads and writes fail and a call moves 3 bytes.
-fn status_and_text(
-    alloc: Global,
-    words: &[&str],
-    input: &str,
-    reads: &[u64],
-    writes: &[u64],
-) -> Result<(u8, String), AllocError> {
-    let mut owned = Vec::new(alloc);
-    for word in words {
-        owned.push(String::from_str(alloc, *word)?)?;
+/// The numbers of calls that are to fail, each a digit.
+fn failing(alloc: Global, digits: &str) -> Result<Vec<u64>, AllocError> {
+    let mut numbers = Vec::new(alloc);
+    for digit in digits.as_bytes() {
+        numbers.push(u64::from(digit.wrapping_sub(b'0')))?;
     }
-    let input = Vec::from_slice(alloc, input.as_bytes())?;
-    let mut source = MemSource::new(input, 3, Vec::from_slice(alloc, reads)?);
-    let mut sink = MemSink::new(alloc, 3, Vec::from_slice(alloc, writes)?);
-    let finished = run_program(alloc, owned.as_slice(), &mut source, &mut sink);
-    let text = match std::str::from_utf8(sink.bytes()) {
-        Ok(text) => String::from_str(alloc, text)?,
-        Err(_) => String::new(alloc),
-    };
-    Ok((finished.status, text))
+    Ok(numbers)
 }
 
-const FOLLOW_TWO_INSERTS: &str =
-    "{\"jobs\":[{\"calls\":3,\"job\":\"follow\",\"on\":\"app.c\"},{\"docs\":[{\"x\":1},{\"x\":2}],\"job\":\"insert\",\"ns\":\"app.c\"}],\"order\":[0,1,0,0,0]}";
+/// Words that are parted by spaces.
+fn words_of(alloc: Global, text: &str) -> Result<Vec<String>, AllocError> {
+    let mut words = Vec::new(alloc);
+    for word in text.split(' ') {
+        if !word.is_empty() {
+            words.push(String::from_str(alloc, word)?)?;
+        }
+    }
+    Ok(words)
+}
 
-const FOLLOWED: &str = "job 0 follow opened
-job 0 call 0 nothing
-job 0 call 1 event {\"_id\":{\"_data\":\"0000000000000001\"},\"clusterTime\":{\"$timestamp\":{\"i\":1,\"t\":1}},\"documentKey\":{\"_id\":{\"$oid\":\"000000000000000000000000\"}},\"fullDocument\":{\"_id\":{\"$oid\":\"000000000000000000000000\"},\"x\":1},\"ns\":{\"coll\":\"c\",\"db\":\"app\"},\"operationType\":\"insert\"}
-job 0 call 2 event {\"_id\":{\"_data\":\"0000000000000002\"},\"clusterTime\":{\"$timestamp\":{\"i\":1,\"t\":2}},\"documentKey\":{\"_id\":{\"$oid\":\"000000000000000000000001\"}},\"fullDocument\":{\"_id\":{\"$oid\":\"000000000000000000000001\"},\"x\":2},\"ns\":{\"coll\":\"c\",\"db\":\"app\"},\"operationType\":\"insert\"}
-job 0 token {\"_data\":\"0000000000000002\"} alive yes
-job 0 follow done
-job 1 insert ok 2
-open none
-commands 4
-";
+/// The status of a run over ends in memory, where these reads and writes fail and a call moves 3 bytes, and behind `~` its
+/// text.
+fn outcome_of(
+    alloc: Global,
+    words: &str,
+    reads: &str,
+    writes: &str,
+    input: &str,
+) -> Result<String, AllocError> {
+    let words = words_of(alloc, words)?;
+    let reads = failing(alloc, reads)?;
+    let writes = failing(alloc, writes)?;
+    let input = Vec::from_slice(alloc, input.as_bytes())?;
+    let mut source = MemSource::new(input, 3, reads);
+    let mut sink = MemSink::new(alloc, 3, writes);
+    let status = run_program(alloc, words.as_slice(), &mut source, &mut sink).status;
+    let text = std::str::from_utf8(sink.bytes()).unwrap_or("");
+    format!(in alloc; "{status}~{text}")
+}
 
-const NO_TURNS: &str =
-    "{\"jobs\":[{\"calls\":3,\"job\":\"follow\",\"on\":\"app.c\"},{\"docs\":[{\"x\":1},{\"x\":2}],\"job\":\"insert\",\"ns\":\"app.c\"}],\"order\":[]}";
+/// Each line is words, the reads and the writes that fail, a script, its status, and its text, with `^` for each line feed.
+const STATUSES: &str =
+    r#"run~~~{"jobs":[{"calls":3,"job":"follow","on":"app.c"},{"docs":[{"x":1},{"x":2}],"job":"insert","ns":"app.c"}],"order":[0,1,0,0,0]}~0~job 0 follow opened^job 0 call 0 nothing^job 0 call 1 event {"_id":{"_data":"0000000000000001"},"clusterTime":{"$timestamp":{"i":1,"t":1}},"documentKey":{"_id":{"$oid":"000000000000000000000000"}},"fullDocument":{"_id":{"$oid":"000000000000000000000000"},"x":1},"ns":{"coll":"c","db":"app"},"operationType":"insert"}^job 0 call 2 event {"_id":{"_data":"0000000000000002"},"clusterTime":{"$timestamp":{"i":1,"t":2}},"documentKey":{"_id":{"$oid":"000000000000000000000001"}},"fullDocument":{"_id":{"$oid":"000000000000000000000001"},"x":2},"ns":{"coll":"c","db":"app"},"operationType":"insert"}^job 0 token {"_data":"0000000000000002"} alive yes^job 0 follow done^job 1 insert ok 2^open none^commands 4^
+run~~~{"jobs":[{"calls":3,"job":"follow","on":"app.c"},{"docs":[{"x":1},{"x":2}],"job":"insert","ns":"app.c"}],"order":[]}~0~job 0 follow unopened^job 1 insert unfinished^open none^commands 0^
+run~~~{"jobs":[],"order":[]}~0~open none^commands 0^
+~~~{"jobs":[],"order":[]}~1~usage: jobs run | jobs share | jobs grow N^
+run run~~~{"jobs":[],"order":[]}~1~usage: jobs run | jobs share | jobs grow N^
+run~0~~{"jobs":[],"order":[]}~2~read fault^
+run~~~[~3~bad script: not json^
+run~~~{"jobs":[{"db":"a","id":0,"job":"get","read":1}],"order":[7]}~3~bad script: not built^
+run~~~{"jobs":[],"order":[0]}~5~no such job: 0^
+run~~1~{"jobs":[{"calls":3,"job":"follow","on":"app.c"},{"docs":[{"x":1},{"x":2}],"job":"insert","ns":"app.c"}],"order":[]}~4~job
+~~0~~4~"#;
 
-const UNTURNED: &str = "job 0 follow unopened
-job 1 insert unfinished
-open none
-commands 0
-";
+/// The first four parts of a line, and what stands behind them.
+fn parts(line: &str) -> Option<(&str, &str, &str, &str, &str)> {
+    let (words, rest) = line.split_once('~')?;
+    let (reads, rest) = rest.split_once('~')?;
+    let (writes, rest) = rest.split_once('~')?;
+    let (input, wanted) = rest.split_once('~')?;
+    Some((words, reads, writes, input, wanted))
+}
 
-const NO_JOBS: &str = "{\"jobs\":[],\"order\":[]}";
-
-const NO_SUCH_JOB: &str = "{\"jobs\":[],\"order\":[0]}";
-
-const NOT_BUILT: &str =
-    "{\"jobs\":[{\"db\":\"a\",\"id\":0,\"job\":\"get\",\"read\":1}],\"order\":[7]}";
+/// Runs one line, and fails where something else comes of it.
+fn run_line(rt: &impl Abort, alloc: Global, line: &str) -> Result<(), Fail> {
+    let Some((words, reads, writes, input, wanted)) = parts(line) else {
+        return Err(Fail::from("line"));
+    };
+    let found = outcome_of(alloc, words, reads, writes, input)?;
+    let wanted = wanted.replace(alloc, "^", "\n")?;
+    expect(rt, line, found.as_str(), wanted.as_str());
+    Ok(())
+}
 
 #[test]
 fn statuses(rt: HostRuntime) -> Result<(), Fail> {
-    let usage = "usage: jobs run | jobs share | jobs grow N\n";
-    let rows: [(&[&str], &str, &[u64], &[u64], u8, &str); 11] = [
-        (&["run"], FOLLOW_TWO_INSERTS, &[], &[], 0, FOLLOWED),
-        (&["run"], NO_TURNS, &[], &[], 0, UNTURNED),
-        (&["run"], NO_JOBS, &[], &[], 0, "open none\ncommands 0\n"),
-        (&[], NO_JOBS, &[], &[], 1, usage),
-        (&["run", "run"], NO_JOBS, &[], &[], 1, usage),
-        (&["run"], NO_JOBS, &[0], &[], 2, "read fault\n"),
-        (&["run"], "[", &[], &[], 3, "bad script: not json\n"),
-        (&["run"], NOT_BUILT, &[], &[], 3, "bad script: not built\n"),
-        (&["run"], NO_SUCH_JOB, &[], &[], 5, "no such job: 0\n"),
-        (&["run"], NO_TURNS, &[], &[1], 4, "job"),
-        (&[], "", &[], &[0], 4, ""),
-    ];
-    for (words, input, reads, writes, status, text) in rows {
-        let found = status_and_text(rt.alloc(), words, input, reads, writes)?;
-        assert_eq!(rt; found.0, status, "{input}");
-        assert_eq!(rt; found.1.as_str(), text);
+    for line in STATUSES.lines() {
+        run_line(&rt, rt.alloc(), line)?;
     }
     Ok(())
 }
@@ -127,25 +134,21 @@ job 0 follow opened|job 0 call 0 nothing|job 0 token {"_data":"0000000000000000"
 {"fates":[{"pend":1}],"jobs":[{"calls":3,"job":"follow","on":"app.c"},{"docs":[{"x":1},{"x":2}],"job":"insert","ns":"app.c"}],"order":[0,1,0,0,0,0]}
 job 0 follow opened|job 0 call 0 nothing|job 0 call 1 event {"_id":{"_data":"0000000000000001"},"clusterTime":{"$timestamp":{"i":1,"t":1}},"documentKey":{"_id":{"$oid":"000000000000000000000000"}},"fullDocument":{"_id":{"$oid":"000000000000000000000000"},"x":1},"ns":{"coll":"c","db":"app"},"operationType":"insert"}|job 0 call 2 event {"_id":{"_data":"0000000000000002"},"clusterTime":{"$timestamp":{"i":1,"t":2}},"documentKey":{"_id":{"$oid":"000000000000000000000001"}},"fullDocument":{"_id":{"$oid":"000000000000000000000001"},"x":2},"ns":{"coll":"c","db":"app"},"operationType":"insert"}|job 0 token {"_data":"0000000000000002"} alive yes|job 0 follow done|job 1 insert ok 2|open none|commands 4"#;
 
-/// The bars of a line as line feeds, and one more behind it.
-fn lines_of(alloc: Global, line: &str) -> Result<String, AllocError> {
-    let mut lines = line.replace(alloc, "|", "\n")?;
-    lines.push_str("\n")?;
-    Ok(lines)
+/// Runs one script, and fails where it does not end with status 0 and these lines, which bars part.
+fn run_script(rt: &impl Abort, alloc: Global, script: &str, lines: &str) -> Result<(), AllocError> {
+    let found = outcome_of(alloc, "run", "", "", script)?;
+    let lines = lines.replace(alloc, "|", "\n")?;
+    let wanted = format!(in alloc; "0~{lines}\n")?;
+    expect(rt, script, found.as_str(), wanted.as_str());
+    Ok(())
 }
 
 #[test]
 fn runs(rt: HostRuntime) -> Result<(), Fail> {
-    let alloc = rt.alloc();
     let mut lines = RUNS.lines();
     while let Some(script) = lines.next() {
-        let wanted = match lines.next() {
-            Some(wanted) => lines_of(alloc, wanted)?,
-            None => String::new(alloc),
-        };
-        let found = status_and_text(alloc, &["run"], script, &[], &[])?;
-        assert_eq!(rt; found.0, 0, "{script}");
-        assert_eq!(rt; found.1.as_str(), wanted.as_str());
+        let wanted = lines.next().unwrap_or("");
+        run_script(&rt, rt.alloc(), script, wanted)?;
     }
     Ok(())
 }
