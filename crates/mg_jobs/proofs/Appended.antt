@@ -1,14 +1,14 @@
 -- What an insert that took effect did to the server.
 use Rattle.std.proofs.Common.{◌≡◌, ℕ, ℤ, pos, suc, true, List, [], ◌∷◌, ◌++◌, length, Some, refl, sym, ap, ◌∙◌, subst, take}
-use Rattle.std.proofs.lemmas.Slice.Eq.{bytes_eq-Decides}
 use Rattle.mg_bson.specs.Tree.{Fields}
 use Rattle.mg_link.specs.Commands.{Asked, asked, asks_insert, inserted, told, Told}
 use Rattle.mg_link.specs.History.{Step, IsLegal, state_of, told_at}
 use Rattle.mg_link.specs.Log.{Sight, reply, Call}
 use Rattle.mg_link.specs.Namespace.{Space}
 use Rattle.mg_link.specs.Standing.{SeenFits, Stands}
-use Rattle.mg_link.specs.State.{State, nothing}
+use Rattle.mg_link.specs.State.{State, nothing, documents_at}
 use Rattle.mg_link.specs.Step.{Made, May, documents_of, effect, grown, next, written}
+use Rattle.mg_link.proofs.Collections.{documents_here}
 use Rattle.mg_link.proofs.Fronts.{legal_take}
 use Rattle.mg_link.proofs.Owners.{legal_back, legal_parts, state_one}
 use Rattle.mg_jobs.specs.Appended.{InsertsAt}
@@ -18,10 +18,10 @@ written_all : (n : ℕ) (ds : List Fields) → written true [] n ds ≡ ds
 written_all n [] = refl
 written_all n (d ∷ ds) = ap (λ es. d ∷ es) (written_all (suc n) ds)
 
-inserted_state : (s : State) (space : Space) (ds : List Fields) (count : ℤ) (made : Made) → (next s (asks_insert space ds true) (inserted count []) made).documents space ≡ Some (documents_of s space ++ ds)
+inserted_state : (s : State) (space : Space) (ds : List Fields) (count : ℤ) (made : Made) → documents_at (next s (asks_insert space ds true) (inserted count []) made) space ≡ Some (documents_of s space ++ ds)
 unfolding effect grown
 inserted_state s space ds count made =
-    rw ((bytes_eq-Decides space.db space.db).1 refl, (bytes_eq-Decides space.coll space.coll).1 refl) (ap (λ es. Some (documents_of s space ++ es)) (written_all 0 ds))
+    documents_here s space (documents_of s space ++ written true [] 0 ds) ∙ ap (λ es. Some (documents_of s space ++ es)) (written_all 0 ds)
 
 inserted_count : (s : State) (space : Space) (ds : List Fields) (count : ℤ) (made : Made) → May s (asks_insert space ds true) (inserted count []) made → count ≡ pos (length ds)
 inserted_count s space ds count made may = may.tells.count ∙ ap (λ es. pos (length es)) (written_all 0 ds)
@@ -31,7 +31,7 @@ fits_reply seen bytes given saw fits = subst (λ (s : Sight). SeenFits s given) 
 
 -- A call that inserted documents appended them to those that stood there before its step, and told their number.
 pub inserts_append : (calls : List Call) (history : List Step) (k : ℕ) (space : Space) (ds : List Fields) → IsLegal history → Stands calls history → (i : InsertsAt calls k space ds)
-    → (p : ℕ) × (i.call.position ≡ Some p) × (i.count ≡ pos (length ds)) × ((state_of (take (suc p) history)).documents space ≡ Some (documents_of (state_of (take p history)) space ++ ds))
+    → (p : ℕ) × (i.call.position ≡ Some p) × (i.count ≡ pos (length ds)) × (documents_at (state_of (take (suc p) history)) space ≡ Some (documents_of (state_of (take p history)) space ++ ds))
 inserts_append calls history k space ds legal stands i =
     let placed = stands.placed k i.call i.bytes i.found i.saw in
     let p = placed.0 in
@@ -48,4 +48,4 @@ inserts_append calls history k space ds legal stands i =
     subst (λ (t : Told). May before (asks_insert space ds true) t step.made) tells (subst (λ (a : Asked). May before a (told_at step) step.made) asks may) in
     let behind : state_of (take (suc p) history) ≡ next before (asks_insert space ds true) (inserted i.count []) step.made =
     ap state_of cut ∙ state_one (take p history) step ∙ ap (λ (a : Asked). next before a (told_at step) step.made) asks ∙ ap (λ (t : Told). next before (asks_insert space ds true) t step.made) tells in
-    (p, placed.1, inserted_count before space ds i.count step.made may', ap (λ (s : State). s.documents space) behind ∙ inserted_state before space ds i.count step.made)
+    (p, placed.1, inserted_count before space ds i.count step.made may', ap (λ (s : State). documents_at s space) behind ∙ inserted_state before space ds i.count step.made)

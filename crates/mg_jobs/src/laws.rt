@@ -7,6 +7,7 @@ ghost use Rattle.mg_link.specs.Link.{Awaited};
 ghost use Rattle.mg_link.specs.Log.{Call};
 ghost use Rattle.mg_link.specs.Namespace.{Space};
 ghost use Rattle.mg_link.specs.Standing.{Stands};
+ghost use Rattle.mg_link.specs.State.{documents_at};
 ghost use Rattle.mg_link.specs.Step.{documents_of};
 ghost use Rattle.mg_change.specs.Calls.{Grows, Past};
 ghost use Rattle.mg_jobs.specs.Appended.{Appended, InsertsAt};
@@ -33,7 +34,7 @@ pub fn inserts_append()
     ensures { (calls : List Call) (history : List Step) (k : ℕ) (space : Space) (documents : List Fields)
         → IsLegal history → Stands calls history → (i : InsertsAt calls k space documents)
         → (p : ℕ) × (i.call.position ≡ Some p) × (i.count ≡ pos (length documents))
-        × ((state_of (take (suc p) history)).documents space ≡ Some (documents_of (state_of (take p history)) space ++ documents)) }
+        × (documents_at (state_of (take (suc p) history)) space ≡ Some (documents_of (state_of (take p history)) space ++ documents)) }
 {}
 
 /// What was appended stays so when the log grows.

@@ -19,7 +19,7 @@ use Rattle.mg_link.proofs.Growing.{grows_these, state_these, grows_none, state_n
 use Rattle.mg_link.proofs.Inserting.{failing, Inserts, inserting_is}
 use Rattle.mg_link.proofs.Telling.{told_reads, refusal_tells, insert_tells, opened_tells, gave_tells, killed_tells}
 use Rattle.mg_link.proofs.Batching.{batch_within, inserts_all, batch_ends}
-use Rattle.mg_link.proofs.Cursoring.{documents_put, opened_is, moved_is, killed_are, refused_is, next_unnamed, not_zero}
+use Rattle.mg_link.proofs.Cursoring.{collections_put, opened_is, moved_is, killed_are, refused_is, next_unnamed, not_zero}
 
 -- a server may tell so of the command, the events tell of the documents written, and the state behind it is one of a store
 pub record Fits (s : State) (given : ℕ) (started : Bool) (command : Asked) (reply : Told) (entries : List Entry) : Type 0 where
@@ -57,7 +57,7 @@ insert_fits s given started space ds ordered i failures h is lt =
         };
       };
       tells = subst (λ (l : List Fields). TellInserts space l i.entries) (sym same) is.tell_of;
-      stays = documents_put (grown s (made_these s started i.entries)) given true _ (state_these s given started i.entries h is.entries_are lt);
+      stays = collections_put (grown s (made_these s started i.entries)) given true _ (state_these s given started i.entries h is.entries_are lt);
     }
 
 -- ---- batches
@@ -68,7 +68,7 @@ named_by s given place h le lt = h.tokens_are (token_of place) ∙ place_named (
 
 -- a batch of the rules, where s' has the entries of s
 gives : (s s' : State) (given : ℕ) (w : Watch) (from size : ℕ) (id : ℤ) → IsStoreState s' given true → s'.changes ≡ s.changes → from ≤ length s.changes → length s.changes < 2 ^ 64
-    → MayGive s' w from id (events_between w s.changes from (batch_place w s.changes from size)) (token_of (batch_place w s.changes from size))
+    → MayGive s' w from id (events_between w s.changes from (batch_place w s.changes from size)) (Some (token_of (batch_place w s.changes from size)))
 gives s s' given w from size id h e le lt =
     let within = batch_within w s.changes from size le in
     let len : length s'.changes ≡ length s.changes = ap length e in
@@ -108,7 +108,7 @@ grown_cursors s made id = refl
 
 pub watch_fits : (s : State) (given : ℕ) (started : Bool) (space : Space) (filter : List Condition) (resume_after : Option Tree) (from size : ℕ) → IsStoreState s given started → place_at s resume_after ≡ Ok from
     → (w : Watch) → w ≡ record { target = collection space; filter = filter }
-    → FitsWithin s given started (asks_watch w (start_from resume_after)) (opened (pos (suc given)) space (events_between w s.changes from (batch_place w s.changes from size)) (token_of (batch_place w s.changes from size)) (now_of (length s.changes))) []
+    → FitsWithin s given started (asks_watch w (start_from resume_after)) (opened (pos (suc given)) space (events_between w s.changes from (batch_place w s.changes from size)) (Some (token_of (batch_place w s.changes from size))) (Some (now_of (length s.changes)))) []
 unfolding effect
 watch_fits s given started space filter resume_after from size h at w is lt =
     let s' : State = grown s (made_these s started []) in
@@ -129,15 +129,15 @@ watch_fits s given started space filter resume_after from size h at w is lt =
           begins = place_begins s s' given resume_after from state same at;
           batch = gives s s' given w from size (pos (suc given)) state same le (omega arith);
           fresh = λ ne. h.ids_are (pos (suc given)) ∙ next_unnamed given;
-          time_is = grown_now s started;
+          time_is = ap Some (grown_now s started);
         };
       };
       tells = tt;
-      stays = subst (λ (b : Bool). IsStoreState (opened_cursor s' w (pos (suc given)) token) (if b then given else suc given) true) (sym (not_zero given)) opens;
+      stays = subst (λ (b : Bool). IsStoreState (opened_cursor s' w (pos (suc given)) (Some token)) (if b then given else suc given) true) (sym (not_zero given)) opens;
     }
 
 pub more_fits : (s : State) (given : ℕ) (started : Bool) (id : ℤ) (space : Space) (w : Watch) (from size : ℕ) → IsStoreState s given started → s.cursors id ≡ Some (watching w from)
-    → FitsWithin s given started (asks_more id space) (gave id space (events_between w s.changes from (batch_place w s.changes from size)) (token_of (batch_place w s.changes from size))) []
+    → FitsWithin s given started (asks_more id space) (gave id space (events_between w s.changes from (batch_place w s.changes from size)) (Some (token_of (batch_place w s.changes from size)))) []
 unfolding effect
 more_fits s given started id space w from size h stood lt =
     let s' : State = grown s (made_these s started []) in
@@ -205,7 +205,7 @@ watch_answers : (s : State) (given : ℕ) (started : Bool) (space : Space) (filt
 watch_answers s given started space filter resume_after size from h named at =
     let w : Watch = watch_on space filter in
     let place : ℕ = batch_place w s.changes from (size_of size) in
-    retold s given started (watch space filter resume_after size) (answer_with [] (watch_reply s (pos (suc given)) space filter from (size_of size))) (opened (pos (suc given)) space (events_between w s.changes from place) (token_of place) (now_of (length s.changes)))
+    retold s given started (watch space filter resume_after size) (answer_with [] (watch_reply s (pos (suc given)) space filter from (size_of size))) (opened (pos (suc given)) space (events_between w s.changes from place) (Some (token_of place)) (Some (now_of (length s.changes))))
     (λ reply e. told_reads (asks_watch w (start_from resume_after)) reply (watch_reply s (pos (suc given)) space filter from (size_of size)) e
     ∙ opened_tells w (start_from resume_after) (pos (suc given)) space (events_between w s.changes from place) place (length s.changes) named)
     (watch_fits s given started space filter resume_after from (size_of size) h at w refl)
@@ -214,7 +214,7 @@ more_answers : (s : State) (given : ℕ) (started : Bool) (id : ℤ) (space : Sp
     → AnswerFits s given started (more id space size) (answer_with [] (more_reply s id space w from (size_of size)))
 more_answers s given started id space size w from h named stood =
     let place : ℕ = batch_place w s.changes from (size_of size) in
-    retold s given started (more id space size) (answer_with [] (more_reply s id space w from (size_of size))) (gave id space (events_between w s.changes from place) (token_of place))
+    retold s given started (more id space size) (answer_with [] (more_reply s id space w from (size_of size))) (gave id space (events_between w s.changes from place) (Some (token_of place)))
     (λ reply e. told_reads (asks_more id space) reply (more_reply s id space w from (size_of size)) e ∙ gave_tells id space id space (events_between w s.changes from place) place named)
     (more_fits s given started id space w from (size_of size) h stood)
 
@@ -225,7 +225,7 @@ kill_answers s given started ids h =
 more_by : (s : State) (given : ℕ) (started : Bool) (id : ℤ) (space : Space) (size : Option ℕ) (o : Option Cursor) (a : Answer) → IsStoreState s given started → IsNamed space → s.cursors id ≡ o → answer_more s id space (size_of size) o ≡ Ok a
     → AnswerFits s given started (more id space size) a
 more_by s given started id space size None a h named stood e = absurd cc
-more_by s given started id space size (Some (query left)) a h named stood e = absurd cc
+more_by s given started id space size (Some (query other left)) a h named stood e = absurd cc
 more_by s given started id space size (Some (watching w from)) a h named stood e =
     elim (cases_Bool (is_watch_of space w)) [
       | inl its ↦

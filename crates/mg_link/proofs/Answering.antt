@@ -4,11 +4,12 @@ use Rattle.std.specs.Prelude.{codes}
 use Rattle.mg_bson.specs.Tree.{Tree, Fields}
 use Rattle.mg_bson.specs.Find.{get}
 use Rattle.mg_link.specs.State.{State, Watch, Start, nowhere, after, at_time, events_between}
+use Rattle.mg_link.specs.Step.{IsNamed}
 use Rattle.mg_link.specs.History.{Step, IsLegal, state_of}
 use Rattle.mg_link.specs.Log.{Call}
 use Rattle.mg_link.specs.Link as link
 use Rattle.mg_link.specs.Owner.{Owner, Owns, by_id, by_reply, Apart}
-use Rattle.mg_link.specs.Follow.{Doing, unopened, resting, holding, Follow, waited, owner_of, IsTime, IsPast, Marks, IsNamed, HasReached, Brings, HasNothing, KnowsBy, Knows, IsOpen, Moved, ReachedBy, FollowsOn, last_token, empty_token}
+use Rattle.mg_link.specs.Follow.{Doing, unopened, resting, holding, Follow, waited, owner_of, IsTime, IsPast, Marks, HasReached, Brings, HasNothing, KnowsBy, Knows, IsOpen, Moved, ReachedBy, FollowsOn, last_token, empty_token}
 use Rattle.mg_link.proofs.Numbered.{numbered_of}
 use Rattle.mg_link.proofs.Views.{first_of_view, events_join}
 use Rattle.mg_link.proofs.Owners.{same_some}

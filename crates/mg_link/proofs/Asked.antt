@@ -8,7 +8,7 @@ use Rattle.mg_bson.specs.Tree.{Tree, Fields}
 use Rattle.mg_link.specs.Namespace.{Space}
 use Rattle.mg_link.specs.State.{Entry, Cursor, watching, query, State, Watch, Start, nowhere, after, at_time, count_before, start_place, events_between, put_cursor, give}
 use Rattle.mg_link.specs.Commands.{Told, refuses, inserted, opened, gave, killed, garbled, asks_watch, asks_more}
-use Rattle.mg_link.specs.Step.{Made, effect, watching_at, moved, opened_cursor, moved_cursor, ends_cursor, MayGive, MayTell}
+use Rattle.mg_link.specs.Step.{IsNamed, Made, effect, watching_at, moved, opened_cursor, moved_cursor, ends_cursor, MayGive, MayTell}
 use Rattle.mg_link.specs.Follow.{CursorAt, Brings, AfterMore, IsBegun}
 use Rattle.mg_link.proofs.Histories.{effect-changes}
 use Rattle.mg_link.proofs.Views.{events_none}
@@ -22,35 +22,40 @@ same_watching : (w v : Watch) (p q : ℕ) → watching w p ≡ watching v q → 
 same_watching w v p q h = (ap watch_of h, ap place_of h)
   where
     watch_of : Cursor → Watch
-    watch_of (query left) = w
+    watch_of (query space left) = w
     watch_of (watching x place) = x
 
     place_of : Cursor → ℕ
-    place_of (query left) = 0
+    place_of (query space left) = 0
     place_of (watching x place) = place
 
+named_with : (s' n : State) (token : Option Tree) (place : ℕ) → n.tokens ≡ s'.tokens → IsNamed s' token place → IsNamed n token place
+named_with s' n (Some token) place tokens named = ap (λ (f : Tree → Option ℕ). f token) tokens ∙ named
+named_with s' n None place tokens named = absurd named
+
 -- a batch that the state before allows, in one with the same entries and tokens
-brings_by : (s' n : State) (w : Watch) (from : ℕ) (id left : ℤ) (events : List Fields) (token : Tree) → n.changes ≡ s'.changes → n.tokens ≡ s'.tokens → (g : MayGive s' w from left events token) → CursorAt n w id g.upto → Brings n w from id events (Some token)
+brings_by : (s' n : State) (w : Watch) (from : ℕ) (id left : ℤ) (events : List Fields) (token : Option Tree) → n.changes ≡ s'.changes → n.tokens ≡ s'.tokens → (g : MayGive s' w from left events token) → CursorAt n w id g.upto → Brings n w from id events token
 brings_by s' n w from id left events token changes tokens g at =
     record {
       upto = g.upto;
       forward = g.forward;
       within = subst (λ (l : List Entry). g.upto ≤ length l) (sym changes) g.within;
       these = g.these ∙ ap (λ (l : List Entry). events_between w l from g.upto) (sym changes);
-      named = ap (λ (f : Tree → Option ℕ). f token) tokens ∙ g.named;
+      named = named_with s' n token g.upto tokens g.named;
       stands = at;
     }
 
 -- a watch that a reply puts behind its token
-placed_at : (s' : State) (w : Watch) (token : Tree) (upto : ℕ) → s'.tokens token ≡ Some upto → watching_at s' w token ≡ watching w upto
-placed_at s' w token upto named = ap (λ (o : Option ℕ). watching w (unwrap_or o 0)) named
+placed_at : (s' : State) (w : Watch) (token : Option Tree) (upto : ℕ) → IsNamed s' token upto → watching_at s' w token ≡ watching w upto
+placed_at s' w (Some token) upto named = ap (λ (o : Option ℕ). watching w (unwrap_or o 0)) named
+placed_at s' w None upto named = absurd named
 
 here_put : (id : ℤ) (c : Option Cursor) (cursors : ℤ → Option Cursor) → put_cursor id c cursors id ≡ c
 here_put id c cursors = ap (λ (b : Bool). if b then c else cursors id) ((Decides-int_eq id id).1 refl)
 
 -- ---- getMore
 
-more_at : (s' : State) (w : Watch) (c : ℤ) (place upto : ℕ) (token : Tree) (b : Bool) (d : Cursor) → s'.cursors c ≡ Some (watching w place) → s'.tokens token ≡ Some upto → (if b then None else moved s' token (s'.cursors c)) ≡ Some d → d ≡ watching w upto
+more_at : (s' : State) (w : Watch) (c : ℤ) (place upto : ℕ) (token : Option Tree) (b : Bool) (d : Cursor) → s'.cursors c ≡ Some (watching w place) → IsNamed s' token upto → (if b then None else moved s' token (s'.cursors c)) ≡ Some d → d ≡ watching w upto
 more_at s' w c place upto token true d stood named h = absurd cc
 more_at s' w c place upto token false d stood named h = same_some d (watching w upto) (sym h ∙ ap (moved s' token) stood ∙ ap Some (placed_at s' w token upto named))
 
@@ -77,18 +82,18 @@ more_step s s' w c place space garbled made same may nz at = absurd may
 
 -- ---- aggregates that open a watch
 
-opened_at : (s' : State) (w : Watch) (id : ℤ) (token : Tree) (upto : ℕ) → s'.tokens token ≡ Some upto → CursorAt (opened_cursor s' w id token) w id upto
+opened_at : (s' : State) (w : Watch) (id : ℤ) (token : Option Tree) (upto : ℕ) → IsNamed s' token upto → CursorAt (opened_cursor s' w id token) w id upto
 opened_at s' w id token upto named =
     cond_both (int_eq id (pos 0)) s' (record s' { cursors = put_cursor id (Some (watching_at s' w token)) s'.cursors; given = give id s'.given }) (λ (n : State). CursorAt n w id upto)
     (λ e d ne h. absurd (ne ((Decides-int_eq id (pos 0)).0 e)))
     (λ e d ne h. same_some d (watching w upto) (sym h ∙ here_put id (Some (watching_at s' w token)) s'.cursors ∙ ap Some (placed_at s' w token upto named)))
 
 -- where the state is this one behind the step
-pub record OpenedAs (s' n : State) (w : Watch) (start : Start) (id : ℤ) (events : List Fields) (token : Tree) : Type 0 where
+pub record OpenedAs (s' n : State) (w : Watch) (start : Start) (id : ℤ) (events : List Fields) (token : Option Tree) : Type 0 where
   pub from : ℕ
   pub begins : start_place n start ≡ Some from
   pub begun : IsBegun n start from events
-  pub brings : Brings n w from id events (Some token)
+  pub brings : Brings n w from id events token
 
 abbrev pub WasOpened : State → State → Watch → Start → Told → Type 0
 WasOpened s' n w start (opened id space events token time) = OpenedAs s' n w start id events token
@@ -132,7 +137,7 @@ begun_by n w (at_time time) from id (e ∷ es) token timed begins g =
     let lt = from_below n w from id e es token g in
     (past_by time n.now n.changes timed (omega arith), is)
 
-at_effect : (s' : State) (w : Watch) (start : Start) (id : ℤ) (space : Space) (events : List Fields) (token : Tree) (time upto : ℕ) → s'.tokens token ≡ Some upto → CursorAt (effect s' (asks_watch w start) (opened id space events token time)) w id upto
+at_effect : (s' : State) (w : Watch) (start : Start) (id : ℤ) (space : Space) (events : List Fields) (token : Option Tree) (time : Option ℕ) (upto : ℕ) → IsNamed s' token upto → CursorAt (effect s' (asks_watch w start) (opened id space events token time)) w id upto
 unfolding effect
 at_effect s' w start id space events token time upto named = opened_at s' w id token upto named
 
@@ -142,8 +147,8 @@ open_step s s' w start (opened id space events token time) made timed may =
     let changes : n.changes ≡ s'.changes = effect-changes s' (asks_watch w start) (opened id space events token time) in
     let tokens : n.tokens ≡ s'.tokens = (effect_keeps s' (asks_watch w start) (opened id space events token time)).tokens in
     let begins : start_place n start ≡ Some may.from = start_same s' n start changes tokens ∙ may.begins in
-    let brings : Brings n w may.from id events (Some token) = brings_by s' n w may.from id id events token changes tokens may.batch (at_effect s' w start id space events token time may.batch.upto may.batch.named) in
-    record { from = may.from; begins = begins; begun = begun_by n w start may.from id events (Some token) timed begins brings; brings = brings }
+    let brings : Brings n w may.from id events token = brings_by s' n w may.from id id events token changes tokens may.batch (at_effect s' w start id space events token time may.batch.upto may.batch.named) in
+    record { from = may.from; begins = begins; begun = begun_by n w start may.from id events token timed begins brings; brings = brings }
 open_step s s' w start (refuses code labels) made timed may = tt
 open_step s s' w start (inserted m failures) made timed may = absurd may
 open_step s s' w start (gave id space events token) made timed may = absurd may

@@ -4,9 +4,8 @@ use Rattle.std.specs.Prelude.{if◌then◌else◌, nat_lt, unwrap_or}
 use Rattle.std.specs.Ordering.{int_eq}
 use Rattle.std.proofs.lemmas.Bool.{cases_Bool, cases_eq, false_from_ne_true, lt-ltb, le-ltb}
 use Rattle.std.proofs.lemmas.Bool.Decides.{Decides-int_eq, nat_tests}
-use Rattle.mg_bson.specs.Tree.{Tree, Fields}
-use Rattle.mg_link.specs.Namespace.{Space}
-use Rattle.mg_link.specs.State.{Watch, Cursor, watching, State, put_cursor, without_cursors, give}
+use Rattle.mg_bson.specs.Tree.{Tree}
+use Rattle.mg_link.specs.State.{Watch, Cursor, watching, Collection, State, put_cursor, without_cursors, give}
 use Rattle.mg_link.specs.Commands.{Asked, asks_insert, asks_watch, asks_more, asks_kill, asks_other, refuses}
 use Rattle.mg_link.specs.Step.{effect, watching_at, opened_cursor, moved, moved_cursor, ends_cursor}
 use Rattle.mg_link.specs.Kept.{IsCollection, IsStoreCursor, IsStoreState, is_given}
@@ -19,8 +18,8 @@ other_int x y ne = false_from_ne_true (int_eq x y) (λ h. ne (same_int x y h))
 
 -- ---- other parts
 
-pub documents_put : (s : State) (given : ℕ) (started : Bool) (documents : Space → Option (List Fields)) → IsStoreState s given started → IsStoreState (record s { documents = documents }) given started
-documents_put s given started documents h = record { entries_are = h.entries_are; tokens_are = h.tokens_are; ids_are = h.ids_are; cursors_are = h.cursors_are; time_is = h.time_is; empty_before = h.empty_before }
+pub collections_put : (s : State) (given : ℕ) (started : Bool) (collections : List Collection) → IsStoreState s given started → IsStoreState (record s { collections = collections }) given started
+collections_put s given started collections h = record { entries_are = h.entries_are; tokens_are = h.tokens_are; ids_are = h.ids_are; cursors_are = h.cursors_are; time_is = h.time_is; empty_before = h.empty_before }
 
 cursors_by : (s : State) (given : ℕ) (started : Bool) (cursors : ℤ → Option Cursor) → IsStoreState s given started → ((id : ℤ) (c : Cursor) → cursors id ≡ Some c → IsStoreCursor (length s.changes) c × (is_given given id ≡ true)) → IsStoreState (record s { cursors = cursors }) given started
 cursors_by s given started cursors h are = record { entries_are = h.entries_are; tokens_are = h.tokens_are; ids_are = h.ids_are; cursors_are = are; time_is = h.time_is; empty_before = h.empty_before }
@@ -104,25 +103,25 @@ opened_state s given w place h target le = record {
 
 -- the next id is given to a cursor at a place that the token names
 pub opened_is : (s : State) (given : ℕ) (w : Watch) (token : Tree) (place : ℕ) → IsStoreState s given true → IsCollection w.target → s.tokens token ≡ Some place → place ≤ length s.changes
-    → IsStoreState (opened_cursor s w (pos (suc given)) token) (suc given) true
+    → IsStoreState (opened_cursor s w (pos (suc given)) (Some token)) (suc given) true
 opened_is s given w token place h target named le =
-    let e : watching w place ≡ watching_at s w token = ap (λ (o : Option ℕ). watching w (unwrap_or o 0)) (sym named) in
+    let e : watching w place ≡ watching_at s w (Some token) = ap (λ (o : Option ℕ). watching w (unwrap_or o 0)) (sym named) in
     let opened = subst (λ (c : Cursor). IsStoreState (record s { cursors = put_cursor (pos (suc given)) (Some c) s.cursors; given = give (pos (suc given)) s.given }) (suc given) true) e (opened_state s given w place h target le) in
-    subst (λ (b : Bool). IsStoreState (if b then s else record s { cursors = put_cursor (pos (suc given)) (Some (watching_at s w token)) s.cursors; given = give (pos (suc given)) s.given }) (suc given) true) (sym (not_zero given)) opened
+    subst (λ (b : Bool). IsStoreState (if b then s else record s { cursors = put_cursor (pos (suc given)) (Some (watching_at s w (Some token))) s.cursors; given = give (pos (suc given)) s.given }) (suc given) true) (sym (not_zero given)) opened
 
 -- ---- a cursor moves
 
 -- the cursor moves to a place that the token names
 pub moved_is : (s : State) (given : ℕ) (id left : ℤ) (w : Watch) (at : ℕ) (token : Tree) (place : ℕ) → IsStoreState s given true → s.cursors id ≡ Some (watching w at) → s.tokens token ≡ Some place → place ≤ length s.changes
-    → IsStoreState (moved_cursor s id left token) given true
+    → IsStoreState (moved_cursor s id left (Some token)) given true
 moved_is s given id left w at token place h there named le =
     let old = h.cursors_are id (watching w at) there in
-    let now_at : moved s token (s.cursors id) ≡ Some (watching w place) = ap (moved s token) there ∙ ap (λ (o : Option ℕ). Some (watching w (unwrap_or o 0))) named in
-    cursor_put s given true id (if int_eq left (pos 0) then None else moved s token (s.cursors id)) h (λ c e.
+    let now_at : moved s (Some token) (s.cursors id) ≡ Some (watching w place) = ap (moved s (Some token)) there ∙ ap (λ (o : Option ℕ). Some (watching w (unwrap_or o 0))) named in
+    cursor_put s given true id (if int_eq left (pos 0) then None else moved s (Some token) (s.cursors id)) h (λ c e.
     elim (cases_Bool (int_eq left (pos 0))) [
-      | inl ends ↦ let f : None ≡ Some c = sym (ap (λ (b : Bool). if b then None else moved s token (s.cursors id)) ends) ∙ e in absurd cc
+      | inl ends ↦ let f : None ≡ Some c = sym (ap (λ (b : Bool). if b then None else moved s (Some token) (s.cursors id)) ends) ∙ e in absurd cc
       | inr stays ↦
-          let f : moved s token (s.cursors id) ≡ Some c = sym (ap (λ (b : Bool). if b then None else moved s token (s.cursors id)) stays) ∙ e in
+          let f : moved s (Some token) (s.cursors id) ≡ Some c = sym (ap (λ (b : Bool). if b then None else moved s (Some token) (s.cursors id)) stays) ∙ e in
           let g : watching w place ≡ c = cc in
           (subst (IsStoreCursor (length s.changes)) g (old.0.0, le), old.1)
     ])

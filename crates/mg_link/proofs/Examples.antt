@@ -5,7 +5,7 @@ use Rattle.mg_bson.specs.Tree.{Fields}
 use Rattle.std.specs.Fmt.{digits}
 use Rattle.mg_bson.specs.Bytes.{le32, le64}
 use Rattle.hex.specs.Hex.{encode_with}
-use Rattle.mg_link.specs.State.{State, nothing, nowhere, start_place, events_between, watching}
+use Rattle.mg_link.specs.State.{State, nothing, nowhere, documents_at, start_place, events_between, watching}
 use Rattle.mg_link.specs.Commands as commands
 use Rattle.mg_link.specs.Commands.{Asked, Told, asked, asked_by, asks_other, told, told_by}
 use Rattle.mg_link.specs.Reply.{verdict_of}
@@ -70,7 +70,7 @@ cursor_1 : state_1.cursors (pos 1) ≡ Some (watching watch 0)
 unfolding commands.watch_of commands.space_at commands.batch_of verdict_of answer_of watch_request named_space batch_size effect grown full_behind le32 le64 encode_with digits
 cursor_1 = refl
 
-documents_2 : state_2.documents app_c ≡ Some (x_1 ∷ x_2 ∷ [])
+documents_2 : documents_at state_2 app_c ≡ Some (x_1 ∷ x_2 ∷ [])
 unfolding commands.watch_of commands.space_at commands.batch_of verdict_of answer_of watch_request named_space batch_size effect grown full_behind le32 le64 encode_with digits commands.insert_of commands.inserted_by insert_request inserting
 documents_2 = refl
 
@@ -151,7 +151,7 @@ first_script a b c d ia ib ic id =
     record {
       opening_is = ap (λ (s : State). start_place s nowhere) are.one ∙ opening_is;
       cursor_opened = ap (λ (s : State). s.cursors (pos 1)) are.one ∙ cursor_1;
-      documents_are = ap (λ (s : State). s.documents app_c) are.two ∙ documents_2;
+      documents_are = ap (λ (s : State). documents_at s app_c) are.two ∙ documents_2;
       changes_are = ap (λ (s : State). s.changes) are.two ∙ changes_2;
       cursor_stays = ap (λ (s : State). s.cursors (pos 1)) are.two ∙ cursor_2;
       cursor_moved = ap (λ (s : State). s.cursors (pos 1)) are.three ∙ cursor_3;

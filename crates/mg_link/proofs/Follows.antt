@@ -5,11 +5,12 @@ use Rattle.std.proofs.lemmas.List.{take-append-le}
 use Rattle.mg_bson.specs.Tree.{Tree, Fields}
 use Rattle.mg_link.specs.State.{Entry, State, nothing, Watch, Start, nowhere, after, at_time, count_before, start_place, events_between}
 use Rattle.mg_link.specs.Commands.{Told, refuses, inserted, opened, gave, killed, garbled, asked, asks_watch}
+use Rattle.mg_link.specs.Step.{IsNamed}
 use Rattle.mg_link.specs.History.{Step, state_after, state_of, told_at, opening}
 use Rattle.mg_link.specs.Log.{Call}
 use Rattle.mg_link.specs.Standing.{OpensId, TookEffect, GivenTo, Stands}
 use Rattle.mg_link.specs.Owner.{Owner, Owns, by_id, by_reply, Holds, IsGrown, Earlier, Onward}
-use Rattle.mg_link.specs.Follow.{Doing, unopened, starting, resting, holding, asking, owing, resuming, Follow, waited, owner_of, IsPast, Marks, IsNamed, HasReached, CursorAt, Brings, AfterOpen, AfterMore, IsBegun, AfterStart, CameAs, Hand, Facts, Opened, KnowsOpen, KnowsStarting, KnowsBy, Knows}
+use Rattle.mg_link.specs.Follow.{Doing, unopened, starting, resting, holding, asking, owing, resuming, Follow, waited, owner_of, IsPast, Marks, HasReached, CursorAt, Brings, AfterOpen, AfterMore, IsBegun, AfterStart, CameAs, Hand, Facts, Opened, KnowsOpen, KnowsStarting, KnowsBy, Knows}
 use Rattle.mg_link.proofs.Places.{get_within}
 use Rattle.mg_link.proofs.Histories.{state_after-append}
 use Rattle.mg_link.proofs.Later.{Later, later_steps, respects_of, leaves_steps}
@@ -68,7 +69,7 @@ brings_later s t w place id events token later same h =
     }
 
 pub open_later : (s t : State) (w : Watch) (from : ℕ) (said : Told) → Later s t → ((x : ℤ) → OpensId said x → t.cursors x ≡ s.cursors x) → AfterOpen s w from said → AfterOpen t w from said
-open_later s t w from (opened id space events token time) later same h = brings_later s t w from id events (Some token) later (λ ne. same id (refl, ne)) h
+open_later s t w from (opened id space events token time) later same h = brings_later s t w from id events token later (λ ne. same id (refl, ne)) h
 open_later s t w from (refuses code labels) later same h = tt
 open_later s t w from (inserted n failures) later same h = absurd h
 open_later s t w from (gave id space events token) later same h = absurd h
@@ -76,7 +77,7 @@ open_later s t w from killed later same h = absurd h
 open_later s t w from garbled later same h = absurd h
 
 pub more_later : (s t : State) (w : Watch) (id : ℤ) (place : ℕ) (said : Told) → Later s t → (id ≢ pos 0 → t.cursors id ≡ s.cursors id) → AfterMore s w id place said → AfterMore t w id place said
-more_later s t w id place (gave left space events token) later same h = (brings_later s t w place id events (Some token) later same h.0, h.1)
+more_later s t w id place (gave left space events token) later same h = (brings_later s t w place id events token later same h.0, h.1)
 more_later s t w id place (refuses code labels) later same h = cursor_later s t w id place same h
 more_later s t w id place (opened other space events token time) later same h = absurd h
 more_later s t w id place (inserted n failures) later same h = absurd h
@@ -164,7 +165,7 @@ module _ (calls calls' : List Call) (grown : IsGrown calls calls') (g : Follow) 
         from = h.from;
         begins = opening_of calls (owner_of g) history e position g.start lt ∙ h.begins;
         begun = begun_later (state_of e.before) (state_of history) g.start h.from events (later_of calls (owner_of g) history e) h.begun;
-        brings = brings_later (state_of e.before) (state_of history) g.watch h.from id events (Some token) (later_of calls (owner_of g) history e) (λ ne. same id (refl, ne)) h.brings;
+        brings = brings_later (state_of e.before) (state_of history) g.watch h.from id events token (later_of calls (owner_of g) history e) (λ ne. same id (refl, ne)) h.brings;
       }
   start_kept position (refuses code labels) lt same h = tt
   start_kept position (inserted n failures) lt same h = absurd h

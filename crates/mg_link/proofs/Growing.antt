@@ -74,7 +74,7 @@ entries_join place (x ∷ xs) ys h g =
 
 cursor_stays : (n m : ℕ) (c : Cursor) → n ≤ m → IsStoreCursor n c → IsStoreCursor m c
 cursor_stays n m (watching w place) le h = (h.0, le_trans h.1 le)
-cursor_stays n m (query left) le h = absurd h
+cursor_stays n m (query space left) le h = absurd h
 
 -- a step that adds entries of the rules, behind which the time is this one
 abbrev with_now : Bool → List Entry → ℕ → Made

@@ -1,14 +1,12 @@
 -- A reply that was heard is that of the call's step, and what is read of it is what the step tells.
-use Rattle.std.proofs.Common.{◌≡◌, ◌⊎◌, ℕ, ℤ, List, length, Option, Some, None, refl, sym, ap, ap₂, ◌∙◌, subst, inl, inr, option_and_then}
-use Rattle.std.specs.Prelude.{slice_get, unwrap_or, codes}
-use Rattle.mg_bson.specs.Tree.{Tree}
+use Rattle.std.proofs.Common.{◌≡◌, ℕ, ℤ, List, length, Option, Some, None, refl, sym, ap, ap₂, ◌∙◌, subst, option_map}
+use Rattle.std.specs.Prelude.{slice_get, unwrap_or}
 use Rattle.mg_bson.specs.Raw.{fields}
-use Rattle.mg_bson.specs.Find.{get}
 use Rattle.mg_link.specs.Namespace.{Space}
 use Rattle.mg_link.specs.State.{Watch, Start}
 use Rattle.mg_link.specs.Reply.{verdict_of}
 use Rattle.mg_link.specs.declared.reply.Verdict.TheVariants as verdict
-use Rattle.mg_link.specs.Commands.{Asked, asks_watch, asks_more, Told, opened, gave, garbled, Batch, batch_of, opened_by, gave_by, as_time, told, told_by, asked}
+use Rattle.mg_link.specs.Commands.{Asked, asks_watch, asks_more, Told, garbled, Batch, batch_of, time_in, opened_by, gave_by, told, told_by, asked}
 use Rattle.mg_link.specs.History.{Step, told_at}
 use Rattle.mg_link.specs.Log.{reply, Call, see}
 use Rattle.mg_link.specs.Standing.{OpensId, TookEffect, SeenGiven, Stands}
@@ -59,52 +57,32 @@ heard_given k bytes calls call history x found h opens =
 
 -- the aggregate's step opened the watch with this batch
 pub record IsOpening (batch : Batch) (said : Told) : Type 0 where
-  pub token : Tree
-  pub time : ℕ
-  pub token_is : batch.token ≡ Some token
-  pub said_is : said ≡ opened batch.id batch.space batch.events token time
+  pub time : Option ℕ
+  pub said_is : said ≡ opened_by time batch
 
-pub record IsGiving (batch : Batch) (said : Told) : Type 0 where
-  pub token : Tree
-  pub token_is : batch.token ≡ Some token
-  pub said_is : said ≡ gave batch.id batch.space batch.events token
-
-time_in : List ℕ → Option ℕ
-time_in bytes = option_and_then as_time (get (codes "operationTime") (fields bytes))
-
-told_watch : (w : Watch) (start : Start) (bytes : List ℕ) (batch : Batch) → Reads bytes batch → told (asks_watch w start) bytes ≡ unwrap_or (opened_by batch batch.token (time_in bytes)) garbled
-unfolding told time_in
+told_watch : (w : Watch) (start : Start) (bytes : List ℕ) (batch : Batch) → Reads bytes batch → told (asks_watch w start) bytes ≡ opened_by (time_in (fields bytes)) batch
+unfolding told
 told_watch w start bytes batch reads =
     ap (λ v. told_by v (asks_watch w start) (fields bytes)) reads.success
-    ∙ ap (λ (o : Option Batch). unwrap_or (option_and_then (λ (b : Batch). opened_by b b.token (option_and_then as_time (get (codes "operationTime") (fields bytes)))) o) garbled) reads.batch_is
+    ∙ ap (λ (o : Option Batch). unwrap_or (option_map (opened_by (time_in (fields bytes))) o) garbled) reads.batch_is
 
-told_more : (id : ℤ) (space : Space) (bytes : List ℕ) (batch : Batch) → Reads bytes batch → told (asks_more id space) bytes ≡ unwrap_or (gave_by batch batch.token) garbled
+told_more : (id : ℤ) (space : Space) (bytes : List ℕ) (batch : Batch) → Reads bytes batch → told (asks_more id space) bytes ≡ gave_by batch
 unfolding told
 told_more id space bytes batch reads =
     ap (λ v. told_by v (asks_more id space) (fields bytes)) reads.success
-    ∙ ap (λ (o : Option Batch). unwrap_or (option_and_then (λ (b : Batch). gave_by b b.token) o) garbled) reads.batch_is
-
-opening_by : (batch : Batch) (o : Option Tree) (t : Option ℕ) (said : Told) → batch.token ≡ o → said ≡ unwrap_or (opened_by batch o t) garbled → (said ≡ garbled) ⊎ IsOpening batch said
-opening_by batch (Some token) (Some time) said is e = inr (record { token = token; time = time; token_is = is; said_is = e })
-opening_by batch (Some token) None said is e = inl e
-opening_by batch None (Some time) said is e = inl e
-opening_by batch None None said is e = inl e
-
-giving_by : (batch : Batch) (o : Option Tree) (said : Told) → batch.token ≡ o → said ≡ unwrap_or (gave_by batch o) garbled → (said ≡ garbled) ⊎ IsGiving batch said
-giving_by batch (Some token) said is e = inr (record { token = token; token_is = is; said_is = e })
-giving_by batch None said is e = inl e
+    ∙ ap (λ (o : Option Batch). unwrap_or (option_map gave_by o) garbled) reads.batch_is
 
 pub told_heard : (step : Step) (bytes : List ℕ) (command : Asked) → asked step.command ≡ command → bytes ≡ step.reply → told_at step ≡ told command bytes
 told_heard step bytes command asks fits = ap₂ told asks (sym fits)
 
--- a batch that was read of the reply to an aggregate opened the watch, or the reply is none that a server may give
-pub opening_heard : (step : Step) (w : Watch) (start : Start) (bytes : List ℕ) (batch : Batch) → asked step.command ≡ asks_watch w start → bytes ≡ step.reply → Reads bytes batch → (told_at step ≡ garbled) ⊎ IsOpening batch (told_at step)
+-- a batch that was read of the reply to an aggregate opened the watch
+pub opening_heard : (step : Step) (w : Watch) (start : Start) (bytes : List ℕ) (batch : Batch) → asked step.command ≡ asks_watch w start → bytes ≡ step.reply → Reads bytes batch → IsOpening batch (told_at step)
 opening_heard step w start bytes batch asks fits reads =
-    opening_by batch batch.token (time_in bytes) (told_at step) refl (told_heard step bytes (asks_watch w start) asks fits ∙ told_watch w start bytes batch reads)
+    record { time = time_in (fields bytes); said_is = told_heard step bytes (asks_watch w start) asks fits ∙ told_watch w start bytes batch reads }
 
-pub giving_heard : (step : Step) (id : ℤ) (space : Space) (bytes : List ℕ) (batch : Batch) → asked step.command ≡ asks_more id space → bytes ≡ step.reply → Reads bytes batch → (told_at step ≡ garbled) ⊎ IsGiving batch (told_at step)
+pub giving_heard : (step : Step) (id : ℤ) (space : Space) (bytes : List ℕ) (batch : Batch) → asked step.command ≡ asks_more id space → bytes ≡ step.reply → Reads bytes batch → told_at step ≡ gave_by batch
 giving_heard step id space bytes batch asks fits reads =
-    giving_by batch batch.token (told_at step) refl (told_heard step bytes (asks_more id space) asks fits ∙ told_more id space bytes batch reads)
+    told_heard step bytes (asks_more id space) asks fits ∙ told_more id space bytes batch reads
 
 -- a reply of which no batch was read is a refusal, or none that a server may give
 pub nothing_heard : (step : Step) (id : ℤ) (space : Space) (bytes : List ℕ) → asked step.command ≡ asks_more id space → bytes ≡ step.reply → HasNoBatch (told (asks_more id space) bytes) → HasNoBatch (told_at step)
@@ -122,10 +100,10 @@ no_batch_refused id space bytes e = subst (λ v. HasNoBatch (told_by v (asks_mor
 pub more_spoiled : (id : ℤ) (space : Space) (bytes : List ℕ) → verdict_of (fields bytes) ≡ verdict.Success → batch_of (fields bytes) ≡ None → told (asks_more id space) bytes ≡ garbled
 unfolding told
 more_spoiled id space bytes e none =
-    ap (λ v. told_by v (asks_more id space) (fields bytes)) e ∙ ap (λ (o : Option Batch). unwrap_or (option_and_then (λ (b : Batch). gave_by b b.token) o) garbled) none
+    ap (λ v. told_by v (asks_more id space) (fields bytes)) e ∙ ap (λ (o : Option Batch). unwrap_or (option_map gave_by o) garbled) none
 
 pub watch_spoiled : (w : Watch) (start : Start) (bytes : List ℕ) → verdict_of (fields bytes) ≡ verdict.Success → batch_of (fields bytes) ≡ None → told (asks_watch w start) bytes ≡ garbled
 unfolding told
 watch_spoiled w start bytes e none =
     ap (λ v. told_by v (asks_watch w start) (fields bytes)) e
-    ∙ ap (λ (o : Option Batch). unwrap_or (option_and_then (λ (b : Batch). opened_by b b.token (option_and_then as_time (get (codes "operationTime") (fields bytes)))) o) garbled) none
+    ∙ ap (λ (o : Option Batch). unwrap_or (option_map (opened_by (time_in (fields bytes))) o) garbled) none

@@ -1,10 +1,10 @@
 -- Each event of a legal history has an `_id`.
-use Rattle.std.proofs.Common.{◌≡◌, ℕ, zero, suc, ◌-◌, Bool, true, false, List, [], ◌∷◌, ◌++◌, append-nil, map, Some, refl, sym, ap, ◌∙◌, subst, inl, inr, take, drop}
+use Rattle.std.proofs.Common.{◌≡◌, ℕ, zero, suc, ◌-◌, Bool, true, false, List, [], ◌∷◌, ◌++◌, append-nil, map, Some, refl, sym, ap, ◌∙◌, subst, take, drop}
 use Rattle.std.specs.Prelude.{slice_get, if◌then◌else◌}
 use Rattle.std.specs.List.{filter}
 use Rattle.mg_bson.specs.Tree.{Fields}
 use Rattle.mg_link.specs.State.{Entry, State, Watch, nothing, events_between, sees}
-use Rattle.mg_link.specs.Commands.{Asked, asks_insert, asks_watch, asks_more, asks_kill, asks_other, Batch, Told, refuses, inserted, opened, gave, killed, garbled, asked}
+use Rattle.mg_link.specs.Commands.{Asked, asks_insert, asks_watch, asks_more, asks_kill, asks_other, Batch, Told, refuses, inserted, opened, gave, killed, garbled, opened_by, gave_by, asked}
 use Rattle.mg_link.specs.Step.{Made, grown, May, MayTell}
 use Rattle.mg_link.specs.History.{Step, IsLegal, state_of, told_at}
 use Rattle.mg_link.specs.Log.{Call}
@@ -108,23 +108,15 @@ reply_has_ids history position step legal there =
 -- ---- a batch that is read of it
 
 module _ (s : State) (step : Step) (numbered : AreNumbered s) (may : May s (asked step.command) (told_at step) step.made) (batch : Batch) (reads : Reads step.reply batch) where
-  not_garbled : told_at step ≡ garbled → ⊥
-  not_garbled is = subst (λ (t : Told). MayTell s (grown s step.made) (asked step.command) t step.made) is may.tells
-
   told_as : (said : Told) → told_at step ≡ said → HaveIds (events_in said)
   told_as said is = subst (λ (t : Told). HaveIds (events_in t)) is (ids_told s (asked step.command) (told_at step) step.made numbered may.tells)
 
   batch_by : (command : Asked) → asked step.command ≡ command → AsksForEvents command → HaveIds batch.events
   batch_by (asks_watch w start) asks is =
-      elim (opening_heard step w start step.reply batch asks refl reads) [
-        | inl bad ↦ absurd (not_garbled bad)
-        | inr opens ↦ told_as (opened batch.id batch.space batch.events opens.token opens.time) opens.said_is
-      ]
+      let opens = opening_heard step w start step.reply batch asks refl reads in
+      told_as (opened_by opens.time batch) opens.said_is
   batch_by (asks_more id space) asks is =
-      elim (giving_heard step id space step.reply batch asks refl reads) [
-        | inl bad ↦ absurd (not_garbled bad)
-        | inr gives ↦ told_as (gave batch.id batch.space batch.events gives.token) gives.said_is
-      ]
+      told_as (gave_by batch) (giving_heard step id space step.reply batch asks refl reads)
   batch_by (asks_insert space documents ordered) asks is = absurd is
   batch_by (asks_kill ids) asks is = absurd is
   batch_by asks_other asks is = absurd is

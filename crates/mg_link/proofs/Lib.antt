@@ -10,6 +10,7 @@ pub mod Histories
 pub mod Places
 pub mod Fronts
 pub mod Tokens
+pub mod Collections
 pub mod Requests
 pub mod Growing
 pub mod Inserting

@@ -135,12 +135,7 @@ module _ (calls : List Call) (k : ℕ) (call : Call) (f : Follow) (place : Optio
   told_giving : (history : List Step) (position : ℕ) (facts : Facts calls history f position) → (h : HeardAt calls history k bytes call) → Brings (state_of history) f.watch facts.place f.cursor batch.events batch.token × ((batch.id ≡ f.cursor) ⊎ (batch.id ≡ pos 0))
   told_giving history position facts h =
       let a = hand_as calls history f position (asking place) is facts h.position h.step (k, at, h.took) in
-      elim (giving_heard h.step f.cursor a.space bytes batch a.asks h.fits reads) [
-        | inl bad ↦ absurd (subst (λ (t : Told). AfterMore (state_of history) f.watch f.cursor facts.place t) bad a.tells)
-        | inr g ↦
-            let r = subst (λ (t : Told). AfterMore (state_of history) f.watch f.cursor facts.place t) g.said_is a.tells in
-            (subst (λ (t : Option Tree). Brings (state_of history) f.watch facts.place f.cursor batch.events t) (sym g.token_is) r.0, r.1)
-      ]
+      subst (λ (t : Told). AfterMore (state_of history) f.watch f.cursor facts.place t) (giving_heard h.step f.cursor a.space bytes batch a.asks h.fits reads) a.tells
 
   owns_given : (calls' : List Call) (history : List Step) → (batch.id ≡ f.cursor) ⊎ (batch.id ≡ pos 0) → (x : ℤ) → Owns calls' history (owner_of (given_with f batch)) x → Owns calls history (owner_of f) x
   owns_given calls' history (inl same) x (by_id (inl e) ne) = by_id (inl (sym same ∙ e)) ne

@@ -88,27 +88,28 @@ start_failed log log' f place seen is sees calls told =
 -- ---- the first batch
 
 -- where a stream has come to with its first batch, and what it has in hand
-record FirstPlace (s : State) (w : Watch) (start : Start) (from : ℕ) (id : ℤ) (events : List Fields) (token : Tree) (answered : List Fields) : Type 0 where
+record FirstPlace (s : State) (w : Watch) (start : Start) (from : ℕ) (id : ℤ) (events : List Fields) (token : Option Tree) (answered : List Fields) : Type 0 where
   place : ℕ
-  reached : HasReached s w start (first_token start events (Some token)) answered from place
-  brings : Brings s w place id events (Some token)
+  reached : HasReached s w start (first_token start events token) answered from place
+  brings : Brings s w place id events token
 
-at_start : (s : State) (w : Watch) (start : Start) (from : ℕ) (id : ℤ) (events : List Fields) (token : Tree) (answered : List Fields) (first : Option Tree) → answered ≡ [] → (g : Brings s w from id events (Some token)) → Marks s start from first answered from → HasReached s w start first answered from from
-at_start s w start from id events token answered first none g marks =
+at_start : (s : State) (w : Watch) (start : Start) (from : ℕ) (id : ℤ) (events : List Fields) (token first : Option Tree) (answered : List Fields) → answered ≡ [] → (g : Brings s w from id events token) → Marks s start from first answered from → HasReached s w start first answered from from
+at_start s w start from id events token first answered none g marks =
     let a = g.forward in
     let b = g.within in
     record { forward = le_refl from; within = omega arith; marks = marks; these = none ∙ events_none w s.changes from from refl }
 
-first_place : (s : State) (w : Watch) (start : Start) (from : ℕ) (id : ℤ) (events : List Fields) (token : Tree) (answered : List Fields) → answered ≡ [] → IsBegun s start from events → Brings s w from id events (Some token) → FirstPlace s w start from id events token answered
-first_place s w start from id [] token answered none begun g =
+first_place : (s : State) (w : Watch) (start : Start) (from : ℕ) (id : ℤ) (events : List Fields) (token : Option Tree) (answered : List Fields) → answered ≡ [] → IsBegun s start from events → Brings s w from id events token → FirstPlace s w start from id events token answered
+first_place s w start from id [] None answered none begun g = absurd g.named
+first_place s w start from id [] (Some token) answered none begun g =
     record {
       place = g.upto;
       reached = record { forward = g.forward; within = g.within; marks = g.named; these = none ∙ g.these };
       brings = record { upto = g.upto; forward = le_refl g.upto; within = g.within; these = events_none w s.changes g.upto g.upto refl; named = g.named; stands = g.stands };
     }
 first_place s w nowhere from id (e ∷ es) token answered none begun g = absurd cc
-first_place s w (after t) from id (e ∷ es) token answered none begun g = record { place = from; reached = at_start s w (after t) from id (e ∷ es) token answered (Some t) none g begun; brings = g }
-first_place s w (at_time time) from id (e ∷ es) token answered none begun g = record { place = from; reached = at_start s w (at_time time) from id (e ∷ es) token answered None none g (refl, none, begun); brings = g }
+first_place s w (after t) from id (e ∷ es) token answered none begun g = record { place = from; reached = at_start s w (after t) from id (e ∷ es) token (Some t) answered none g begun; brings = g }
+first_place s w (at_time time) from id (e ∷ es) token answered none begun g = record { place = from; reached = at_start s w (at_time time) from id (e ∷ es) token None answered none g (refl, none, begun); brings = g }
 
 -- the stream behind its opening
 abbrev pub opened_with : Follow → Option ℕ → Batch → Follow
@@ -120,10 +121,7 @@ module _ (calls : List Call) (k : ℕ) (call : Call) (f : Follow) (place : Optio
   told_opening history legal stands h =
       let tells = kn.coming history legal stands h.position h.step (k, at, h.took) in
       let asks : asked h.step.command ≡ asks_watch f.watch f.start = ap asked h.command ∙ kn.watches k call at found in
-      elim (opening_heard h.step f.watch f.start bytes batch asks h.fits reads) [
-        | inl bad ↦ absurd (subst (λ (t : Told). AfterStart history f.watch f.start h.position t) bad tells)
-        | inr o ↦ (o, tells)
-      ]
+      (opening_heard h.step f.watch f.start bytes batch asks h.fits reads, tells)
 
   owns_opened : (history : List Step) → IsLegal history → Stands calls history → Stands (see k (reply bytes) calls) history → (x : ℤ) → Owns (see k (reply bytes) calls) history (owner_of (opened_with f place batch)) x → Owns calls history (owner_of f) x
   owns_opened history legal stands stands' x (by_id (inl e) ne) =
@@ -150,15 +148,15 @@ module _ (calls : List Call) (k : ℕ) (call : Call) (f : Follow) (place : Optio
       let both = told_opening history legal stands h in
       let o = both.0 in
       let same : h.position ≡ position = same_some h.position position (sym h.placed ∙ placed) in
-      let begins : Begins history f.watch f.start position batch.id batch.events o.token =
-      subst (λ (n : ℕ). Begins history f.watch f.start n batch.id batch.events o.token) same (subst (λ (t : Told). AfterStart history f.watch f.start h.position t) o.said_is both.1) in
-      let first = first_place (state_of history) f.watch f.start begins.from batch.id batch.events o.token f.answered kn.has_nothing.none_answered begins.begun begins.brings in
+      let begins : Begins history f.watch f.start position batch.id batch.events batch.token =
+      subst (λ (n : ℕ). Begins history f.watch f.start n batch.id batch.events batch.token) same (subst (λ (t : Told). AfterStart history f.watch f.start h.position t) o.said_is both.1) in
+      let first = first_place (state_of history) f.watch f.start begins.from batch.id batch.events batch.token f.answered kn.has_nothing.none_answered begins.begun begins.brings in
       record {
         from = begins.from;
         begins = begins.begins;
         place = first.place;
-        reached = subst (λ (t : Option Tree). HasReached (state_of history) f.watch f.start (first_token f.start batch.events t) f.answered begins.from first.place) (sym o.token_is) first.reached;
-        hand = (subst (λ (t : Option Tree). Brings (state_of history) f.watch first.place batch.id batch.events t) (sym o.token_is) first.brings, λ ne. absurd (ne refl));
+        reached = first.reached;
+        hand = (first.brings, λ ne. absurd (ne refl));
       }
 
 -- The opening aggregate's reply came, and a batch was read of it.

@@ -79,12 +79,8 @@ module _ (calls : List Call) (k : ℕ) (call : Call) (f : Follow) (place : Optio
       → IsOpening batch (told_at h.step) × Brings (state_of history) f.watch facts.place batch.id batch.events batch.token × (OpensId (told_at h.step) f.cursor → ⊥)
   told_resuming history position facts h =
       let a = hand_as calls history f position (resuming place) is facts h.position h.step (k, at, h.took) in
-      elim (opening_heard h.step f.watch a.start bytes batch a.asks h.fits reads) [
-        | inl bad ↦ absurd (subst (λ (t : Told). AfterOpen (state_of history) f.watch facts.place t) bad a.tells)
-        | inr o ↦
-            let r = subst (λ (t : Told). AfterOpen (state_of history) f.watch facts.place t) o.said_is a.tells in
-            (o, subst (λ (t : Option Tree). Brings (state_of history) f.watch facts.place batch.id batch.events t) (sym o.token_is) r, a.other)
-      ]
+      let o = opening_heard h.step f.watch a.start bytes batch a.asks h.fits reads in
+      (o, subst (λ (t : Told). AfterOpen (state_of history) f.watch facts.place t) o.said_is a.tells, a.other)
 
   owns_resumed : (calls' : List Call) (history : List Step) (h : HeardAt calls history k bytes call) → IsOpening batch (told_at h.step) → (x : ℤ) → Owns calls' history (owner_of (resumed_with f batch)) x → Owns calls history (owner_of f) x
   owns_resumed calls' history h o x (by_id (inl e) ne) = by_reply k h.position h.step (inl (ap waited is ∙ at)) h.took (subst (λ (t : Told). OpensId t x) (sym o.said_is) (e, ne))

@@ -21,7 +21,7 @@ use Rattle.mg_link.proofs.Follows.{brings_later, more_later, begun_later}
 -- a watch that was opened again behind a place tells of it still in a later state
 resumed_by : (s' n t : State) (w : Watch) (start : Start) (place : ℕ) (said : Told) → WasOpened s' n w start said → ((from : ℕ) → start_place n start ≡ Some from → from ≡ place) → Later n t → ((x : ℤ) → OpensId said x → t.cursors x ≡ n.cursors x) → AfterOpen t w place said
 resumed_by s' n t w start place (opened id space events token time) was there later same =
-    brings_later n t w place id events (Some token) later (λ ne. same id (refl, ne)) (subst (λ (m : ℕ). Brings n w m id events (Some token)) (there was.from was.begins) was.brings)
+    brings_later n t w place id events token later (λ ne. same id (refl, ne)) (subst (λ (m : ℕ). Brings n w m id events token) (there was.from was.begins) was.brings)
 resumed_by s' n t w start place (refuses code labels) was there later same = tt
 resumed_by s' n t w start place (inserted m failures) was there later same = absurd was
 resumed_by s' n t w start place (gave id space events token) was there later same = absurd was
@@ -35,7 +35,7 @@ started_by s' n history w start position (opened id space events token time) was
       from = was.from;
       begins = opens ∙ was.begins;
       begun = begun_later n (state_of history) start was.from events later was.begun;
-      brings = brings_later n (state_of history) w was.from id events (Some token) later (λ ne. same id (refl, ne)) was.brings;
+      brings = brings_later n (state_of history) w was.from id events token later (λ ne. same id (refl, ne)) was.brings;
     }
 started_by s' n history w start position (refuses code labels) was opens later same = tt
 started_by s' n history w start position (inserted m failures) was opens later same = absurd was

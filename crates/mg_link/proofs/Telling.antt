@@ -104,23 +104,23 @@ opened_reply id space events place entries = "cursor" ⇒ document (cursor_field
 abbrev pub gave_reply : ℤ → Space → List Fields → ℕ → Fields
 gave_reply id space events place = "cursor" ⇒ document (cursor_fields id space (next_batch events place)) ⨾ "ok" ⇒ int32 (pos 1) ⨾ empty
 
-opened_read : (w : Watch) (start : Start) (id : ℤ) (space : Space) (events : List Fields) (place entries : ℕ) → IsNamed space → success_by (asks_watch w start) (opened_reply id space events place entries) ≡ Some (opened id space events (token_of place) (now_of entries))
+opened_read : (w : Watch) (start : Start) (id : ℤ) (space : Space) (events : List Fields) (place entries : ℕ) → IsNamed space → success_by (asks_watch w start) (opened_reply id space events place entries) ≡ Some (opened id space events (Some (token_of place)) (Some (now_of entries)))
 unfolding batch_of
-opened_read w start id space events place entries h = ap (option_and_then (λ (batch : Batch). opened_by batch batch.token (Some (now_of entries)))) (first_again id space events place h)
+opened_read w start id space events place entries h = ap (option_map (opened_by (Some (now_of entries)))) (first_again id space events place h)
 
-gave_read : (asked : ℤ) (at : Space) (id : ℤ) (space : Space) (events : List Fields) (place : ℕ) → IsNamed space → success_by (asks_more asked at) (gave_reply id space events place) ≡ Some (gave id space events (token_of place))
+gave_read : (asked : ℤ) (at : Space) (id : ℤ) (space : Space) (events : List Fields) (place : ℕ) → IsNamed space → success_by (asks_more asked at) (gave_reply id space events place) ≡ Some (gave id space events (Some (token_of place)))
 unfolding batch_of
-gave_read asked at id space events place h = ap (option_and_then (λ (batch : Batch). gave_by batch batch.token)) (next_again id space events place h)
+gave_read asked at id space events place h = ap (option_map gave_by) (next_again id space events place h)
 
 pub opened_tells : (w : Watch) (start : Start) (id : ℤ) (space : Space) (events : List Fields) (place entries : ℕ) → IsNamed space
-    → told_by (verdict_of (opened_reply id space events place entries)) (asks_watch w start) (opened_reply id space events place entries) ≡ opened id space events (token_of place) (now_of entries)
+    → told_by (verdict_of (opened_reply id space events place entries)) (asks_watch w start) (opened_reply id space events place entries) ≡ opened id space events (Some (token_of place)) (Some (now_of entries))
 unfolding verdict_of
-opened_tells w start id space events place entries h = told_well verdict.Success (asks_watch w start) (opened_reply id space events place entries) (opened id space events (token_of place) (now_of entries)) refl (opened_read w start id space events place entries h)
+opened_tells w start id space events place entries h = told_well verdict.Success (asks_watch w start) (opened_reply id space events place entries) (opened id space events (Some (token_of place)) (Some (now_of entries))) refl (opened_read w start id space events place entries h)
 
 pub gave_tells : (asked : ℤ) (at : Space) (id : ℤ) (space : Space) (events : List Fields) (place : ℕ) → IsNamed space
-    → told_by (verdict_of (gave_reply id space events place)) (asks_more asked at) (gave_reply id space events place) ≡ gave id space events (token_of place)
+    → told_by (verdict_of (gave_reply id space events place)) (asks_more asked at) (gave_reply id space events place) ≡ gave id space events (Some (token_of place))
 unfolding verdict_of
-gave_tells asked at id space events place h = told_well verdict.Success (asks_more asked at) (gave_reply id space events place) (gave id space events (token_of place)) refl (gave_read asked at id space events place h)
+gave_tells asked at id space events place h = told_well verdict.Success (asks_more asked at) (gave_reply id space events place) (gave id space events (Some (token_of place))) refl (gave_read asked at id space events place h)
 
 -- ---- kills
 

@@ -155,12 +155,12 @@ pub record Failure : Type 0 where
   pub index : ℤ
   pub code : ℤ
 
--- what a reply tells its caller
+-- what a reply tells its caller; of a query it has no token and no time
 pub data Told : Type 0 where
   refuses : (code : ℤ) (labels : List (List ℕ)) → Told
   inserted : (n : ℤ) (failures : List Failure) → Told
-  opened : (id : ℤ) (space : Space) (events : List Fields) (token : Tree) (time : ℕ) → Told
-  gave : (id : ℤ) (space : Space) (events : List Fields) (token : Tree) → Told
+  opened : (id : ℤ) (space : Space) (events : List Fields) (token : Option Tree) (time : Option ℕ) → Told
+  gave : (id : ℤ) (space : Space) (events : List Fields) (token : Option Tree) → Told
   killed : Told
   garbled : Told
 
@@ -211,19 +211,20 @@ failures_at (Some t) = option_and_then failures_by (option_and_then documents_in
 unfoldable pub inserted_by : Fields → Option Told
 inserted_by reply = option_and_then (λ n. option_map (inserted n) (failures_at (get (codes "writeErrors") reply))) (option_and_then as_integer (get (codes "n") reply))
 
-abbrev pub opened_by : Batch → Option Tree → Option ℕ → Option Told
-opened_by batch (Some token) (Some time) = Some (opened batch.id batch.space batch.events token time)
-opened_by batch _ _ = None
+abbrev pub time_in : Fields → Option ℕ
+time_in reply = option_and_then as_time (get (codes "operationTime") reply)
 
-abbrev pub gave_by : Batch → Option Tree → Option Told
-gave_by batch (Some token) = Some (gave batch.id batch.space batch.events token)
-gave_by batch None = None
+abbrev pub opened_by : Option ℕ → Batch → Told
+opened_by time batch = opened batch.id batch.space batch.events batch.token time
+
+abbrev pub gave_by : Batch → Told
+gave_by batch = gave batch.id batch.space batch.events batch.token
 
 -- a success, as the command reads it
 abbrev pub success_by : Asked → Fields → Option Told
 success_by (asks_insert space documents ordered) reply = inserted_by reply
-success_by (asks_watch watch start) reply = option_and_then (λ batch. opened_by batch batch.token (option_and_then as_time (get (codes "operationTime") reply))) (batch_of reply)
-success_by (asks_more id space) reply = option_and_then (λ batch. gave_by batch batch.token) (batch_of reply)
+success_by (asks_watch watch start) reply = option_map (opened_by (time_in reply)) (batch_of reply)
+success_by (asks_more id space) reply = option_map gave_by (batch_of reply)
 success_by (asks_kill ids) reply = Some killed
 success_by asks_other reply = None
 

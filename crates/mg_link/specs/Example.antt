@@ -4,7 +4,7 @@ use Rattle.mg_bson.specs.Tree.{Tree, document, array, object_id, boolean, int32,
 use Rattle.mg_bson.specs.Raw.{fields}
 use Rattle.mg_bson.specs.Literal.{◌⇒◌⨾◌, empty, word}
 use Rattle.mg_link.specs.Namespace.{Space, collection}
-use Rattle.mg_link.specs.State.{inserts, Entry, Watch, watching, nowhere, events_between, time_of}
+use Rattle.mg_link.specs.State.{inserts, Entry, Watch, watching, nowhere, documents_at, events_between, time_of}
 use Rattle.mg_link.specs.History.{Step, state_of, opening}
 use Rattle.mg_link.specs.Kept.{Kept}
 use Rattle.mg_link.specs.Rules.{answer_of}
@@ -98,7 +98,7 @@ pub record IsExample (history : List Step) : Type 0 where
   -- behind the aggregate: cursor 1 stands at the end of the empty list
   pub cursor_opened : (state_of (take 1 history)).cursors (pos 1) ≡ Some (watching watch 0)
   -- behind the insert: two documents, two entries
-  pub documents_are : (state_of (take 2 history)).documents app_c ≡ Some (x_1 ∷ x_2 ∷ [])
+  pub documents_are : documents_at (state_of (take 2 history)) app_c ≡ Some (x_1 ∷ x_2 ∷ [])
   pub changes_are : (state_of (take 2 history)).changes ≡ entry_1 ∷ entry_2 ∷ []
   pub cursor_stays : (state_of (take 2 history)).cursors (pos 1) ≡ Some (watching watch 0)
   -- behind the getMore the cursor stands at 2, and behind the killCursors it is gone

@@ -5,6 +5,7 @@ use Rattle.mg_bson.specs.Raw.{fields}
 use Rattle.mg_link.specs.Namespace.{Space}
 use Rattle.mg_link.specs.State.{State, Watch, Cursor, watching, Start, nowhere, after, at_time, count_before, events_between}
 use Rattle.mg_link.specs.Commands.{Batch, batch_of, asks_watch, asks_more, Told, refuses, inserted, opened, gave, killed, garbled, asked}
+use Rattle.mg_link.specs.Step.{IsNamed}
 use Rattle.mg_link.specs.History.{Step, IsLegal, state_of, told_at, opening, Answers, Reached}
 use Rattle.mg_link.specs.Log.{Call, reply}
 use Rattle.mg_link.specs.Link as link
@@ -95,10 +96,6 @@ abbrev pub Marks : State → Start → ℕ → Option Tree → List Fields → �
 Marks s start from (Some token) answered place = s.tokens token ≡ Some place
 Marks s start from None answered place = (place ≡ from) × (answered ≡ []) × IsPast s start from
 
-abbrev pub IsNamed : State → Option Tree → ℕ → Type 0
-IsNamed s (Some token) place = s.tokens token ≡ Some place
-IsNamed s None place = ⊥
-
 -- The events answered are the view from the opening place up to the place that the token names.
 pub record HasReached (s : State) (w : Watch) (start : Start) (token : Option Tree) (answered : List Fields) (from place : ℕ) : Type 0 where
   pub forward : from ≤ place
@@ -123,7 +120,7 @@ pub record Brings (s : State) (w : Watch) (place : ℕ) (id : ℤ) (events : Lis
 
 -- what the reply to an aggregate that opens a watch at this place tells
 abbrev pub AfterOpen : State → Watch → ℕ → Told → Type 0
-AfterOpen s w from (opened id space events token time) = Brings s w from id events (Some token)
+AfterOpen s w from (opened id space events token time) = Brings s w from id events token
 AfterOpen s w from (refuses code labels) = Unit {0}
 AfterOpen s w from (inserted n failures) = ⊥
 AfterOpen s w from (gave id space events token) = ⊥
@@ -132,7 +129,7 @@ AfterOpen s w from garbled = ⊥
 
 -- what the reply to a getMore of a cursor at this place tells
 abbrev pub AfterMore : State → Watch → ℤ → ℕ → Told → Type 0
-AfterMore s w id place (gave left space events token) = Brings s w place id events (Some token) × ((left ≡ id) ⊎ (left ≡ pos 0))
+AfterMore s w id place (gave left space events token) = Brings s w place id events token × ((left ≡ id) ⊎ (left ≡ pos 0))
 AfterMore s w id place (refuses code labels) = CursorAt s w id place
 AfterMore s w id place (opened other space events token time) = ⊥
 AfterMore s w id place (inserted n failures) = ⊥
@@ -146,11 +143,11 @@ IsBegun s (after token) from events = s.tokens token ≡ Some from
 IsBegun s (at_time time) from [] = Unit {0}
 IsBegun s (at_time time) from (e ∷ es) = IsPast s (at_time time) from
 
-pub record Begins (history : List Step) (w : Watch) (start : Start) (position : ℕ) (id : ℤ) (events : List Fields) (token : Tree) : Type 0 where
+pub record Begins (history : List Step) (w : Watch) (start : Start) (position : ℕ) (id : ℤ) (events : List Fields) (token : Option Tree) : Type 0 where
   pub from : ℕ
   pub begins : opening history position start ≡ Some from
   pub begun : IsBegun (state_of history) start from events
-  pub brings : Brings (state_of history) w from id events (Some token)
+  pub brings : Brings (state_of history) w from id events token
 
 -- what the reply to the aggregate at this position tells, which opens the stream
 abbrev pub AfterStart : List Step → Watch → Start → ℕ → Told → Type 0

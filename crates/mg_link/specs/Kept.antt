@@ -146,7 +146,7 @@ IsCollection cluster = ⊥
 -- the cursors of a store watch collections, each from a place that is there
 abbrev pub IsStoreCursor : ℕ → Cursor → Type 0
 IsStoreCursor places (watching w place) = IsCollection w.target × (place ≤ places)
-IsStoreCursor places (query left) = ⊥
+IsStoreCursor places (query space left) = ⊥
 
 -- the time is that of the number of entries, or that of an empty store
 abbrev pub IsStoreTime : ℕ → ℕ → Type 0

@@ -1,12 +1,12 @@
 -- When the answers to a caller hold nothing back (change streams, getMore and insert specifications: a server may cut batches where it likes, and refuse).
-use Rattle.std.specs.Prelude.{◌≡◌, ℕ, ℤ, pos, Bool, true, Some, None, List, [], Contains, length, take, slice_get, unwrap_or, codes}
+use Rattle.std.specs.Prelude.{◌≡◌, ℕ, ℤ, pos, Bool, true, Option, Some, None, List, [], Contains, length, take, slice_get, unwrap_or, codes}
 use Rattle.mg_bson.specs.Tree.{Tree, Fields}
 use Rattle.mg_bson.specs.Find.{get}
 use Rattle.mg_bson.specs.Raw.{fields}
 use Rattle.mg_link.specs.Namespace.{Space}
 use Rattle.mg_link.specs.State.{Entry, Watch, watching, State, start_place, events_between, seen_between, is_invalidate}
 use Rattle.mg_link.specs.Commands.{Asked, asks_insert, asks_watch, asks_more, asks_kill, asks_other, Failure, Told, refuses, inserted, opened, gave, killed, asked, failures_at}
-use Rattle.mg_link.specs.Step.{documents_of}
+use Rattle.mg_link.specs.Step.{IsNamed, documents_of}
 use Rattle.mg_link.specs.History.{Step, state_of, step_after, told_at}
 use Rattle.mg_link.specs.Rules.{inserting, inserted_reply}
 
@@ -15,8 +15,8 @@ abbrev pub rule_failures : State → Space → List Fields → Bool → List Fai
 rule_failures s space documents ordered = unwrap_or (failures_at (get (codes "writeErrors") (inserted_reply (inserting space ordered 0 (length s.changes) (documents_of s space) documents)))) []
 
 -- a cursor ends only behind an invalidate entry that its batch holds; s' is the state after the step
-abbrev pub EndsByInvalidate : State → Watch → ℕ → ℤ → Tree → Type 0
-EndsByInvalidate s' w from id token = id ≡ pos 0 → (upto : ℕ) × (s'.tokens token ≡ Some upto) × (e : Entry) × Contains (seen_between w s'.changes from upto) e × (is_invalidate e.change ≡ true)
+abbrev pub EndsByInvalidate : State → Watch → ℕ → ℤ → Option Tree → Type 0
+EndsByInvalidate s' w from id token = id ≡ pos 0 → (upto : ℕ) × IsNamed s' token upto × (e : Entry) × Contains (seen_between w s'.changes from upto) e × (is_invalidate e.change ≡ true)
 
 -- a batch is empty only where no entry is left to be seen
 abbrev pub GivesSome : State → Watch → ℕ → List Fields → Type 0

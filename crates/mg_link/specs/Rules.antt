@@ -364,7 +364,7 @@ is_watch_of space w = is_target_of space w.target
 
 abbrev pub answer_more : State → ℤ → Space → ℕ → Option Cursor → Result Answer ℤ
 answer_more s id space size None = Err no_such_cursor
-answer_more s id space size (Some (query left)) = Err bad_request
+answer_more s id space size (Some (query other left)) = Err bad_request
 answer_more s id space size (Some (watching w place)) = if is_watch_of space w then Ok (answer_with [] (more_reply s id space w place size)) else Err bad_request
 
 -- the ids that name a cursor, and the others; one that was named before names none

@@ -1,7 +1,8 @@
 -- What a server holds (change streams, find, getMore and killCursors specifications).
-use Rattle.std.specs.Prelude.{ℕ, suc, ◌+◌, ◌-◌, ◌*◌, ◌^◌, ◌&&◌, ℤ, Bool, true, false, Option, Some, None, List, [], ◌∷◌, length, take, drop, map, nat_lt, if◌then◌else◌}
+use Rattle.std.specs.Prelude.{ℕ, suc, ◌+◌, ◌-◌, ◌*◌, ◌^◌, ◌&&◌, ℤ, Bool, true, false, Option, Some, None, option_map, unwrap_or, List, [], ◌∷◌, length, take, drop, map, nat_lt, if◌then◌else◌}
 use Rattle.std.specs.List.{filter}
-use Rattle.std.specs.Ordering.{int_eq}
+use Rattle.std.specs.Cmp.Lexicographic.{slice_cmp}
+use Rattle.std.specs.Ordering.{int_eq, is_lt, nat_cmp, ordering_then}
 use Rattle.std.specs.Str.{bytes_eq}
 use Rattle.mg_bson.specs.Tree.{Tree, Fields}
 use Rattle.mg_link.specs.Namespace.{Space, Target, database, collection, cluster}
@@ -33,15 +34,25 @@ pub record Watch : Type 0 where
   pub target : Target
   pub filter : List Condition
 
--- an open cursor: the documents that are left of a query, or a watch and its place in the list of changes
+-- an open cursor: the documents that are left of a query and the namespace that it is of, or a watch and its place in the list of changes
 pub data Cursor : Type 0 where
-  query : (left : List Fields) → Cursor
+  query : (space : Space) → (left : List Fields) → Cursor
   watching : (watch : Watch) → (place : ℕ) → Cursor
 
+-- an index by its name, and the names that it is by
+pub record Index : Type 0 where
+  pub name : List ℕ
+  pub key : Fields
+
+-- a collection that is there: its documents in their order, and its indexes beside that of `_id`
+pub record Collection : Type 0 where
+  pub space : Space
+  pub documents : List Fields
+  pub indexes : List Index
+
 pub record State : Type 0 where
-  -- the documents of each collection that is there
-  pub documents : Space → Option (List Fields)
-  pub indexes : Space → List Fields
+  -- those that are there, in the order of their names
+  pub collections : List Collection
   -- place p stands before entry p, counted from 0
   pub changes : List Entry
   -- the place that a token names
@@ -53,10 +64,37 @@ pub record State : Type 0 where
 
 -- a server with nothing in it
 abbrev pub nothing : State
-nothing = record { documents = λ space. None; indexes = λ space. []; changes = []; tokens = λ token. None; cursors = λ id. None; given = λ id. false; now = 0 }
+nothing = record { collections = []; changes = []; tokens = λ token. None; cursors = λ id. None; given = λ id. false; now = 0 }
 
 abbrev pub is_space : Space → Space → Bool
 is_space s t = bytes_eq s.db t.db && bytes_eq s.coll t.coll
+
+-- ---- collections
+
+-- the order of names: by the database, then by the collection, each by its bytes
+abbrev pub comes_before : Space → Space → Bool
+comes_before s t = is_lt (ordering_then (slice_cmp nat_cmp s.db t.db) (slice_cmp nat_cmp s.coll t.coll))
+
+-- the collection of this name, where it is there
+abbrev pub collection_in : List Collection → Space → Option Collection
+collection_in [] space = None
+collection_in (c ∷ cs) space = if is_space space c.space then Some c else collection_in cs space
+
+-- the collection stands in place of that of its name, or where the order has a new one
+abbrev pub put_collection : Collection → List Collection → List Collection
+put_collection c [] = c ∷ []
+put_collection c (d ∷ ds) = if is_space d.space c.space then c ∷ ds else (if comes_before c.space d.space then c ∷ d ∷ ds else d ∷ put_collection c ds)
+
+-- the documents of a collection that is there
+abbrev pub documents_at : State → Space → Option (List Fields)
+documents_at s space = option_map (λ (c : Collection). c.documents) (collection_in s.collections space)
+
+abbrev pub indexes_of : State → Space → List Index
+indexes_of s space = unwrap_or (option_map (λ (c : Collection). c.indexes) (collection_in s.collections space)) []
+
+-- the collections once this one has these documents
+abbrev pub with_documents : State → Space → List Fields → List Collection
+with_documents s space ds = put_collection (record { space = space; documents = ds; indexes = indexes_of s space }) s.collections
 
 -- ---- what a watch sees
 
@@ -111,9 +149,6 @@ start_place s (after token) = s.tokens token
 start_place s (at_time time) = Some (count_before time s.changes)
 
 -- ---- parts that change
-
-abbrev pub put_documents : Space → Option (List Fields) → (Space → Option (List Fields)) → Space → Option (List Fields)
-put_documents space ds documents other = if is_space other space then ds else documents other
 
 abbrev pub put_cursor : ℤ → Option Cursor → (ℤ → Option Cursor) → ℤ → Option Cursor
 put_cursor id cursor cursors other = if int_eq other id then cursor else cursors other

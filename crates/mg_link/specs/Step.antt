@@ -1,11 +1,11 @@
 -- What a server may reply, and the state after it (insert, change streams, getMore and killCursors specifications).
-use Rattle.std.specs.Prelude.{◌≡◌, ◌≢◌, ◌⊎◌, ℕ, suc, ◌+◌, ◌≤◌, ℤ, pos, Bool, true, false, Option, Some, None, unwrap_or, List, [], ◌∷◌, ◌++◌, length, codes, if◌then◌else◌}
+use Rattle.std.specs.Prelude.{◌≡◌, ◌≢◌, ◌⊎◌, ℕ, suc, ◌+◌, ◌≤◌, ℤ, pos, Bool, true, false, Option, Some, None, option_and_then, unwrap_or, List, [], ◌∷◌, ◌++◌, length, codes, if◌then◌else◌}
 use Rattle.std.specs.Ordering.{int_eq}
 use Rattle.mg_bson.specs.Tree.{Tree, Fields}
 use Rattle.mg_bson.specs.Find.{get}
 use Rattle.mg_link.specs.Namespace.{Space}
 use Rattle.mg_link.specs.Filter.{is_same}
-use Rattle.mg_link.specs.State.{inserts, Entry, Watch, Cursor, watching, State, Start, seen_between, events_between, start_place, is_invalidate, put_documents, put_cursor, without_cursors, give, name}
+use Rattle.mg_link.specs.State.{inserts, Entry, Watch, Cursor, watching, State, Start, seen_between, events_between, start_place, is_invalidate, documents_at, with_documents, put_cursor, without_cursors, give, name}
 use Rattle.mg_link.specs.Commands.{Asked, asks_insert, asks_watch, asks_more, asks_kill, Failure, Told, refuses, inserted, opened, gave, killed}
 
 -- a token and the place that it names
@@ -46,22 +46,27 @@ written ordered failures n (d ∷ ds) = if is_listed n failures then (if ordered
 
 -- the documents of a collection, none where it is not there
 abbrev pub documents_of : State → Space → List Fields
-documents_of s space = unwrap_or (s.documents space) []
+documents_of s space = unwrap_or (documents_at s space) []
+
+-- the token of a reply names the place
+abbrev pub IsNamed : State → Option Tree → ℕ → Type 0
+IsNamed s (Some token) place = s.tokens token ≡ Some place
+IsNamed s None place = ⊥
 
 -- a cursor of a watch at the place that the token names
-abbrev pub watching_at : State → Watch → Tree → Cursor
-watching_at s w token = watching w (unwrap_or (s.tokens token) 0)
+abbrev pub watching_at : State → Watch → Option Tree → Cursor
+watching_at s w token = watching w (unwrap_or (option_and_then s.tokens token) 0)
 
 -- a reply with id 0 leaves the server without the cursor
-abbrev pub opened_cursor : State → Watch → ℤ → Tree → State
+abbrev pub opened_cursor : State → Watch → ℤ → Option Tree → State
 opened_cursor s w id token = if int_eq id (pos 0) then s else record s { cursors = put_cursor id (Some (watching_at s w token)) s.cursors; given = give id s.given }
 
-abbrev pub moved : State → Tree → Option Cursor → Option Cursor
+abbrev pub moved : State → Option Tree → Option Cursor → Option Cursor
 moved s token None = None
 moved s token (Some (watching w place)) = Some (watching_at s w token)
 moved s token (Some other) = Some other
 
-abbrev pub moved_cursor : State → ℤ → ℤ → Tree → State
+abbrev pub moved_cursor : State → ℤ → ℤ → Option Tree → State
 moved_cursor s id left token = record s { cursors = put_cursor id (if int_eq left (pos 0) then None else moved s token (s.cursors id)) s.cursors }
 
 -- the codes with which a server refuses a cursor that it does not hold, or that was killed
@@ -70,7 +75,7 @@ ends_cursor code = if int_eq code (pos 43) then true else int_eq code (pos 237)
 
 -- what the command does beside what the step adds
 unfoldable pub effect : State → Asked → Told → State
-effect s (asks_insert space documents ordered) (inserted n failures) = record s { documents = put_documents space (Some (documents_of s space ++ written ordered failures 0 documents)) s.documents }
+effect s (asks_insert space documents ordered) (inserted n failures) = record s { collections = with_documents s space (documents_of s space ++ written ordered failures 0 documents) }
 effect s (asks_watch watch start) (opened id space events token time) = opened_cursor s watch id token
 effect s (asks_more id space) (gave left other events token) = moved_cursor s id left token
 effect s (asks_more id space) (refuses code labels) = if ends_cursor code then record s { cursors = put_cursor id None s.cursors } else s
@@ -147,25 +152,25 @@ EndsAtInvalidate (e ∷ []) id = is_invalidate e.change ≡ true → id ≡ pos 
 EndsAtInvalidate (e ∷ f ∷ es) id = (is_invalidate e.change ≡ false) × EndsAtInvalidate (f ∷ es) id
 
 -- a batch of a watch from one place: the server chooses where it ends, and the token names that place
-pub record MayGive (s : State) (w : Watch) (from : ℕ) (id : ℤ) (events : List Fields) (token : Tree) : Type 0 where
+pub record MayGive (s : State) (w : Watch) (from : ℕ) (id : ℤ) (events : List Fields) (token : Option Tree) : Type 0 where
   pub upto : ℕ
   pub forward : from ≤ upto
   pub within : upto ≤ length s.changes
   pub these : events ≡ events_between w s.changes from upto
-  pub named : s.tokens token ≡ Some upto
+  pub named : IsNamed s token upto
   pub ends : EndsAtInvalidate (seen_between w s.changes from upto) id
 
 -- a new watch: s is the state before the step, and after it the tokens and the time of s' hold
-pub record MayOpen (s s' : State) (w : Watch) (start : Start) (id : ℤ) (events : List Fields) (token : Tree) (time : ℕ) (made : Made) : Type 0 where
+pub record MayOpen (s s' : State) (w : Watch) (start : Start) (id : ℤ) (events : List Fields) (token : Option Tree) (time : Option ℕ) (made : Made) : Type 0 where
   pub no_entry : AddsNoEntry made
   pub from : ℕ
   pub begins : start_place s' start ≡ Some from
   pub batch : MayGive s' w from id events token
   pub fresh : id ≢ pos 0 → s.given id ≡ false
-  pub time_is : time ≡ s'.now
+  pub time_is : time ≡ Some s'.now
 
 -- a watch goes on
-pub record MayGoOn (s s' : State) (id left : ℤ) (events : List Fields) (token : Tree) (made : Made) : Type 0 where
+pub record MayGoOn (s s' : State) (id left : ℤ) (events : List Fields) (token : Option Tree) (made : Made) : Type 0 where
   pub no_entry : AddsNoEntry made
   pub watch : Watch
   pub at : ℕ

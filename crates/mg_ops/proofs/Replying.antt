@@ -48,10 +48,10 @@ reply_batch reply c events h are =
     let a = then_ok (found malformed.NoCursor (option_and_then as_document (get (codes "cursor") reply))) cursor_in c h in
     ap (option_and_then batch_by) (found_some malformed.NoCursor _ a.0 a.1) ∙ cursor_batch a.0 c events a.2 are
 
-pub tells_of_more : (id : ℤ) (space : Space) (reply : List ℕ) (c : Cursor) (events : List Fields) (token : Tree) → verdict_of (fields reply) ≡ verdict.Success → cursor_of (fields reply) ≡ Ok c → documents_in c.batch ≡ Some events → c.token ≡ Some token
-    → told (asks_more id space) reply ≡ gave c.id c.space events token
+pub tells_of_more : (id : ℤ) (space : Space) (reply : List ℕ) (c : Cursor) (events : List Fields) → verdict_of (fields reply) ≡ verdict.Success → cursor_of (fields reply) ≡ Ok c → documents_in c.batch ≡ Some events
+    → told (asks_more id space) reply ≡ gave c.id c.space events c.token
 unfolding told
-tells_of_more id space reply c events token success h are has = rw (success, reply_batch (fields reply) c events h are, has) refl
+tells_of_more id space reply c events success h are = rw (success, reply_batch (fields reply) c events h are) refl
 
 -- ---- inserts
 

@@ -37,12 +37,12 @@ pub fn asks_to_kill()
         → fields command ≡ kill_command space ids → asked command ≡ asks_kill ids }
 {}
 
-/// What a reply to a getMore tells: the cursor, and the documents of its batch.
+/// What a reply to a getMore tells: the cursor, the documents of its batch, and the token.
 pub fn tells_of_more()
-    ensures { (id : ℤ) (space : Space) (reply : List ℕ) (cursor : Cursor) (events : List Fields) (token : Tree)
+    ensures { (id : ℤ) (space : Space) (reply : List ℕ) (cursor : Cursor) (events : List Fields)
         → verdict_of (fields reply) ≡ verdict.Success → cursor_of (fields reply) ≡ Ok cursor
-        → documents_in cursor.batch ≡ Some events → cursor.token ≡ Some token
-        → told (asks_more id space) reply ≡ gave cursor.id cursor.space events token }
+        → documents_in cursor.batch ≡ Some events
+        → told (asks_more id space) reply ≡ gave cursor.id cursor.space events cursor.token }
 {}
 
 /// What a reply to an insert tells that `Insert::read` takes without error: its number, and that no document failed.

@@ -7,7 +7,7 @@ use Rattle.std.proofs.lemmas.List.{drop_more}
 use Rattle.mg_bson.specs.Tree.{Fields}
 use Rattle.mg_link.specs.declared.namespace.Namespace.{Namespace}
 use Rattle.mg_link.specs.Namespace.{Space, space}
-use Rattle.mg_link.specs.State.{Entry, Cursor, State, is_space, put_cursor, without_cursors}
+use Rattle.mg_link.specs.State.{Entry, Cursor, State, documents_at, is_space, put_cursor, without_cursors}
 use Rattle.mg_link.specs.Step.{documents_of}
 use Rattle.mg_link.specs.Rules.{is_id_among}
 use Rattle.mg_store.specs.Contents.{Does, IsCursorAt, Represents, collection_at}
@@ -25,7 +25,7 @@ use Rattle.mg_store.proofs.Maps.{int_test, same_space}
 -- ---- cursors
 
 -- other parts stay
-represents_with : (c c' : Content) (s s' : State) (given given' : ℕ) → Represents c s given → c'.collections ≡ c.collections → c'.changes ≡ c.changes → ((sp : Space) → s'.documents sp ≡ s.documents sp) → s'.changes ≡ s.changes
+represents_with : (c c' : Content) (s s' : State) (given given' : ℕ) → Represents c s given → c'.collections ≡ c.collections → c'.changes ≡ c.changes → ((sp : Space) → documents_at s' sp ≡ documents_at s sp) → s'.changes ≡ s.changes
     → ((id : ℤ) → IsCursorAt (get int_cmp c'.cursors id) (s'.cursors id)) → c'.given ≡ pos given' → Represents c' s' given'
 represents_with c c' s s' given given' h cs es docs changes cursors number = record {
   documents_are = λ sp. docs sp ∙ h.documents_are sp ∙ ap (λ m. option_map stored (collection_at m sp)) (sym cs);
@@ -49,7 +49,7 @@ cursor_if : (b : Bool) (o : Option code.Cursor) (p : Option Cursor) → IsCursor
 cursor_if true o p h = tt
 cursor_if false o p h = h
 
-pub does_kill : (c c' : Content) (s s' : State) (given given' : ℕ) (ids : List ℤ) → Represents c s given → ((sp : Space) → s'.documents sp ≡ s.documents sp) → s'.changes ≡ s.changes → ((q : ℤ) → s'.cursors q ≡ without_cursors ids s.cursors q) → given' ≡ given
+pub does_kill : (c c' : Content) (s s' : State) (given given' : ℕ) (ids : List ℤ) → Represents c s given → ((sp : Space) → documents_at s' sp ≡ documents_at s sp) → s'.changes ≡ s.changes → ((q : ℤ) → s'.cursors q ≡ without_cursors ids s.cursors q) → given' ≡ given
     → c'.collections ≡ c.collections → c'.changes ≡ c.changes → c'.given ≡ c.given → ((q : ℤ) → get int_cmp c'.cursors q ≡ (if is_id_among q ids then None else get int_cmp c.cursors q)) → Represents c' s' given'
 does_kill c c' s s' given given' ids h docs changes cursors number cs es same code_is =
     represents_with c c' s s' given given' h cs es docs changes
@@ -87,7 +87,7 @@ does_insert c c' s s' given given' ns a w h does cs docs ids es cursors number =
     let b = does.1 in
     let place : 0 + length c.changes.items ≡ length s.changes = omega (arith, changes-length c s given h) in
     record {
-      documents_are = λ sp. b.documents_are sp ∙ documents_if (is_space sp (space ns)) w (documents_of s (space ns) ++ new_documents a) (collection_at c.collections sp) (s.documents sp) docs (h.documents_are sp) ∙ ap (option_map stored) (sym (cs sp));
+      documents_are = λ sp. b.documents_are sp ∙ documents_if (is_space sp (space ns)) w (documents_of s (space ns) ++ new_documents a) (collection_at c.collections sp) (documents_at s sp) docs (h.documents_are sp) ∙ ap (option_map stored) (sym (cs sp));
       ids_are = λ sp col e. keeps_if (is_space sp (space ns)) w col (collection_at c.collections sp) ids (h.ids_are sp col) (sym (cs sp) ∙ e);
       changes_are = b.changes_are ∙ ap₂ (λ (xs : List Entry) (n : ℕ). xs ++ entries_from n a.entries.items) h.changes_are (sym place) ∙ sym (entries-append 0 c.changes.items a.entries.items) ∙ ap (entries_from 0) (sym es);
       exact = subst AreExact (sym es) (exact-append c.changes.items a.entries.items h.exact does.0.exact);

@@ -67,7 +67,7 @@ pub record Watching (s : State) (id : ℤ) (cursor : code.Cursor) : Type 0 where
 is_watching : (s : State) (id : ℤ) (cursor : code.Cursor) (o : Option Cursor) → s.cursors id ≡ o → IsCursorAt (Some cursor) o → Watching s id cursor
 is_watching s id cursor None e h = absurd h
 is_watching s id cursor (Some (watching w place)) e h = record { watch = w; watches = h.0; stood = e ∙ ap (λ (p : ℕ). Some (watching w p)) h.1 }
-is_watching s id cursor (Some (query left)) e h = absurd h
+is_watching s id cursor (Some (query of left)) e h = absurd h
 
 pub cursor_some : (c : Content) (s : State) (given : ℕ) (id : ℤ) (cursor : code.Cursor) → Represents c s given → get int_cmp c.cursors id ≡ Some cursor → Watching s id cursor
 cursor_some c s given id cursor h e = is_watching s id cursor (s.cursors id) refl (subst (λ (o : Option code.Cursor). IsCursorAt o (s.cursors id)) e (h.cursors_are id))
@@ -152,7 +152,7 @@ some_held None None h = refl
 some_held None (Some c) h = absurd h
 some_held (Some c) None h = absurd h
 some_held (Some c) (Some (watching w place)) h = refl
-some_held (Some c) (Some (query left)) h = absurd h
+some_held (Some c) (Some (query of left)) h = absurd h
 
 pub held_is : (c : Content) (s : State) (given : ℕ) (id : ℤ) → Represents c s given → is_some (s.cursors id) ≡ is_some (get int_cmp c.cursors id)
 held_is c s given id h = some_held (get int_cmp c.cursors id) (s.cursors id) (h.cursors_are id)

@@ -10,7 +10,7 @@ use Rattle.std.proofs.lemmas.Bool.Decides.{Decides-int_eq}
 use Rattle.mg_bson.specs.Tree.{Fields}
 use Rattle.mg_bson.specs.Raw.{fields}
 use Rattle.mg_link.specs.Namespace.{Space}
-use Rattle.mg_link.specs.State.{Cursor, State, nothing, put_cursor}
+use Rattle.mg_link.specs.State.{Cursor, State, nothing, documents_at, put_cursor}
 use Rattle.mg_link.specs.Commands.{Asked, asks_insert, asks_watch, asks_more, asks_kill, asks_other, asked}
 use Rattle.mg_link.specs.Step.{documents_of, ends_cursor}
 use Rattle.mg_link.specs.Rules.{is_id_among, refusal}
@@ -58,7 +58,7 @@ may_by_rules history command a h = record { follows = by_rules h.reply; leads = 
 
 -- ---- chosen refusals
 
-closed : (ends : Bool) (asks : Asked) (s s' : State) (given given' : ℕ) (code : ℤ) → ends ≡ ends_cursor code → Becomes s' given' s.documents s.changes (cursors_refused asks code s.cursors) given → Does (closing ends (continued asks)) s given s' given'
+closed : (ends : Bool) (asks : Asked) (s s' : State) (given given' : ℕ) (code : ℤ) → ends ≡ ends_cursor code → Becomes s' given' (documents_at s) s.changes (cursors_refused asks code s.cursors) given → Does (closing ends (continued asks)) s given s' given'
 closed true (asks_more id sp) s s' given given' code e h =
     record { documents_are = h.documents_are; changes_are = h.changes_are; cursors_are = λ x. h.cursors_are x ∙ ap (λ (b : Bool). (if b then put_cursor id None s.cursors else s.cursors) x) (sym e); given_are = h.given_are }
 closed false (asks_more id sp) s s' given given' code e h =
@@ -80,8 +80,8 @@ may_by_choice history command a code labels reply effect = record {
       let s : State = state_of_kept history in
       let given : ℕ = given_of history in
       let parts = behind_refusal s given started kept code labels (ap fields is_reply ∙ reply.read_back) in
-      let becomes : Becomes (state_behind s given started kept) (given_after given kept) s.documents s.changes (cursors_refused (asked command) code s.cursors) given = record {
-        documents_are = λ sp. ap (λ (f : Space → Option (List Fields)). f sp) parts.documents_are;
+      let becomes : Becomes (state_behind s given started kept) (given_after given kept) (documents_at s) s.changes (cursors_refused (asked command) code s.cursors) given = record {
+        documents_are = parts.documents_are;
         changes_are = parts.changes_are;
         cursors_are = λ id. ap (λ (f : ℤ → Option Cursor). f id) parts.cursors_are ∙ ap (λ (c : List ℕ). cursors_refused (asked c) code s.cursors id) is_command;
         given_are = parts.given_are;
@@ -98,8 +98,8 @@ keeps_none c h = record { by_rules = tt; content_is = h }
 
 -- ---- what is shown
 
-pub documents_at : (c : Content) (history : List Kept) (sp : Space) (o : Option Collection) → Keeps c history → o ≡ collection_at c.collections sp → unwrap_or (option_map stored o) [] ≡ documents_of (state_of_kept history) sp
-documents_at c history sp o h e = ap (λ (x : Option Collection). unwrap_or (option_map stored x) []) e ∙ sym (ap (λ (x : Option (List Fields)). unwrap_or x []) (h.content_is.documents_are sp))
+pub documents_shown : (c : Content) (history : List Kept) (sp : Space) (o : Option Collection) → Keeps c history → o ≡ collection_at c.collections sp → unwrap_or (option_map stored o) [] ≡ documents_of (state_of_kept history) sp
+documents_shown c history sp o h e = ap (λ (x : Option Collection). unwrap_or (option_map stored x) []) e ∙ sym (ap (λ (x : Option (List Fields)). unwrap_or x []) (h.content_is.documents_are sp))
 
 shown_entries : (p : ℕ) (es : List ChangeEntry) → map shown_of es ≡ map shown (entries_from p es)
 shown_entries p [] = refl

@@ -8,7 +8,7 @@ use Rattle.mg_bson.specs.Tree.{Fields, no_fields, field}
 use Rattle.mg_bson.specs.Bytes.{bytes}
 use Rattle.mg_bson.specs.Raw.{fields}
 use Rattle.mg_link.specs.Namespace.{Space, space}
-use Rattle.mg_link.specs.State.{Entry, Watch, Cursor, watching, State, put_documents, put_cursor, without_cursors}
+use Rattle.mg_link.specs.State.{Entry, Watch, Cursor, watching, State, documents_at, put_cursor, without_cursors}
 use Rattle.mg_link.specs.Commands.{Asked, asks_insert, asks_watch, asks_more, asks_kill, asks_other, asked}
 use Rattle.mg_link.specs.Step.{documents_of, ends_cursor}
 use Rattle.mg_link.specs.Rules as rules
@@ -16,6 +16,7 @@ use Rattle.mg_link.specs.Rules.{Inserted, answer, answer_insert, answer_of, and_
 use Rattle.mg_link.specs.Kept.{Kept, state_behind, given_after}
 use Rattle.mg_link.proofs.Requests.{asked_is}
 use Rattle.mg_link.proofs.Behind.{Parts, behind_insert, behind_kill, behind_more, behind_refusal, behind_watch, cursors_refused}
+use Rattle.mg_link.proofs.Collections.{put_documents}
 use Rattle.mg_link.proofs.Cursoring.{same_int}
 use Rattle.mg_store.specs.Answering.{Answers, Replies}
 use Rattle.mg_store.specs.Contents.{AnswersBy, AnswersOr, Becomes, Does, EffectOf, LeadsOn, LosesNone, Misses, Settled, Settles, watch_on}
@@ -43,7 +44,7 @@ settles s given r a d e (Err (stops.Refused refusal)) answers is effect got = (
 
 becomes : (s : State) (given : ℕ) (documents : Space → Option (List Fields)) (changes : List Entry) (cursors : ℤ → Option Cursor) (given' : ℕ) → Parts s given documents changes cursors given' → Becomes s given documents changes cursors given'
 becomes s given documents changes cursors given' p =
-    record { documents_are = λ sp. ap (λ (f : Space → Option (List Fields)). f sp) p.documents_are; changes_are = p.changes_are; cursors_are = λ id. ap (λ (f : ℤ → Option Cursor). f id) p.cursors_are; given_are = p.given_are }
+    record { documents_are = p.documents_are; changes_are = p.changes_are; cursors_are = λ id. ap (λ (f : ℤ → Option Cursor). f id) p.cursors_are; given_are = p.given_are }
 
 module _ (s : State) (given : ℕ) (command : List ℕ) (a : Answer) (by_rules : rules.Answer) (answers_are : answer_of s (pos (suc given)) (fields command) ≡ by_rules) (written : fields a.reply ≡ by_rules.reply) where
   same_answer : (kept : Kept) → kept.command ≡ command → answer_of s (pos (suc given)) (fields kept.command) ≡ by_rules
@@ -67,9 +68,9 @@ module _ (s : State) (given : ℕ) (command : List ℕ) (a : Answer) (by_rules :
       let i : Inserted = inserting sp ordered 0 (length s.changes) (documents_of s sp) ds in
       let known : by_rules ≡ answer_insert s sp ds ordered = inner (answer_insert s sp ds ordered) by_rules answers in
       let parts = behind_insert s given started kept sp ds ordered (same_request kept (rules.insert sp ds ordered) is_command asks) (same_answer kept is_command ∙ known) (same_reply kept is_reply ∙ ap (λ (x : rules.Answer). x.reply) known) in
-      let there = subst (λ (x : Space). Becomes (state_behind s given started kept) (given_after given kept) (put_documents x (Some (documents_of s x ++ i.documents)) s.documents) (s.changes ++ i.entries) s.cursors given) (sym effect.at) (becomes _ _ _ _ _ _ parts) in
-      let docs = subst (λ (l : List Fields). Becomes (state_behind s given started kept) (given_after given kept) (put_documents (space effect.ns) (Some (documents_of s (space effect.ns) ++ l)) s.documents) (s.changes ++ i.entries) s.cursors given) (sym effect.documents_are) there in
-      let all = subst (λ (l : List Entry). Becomes (state_behind s given started kept) (given_after given kept) (put_documents (space effect.ns) (Some (documents_of s (space effect.ns) ++ new_documents effect.appended)) s.documents) (s.changes ++ l) s.cursors given) (sym effect.entries_are) docs in
+      let there = subst (λ (x : Space). Becomes (state_behind s given started kept) (given_after given kept) (put_documents x (Some (documents_of s x ++ i.documents)) (documents_at s)) (s.changes ++ i.entries) s.cursors given) (sym effect.at) (becomes _ _ _ _ _ _ parts) in
+      let docs = subst (λ (l : List Fields). Becomes (state_behind s given started kept) (given_after given kept) (put_documents (space effect.ns) (Some (documents_of s (space effect.ns) ++ l)) (documents_at s)) (s.changes ++ i.entries) s.cursors given) (sym effect.documents_are) there in
+      let all = subst (λ (l : List Entry). Becomes (state_behind s given started kept) (given_after given kept) (put_documents (space effect.ns) (Some (documents_of s (space effect.ns) ++ new_documents effect.appended)) (documents_at s)) (s.changes ++ l) s.cursors given) (sym effect.entries_are) docs in
       subst (λ (e : Effect). Does e s given (state_behind s given started kept) (given_after given kept)) (sym effect.is)
       (subst (λ (x : Space). Fits (documents_of s x) effect.appended) (sym effect.at) effect.fits, all)
   leads_by (rules.watch sp filter resume_after size) asks answers effect started kept is_command is_reply h lt =
@@ -77,7 +78,7 @@ module _ (s : State) (given : ℕ) (command : List ℕ) (a : Answer) (by_rules :
       let known : by_rules ≡ rules.answer_with [] (watch_reply s (pos (suc given)) sp filter effect.from (size_of size)) = inner _ by_rules (sym given_answer ∙ answers) in
       let parts = behind_watch s given started kept sp filter resume_after size effect.from (size_of size) h lt (same_request kept (rules.watch sp filter resume_after size) is_command asks) effect.at (watch_on sp filter) refl (same_answer kept is_command ∙ known) (same_reply kept is_reply ∙ ap (λ (x : rules.Answer). x.reply) known) in
       subst (λ (e : Effect). Does e s given (state_behind s given started kept) (given_after given kept)) (sym effect.is)
-      (watch_on sp filter, effect.watches, refl, subst (λ (p : ℕ). Becomes (state_behind s given started kept) (given_after given kept) s.documents s.changes (put_cursor (pos (suc given)) (Some (watching (watch_on sp filter) p)) s.cursors) (suc given)) (sym effect.place_is) (becomes _ _ _ _ _ _ parts))
+      (watch_on sp filter, effect.watches, refl, subst (λ (p : ℕ). Becomes (state_behind s given started kept) (given_after given kept) (documents_at s) s.changes (put_cursor (pos (suc given)) (Some (watching (watch_on sp filter) p)) s.cursors) (suc given)) (sym effect.place_is) (becomes _ _ _ _ _ _ parts))
   leads_by (rules.more id sp size) asks answers effect started kept is_command is_reply h lt =
       let w : Watch = effect.watch in
       let given_answer : answer s (pos (suc given)) (rules.more id sp size) ≡ (if rules.is_watch_of sp w then Ok (rules.answer_with [] (rules.more_reply s id sp w effect.from (size_of size))) else Err bad_request) = ap (rules.answer_more s id sp (size_of size)) effect.stood in
@@ -89,7 +90,7 @@ module _ (s : State) (given : ℕ) (command : List ℕ) (a : Answer) (by_rules :
       let known : by_rules ≡ rules.answer_with [] (rules.killed_reply s ids) = inner _ by_rules answers in
       let parts = behind_kill s given started kept ids (same_request kept (rules.kill ids) is_command asks) (same_answer kept is_command ∙ known) (same_reply kept is_reply ∙ ap (λ (x : rules.Answer). x.reply) known) in
       subst (λ (e : Effect). Does e s given (state_behind s given started kept) (given_after given kept)) (sym effect.is)
-      (subst (λ (l : List ℤ). Becomes (state_behind s given started kept) (given_after given kept) s.documents s.changes (without_cursors l s.cursors) given) (sym effect.these) (becomes _ _ _ _ _ _ parts))
+      (subst (λ (l : List ℤ). Becomes (state_behind s given started kept) (given_after given kept) (documents_at s) s.changes (without_cursors l s.cursors) given) (sym effect.these) (becomes _ _ _ _ _ _ parts))
 
 -- ---- answers to commands
 
@@ -178,7 +179,7 @@ answers_refused s given command code a known keeps got = record {
       let parts = behind_refusal s given started kept code [] (ap fields is_reply ∙ got.reply.read_back) in
       subst (λ (e : Effect). Does e s given (state_behind s given started kept) (given_after given kept)) (sym got.effect_is)
       (record {
-        documents_are = λ sp. ap (λ (f : Space → Option (List Fields)). f sp) parts.documents_are;
+        documents_are = parts.documents_are;
         changes_are = parts.changes_are;
         cursors_are = λ id. ap (λ (f : ℤ → Option Cursor). f id) parts.cursors_are ∙ ap (λ (c : List ℕ). cursors_refused (asked c) code s.cursors id) is_command ∙ keeps id;
         given_are = parts.given_are;

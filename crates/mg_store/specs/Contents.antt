@@ -9,12 +9,13 @@ use Rattle.mg_bson.specs.Raw.{fields}
 use Rattle.mg_link.specs.declared.namespace.Namespace.{Namespace}
 use Rattle.mg_link.specs.Namespace.{Space, space, collection}
 use Rattle.mg_link.specs.Filter.{Condition}
-use Rattle.mg_link.specs.State.{Entry, Watch, Cursor, query, watching, State, is_space, put_documents, put_cursor, without_cursors}
+use Rattle.mg_link.specs.State.{Entry, Watch, Cursor, query, watching, State, documents_at, is_space, put_cursor, without_cursors}
 use Rattle.mg_link.specs.Step.{documents_of}
 use Rattle.mg_link.specs.Rules as rules
 use Rattle.mg_link.specs.Rules.{inserting, answer, answer_of, batch_place, fitting, place_at, refused, size_of}
 use Rattle.mg_link.specs.Commands.{asked}
 use Rattle.mg_link.proofs.Behind.{cursors_refused}
+use Rattle.mg_link.proofs.Collections.{put_documents}
 use Rattle.mg_link.specs.Kept.{Kept, Follows, IsByRules, IsReply, IsStoreState, given_after, given_of, state_behind, state_of_kept}
 use Rattle.mg_store.specs.Holding.{AreExact, IsWatch, entries_from}
 use Rattle.mg_store.specs.Inserting.{Fits, KeepsIds, new_documents, stored}
@@ -44,11 +45,11 @@ IsCursorAt None None = Unit {0}
 IsCursorAt None (Some c) = ⊥
 IsCursorAt (Some c) None = ⊥
 IsCursorAt (Some c) (Some (watching w place)) = IsWatch c.watch w × (place ≡ c.place)
-IsCursorAt (Some c) (Some (query left)) = ⊥
+IsCursorAt (Some c) (Some (query of left)) = ⊥
 
 -- the content is that of the state, where so many ids were given
 pub record Represents (c : Content) (s : State) (given : ℕ) : Type 0 where
-  pub documents_are : (sp : Space) → s.documents sp ≡ option_map stored (collection_at c.collections sp)
+  pub documents_are : (sp : Space) → documents_at s sp ≡ option_map stored (collection_at c.collections sp)
   pub ids_are : (sp : Space) (col : Collection) → collection_at c.collections sp ≡ Some col → KeepsIds col
   pub changes_are : s.changes ≡ entries_from 0 c.changes.items
   pub exact : AreExact c.changes.items
@@ -59,20 +60,20 @@ pub record Represents (c : Content) (s : State) (given : ℕ) : Type 0 where
 
 -- the parts of a state
 pub record Becomes (s : State) (given : ℕ) (documents : Space → Option (List Fields)) (changes : List Entry) (cursors : ℤ → Option Cursor) (given' : ℕ) : Type 0 where
-  pub documents_are : (sp : Space) → s.documents sp ≡ documents sp
+  pub documents_are : (sp : Space) → documents_at s sp ≡ documents sp
   pub changes_are : s.changes ≡ changes
   pub cursors_are : (id : ℤ) → s.cursors id ≡ cursors id
   pub given_are : given ≡ given'
 
 -- the effect leads from the first state to the second
 abbrev pub Does : Effect → State → ℕ → State → ℕ → Type 0
-Does effects.Nothing s given s' given' = Becomes s' given' s.documents s.changes s.cursors given
+Does effects.Nothing s given s' given' = Becomes s' given' (documents_at s) s.changes s.cursors given
 Does (effects.Insert ns a) s given s' given' = Fits (documents_of s (space ns)) a
-    × Becomes s' given' (put_documents (space ns) (Some (documents_of s (space ns) ++ new_documents a)) s.documents) (s.changes ++ entries_from (length s.changes) a.entries.items) s.cursors given
-Does (effects.Open id cursor) s given s' given' = (w : Watch) × IsWatch cursor.watch w × (id ≡ pos (suc given)) × Becomes s' given' s.documents s.changes (put_cursor id (Some (watching w cursor.place)) s.cursors) (suc given)
-Does (effects.Move id place) s given s' given' = (w : Watch) × (from : ℕ) × (s.cursors id ≡ Some (watching w from)) × Becomes s' given' s.documents s.changes (put_cursor id (Some (watching w place)) s.cursors) given
-Does (effects.Kill ids) s given s' given' = Becomes s' given' s.documents s.changes (without_cursors ids.items s.cursors) given
-Does (effects.Close id) s given s' given' = Becomes s' given' s.documents s.changes (put_cursor id None s.cursors) given
+    × Becomes s' given' (put_documents (space ns) (Some (documents_of s (space ns) ++ new_documents a)) (documents_at s)) (s.changes ++ entries_from (length s.changes) a.entries.items) s.cursors given
+Does (effects.Open id cursor) s given s' given' = (w : Watch) × IsWatch cursor.watch w × (id ≡ pos (suc given)) × Becomes s' given' (documents_at s) s.changes (put_cursor id (Some (watching w cursor.place)) s.cursors) (suc given)
+Does (effects.Move id place) s given s' given' = (w : Watch) × (from : ℕ) × (s.cursors id ≡ Some (watching w from)) × Becomes s' given' (documents_at s) s.changes (put_cursor id (Some (watching w place)) s.cursors) given
+Does (effects.Kill ids) s given s' given' = Becomes s' given' (documents_at s) s.changes (without_cursors ids.items s.cursors) given
+Does (effects.Close id) s given s' given' = Becomes s' given' (documents_at s) s.changes (put_cursor id None s.cursors) given
 
 -- ---- the effects of requests
 

@@ -4,17 +4,17 @@ use Rattle.mg_link.specs.Namespace.{space}
 use Rattle.mg_link.specs.Step.{documents_of}
 use Rattle.mg_link.specs.Kept.{state_of_kept}
 use Rattle.mg_store.specs.Stored.{Stored, steps_of}
-use Rattle.mg_store.proofs.Keeping.{documents_at}
+use Rattle.mg_store.proofs.Keeping.{documents_shown}
 use Rattle.mg_store.proofs.Maps.{found_at}
 use Rattle.mg_store.proofs.store.Store.documents.Goals as goal
 
 pub returns-in-Some : goal.returns-in-Some
 returns-in-Some c =
     ap (map fields) c.as_slice.ensures.value
-    ∙ documents_at c.self.inside.content (steps_of c.self.inside.history.items) (space c.args.ns.now) (Some c.in-Some.collection.now) c.self.invariant (c.in-Some.ensures.value ∙ found_at c.args.ns.now c.self.inside.content.collections)
+    ∙ documents_shown c.self.inside.content (steps_of c.self.inside.history.items) (space c.args.ns.now) (Some c.in-Some.collection.now) c.self.invariant (c.in-Some.ensures.value ∙ found_at c.args.ns.now c.self.inside.content.collections)
     ∙ ap (λ (s : Stored). documents_of (state_of_kept s.history) (space c.args.ns.now)) c.self.view_is
 
 pub returns-in-None : goal.returns-in-None
 returns-in-None c =
-    documents_at c.self.inside.content (steps_of c.self.inside.history.items) (space c.args.ns.now) None c.self.invariant (c.in-None.ensures.value ∙ found_at c.args.ns.now c.self.inside.content.collections)
+    documents_shown c.self.inside.content (steps_of c.self.inside.history.items) (space c.args.ns.now) None c.self.invariant (c.in-None.ensures.value ∙ found_at c.args.ns.now c.self.inside.content.collections)
     ∙ ap (λ (s : Stored). documents_of (state_of_kept s.history) (space c.args.ns.now)) c.self.view_is

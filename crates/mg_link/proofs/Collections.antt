@@ -1,0 +1,76 @@
+-- Collections by their names.
+use Rattle.std.proofs.Common.{◌≡◌, ℕ, Bool, true, false, List, [], ◌∷◌, Option, Some, refl, sym, ap, ap₂, ◌∙◌, inl, inr}
+use Rattle.std.specs.Prelude.{if◌then◌else◌, option_map}
+use Rattle.std.proofs.lemmas.Bool.{cases_Bool, and_parts}
+use Rattle.std.proofs.lemmas.Slice.Eq.{bytes_eq-Decides}
+use Rattle.std.specs.Str.{bytes_eq}
+use Rattle.mg_bson.specs.Tree.{Fields}
+use Rattle.mg_link.specs.Namespace.{Space}
+use Rattle.mg_link.specs.State.{Collection, State, is_space, comes_before, collection_in, put_collection, documents_at, indexes_of, with_documents}
+
+-- a name of these bytes is that name
+pub same_space : (s t : Space) → is_space s t ≡ true → s ≡ t
+same_space s t h =
+    let parts = and_parts (bytes_eq s.db t.db) (bytes_eq s.coll t.coll) h in
+    let db : s.db ≡ t.db = (bytes_eq-Decides s.db t.db).0 parts.0 in
+    let coll : s.coll ≡ t.coll = (bytes_eq-Decides s.coll t.coll).0 parts.1 in
+    ap₂ (λ (d c : List ℕ). record { db = d; coll = c }) db coll
+
+pub is_space_self : (s : Space) → is_space s s ≡ true
+is_space_self s = rw ((bytes_eq-Decides s.db s.db).1 refl, (bytes_eq-Decides s.coll s.coll).1 refl) refl
+
+-- what is looked up behind one of another name
+passed : (b d : Bool) (x y : Collection) (o : Option Collection) → (d ≡ true → b ≡ true → ⊥) → (if d then Some y else (if b then Some x else o)) ≡ (if b then Some x else (if d then Some y else o))
+passed true true x y o apart = absurd (apart refl refl)
+passed true false x y o apart = refl
+passed false d x y o apart = refl
+
+replaced : (b d : Bool) (x y : Collection) (o : Option Collection) → b ≡ d → (if b then Some x else o) ≡ (if b then Some x else (if d then Some y else o))
+replaced true true x y o same = refl
+replaced false false x y o same = refl
+replaced true false x y o same = absurd cc
+replaced false true x y o same = absurd cc
+
+-- a collection is found behind its name once it was put there, and the others stay
+pub put_is : (c : Collection) (cs : List Collection) (space : Space) → collection_in (put_collection c cs) space ≡ (if is_space space c.space then Some c else collection_in cs space)
+put_is c [] space = refl
+put_is c (d ∷ ds) space =
+    elim (cases_Bool (is_space d.space c.space)) [
+      | inl same ↦
+          let e : d.space ≡ c.space = same_space d.space c.space same in
+          ap (λ (b : Bool). collection_in (if b then c ∷ ds else (if comes_before c.space d.space then c ∷ d ∷ ds else d ∷ put_collection c ds)) space) same
+          ∙ replaced (is_space space c.space) (is_space space d.space) c d (collection_in ds space) (ap (is_space space) (sym e))
+      | inr other ↦
+          let apart = λ (here : is_space space d.space ≡ true) (there : is_space space c.space ≡ true).
+          let e : d.space ≡ c.space = sym (same_space space d.space here) ∙ same_space space c.space there in
+          let bad : is_space d.space c.space ≡ true = ap (is_space d.space) (sym e) ∙ is_space_self d.space in
+          let no_way : true ≡ false = sym bad ∙ other in
+          absurd cc in
+          ap (λ (b : Bool). collection_in (if b then c ∷ ds else (if comes_before c.space d.space then c ∷ d ∷ ds else d ∷ put_collection c ds)) space) other
+          ∙ elim (cases_Bool (comes_before c.space d.space)) [
+            | inl first ↦ ap (λ (b : Bool). collection_in (if b then c ∷ d ∷ ds else d ∷ put_collection c ds) space) first
+            | inr later ↦
+                ap (λ (b : Bool). collection_in (if b then c ∷ d ∷ ds else d ∷ put_collection c ds) space) later
+                ∙ ap (λ (o : Option Collection). if is_space space d.space then Some d else o) (put_is c ds space)
+                ∙ passed (is_space space c.space) (is_space space d.space) c d (collection_in ds space) apart
+          ]
+    ]
+
+-- ---- documents
+
+-- the documents of collections once this one has others
+abbrev pub put_documents : Space → Option (List Fields) → (Space → Option (List Fields)) → Space → Option (List Fields)
+put_documents space ds documents other = if is_space other space then ds else documents other
+
+pub documents_put : (s : State) (space : Space) (ds : List Fields) (other : Space) → option_map (λ (c : Collection). c.documents) (collection_in (with_documents s space ds) other) ≡ put_documents space (Some ds) (documents_at s) other
+documents_put s space ds other =
+    let c : Collection = record { space = space; documents = ds; indexes = indexes_of s space } in
+    ap (option_map (λ (c : Collection). c.documents)) (put_is c s.collections other) ∙ map_if (is_space other space) c (collection_in s.collections other)
+  where
+    map_if : (b : Bool) (c : Collection) (o : Option Collection) → option_map (λ (c : Collection). c.documents) (if b then Some c else o) ≡ (if b then Some c.documents else option_map (λ (c : Collection). c.documents) o)
+    map_if true c o = refl
+    map_if false c o = refl
+
+-- the documents stand where they were put
+pub documents_here : (s : State) (space : Space) (ds : List Fields) → option_map (λ (c : Collection). c.documents) (collection_in (with_documents s space ds) space) ≡ Some ds
+documents_here s space ds = documents_put s space ds space ∙ ap (λ (b : Bool). if b then Some ds else documents_at s space) (is_space_self space)
