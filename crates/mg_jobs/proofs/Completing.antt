@@ -56,14 +56,15 @@ use Rattle.mg_jobs.proofs.Batches.{breaks_not}
 use Rattle.mg_jobs.proofs.InsertWell.{never_lists}
 use Rattle.mg_jobs.proofs.Prompting.{Brings, IsPrompted, prompt_success, prompted}
 use Rattle.mg_jobs.proofs.Identified.{IsHonest, StandsWell, empty_well, failed_well, gave_well, heard_by, honest_over, next_well, opened_well, replied_well, resumed_brings}
+use Rattle.mg_link.proofs.Watched.{IsWatched}
 
 -- ---- what a call heard
 
 -- nothing that it sent was lost or refused, and each success has a batch where one was asked for
-record IsServed (past : Past) : Type 0 where
+record IsServed (watched : ℤ → Type 0) (past : Past) : Type 0 where
   lost : (command : Fields) → HeardBy past command fault → ⊥
   refused : (command : Fields) (bytes : List ℕ) (wire : ℤ) (e : Error) → HeardBy past command (reply bytes) → FailsByReply (doc bytes) wire e → ⊥
-  honest : IsHonest past
+  honest : IsHonest watched past
 
 fails_as : (o : Option Fields) (wire : ℤ) (e : Error) → verdict_of (unwrap_or o no_fields) ≡ verdict.Success → FailsByReply o wire e → ⊥
 unfolding verdict_of
@@ -117,7 +118,7 @@ module _ (c : Course) (i k : ℕ) (begun calls : List Call) (wire : ℤ) (places
         reply_is = subst (λ (x : Sight). SeenFits x s.0.reply) h.heard.has_seen s.3;
       }
 
-  serves : IsServed (sent_at places calls wire)
+  serves : IsServed (IsWatched well.history) (sent_at places calls wire)
   serves = record {
     lost = never_lost;
     refused = λ command bytes wire e h fails. let t = taken command bytes h in fails_not bytes wire e (subst IsSuccess (sym t.reply_is) (prompt_success t.step t.at_once)) fails;
@@ -130,9 +131,9 @@ cannot_build size command e fits (inr by) = by
 
 -- ---- a call
 
-module _ (are_its : WatchArgs → Type 0) (fits : (args : WatchArgs) → are_its args → SizePasses args.options.batch_size → ⊥) (past : Past) (served : IsServed past) (at : Standing) (well : StandsWell are_its at) where
+module _ (watched : ℤ → Type 0) (are_its : WatchArgs → Type 0) (fits : (args : WatchArgs) → are_its args → SizePasses args.options.batch_size → ⊥) (past : Past) (served : IsServed watched past) (at : Standing) (well : StandsWell watched are_its at) where
   brings : (bytes : List ℕ) → HeardBy past (resume_command past.wire at) (reply bytes) → IsSuccess bytes → Brings bytes
-  brings bytes heard success = resumed_brings are_its past served.honest at well bytes heard success
+  brings bytes heard success = resumed_brings watched are_its past served.honest at well bytes heard success
 
   -- a failure is excused
   fails_well : (after : Standing) (e : Error) → CallFails past at after e → IsExcused are_its e
@@ -141,7 +142,7 @@ module _ (are_its : WatchArgs → Type 0) (fits : (args : WatchArgs) → are_its
   fails_well after e (causes.lost owes why is heard) = absurd (served.lost (resume_command past.wire at) (heard_by past (resume_command past.wire at) true fault heard))
   fails_well after e (causes.refused bytes owes why heard fails) = absurd (served.refused (resume_command past.wire at) bytes past.wire e (heard_by past (resume_command past.wire at) true (reply bytes) heard) fails)
   fails_well after e (causes.unread bytes owes why heard success breaks) = let b = brings bytes (heard_by past (resume_command past.wire at) true (reply bytes) heard) success in absurd (breaks_not (fields bytes) b.batch e b.there (inl breaks))
-  fails_well after e (causes.broken bytes upto owes r breaks) = let b = (replied_well are_its past served.honest at well true bytes after.cursor upto r).0 in absurd (breaks_not (fields bytes) b.batch e b.there (inr breaks))
+  fails_well after e (causes.broken bytes upto owes r breaks) = let b = (replied_well watched are_its past served.honest at well true bytes after.cursor upto r).0 in absurd (breaks_not (fields bytes) b.batch e b.there (inr breaks))
   fails_well after e (causes.cannot_resume owes why by) =
       inr (resume_command past.wire at, resumes at.aggregate past.wire well.args refl, cannot_build at.aggregate.args.options.batch_size (resume_command past.wire at) e (fits at.aggregate.args well.args) by)
   fails_well after e (causes.refused_more bytes heard fails final is) = absurd (served.refused (more_command at) bytes past.wire e heard.heard fails)
@@ -151,18 +152,18 @@ module _ (are_its : WatchArgs → Type 0) (fits : (args : WatchArgs) → are_its
         asks at.aggregate.args well.args at.cursor.id (space at.cursor.ns) (ap (λ (size : Option ℕ). get_more_command at.cursor.id (space at.cursor.ns) size) well.cursor.size_is),
         cannot_build at.cursor.batch_size (more_command at) e (λ passes. fits at.aggregate.args well.args (subst SizePasses well.cursor.size_is passes)) by,
       )
-  fails_well after e (causes.no_id event upto next lacks is behind settled) = let id = (next_well are_its past served.honest at well (event ∷ after.events) after.cursor upto next).0.0 in let has = id.1 in absurd cc
+  fails_well after e (causes.no_id event upto next lacks is behind settled) = let id = (next_well watched are_its past served.honest at well (event ∷ after.events) after.cursor upto next).0.0 in let has = id.1 in absurd cc
 
-  called_well : (answer : Answer) (after : Standing) → Called past at after (poll_of answer) → StandsWell are_its after × AnswerWell are_its answer
-  called_well (answers.Event event) after called = (gave_well are_its past served.honest at well after (fields event) called, tt)
-  called_well answers.Nothing after called = (empty_well are_its past served.honest at well after called.0 called.1, tt)
-  called_well (answers.Failed e) after called = (failed_well are_its past served.honest at well after e called, fails_well after e called.why)
+  called_well : (answer : Answer) (after : Standing) → Called past at after (poll_of answer) → StandsWell watched are_its after × AnswerWell are_its answer
+  called_well (answers.Event event) after called = (gave_well watched are_its past served.honest at well after (fields event) called, tt)
+  called_well answers.Nothing after called = (empty_well watched are_its past served.honest at well after called.0 called.1, tt)
+  called_well (answers.Failed e) after called = (failed_well watched are_its past served.honest at well after e called, fails_well after e called.why)
 
 -- ---- the opening
 
-module _ (are_its : WatchArgs → Type 0) (fits : (args : WatchArgs) → are_its args → SizePasses args.options.batch_size → ⊥) (past : Past) (served : IsServed past) (args : WatchArgs) (its : are_its args) where
+module _ (watched : ℤ → Type 0) (are_its : WatchArgs → Type 0) (fits : (args : WatchArgs) → are_its args → SizePasses args.options.batch_size → ⊥) (past : Past) (served : IsServed watched past) (args : WatchArgs) (its : are_its args) where
   opening_brings : (bytes : List ℕ) → HeardLast past (opening_command args) true (reply bytes) → IsSuccess bytes → Brings bytes
-  opening_brings bytes heard success = served.honest.watch (target args.target) args.pipeline.items args.options bytes (heard_by past (opening_command args) true (reply bytes) heard) success
+  opening_brings bytes heard success = (served.honest.watch (target args.target) args.pipeline.items args.options bytes (heard_by past (opening_command args) true (reply bytes) heard) success).0
 
   opening_well : (e : Error) → OpeningFails past args e → IsExcused are_its e
   opening_well e (openings.no_memory room) = inl room
@@ -173,21 +174,21 @@ module _ (are_its : WatchArgs → Type 0) (fits : (args : WatchArgs) → are_its
 
 -- ---- the closing
 
-kill_well : (are_its : WatchArgs → Type 0) (past : Past) (c : CursorInformation) (e : Error) → IsServed past → NotKilled past c (pos 0) e → IsExcused are_its e
-kill_well are_its past c e served (closings.no_memory room) = inl room
-kill_well are_its past c e served (closings.lost is heard) = absurd (served.lost (last_command c (pos 0)) (heard_by past (last_command c (pos 0)) false fault heard))
-kill_well are_its past c e served (closings.refused bytes heard fails) = absurd (served.refused (last_command c (pos 0)) bytes past.wire e (heard_by past (last_command c (pos 0)) false (reply bytes) heard) fails)
-kill_well are_its past c e served (closings.cannot_kill by) = inr (last_command c (pos 0), kills (space c.ns) (ids_left c.id (pos 0)) refl, by)
+kill_well : (watched : ℤ → Type 0) (are_its : WatchArgs → Type 0) (past : Past) (c : CursorInformation) (e : Error) → IsServed watched past → NotKilled past c (pos 0) e → IsExcused are_its e
+kill_well watched are_its past c e served (closings.no_memory room) = inl room
+kill_well watched are_its past c e served (closings.lost is heard) = absurd (served.lost (last_command c (pos 0)) (heard_by past (last_command c (pos 0)) false fault heard))
+kill_well watched are_its past c e served (closings.refused bytes heard fails) = absurd (served.refused (last_command c (pos 0)) bytes past.wire e (heard_by past (last_command c (pos 0)) false (reply bytes) heard) fails)
+kill_well watched are_its past c e served (closings.cannot_kill by) = inr (last_command c (pos 0), kills (space c.ns) (ids_left c.id (pos 0)) refl, by)
 
 -- ---- all calls
 
 module _ (c : Course) (i : ℕ) (begun calls : List Call) (wire : ℤ) (whole : length begun ≡ c.begun) (faultless : Faultless begun calls) (well : AnswersWell c i calls) (are_its : WatchArgs → Type 0) (fits : (args : WatchArgs) → are_its args → SizePasses args.options.batch_size → ⊥) where
-  calls_well : (at : Standing) (owns : List (List ℕ)) (said : List Answer) (last : Standing) → ((k : ℕ) (own : List ℕ) → slice_get owns k ≡ Some own → (n : ℕ) × AllSentIn c i n own) → Answered calls wire at owns said last → StandsWell are_its at
-      → StandsWell are_its last × AnswersAreWell are_its said
-  calls_well at [] [] last sent is stands = (subst (StandsWell are_its) (sym is) stands, tt)
+  calls_well : (at : Standing) (owns : List (List ℕ)) (said : List Answer) (last : Standing) → ((k : ℕ) (own : List ℕ) → slice_get owns k ≡ Some own → (n : ℕ) × AllSentIn c i n own) → Answered calls wire at owns said last → StandsWell (IsWatched well.history) are_its at
+      → StandsWell (IsWatched well.history) are_its last × AnswersAreWell are_its said
+  calls_well at [] [] last sent is stands = (subst (StandsWell (IsWatched well.history) are_its) (sym is) stands, tt)
   calls_well at (places ∷ owns) (answer ∷ said) last sent answered stands =
       let mine = sent 0 places refl in
-      let one = called_well are_its fits (sent_at places calls wire) (serves c i mine.0 begun calls wire places whole faultless well mine.1) at stands answer answered.0 answered.1 in
+      let one = called_well (IsWatched well.history) are_its fits (sent_at places calls wire) (serves c i mine.0 begun calls wire places whole faultless well mine.1) at stands answer answered.0 answered.1 in
       let more = calls_well answered.0 owns said last (λ k own there. sent (suc k) own there) answered.2 one.0 in
       (more.0, (more.1, one.1))
   calls_well at [] (answer ∷ said) last sent answered stands = absurd answered
@@ -198,13 +199,13 @@ never_unfinished count answered k pended (inl more) turns = omega arith
 never_unfinished count answered k pended (inr all) turns = omega arith
 
 module _ (awaited : Awaited) (c : Course) (i : ℕ) (begun calls : List Call) (wire : ℤ) (whole : length begun ≡ c.begun) (faultless : Faultless begun calls) (well : AnswersWell c i calls) where
-  served_so : {A : Type 0} (k : ℕ) (last : Standing) (closed : Ended A) (close : Closed c i k calls wire last closed) → IsServed (sent_at close.places calls wire)
+  served_so : {A : Type 0} (k : ℕ) (last : Standing) (closed : Ended A) (close : Closed c i k calls wire last closed) → IsServed (IsWatched well.history) (sent_at close.places calls wire)
   served_so k last closed close = serves c i k begun calls wire close.places whole faultless well close.sent
 
   closed_well : {A : Type 0} (are_its : WatchArgs → Type 0) (closed : Ended A) (count answered k : ℕ) (pended : Bool) (last : Standing) → OpenPlayed closed count answered k pended → suc count ≤ k → CloseCaused awaited c i count answered calls wire last closed → (answered ≡ count) × EndsWell are_its closed
   closed_well are_its ended.Unfinished count answered k pended last played turns close = absurd (never_unfinished count answered k pended played turns)
   closed_well are_its (ended.Gave x) count answered k pended last played turns close = (played.0, tt)
-  closed_well are_its (ended.Failed e) count answered k pended last played turns close = (played.0, kill_well are_its (sent_at close.places calls wire) last.cursor e (served_so answered last (ended.Failed e) close) close.by.why)
+  closed_well are_its (ended.Failed e) count answered k pended last played turns close = (played.0, kill_well (IsWatched well.history) are_its (sent_at close.places calls wire) last.cursor e (served_so answered last (ended.Failed e) close) close.by.why)
 
 -- ---- a follow
 
@@ -217,14 +218,14 @@ module _ (awaited : Awaited) (c : Course) (i : ℕ) (begun calls : List Call) (w
   open_well count k pended said token alive closed o played turns =
       let fits = size_fits on start filter batch small in
       let a = o.answers in
-      let stands = opened_well (IsArgsFor on start filter batch) (sent_at a.places calls wire) (honest_over well.history calls well.legal well.stands a.places wire) o.args o.args_are a.first a.opened in
+      let stands = opened_well (IsWatched well.history) (IsArgsFor on start filter batch) (sent_at a.places calls wire) (honest_over well.history calls well.legal well.stands a.places wire) o.args o.args_are a.first a.opened in
       let all = calls_well c i begun calls wire whole faultless well (IsArgsFor on start filter batch) fits a.first a.owns said o.last (λ k own there. (suc k, a.sent_each k own there)) a.answered stands in
       let end = closed_well awaited c i begun calls wire whole faultless well (IsArgsFor on start filter batch) closed count (length said) k pended o.last played turns o.close in
       record { all = end.0; answered = all.1; closes = end.1 }
 
   unopened_well : (e : Error) → OpenFailed c i calls wire on start filter batch e → IsExcused (IsArgsFor on start filter batch) e
   unopened_well e f =
-      opening_well (IsArgsFor on start filter batch) (size_fits on start filter batch small) (sent_at f.places calls wire) (serves c i 0 begun calls wire f.places whole faultless well f.sent) f.args f.args_are e f.fails
+      opening_well (IsWatched well.history) (IsArgsFor on start filter batch) (size_fits on start filter batch small) (sent_at f.places calls wire) (serves c i 0 begun calls wire f.places whole faultless well f.sent) f.args f.args_are e f.fails
 
   follow_well : {A : Type 0} (opened : Ended A) (count k : ℕ) (pended : Bool) (said : List Answer) (token : Option Tree) (alive : Bool) (closed : Ended A) → FollowCaused awaited c i count calls wire on start filter batch opened said token alive closed → FollowPlayed opened closed count (length said) alive k pended → suc count ≤ k
       → FollowWell (IsArgsFor on start filter batch) count opened said closed
@@ -248,7 +249,7 @@ module _ (awaited : Awaited) (c : Course) (i : ℕ) (begun calls : List Call) (w
         let fresh_there = subst (λ (s : State). AreFresh (documents_of s ns) piece) t.before_is (fresh t.position t.step ns piece t.is_own t.there asks) in
         never_lists t.step t.at_once ns piece asks fresh_there (length piece) k (subst (λ (b : List ℕ). ListsAs (length piece) (fields b) k) t.reply_is lists)
 
-    served : IsServed (sent_at places calls wire)
+    served : IsServed (IsWatched well.history) (sent_at places calls wire)
     served = serves c i 0 begun calls wire places whole faultless well sent
 
     insert_fails : (e : Error) → InsertFails (sent_at places calls wire) ns docs e → IsExcusedInsert ns docs e

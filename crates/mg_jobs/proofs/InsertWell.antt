@@ -1,10 +1,10 @@
 -- What a server that holds nothing back tells an insert of fresh documents: that all are inserted.
-use Rattle.std.proofs.Common.{◌≡◌, ℕ, suc, ℤ, pos, Bool, true, List, [], ◌∷◌, ◌++◌, length, map, Option, Some, None, Contains, option_map, Result, Ok, refl, sym, ap, ◌∙◌, subst, inl, inr, arith}
+use Rattle.std.proofs.Common.{◌≡◌, ℕ, suc, ℤ, pos, Bool, true, List, [], ◌∷◌, ◌++◌, length, map, Option, Some, None, Contains, option_map, Result, Ok, refl, sym, ap, ◌∙◌, subst, inl, inr, arith, false}
 use Rattle.std.specs.Prelude.{codes, option_and_then, unwrap_or, if◌then◌else◌}
 use Rattle.mg_bson.specs.Tree.{Tree, Fields, Items, no_items, item}
 use Rattle.mg_bson.specs.Find.{as_array, as_document, get}
 use Rattle.mg_bson.specs.Raw.{fields}
-use Rattle.mg_link.specs.Commands.{Asked, Failure, Told, as_integer, asked, asks_insert, documents_in, failure_of, failures_at, failures_by, garbled, inserted, inserted_by, told_by}
+use Rattle.mg_link.specs.Commands.{Asked, Failure, Told, as_integer, asked, asks_insert, documents_in, failure_of, failures_at, failures_by, garbled, inserted, inserted_by, told_by, keeps_grammar, within_grammar}
 use Rattle.mg_link.specs.History.{Step, step_after, told_at}
 use Rattle.mg_link.specs.Namespace.{Space}
 use Rattle.mg_link.specs.Prompt.{AnswersAtOnce, MeetsConcern, rule_failures}
@@ -53,6 +53,11 @@ module _ (s s' : State) (made : Made) (space : Space) (documents : List Fields) 
     ap (λ (z : ℤ). Some z) tells.0.count,
     ap (λ (l : List Failure). Some l) (none_within fs (λ f has. subst (λ (l : List Failure). Contains l f) (no_rule_failures s space documents fresh) (tells.1 f has))),
   )
+
+  -- a reply that breaks the grammar tells nothing
+  tells_within : (b : Bool) (o : Option Told) → TellsAtOnce (unwrap_or (if b then o else None) garbled) → TellsAtOnce (unwrap_or o garbled)
+  tells_within true o tells = tells
+  tells_within false o tells = absurd tells.0
 
 -- ---- and none is read from it
 
@@ -108,7 +113,7 @@ module _ (step : Step) (p : IsPrompted step) (space : Space) (documents : List F
     subst (λ (c : Asked). AnswersAtOnce p.before (step_after p.before step) c said) asks (subst (λ (t : Told). AnswersAtOnce p.before (step_after p.before step) (asked step.command) t) is p.prompt),
   )
 
-  told_inserted : told_at step ≡ unwrap_or (inserted_by (fields step.reply)) garbled
+  told_inserted : told_at step ≡ unwrap_or (within_grammar (fields step.reply) (inserted_by (fields step.reply))) garbled
   told_inserted = told_so step (lawful step p) verdict.Success (prompt_success step p) ∙ ap (λ (c : Asked). told_by verdict.Success c (fields step.reply)) asks
 
   -- it is no failure
@@ -117,5 +122,5 @@ module _ (step : Step) (p : IsPrompted step) (space : Space) (documents : List F
   never_lists count k lists =
       let met = subst (λ (c : Asked). MeetsConcern c step.reply) asks p.met in
       let said : Fields = fields step.reply in
-      let all = tells_all p.before (step_after p.before step) step.made space documents (option_and_then as_integer (get (codes "n") said)) (failures_at (get (codes "writeErrors") said)) fresh (tells_at_once (unwrap_or (inserted_by said) garbled) told_inserted) in
+      let all = tells_all p.before (step_after p.before step) step.made space documents (option_and_then as_integer (get (codes "n") said)) (failures_at (get (codes "writeErrors") said)) fresh (tells_within p.before (step_after p.before step) step.made space documents (keeps_grammar said) (inserted_by said) (tells_at_once (unwrap_or (within_grammar said (inserted_by said)) garbled) told_inserted)) in
       lists_not count said all.0 k (record { counted = reads_count said all.0 all.1; none_failed = reads_none (last_index count) said all.2 met }) lists

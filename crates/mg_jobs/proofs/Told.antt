@@ -58,6 +58,7 @@ use Rattle.mg_jobs.proofs.InsertTelling.{ends_of, insert_tells_grow, none_done, 
 use Rattle.mg_jobs.proofs.Telling.{grows_ended, grows_later, sent_since, since_is, tells_at, tells_later, tells_same}
 use Rattle.mg_jobs.proofs.Turning.{failed_not_unfinished, follow_followed, unfinished_not_given}
 use Rattle.mg_jobs.proofs.Vainly.{nothing_at, outcome_vain}
+use Rattle.mg_link.proofs.Watched.{IsWatched}
 
 -- ---- jobs that stay the same
 
@@ -442,7 +443,7 @@ module _ (awaited : Awaited) (c : Course) (i : ℕ) (calls : List Call) (wire : 
         followed = followed_by owner t.opened.heard.place t.given t.here plays;
         identified = λ history legal stands.
             calls_identified history calls wire legal stands IsIts t.first q.owns job.answers.items last t.answered
-            (opened_well IsIts (sent_at q.opened calls wire) (honest_over history calls legal stands q.opened wire) t.args t.args_are t.first t.opened);
+            (opened_well (IsWatched history) IsIts (sent_at q.opened calls wire) (honest_over history calls legal stands q.opened wire) t.args t.args_are t.first t.opened);
       })
 
   end_caused : (count : ℕ) (q : Places) (o : Ended (Unit {0})) → o ≡ job.opened → token ≡ job.token → AllSent c i q (length job.answers.items) → (IsUnfinished o → ⊥) → TellsEnd calls wire q (kept job) at o → Caused count o

@@ -7,9 +7,9 @@ use Rattle.mg_bson.specs.Bytes.{bytes, levels}
 use Rattle.mg_bson.specs.Raw.{fields}
 use Rattle.mg_link.specs.Namespace.{Space, collection}
 use Rattle.mg_link.specs.Filter.{Condition}
-use Rattle.mg_link.specs.State.{Entry, Watch, Cursor, query, watching, State, events_between, start_place}
+use Rattle.mg_link.specs.State.{Entry, Watch, Cursor, query, watching, State, events_between, start_place, inserts}
 use Rattle.mg_link.specs.Commands.{Asked, asks_insert, asks_watch, asks_more, asks_kill, Failure, Told, refuses, inserted, opened, gave, killed, asked, told}
-use Rattle.mg_link.specs.Step.{Made, grown, effect, next, documents_of, written, opened_cursor, HaveNewIds, AreInsertEvents, MayGive, May}
+use Rattle.mg_link.specs.Step.{Made, grown, effect, next, documents_of, written, opened_cursor, HaveNewIds, AreEventsOf, MayGive, May, watching_at}
 use Rattle.mg_link.specs.Events.{TellInserts, TellsWritten}
 use Rattle.mg_link.specs.Rules.{Request, insert, watch, more, kill, request_of, token_of, token_place, now_of, Inserted, inserting, inserted_reply, batch_place, Answer, answer_with, answer_insert, place_at, watch_reply, more_reply, is_watch_of, answer_more, killed_reply, size_of, answer, no_such_token, bad_request, max_reply, or_code, map_ok, and_then, refusal, refused, fitting, answer_of}
 use Rattle.mg_link.specs.Kept.{made_by, made_none, made_these, given_by, IsCollection, IsStoreState, Kept, IsAllowed, made_of, given_after, rule_entries}
@@ -53,7 +53,7 @@ insert_fits s given started space ds ordered i failures h is lt =
         tells = record {
           count = ap (λ (l : List Fields). pos (length l)) (sym same);
           ids = subst (HaveNewIds (documents_of s space)) (sym same) is.ids_are;
-          entries = subst (λ (l : List Fields). AreInsertEvents space l i.entries) (sym same) is.events_are;
+          entries = subst (λ (l : List Fields). AreEventsOf space inserts l i.entries) (sym same) is.events_are;
         };
       };
       tells = subst (λ (l : List Fields). TellInserts space l i.entries) (sym same) is.tell_of;
@@ -133,7 +133,7 @@ watch_fits s given started space filter resume_after from size h at w is lt =
         };
       };
       tells = tt;
-      stays = subst (λ (b : Bool). IsStoreState (opened_cursor s' w (pos (suc given)) (Some token)) (if b then given else suc given) true) (sym (not_zero given)) opens;
+      stays = subst (λ (b : Bool). IsStoreState (opened_cursor s' (pos (suc given)) (watching_at s' w (Some token))) (if b then given else suc given) true) (sym (not_zero given)) opens;
     }
 
 pub more_fits : (s : State) (given : ℕ) (started : Bool) (id : ℤ) (space : Space) (w : Watch) (from size : ℕ) → IsStoreState s given started → s.cursors id ≡ Some (watching w from)
@@ -150,17 +150,17 @@ more_fits s given started id space w from size h stood lt =
     record {
       may = record {
         grows = grows_these s given started [] h tt lt;
-        tells = record {
+        tells = inl (record {
           no_entry = refl;
           watch = w;
           at = from;
           stood = stood;
           batch = gives s s' given w from size id state same le (omega arith);
           same = inl refl;
-        };
+        });
       };
       tells = tt;
-      stays = moved_is s' given id id w from (token_of (batch_place w s.changes from size)) (batch_place w s.changes from size) state (grown_cursors s (made_these s started []) id ∙ stood) named (omega arith);
+      stays = moved_is s' given id id w from (events_between w s.changes from (batch_place w s.changes from size)) (token_of (batch_place w s.changes from size)) (batch_place w s.changes from size) state (grown_cursors s (made_these s started []) id ∙ stood) named (omega arith);
     }
 
 pub kill_fits : (s : State) (given : ℕ) (started : Bool) (ids : List ℤ) → IsStoreState s given started → FitsWithin s given started (asks_kill ids) killed []
@@ -194,7 +194,7 @@ insert_answers s given started space ds ordered h =
     let is = inserting_is space ordered 0 (length s.changes) (documents_of s space) ds in
     let failures : List Failure = failing ordered 0 (documents_of s space) ds in
     retold s given started (insert space ds ordered) (answer_insert s space ds ordered) (inserted (pos (length i.documents)) failures)
-    (λ reply e. told_reads (asks_insert space ds ordered) reply (inserted_reply i) e ∙ insert_tells space ds ordered i failures is.failures_are)
+    (λ reply e. told_reads (asks_insert space ds ordered) reply (inserted_reply i) e ∙ insert_tells space ds ordered i failures is.failures_are is.errors_keep)
     (insert_fits s given started space ds ordered i failures h is)
 
 abbrev watch_on : Space → List Condition → Watch

@@ -1,5 +1,5 @@
 -- What the replies to a getMore and to an aggregate that opens a watch tell, right behind their steps.
-use Rattle.std.proofs.Common.{◌≡◌, ◌≢◌, ℕ, zero, suc, ◌<◌, ◌≤◌, ℤ, pos, Bool, true, false, List, [], ◌∷◌, length, Option, Some, None, refl, sym, ap, ◌∙◌, subst, inl, inr, arith}
+use Rattle.std.proofs.Common.{◌≡◌, ◌≢◌, ℕ, zero, suc, ◌<◌, ◌≤◌, ℤ, pos, Bool, true, false, List, [], ◌∷◌, length, Option, Some, None, refl, sym, ap, ◌∙◌, subst, inl, inr, arith, ◌++◌}
 use Rattle.std.specs.Prelude.{if◌then◌else◌, unwrap_or}
 use Rattle.std.specs.Ordering.{int_eq}
 use Rattle.std.proofs.lemmas.Bool.{cases_eq, cond_both}
@@ -7,7 +7,7 @@ use Rattle.std.proofs.lemmas.Bool.Decides.{Decides-int_eq}
 use Rattle.mg_bson.specs.Tree.{Tree, Fields}
 use Rattle.mg_link.specs.Namespace.{Space}
 use Rattle.mg_link.specs.State.{Entry, Cursor, watching, query, State, Watch, Start, nowhere, after, at_time, count_before, start_place, events_between, put_cursor, give}
-use Rattle.mg_link.specs.Commands.{Told, refuses, inserted, opened, gave, killed, garbled, asks_watch, asks_more}
+use Rattle.mg_link.specs.Commands.{Told, refuses, inserted, opened, gave, killed, garbled, asks_watch, asks_more, updated, deleted, done}
 use Rattle.mg_link.specs.Step.{IsNamed, Made, effect, watching_at, moved, opened_cursor, moved_cursor, ends_cursor, MayGive, MayTell}
 use Rattle.mg_link.specs.Follow.{CursorAt, Brings, AfterMore, IsBegun}
 use Rattle.mg_link.proofs.Histories.{effect-changes}
@@ -55,20 +55,21 @@ here_put id c cursors = ap (λ (b : Bool). if b then c else cursors id) ((Decide
 
 -- ---- getMore
 
-more_at : (s' : State) (w : Watch) (c : ℤ) (place upto : ℕ) (token : Option Tree) (b : Bool) (d : Cursor) → s'.cursors c ≡ Some (watching w place) → IsNamed s' token upto → (if b then None else moved s' token (s'.cursors c)) ≡ Some d → d ≡ watching w upto
-more_at s' w c place upto token true d stood named h = absurd cc
-more_at s' w c place upto token false d stood named h = same_some d (watching w upto) (sym h ∙ ap (moved s' token) stood ∙ ap Some (placed_at s' w token upto named))
+more_at : (s' : State) (w : Watch) (c : ℤ) (place upto : ℕ) (events : List Fields) (token : Option Tree) (b : Bool) (d : Cursor) → s'.cursors c ≡ Some (watching w place) → IsNamed s' token upto → (if b then None else moved s' events token (s'.cursors c)) ≡ Some d → d ≡ watching w upto
+more_at s' w c place upto events token true d stood named h = absurd cc
+more_at s' w c place upto events token false d stood named h = same_some d (watching w upto) (sym h ∙ ap (moved s' events token) stood ∙ ap Some (placed_at s' w token upto named))
 
 pub more_step : (s s' : State) (w : Watch) (c : ℤ) (place : ℕ) (space : Space) (said : Told) (made : Made) → s'.cursors ≡ s.cursors → MayTell s s' (asks_more c space) said made → c ≢ pos 0 → CursorAt s w c place → AfterMore (effect s' (asks_more c space) said) w c place said
 unfolding effect
-more_step s s' w c place space (gave left other events token) made same may nz at =
+more_step s s' w c place space (gave left other events token) made same (inr may) nz at = let bad : query may.space (events ++ may.left) ≡ watching w place = at (query may.space (events ++ may.left)) nz may.stood in absurd cc
+more_step s s' w c place space (gave left other events token) made same (inl may) nz at =
     let stood' : watching may.watch may.at ≡ watching w place = at (watching may.watch may.at) nz may.stood in
     let two = same_watching may.watch w may.at place stood' in
     let g : MayGive s' w place left events token = subst (λ (v : Watch). MayGive s' v place left events token) two.0 (subst (λ (n : ℕ). MayGive s' may.watch n left events token) two.1 may.batch) in
     let there : s'.cursors c ≡ Some (watching w place) = ap (λ (f : ℤ → Option Cursor). f c) same ∙ may.stood ∙ ap Some stood' in
-    let n : State = moved_cursor s' c left token in (
+    let n : State = moved_cursor s' c left events token in (
       brings_by s' n w place c left events token refl refl g
-          (λ d ne h. more_at s' w c place g.upto token (int_eq left (pos 0)) d there g.named (sym (here_put c (if int_eq left (pos 0) then None else moved s' token (s'.cursors c)) s'.cursors) ∙ h)),
+          (λ d ne h. more_at s' w c place g.upto events token (int_eq left (pos 0)) d there g.named (sym (here_put c (if int_eq left (pos 0) then None else moved s' events token (s'.cursors c)) s'.cursors) ∙ h)),
       may.same,
     )
 more_step s s' w c place space (refuses code labels) made same may nz at =
@@ -76,13 +77,16 @@ more_step s s' w c place space (refuses code labels) made same may nz at =
     (λ e d ne h. let bad : Some d ≡ None = sym h ∙ here_put c None s'.cursors in absurd cc)
     (λ e d ne h. at d ne (sym (ap (λ (f : ℤ → Option Cursor). f c) same) ∙ h))
 more_step s s' w c place space (inserted n failures) made same may nz at = absurd may
+more_step s s' w c place space (updated n changed failures) made same may nz at = absurd may
+more_step s s' w c place space (deleted n failures) made same may nz at = absurd may
+more_step s s' w c place space done made same may nz at = absurd may
 more_step s s' w c place space (opened id other events token time) made same may nz at = absurd may
 more_step s s' w c place space killed made same may nz at = absurd may
 more_step s s' w c place space garbled made same may nz at = absurd may
 
 -- ---- aggregates that open a watch
 
-opened_at : (s' : State) (w : Watch) (id : ℤ) (token : Option Tree) (upto : ℕ) → IsNamed s' token upto → CursorAt (opened_cursor s' w id token) w id upto
+opened_at : (s' : State) (w : Watch) (id : ℤ) (token : Option Tree) (upto : ℕ) → IsNamed s' token upto → CursorAt (opened_cursor s' id (watching_at s' w token)) w id upto
 opened_at s' w id token upto named =
     cond_both (int_eq id (pos 0)) s' (record s' { cursors = put_cursor id (Some (watching_at s' w token)) s'.cursors; given = give id s'.given }) (λ (n : State). CursorAt n w id upto)
     (λ e d ne h. absurd (ne ((Decides-int_eq id (pos 0)).0 e)))
@@ -99,6 +103,9 @@ abbrev pub WasOpened : State → State → Watch → Start → Told → Type 0
 WasOpened s' n w start (opened id space events token time) = OpenedAs s' n w start id events token
 WasOpened s' n w start (refuses code labels) = Unit {0}
 WasOpened s' n w start (inserted m failures) = ⊥
+WasOpened s' n w start (updated m changed failures) = ⊥
+WasOpened s' n w start (deleted m failures) = ⊥
+WasOpened s' n w start done = ⊥
 WasOpened s' n w start (gave id space events token) = ⊥
 WasOpened s' n w start killed = ⊥
 WasOpened s' n w start garbled = ⊥
@@ -151,6 +158,9 @@ open_step s s' w start (opened id space events token time) made timed may =
     record { from = may.from; begins = begins; begun = begun_by n w start may.from id events token timed begins brings; brings = brings }
 open_step s s' w start (refuses code labels) made timed may = tt
 open_step s s' w start (inserted m failures) made timed may = absurd may
+open_step s s' w start (updated m changed failures) made timed may = absurd may
+open_step s s' w start (deleted m failures) made timed may = absurd may
+open_step s s' w start done made timed may = absurd may
 open_step s s' w start (gave id space events token) made timed may = absurd may
 open_step s s' w start killed made timed may = absurd may
 open_step s s' w start garbled made timed may = absurd may

@@ -7,7 +7,7 @@ use Rattle.mg_bson.specs.Raw.{fields}
 use Rattle.mg_link.specs.Namespace.{Space, collection}
 use Rattle.mg_link.specs.Filter.{Condition}
 use Rattle.mg_link.specs.State.{Entry, Watch, Cursor, watching, Collection, State, collection_in, documents_at, events_between, put_cursor, without_cursors}
-use Rattle.mg_link.specs.Commands.{Asked, asks_insert, asks_watch, asks_more, asks_kill, asks_other, Failure, Told, refuses, inserted, opened, gave, killed, asked, told}
+use Rattle.mg_link.specs.Commands.{Asked, asks_insert, asks_watch, asks_more, asks_kill, Failure, Told, refuses, inserted, opened, gave, killed, asked, told}
 use Rattle.mg_link.specs.Step.{grown, effect, next, documents_of, written, ends_cursor, watching_at, moved}
 use Rattle.mg_link.specs.Rules.{insert, watch, more, kill, request_of, token_of, now_of, Inserted, inserting, inserted_reply, batch_place, Answer, answer_with, answer_insert, place_at, watch_reply, more_reply, killed_reply, refusal, answer_of}
 use Rattle.mg_link.specs.Kept.{made_by, made_none, made_these, given_by, IsStoreState, Kept, made_of, given_after, rule_entries, state_behind}
@@ -50,10 +50,7 @@ parts_by s given started kept command t entries documents changes cursors given'
 -- a refusal with code 43 or 237 ends the cursor that the command names
 abbrev pub cursors_refused : Asked → ℤ → (ℤ → Option Cursor) → ℤ → Option Cursor
 cursors_refused (asks_more id space) code cursors = if ends_cursor code then put_cursor id None cursors else cursors
-cursors_refused (asks_insert space documents ordered) code cursors = cursors
-cursors_refused (asks_watch w start) code cursors = cursors
-cursors_refused (asks_kill ids) code cursors = cursors
-cursors_refused asks_other code cursors = cursors
+cursors_refused command code cursors = cursors
 
 more_refused : (b : Bool) (s : State) (given : ℕ) (id : ℤ) (documents : Space → Option (List Fields)) (changes : List Entry) → Parts s given documents changes s.cursors given
     → Parts (if b then record s { cursors = put_cursor id None s.cursors } else s) given documents changes (if b then put_cursor id None s.cursors else s.cursors) given
@@ -67,10 +64,7 @@ none_grown s given started = record { documents_are = λ sp. refl; changes_are =
 refused_parts : (s : State) (given : ℕ) (started : Bool) (command : Asked) (code : ℤ) (labels : List (List ℕ)) (entries : List Entry) → PartsBy s given started command (refuses code labels) entries (documents_at s) s.changes (cursors_refused command code s.cursors) given
 unfolding effect grown
 refused_parts s given started (asks_more id space) code labels entries = more_refused (ends_cursor code) (grown s (made_none s started)) given id (documents_at s) s.changes (none_grown s given started)
-refused_parts s given started (asks_insert space documents ordered) code labels entries = none_grown s given started
-refused_parts s given started (asks_watch w start) code labels entries = none_grown s given started
-refused_parts s given started (asks_kill ids) code labels entries = none_grown s given started
-refused_parts s given started asks_other code labels entries = none_grown s given started
+refused_parts s given started command code labels entries = none_grown s given started
 
 -- behind a refusal, of the rules or of somebody's choice
 pub behind_refusal : (s : State) (given : ℕ) (started : Bool) (kept : Kept) (code : ℤ) (labels : List (List ℕ)) → fields kept.reply ≡ refusal code labels
@@ -104,7 +98,7 @@ behind_insert s given started kept space ds ordered asks answers e =
     let failures : List Failure = failing ordered 0 (documents_of s space) ds in
     parts_by s given started kept (asks_insert space ds ordered) (inserted (pos (length i.documents)) failures) i.entries (put_documents space (Some (documents_of s space ++ i.documents)) (documents_at s)) (s.changes ++ i.entries) s.cursors given
     (asked_is kept.command (insert space ds ordered) asks)
-    (told_reads (asks_insert space ds ordered) kept.reply (inserted_reply i) e ∙ insert_tells space ds ordered i failures is.failures_are)
+    (told_reads (asks_insert space ds ordered) kept.reply (inserted_reply i) e ∙ insert_tells space ds ordered i failures is.failures_are is.errors_keep)
     (ap (λ (a : Answer). a.entries) answers)
     (insert_parts s given started space ds ordered (pos (length i.documents)) failures i (is.written_are failures (λ m le. refl)))
 
@@ -171,8 +165,8 @@ unfolding effect
 more_parts s given started id space at w from place events h lt le stood =
     let s' : State = grown s (made_these s started []) in
     let there : s'.cursors id ≡ Some (watching w from) = ap (λ (f : ℤ → Option Cursor). f id) (grown_cursors_same s started) ∙ stood in
-    let moves : moved s' (Some (token_of place)) (s'.cursors id) ≡ Some (watching w place) = ap (moved s' (Some (token_of place))) there ∙ ap Some (watching_known s given started w place h lt le) in
-    moved_parts (int_eq id (pos 0)) s s' given id (moved s' (Some (token_of place)) (s'.cursors id)) (watching w place) (is_zero_no given id (h.cursors_are id (watching w from) stood).1) moves (grown_same s started) (grown_changes s started) (grown_cursors_same s started)
+    let moves : moved s' events (Some (token_of place)) (s'.cursors id) ≡ Some (watching w place) = ap (moved s' events (Some (token_of place))) there ∙ ap Some (watching_known s given started w place h lt le) in
+    moved_parts (int_eq id (pos 0)) s s' given id (moved s' events (Some (token_of place)) (s'.cursors id)) (watching w place) (is_zero_no given id (h.cursors_are id (watching w from) stood).1) moves (grown_same s started) (grown_changes s started) (grown_cursors_same s started)
 
 pub behind_more : (s : State) (given : ℕ) (started : Bool) (kept : Kept) (id : ℤ) (space : Space) (size : Option ℕ) (w : Watch) (from n : ℕ) → IsStoreState s given started → length s.changes < 2 ^ 64
     → request_of (fields kept.command) ≡ Ok (more id space size) → s.cursors id ≡ Some (watching w from)

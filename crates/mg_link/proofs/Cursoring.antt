@@ -4,9 +4,9 @@ use Rattle.std.specs.Prelude.{if◌then◌else◌, nat_lt, unwrap_or}
 use Rattle.std.specs.Ordering.{int_eq}
 use Rattle.std.proofs.lemmas.Bool.{cases_Bool, cases_eq, false_from_ne_true, lt-ltb, le-ltb}
 use Rattle.std.proofs.lemmas.Bool.Decides.{Decides-int_eq, nat_tests}
-use Rattle.mg_bson.specs.Tree.{Tree}
+use Rattle.mg_bson.specs.Tree.{Tree, Fields}
 use Rattle.mg_link.specs.State.{Watch, Cursor, watching, Collection, State, put_cursor, without_cursors, give}
-use Rattle.mg_link.specs.Commands.{Asked, asks_insert, asks_watch, asks_more, asks_kill, asks_other, refuses}
+use Rattle.mg_link.specs.Commands.{Asked, asks_more, refuses}
 use Rattle.mg_link.specs.Step.{effect, watching_at, opened_cursor, moved, moved_cursor, ends_cursor}
 use Rattle.mg_link.specs.Kept.{IsCollection, IsStoreCursor, IsStoreState, is_given}
 
@@ -25,7 +25,7 @@ cursors_by : (s : State) (given : ℕ) (started : Bool) (cursors : ℤ → Optio
 cursors_by s given started cursors h are = record { entries_are = h.entries_are; tokens_are = h.tokens_are; ids_are = h.ids_are; cursors_are = are; time_is = h.time_is; empty_before = h.empty_before }
 
 -- a cursor that is put stands where it was put, and the others stay
-put_is : (id : ℤ) (o : Option Cursor) (cursors : ℤ → Option Cursor) (other : ℤ) (c : Cursor) → put_cursor id o cursors other ≡ Some c → ((other ≡ id) × (o ≡ Some c)) ⊎ (cursors other ≡ Some c)
+pub put_is : (id : ℤ) (o : Option Cursor) (cursors : ℤ → Option Cursor) (other : ℤ) (c : Cursor) → put_cursor id o cursors other ≡ Some c → ((other ≡ id) × (o ≡ Some c)) ⊎ (cursors other ≡ Some c)
 put_is id o cursors other c h =
     elim (cases_Bool (int_eq other id)) [
       | inl same ↦ inl (same_int other id same, sym (ap (λ (b : Bool). if b then o else cursors other) same) ∙ h)
@@ -103,7 +103,7 @@ opened_state s given w place h target le = record {
 
 -- the next id is given to a cursor at a place that the token names
 pub opened_is : (s : State) (given : ℕ) (w : Watch) (token : Tree) (place : ℕ) → IsStoreState s given true → IsCollection w.target → s.tokens token ≡ Some place → place ≤ length s.changes
-    → IsStoreState (opened_cursor s w (pos (suc given)) (Some token)) (suc given) true
+    → IsStoreState (opened_cursor s (pos (suc given)) (watching_at s w (Some token))) (suc given) true
 opened_is s given w token place h target named le =
     let e : watching w place ≡ watching_at s w (Some token) = ap (λ (o : Option ℕ). watching w (unwrap_or o 0)) (sym named) in
     let opened = subst (λ (c : Cursor). IsStoreState (record s { cursors = put_cursor (pos (suc given)) (Some c) s.cursors; given = give (pos (suc given)) s.given }) (suc given) true) e (opened_state s given w place h target le) in
@@ -112,23 +112,23 @@ opened_is s given w token place h target named le =
 -- ---- a cursor moves
 
 -- the cursor moves to a place that the token names
-pub moved_is : (s : State) (given : ℕ) (id left : ℤ) (w : Watch) (at : ℕ) (token : Tree) (place : ℕ) → IsStoreState s given true → s.cursors id ≡ Some (watching w at) → s.tokens token ≡ Some place → place ≤ length s.changes
-    → IsStoreState (moved_cursor s id left (Some token)) given true
-moved_is s given id left w at token place h there named le =
+pub moved_is : (s : State) (given : ℕ) (id left : ℤ) (w : Watch) (at : ℕ) (events : List Fields) (token : Tree) (place : ℕ) → IsStoreState s given true → s.cursors id ≡ Some (watching w at) → s.tokens token ≡ Some place → place ≤ length s.changes
+    → IsStoreState (moved_cursor s id left events (Some token)) given true
+moved_is s given id left w at events token place h there named le =
     let old = h.cursors_are id (watching w at) there in
-    let now_at : moved s (Some token) (s.cursors id) ≡ Some (watching w place) = ap (moved s (Some token)) there ∙ ap (λ (o : Option ℕ). Some (watching w (unwrap_or o 0))) named in
-    cursor_put s given true id (if int_eq left (pos 0) then None else moved s (Some token) (s.cursors id)) h (λ c e.
+    let now_at : moved s events (Some token) (s.cursors id) ≡ Some (watching w place) = ap (moved s events (Some token)) there ∙ ap (λ (o : Option ℕ). Some (watching w (unwrap_or o 0))) named in
+    cursor_put s given true id (if int_eq left (pos 0) then None else moved s events (Some token) (s.cursors id)) h (λ c e.
     elim (cases_Bool (int_eq left (pos 0))) [
-      | inl ends ↦ let f : None ≡ Some c = sym (ap (λ (b : Bool). if b then None else moved s (Some token) (s.cursors id)) ends) ∙ e in absurd cc
+      | inl ends ↦ let f : None ≡ Some c = sym (ap (λ (b : Bool). if b then None else moved s events (Some token) (s.cursors id)) ends) ∙ e in absurd cc
       | inr stays ↦
-          let f : moved s (Some token) (s.cursors id) ≡ Some c = sym (ap (λ (b : Bool). if b then None else moved s (Some token) (s.cursors id)) stays) ∙ e in
+          let f : moved s events (Some token) (s.cursors id) ≡ Some c = sym (ap (λ (b : Bool). if b then None else moved s events (Some token) (s.cursors id)) stays) ∙ e in
           let g : watching w place ≡ c = cc in
           (subst (IsStoreCursor (length s.changes)) g (old.0.0, le), old.1)
     ])
 
 -- ---- cursors are killed
 
-kept_from : (ids : List ℤ) (cursors : ℤ → Option Cursor) (id : ℤ) (c : Cursor) → without_cursors ids cursors id ≡ Some c → cursors id ≡ Some c
+pub kept_from : (ids : List ℤ) (cursors : ℤ → Option Cursor) (id : ℤ) (c : Cursor) → without_cursors ids cursors id ≡ Some c → cursors id ≡ Some c
 kept_from [] cursors id c h = h
 kept_from (x ∷ ids) cursors id c h =
     elim (put_is x None cursors id c (kept_from ids (put_cursor x None cursors) id c h)) [ inl here ↦ absurd (let e : None ≡ Some c = here.1 in cc) | inr before ↦ before ]
@@ -144,8 +144,5 @@ refused_more false s given id h = h
 
 pub refused_is : (s : State) (given : ℕ) (command : Asked) (code : ℤ) (labels : List (List ℕ)) → IsStoreState s given true → IsStoreState (effect s command (refuses code labels)) given true
 unfolding effect
-refused_is s given (asks_insert space documents ordered) code labels h = h
-refused_is s given (asks_watch w start) code labels h = h
 refused_is s given (asks_more id space) code labels h = refused_more (ends_cursor code) s given id h
-refused_is s given (asks_kill ids) code labels h = h
-refused_is s given asks_other code labels h = h
+refused_is s given command code labels h = h

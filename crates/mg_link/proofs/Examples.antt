@@ -12,7 +12,7 @@ use Rattle.mg_link.specs.Reply.{verdict_of}
 use Rattle.mg_link.specs.Step.{next, effect, grown}
 use Rattle.mg_link.specs.History.{state_of, state_after}
 use Rattle.mg_link.specs.Kept.{Kept, made_of, made_by, given_after, given_by, state_behind, steps_from, steps_of}
-use Rattle.mg_link.specs.Rules.{answer_of, watch_request, insert_request, more_request, kill_request, named_space, batch_size, full_behind, inserting}
+use Rattle.mg_link.specs.Rules.{answer_of, watch_request, insert_request, more_request, kill_request, named_space, full_behind, inserting}
 use Rattle.mg_link.specs.Example.{app_c, watch, x_1, x_2, opens, inserts_two, asks_more, kills, token_2, event_1, event_2, opened, inserted_two, gave_two, killed, IsStep, entry_1, entry_2, IsExample}
 
 abbrev asked_of : Fields → Asked
@@ -63,61 +63,61 @@ given_3 = refl
 -- ---- the states
 
 opening_is : start_place state_1 nowhere ≡ Some 0
-unfolding commands.watch_of commands.space_at commands.batch_of verdict_of answer_of watch_request named_space batch_size effect grown full_behind le32 le64 encode_with digits
+unfolding commands.watch_of commands.space_at commands.batch_of verdict_of answer_of watch_request named_space commands.batch_size effect grown full_behind le32 le64 encode_with digits
 opening_is = refl
 
 cursor_1 : state_1.cursors (pos 1) ≡ Some (watching watch 0)
-unfolding commands.watch_of commands.space_at commands.batch_of verdict_of answer_of watch_request named_space batch_size effect grown full_behind le32 le64 encode_with digits
+unfolding commands.watch_of commands.space_at commands.batch_of verdict_of answer_of watch_request named_space commands.batch_size effect grown full_behind le32 le64 encode_with digits
 cursor_1 = refl
 
 documents_2 : documents_at state_2 app_c ≡ Some (x_1 ∷ x_2 ∷ [])
-unfolding commands.watch_of commands.space_at commands.batch_of verdict_of answer_of watch_request named_space batch_size effect grown full_behind le32 le64 encode_with digits commands.insert_of commands.inserted_by insert_request inserting
+unfolding commands.watch_of commands.space_at commands.batch_of verdict_of answer_of watch_request named_space commands.batch_size effect grown full_behind le32 le64 encode_with digits commands.insert_of commands.inserted_by insert_request inserting
 documents_2 = refl
 
 changes_2 : state_2.changes ≡ entry_1 ∷ entry_2 ∷ []
-unfolding commands.watch_of commands.space_at commands.batch_of verdict_of answer_of watch_request named_space batch_size effect grown full_behind le32 le64 encode_with digits commands.insert_of commands.inserted_by insert_request inserting
+unfolding commands.watch_of commands.space_at commands.batch_of verdict_of answer_of watch_request named_space commands.batch_size effect grown full_behind le32 le64 encode_with digits commands.insert_of commands.inserted_by insert_request inserting
 changes_2 = refl
 
 cursor_2 : state_2.cursors (pos 1) ≡ Some (watching watch 0)
-unfolding commands.watch_of commands.space_at commands.batch_of verdict_of answer_of watch_request named_space batch_size effect grown full_behind le32 le64 encode_with digits commands.insert_of commands.inserted_by insert_request inserting
+unfolding commands.watch_of commands.space_at commands.batch_of verdict_of answer_of watch_request named_space commands.batch_size effect grown full_behind le32 le64 encode_with digits commands.insert_of commands.inserted_by insert_request inserting
 cursor_2 = refl
 
 cursor_3 : state_3.cursors (pos 1) ≡ Some (watching watch 2)
-unfolding commands.watch_of commands.space_at commands.batch_of verdict_of answer_of watch_request named_space batch_size effect grown full_behind le32 le64 encode_with digits commands.insert_of commands.inserted_by insert_request inserting commands.more_of more_request
+unfolding commands.watch_of commands.space_at commands.batch_of verdict_of answer_of watch_request named_space commands.batch_size effect grown full_behind le32 le64 encode_with digits commands.insert_of commands.inserted_by insert_request inserting commands.more_of more_request
 cursor_3 = refl
 
 cursor_4 : state_4.cursors (pos 1) ≡ None
-unfolding commands.watch_of commands.space_at commands.batch_of verdict_of answer_of watch_request named_space batch_size effect grown full_behind le32 le64 encode_with digits commands.insert_of commands.inserted_by insert_request inserting commands.more_of more_request commands.kill_of kill_request
+unfolding commands.watch_of commands.space_at commands.batch_of verdict_of answer_of watch_request named_space commands.batch_size effect grown full_behind le32 le64 encode_with digits commands.insert_of commands.inserted_by insert_request inserting commands.more_of more_request commands.kill_of kill_request
 cursor_4 = refl
 
 given_4 : state_4.given (pos 1) ≡ true
-unfolding commands.watch_of commands.space_at commands.batch_of verdict_of answer_of watch_request named_space batch_size effect grown full_behind le32 le64 encode_with digits commands.insert_of commands.inserted_by insert_request inserting commands.more_of more_request commands.kill_of kill_request
+unfolding commands.watch_of commands.space_at commands.batch_of verdict_of answer_of watch_request named_space commands.batch_size effect grown full_behind le32 le64 encode_with digits commands.insert_of commands.inserted_by insert_request inserting commands.more_of more_request commands.kill_of kill_request
 given_4 = refl
 
 view_4 : events_between watch state_4.changes 0 2 ≡ event_1 ∷ event_2 ∷ []
-unfolding commands.watch_of commands.space_at commands.batch_of verdict_of answer_of watch_request named_space batch_size effect grown full_behind le32 le64 encode_with digits commands.insert_of commands.inserted_by insert_request inserting commands.more_of more_request commands.kill_of kill_request
+unfolding commands.watch_of commands.space_at commands.batch_of verdict_of answer_of watch_request named_space commands.batch_size effect grown full_behind le32 le64 encode_with digits commands.insert_of commands.inserted_by insert_request inserting commands.more_of more_request commands.kill_of kill_request
 view_4 = refl
 
 token_4 : state_4.tokens token_2 ≡ Some 2
-unfolding commands.watch_of commands.space_at commands.batch_of verdict_of answer_of watch_request named_space batch_size effect grown full_behind le32 le64 encode_with digits commands.insert_of commands.inserted_by insert_request inserting commands.more_of more_request commands.kill_of kill_request
+unfolding commands.watch_of commands.space_at commands.batch_of verdict_of answer_of watch_request named_space commands.batch_size effect grown full_behind le32 le64 encode_with digits commands.insert_of commands.inserted_by insert_request inserting commands.more_of more_request commands.kill_of kill_request
 token_4 = refl
 
 -- ---- the rules' answers
 
 rules_1 : (answer_of nothing (pos 1) opens).reply ≡ opened
-unfolding commands.watch_of commands.space_at commands.batch_of verdict_of answer_of watch_request named_space batch_size effect grown full_behind le32 le64 encode_with digits
+unfolding commands.watch_of commands.space_at commands.batch_of verdict_of answer_of watch_request named_space commands.batch_size effect grown full_behind le32 le64 encode_with digits
 rules_1 = refl
 
 rules_2 : (answer_of state_1 (pos 2) inserts_two).reply ≡ inserted_two
-unfolding commands.watch_of commands.space_at commands.batch_of verdict_of answer_of watch_request named_space batch_size effect grown full_behind le32 le64 encode_with digits commands.insert_of commands.inserted_by insert_request inserting
+unfolding commands.watch_of commands.space_at commands.batch_of verdict_of answer_of watch_request named_space commands.batch_size effect grown full_behind le32 le64 encode_with digits commands.insert_of commands.inserted_by insert_request inserting
 rules_2 = refl
 
 rules_3 : (answer_of state_2 (pos 2) asks_more).reply ≡ gave_two
-unfolding commands.watch_of commands.space_at commands.batch_of verdict_of answer_of watch_request named_space batch_size effect grown full_behind le32 le64 encode_with digits commands.insert_of commands.inserted_by insert_request inserting commands.more_of more_request
+unfolding commands.watch_of commands.space_at commands.batch_of verdict_of answer_of watch_request named_space commands.batch_size effect grown full_behind le32 le64 encode_with digits commands.insert_of commands.inserted_by insert_request inserting commands.more_of more_request
 rules_3 = refl
 
 rules_4 : (answer_of state_3 (pos 2) kills).reply ≡ killed
-unfolding commands.watch_of commands.space_at commands.batch_of verdict_of answer_of watch_request named_space batch_size effect grown full_behind le32 le64 encode_with digits commands.insert_of commands.inserted_by insert_request inserting commands.more_of more_request commands.kill_of kill_request
+unfolding commands.watch_of commands.space_at commands.batch_of verdict_of answer_of watch_request named_space commands.batch_size effect grown full_behind le32 le64 encode_with digits commands.insert_of commands.inserted_by insert_request inserting commands.more_of more_request commands.kill_of kill_request
 rules_4 = refl
 
 -- ---- the history

@@ -4,7 +4,7 @@ use Rattle.std.specs.Prelude.{slice_get}
 use Rattle.std.proofs.lemmas.List.{take-append-le}
 use Rattle.mg_bson.specs.Tree.{Tree, Fields}
 use Rattle.mg_link.specs.State.{Entry, State, nothing, Watch, Start, nowhere, after, at_time, count_before, start_place, events_between}
-use Rattle.mg_link.specs.Commands.{Told, refuses, inserted, opened, gave, killed, garbled, asked, asks_watch}
+use Rattle.mg_link.specs.Commands.{Told, refuses, inserted, opened, gave, killed, garbled, asked, asks_watch, updated, deleted, done}
 use Rattle.mg_link.specs.Step.{IsNamed}
 use Rattle.mg_link.specs.History.{Step, state_after, state_of, told_at, opening}
 use Rattle.mg_link.specs.Log.{Call}
@@ -72,6 +72,9 @@ pub open_later : (s t : State) (w : Watch) (from : ℕ) (said : Told) → Later 
 open_later s t w from (opened id space events token time) later same h = brings_later s t w from id events token later (λ ne. same id (refl, ne)) h
 open_later s t w from (refuses code labels) later same h = tt
 open_later s t w from (inserted n failures) later same h = absurd h
+open_later s t w from (updated n changed failures) later same h = absurd h
+open_later s t w from (deleted n failures) later same h = absurd h
+open_later s t w from done later same h = absurd h
 open_later s t w from (gave id space events token) later same h = absurd h
 open_later s t w from killed later same h = absurd h
 open_later s t w from garbled later same h = absurd h
@@ -81,6 +84,9 @@ more_later s t w id place (gave left space events token) later same h = (brings_
 more_later s t w id place (refuses code labels) later same h = cursor_later s t w id place same h
 more_later s t w id place (opened other space events token time) later same h = absurd h
 more_later s t w id place (inserted n failures) later same h = absurd h
+more_later s t w id place (updated n changed failures) later same h = absurd h
+more_later s t w id place (deleted n failures) later same h = absurd h
+more_later s t w id place done later same h = absurd h
 more_later s t w id place killed later same h = absurd h
 more_later s t w id place garbled later same h = absurd h
 
@@ -169,6 +175,9 @@ module _ (calls calls' : List Call) (grown : IsGrown calls calls') (g : Follow) 
       }
   start_kept position (refuses code labels) lt same h = tt
   start_kept position (inserted n failures) lt same h = absurd h
+  start_kept position (updated n changed failures) lt same h = absurd h
+  start_kept position (deleted n failures) lt same h = absurd h
+  start_kept position done lt same h = absurd h
   start_kept position (gave id space events token) lt same h = absurd h
   start_kept position killed lt same h = absurd h
   start_kept position garbled lt same h = absurd h

@@ -1,48 +1,32 @@
 -- How the state of a server grows along its history.
-use Rattle.std.proofs.Common.{◌≡◌, pos, List, [], ◌∷◌, ◌++◌, refl, sym, ap, ◌∙◌, append_assoc, append-nil}
+use Rattle.std.proofs.Common.{◌≡◌, pos, List, [], ◌∷◌, ◌++◌, refl, sym, ap, ◌∙◌, append_assoc, append-nil, ℤ}
 use Rattle.std.specs.Ordering.{int_eq}
 use Rattle.std.proofs.lemmas.Bool.{cond_both}
-use Rattle.mg_link.specs.State.{Entry, State, nothing, put_cursor, give}
-use Rattle.mg_link.specs.Commands.{Asked, asks_insert, asks_watch, asks_more, asks_kill, asks_other, Told, refuses, inserted, opened, gave, killed, garbled, asked}
-use Rattle.mg_link.specs.Step.{grown, effect, watching_at, ends_cursor}
+use Rattle.mg_link.specs.State.{Entry, State, nothing, put_cursor, give, Cursor}
+use Rattle.mg_link.specs.Commands.{Asked, asks_insert, asks_watch, asks_more, asks_kill, Told, refuses, inserted, opened, gave, killed, asked, asks_query, asks_update, asks_delete, asks_create, asks_indexes, asks_drop, updated, deleted, done}
+use Rattle.mg_link.specs.Step.{grown, effect, watching_at, ends_cursor, opened_cursor, queried_at}
 use Rattle.mg_link.specs.History.{Step, step_after, state_after, state_of, told_at}
 use Rattle.std.proofs.Common.{Some, None}
+
+opened-changes : (s : State) (id : ℤ) (c : Cursor) → (opened_cursor s id c).changes ≡ s.changes
+opened-changes s id c = cond_both (int_eq id (pos 0)) s (record s { cursors = put_cursor id (Some c) s.cursors; given = give id s.given }) (λ (r : State). r.changes ≡ s.changes) (λ h. refl) (λ h. refl)
 
 -- beside what a step adds no entry changes
 pub effect-changes : (s : State) (command : Asked) (reply : Told) → (effect s command reply).changes ≡ s.changes
 unfolding effect
-effect-changes s (asks_insert space documents ordered) (refuses code labels) = refl
-effect-changes s (asks_insert space documents ordered) (inserted n failures) = refl
-effect-changes s (asks_insert space documents ordered) (opened id at events token time) = refl
-effect-changes s (asks_insert space documents ordered) (gave left at events token) = refl
-effect-changes s (asks_insert space documents ordered) killed = refl
-effect-changes s (asks_insert space documents ordered) garbled = refl
-effect-changes s (asks_watch watch start) (refuses code labels) = refl
-effect-changes s (asks_watch watch start) (inserted n failures) = refl
-effect-changes s (asks_watch watch start) (opened id at events token time) =
-    cond_both (int_eq id (pos 0)) s (record s { cursors = put_cursor id (Some (watching_at s watch token)) s.cursors; given = give id s.given }) (λ (r : State). r.changes ≡ s.changes) (λ h. refl) (λ h. refl)
-effect-changes s (asks_watch watch start) (gave left at events token) = refl
-effect-changes s (asks_watch watch start) killed = refl
-effect-changes s (asks_watch watch start) garbled = refl
+effect-changes s (asks_query q) (opened id at documents token time) = opened-changes s id (queried_at s q at documents)
+effect-changes s (asks_watch watch start) (opened id at events token time) = opened-changes s id (watching_at s watch token)
 effect-changes s (asks_more id space) (refuses code labels) =
     cond_both (ends_cursor code) (record s { cursors = put_cursor id None s.cursors }) s (λ (r : State). r.changes ≡ s.changes) (λ h. refl) (λ h. refl)
-effect-changes s (asks_more id space) (inserted n failures) = refl
-effect-changes s (asks_more id space) (opened other at events token time) = refl
+effect-changes s (asks_update space conditions m many) (updated n changed []) = refl
+effect-changes s (asks_delete space conditions many) (deleted n []) = refl
+effect-changes s (asks_insert space documents ordered) (inserted n failures) = refl
+effect-changes s (asks_create space) done = refl
+effect-changes s (asks_indexes space indexes) done = refl
+effect-changes s (asks_drop space) done = refl
 effect-changes s (asks_more id space) (gave left at events token) = refl
-effect-changes s (asks_more id space) killed = refl
-effect-changes s (asks_more id space) garbled = refl
-effect-changes s (asks_kill ids) (refuses code labels) = refl
-effect-changes s (asks_kill ids) (inserted n failures) = refl
-effect-changes s (asks_kill ids) (opened id at events token time) = refl
-effect-changes s (asks_kill ids) (gave left at events token) = refl
 effect-changes s (asks_kill ids) killed = refl
-effect-changes s (asks_kill ids) garbled = refl
-effect-changes s asks_other (refuses code labels) = refl
-effect-changes s asks_other (inserted n failures) = refl
-effect-changes s asks_other (opened id at events token time) = refl
-effect-changes s asks_other (gave left at events token) = refl
-effect-changes s asks_other killed = refl
-effect-changes s asks_other garbled = refl
+effect-changes s command reply = refl
 
 -- a step adds the entries that it made
 pub step_after-changes : (s : State) (step : Step) → (step_after s step).changes ≡ s.changes ++ step.made.entries

@@ -1,10 +1,10 @@
 -- Each event of a legal history has an `_id`.
-use Rattle.std.proofs.Common.{◌≡◌, ℕ, zero, suc, ◌-◌, Bool, true, false, List, [], ◌∷◌, ◌++◌, append-nil, map, Some, refl, sym, ap, ◌∙◌, subst, take, drop}
+use Rattle.std.proofs.Common.{◌≡◌, ℕ, zero, suc, ◌-◌, Bool, true, false, List, [], ◌∷◌, ◌++◌, append-nil, map, Some, refl, sym, ap, ◌∙◌, subst, inl, inr, take, drop}
 use Rattle.std.specs.Prelude.{slice_get, if◌then◌else◌}
 use Rattle.std.specs.List.{filter}
 use Rattle.mg_bson.specs.Tree.{Fields}
-use Rattle.mg_link.specs.State.{Entry, State, Watch, nothing, events_between, sees}
-use Rattle.mg_link.specs.Commands.{Asked, asks_insert, asks_watch, asks_more, asks_kill, asks_other, Batch, Told, refuses, inserted, opened, gave, killed, garbled, opened_by, gave_by, asked}
+use Rattle.mg_link.specs.State.{Entry, State, Watch, query, watching, nothing, events_between, sees}
+use Rattle.mg_link.specs.Commands.{Asked, asks_watch, asks_more, Batch, Told, refuses, opened, gave, opened_by, gave_by, asked}
 use Rattle.mg_link.specs.Step.{Made, grown, May, MayTell}
 use Rattle.mg_link.specs.History.{Step, IsLegal, state_of, told_at}
 use Rattle.mg_link.specs.Log.{Call}
@@ -16,6 +16,7 @@ use Rattle.mg_link.proofs.Numbered.{AreNumbered, numbered_of}
 use Rattle.mg_link.proofs.Owners.{legal_back, legal_front, legal_parts}
 use Rattle.mg_link.proofs.Heard.{opening_heard, giving_heard}
 use Rattle.mg_link.proofs.Moving.{known_as, hand_as}
+use Rattle.std.proofs.lemmas.List.{take_at}
 
 -- ---- a view
 
@@ -68,66 +69,60 @@ ids_given : (s : State) (made : Made) (w : Watch) (from upto : ℕ) (events : Li
 ids_given s made w from upto events numbered none these =
     subst HaveIds (sym these) (subst (λ (cs : List Entry). HaveIds (events_between w cs from upto)) (sym (grown_none s made none)) (ids_between s w from upto numbered))
 
-ids_told : (s : State) (command : Asked) (said : Told) (made : Made) → AreNumbered s → MayTell s (grown s made) command said made → HaveIds (events_in said)
-ids_told s command (refuses code labels) made numbered may = tt
-ids_told s command (inserted n failures) made numbered may = tt
-ids_told s command killed made numbered may = tt
-ids_told s command garbled made numbered may = tt
-ids_told s (asks_watch w start) (opened id space events token time) made numbered may = ids_given s made w may.from may.batch.upto events numbered may.no_entry may.batch.these
-ids_told s (asks_more other space) (gave id at events token) made numbered may = ids_given s made may.watch may.at may.batch.upto events numbered may.no_entry may.batch.these
-ids_told s (asks_insert at documents ordered) (opened id space events token time) made numbered may = absurd may
-ids_told s (asks_more other at) (opened id space events token time) made numbered may = absurd may
-ids_told s (asks_kill ids) (opened id space events token time) made numbered may = absurd may
-ids_told s asks_other (opened id space events token time) made numbered may = absurd may
-ids_told s (asks_insert at documents ordered) (gave id space events token) made numbered may = absurd may
-ids_told s (asks_watch w start) (gave id space events token) made numbered may = absurd may
-ids_told s (asks_kill ids) (gave id space events token) made numbered may = absurd may
-ids_told s asks_other (gave id space events token) made numbered may = absurd may
+ids_told : (s : State) (command : Asked) (said : Told) (made : Made) → AreNumbered s → AsksForEvents s command → MayTell s (grown s made) command said made → HaveIds (events_in said)
+ids_told s (asks_watch w start) (opened id space events token time) made numbered asks may = ids_given s made w may.from may.batch.upto events numbered may.no_entry may.batch.these
+ids_told s (asks_more other space) (gave id at events token) made numbered asks (inl may) = ids_given s made may.watch may.at may.batch.upto events numbered may.no_entry may.batch.these
+ids_told s (asks_more other space) (gave id at events token) made numbered asks (inr may) = let bad : Some (query may.space (events ++ may.left)) ≡ Some (watching asks.0 asks.1) = sym may.stood ∙ asks.2 in absurd cc
+ids_told s (asks_watch w start) (refuses code labels) made numbered asks may = tt
+ids_told s (asks_more other space) (refuses code labels) made numbered asks may = tt
+ids_told s (asks_watch w start) said made numbered asks may = absurd may
+ids_told s (asks_more other space) said made numbered asks may = absurd may
+ids_told s command said made numbered asks may = absurd asks
 
 -- where a step of a legal history stands
-record Standing (step : Step) : Type 0 where
+record Standing (history : List Step) (position : ℕ) (step : Step) : Type 0 where
   before : State
+  is : before ≡ state_of (take position history)
   numbered : AreNumbered before
   may : May before (asked step.command) (told_at step) step.made
 
-standing : (history : List Step) (position : ℕ) (step : Step) → IsLegal history → slice_get history position ≡ Some step → Standing step
+standing : (history : List Step) (position : ℕ) (step : Step) → IsLegal history → slice_get history position ≡ Some step → Standing history position step
 standing history position step legal there =
     let at = split_at history position step there in
     let whole = subst (λ h. IsLegal h) at.whole legal in
     record {
       before = state_of at.front;
+      is = ap state_of (sym (take_at at.front (step ∷ at.back) position at.place) ∙ ap (take position) (sym at.whole));
       numbered = numbered_of at.front (legal_front nothing at.front (step ∷ at.back) whole);
       may = (legal_parts (state_of at.front) step at.back (legal_back nothing at.front (step ∷ at.back) whole)).0;
     }
 
-pub reply_has_ids : (history : List Step) (position : ℕ) (step : Step) → IsLegal history → slice_get history position ≡ Some step → HaveIds (events_in (told_at step))
-reply_has_ids history position step legal there =
+pub reply_has_ids : (history : List Step) (position : ℕ) (step : Step) → IsLegal history → slice_get history position ≡ Some step → AsksForEvents (state_of (take position history)) (asked step.command) → HaveIds (events_in (told_at step))
+reply_has_ids history position step legal there asks =
     let at = standing history position step legal there in
-    ids_told at.before (asked step.command) (told_at step) step.made at.numbered at.may.tells
+    ids_told at.before (asked step.command) (told_at step) step.made at.numbered (subst (λ (s : State). AsksForEvents s (asked step.command)) (sym at.is) asks) at.may.tells
 
 -- ---- a batch that is read of it
 
-module _ (s : State) (step : Step) (numbered : AreNumbered s) (may : May s (asked step.command) (told_at step) step.made) (batch : Batch) (reads : Reads step.reply batch) where
+module _ (s : State) (step : Step) (numbered : AreNumbered s) (may : May s (asked step.command) (told_at step) step.made) (batch : Batch) (reads : Reads step.reply batch) (asks_events : AsksForEvents s (asked step.command)) where
   told_as : (said : Told) → told_at step ≡ said → HaveIds (events_in said)
-  told_as said is = subst (λ (t : Told). HaveIds (events_in t)) is (ids_told s (asked step.command) (told_at step) step.made numbered may.tells)
+  told_as said is = subst (λ (t : Told). HaveIds (events_in t)) is (ids_told s (asked step.command) (told_at step) step.made numbered asks_events may.tells)
 
-  batch_by : (command : Asked) → asked step.command ≡ command → AsksForEvents command → HaveIds batch.events
+  batch_by : (command : Asked) → asked step.command ≡ command → AsksForEvents s command → HaveIds batch.events
   batch_by (asks_watch w start) asks is =
       let opens = opening_heard step w start step.reply batch asks refl reads in
       told_as (opened_by opens.time batch) opens.said_is
   batch_by (asks_more id space) asks is =
       told_as (gave_by batch) (giving_heard step id space step.reply batch asks refl reads)
-  batch_by (asks_insert space documents ordered) asks is = absurd is
-  batch_by (asks_kill ids) asks is = absurd is
-  batch_by asks_other asks is = absurd is
+  batch_by command asks is = absurd is
 
-  pub batch_ids : AsksForEvents (asked step.command) → HaveIds batch.events
-  batch_ids is = batch_by (asked step.command) refl is
+  pub batch_ids : HaveIds batch.events
+  batch_ids = batch_by (asked step.command) refl asks_events
 
-pub batch_has_ids : (history : List Step) (position : ℕ) (step : Step) (batch : Batch) → IsLegal history → slice_get history position ≡ Some step → AsksForEvents (asked step.command) → Reads step.reply batch → HaveIds batch.events
+pub batch_has_ids : (history : List Step) (position : ℕ) (step : Step) (batch : Batch) → IsLegal history → slice_get history position ≡ Some step → AsksForEvents (state_of (take position history)) (asked step.command) → Reads step.reply batch → HaveIds batch.events
 batch_has_ids history position step batch legal there is reads =
     let at = standing history position step legal there in
-    batch_ids at.before step at.numbered at.may batch reads is
+    batch_ids at.before step at.numbered at.may batch reads (subst (λ (s : State). AsksForEvents s (asked step.command)) (sym at.is) is)
 
 -- ---- what a stream has in hand
 

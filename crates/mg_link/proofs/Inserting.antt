@@ -8,12 +8,13 @@ use Rattle.mg_bson.specs.Tree.{Tree, Fields}
 use Rattle.mg_bson.specs.Find.{get}
 use Rattle.mg_link.specs.Namespace.{Space}
 use Rattle.mg_link.specs.Filter.{is_same}
-use Rattle.mg_link.specs.Commands.{Failure, documents_in, failures_by}
-use Rattle.mg_link.specs.Step.{is_listed, written, HasNoId, HaveNewIds, IsInsertEvent, AreInsertEvents}
+use Rattle.mg_link.specs.Commands.{Failure, documents_in, failures_by, are_write_errors}
+use Rattle.mg_link.specs.Step.{is_listed, written, HasNoId, HaveNewIds, IsEventOf, AreEventsOf}
 use Rattle.mg_link.specs.Events.{TellsInsert, TellInserts}
 use Rattle.mg_link.specs.Rules.{insert_entry, same_id, has_id, is_storable, id_or_code, accept, Inserted, no_more, with_document, with_error, write_error, choose, inserting, bad_request, duplicate_id}
 use Rattle.mg_link.specs.Kept.{AreStoreEntries}
 use Rattle.mg_link.proofs.Tokens.{differs_turned}
+use Rattle.mg_link.specs.State.{inserts}
 
 -- ---- failures
 
@@ -77,21 +78,22 @@ accepted there d id h =
 -- what an insert of these documents comes to
 pub record Inserts (space : Space) (ordered : Bool) (index place : ℕ) (there ds : List Fields) (i : Inserted) (fs : List Failure) : Type 0 where
   pub entries_are : AreStoreEntries place i.entries
-  pub events_are : AreInsertEvents space i.documents i.entries
+  pub events_are : AreEventsOf space inserts i.documents i.entries
   pub tell_of : TellInserts space i.documents i.entries
   pub ids_are : HaveNewIds there i.documents
   pub written_are : (all : List Failure) → ((m : ℕ) → index ≤ m → is_listed m all ≡ is_listed m fs) → written ordered all index ds ≡ i.documents
   pub failures_are : option_and_then failures_by (documents_in i.errors) ≡ Some fs
+  pub errors_keep : are_write_errors i.errors ≡ true
   pub none_before : (m : ℕ) → m < index → is_listed m fs ≡ false
 
-is_event : (place : ℕ) (space : Space) (id : Tree) (d : Fields) → IsInsertEvent space (insert_entry place space id d)
+is_event : (place : ℕ) (space : Space) (id : Tree) (d : Fields) → IsEventOf space inserts (insert_entry place space id d)
 is_event place space id d = record { at = refl; change_is = refl; token_is = refl }
 
 tells_of : (place : ℕ) (space : Space) (id : Tree) (d : Fields) → TellsInsert space d (insert_entry place space id d).event
 tells_of place space id d = record { kind = refl; ns = refl; full = refl }
 
 inserts_none : (space : Space) (ordered : Bool) (index place : ℕ) (there : List Fields) → Inserts space ordered index place there [] no_more []
-inserts_none space ordered index place there = record { entries_are = tt; events_are = tt; tell_of = tt; ids_are = tt; written_are = λ all same. refl; failures_are = refl; none_before = λ m lt. refl }
+inserts_none space ordered index place there = record { entries_are = tt; events_are = tt; tell_of = tt; ids_are = tt; written_are = λ all same. refl; failures_are = refl; errors_keep = refl; none_before = λ m lt. refl }
 
 inserts_one : (space : Space) (ordered : Bool) (index place : ℕ) (there : List Fields) (d : Fields) (ds : List Fields) (id : Tree) (i : Inserted) (fs : List Failure) → accept there d ≡ Ok id → Inserts space ordered (suc index) (suc place) (there ++ d ∷ []) ds i fs
     → Inserts space ordered index place there (d ∷ ds) (with_document d (insert_entry (suc place) space id d) i) fs
@@ -107,6 +109,7 @@ inserts_one space ordered index place there d ds id i fs ok rest =
           ap (λ (b : Bool). if b then (if ordered then [] else written ordered all (suc index) ds) else d ∷ written ordered all (suc index) ds) not_this
           ∙ ap (λ (l : List Fields). d ∷ l) (rest.written_are all (λ m le. same m (omega arith)));
       failures_are = rest.failures_are;
+      errors_keep = rest.errors_keep;
       none_before = λ m lt. rest.none_before m (omega arith);
     }
 
@@ -121,6 +124,7 @@ inserts_no_more space index place there d ds code = record {
   ids_are = tt;
   written_are = λ all same. ap (λ (b : Bool). if b then [] else d ∷ written true all (suc index) ds) (fails_here index code [] all same);
   failures_are = refl;
+  errors_keep = refl;
   none_before = λ m lt. listed_later index m code [] (λ e. omega arith);
 }
 
@@ -135,6 +139,7 @@ inserts_others space index place there d ds code i fs rest = record {
       ap (λ (b : Bool). if b then written false all (suc index) ds else d ∷ written false all (suc index) ds) (fails_here index code fs all same)
       ∙ rest.written_are all (λ m le. same m (omega arith) ∙ listed_later index m code fs (λ e. omega arith));
   failures_are = errors_more index code (documents_in i.errors) fs rest.failures_are;
+  errors_keep = rest.errors_keep;
   none_before = λ m lt. listed_later index m code fs (λ e. omega arith) ∙ rest.none_before m (omega arith);
 }
 

@@ -8,8 +8,8 @@ use Rattle.std.proofs.lemmas.Bool.Decides.{Decides-int_eq}
 use Rattle.mg_bson.specs.Tree.{Tree}
 use Rattle.mg_link.specs.Filter.{key, is_same}
 use Rattle.mg_link.specs.State.{Entry, Cursor, State, nothing, put_cursor, without_cursors, give, name}
-use Rattle.mg_link.specs.Commands.{Asked, asks_insert, asks_watch, asks_more, asks_kill, asks_other, Told, refuses, inserted, opened, gave, killed, garbled, asked}
-use Rattle.mg_link.specs.Step.{Made, Named, grown, effect, name_entries, name_all, entry_names, watching_at, ends_cursor, AreNew, AreWithin, MayTell, May}
+use Rattle.mg_link.specs.Commands.{Asked, asks_insert, asks_watch, asks_more, asks_kill, Told, refuses, inserted, opened, gave, killed, garbled, asked, asks_query, asks_update, asks_delete, asks_create, asks_indexes, asks_drop, updated, deleted, done}
+use Rattle.mg_link.specs.Step.{Made, Named, grown, effect, name_entries, name_all, entry_names, watching_at, ends_cursor, AreNew, AreWithin, MayTell, May, opened_cursor, queried_at}
 use Rattle.mg_link.specs.History.{Step, step_after, state_after, IsLegalFrom, state_of, told_at}
 use Rattle.mg_link.specs.Standing.{Names, OpensId}
 use Rattle.mg_link.specs.Owner.{NoneNames}
@@ -122,11 +122,19 @@ keeps_same s = record { now = refl; tokens = refl; given = λ x h. h }
 keeps_cursors : (s : State) (cursors : ℤ → Option Cursor) → Keeps s (record s { cursors = cursors })
 keeps_cursors s cursors = record { now = refl; tokens = refl; given = λ x h. h }
 
+keeps_opened : (s : State) (id : ℤ) (c : Cursor) → Keeps s (opened_cursor s id c)
+keeps_opened s id c = cond_both (int_eq id (pos 0)) s (record s { cursors = put_cursor id (Some c) s.cursors; given = give id s.given }) (Keeps s) (λ h. keeps_same s) (λ h. keeps_given s id c)
+
 pub effect_keeps : (s : State) (command : Asked) (reply : Told) → Keeps s (effect s command reply)
 unfolding effect
 effect_keeps s (asks_insert space documents ordered) (inserted n failures) = record { now = refl; tokens = refl; given = λ x h. h }
-effect_keeps s (asks_watch watch start) (opened id at events token time) =
-    cond_both (int_eq id (pos 0)) s (record s { cursors = put_cursor id (Some (watching_at s watch token)) s.cursors; given = give id s.given }) (Keeps s) (λ h. keeps_same s) (λ h. keeps_given s id (watching_at s watch token))
+effect_keeps s (asks_update space conditions m many) (updated n changed []) = record { now = refl; tokens = refl; given = λ x h. h }
+effect_keeps s (asks_delete space conditions many) (deleted n []) = record { now = refl; tokens = refl; given = λ x h. h }
+effect_keeps s (asks_create space) done = record { now = refl; tokens = refl; given = λ x h. h }
+effect_keeps s (asks_indexes space indexes) done = record { now = refl; tokens = refl; given = λ x h. h }
+effect_keeps s (asks_drop space) done = record { now = refl; tokens = refl; given = λ x h. h }
+effect_keeps s (asks_query q) (opened id at documents token time) = keeps_opened s id (queried_at s q at documents)
+effect_keeps s (asks_watch watch start) (opened id at events token time) = keeps_opened s id (watching_at s watch token)
 effect_keeps s (asks_more id space) (gave left at events token) = keeps_cursors s _
 effect_keeps s (asks_more id space) (refuses code labels) =
     cond_both (ends_cursor code) (record s { cursors = put_cursor id None s.cursors }) s (Keeps s) (λ h. keeps_cursors s _) (λ h. keeps_same s)
@@ -179,15 +187,24 @@ without_other (id ∷ ids) x cursors none =
     without_other ids x (put_cursor id None cursors) (λ h. none (contains_more id ids x h))
     ∙ put_other id x None cursors (λ e. none (0, omega arith, e))
 
+opened_leaves : (s s' : State) (id x : ℤ) (c : Cursor) → (id ≢ pos 0 → s.given id ≡ false) → s.given x ≡ true → (opened_cursor s' id c).cursors x ≡ s'.cursors x
+opened_leaves s s' id x c is_fresh given =
+    cond_both (int_eq id (pos 0)) s' (record s' { cursors = put_cursor id (Some c) s'.cursors; given = give id s'.given }) (λ (r : State). r.cursors x ≡ s'.cursors x)
+    (λ h. refl)
+    (λ h. put_other id x (Some c) s'.cursors
+    (λ q. let fresh = is_fresh (λ z. let t = (Decides-int_eq id (pos 0)).1 z in let bad : true ≡ false = sym t ∙ h in cc) in let g : s.given id ≡ true = subst (λ (n : ℤ). s.given n ≡ true) (sym q) given in let bad : true ≡ false = sym g ∙ fresh in cc))
+
 -- a step that does not name a cursor which was given before leaves it as it was
 effect_leaves : (s s' : State) (command : Asked) (reply : Told) (made : Made) (x : ℤ) → MayTell s s' command reply made → s.given x ≡ true → (Names command x → ⊥) → (effect s' command reply).cursors x ≡ s'.cursors x
 unfolding effect
 effect_leaves s s' (asks_insert space documents ordered) (inserted n failures) made x may given none = refl
-effect_leaves s s' (asks_watch watch start) (opened id at events token time) made x may given none =
-    cond_both (int_eq id (pos 0)) s' (record s' { cursors = put_cursor id (Some (watching_at s' watch token)) s'.cursors; given = give id s'.given }) (λ (r : State). r.cursors x ≡ s'.cursors x)
-    (λ h. refl)
-    (λ h. put_other id x (Some (watching_at s' watch token)) s'.cursors
-    (λ q. let fresh = may.fresh (λ z. let t = (Decides-int_eq id (pos 0)).1 z in let bad : true ≡ false = sym t ∙ h in cc) in let g : s.given id ≡ true = subst (λ (n : ℤ). s.given n ≡ true) (sym q) given in let bad : true ≡ false = sym g ∙ fresh in cc))
+effect_leaves s s' (asks_update space conditions m many) (updated n changed []) made x may given none = refl
+effect_leaves s s' (asks_delete space conditions many) (deleted n []) made x may given none = refl
+effect_leaves s s' (asks_query q) (opened id at documents token time) made x may given none = opened_leaves s s' id x (queried_at s' q at documents) may.fresh given
+effect_leaves s s' (asks_watch watch start) (opened id at events token time) made x may given none = opened_leaves s s' id x (watching_at s' watch token) may.fresh given
+effect_leaves s s' (asks_create space) done made x may given none = refl
+effect_leaves s s' (asks_indexes space indexes) done made x may given none = refl
+effect_leaves s s' (asks_drop space) done made x may given none = refl
 effect_leaves s s' (asks_more id space) (gave left at events token) made x may given none = put_other id x _ s'.cursors none
 effect_leaves s s' (asks_more id space) (refuses code labels) made x may given none =
     cond_both (ends_cursor code) (record s' { cursors = put_cursor id None s'.cursors }) s' (λ (r : State). r.cursors x ≡ s'.cursors x) (λ h. put_other id x None s'.cursors none) (λ h. refl)
@@ -211,21 +228,25 @@ leaves_steps s (step ∷ steps) x r legal given none =
 
 -- ---- ids
 
+opened_gives : (s s' : State) (id x : ℤ) (c : Cursor) → (id ≢ pos 0 → s.given id ≡ false) → (id ≡ x) × (x ≢ pos 0) → (s.given x ≡ false) × ((opened_cursor s' id c).given x ≡ true)
+opened_gives s s' id x c is_fresh opens =
+    let there : id ≢ pos 0 = λ z. opens.1 (sym opens.0 ∙ z) in (
+      subst (λ (n : ℤ). s.given n ≡ false) opens.0 (is_fresh there),
+      ap (λ (b : Bool). (if b then s' else record s' { cursors = put_cursor id (Some c) s'.cursors; given = give id s'.given }).given x) (other_int id (pos 0) there)
+          ∙ ap (λ (b : Bool). if b then true else s'.given x) ((Decides-int_eq x id).1 (sym opens.0)),
+    )
+
 -- a reply that opens a cursor gives its id
 effect_gives : (s s' : State) (command : Asked) (reply : Told) (made : Made) (x : ℤ) → MayTell s s' command reply made → OpensId reply x → (s.given x ≡ false) × ((effect s' command reply).given x ≡ true)
 unfolding effect
-effect_gives s s' (asks_watch watch start) (opened id at events token time) made x may opens =
-    let there : id ≢ pos 0 = λ z. opens.1 (sym opens.0 ∙ z) in (
-      subst (λ (n : ℤ). s.given n ≡ false) opens.0 (may.fresh there),
-      ap (λ (b : Bool). (if b then s' else record s' { cursors = put_cursor id (Some (watching_at s' watch token)) s'.cursors; given = give id s'.given }).given x) (other_int id (pos 0) there)
-          ∙ ap (λ (b : Bool). if b then true else s'.given x) ((Decides-int_eq x id).1 (sym opens.0)),
-    )
-effect_gives s s' (asks_insert space documents ordered) (opened id at events token time) made x may opens = absurd may
-effect_gives s s' (asks_more other space) (opened id at events token time) made x may opens = absurd may
-effect_gives s s' (asks_kill ids) (opened id at events token time) made x may opens = absurd may
-effect_gives s s' asks_other (opened id at events token time) made x may opens = absurd may
+effect_gives s s' (asks_query q) (opened id at documents token time) made x may opens = opened_gives s s' id x (queried_at s' q at documents) may.fresh opens
+effect_gives s s' (asks_watch watch start) (opened id at events token time) made x may opens = opened_gives s s' id x (watching_at s' watch token) may.fresh opens
+effect_gives s s' command (opened id at events token time) made x may opens = absurd may
 effect_gives s s' command (refuses code labels) made x may opens = absurd opens
 effect_gives s s' command (inserted n failures) made x may opens = absurd opens
+effect_gives s s' command (updated n changed failures) made x may opens = absurd opens
+effect_gives s s' command (deleted n failures) made x may opens = absurd opens
+effect_gives s s' command done made x may opens = absurd opens
 effect_gives s s' command (gave id space events token) made x may opens = absurd opens
 effect_gives s s' command killed made x may opens = absurd opens
 effect_gives s s' command garbled made x may opens = absurd opens

@@ -27,6 +27,7 @@ pub mod Owners
 pub mod SelfMade
 pub mod Apart
 pub mod Numbered
+pub mod Watched
 pub mod Views
 pub mod Follows
 pub mod Asked
@@ -44,3 +45,4 @@ pub mod Asking
 pub mod Killing
 pub mod Identified
 pub mod Resuming
+pub mod Workings

@@ -4,7 +4,7 @@ use Rattle.std.specs.Prelude.{slice_get}
 use Rattle.mg_bson.specs.Tree.{Tree, Fields}
 use Rattle.mg_link.specs.Namespace.{Space}
 use Rattle.mg_link.specs.State.{State, Watch}
-use Rattle.mg_link.specs.Commands.{Asked, asks_more, Told, refuses, inserted, opened, gave, killed, garbled, Batch, asked, told}
+use Rattle.mg_link.specs.Commands.{Asked, asks_more, Told, refuses, inserted, opened, gave, killed, garbled, Batch, asked, told, updated, deleted, done}
 use Rattle.mg_link.specs.History.{Step, IsLegal, state_of, told_at}
 use Rattle.mg_link.specs.Log.{Sight, reply, Call, see}
 use Rattle.mg_link.specs.Link as link
@@ -197,6 +197,9 @@ rests_by s w c place garbled none h = absurd h
 rests_by s w c place (opened id space events token time) none h = absurd none
 rests_by s w c place (gave id space events token) none h = absurd none
 rests_by s w c place (inserted n failures) none h = absurd none
+rests_by s w c place (updated n changed failures) none h = absurd none
+rests_by s w c place (deleted n failures) none h = absurd none
+rests_by s w c place done none h = absurd none
 rests_by s w c place killed none h = absurd none
 
 -- The reply to a getMore held no batch: the stream keeps its cursor, or has it no more.

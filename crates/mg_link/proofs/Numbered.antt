@@ -1,17 +1,18 @@
 -- The token of an entry names the place behind it, and is the `_id` of its event.
-use Rattle.std.proofs.Common.{◌≡◌, ℕ, zero, suc, ◌+◌, Bool, List, [], ◌∷◌, ◌++◌, length, Option, Some, refl, sym, ap, ◌∙◌, subst, inl, inr, arith}
+use Rattle.std.proofs.Common.{◌≡◌, ℕ, zero, suc, ◌+◌, Bool, List, [], ◌∷◌, ◌++◌, length, Option, Some, refl, sym, ap, ◌∙◌, subst, inl, inr, arith, None}
 use Rattle.std.specs.Prelude.{slice_get, codes, if◌then◌else◌}
 use Rattle.mg_bson.specs.Tree.{Tree, Fields}
 use Rattle.mg_bson.specs.Find.{get}
 use Rattle.mg_link.specs.Namespace.{Space}
-use Rattle.mg_link.specs.State.{Entry, State, nothing, name}
-use Rattle.mg_link.specs.Commands.{Asked, asks_insert, asks_watch, asks_more, asks_kill, asks_other, Told, refuses, inserted, opened, gave, killed, garbled, asked}
-use Rattle.mg_link.specs.Step.{Made, Named, name_all, entry_names, AreNew, AddsNoEntry, AreInsertEvents, MayTell, May}
+use Rattle.mg_link.specs.State.{Entry, State, nothing, name, Change, inserts, deletes, drops, invalidates}
+use Rattle.mg_link.specs.Commands.{Asked, asks_insert, asks_watch, asks_more, asks_kill, Told, refuses, inserted, opened, gave, killed, asked, asks_query, asks_update, asks_delete, asks_create, asks_indexes, asks_drop, updated, deleted, done}
+use Rattle.mg_link.specs.Step.{Made, Named, name_all, entry_names, AreNew, AddsNoEntry, IsEventOf, AreEventsOf, MayTell, May}
 use Rattle.mg_link.specs.History.{Step, step_after, state_after, IsLegal, IsLegalFrom, state_of, told_at}
 use Rattle.mg_link.proofs.Places.{get_joined}
 use Rattle.mg_link.proofs.Histories.{step_after-changes}
 use Rattle.mg_link.proofs.Tokens.{is_same_self}
 use Rattle.mg_link.proofs.Later.{Respects, name_respects, all_keep, grown-tokens, effect_keeps, later_step, respects_step}
+use Rattle.mg_link.specs.Write.{change_of}
 
 pub record IsNumbered (s : State) (p : ℕ) (e : Entry) : Type 0 where
   pub named : s.tokens e.token ≡ Some (suc p)
@@ -22,12 +23,12 @@ AreNumbered s = (p : ℕ) (e : Entry) → slice_get s.changes p ≡ Some e → I
 
 -- ---- the entries of a step
 
-insert_ids : (space : Space) (ds : List Fields) (es : List Entry) (j : ℕ) (e : Entry) → AreInsertEvents space ds es → slice_get es j ≡ Some e → get (codes "_id") e.event ≡ Some e.token
-insert_ids space [] [] j e are h = absurd cc
-insert_ids space [] (x ∷ es) j e are h = absurd are
-insert_ids space (d ∷ ds) [] j e are h = absurd are
-insert_ids space (d ∷ ds) (x ∷ es) zero e are h = let same : x ≡ e = cc in subst (λ (y : Entry). get (codes "_id") y.event ≡ Some y.token) same are.0.token_is
-insert_ids space (d ∷ ds) (x ∷ es) (suc j) e are h = insert_ids space ds es j e are.1 h
+insert_ids : (space : Space) (change : Change) (ds : List Fields) (es : List Entry) (j : ℕ) (e : Entry) → AreEventsOf space change ds es → slice_get es j ≡ Some e → get (codes "_id") e.event ≡ Some e.token
+insert_ids space change [] [] j e are h = absurd cc
+insert_ids space change [] (x ∷ es) j e are h = absurd are
+insert_ids space change (d ∷ ds) [] j e are h = absurd are
+insert_ids space change (d ∷ ds) (x ∷ es) zero e are h = let same : x ≡ e = cc in subst (λ (y : Entry). get (codes "_id") y.event ≡ Some y.token) same are.0.token_is
+insert_ids space change (d ∷ ds) (x ∷ es) (suc j) e are h = insert_ids space change ds es j e are.1 h
 
 none_there : (made : Made) (j : ℕ) (e : Entry) → AddsNoEntry made → slice_get made.entries j ≡ Some e → ⊥
 none_there made j e none h = let bad : slice_get (none_of e) j ≡ Some e = sym (ap (λ (l : List Entry). slice_get l j) none) ∙ h in cc
@@ -35,33 +36,31 @@ none_there made j e none h = let bad : slice_get (none_of e) j ≡ Some e = sym 
     none_of : Entry → List Entry
     none_of e = []
 
+drop_ids : (space : Space) (a b : Entry) (made : Made) (j : ℕ) (e : Entry) → made.entries ≡ a ∷ b ∷ [] → IsEventOf space drops a → IsEventOf space invalidates b → slice_get made.entries j ≡ Some e → get (codes "_id") e.event ≡ Some e.token
+drop_ids space a b made zero e is dropped ended h =
+    let same : a ≡ e = let f : Some a ≡ Some e = sym (ap (λ (l : List Entry). slice_get l 0) is) ∙ h in cc in
+    subst (λ (y : Entry). get (codes "_id") y.event ≡ Some y.token) same dropped.token_is
+drop_ids space a b made (suc zero) e is dropped ended h =
+    let same : b ≡ e = let f : Some b ≡ Some e = sym (ap (λ (l : List Entry). slice_get l 1) is) ∙ h in cc in
+    subst (λ (y : Entry). get (codes "_id") y.event ≡ Some y.token) same ended.token_is
+drop_ids space a b made (suc (suc j)) e is dropped ended h = let f : None ≡ Some e = sym (ap (λ (l : List Entry). slice_get l (suc (suc j))) is) ∙ h in absurd cc
+
 step_ids : (s s' : State) (command : Asked) (reply : Told) (made : Made) (j : ℕ) (e : Entry) → MayTell s s' command reply made → slice_get made.entries j ≡ Some e → get (codes "_id") e.event ≡ Some e.token
 step_ids s s' command (refuses code labels) made j e may h = absurd (none_there made j e may.no_entry h)
-step_ids s s' (asks_insert space documents ordered) (inserted n failures) made j e may h = insert_ids space _ made.entries j e may.entries h
+step_ids s s' (asks_insert space documents ordered) (inserted n failures) made j e may h = insert_ids space inserts _ made.entries j e may.entries h
+step_ids s s' (asks_update space conditions m many) (updated n changed []) made j e may h = insert_ids space (change_of m) _ made.entries j e may.entries h
+step_ids s s' (asks_update space conditions m many) (updated n changed (f ∷ fs)) made j e may h = absurd (none_there made j e may.0.no_entry h)
+step_ids s s' (asks_delete space conditions many) (deleted n []) made j e may h = insert_ids space deletes _ made.entries j e may.entries h
+step_ids s s' (asks_delete space conditions many) (deleted n (f ∷ fs)) made j e may h = absurd (none_there made j e may.no_entry h)
+step_ids s s' (asks_create space) done made j e may h = absurd (none_there made j e may.no_entry h)
+step_ids s s' (asks_indexes space indexes) done made j e may h = absurd (none_there made j e may h)
+step_ids s s' (asks_drop space) done made j e may h = drop_ids space may.dropped may.ended made j e may.entries may.drop_is may.end_is h
+step_ids s s' (asks_query q) (opened id at documents token time) made j e may h = absurd (none_there made j e may.no_entry h)
 step_ids s s' (asks_watch watch start) (opened id at events token time) made j e may h = absurd (none_there made j e may.no_entry h)
-step_ids s s' (asks_more id space) (gave left at events token) made j e may h = absurd (none_there made j e may.no_entry h)
+step_ids s s' (asks_more id space) (gave left at events token) made j e (inl may) h = absurd (none_there made j e may.no_entry h)
+step_ids s s' (asks_more id space) (gave left at events token) made j e (inr may) h = absurd (none_there made j e may.no_entry h)
 step_ids s s' (asks_kill ids) killed made j e may h = absurd (none_there made j e may h)
-step_ids s s' (asks_insert space documents ordered) (opened id at events token time) made j e may h = absurd may
-step_ids s s' (asks_insert space documents ordered) (gave left at events token) made j e may h = absurd may
-step_ids s s' (asks_insert space documents ordered) killed made j e may h = absurd may
-step_ids s s' (asks_insert space documents ordered) garbled made j e may h = absurd may
-step_ids s s' (asks_watch watch start) (inserted n failures) made j e may h = absurd may
-step_ids s s' (asks_watch watch start) (gave left at events token) made j e may h = absurd may
-step_ids s s' (asks_watch watch start) killed made j e may h = absurd may
-step_ids s s' (asks_watch watch start) garbled made j e may h = absurd may
-step_ids s s' (asks_more id space) (inserted n failures) made j e may h = absurd may
-step_ids s s' (asks_more id space) (opened other at events token time) made j e may h = absurd may
-step_ids s s' (asks_more id space) killed made j e may h = absurd may
-step_ids s s' (asks_more id space) garbled made j e may h = absurd may
-step_ids s s' (asks_kill ids) (inserted n failures) made j e may h = absurd may
-step_ids s s' (asks_kill ids) (opened id at events token time) made j e may h = absurd may
-step_ids s s' (asks_kill ids) (gave left at events token) made j e may h = absurd may
-step_ids s s' (asks_kill ids) garbled made j e may h = absurd may
-step_ids s s' asks_other (inserted n failures) made j e may h = absurd may
-step_ids s s' asks_other (opened id at events token time) made j e may h = absurd may
-step_ids s s' asks_other (gave left at events token) made j e may h = absurd may
-step_ids s s' asks_other killed made j e may h = absurd may
-step_ids s s' asks_other garbled made j e may h = absurd may
+step_ids s s' command reply made j e may h = absurd may
 
 step_names : (end place : ℕ) (es : List Entry) (ms : List Named) (tokens : Tree → Option ℕ) → Respects tokens → AreNew end tokens (entry_names place es ++ ms) → (j : ℕ) (e : Entry) → slice_get es j ≡ Some e
     → name_all (entry_names place es ++ ms) tokens e.token ≡ Some (suc (place + j))

@@ -11,8 +11,8 @@ use Rattle.mg_bson.specs.Find.{get}
 use Rattle.mg_link.specs.Namespace.{Space, collection}
 use Rattle.mg_link.specs.Filter.{Condition, has_dot}
 use Rattle.mg_link.specs.State.{Start, nowhere, after}
-use Rattle.mg_link.specs.Commands.{Asked, asks_insert, asks_watch, asks_more, asks_kill, asks_other, asked_by, asked, text_of, as_database, as_collection, database_at, space_at, as_integer, documents_in, integers_in, flag_or, insert_of, filter_stages, start_by, start_of, target_of, watch_from, watch_of, more_of, kill_of}
-use Rattle.mg_link.specs.Rules.{Request, insert, watch, more, kill, is_name_among, ignored, has_only, max_name, as_name, name_at, without_dot, named_space, as_id, id_of, optional_count, array_at, insert_request, batch_size, watch_options, behind_first, watch_request, some_size, more_request, ids_in, kill_request, bad_request, unknown_command, or_code, request_of}
+use Rattle.mg_link.specs.Commands.{Asked, asks_insert, asks_watch, asks_more, asks_kill, asks_other, asked_by, asked, text_of, as_database, as_collection, database_at, space_at, as_integer, documents_in, integers_in, flag_or, insert_of, filter_stages, start_by, start_of, target_of, watch_from, watch_of, more_of, kill_of, or_asks, pipeline_query, is_name_among, ignored, has_only, optional_count, batch_size}
+use Rattle.mg_link.specs.Rules.{Request, insert, watch, more, kill, max_name, as_name, name_at, without_dot, named_space, as_id, id_of, array_at, insert_request, watch_options, behind_first, watch_request, some_size, more_request, ids_in, kill_request, bad_request, unknown_command, or_code, request_of}
 
 -- ---- steps that gave something
 
@@ -273,14 +273,17 @@ by_name : (b : Bool) (o : Option Request) (rest : Result Request ℤ) (u v : Opt
 by_name true o rest u v r f g h = f (code_some bad_request o r h)
 by_name false o rest u v r f g h = g h
 
+reads_first : (o p : Option Asked) (r : Request) → Reads o r → Reads (or_asks o p) r
+reads_first o p r h = record { asks = ap (λ (x : Option Asked). or_asks x p) h.asks; named = h.named }
+
 -- what the store reads as a request is what the command asks for
 pub request_reads : (fs : Fields) (r : Request) → request_of fs ≡ Ok r → Reads (asked_by fs) r
 request_reads no_fields r h = absurd cc
 request_reads (field k t fs) r h =
     by_name (bytes_eq k (codes "insert")) (insert_request (field k t fs)) _ (insert_of (field k t fs)) _ r (insert_reads (field k t fs) r)
-    (by_name (bytes_eq k (codes "aggregate")) (watch_request (field k t fs)) _ (watch_of (field k t fs)) _ r (watch_reads (field k t fs) r)
+    (by_name (bytes_eq k (codes "aggregate")) (watch_request (field k t fs)) _ (or_asks (watch_of (field k t fs)) (pipeline_query (field k t fs))) _ r (λ e. reads_first (watch_of (field k t fs)) (pipeline_query (field k t fs)) r (watch_reads (field k t fs) r e))
     (by_name (bytes_eq k (codes "getMore")) (more_request (field k t fs)) _ (more_of (field k t fs)) _ r (more_reads (field k t fs) r)
-    (by_name (bytes_eq k (codes "killCursors")) (kill_request (field k t fs)) (Err unknown_command) (kill_of (field k t fs)) None r (kill_reads (field k t fs) r) (λ e. absurd cc)))) h
+    (by_name (bytes_eq k (codes "killCursors")) (kill_request (field k t fs)) (Err unknown_command) (kill_of (field k t fs)) _ r (kill_reads (field k t fs) r) (λ e. absurd cc)))) h
 
 pub asked_is : (command : List ℕ) (r : Request) → request_of (fields command) ≡ Ok r → asked command ≡ asks_of r
 unfolding asked

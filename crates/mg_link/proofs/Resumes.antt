@@ -4,7 +4,7 @@ use Rattle.std.specs.Prelude.{slice_get}
 use Rattle.std.specs.List.{slice_index_or}
 use Rattle.mg_bson.specs.Tree.{Tree, Fields}
 use Rattle.mg_link.specs.State.{State, Start, nowhere, after, at_time, count_before, start_place}
-use Rattle.mg_link.specs.Commands.{Asked, asks_watch, asks_kill, Told, refuses, inserted, opened, gave, killed, garbled, Batch, asked}
+use Rattle.mg_link.specs.Commands.{Asked, asks_watch, asks_kill, Told, refuses, inserted, opened, gave, killed, garbled, Batch, asked, updated, deleted, done}
 use Rattle.mg_link.specs.History.{Step, IsLegal, state_of, told_at}
 use Rattle.mg_link.specs.Log.{Sight, waiting, reply, Call, see}
 use Rattle.mg_link.specs.Link as link
@@ -28,6 +28,9 @@ opens_nonzero : (said : Told) (x : ℤ) → OpensId said x → x ≢ pos 0
 opens_nonzero (opened id space events token time) x opens = opens.1
 opens_nonzero (refuses code labels) x opens = absurd opens
 opens_nonzero (inserted n failures) x opens = absurd opens
+opens_nonzero (updated n changed failures) x opens = absurd opens
+opens_nonzero (deleted n failures) x opens = absurd opens
+opens_nonzero done x opens = absurd opens
 opens_nonzero (gave id space events token) x opens = absurd opens
 opens_nonzero killed x opens = absurd opens
 opens_nonzero garbled x opens = absurd opens

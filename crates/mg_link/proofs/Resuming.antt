@@ -6,7 +6,7 @@ use Rattle.std.proofs.lemmas.List.{take_at}
 use Rattle.mg_bson.specs.Tree.{Tree, Fields}
 use Rattle.mg_link.specs.Filter.{is_same}
 use Rattle.mg_link.specs.State.{Entry, State, Watch, Start, after, nothing, events_between, start_place, name}
-use Rattle.mg_link.specs.Commands.{Asked, asks_watch, Told, refuses, inserted, opened, gave, killed, garbled, asked}
+use Rattle.mg_link.specs.Commands.{Asked, asks_watch, Told, refuses, inserted, opened, gave, killed, garbled, asked, updated, deleted, done}
 use Rattle.mg_link.specs.Step.{Named, name_all, entry_names, grown, AreNew, May, MayTell}
 use Rattle.mg_link.specs.History.{Step, IsLegal, IsLegalFrom, OpensAt, Reached, opening, state_after, state_of, step_after, told_at, view_of}
 use Rattle.mg_link.proofs.Histories.{state_of-grows, step_after-changes, state_after-append}
@@ -110,6 +110,9 @@ opens_by history position step w token place (opened id space events upto time) 
     opened_there history position token place may.from (step_after t.before step) named (t.opens (after token)) t.later (ap (λ (f : Tree → Option ℕ). f token) same ∙ may.begins)
 opens_by history position step w token place (refuses code labels) t named may same = tt
 opens_by history position step w token place (inserted n failures) t named may same = absurd may
+opens_by history position step w token place (updated n changed failures) t named may same = absurd may
+opens_by history position step w token place (deleted n failures) t named may same = absurd may
+opens_by history position step w token place done t named may same = absurd may
 opens_by history position step w token place (gave id space events upto) t named may same = absurd may
 opens_by history position step w token place killed t named may same = absurd may
 opens_by history position step w token place garbled t named may same = absurd may

@@ -3,7 +3,7 @@ use Rattle.std.proofs.Common.{◌≡◌, ◌≢◌, ℕ, suc, ℤ, pos, true, fa
 use Rattle.std.proofs.lemmas.List.{take_at}
 use Rattle.mg_link.specs.Namespace.{Space}
 use Rattle.mg_link.specs.State.{State, nothing, Watch, Start, start_place}
-use Rattle.mg_link.specs.Commands.{Asked, Told, refuses, inserted, opened, gave, killed, garbled, asked, asks_watch, asks_more}
+use Rattle.mg_link.specs.Commands.{Asked, Told, refuses, inserted, opened, gave, killed, garbled, asked, asks_watch, asks_more, updated, deleted, done}
 use Rattle.mg_link.specs.Step.{grown, effect, May, MayTell}
 use Rattle.mg_link.specs.History.{Step, step_after, state_after, state_of, told_at, opening}
 use Rattle.mg_link.specs.Log.{Call}
@@ -24,6 +24,9 @@ resumed_by s' n t w start place (opened id space events token time) was there la
     brings_later n t w place id events token later (λ ne. same id (refl, ne)) (subst (λ (m : ℕ). Brings n w m id events token) (there was.from was.begins) was.brings)
 resumed_by s' n t w start place (refuses code labels) was there later same = tt
 resumed_by s' n t w start place (inserted m failures) was there later same = absurd was
+resumed_by s' n t w start place (updated m changed failures) was there later same = absurd was
+resumed_by s' n t w start place (deleted m failures) was there later same = absurd was
+resumed_by s' n t w start place done was there later same = absurd was
 resumed_by s' n t w start place (gave id space events token) was there later same = absurd was
 resumed_by s' n t w start place killed was there later same = absurd was
 resumed_by s' n t w start place garbled was there later same = absurd was
@@ -39,6 +42,9 @@ started_by s' n history w start position (opened id space events token time) was
     }
 started_by s' n history w start position (refuses code labels) was opens later same = tt
 started_by s' n history w start position (inserted m failures) was opens later same = absurd was
+started_by s' n history w start position (updated m changed failures) was opens later same = absurd was
+started_by s' n history w start position (deleted m failures) was opens later same = absurd was
+started_by s' n history w start position done was opens later same = absurd was
 started_by s' n history w start position (gave id space events token) was opens later same = absurd was
 started_by s' n history w start position killed was opens later same = absurd was
 started_by s' n history w start position garbled was opens later same = absurd was

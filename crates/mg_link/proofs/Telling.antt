@@ -13,7 +13,7 @@ use Rattle.mg_link.specs.Namespace.{Space, is_dot, space_of, full_name}
 use Rattle.mg_link.specs.Filter.{has_dot}
 use Rattle.mg_link.specs.State.{Watch, Start, State}
 use Rattle.mg_link.specs.Reply.{verdict_of, code_of, labels_of, texts_of}
-use Rattle.mg_link.specs.Commands.{Asked, asks_insert, asks_watch, asks_more, asks_kill, Failure, Told, refuses, inserted, opened, gave, killed, garbled, as_integer, documents_in, failures_by, failures_at, inserted_by, Batch, batch_by, batch_of, opened_by, gave_by, success_by, told, told_by}
+use Rattle.mg_link.specs.Commands.{Asked, asks_insert, asks_watch, asks_more, asks_kill, Failure, Told, refuses, inserted, opened, gave, killed, garbled, as_integer, documents_in, failures_by, failures_at, inserted_by, Batch, batch_by, batch_of, opened_by, gave_by, success_by, told, told_by, are_write_errors, within_grammar}
 use Rattle.mg_link.specs.Rules.{Inserted, number_of, errors_field, inserted_reply, documents_of_items, cursor_fields, first_batch, next_batch, token_of, stamp_of, now_of, killed_reply, words_of, refusal}
 use Rattle.mg_link.proofs.Requests.{IsNamed}
 
@@ -43,10 +43,10 @@ insert_counts n o failures e = ap₂ (λ (z : Option ℤ) (fs : Option (List Fai
 abbrev insert_fields : ℕ → Items → Fields
 insert_fields n errors = "n" ⇒ number_of n ⨾ errors_field errors ("ok" ⇒ int32 (pos 1) ⨾ empty)
 
-insert_read : (n : ℕ) (errors : Items) (failures : List Failure) → option_and_then failures_by (documents_in errors) ≡ Some failures → inserted_by (insert_fields n errors) ≡ Some (inserted (pos n) failures)
+insert_read : (n : ℕ) (errors : Items) (failures : List Failure) → option_and_then failures_by (documents_in errors) ≡ Some failures → are_write_errors errors ≡ true → within_grammar (insert_fields n errors) (inserted_by (insert_fields n errors)) ≡ Some (inserted (pos n) failures)
 unfolding inserted_by
-insert_read n no_items failures e = insert_counts n (failures_at None) failures e
-insert_read n (item t ts) failures e = insert_counts n (failures_at (Some (array (item t ts)))) failures e
+insert_read n no_items failures e keep = insert_counts n (failures_at None) failures e
+insert_read n (item t ts) failures e keep = ap (λ (b : Bool). if b && true then inserted_by (insert_fields n (item t ts)) else None) keep ∙ insert_counts n (failures_at (Some (array (item t ts)))) failures e
 
 insert_succeeds : (n : ℕ) (errors : Items) → verdict_of (insert_fields n errors) ≡ verdict.Success
 unfolding verdict_of
@@ -56,10 +56,10 @@ insert_succeeds n (item t ts) = refl
 told_well : (v : Verdict) (command : Asked) (reply : Fields) (t : Told) → v ≡ verdict.Success → success_by command reply ≡ Some t → told_by v command reply ≡ t
 told_well v command reply t e f = ap (λ (x : Verdict). told_by x command reply) e ∙ ap (λ (o : Option Told). unwrap_or o garbled) f
 
-pub insert_tells : (space : Space) (ds : List Fields) (ordered : Bool) (i : Inserted) (failures : List Failure) → option_and_then failures_by (documents_in i.errors) ≡ Some failures
+pub insert_tells : (space : Space) (ds : List Fields) (ordered : Bool) (i : Inserted) (failures : List Failure) → option_and_then failures_by (documents_in i.errors) ≡ Some failures → are_write_errors i.errors ≡ true
     → told_by (verdict_of (inserted_reply i)) (asks_insert space ds ordered) (inserted_reply i) ≡ inserted (pos (length i.documents)) failures
-insert_tells space ds ordered i failures e =
-    told_well (verdict_of (inserted_reply i)) (asks_insert space ds ordered) (inserted_reply i) (inserted (pos (length i.documents)) failures) (insert_succeeds (length i.documents) i.errors) (insert_read (length i.documents) i.errors failures e)
+insert_tells space ds ordered i failures e keep =
+    told_well (verdict_of (inserted_reply i)) (asks_insert space ds ordered) (inserted_reply i) (inserted (pos (length i.documents)) failures) (insert_succeeds (length i.documents) i.errors) (insert_read (length i.documents) i.errors failures e keep)
 
 -- ---- batches
 

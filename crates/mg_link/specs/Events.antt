@@ -1,10 +1,10 @@
 -- What events have and tell (change events).
-use Rattle.std.specs.Prelude.{◌≡◌, Some, List, [], ◌∷◌, codes}
+use Rattle.std.specs.Prelude.{◌≡◌, ℕ, Some, List, [], ◌∷◌, codes}
 use Rattle.mg_bson.specs.Tree.{Tree, string, document, Fields, no_fields, field}
 use Rattle.mg_bson.specs.Find.{get}
 use Rattle.mg_link.specs.Namespace.{Space}
-use Rattle.mg_link.specs.State.{Entry}
-use Rattle.mg_link.specs.Commands.{Asked, asks_insert, asks_watch, asks_more, asks_kill, asks_other, Told, refuses, inserted, opened, gave, killed, garbled, asked}
+use Rattle.mg_link.specs.State.{Entry, Watch, watching, State}
+use Rattle.mg_link.specs.Commands.{Asked, asks_insert, asks_watch, asks_more, Told, refuses, inserted, opened, gave, killed, garbled, asked, updated, deleted, done}
 use Rattle.mg_link.specs.Step.{written}
 use Rattle.mg_link.specs.History.{Step, told_at}
 
@@ -18,22 +18,23 @@ abbrev pub HaveIds : List Fields → Type 0
 HaveIds [] = Unit {0}
 HaveIds (e ∷ es) = HasId e × HaveIds es
 
--- the events that a reply brings
+-- the events, or the documents, that a reply brings
 abbrev pub events_in : Told → List Fields
 events_in (opened id space events token time) = events
 events_in (gave id space events token) = events
 events_in (refuses code labels) = []
 events_in (inserted n failures) = []
+events_in (updated n changed failures) = []
+events_in (deleted n failures) = []
+events_in done = []
 events_in killed = []
 events_in garbled = []
 
--- the command asks for a batch of a watch
-abbrev pub AsksForEvents : Asked → Type 0
-AsksForEvents (asks_watch watch start) = Unit {0}
-AsksForEvents (asks_more id space) = Unit {0}
-AsksForEvents (asks_insert space documents ordered) = ⊥
-AsksForEvents (asks_kill ids) = ⊥
-AsksForEvents asks_other = ⊥
+-- the command asks, in this state, for a batch of a watch
+abbrev pub AsksForEvents : State → Asked → Type 0
+AsksForEvents s (asks_watch watch start) = Unit {0}
+AsksForEvents s (asks_more id space) = (watch : Watch) × (place : ℕ) × (s.cursors id ≡ Some (watching watch place))
+AsksForEvents s command = ⊥
 
 -- ---- inserts
 

@@ -4,7 +4,7 @@ use Rattle.mg_bson.specs.Tree.{Tree, Fields}
 use Rattle.mg_bson.specs.Raw.{fields}
 use Rattle.mg_link.specs.Namespace.{Space}
 use Rattle.mg_link.specs.State.{State, Watch, Cursor, watching, Start, nowhere, after, at_time, count_before, events_between}
-use Rattle.mg_link.specs.Commands.{Batch, batch_of, asks_watch, asks_more, Told, refuses, inserted, opened, gave, killed, garbled, asked}
+use Rattle.mg_link.specs.Commands.{Batch, batch_of, asks_watch, asks_more, Told, refuses, inserted, opened, gave, killed, garbled, asked, updated, deleted, done}
 use Rattle.mg_link.specs.Step.{IsNamed}
 use Rattle.mg_link.specs.History.{Step, IsLegal, state_of, told_at, opening, Answers, Reached}
 use Rattle.mg_link.specs.Log.{Call, reply}
@@ -123,6 +123,9 @@ abbrev pub AfterOpen : State → Watch → ℕ → Told → Type 0
 AfterOpen s w from (opened id space events token time) = Brings s w from id events token
 AfterOpen s w from (refuses code labels) = Unit {0}
 AfterOpen s w from (inserted n failures) = ⊥
+AfterOpen s w from (updated n changed failures) = ⊥
+AfterOpen s w from (deleted n failures) = ⊥
+AfterOpen s w from done = ⊥
 AfterOpen s w from (gave id space events token) = ⊥
 AfterOpen s w from killed = ⊥
 AfterOpen s w from garbled = ⊥
@@ -133,6 +136,9 @@ AfterMore s w id place (gave left space events token) = Brings s w place id even
 AfterMore s w id place (refuses code labels) = CursorAt s w id place
 AfterMore s w id place (opened other space events token time) = ⊥
 AfterMore s w id place (inserted n failures) = ⊥
+AfterMore s w id place (updated n changed failures) = ⊥
+AfterMore s w id place (deleted n failures) = ⊥
+AfterMore s w id place done = ⊥
 AfterMore s w id place killed = ⊥
 AfterMore s w id place garbled = ⊥
 
@@ -154,6 +160,9 @@ abbrev pub AfterStart : List Step → Watch → Start → ℕ → Told → Type 
 AfterStart history w start position (opened id space events token time) = Begins history w start position id events token
 AfterStart history w start position (refuses code labels) = Unit {0}
 AfterStart history w start position (inserted n failures) = ⊥
+AfterStart history w start position (updated n changed failures) = ⊥
+AfterStart history w start position (deleted n failures) = ⊥
+AfterStart history w start position done = ⊥
 AfterStart history w start position (gave id space events token) = ⊥
 AfterStart history w start position killed = ⊥
 AfterStart history w start position garbled = ⊥
@@ -265,6 +274,9 @@ HasNoBatch garbled = Unit {0}
 HasNoBatch (opened id space events token time) = ⊥
 HasNoBatch (gave id space events token) = ⊥
 HasNoBatch (inserted n failures) = ⊥
+HasNoBatch (updated n changed failures) = ⊥
+HasNoBatch (deleted n failures) = ⊥
+HasNoBatch done = ⊥
 HasNoBatch killed = ⊥
 
 -- ---- what this comes to

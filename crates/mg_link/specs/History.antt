@@ -2,7 +2,7 @@
 use Rattle.std.specs.Prelude.{◌≡◌, ◌≤◌, ℕ, suc, Option, Some, List, [], ◌∷◌, ◌++◌, length, take}
 use Rattle.mg_bson.specs.Tree.{Tree, Fields}
 use Rattle.mg_link.specs.State.{State, nothing, Watch, Start, start_place, events_between}
-use Rattle.mg_link.specs.Commands.{Told, refuses, inserted, opened, gave, killed, garbled, asked, told}
+use Rattle.mg_link.specs.Commands.{Told, refuses, inserted, opened, gave, killed, garbled, asked, told, updated, deleted, done}
 use Rattle.mg_link.specs.Step.{Made, May, next}
 
 -- a command as it came, the reply as it was given, and what the step added
@@ -43,6 +43,9 @@ abbrev pub OpensAt : List Step → ℕ → Start → ℕ → Told → Type 0
 OpensAt history position start place (opened id space events token time) = opening history position start ≡ Some place
 OpensAt history position start place (refuses code labels) = Unit {0}
 OpensAt history position start place (inserted n failures) = ⊥
+OpensAt history position start place (updated n changed failures) = ⊥
+OpensAt history position start place (deleted n failures) = ⊥
+OpensAt history position start place done = ⊥
 OpensAt history position start place (gave id space events token) = ⊥
 OpensAt history position start place killed = ⊥
 OpensAt history position start place garbled = ⊥

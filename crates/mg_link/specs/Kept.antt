@@ -6,7 +6,7 @@ use Rattle.mg_bson.specs.Bytes.{bytes}
 use Rattle.mg_bson.specs.Raw.{fields}
 use Rattle.mg_link.specs.Namespace.{Target, database, collection, cluster}
 use Rattle.mg_link.specs.State.{inserts, Entry, Cursor, query, watching, State, nothing}
-use Rattle.mg_link.specs.Commands.{Told, refuses, inserted, opened, gave, killed, garbled, asked, told}
+use Rattle.mg_link.specs.Commands.{Told, refuses, inserted, opened, gave, killed, garbled, asked, told, updated, deleted, done}
 use Rattle.mg_link.specs.Step.{Made, Named, May}
 use Rattle.mg_link.specs.History.{Step, step_after, state_of}
 use Rattle.mg_link.specs.Events.{TellsWritten}
@@ -33,6 +33,9 @@ made_these s started entries = record { entries = entries; tokens = first_tokens
 abbrev pub made_by : State → Bool → List Entry → Told → Made
 made_by s started entries (refuses code labels) = made_none s started
 made_by s started entries (inserted n failures) = made_these s started entries
+made_by s started entries (updated n changed failures) = made_these s started entries
+made_by s started entries (deleted n failures) = made_these s started entries
+made_by s started entries done = made_these s started entries
 made_by s started entries (opened id space events token time) = made_these s started entries
 made_by s started entries (gave id space events token) = made_these s started entries
 made_by s started entries killed = made_these s started entries
@@ -43,6 +46,9 @@ abbrev pub given_by : ℕ → Told → ℕ
 given_by given (opened id space events token time) = if int_eq id (pos 0) then given else suc given
 given_by given (refuses code labels) = given
 given_by given (inserted n failures) = given
+given_by given (updated n changed failures) = given
+given_by given (deleted n failures) = given
+given_by given done = given
 given_by given (gave id space events token) = given
 given_by given killed = given
 given_by given garbled = given

@@ -22,6 +22,8 @@ pub mod Places
 pub mod Scripted
 pub mod Filter
 pub mod State
+pub mod Query
+pub mod Write
 pub mod Commands
 pub mod Step
 pub mod History
@@ -33,3 +35,4 @@ pub mod Follow
 pub mod Rules
 pub mod Kept
 pub mod Example
+pub mod Worked

@@ -1,14 +1,15 @@
 -- When the answers to a caller hold nothing back (change streams, getMore and insert specifications: a server may cut batches where it likes, and refuse).
-use Rattle.std.specs.Prelude.{◌≡◌, ℕ, ℤ, pos, Bool, true, Option, Some, None, List, [], Contains, length, take, slice_get, unwrap_or, codes}
+use Rattle.std.specs.Prelude.{◌≡◌, ℕ, ℤ, pos, Bool, true, Some, None, List, [], Contains, length, take, slice_get, unwrap_or, codes, ◌≢◌, Option, ◌++◌}
 use Rattle.mg_bson.specs.Tree.{Tree, Fields}
 use Rattle.mg_bson.specs.Find.{get}
 use Rattle.mg_bson.specs.Raw.{fields}
 use Rattle.mg_link.specs.Namespace.{Space}
-use Rattle.mg_link.specs.State.{Entry, Watch, watching, State, start_place, events_between, seen_between, is_invalidate}
-use Rattle.mg_link.specs.Commands.{Asked, asks_insert, asks_watch, asks_more, asks_kill, asks_other, Failure, Told, refuses, inserted, opened, gave, killed, asked, failures_at}
+use Rattle.mg_link.specs.State.{Entry, Watch, watching, State, start_place, events_between, seen_between, is_invalidate, query}
+use Rattle.mg_link.specs.Commands.{Asked, asks_insert, asks_watch, asks_more, asks_kill, Failure, Told, refuses, inserted, opened, gave, killed, asked, failures_at, updated, deleted, asks_update, asks_delete, asks_query, asks_create, asks_indexes, asks_drop}
 use Rattle.mg_link.specs.Step.{IsNamed, documents_of}
 use Rattle.mg_link.specs.History.{Step, state_of, step_after, told_at}
 use Rattle.mg_link.specs.Rules.{inserting, inserted_reply}
+use Rattle.mg_link.specs.Query.{result}
 
 -- the write errors that the store's rules list for an insert
 abbrev pub rule_failures : State → Space → List Fields → Bool → List Failure
@@ -22,22 +23,33 @@ EndsByInvalidate s' w from id token = id ≡ pos 0 → (upto : ℕ) × IsNamed s
 abbrev pub GivesSome : State → Watch → ℕ → List Fields → Type 0
 GivesSome s w from events = events ≡ [] → events_between w s.changes from (length s.changes) ≡ []
 
--- the first batch may be empty, and later ones not while an entry is left; nothing is refused, and a write fails only as the store's rules have it
+-- a batch of a query holds a document where one is left, and ends the cursor as soon as nothing is left
+pub record HoldsBack (size : Option ℕ) (id : ℤ) (given left : List Fields) : Type 0 where
+  pub some : size ≢ Some 0 → given ≡ [] → left ≡ []
+  pub ends : left ≡ [] → id ≡ pos 0
+
+-- The first batch of a watch may be empty, and later ones not while an entry is left. Nothing is refused, and a write fails only as the store's rules have it.
 abbrev pub AnswersAtOnce : State → State → Asked → Told → Type 0
 AnswersAtOnce s s' command (refuses code labels) = ⊥
 AnswersAtOnce s s' (asks_insert space documents ordered) (inserted n failures) = (f : Failure) → Contains failures f → Contains (rule_failures s space documents ordered) f
+AnswersAtOnce s s' (asks_update space conditions modification many) (updated n changed failures) = failures ≡ []
+AnswersAtOnce s s' (asks_delete space conditions many) (deleted n failures) = failures ≡ []
+AnswersAtOnce s s' (asks_query q) (opened id space documents token time) = (left : List Fields) → result s' q ≡ Some (documents ++ left) → HoldsBack q.size id documents left
 AnswersAtOnce s s' (asks_watch watch start) (opened id space events token time) = (from : ℕ) → start_place s start ≡ Some from → EndsByInvalidate s' watch from id token
-AnswersAtOnce s s' (asks_more id space) (gave left other events token) = (watch : Watch) (from : ℕ) → s.cursors id ≡ Some (watching watch from) → GivesSome s watch from events × EndsByInvalidate s' watch from left token
+AnswersAtOnce s s' (asks_more id space) (gave next other events token) = ((watch : Watch) (from : ℕ) → s.cursors id ≡ Some (watching watch from) → GivesSome s watch from events × EndsByInvalidate s' watch from next token)
+    × ((of : Space) (left : List Fields) → s.cursors id ≡ Some (query of (events ++ left)) → HoldsBack None next events left)
 AnswersAtOnce s s' (asks_kill ids) killed = Unit {0}
 AnswersAtOnce s s' command reply = Unit {0}
 
 -- the reply to a write tells of no write concern that was not met
 abbrev pub MeetsConcern : Asked → List ℕ → Type 0
 MeetsConcern (asks_insert space documents ordered) bytes = get (codes "writeConcernError") (fields bytes) ≡ None
-MeetsConcern (asks_watch watch start) bytes = Unit {0}
-MeetsConcern (asks_more id space) bytes = Unit {0}
-MeetsConcern (asks_kill ids) bytes = Unit {0}
-MeetsConcern asks_other bytes = Unit {0}
+MeetsConcern (asks_update space conditions modification many) bytes = get (codes "writeConcernError") (fields bytes) ≡ None
+MeetsConcern (asks_delete space conditions many) bytes = get (codes "writeConcernError") (fields bytes) ≡ None
+MeetsConcern (asks_create space) bytes = get (codes "writeConcernError") (fields bytes) ≡ None
+MeetsConcern (asks_indexes space indexes) bytes = get (codes "writeConcernError") (fields bytes) ≡ None
+MeetsConcern (asks_drop space) bytes = get (codes "writeConcernError") (fields bytes) ≡ None
+MeetsConcern command bytes = Unit {0}
 
 -- the steps at these positions, which are a caller's own, were answered so
 abbrev pub IsPrompt : List ℕ → List Step → Type 0

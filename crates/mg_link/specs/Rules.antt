@@ -7,12 +7,12 @@ use Rattle.hex.specs.Hex.{encode_lower}
 use Rattle.mg_bson.specs.Tree.{Tree, string, document, array, int32, int64, timestamp, Fields, no_fields, field, Items, no_items, item}
 use Rattle.mg_bson.specs.Bytes.{bytes, levels}
 use Rattle.mg_bson.specs.Reading.{◌>>=◌}
-use Rattle.mg_bson.specs.Find.{get, as_string, as_document, as_array}
+use Rattle.mg_bson.specs.Find.{get, as_string, as_array}
 use Rattle.mg_bson.specs.Literal.{◌⇒◌⨾◌, empty, word}
 use Rattle.mg_link.specs.Namespace.{Space, Target, database, collection, cluster, full_name}
 use Rattle.mg_link.specs.Filter.{Condition, is_same, has_dot}
 use Rattle.mg_link.specs.State.{inserts, Entry, Watch, Cursor, query, watching, State, is_space, sees, events_between, time_of, is_invalidate}
-use Rattle.mg_link.specs.Commands.{as_integer, documents_in, flag_or, filter_stages, watch_stage}
+use Rattle.mg_link.specs.Commands.{as_integer, documents_in, flag_or, filter_stages, watch_stage, has_only, optional_count, batch_size}
 use Rattle.mg_link.specs.Step.{documents_of}
 
 -- ---- limits
@@ -61,20 +61,6 @@ pub data Request : Type 0 where
   more : (id : ℤ) (space : Space) (size : Option ℕ) → Request
   kill : (ids : List ℤ) → Request
 
-abbrev pub is_name_among : List ℕ → List (List ℕ) → Bool
-is_name_among k [] = false
-is_name_among k (n ∷ ns) = bytes_eq k n || is_name_among k ns
-
--- the fields that any command may have and that change nothing here
-abbrev pub ignored : List (List ℕ)
-ignored = codes "$db" ∷ codes "lsid" ∷ codes "txnNumber" ∷ codes "startTransaction" ∷ codes "autocommit" ∷ codes "readConcern" ∷ codes "writeConcern" ∷ codes "$readPreference"
-    ∷ codes "comment" ∷ codes "maxTimeMS" ∷ codes "allowDiskUse" ∷ codes "noCursorTimeout" ∷ codes "bypassDocumentValidation" ∷ codes "showExpandedEvents" ∷ codes "nameOnly" ∷ []
-
--- each field has one of the names, or one that changes nothing
-abbrev pub has_only : List (List ℕ) → Fields → Bool
-has_only names no_fields = true
-has_only names (field k t fs) = (is_name_among k names || is_name_among k ignored) && has_only names fs
-
 -- a text that may name a database or a collection
 abbrev pub as_name : List ℕ → Option (List ℕ)
 as_name s = if nat_lt 0 (length s) && nat_le (length s) max_name then Some s else None
@@ -89,25 +75,12 @@ without_dot s = if has_dot s then None else Some s
 unfoldable pub named_space : List ℕ → Fields → Option Space
 named_space at fs = name_at (codes "$db") fs >>= λ name. without_dot name >>= λ db. name_at at fs >>= λ coll. Some (record { db = db; coll = coll })
 
--- a number of a request: it is not negative
-abbrev pub as_count : ℤ → Option ℕ
-as_count (pos n) = Some n
-as_count _ = None
-
 abbrev pub as_id : ℤ → Option ℤ
 as_id (pos n) = Some (pos n)
 as_id _ = None
 
-abbrev pub count_of : Tree → Option ℕ
-count_of t = option_and_then as_count (as_integer t)
-
 abbrev pub id_of : Tree → Option ℤ
 id_of t = option_and_then as_id (as_integer t)
-
--- the count of the name, where it is there at all
-abbrev pub optional_count : Option Tree → Option (Option ℕ)
-optional_count None = Some None
-optional_count (Some t) = option_map Some (count_of t)
 
 abbrev pub array_at : List ℕ → Fields → Option Items
 array_at name fs = option_and_then as_array (get name fs)
@@ -116,10 +89,6 @@ unfoldable pub insert_request : Fields → Option Request
 insert_request fs = if has_only (codes "insert" ∷ codes "documents" ∷ codes "ordered" ∷ []) fs
     then (named_space (codes "insert") fs >>= λ space. array_at (codes "documents") fs >>= λ items. documents_in items >>= λ ds. flag_or true (get (codes "ordered") fs) >>= λ ordered. Some (insert space ds ordered))
     else None
-
--- the size of the batches, of the field `cursor`
-unfoldable pub batch_size : Fields → Option (Option ℕ)
-batch_size fs = option_and_then as_document (get (codes "cursor") fs) >>= λ cursor. if has_only (codes "batchSize" ∷ []) cursor then optional_count (get (codes "batchSize") cursor) else None
 
 -- the options of the stage that opens a watch
 abbrev pub watch_options : List Fields → Option Fields

@@ -1,7 +1,7 @@
 -- When the log of a link stands in a server's history.
 use Rattle.std.specs.Prelude.{Contains, ◌≡◌, ◌≢◌, ◌<◌, ℕ, ℤ, pos, Option, Some, None, List, [], ◌∷◌, slice_get, take}
 use Rattle.mg_link.specs.Log.{Sight, waiting, reply, fault, memory, Call}
-use Rattle.mg_link.specs.Commands.{Asked, asks_insert, asks_watch, asks_more, asks_kill, asks_other, Told, refuses, inserted, opened, gave, killed, garbled, asked}
+use Rattle.mg_link.specs.Commands.{Asked, asks_insert, asks_watch, asks_more, asks_kill, asks_other, Told, refuses, inserted, opened, gave, killed, garbled, asked, updated, deleted, done, asks_update, asks_delete, asks_query, asks_create, asks_indexes, asks_drop}
 use Rattle.mg_link.specs.History.{Step, told_at}
 
 -- the command asks about this cursor
@@ -9,6 +9,12 @@ abbrev pub Names : Asked → ℤ → Type 0
 Names (asks_more id space) x = id ≡ x
 Names (asks_kill ids) x = Contains ids x
 Names (asks_insert space documents ordered) x = ⊥
+Names (asks_update space conditions modification many) x = ⊥
+Names (asks_delete space conditions many) x = ⊥
+Names (asks_query q) x = ⊥
+Names (asks_create space) x = ⊥
+Names (asks_indexes space indexes) x = ⊥
+Names (asks_drop space) x = ⊥
 Names (asks_watch watch start) x = ⊥
 Names asks_other x = ⊥
 
@@ -17,6 +23,9 @@ abbrev pub OpensId : Told → ℤ → Type 0
 OpensId (opened id space events token time) x = (id ≡ x) × (x ≢ pos 0)
 OpensId (refuses code labels) x = ⊥
 OpensId (inserted n failures) x = ⊥
+OpensId (updated n changed failures) x = ⊥
+OpensId (deleted n failures) x = ⊥
+OpensId done x = ⊥
 OpensId (gave id space events token) x = ⊥
 OpensId killed x = ⊥
 OpensId garbled x = ⊥

@@ -85,6 +85,16 @@ abbrev pub put_collection : Collection → List Collection → List Collection
 put_collection c [] = c ∷ []
 put_collection c (d ∷ ds) = if is_space d.space c.space then c ∷ ds else (if comes_before c.space d.space then c ∷ d ∷ ds else d ∷ put_collection c ds)
 
+-- the collections without the one of this name
+abbrev pub without_collection : Space → List Collection → List Collection
+without_collection space [] = []
+without_collection space (c ∷ cs) = if is_space space c.space then cs else c ∷ without_collection space cs
+
+-- the collections where the one of this name has other documents; one that is not there stays so
+abbrev pub change_documents : Space → (List Fields → List Fields) → List Collection → List Collection
+change_documents space g [] = []
+change_documents space g (c ∷ cs) = if is_space space c.space then record c { documents = g c.documents } ∷ cs else c ∷ change_documents space g cs
+
 -- the documents of a collection that is there
 abbrev pub documents_at : State → Space → Option (List Fields)
 documents_at s space = option_map (λ (c : Collection). c.documents) (collection_in s.collections space)

@@ -1,12 +1,14 @@
--- What a server may reply, and the state after it (insert, change streams, getMore and killCursors specifications).
-use Rattle.std.specs.Prelude.{◌≡◌, ◌≢◌, ◌⊎◌, ℕ, suc, ◌+◌, ◌≤◌, ℤ, pos, Bool, true, false, Option, Some, None, option_and_then, unwrap_or, List, [], ◌∷◌, ◌++◌, length, codes, if◌then◌else◌}
+-- What a server may reply, and the state after it (CRUD, change streams, getMore, killCursors, enumerating collections and indexes specifications).
+use Rattle.std.specs.Prelude.{◌≡◌, ◌≢◌, ◌⊎◌, ℕ, suc, ◌+◌, ◌≤◌, ℤ, pos, Bool, true, false, Option, Some, None, option_and_then, unwrap_or, List, [], ◌∷◌, ◌++◌, length, codes, if◌then◌else◌, drop}
 use Rattle.std.specs.Ordering.{int_eq}
 use Rattle.mg_bson.specs.Tree.{Tree, Fields}
 use Rattle.mg_bson.specs.Find.{get}
 use Rattle.mg_link.specs.Namespace.{Space}
-use Rattle.mg_link.specs.Filter.{is_same}
-use Rattle.mg_link.specs.State.{inserts, Entry, Watch, Cursor, watching, State, Start, seen_between, events_between, start_place, is_invalidate, documents_at, with_documents, put_cursor, without_cursors, give, name}
-use Rattle.mg_link.specs.Commands.{Asked, asks_insert, asks_watch, asks_more, asks_kill, Failure, Told, refuses, inserted, opened, gave, killed}
+use Rattle.mg_link.specs.Filter.{is_same, Condition}
+use Rattle.mg_link.specs.State.{inserts, Entry, Watch, Cursor, watching, State, Start, seen_between, events_between, start_place, is_invalidate, documents_at, with_documents, put_cursor, without_cursors, give, name, Change, deletes, drops, invalidates, Collection, query, collection_in, put_collection, without_collection, change_documents, indexes_of}
+use Rattle.mg_link.specs.Commands.{Asked, asks_insert, asks_watch, asks_more, asks_kill, Failure, Told, refuses, inserted, opened, gave, killed, asks_update, asks_delete, asks_query, asks_create, asks_indexes, asks_drop, updated, deleted, done}
+use Rattle.mg_link.specs.Query.{Query, result}
+use Rattle.mg_link.specs.Write.{Modification, change_of, chosen, changing, after_update, after_delete, with_indexes}
 
 -- a token and the place that it names
 pub record Named : Type 0 where
@@ -57,17 +59,22 @@ IsNamed s None place = ⊥
 abbrev pub watching_at : State → Watch → Option Tree → Cursor
 watching_at s w token = watching w (unwrap_or (option_and_then s.tokens token) 0)
 
+-- a cursor of a query with what its result has behind these documents
+abbrev pub queried_at : State → Query → Space → List Fields → Cursor
+queried_at s q space given = query space (drop (length given) (unwrap_or (result s q) []))
+
 -- a reply with id 0 leaves the server without the cursor
-abbrev pub opened_cursor : State → Watch → ℤ → Option Tree → State
-opened_cursor s w id token = if int_eq id (pos 0) then s else record s { cursors = put_cursor id (Some (watching_at s w token)) s.cursors; given = give id s.given }
+abbrev pub opened_cursor : State → ℤ → Cursor → State
+opened_cursor s id c = if int_eq id (pos 0) then s else record s { cursors = put_cursor id (Some c) s.cursors; given = give id s.given }
 
-abbrev pub moved : State → Option Tree → Option Cursor → Option Cursor
-moved s token None = None
-moved s token (Some (watching w place)) = Some (watching_at s w token)
-moved s token (Some other) = Some other
+-- a cursor behind a batch
+abbrev pub moved : State → List Fields → Option Tree → Option Cursor → Option Cursor
+moved s given token None = None
+moved s given token (Some (watching w place)) = Some (watching_at s w token)
+moved s given token (Some (query space left)) = Some (query space (drop (length given) left))
 
-abbrev pub moved_cursor : State → ℤ → ℤ → Option Tree → State
-moved_cursor s id left token = record s { cursors = put_cursor id (if int_eq left (pos 0) then None else moved s token (s.cursors id)) s.cursors }
+abbrev pub moved_cursor : State → ℤ → ℤ → List Fields → Option Tree → State
+moved_cursor s id left given token = record s { cursors = put_cursor id (if int_eq left (pos 0) then None else moved s given token (s.cursors id)) s.cursors }
 
 -- the codes with which a server refuses a cursor that it does not hold, or that was killed
 abbrev pub ends_cursor : ℤ → Bool
@@ -76,8 +83,14 @@ ends_cursor code = if int_eq code (pos 43) then true else int_eq code (pos 237)
 -- what the command does beside what the step adds
 unfoldable pub effect : State → Asked → Told → State
 effect s (asks_insert space documents ordered) (inserted n failures) = record s { collections = with_documents s space (documents_of s space ++ written ordered failures 0 documents) }
-effect s (asks_watch watch start) (opened id space events token time) = opened_cursor s watch id token
-effect s (asks_more id space) (gave left other events token) = moved_cursor s id left token
+effect s (asks_update space conditions modification many) (updated n changed []) = record s { collections = change_documents space (after_update conditions many modification) s.collections }
+effect s (asks_delete space conditions many) (deleted n []) = record s { collections = change_documents space (after_delete conditions many) s.collections }
+effect s (asks_create space) done = record s { collections = with_documents s space [] }
+effect s (asks_indexes space indexes) done = record s { collections = put_collection (record { space = space; documents = documents_of s space; indexes = with_indexes (indexes_of s space) indexes }) s.collections }
+effect s (asks_drop space) done = record s { collections = without_collection space s.collections }
+effect s (asks_query q) (opened id space documents token time) = opened_cursor s id (queried_at s q space documents)
+effect s (asks_watch watch start) (opened id space events token time) = opened_cursor s id (watching_at s watch token)
+effect s (asks_more id space) (gave left other documents token) = moved_cursor s id left documents token
 effect s (asks_more id space) (refuses code labels) = if ends_cursor code then record s { cursors = put_cursor id None s.cursors } else s
 effect s (asks_kill ids) killed = record s { cursors = without_cursors ids s.cursors }
 effect s command reply = s
@@ -127,23 +140,73 @@ abbrev pub HaveNewIds : List Fields → List Fields → Type 0
 HaveNewIds there [] = Unit {0}
 HaveNewIds there (d ∷ ds) = ((id : Tree) × (get (codes "_id") d ≡ Some id) × HasNoId id there) × HaveNewIds (there ++ d ∷ []) ds
 
--- the entry of an inserted document: its event has the token as its `_id`, and may tell what the server likes
-pub record IsInsertEvent (space : Space) (e : Entry) : Type 0 where
+-- the entry of a change: its event has the token as its `_id`, and may tell what the server likes
+pub record IsEventOf (space : Space) (change : Change) (e : Entry) : Type 0 where
   pub at : e.space ≡ space
-  pub change_is : e.change ≡ inserts
+  pub change_is : e.change ≡ change
   pub token_is : get (codes "_id") e.event ≡ Some e.token
 
--- one entry for each document, in order
-abbrev pub AreInsertEvents : Space → List Fields → List Entry → Type 0
-AreInsertEvents space [] [] = Unit {0}
-AreInsertEvents space (d ∷ ds) (e ∷ es) = IsInsertEvent space e × AreInsertEvents space ds es
-AreInsertEvents space [] (e ∷ es) = ⊥
-AreInsertEvents space (d ∷ ds) [] = ⊥
+-- one entry for each changed document, in order
+abbrev pub AreEventsOf : Space → Change → List Fields → List Entry → Type 0
+AreEventsOf space change [] [] = Unit {0}
+AreEventsOf space change (d ∷ ds) (e ∷ es) = IsEventOf space change e × AreEventsOf space change ds es
+AreEventsOf space change [] (e ∷ es) = ⊥
+AreEventsOf space change (d ∷ ds) [] = ⊥
 
 pub record MayInsert (s : State) (space : Space) (documents : List Fields) (ordered : Bool) (n : ℤ) (failures : List Failure) (made : Made) : Type 0 where
   pub count : n ≡ pos (length (written ordered failures 0 documents))
   pub ids : HaveNewIds (documents_of s space) (written ordered failures 0 documents)
-  pub entries : AreInsertEvents space (written ordered failures 0 documents) made.entries
+  pub entries : AreEventsOf space inserts (written ordered failures 0 documents) made.entries
+
+-- an update or a delete that lists a write error did nothing
+pub record DidNothing (n : ℤ) (made : Made) : Type 0 where
+  pub count : n ≡ pos 0
+  pub no_entry : AddsNoEntry made
+
+-- one that lists none changed all that it was for
+pub record MayUpdate (s : State) (space : Space) (conditions : List Condition) (m : Modification) (many : Bool) (n changed : ℤ) (made : Made) : Type 0 where
+  pub count : n ≡ pos (length (chosen conditions many (documents_of s space)))
+  pub changed_is : changed ≡ pos (length (changing conditions many m (documents_of s space)))
+  pub entries : AreEventsOf space (change_of m) (changing conditions many m (documents_of s space)) made.entries
+
+pub record MayDelete (s : State) (space : Space) (conditions : List Condition) (many : Bool) (n : ℤ) (made : Made) : Type 0 where
+  pub count : n ≡ pos (length (chosen conditions many (documents_of s space)))
+  pub entries : AreEventsOf space deletes (chosen conditions many (documents_of s space)) made.entries
+
+-- a collection is created where none of the name is there
+pub record MayCreate (s : State) (space : Space) (made : Made) : Type 0 where
+  pub no_entry : AddsNoEntry made
+  pub is_new : collection_in s.collections space ≡ None
+
+-- a drop of a collection that is there logs that it was dropped, and then that watches of it end
+pub record MayDrop (s : State) (space : Space) (made : Made) : Type 0 where
+  pub collection : Collection
+  pub there : collection_in s.collections space ≡ Some collection
+  pub dropped : Entry
+  pub ended : Entry
+  pub entries : made.entries ≡ dropped ∷ ended ∷ []
+  pub drop_is : IsEventOf space drops dropped
+  pub end_is : IsEventOf space invalidates ended
+
+-- a batch of a query ends its cursor where nothing is left, or where one batch was asked for, which holds a document unless its size was 0
+abbrev pub MayEnd : Query → List Fields → List Fields → Type 0
+MayEnd q given left = (left ≡ []) ⊎ ((q.single ≡ true) × ((given ≢ []) ⊎ (q.size ≡ Some 0)))
+
+-- the first batch of a query: its result begins with it
+pub record MayFind (s s' : State) (q : Query) (id : ℤ) (given : List Fields) (made : Made) : Type 0 where
+  pub no_entry : AddsNoEntry made
+  pub left : List Fields
+  pub these : result s' q ≡ Some (given ++ left)
+  pub fresh : id ≢ pos 0 → s.given id ≡ false
+  pub ends : id ≡ pos 0 → MayEnd q given left
+
+-- a query goes on: what was left begins with the batch, and the cursor ends only where nothing is left
+pub record MayGoThrough (s : State) (id next : ℤ) (given : List Fields) (made : Made) : Type 0 where
+  pub no_entry : AddsNoEntry made
+  pub space : Space
+  pub left : List Fields
+  pub stood : s.cursors id ≡ Some (query space (given ++ left))
+  pub same : (next ≡ id) ⊎ ((next ≡ pos 0) × (left ≡ []))
 
 -- an invalidate entry is the last that a batch holds
 abbrev pub EndsAtInvalidate : List Entry → ℤ → Type 0
@@ -182,7 +245,15 @@ abbrev pub MayTell : State → State → Asked → Told → Made → Type 0
 MayTell s s' command (refuses code labels) made = MayRefuse s made
 MayTell s s' (asks_insert space documents ordered) (inserted n failures) made = MayInsert s space documents ordered n failures made
 MayTell s s' (asks_watch watch start) (opened id space events token time) made = MayOpen s s' watch start id events token time made
-MayTell s s' (asks_more id space) (gave left other events token) made = MayGoOn s s' id left events token made
+MayTell s s' (asks_update space conditions modification many) (updated n changed []) made = MayUpdate s space conditions modification many n changed made
+MayTell s s' (asks_update space conditions modification many) (updated n changed (f ∷ fs)) made = DidNothing n made × (changed ≡ pos 0)
+MayTell s s' (asks_delete space conditions many) (deleted n []) made = MayDelete s space conditions many n made
+MayTell s s' (asks_delete space conditions many) (deleted n (f ∷ fs)) made = DidNothing n made
+MayTell s s' (asks_create space) done made = MayCreate s space made
+MayTell s s' (asks_indexes space indexes) done made = AddsNoEntry made
+MayTell s s' (asks_drop space) done made = MayDrop s space made
+MayTell s s' (asks_query q) (opened id space documents token time) made = MayFind s s' q id documents made
+MayTell s s' (asks_more id space) (gave left other events token) made = MayGoOn s s' id left events token made ⊎ MayGoThrough s id left events made
 MayTell s s' (asks_kill ids) killed made = AddsNoEntry made
 MayTell s s' command reply made = ⊥
 

@@ -1,5 +1,5 @@
 //! What holds of the definitions.
-ghost use Rattle.std.specs.Prelude.{◌≡◌, ◌+◌, ◌<◌, ◌≤◌, ◌^◌, ◌++◌, ℕ, suc, ℤ, pos, Bool, Some, List, [], ◌∷◌, length, slice_get, slice_set};
+ghost use Rattle.std.specs.Prelude.{◌≡◌, ◌+◌, ◌<◌, ◌≤◌, ◌^◌, ◌++◌, ℕ, suc, ℤ, pos, Bool, Some, List, [], ◌∷◌, length, slice_get, slice_set, take};
 ghost use Rattle.mg_bson.specs.Raw.{fields};
 ghost use Rattle.mg_bson.specs.Tree.{Fields, Tree};
 ghost use Rattle.mg_link.specs.Commands.{Batch, asked, asks_watch};
@@ -13,7 +13,8 @@ ghost use Rattle.mg_link.specs.Log.{Call, see, waiting};
 ghost use Rattle.mg_link.specs.Owner.{AreApart, NamesItsOwn, Onward, Owner, Passes};
 ghost use Rattle.mg_link.specs.Rules.{answer_of, refusal};
 ghost use Rattle.mg_link.specs.Standing.{IsSelfMade, Stands, history_before};
-ghost use Rattle.mg_link.specs.State.{Entry, Start, State, Watch, after, events_between};
+ghost use Rattle.mg_link.specs.State.{Entry, Start, State, Watch, after, deletes, events_between, updates};
+ghost use Rattle.mg_link.specs.Worked.{IsStepOf, IsWorked, adds, deleted_one, deletes_second, dropped, drops_all, entry_of, finds_all, finds_more, found_last, found_two, gave_four, inserts_three, opened_watch, opens_watch, t_4, t_5, three_inserts, two_drops, updated_one, updates_first, watches_more, wrote_three};
 
 /// Any 2^64 ids that a counter gives in a row differ.
 pub fn counted_ids_differ()
@@ -53,13 +54,14 @@ pub fn resumption_loses_nothing()
         → view_of (history ++ more) w from ≡ events ++ view_of (history ++ more) w r.place }
 {}
 
-/// Over a legal history no event is without `_id`: neither in a view, nor in a reply, nor in the batch that is read of a
-/// reply to an aggregate of a watch or a getMore, nor in what a stream has in hand.
+/// Over a legal history no event is without `_id`: neither in a view, nor in a reply to an aggregate of a watch or a
+/// getMore of one, nor in the batch that is read of it, nor in what a stream has in hand.
 pub fn events_have_ids()
     ensures views { (history : List Step) (w : Watch) (from upto : ℕ) → IsLegal history → HaveIds (events_between w (state_of history).changes from upto) }
-    ensures replies { (history : List Step) (position : ℕ) (step : Step) → IsLegal history → slice_get history position ≡ Some step → HaveIds (events_in (told_at step)) }
+    ensures replies { (history : List Step) (position : ℕ) (step : Step) → IsLegal history → slice_get history position ≡ Some step
+        → AsksForEvents (state_of (take position history)) (asked step.command) → HaveIds (events_in (told_at step)) }
     ensures batches { (history : List Step) (position : ℕ) (step : Step) (batch : Batch) → IsLegal history → slice_get history position ≡ Some step
-        → AsksForEvents (asked step.command) → Reads step.reply batch → HaveIds batch.events }
+        → AsksForEvents (state_of (take position history)) (asked step.command) → Reads step.reply batch → HaveIds batch.events }
     ensures streams { (calls : List Call) (f : Follow) (history : List Step) → f.doing ≡ holding → Knows calls f → IsLegal history → Stands calls history → HaveIds f.ahead }
 {}
 
@@ -117,6 +119,18 @@ pub fn kept_tells_its_inserts()
 pub fn first_script()
     ensures { (a b c d : Kept) → IsStep opens opened a → IsStep inserts_two inserted_two b → IsStep asks_more gave_two c → IsStep kills killed d
         → IsExample (steps_of (a ∷ b ∷ c ∷ d ∷ [])) }
+{}
+
+/// The second script, as `specs/Worked` has it: a legal history with a find of two batches, an update, a delete and a drop,
+/// and a watch that sees them and ends.
+pub fn second_script()
+    ensures { (a b c d e f g h : Step) → IsStepOf inserts_three wrote_three (adds three_inserts 3) a
+        → IsStepOf opens_watch opened_watch (adds [] 3) b → IsStepOf finds_all found_two (adds [] 3) c
+        → IsStepOf updates_first updated_one (adds (entry_of t_4 4 updates ∷ []) 4) d
+        → IsStepOf finds_more found_last (adds [] 4) e
+        → IsStepOf deletes_second deleted_one (adds (entry_of t_5 5 deletes ∷ []) 5) f
+        → IsStepOf drops_all dropped (adds two_drops 7) g → IsStepOf watches_more gave_four (adds [] 7) h
+        → IsWorked (a ∷ b ∷ c ∷ d ∷ e ∷ f ∷ g ∷ h ∷ []) }
 {}
 
 /// What an open stream knows says what it answered: in every legal history in which the log stands, the first events of

@@ -3,19 +3,20 @@ use Rattle.std.proofs.Common.{◌≡◌, ℕ, ℤ, Bool, true, false, List, [], 
 use Rattle.std.specs.Prelude.{codes, option_and_then, unwrap_or, if◌then◌else◌}
 use Rattle.std.specs.Str.{bytes_eq}
 use Rattle.mg_bson.specs.Tree.{Tree, string, document, int64, boolean, Fields}
-use Rattle.mg_bson.specs.Find.{as_boolean, get}
+use Rattle.mg_bson.specs.Find.{as_boolean, get, as_array}
 use Rattle.mg_bson.specs.Literal.{◌⇒◌⨾◌, empty}
 use Rattle.mg_bson.specs.Raw.{fields}
 use Rattle.mg_link.specs.Namespace.{Space, Target, database, collection, cluster}
 use Rattle.mg_link.specs.Filter.{Condition}
 use Rattle.mg_link.specs.State.{Start}
-use Rattle.mg_link.specs.Commands.{Asked, asked, asked_by, asks_insert, asks_kill, asks_more, asks_other, asks_watch, documents_in, filter_stages, insert_of, integers_in, is_cluster, kill_of, more_of, space_at, start_of, watch_of}
+use Rattle.mg_link.specs.Commands.{Asked, asked, asked_by, asks_insert, asks_kill, asks_more, asks_other, asks_watch, documents_in, filter_stages, insert_of, integers_in, is_cluster, kill_of, more_of, space_at, start_of, watch_of, or_asks, pipeline_query, piped, has_only, pipeline_fields}
 use Rattle.mg_options.specs.Given.{before, ◌⇢◌⨾◌}
 use Rattle.mg_options.specs.Options.{change_stream_fields, time_value}
 use Rattle.mg_options.specs.declared.change_stream.ChangeStreamOptions.{ChangeStreamOptions}
 use Rattle.mg_ops.specs.Commands.{asked_size, get_more_command, insert_command, kill_command, listed, watch_command}
 use Rattle.mg_ops.specs.Aims.{Aim, aim, aim_of, asked_for}
 use Rattle.mg_ops.specs.Naming.{IsNamed, start_in, watches_all}
+use Rattle.mg_bson.specs.Reading.{◌>>=◌}
 
 -- ---- lists in arrays
 
@@ -102,12 +103,50 @@ watched_of (Some f) None t = refl
 watched_of (Some f) (Some s) None = refl
 watched_of (Some f) (Some s) (Some t) = refl
 
+watch_found : (target : Target) (stages : List Fields) (o : ChangeStreamOptions)
+    → watch_of (watch_command target stages o) ≡ option_map (λ (a : Aim). asks_watch a.watch a.start) (aim_of target stages o)
+unfolding watch_of
+watch_found (collection space) stages o = rw (documents_listed stages, start_is o) (watched_of (filter_stages stages) (start_in o) (aim o (collection space)))
+watch_found (database db) stages o = rw (documents_listed stages, start_is o, cluster_is o) (watched_of (filter_stages stages) (start_in o) (aim o (database db)))
+watch_found cluster stages o = rw (documents_listed stages, start_is o, cluster_is o) (watched_of (filter_stages stages) (start_in o) (aim o cluster))
+
+never_by : (b : Bool) (s : Option Space) (f : Space → Option Asked) → ((space : Space) → f space ≡ None) → (if b then (s >>= f) else None) ≡ None
+never_by true None f h = refl
+never_by true (Some space) f h = h space
+never_by false s f h = refl
+
+abbrev piped_from : Fields → Space → Option Asked
+piped_from fs space = piped fs space (option_and_then documents_in (option_and_then as_array (get (codes "pipeline") fs)))
+
+not_piped : (fs : Fields) (at : Space) (o : ChangeStreamOptions) (stages : List Fields) → piped fs at (option_map (λ (ds : List Fields). ("$changeStream" ⇒ document (change_stream_fields o) ⨾ empty) ∷ ds) (documents_in (listed document stages))) ≡ None
+not_piped fs at o stages = rw (documents_listed stages) refl
+
+-- the stage that opens a watch is none of a query
+no_query : (target : Target) (stages : List Fields) (o : ChangeStreamOptions) → pipeline_query (watch_command target stages o) ≡ None
+unfolding pipeline_query
+no_query (collection space) stages o =
+    let fs : Fields = watch_command (collection space) stages o in
+    never_by (has_only pipeline_fields fs) (space_at (codes "aggregate") fs) (piped_from fs) (λ at. not_piped fs at o stages)
+no_query (database db) stages o =
+    let fs : Fields = watch_command (database db) stages o in
+    never_by (has_only pipeline_fields fs) (space_at (codes "aggregate") fs) (piped_from fs) (λ at. not_piped fs at o stages)
+no_query cluster stages o =
+    let fs : Fields = watch_command cluster stages o in
+    never_by (has_only pipeline_fields fs) (space_at (codes "aggregate") fs) (piped_from fs) (λ at. not_piped fs at o stages)
+
+or_none : (o : Option Asked) → or_asks o None ≡ o
+or_none None = refl
+or_none (Some a) = refl
+
+asked_aggregate : (target : Target) (stages : List Fields) (o : ChangeStreamOptions) → asked_by (watch_command target stages o) ≡ or_asks (watch_of (watch_command target stages o)) (pipeline_query (watch_command target stages o))
+asked_aggregate (collection space) stages o = refl
+asked_aggregate (database db) stages o = refl
+asked_aggregate cluster stages o = refl
+
 watch_by : (target : Target) (stages : List Fields) (o : ChangeStreamOptions)
     → asked_by (watch_command target stages o) ≡ option_map (λ (a : Aim). asks_watch a.watch a.start) (aim_of target stages o)
-unfolding watch_of
-watch_by (collection space) stages o = rw (documents_listed stages, start_is o) (watched_of (filter_stages stages) (start_in o) (aim o (collection space)))
-watch_by (database db) stages o = rw (documents_listed stages, start_is o, cluster_is o) (watched_of (filter_stages stages) (start_in o) (aim o (database db)))
-watch_by cluster stages o = rw (documents_listed stages, start_is o, cluster_is o) (watched_of (filter_stages stages) (start_in o) (aim o cluster))
+watch_by target stages o =
+    asked_aggregate target stages o ∙ ap (or_asks (watch_of (watch_command target stages o))) (no_query target stages o) ∙ or_none (watch_of (watch_command target stages o)) ∙ watch_found target stages o
 
 as_asked : (command : List ℕ) (fs : Fields) (a : Asked) → fields command ≡ fs → asked_by fs ≡ Some a → asked command ≡ a
 unfolding asked

@@ -1,17 +1,17 @@
 -- What read replies tell.
-use Rattle.std.proofs.Common.{◌≡◌, ℕ, ℤ, pos, negsuc, Bool, List, [], ◌∷◌, ◌++◌, Option, Some, None, Result, Ok, Err, refl, ap, ◌∙◌, option_map}
+use Rattle.std.proofs.Common.{◌≡◌, ℕ, ℤ, pos, negsuc, Bool, List, [], ◌∷◌, ◌++◌, Option, Some, None, Result, Ok, Err, refl, ap, ◌∙◌, option_map, true, sym}
 use Rattle.std.specs.Prelude.{codes, option_and_then}
-use Rattle.mg_bson.specs.Tree.{Tree, Fields, Items, no_items, item}
+use Rattle.mg_bson.specs.Tree.{Tree, Fields, Items, no_items, item, array}
 use Rattle.mg_bson.specs.Find.{as_array, as_document, as_int64, get}
 use Rattle.mg_bson.specs.Raw.{fields}
 use Rattle.mg_link.specs.Namespace.{Space, space_of}
 use Rattle.mg_link.specs.Reply.{verdict_of}
-use Rattle.mg_link.specs.Commands.{Batch, as_integer, asks_insert, asks_more, batch_by, batch_items, batch_of, documents_in, failures_at, gave, inserted, inserted_by, text_of, token_in, told}
+use Rattle.mg_link.specs.Commands.{Batch, as_integer, asks_insert, asks_more, batch_by, batch_items, batch_of, documents_in, failures_at, gave, inserted, inserted_by, text_of, token_in, told, list_write_errors, is_concern_error, keeps_grammar, are_write_errors}
 use Rattle.mg_link.specs.declared.error.Malformed.{Malformed}
 use Rattle.mg_link.specs.declared.error.Malformed.TheVariants as malformed
 use Rattle.mg_link.specs.declared.reply.Verdict.TheVariants as verdict
 use Rattle.mg_ops.specs.Cursors.{Cursor, cursor_in, cursor_of, found, ◌>>=◌}
-use Rattle.mg_ops.specs.Writes.{Failure, Inserted, as_count, concern_error_at, count_of, failures_of, item_error, last_index, with_concern, write_errors_at, write_errors_in}
+use Rattle.mg_ops.specs.Writes.{Failure, Inserted, as_count, concern_error_at, count_of, failures_of, item_error, last_index, with_concern, write_errors_at, write_errors_in, failure_at}
 
 then_ok : {A B : Type 0} (r : Result A Malformed) (f : A → Result B Malformed) (y : B) → (r >>= f) ≡ Ok y → (x : A) × (r ≡ Ok x) × (f x ≡ Ok y)
 then_ok (Ok x) f y h = (x, refl, h)
@@ -47,6 +47,30 @@ unfolding cursor_of batch_of
 reply_batch reply c events h are =
     let a = then_ok (found malformed.NoCursor (option_and_then as_document (get (codes "cursor") reply))) cursor_in c h in
     ap (option_and_then batch_by) (found_some malformed.NoCursor _ a.0 a.1) ∙ cursor_batch a.0 c events a.2 are
+
+batch_id : (i : Option ℤ) (s : Option Space) (b : Option Items) (t : Option Tree) (x : ℤ) (batch : Batch) → i ≡ Some x → option_and_then (λ (id : ℤ). option_and_then (batch_from b t id) s) i ≡ Some batch → batch.id ≡ x
+batch_id None s b t x batch ei h = absurd cc
+batch_id (Some y) None b t x batch ei h = absurd cc
+batch_id (Some y) (Some space) None t x batch ei h = absurd cc
+batch_id (Some y) (Some space) (Some ts) t x batch ei h = listed_id y space t (documents_in ts) batch h ∙ (let same : y ≡ x = cc in same)
+  where
+    listed_id : (y : ℤ) (space : Space) (t : Option Tree) (ds : Option (List Fields)) (batch : Batch) → option_map (λ (es : List Fields). record { id = y; space = space; events = es; token = t }) ds ≡ Some batch → batch.id ≡ y
+    listed_id y space t None batch h = absurd cc
+    listed_id y space t (Some es) batch h = let same : record { id = y; space = space; events = es; token = t } ≡ batch = cc in sym (ap (λ (b : Batch). b.id) same)
+
+-- a cursor and a batch that are read of one reply have one id
+pub same_id : (reply : Fields) (c : Cursor) (batch : Batch) → cursor_of reply ≡ Ok c → batch_of reply ≡ Some batch → c.id ≡ batch.id
+unfolding cursor_of batch_of
+same_id reply c batch h is =
+    let a = then_ok (found malformed.NoCursor (option_and_then as_document (get (codes "cursor") reply))) cursor_in c h in
+    let fs : Fields = a.0 in
+    let i = then_ok (found malformed.BadId (option_and_then as_int64 (get (codes "id") fs))) (λ id. found malformed.BadNs (option_and_then space_of (text_of (codes "ns") fs)) >>= λ space. found malformed.NoBatch (batch_items fs) >>= λ batch. Ok (record { id = id; space = space; token = token_in fs; batch = batch })) c a.2 in
+    let s = then_ok (found malformed.BadNs (option_and_then space_of (text_of (codes "ns") fs))) (λ space. found malformed.NoBatch (batch_items fs) >>= λ batch. Ok (record { id = i.0; space = space; token = token_in fs; batch = batch })) c i.2 in
+    let b = then_ok (found malformed.NoBatch (batch_items fs)) (λ batch. Ok (record { id = i.0; space = s.0; token = token_in fs; batch = batch })) c s.2 in
+    let made : record { id = i.0; space = s.0; token = token_in fs; batch = b.0 } ≡ c = cc in
+    let read : batch_by fs ≡ Some batch = ap (option_and_then batch_by) (sym (found_some malformed.NoCursor _ a.0 a.1)) ∙ is in
+    sym (ap (λ (d : Cursor). d.id) made)
+    ∙ sym (batch_id (option_and_then as_int64 (get (codes "id") fs)) (option_and_then space_of (text_of (codes "ns") fs)) (batch_items fs) (token_in fs) i.0 batch (found_some malformed.BadId _ i.0 i.1) read)
 
 pub tells_of_more : (id : ℤ) (space : Space) (reply : List ℕ) (c : Cursor) (events : List Fields) → verdict_of (fields reply) ≡ verdict.Success → cursor_of (fields reply) ≡ Ok c → documents_in c.batch ≡ Some events
     → told (asks_more id space) reply ≡ gave c.id c.space events c.token
@@ -90,7 +114,39 @@ reply_failures count reply h =
     let joined : errors.0 ++ concern.0 ≡ [] = (let e = concern.2 in cc) in
     none_at (get (codes "writeErrors") reply) (errors.1 ∙ ap (λ (fs : List Failure). Ok fs) (front_none errors.0 concern.0 joined))
 
+array_kept : (t : Tree) (ts : Items) → as_array t ≡ Some ts → ts ≡ no_items → list_write_errors (Some t) ≡ true
+array_kept (array us) ts h none = let same : us ≡ no_items = let e : us ≡ ts = cc in e ∙ none in ap are_write_errors same
+array_kept t ts h none = absurd cc
+
+list_kept : (o : Option Tree) → write_errors_at o ≡ Ok [] → list_write_errors o ≡ true
+list_kept None h = refl
+list_kept (Some t) h =
+    let list = then_ok (found malformed.BadItem (as_array t)) write_errors_in [] h in
+    array_kept t list.0 (found_some malformed.BadItem (as_array t) list.0 list.1) (none_in list.0 list.2)
+
+no_concern : (count : ℕ) (o : Option Tree) → concern_error_at count o ≡ Ok [] → is_concern_error o ≡ true
+no_concern count None h = refl
+no_concern count (Some t) h =
+    let f = then_ok (found malformed.BadItem (as_document t) >>= failure_at count) (λ failure. Ok (failure ∷ [])) [] h in
+    let bad = f.2 in
+    absurd cc
+
+back_none : {A : Type 0} (xs ys : List A) → xs ++ ys ≡ [] → ys ≡ []
+back_none [] ys h = h
+back_none (x ∷ xs) ys h = absurd cc
+
+-- a reply that lists no failure keeps the grammar
+reply_keeps : (count : ℕ) (reply : Fields) → failures_of count reply ≡ Ok [] → keeps_grammar reply ≡ true
+unfolding failures_of
+reply_keeps count reply h =
+    let errors = then_ok (write_errors_at (get (codes "writeErrors") reply)) (λ errors. with_concern errors count (get (codes "writeConcernError") reply)) [] h in
+    let concern = then_ok (concern_error_at count (get (codes "writeConcernError") reply)) (λ failures. Ok (errors.0 ++ failures)) [] errors.2 in
+    let joined : errors.0 ++ concern.0 ≡ [] = (let e = concern.2 in cc) in
+    let list = list_kept (get (codes "writeErrors") reply) (errors.1 ∙ ap (λ (fs : List Failure). Ok fs) (front_none errors.0 concern.0 joined)) in
+    let met = no_concern count (get (codes "writeConcernError") reply) (concern.1 ∙ ap (λ (fs : List Failure). Ok fs) (back_none errors.0 concern.0 joined)) in
+    rw (list, met) refl
+
 pub tells_of_insert : (space : Space) (documents : List Fields) (ordered : Bool) (reply : List ℕ) (count n : ℕ) → verdict_of (fields reply) ≡ verdict.Success → Inserted count (fields reply) n
     → told (asks_insert space documents ordered) reply ≡ inserted (pos n) []
 unfolding told inserted_by
-tells_of_insert space documents ordered reply count n success i = rw (success, reply_count (fields reply) n i.counted, reply_failures (last_index count) (fields reply) i.none_failed) refl
+tells_of_insert space documents ordered reply count n success i = rw (success, reply_keeps (last_index count) (fields reply) i.none_failed, reply_count (fields reply) n i.counted, reply_failures (last_index count) (fields reply) i.none_failed) refl

@@ -5,13 +5,16 @@ use Rattle.std.specs.Str.{bytes_eq}
 use Rattle.std.proofs.lemmas.Bool.{lt-ltb}
 use Rattle.std.proofs.lemmas.Slice.Eq.{bytes_eq-Decides}
 use Rattle.mg_bson.specs.Tree.{Fields, no_fields, field}
-use Rattle.mg_bson.specs.Find.{get, as_array}
+use Rattle.mg_bson.specs.Find.{get, as_array, as_document}
 use Rattle.mg_bson.specs.Raw.{fields}
 use Rattle.mg_link.specs.Namespace.{Space, Target}
 use Rattle.mg_link.specs.Filter.{Condition, has_dot}
-use Rattle.mg_link.specs.State.{Start}
-use Rattle.mg_link.specs.Commands.{Asked, asks_insert, asks_watch, asks_more, asks_kill, asks_other, as_collection, as_database, as_integer, asked, asked_by, documents_in, filter_stages, flag_or, insert_of, integers_in, kill_of, more_of, space_at, start_of, target_of, text_of, watch_by, watch_from, watch_of, watch_stage}
+use Rattle.mg_link.specs.State.{Start, Index}
+use Rattle.mg_link.specs.Commands.{Asked, asks_insert, asks_watch, asks_more, asks_kill, asks_other, as_collection, as_database, as_integer, asked, asked_by, documents_in, filter_stages, flag_or, insert_of, integers_in, kill_of, more_of, space_at, start_of, target_of, text_of, watch_by, watch_from, watch_of, watch_stage, or_asks, pipeline_query, update_of, delete_of, find_of, collections_query, indexes_query, create_of, indexing_of, drop_of, further_by, asks_update, asks_delete, asks_create, asks_indexes, asks_drop, has_only, update_parts, update_fields, delete_parts, delete_fields, find_fields, pipeline_fields, collections_fields, indexes_fields, create_fields, indexing_fields, drop_fields, filter_at, one_at, modification_of, update_by, delete_by, many_by, count_of, optional_count, optional_size, batch_size, find_stages, pipeline_of, stages_by, selecting, query_by, indexes_by, database_at}
 use Rattle.mg_store.specs.Continued.{continued, continued_by}
+use Rattle.mg_bson.specs.Reading.{◌>>=◌}
+use Rattle.mg_link.specs.Query.{Stage, of_collection, of_database, of_indexes}
+use Rattle.mg_link.specs.Write.{Modification}
 
 abbrev goes_on : Option Asked → Option ℤ
 goes_on found = continued (unwrap_or found asks_other)
@@ -45,6 +48,140 @@ watch_not : (fs : Fields) → goes_on (watch_of fs) ≡ None
 unfolding watch_of
 watch_not fs = by_stages fs (option_and_then documents_in (option_and_then as_array (get (codes "pipeline") fs)))
 
+-- ---- those that name no cursor
+
+either_not : (b : Bool) (o p : Option Asked) → goes_on o ≡ None → goes_on p ≡ None → goes_on (if b then o else p) ≡ None
+either_not true o p h g = h
+either_not false o p h g = g
+
+first_not : (o p : Option Asked) → goes_on o ≡ None → goes_on p ≡ None → goes_on (or_asks o p) ≡ None
+first_not None p h g = g
+first_not (Some a) p h g = h
+
+by_change : (space : Space) (q : List Condition) (m : Option Modification) (f : Option Bool) → goes_on (m >>= λ m. f >>= λ many. Some (asks_update space q m many)) ≡ None
+by_change space q None f = refl
+by_change space q (Some m) None = refl
+by_change space q (Some m) (Some many) = refl
+
+by_update_parts : (space : Space) (b : Bool) (q : Option (List Condition)) (d : Option Fields) (f : Option Bool) → goes_on (if b then (q >>= λ q. d >>= λ d. modification_of d >>= λ m. f >>= λ many. Some (asks_update space q m many)) else None) ≡ None
+by_update_parts space false q d f = refl
+by_update_parts space true None d f = refl
+by_update_parts space true (Some q) None f = refl
+by_update_parts space true (Some q) (Some d) f = by_change space q (modification_of d) f
+
+update_by_not : (space : Space) (u : Fields) → goes_on (update_by space u) ≡ None
+update_by_not space u = by_update_parts space (has_only update_parts u) (filter_at (codes "q") u) (option_and_then as_document (get (codes "u") u)) (flag_or false (get (codes "multi") u))
+
+by_update : (b : Bool) (s : Option Space) (u : Option Fields) → goes_on (if b then (s >>= λ space. u >>= update_by space) else None) ≡ None
+by_update false s u = refl
+by_update true None u = refl
+by_update true (Some s) None = refl
+by_update true (Some s) (Some u) = update_by_not s u
+
+update_not : (fs : Fields) → goes_on (update_of fs) ≡ None
+unfolding update_of
+update_not fs = by_update (has_only update_fields fs) (space_at (codes "update") fs) (one_at (codes "updates") fs)
+
+by_delete_parts : (space : Space) (b : Bool) (q : Option (List Condition)) (f : Option Bool) → goes_on (if b then (q >>= λ q. f >>= λ many. Some (asks_delete space q many)) else None) ≡ None
+by_delete_parts space false q f = refl
+by_delete_parts space true None f = refl
+by_delete_parts space true (Some q) None = refl
+by_delete_parts space true (Some q) (Some many) = refl
+
+delete_by_not : (space : Space) (d : Fields) → goes_on (delete_by space d) ≡ None
+delete_by_not space d = by_delete_parts space (has_only delete_parts d) (filter_at (codes "q") d) (option_and_then count_of (get (codes "limit") d) >>= many_by)
+
+by_delete : (b : Bool) (s : Option Space) (d : Option Fields) → goes_on (if b then (s >>= λ space. d >>= delete_by space) else None) ≡ None
+by_delete false s d = refl
+by_delete true None d = refl
+by_delete true (Some s) None = refl
+by_delete true (Some s) (Some d) = delete_by_not s d
+
+delete_not : (fs : Fields) → goes_on (delete_of fs) ≡ None
+unfolding delete_of
+delete_not fs = by_delete (has_only delete_fields fs) (space_at (codes "delete") fs) (one_at (codes "deletes") fs)
+
+by_find : (b : Bool) (s : Option Space) (t : Option (List Stage)) (f : Option Bool) (n : Option (Option ℕ))
+    → goes_on (if b then (s >>= λ space. t >>= λ stages. f >>= λ single. n >>= λ size. Some (query_by (of_collection space) single stages size)) else None) ≡ None
+by_find false s t f n = refl
+by_find true None t f n = refl
+by_find true (Some s) None f n = refl
+by_find true (Some s) (Some t) None n = refl
+by_find true (Some s) (Some t) (Some f) None = refl
+by_find true (Some s) (Some t) (Some f) (Some n) = refl
+
+find_not : (fs : Fields) → goes_on (find_of fs) ≡ None
+unfolding find_of
+find_not fs = by_find (has_only find_fields fs) (space_at (codes "find") fs) (find_stages fs) (flag_or false (get (codes "singleBatch") fs)) (optional_count (get (codes "batchSize") fs))
+
+by_pipeline : (b : Bool) (s : Option Space) (t : Option (List Stage)) (n : Option (Option ℕ)) → goes_on (if b then (s >>= λ space. t >>= λ stages. n >>= λ size. Some (query_by (of_collection space) false stages size)) else None) ≡ None
+by_pipeline false s t n = refl
+by_pipeline true None t n = refl
+by_pipeline true (Some s) None n = refl
+by_pipeline true (Some s) (Some t) None = refl
+by_pipeline true (Some s) (Some t) (Some n) = refl
+
+pipeline_not : (fs : Fields) → goes_on (pipeline_query fs) ≡ None
+unfolding pipeline_query
+pipeline_not fs = by_pipeline (has_only pipeline_fields fs) (space_at (codes "aggregate") fs) (option_and_then documents_in (option_and_then as_array (get (codes "pipeline") fs)) >>= pipeline_of) (batch_size fs)
+
+by_collections : (b : Bool) (d : Option (List ℕ)) (t : Option (List Stage)) (n : Option (Option ℕ)) → goes_on (if b then (d >>= λ db. t >>= λ stages. n >>= λ size. Some (query_by (of_database db) false stages size)) else None) ≡ None
+by_collections false d t n = refl
+by_collections true None t n = refl
+by_collections true (Some d) None n = refl
+by_collections true (Some d) (Some t) None = refl
+by_collections true (Some d) (Some t) (Some n) = refl
+
+collections_not : (fs : Fields) → goes_on (collections_query fs) ≡ None
+unfolding collections_query
+collections_not fs = by_collections (has_only collections_fields fs) (database_at fs) (stages_by selecting (get (codes "filter") fs)) (optional_size fs)
+
+by_indexes : (b : Bool) (s : Option Space) (n : Option (Option ℕ)) → goes_on (if b then (s >>= λ space. n >>= λ size. Some (query_by (of_indexes space) false [] size)) else None) ≡ None
+by_indexes false s n = refl
+by_indexes true None n = refl
+by_indexes true (Some s) None = refl
+by_indexes true (Some s) (Some n) = refl
+
+indexes_not : (fs : Fields) → goes_on (indexes_query fs) ≡ None
+unfolding indexes_query
+indexes_not fs = by_indexes (has_only indexes_fields fs) (space_at (codes "listIndexes") fs) (optional_size fs)
+
+by_space : (b : Bool) (asks : Space → Asked) (s : Option Space) → ((space : Space) → continued (asks space) ≡ None) → goes_on (if b then option_map asks s else None) ≡ None
+by_space false asks s h = refl
+by_space true asks None h = refl
+by_space true asks (Some s) h = h s
+
+create_not : (fs : Fields) → goes_on (create_of fs) ≡ None
+unfolding create_of
+create_not fs = by_space (has_only create_fields fs) asks_create (space_at (codes "create") fs) (λ space. refl)
+
+by_indexing : (b : Bool) (s : Option Space) (is : Option (List Index)) → goes_on (if b then (s >>= λ space. is >>= λ indexes. Some (asks_indexes space indexes)) else None) ≡ None
+by_indexing false s is = refl
+by_indexing true None is = refl
+by_indexing true (Some s) None = refl
+by_indexing true (Some s) (Some is) = refl
+
+indexing_not : (fs : Fields) → goes_on (indexing_of fs) ≡ None
+unfolding indexing_of
+indexing_not fs = by_indexing (has_only indexing_fields fs) (space_at (codes "createIndexes") fs) (option_and_then as_array (get (codes "indexes") fs) >>= documents_in >>= indexes_by)
+
+drop_not : (fs : Fields) → goes_on (drop_of fs) ≡ None
+unfolding drop_of
+drop_not fs = by_space (has_only drop_fields fs) asks_drop (space_at (codes "drop") fs) (λ space. refl)
+
+further_not : (k : List ℕ) (fs : Fields) → goes_on (further_by k fs) ≡ None
+further_not k fs =
+    either_not (bytes_eq k (codes "update")) (update_of fs) _ (update_not fs)
+    (either_not (bytes_eq k (codes "delete")) (delete_of fs) _ (delete_not fs)
+    (either_not (bytes_eq k (codes "find")) (find_of fs) _ (find_not fs)
+    (either_not (bytes_eq k (codes "listCollections")) (collections_query fs) _ (collections_not fs)
+    (either_not (bytes_eq k (codes "listIndexes")) (indexes_query fs) _ (indexes_not fs)
+    (either_not (bytes_eq k (codes "create")) (create_of fs) _ (create_not fs)
+    (either_not (bytes_eq k (codes "createIndexes")) (indexing_of fs) _ (indexing_not fs)
+    (either_not (bytes_eq k (codes "drop")) (drop_of fs) None (drop_not fs) refl)))))))
+
+-- ---- any command
+
 by_kill : (ids : Option (List ℤ)) → goes_on (option_map asks_kill ids) ≡ None
 by_kill None = refl
 by_kill (Some ids) = refl
@@ -63,15 +200,15 @@ more_goes : (fs : Fields) → goes_on (more_of fs) ≡ (if is_some (space_at (co
 unfolding more_of
 more_goes fs = by_more (option_and_then as_integer (get (codes "getMore") fs)) (space_at (codes "collection") fs)
 
-chosen : (a b c d : Bool) (i w m k : Option Asked) (o : Option ℤ) → goes_on i ≡ None → goes_on w ≡ None → goes_on k ≡ None → goes_on m ≡ o → (a ≡ true → c ≡ false) → (b ≡ true → c ≡ false)
-    → goes_on (if a then i else (if b then w else (if c then m else (if d then k else None)))) ≡ (if c then o else None)
-chosen true b true d i w m k o hi hw hk hm ha hb = let bad : true ≡ false = ha refl in absurd cc
-chosen true b false d i w m k o hi hw hk hm ha hb = hi
-chosen false true true d i w m k o hi hw hk hm ha hb = let bad : true ≡ false = hb refl in absurd cc
-chosen false true false d i w m k o hi hw hk hm ha hb = hw
-chosen false false true d i w m k o hi hw hk hm ha hb = hm
-chosen false false false true i w m k o hi hw hk hm ha hb = hk
-chosen false false false false i w m k o hi hw hk hm ha hb = refl
+chosen : (a b c d : Bool) (i w m k f : Option Asked) (o : Option ℤ) → goes_on i ≡ None → goes_on w ≡ None → goes_on k ≡ None → goes_on f ≡ None → goes_on m ≡ o → (a ≡ true → c ≡ false) → (b ≡ true → c ≡ false)
+    → goes_on (if a then i else (if b then w else (if c then m else (if d then k else f)))) ≡ (if c then o else None)
+chosen true b true d i w m k f o hi hw hk hf hm ha hb = let bad : true ≡ false = ha refl in absurd cc
+chosen true b false d i w m k f o hi hw hk hf hm ha hb = hi
+chosen false true true d i w m k f o hi hw hk hf hm ha hb = let bad : true ≡ false = hb refl in absurd cc
+chosen false true false d i w m k f o hi hw hk hf hm ha hb = hw
+chosen false false true d i w m k f o hi hw hk hf hm ha hb = hm
+chosen false false false true i w m k f o hi hw hk hf hm ha hb = hk
+chosen false false false false i w m k f o hi hw hk hf hm ha hb = hf
 
 not_both : (k l m : List ℕ) → bytes_eq l m ≡ false → bytes_eq k l ≡ true → bytes_eq k m ≡ false
 not_both k l m differ h = ap (λ (x : List ℕ). bytes_eq x m) ((bytes_eq-Decides k l).0 h) ∙ differ
@@ -79,9 +216,9 @@ not_both k l m differ h = ap (λ (x : List ℕ). bytes_eq x m) ((bytes_eq-Decide
 by_fields : (fs : Fields) → goes_on (asked_by fs) ≡ continued_by fs
 by_fields no_fields = refl
 by_fields (field k t fs) =
-    chosen (bytes_eq k (codes "insert")) (bytes_eq k (codes "aggregate")) (bytes_eq k (codes "getMore")) (bytes_eq k (codes "killCursors")) (insert_of (field k t fs)) (watch_of (field k t fs)) (more_of (field k t fs)) (kill_of (field k t fs))
+    chosen (bytes_eq k (codes "insert")) (bytes_eq k (codes "aggregate")) (bytes_eq k (codes "getMore")) (bytes_eq k (codes "killCursors")) (insert_of (field k t fs)) (or_asks (watch_of (field k t fs)) (pipeline_query (field k t fs))) (more_of (field k t fs)) (kill_of (field k t fs)) (further_by k (field k t fs))
     (if is_some (space_at (codes "collection") (field k t fs)) then option_and_then as_integer (get (codes "getMore") (field k t fs)) else None)
-    (insert_not (field k t fs)) (watch_not (field k t fs)) (kill_not (field k t fs)) (more_goes (field k t fs))
+    (insert_not (field k t fs)) (first_not (watch_of (field k t fs)) (pipeline_query (field k t fs)) (watch_not (field k t fs)) (pipeline_not (field k t fs))) (kill_not (field k t fs)) (further_not k (field k t fs)) (more_goes (field k t fs))
     (not_both k (codes "insert") (codes "getMore") refl) (not_both k (codes "aggregate") (codes "getMore") refl)
 
 pub continued_is : (command : List ℕ) → continued (asked command) ≡ continued_by (fields command)

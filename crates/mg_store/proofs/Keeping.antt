@@ -11,7 +11,7 @@ use Rattle.mg_bson.specs.Tree.{Fields}
 use Rattle.mg_bson.specs.Raw.{fields}
 use Rattle.mg_link.specs.Namespace.{Space}
 use Rattle.mg_link.specs.State.{Cursor, State, nothing, documents_at, put_cursor}
-use Rattle.mg_link.specs.Commands.{Asked, asks_insert, asks_watch, asks_more, asks_kill, asks_other, asked}
+use Rattle.mg_link.specs.Commands.{Asked, asks_more, asked}
 use Rattle.mg_link.specs.Step.{documents_of, ends_cursor}
 use Rattle.mg_link.specs.Rules.{is_id_among, refusal}
 use Rattle.mg_link.specs.Kept.{AreByRulesFrom, Kept, IsReply, by_choice, by_rules, given_after, given_of, given_from, is_started, state_behind, state_of_kept, steps_from, steps_of}
@@ -63,14 +63,8 @@ closed true (asks_more id sp) s s' given given' code e h =
     record { documents_are = h.documents_are; changes_are = h.changes_are; cursors_are = λ x. h.cursors_are x ∙ ap (λ (b : Bool). (if b then put_cursor id None s.cursors else s.cursors) x) (sym e); given_are = h.given_are }
 closed false (asks_more id sp) s s' given given' code e h =
     record { documents_are = h.documents_are; changes_are = h.changes_are; cursors_are = λ x. h.cursors_are x ∙ ap (λ (b : Bool). (if b then put_cursor id None s.cursors else s.cursors) x) (sym e); given_are = h.given_are }
-closed true (asks_insert sp ds ordered) s s' given given' code e h = h
-closed false (asks_insert sp ds ordered) s s' given given' code e h = h
-closed true (asks_watch w start) s s' given given' code e h = h
-closed false (asks_watch w start) s s' given given' code e h = h
-closed true (asks_kill ids) s s' given given' code e h = h
-closed false (asks_kill ids) s s' given given' code e h = h
-closed true asks_other s s' given given' code e h = h
-closed false asks_other s s' given given' code e h = h
+closed true command s s' given given' code e h = h
+closed false command s s' given given' code e h = h
 
 -- a refusal that is chosen may be kept
 pub may_by_choice : (history : List Kept) (command : List ℕ) (a : Answer) (code : ℤ) (labels : List (List ℕ)) → IsReply (refusal code labels) a.reply → a.effect ≡ closing (ends_cursor code) (continued (asked command)) → MayKeep history command a

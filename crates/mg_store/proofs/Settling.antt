@@ -9,7 +9,7 @@ use Rattle.mg_bson.specs.Bytes.{bytes}
 use Rattle.mg_bson.specs.Raw.{fields}
 use Rattle.mg_link.specs.Namespace.{Space, space}
 use Rattle.mg_link.specs.State.{Entry, Watch, Cursor, watching, State, documents_at, put_cursor, without_cursors}
-use Rattle.mg_link.specs.Commands.{Asked, asks_insert, asks_watch, asks_more, asks_kill, asks_other, asked}
+use Rattle.mg_link.specs.Commands.{Asked, asks_more, asked}
 use Rattle.mg_link.specs.Step.{documents_of, ends_cursor}
 use Rattle.mg_link.specs.Rules as rules
 use Rattle.mg_link.specs.Rules.{Inserted, answer, answer_insert, answer_of, and_then, bad_request, fitting, inserting, insert_request, kill_request, more_request, or_code, refusal, refused, request_of, size_of, unknown_command, watch_reply, watch_request}
@@ -109,10 +109,7 @@ answers_settled s given command r a asks h =
 
 by_code : (asks : Asked) (code : ℤ) (cursors : ℤ → Option Cursor) (id : ℤ) → ends_cursor code ≡ false → cursors_refused asks code cursors id ≡ cursors id
 by_code (asks_more other sp) code cursors id stays = ap (λ (b : Bool). (if b then put_cursor other None cursors else cursors) id) stays
-by_code (asks_insert sp ds ordered) code cursors id stays = refl
-by_code (asks_watch w start) code cursors id stays = refl
-by_code (asks_kill ids) code cursors id stays = refl
-by_code asks_other code cursors id stays = refl
+by_code command code cursors id stays = refl
 
 none_put : (b : Bool) (other id : ℤ) (cursors : ℤ → Option Cursor) → (b ≡ true → cursors id ≡ None) → (if b then None else cursors id) ≡ cursors id
 none_put true other id cursors h = sym (h refl)

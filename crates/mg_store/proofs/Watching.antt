@@ -6,9 +6,9 @@ use Rattle.mg_bson.specs.Find.{as_document, get}
 use Rattle.mg_bson.specs.Reading.{◌>>=◌}
 use Rattle.mg_link.specs.Namespace.{Space}
 use Rattle.mg_link.specs.Filter.{Condition, conditions_of}
-use Rattle.mg_link.specs.Commands.{documents_in, filter_stages, match_stage, watch_stage}
+use Rattle.mg_link.specs.Commands.{batch_size, documents_in, filter_stages, has_only, match_stage, watch_stage}
 use Rattle.mg_link.specs.Rules as rules
-use Rattle.mg_link.specs.Rules.{array_at, batch_size, behind_first, has_only, named_space, watch_options, watch_request}
+use Rattle.mg_link.specs.Rules.{array_at, behind_first, named_space, watch_options, watch_request}
 use Rattle.mg_store.specs.Asking.{Keyed, keyed, only_document}
 use Rattle.mg_store.specs.Wanted.{wanted, watch, Stages, Opening, conditions_at, opening_of, stages_of}
 

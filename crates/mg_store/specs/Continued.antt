@@ -3,15 +3,12 @@ use Rattle.std.specs.Prelude.{ℤ, Option, Some, None, codes, is_some, option_an
 use Rattle.std.specs.Str.{bytes_eq}
 use Rattle.mg_bson.specs.Tree.{Fields, no_fields, field}
 use Rattle.mg_bson.specs.Find.{get}
-use Rattle.mg_link.specs.Commands.{Asked, asks_insert, asks_watch, asks_more, asks_kill, asks_other, as_integer, space_at}
+use Rattle.mg_link.specs.Commands.{Asked, asks_more, as_integer, space_at}
 
 -- the cursor that a command goes on with
 abbrev pub continued : Asked → Option ℤ
 continued (asks_more id space) = Some id
-continued (asks_insert space documents ordered) = None
-continued (asks_watch watch start) = None
-continued (asks_kill ids) = None
-continued asks_other = None
+continued command = None
 
 -- the same, read from the fields of the command
 abbrev pub continued_by : Fields → Option ℤ

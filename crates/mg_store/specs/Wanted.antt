@@ -8,7 +8,8 @@ use Rattle.mg_bson.specs.Reading.{◌>>=◌}
 use Rattle.mg_link.specs.Namespace.{Space}
 use Rattle.mg_link.specs.Filter.{Condition, conditions_of}
 use Rattle.mg_link.specs.Rules as rules
-use Rattle.mg_link.specs.Rules.{array_at, batch_size, has_only, map_ok, named_space}
+use Rattle.mg_link.specs.Commands.{batch_size, has_only}
+use Rattle.mg_link.specs.Rules.{array_at, map_ok, named_space}
 use Rattle.mg_store.specs.Asking.{Keyed, documents_among, held, ids_among, keyed, lent_space, only_document}
 use Rattle.mg_store.specs.declared.request.Request.{Request}
 use Rattle.mg_store.specs.declared.request.Request.TheVariants as requests

@@ -3,11 +3,11 @@ ghost use Rattle.std.specs.Prelude.{◌≡◌, map, is_some, IfOk, option_and_th
 ghost use Rattle.mg_bson.specs.Find.{as_document, get};
 ghost use Rattle.mg_bson.specs.Raw.{fields, items};
 ghost use Rattle.mg_bson.specs.RawView.{value};
-ghost use Rattle.mg_link.specs.Commands.{as_integer, documents_in, flag_or, text_of};
+ghost use Rattle.mg_link.specs.Commands.{as_integer, count_of, documents_in, flag_or, has_only, ignored, is_name_among, optional_count, text_of};
 ghost use Rattle.mg_link.specs.Filter.{has_dot};
 ghost use Rattle.mg_link.specs.Namespace.{space};
 ghost use Rattle.mg_link.specs.State.{is_space};
-ghost use Rattle.mg_link.specs.Rules.{array_at, count_of, has_only, id_of, ids_in, ignored, is_name_among, name_at, named_space, optional_count};
+ghost use Rattle.mg_link.specs.Rules.{array_at, id_of, ids_in, name_at, named_space};
 ghost use Rattle.mg_store.specs.Asking.{documents_among, ids_among, is_single, lent_space, only_document};
 
 use mg_bson::{RawArray, RawDocument, RawValue};

@@ -3,7 +3,8 @@ ghost use Rattle.mg_store.specs.declared.request.Stop.TheVariants.{Memory};
 ghost use Rattle.std.specs.Prelude.{◌≡◌, IfOk, codes, map, option_map};
 ghost use Rattle.mg_bson.specs.Find.{get};
 ghost use Rattle.mg_bson.specs.Raw.{fields, items, items_left};
-ghost use Rattle.mg_link.specs.Rules.{batch_size, insert_request, kill_request, more_request, request_of, some_size, watch_request};
+ghost use Rattle.mg_link.specs.Commands.{batch_size};
+ghost use Rattle.mg_link.specs.Rules.{insert_request, kill_request, more_request, request_of, some_size, watch_request};
 ghost use Rattle.mg_store.specs.Asking.{held, keyed, lent_space};
 ghost use Rattle.mg_store.specs.Wanted.{Asks, IsEnd, OrBadRequest, code_of, conditions_at, filter_behind, lent, lent_opening, lent_stages, opening_of, stages_at, stages_of, wanted, watch};
 
@@ -175,7 +176,7 @@ fn stages_at<'a>(command: &RawDocument<'a>) -> Option<Stages<'a>>
 }
 
 /// The batch size that the field `cursor` of a command asks for.
-#[tactic(auto, unfolding(mg_link::specs::Rules::batch_size))]
+#[tactic(auto, unfolding(mg_link::specs::Commands::batch_size))]
 fn batch_size(command: &RawDocument<'_>) -> Option<Option<u64>>
     ensures { result ≡ batch_size (fields command.now) }
 {

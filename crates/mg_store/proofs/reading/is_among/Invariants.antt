@@ -1,5 +1,5 @@
 use Rattle.std.proofs.Common.{◌≡◌, drop, map}
-use Rattle.mg_link.specs.Rules.{is_name_among}
+use Rattle.mg_link.specs.Commands.{is_name_among}
 use Rattle.mg_store.proofs.reading.is_among.Given as goal
 
 abbrev pub invariant-loop-known : goal.invariant-loop-known
