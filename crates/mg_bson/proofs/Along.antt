@@ -1,5 +1,5 @@
 -- Writing fields and items one after the other.
-use Rattle.std.proofs.Common.{◌≡◌, ℕ, suc, ◌+◌, ◌^◌, ◌<◌, ◌≤◌, List, [], ◌∷◌, ◌++◌, length, get_or, take, drop, string_bytes, Bool, true, false, ◌||◌, refl, sym, ap, ◌∙◌, arith, append_assoc, length-append}
+use Rattle.std.proofs.Common.{◌≡◌, ℕ, suc, ◌+◌, ◌^◌, ◌<◌, ◌≤◌, List, [], ◌∷◌, ◌++◌, length, get_or, take, drop, Bool, true, false, ◌||◌, refl, sym, ap, ◌∙◌, arith, append_assoc, length-append}
 use Rattle.std.specs.Prelude.{decimal}
 use Rattle.std.proofs.lemmas.List.{append-nil, drop_more, take_at, drop_at}
 use Rattle.mg_bson.specs.declared.tree.Bson.{Bson}
@@ -126,7 +126,7 @@ along_items_value e l n old new head all rest t a h r =
 
 -- ---- in the loops, and around them
 
-pub fields_here : (fs : List Field) (i : ℕ) (f : Field) → i < length fs → f ≡ get_or fs i f → fields_of (drop i fs) ≡ field (string_bytes f.name) (tree f.value) (fields_of (drop (i + 1) fs))
+pub fields_here : (fs : List Field) (i : ℕ) (f : Field) → i < length fs → f ≡ get_or fs i f → fields_of (drop i fs) ≡ field f.name (tree f.value) (fields_of (drop (i + 1) fs))
 fields_here fs i f lt is = ap fields_of (drop_more fs i f lt ∙ ap (λ (x : Field). x ∷ drop (i + 1) fs) (sym is))
 
 pub items_here : (ts : List Bson) (i : ℕ) (t : Bson) → i < length ts → t ≡ get_or ts i t → items_of (drop i ts) ≡ item (tree t) (items_of (drop (i + 1) ts))

@@ -1,5 +1,5 @@
 -- What was read, and what is still to read.
-use Rattle.std.proofs.Common.{◌≡◌, List, [], ◌∷◌, ◌++◌, ℕ, ◌+◌, ◌<◌, ◌≤◌, length, get_or, drop, string_bytes, refl, sym, ap, ap₂, ◌∙◌}
+use Rattle.std.proofs.Common.{◌≡◌, List, [], ◌∷◌, ◌++◌, ℕ, ◌+◌, ◌<◌, ◌≤◌, length, get_or, drop, refl, sym, ap, ap₂, ◌∙◌}
 use Rattle.std.proofs.lemmas.List.{drop_all}
 use Rattle.mg_bson.specs.View.{tree, fields_of, items_of}
 use Rattle.mg_bson.specs.declared.tree.Bson.{Bson}
@@ -27,12 +27,12 @@ items_joined_all (item u ts) = ap (item u) (items_joined_all ts)
 
 -- ---- copies, one after the other
 
-pub fields_copied : (done new fs : List Field) (i : ℕ) (f g : Field) → i < length fs → f ≡ get_or fs i f → string_bytes g.name ≡ string_bytes f.name → tree g.value ≡ tree f.value → new ≡ done ++ g ∷ []
+pub fields_copied : (done new fs : List Field) (i : ℕ) (f g : Field) → i < length fs → f ≡ get_or fs i f → g.name ≡ f.name → tree g.value ≡ tree f.value → new ≡ done ++ g ∷ []
     → joined (fields_of done) (fields_of (drop i fs)) ≡ fields_of fs → joined (fields_of new) (fields_of (drop (i + 1) fs)) ≡ fields_of fs
 fields_copied done new fs i f g lt is name value e so_far =
     ap (λ (xs : List Field). joined (fields_of xs) (fields_of (drop (i + 1) fs))) e
     ∙ ap (λ (d : Fields). joined d (fields_of (drop (i + 1) fs))) (fields_of-push done g)
-    ∙ joined_more (fields_of done) (string_bytes g.name) (tree g.value) (fields_of (drop (i + 1) fs))
+    ∙ joined_more (fields_of done) g.name (tree g.value) (fields_of (drop (i + 1) fs))
     ∙ ap₂ (λ (k : List ℕ) (t : Tree). joined (fields_of done) (field k t (fields_of (drop (i + 1) fs)))) name value
     ∙ ap (joined (fields_of done)) (sym (fields_here fs i f lt is)) ∙ so_far
 

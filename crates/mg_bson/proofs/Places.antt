@@ -1,5 +1,5 @@
 -- Where a field of a name stands.
-use Rattle.std.proofs.Common.{◌≡◌, ℕ, zero, suc, ◌+◌, ◌<◌, List, [], ◌∷◌, ◌++◌, length, get_or, set, Bool, true, false, Option, Some, None, option_map, string_bytes, refl, sym, ap, subst, ◌∙◌, arith, inl, inr, ◌⊎◌}
+use Rattle.std.proofs.Common.{◌≡◌, ℕ, zero, suc, ◌+◌, ◌<◌, List, [], ◌∷◌, ◌++◌, length, get_or, set, Bool, true, false, Option, Some, None, option_map, refl, sym, ap, subst, ◌∙◌, arith, inl, inr, ◌⊎◌}
 use Rattle.std.specs.Prelude.{remove, slice_get, ◌==◌, ◌↔◌, IsTrue}
 use Rattle.std.proofs.lemmas.Bool.{eqb-true}
 use Rattle.std.specs.List.{ItemBy}
@@ -31,10 +31,10 @@ map_none None = refl
 pub place_starts : (k : List ℕ) (fs : List Field) → option_map (λ j. 0 + j) (place k fs) ≡ place k fs
 place_starts k fs = sym (map_none (place k fs))
 
-pub place_passes : (k : List ℕ) (f : Field) (fs : List Field) (i : ℕ) → bytes_eq (string_bytes f.name) k ≡ false → option_map (λ j. i + j) (place k (f ∷ fs)) ≡ option_map (λ j. (i + 1) + j) (place k fs)
+pub place_passes : (k : List ℕ) (f : Field) (fs : List Field) (i : ℕ) → bytes_eq f.name k ≡ false → option_map (λ j. i + j) (place k (f ∷ fs)) ≡ option_map (λ j. (i + 1) + j) (place k fs)
 place_passes k f fs i e = rw e (map_plus i (place k fs))
 
-pub place_found : (k : List ℕ) (f : Field) (fs : List Field) (i : ℕ) → bytes_eq (string_bytes f.name) k ≡ true → option_map (λ j. i + j) (place k (f ∷ fs)) ≡ Some i
+pub place_found : (k : List ℕ) (f : Field) (fs : List Field) (i : ℕ) → bytes_eq f.name k ≡ true → option_map (λ j. i + j) (place k (f ∷ fs)) ≡ Some i
 place_found k f fs i e = rw e (ap Some (omega arith))
 
 both : (b : Bool) → (b ≡ true) ⊎ (b ≡ false)
@@ -45,10 +45,10 @@ both false = inr refl
 pub record Stands (k : List ℕ) (fs : List Field) (i : ℕ) : Type 0 where
   pub within : i < length fs
   pub found : (d : Field) → get k (fields_of fs) ≡ Some (tree (get_or fs i d).value)
-  pub replaced : (d g : Field) → string_bytes g.name ≡ string_bytes (get_or fs i d).name → put k (tree g.value) (fields_of fs) ≡ fields_of (set fs i g)
+  pub replaced : (d g : Field) → g.name ≡ (get_or fs i d).name → put k (tree g.value) (fields_of fs) ≡ fields_of (set fs i g)
   pub removed : without k (fields_of fs) ≡ fields_of (remove fs i)
 
-stands_here : (k : List ℕ) (f : Field) (fs : List Field) → bytes_eq (string_bytes f.name) k ≡ true → Stands k (f ∷ fs) 0
+stands_here : (k : List ℕ) (f : Field) (fs : List Field) → bytes_eq f.name k ≡ true → Stands k (f ∷ fs) 0
 stands_here k f fs yes' = record {
   within = omega arith;
   found = λ d. rw yes' refl;
@@ -56,17 +56,17 @@ stands_here k f fs yes' = record {
   removed = rw yes' refl;
 }
 
-stands_later : (k : List ℕ) (f : Field) (fs : List Field) (i : ℕ) → bytes_eq (string_bytes f.name) k ≡ false → Stands k fs i → Stands k (f ∷ fs) (suc i)
+stands_later : (k : List ℕ) (f : Field) (fs : List Field) (i : ℕ) → bytes_eq f.name k ≡ false → Stands k fs i → Stands k (f ∷ fs) (suc i)
 stands_later k f fs i no' s = record {
   within = omega (arith, s.within);
   found = λ d. rw no' (s.found d);
-  replaced = λ d g same. rw no' (ap (field (string_bytes f.name) (tree f.value)) (s.replaced d g same));
-  removed = rw no' (ap (field (string_bytes f.name) (tree f.value)) s.removed);
+  replaced = λ d g same. rw no' (ap (field f.name (tree f.value)) (s.replaced d g same));
+  removed = rw no' (ap (field f.name (tree f.value)) s.removed);
 }
 
 pub place_some : (k : List ℕ) (fs : List Field) (i : ℕ) → place k fs ≡ Some i → Stands k fs i
 place_some k [] i e = absurd cc
-place_some k (f ∷ fs) i e = elim (both (bytes_eq (string_bytes f.name) k)) [
+place_some k (f ∷ fs) i e = elim (both (bytes_eq f.name k)) [
   | inl yes' ↦
       let here : Some 0 ≡ Some i = sym (rw yes' refl) ∙ e in
       let at0 : 0 ≡ i = cc in
@@ -82,11 +82,11 @@ pub record StandsNowhere (k : List ℕ) (fs : List Field) : Type 0 where
   pub added : (t : Tree) → put k t (fields_of fs) ≡ with_field (fields_of fs) k t
   pub kept : without k (fields_of fs) ≡ fields_of fs
 
-nowhere_yet : (k : List ℕ) (f : Field) (fs : List Field) → bytes_eq (string_bytes f.name) k ≡ false → StandsNowhere k fs → StandsNowhere k (f ∷ fs)
+nowhere_yet : (k : List ℕ) (f : Field) (fs : List Field) → bytes_eq f.name k ≡ false → StandsNowhere k fs → StandsNowhere k (f ∷ fs)
 nowhere_yet k f fs no' s = record {
   missing = rw no' s.missing;
-  added = λ t. rw no' (ap (field (string_bytes f.name) (tree f.value)) (s.added t));
-  kept = rw no' (ap (field (string_bytes f.name) (tree f.value)) s.kept);
+  added = λ t. rw no' (ap (field f.name (tree f.value)) (s.added t));
+  kept = rw no' (ap (field f.name (tree f.value)) s.kept);
 }
 
 map_nothing : (o : Option ℕ) → option_map (λ j. suc j) o ≡ None → o ≡ None
@@ -95,7 +95,7 @@ map_nothing None e = refl
 
 pub place_none : (k : List ℕ) (fs : List Field) → place k fs ≡ None → StandsNowhere k fs
 place_none k [] e = record { missing = refl; added = λ t. refl; kept = refl }
-place_none k (f ∷ fs) e = elim (both (bytes_eq (string_bytes f.name) k)) [
+place_none k (f ∷ fs) e = elim (both (bytes_eq f.name k)) [
   | inl yes' ↦
       let here : Some 0 ≡ None = sym (rw yes' refl) ∙ e in
       absurd cc
@@ -104,9 +104,9 @@ place_none k (f ∷ fs) e = elim (both (bytes_eq (string_bytes f.name) k)) [
       nowhere_yet k f fs no' (place_none k fs (map_nothing (place k fs) later))
 ]
 
-pub fields_of-push : (fs : List Field) (f : Field) → fields_of (fs ++ f ∷ []) ≡ with_field (fields_of fs) (string_bytes f.name) (tree f.value)
+pub fields_of-push : (fs : List Field) (f : Field) → fields_of (fs ++ f ∷ []) ≡ with_field (fields_of fs) f.name (tree f.value)
 fields_of-push [] f = refl
-fields_of-push (g ∷ fs) f = ap (field (string_bytes g.name) (tree g.value)) (fields_of-push fs f)
+fields_of-push (g ∷ fs) f = ap (field g.name (tree g.value)) (fields_of-push fs f)
 
 pub length-items_of : (ts : List Bson) → length ts ≡ items_length (items_of ts)
 length-items_of [] = refl

@@ -1,5 +1,6 @@
 -- Values that hold no other values.
-use Rattle.std.proofs.Common.{◌≡◌, ℕ, true, refl, sym, arith, le-leb}
+use Rattle.std.proofs.Common.{◌≡◌, ℕ, true, Box, refl, sym, arith, le-leb}
+use Rattle.std.specs.declared.alloc.Global.{Global}
 use Rattle.std.specs.Prelude.{nat_le}
 use Rattle.mg_bson.specs.Tree.{Tree, double, string, document, array, binary, undefined, object_id, boolean, date_time, null, regex, db_pointer, script, symbol, scoped, int32, timestamp, int64, decimal128, min_key, max_key, Fields, Items}
 use Rattle.mg_bson.specs.View.{tree}
@@ -10,7 +11,7 @@ use Rattle.mg_bson.specs.declared.tree.Bson.TheVariants as bson
 use Rattle.mg_bson.specs.declared.tree.CodeWithScope.{CodeWithScope}
 
 -- what is neither of the three kinds that hold others
-pub plain : (v : Bson) → ((d : Fields) → v ≡ bson.Document d → ⊥) → ((a : Items) → v ≡ bson.Array a → ⊥) → ((c : CodeWithScope) → v ≡ bson.CodeWithScope c → ⊥) → is_plain (tree v) ≡ true
+pub plain : (v : Bson) → ((d : Fields) → v ≡ bson.Document d → ⊥) → ((a : Items) → v ≡ bson.Array a → ⊥) → ((c : Box CodeWithScope Global) → v ≡ bson.CodeWithScope c → ⊥) → is_plain (tree v) ≡ true
 plain (bson.Double v) d a c = refl
 plain (bson.String v) d a c = refl
 plain (bson.Document v) d a c = absurd (d v refl)

@@ -13,4 +13,5 @@ pub mod Writable
 pub mod Writing
 pub mod Same
 pub mod Literal
+pub mod Name
 pub mod RawView

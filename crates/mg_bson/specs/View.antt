@@ -18,11 +18,11 @@ tree (bson.ObjectId o) = object_id o.0
 tree (bson.Boolean b) = boolean b
 tree (bson.DateTime d) = date_time d.millis
 tree bson.Null = null
-tree (bson.Regex r) = regex (string_bytes r.pattern) (string_bytes r.options)
-tree (bson.DbPointer p) = db_pointer (string_bytes p.namespace) p.id.0
+tree (bson.Regex r) = regex (string_bytes r.value.pattern) (string_bytes r.value.options)
+tree (bson.DbPointer p) = db_pointer (string_bytes p.value.namespace) p.value.id.0
 tree (bson.Code s) = script (string_bytes s)
 tree (bson.Symbol s) = symbol (string_bytes s)
-tree (bson.CodeWithScope c) = scoped (string_bytes c.code) c.scope
+tree (bson.CodeWithScope c) = scoped (string_bytes c.value.code) c.value.scope
 tree (bson.Int32 z) = int32 z
 tree (bson.Timestamp t) = timestamp t.time t.increment
 tree (bson.Int64 z) = int64 z
@@ -33,7 +33,7 @@ tree bson.MaxKey = max_key
 -- the document of its fields
 abbrev pub fields_of : List Field → Fields
 fields_of [] = no_fields
-fields_of (f ∷ fs) = field (string_bytes f.name) (tree f.value) (fields_of fs)
+fields_of (f ∷ fs) = field f.name (tree f.value) (fields_of fs)
 
 -- the array of its values
 abbrev pub items_of : List Bson → Items
@@ -43,4 +43,4 @@ items_of (t ∷ ts) = item (tree t) (items_of ts)
 -- where the first field of the name stands
 abbrev pub place : List ℕ → List Field → Option ℕ
 place k [] = None
-place k (f ∷ fs) = if bytes_eq (string_bytes f.name) k then Some 0 else option_map suc (place k fs)
+place k (f ∷ fs) = if bytes_eq f.name k then Some 0 else option_map suc (place k fs)

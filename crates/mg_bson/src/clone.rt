@@ -1,9 +1,9 @@
 //! `clone`, written by hand: a derived one would promise nothing of a type that holds itself.
 ghost use Rattle.std.specs.Prelude.{◌≡◌, IfOk, string_bytes};
-ghost use Rattle.mg_bson.specs.Tree.{binary, regex, db_pointer, scoped};
+ghost use Rattle.mg_bson.specs.Tree.{scoped};
 ghost use Rattle.mg_bson.specs.View.{tree, fields_of, items_of};
 
-use crate::tree::{Array, Binary, Bson, CodeWithScope, DbPointer, Document, Field, Regex};
+use crate::tree::{Array, Bson, CodeWithScope, Document, Field};
 use std::alloc::AllocError;
 
 impl Clone for Document {
@@ -35,7 +35,7 @@ fn copy_document(document: &Document) -> Result<Document, AllocError>
 
 #[cycle(copy)]
 fn copy_field(field: &Field) -> Result<Field, AllocError>
-    ensures { IfOk result (λ f. (string_bytes f.name ≡ string_bytes field.now.name) × (tree f.value ≡ tree field.now.value)) }
+    ensures { IfOk result (λ f. (f.name ≡ field.now.name) × (tree f.value ≡ tree field.now.value)) }
 {
     let name = field.name.clone()?;
     let value = copy_value(&field.value)?;
@@ -62,14 +62,14 @@ fn copy_value(value: &Bson) -> Result<Bson, AllocError>
         Bson::String(text) => text.clone().map(Bson::String),
         Bson::Document(d) => copy_document(d).map(Bson::Document),
         Bson::Array(a) => copy_array(a).map(Bson::Array),
-        Bson::Binary(b) => copy_binary(b),
+        Bson::Binary(b) => b.clone().map(Bson::Binary),
         Bson::Undefined => Ok(Bson::Undefined),
         Bson::ObjectId(id) => Ok(Bson::ObjectId(*id)),
         Bson::Boolean(b) => Ok(Bson::Boolean(*b)),
         Bson::DateTime(t) => Ok(Bson::DateTime(*t)),
         Bson::Null => Ok(Bson::Null),
-        Bson::Regex(r) => copy_regex(r),
-        Bson::DbPointer(p) => copy_pointer(p),
+        Bson::Regex(r) => r.clone().map(Bson::Regex),
+        Bson::DbPointer(p) => p.clone().map(Bson::DbPointer),
         Bson::Code(text) => text.clone().map(Bson::Code),
         Bson::Symbol(text) => text.clone().map(Bson::Symbol),
         Bson::CodeWithScope(c) => copy_scoped(c),
@@ -88,33 +88,6 @@ fn copy_scoped(source: &CodeWithScope) -> Result<Bson, AllocError>
 {
     let code = source.code.clone()?;
     let scope = copy_document(&source.scope)?;
-    Ok(Bson::CodeWithScope(CodeWithScope { code, scope }))
-}
-
-fn copy_binary(source: &Binary) -> Result<Bson, AllocError>
-    ensures { IfOk result (λ v. tree v ≡ binary source.now.subtype source.now.bytes.items) }
-{
-    let bytes = source.bytes.clone()?;
-    Ok(Bson::Binary(Binary {
-        subtype: source.subtype,
-        bytes,
-    }))
-}
-
-fn copy_regex(source: &Regex) -> Result<Bson, AllocError>
-    ensures { IfOk result (λ v. tree v ≡ regex (string_bytes source.now.pattern) (string_bytes source.now.options)) }
-{
-    let pattern = source.pattern.clone()?;
-    let options = source.options.clone()?;
-    Ok(Bson::Regex(Regex { pattern, options }))
-}
-
-fn copy_pointer(source: &DbPointer) -> Result<Bson, AllocError>
-    ensures { IfOk result (λ v. tree v ≡ db_pointer (string_bytes source.now.namespace) source.now.id.0) }
-{
-    let namespace = source.namespace.clone()?;
-    Ok(Bson::DbPointer(DbPointer {
-        namespace,
-        id: source.id,
-    }))
+    let alloc = *source.code.allocator();
+    Ok(Bson::CodeWithScope(Box::new(alloc, CodeWithScope { code, scope })?))
 }

@@ -67,7 +67,7 @@ fn read_scoped(alloc: Global, code: &str, scope: &RawDocument<'_>) -> Result<Bso
 {
     let code = read_text(alloc, code)?;
     let scope = read_document(alloc, scope)?;
-    Ok(Bson::CodeWithScope(CodeWithScope { code, scope }))
+    Ok(Bson::CodeWithScope(Box::new(alloc, CodeWithScope { code, scope })?))
 }
 
 // A value that holds no others.
@@ -122,7 +122,7 @@ fn read_regex(alloc: Global, pattern: &str, options: &str) -> Result<Bson, BsonE
 {
     let pattern = read_text(alloc, pattern)?;
     let options = read_text(alloc, options)?;
-    Ok(Bson::Regex(Regex { pattern, options }))
+    Ok(Bson::Regex(Box::new(alloc, Regex { pattern, options })?))
 }
 
 fn read_pointer(alloc: Global, namespace: &str, id: ObjectId) -> Result<Bson, BsonError>
@@ -130,5 +130,5 @@ fn read_pointer(alloc: Global, namespace: &str, id: ObjectId) -> Result<Bson, Bs
     ensures err { IfErr result (λ e. e ≡ OutOfMemory) }
 {
     let namespace = read_text(alloc, namespace)?;
-    Ok(Bson::DbPointer(DbPointer { namespace, id }))
+    Ok(Bson::DbPointer(Box::new(alloc, DbPointer { namespace, id })?))
 }

@@ -19,6 +19,7 @@ mod kind;
 pub mod laws;
 mod levels;
 mod limits;
+mod name;
 mod object_id;
 mod raw;
 mod read;

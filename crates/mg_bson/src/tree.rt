@@ -8,13 +8,14 @@ ghost use Rattle.mg_bson.specs.declared.error.BsonError.TheVariants.{OutOfMemory
 
 use crate::error::BsonError;
 use crate::kind::Kind;
+use crate::name::Name;
 use crate::object_id::ObjectId;
 use std::alloc::Global;
 use std::marker::Model;
 use std::mem;
 
 /// Bytes and what they are for.
-#[derive(Debug, PartialEq, Eq, Drop)]
+#[derive(Clone, Debug, PartialEq, Eq, Drop)]
 pub struct Binary {
     /// The subtype of the BSON specification: 0 for bytes of no further meaning.
     pub subtype: u8,
@@ -39,7 +40,7 @@ pub struct Timestamp {
 }
 
 /// A regular expression as text, which is not looked into.
-#[derive(Debug, PartialEq, Eq, Drop)]
+#[derive(Clone, Debug, PartialEq, Eq, Drop)]
 pub struct Regex {
     /// The expression. It can be encoded if it does not hold the character 0.
     pub pattern: String,
@@ -48,7 +49,7 @@ pub struct Regex {
 }
 
 /// A reference to a document of another collection, of an old form.
-#[derive(Debug, PartialEq, Eq, Drop)]
+#[derive(Clone, Debug, PartialEq, Eq, Drop)]
 pub struct DbPointer {
     /// The database and the collection, with a dot between them.
     pub namespace: String,
@@ -66,7 +67,8 @@ pub struct CodeWithScope {
     pub scope: Document,
 }
 
-/// A value of a document: one variant for each kind of element of the BSON specification.
+/// A value of a document: one variant for each kind of element of the BSON specification. The rare kinds with two parts
+/// stand in a box, so that the others take less room.
 #[cycle(tree)]
 #[derive(Debug, Drop)]
 pub enum Bson {
@@ -91,15 +93,15 @@ pub enum Bson {
     /// The null value.
     Null,
     /// A regular expression.
-    Regex(Regex),
+    Regex(Box<Regex>),
     /// A reference to another document, of an old form.
-    DbPointer(DbPointer),
+    DbPointer(Box<DbPointer>),
     /// JavaScript code.
     Code(String),
     /// A symbol, of an old form.
     Symbol(String),
     /// JavaScript code with its variables, of an old form.
-    CodeWithScope(CodeWithScope),
+    CodeWithScope(Box<CodeWithScope>),
     /// A whole number of 32 bits.
     Int32(i32),
     /// A time of the server's log of operations.
@@ -118,7 +120,7 @@ pub enum Bson {
 #[cycle(tree)]
 #[derive(Debug, Drop)]
 pub(crate) struct Field {
-    pub(crate) name: String,
+    pub(crate) name: Name,
     pub(crate) value: Bson,
 }
 
@@ -474,7 +476,7 @@ impl Document {
         ensures err { IfErr result (λ e. e ≡ OutOfMemory) }
         ensures same { OnErr result (self.new ≡ self.old) }
     {
-        let Ok(name) = String::from_str(*self.fields.allocator(), name) else {
+        let Ok(name) = Name::from_str(*self.fields.allocator(), name) else {
             drop(value);
             return Err(BsonError::OutOfMemory);
         };

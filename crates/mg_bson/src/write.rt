@@ -18,6 +18,7 @@ use crate::raw::RawDocumentBuf;
 use crate::tree::{
     Array, Binary, Bson, CodeWithScope, DbPointer, Document, Field, Regex, Timestamp,
 };
+use itoa::Buffer;
 use std::alloc::Global;
 
 // Whether so many more bytes are within the limit. Each value is tested once, with its length and its end.
@@ -149,8 +150,8 @@ fn put_numbered(out: &mut Vec<u8>, kind: Kind, i: usize) -> Result<(), BsonError
     ensures ok { OnOk result (out.new.items ≡ out.old.items ++ element kind (decimal i) []) }
     ensures err { IfErr result (λ e. RefusesAt e (length out.old.items + (length (decimal i) + 2)) 0 0 (has_zero (decimal i))) }
 {
-    let name = format!(in *out.allocator(); "{i}")?;
-    put_head(out, kind, name.as_str())
+    let mut digits = Buffer::new();
+    put_head(out, kind, digits.format(i))
 }
 
 // A text that a 0 ends.

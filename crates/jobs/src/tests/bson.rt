@@ -319,10 +319,8 @@ fn fault_of(alloc: Global, name: &str, value: Bson) -> Result<Option<BsonError>,
 // A regular expression whose pattern holds the character 0.
 fn bad_regex(alloc: Global) -> Result<Bson, BsonError> {
     let pattern = String::from_str(alloc, "a\0")?;
-    Ok(Bson::Regex(Regex {
-        pattern,
-        options: String::new(alloc),
-    }))
+    let options = String::new(alloc);
+    Ok(Bson::Regex(Box::new(alloc, Regex { pattern, options })?))
 }
 
 // Why neither a bad name nor a bad pattern is written.

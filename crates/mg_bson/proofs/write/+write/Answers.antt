@@ -32,7 +32,7 @@ pub write_fields-returns-in_err-put_head-clause-err : goal.write_fields-returns-
 write_fields-returns-in_err-put_head-clause-err t c =
     let f = c.field-item.result in
     let rest = fields_of (drop (c.loop-field.field-index + 1) c.args.fields.now) in
-    let here = fields_here c.args.fields.now c.loop-field.field-index f (omega arith) c.field-item.is ∙ ap (λ k. field k (tree f.value) rest) (sym c.as_str.ensures.value) in
+    let here = fields_here c.args.fields.now c.loop-field.field-index f (omega arith) c.field-item.is ∙ ap (λ k. field k (tree f.value) rest) (sym c.as_str.ensures) in
     let a = subst (Along c.args.levels c.args.out.now.items c.loop-field.out.items (fields_of c.args.fields.now)) here c.loop-field.invariant in
     let p = err_from_is_err_and c.from_residual.result c.from_residual.ensures.1 in
     rw (p.1, p.2) (along_head _ c.args.levels c.args.out.now.items c.loop-field.out.items (fields_of c.args.fields.now) rest c.as_str.result.now (tree f.value) a c.in_err-put_head.ensures.err)
@@ -41,7 +41,7 @@ pub write_fields-returns-in_err-write_value-clause-err : goal.write_fields-retur
 write_fields-returns-in_err-write_value-clause-err t c =
     let f = c.field-item.result in
     let rest = fields_of (drop (c.loop-field.field-index + 1) c.args.fields.now) in
-    let here = fields_here c.args.fields.now c.loop-field.field-index f (omega arith) c.field-item.is ∙ ap (λ k. field k (tree f.value) rest) (sym c.as_str.ensures.value) in
+    let here = fields_here c.args.fields.now c.loop-field.field-index f (omega arith) c.field-item.is ∙ ap (λ k. field k (tree f.value) rest) (sym c.as_str.ensures) in
     let a = subst (Along c.args.levels c.args.out.now.items c.loop-field.out.items (fields_of c.args.fields.now)) here c.loop-field.invariant in
     let head = c.in_ok-put_head.ensures.ok ∙ ap (λ k. c.loop-field.out.items ++ element k c.as_str.result.now []) c.kind.ensures in
     let p = err_from_is_err_and c.from_residual-in_err-write_value.result c.from_residual-in_err-write_value.ensures.1 in
@@ -51,7 +51,7 @@ pub write_fields-loop-field-preserved : goal.write_fields-loop-field-preserved
 write_fields-loop-field-preserved t c =
     let f = c.field-item.result in
     let rest = fields_of (drop (c.loop-field.field-index + 1) c.args.fields.now) in
-    let here = fields_here c.args.fields.now c.loop-field.field-index f (omega arith) c.field-item.is ∙ ap (λ k. field k (tree f.value) rest) (sym c.as_str.ensures.value) in
+    let here = fields_here c.args.fields.now c.loop-field.field-index f (omega arith) c.field-item.is ∙ ap (λ k. field k (tree f.value) rest) (sym c.as_str.ensures) in
     let a = subst (Along c.args.levels c.args.out.now.items c.loop-field.out.items (fields_of c.args.fields.now)) here c.loop-field.invariant in
     let head = c.in_ok-put_head.ensures.ok ∙ ap (λ k. c.loop-field.out.items ++ element k c.as_str.result.now []) c.kind.ensures in
     let done = c.in_ok-write_value.ensures.sound in

@@ -1,4 +1,4 @@
-use Rattle.std.proofs.Common.{sym, ap, ◌∙◌, arith, Some, string_bytes}
+use Rattle.std.proofs.Common.{sym, ap, ◌∙◌, arith, Some}
 use Rattle.mg_bson.specs.Find.{get, put, with_field}
 use Rattle.mg_bson.specs.View.{tree, fields_of, place}
 use Rattle.mg_bson.specs.declared.tree.Field.{Field}
@@ -17,7 +17,7 @@ returns-in-Some-clause-ok c =
     let s = place_some k c.self.inside.fields.items c.in-Some.i (sym (ap (place k) c.deref.ensures.value) ∙ sym c.in-Some.ensures) in
     let f = c.index_mut-field.result.now in
     let g : Field = record { name = f.name; value = c.replace.new.dest } in
-    sym (s.replaced f g (ap (λ f. string_bytes f.name) c.index_mut-field.ensures.value)) ∙ ap (λ v. put k (tree v) (fields_of c.self.inside.fields.items)) c.replace.ensures.after ∙ ap (put k (tree c.args.value)) c.self.view_is
+    sym (s.replaced f g (ap (λ f. f.name) c.index_mut-field.ensures.value)) ∙ ap (λ v. put k (tree v) (fields_of c.self.inside.fields.items)) c.replace.ensures.after ∙ ap (put k (tree c.args.value)) c.self.view_is
 
 pub returns-in-Some-clause-old : goal.returns-in-Some-clause-old
 returns-in-Some-clause-old c =
