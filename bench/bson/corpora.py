@@ -1,8 +1,10 @@
 #!/usr/bin/env python3
 """Writes the documents that the BSON layer is timed on, one behind another, to files of a folder.
 
-flat.bson has many small flat documents, nested.bson documents of 81 levels, blobs.bson chunks of 255 KiB, and depthN.bson
-documents of N levels, all with about the same number of bytes a level and in all. The files are the same in each run.
+flat.bson has many small flat documents, nested.bson documents of 81 levels, tweets.bson documents with the names, depth and
+texts of a message service, small.bson documents of two fields, doubles.bson arrays of doubles, names.bson names of 24 to 60
+bytes, words.bson texts of which few letters are ASCII, blobs.bson chunks of 255 KiB, and depthN.bson documents of N levels,
+all with about the same number of bytes a level and in all. The files are the same in each run.
 """
 import os
 import random
@@ -22,6 +24,8 @@ def value(it):
         return 8, bytes([it])
     if isinstance(it, int):
         return (16, int32(it)) if -(2**31) <= it < 2**31 else (18, struct.pack("<q", it))
+    if isinstance(it, float):
+        return 1, struct.pack("<d", it)
     if isinstance(it, str):
         text = it.encode()
         return 2, int32(len(text) + 1) + text + b"\0"
@@ -59,6 +63,74 @@ def flat(source):
         }
 
 
+def text(source, words):
+    return " ".join(word(source) for _ in range(words))
+
+
+def account(source):
+    return {
+        "id": source.randint(0, 2**40),
+        "id_str": str(source.randint(0, 2**40)),
+        "name": word(source),
+        "screen_name": word(source),
+        "location": word(source),
+        "description": text(source, 6),
+        "protected": False,
+        "followers_count": source.randint(0, 10**5),
+        "friends_count": source.randint(0, 10**4),
+        "created_at": "Wed Aug 27 13:08:45 +0000 2008",
+        "utc_offset": None,
+        "verified": source.random() < 0.1,
+        "profile_background_color": "C0DEED",
+        "profile_image_url": "http://example.org/images/%d.png" % source.randint(0, 10**6),
+        "profile_use_background_image": True,
+    }
+
+
+def tweets(source):
+    for i in range(3000):
+        yield {
+            "_id": i,
+            "created_at": "Wed Aug 27 13:08:45 +0000 2008",
+            "id": source.randint(0, 2**50),
+            "text": text(source, 8),
+            "source": "web",
+            "truncated": False,
+            "in_reply_to_status_id": None,
+            "in_reply_to_screen_name": None,
+            "user": account(source),
+            "geo": None,
+            "retweet_count": source.randint(0, 1000),
+            "entities": {
+                "hashtags": [{"text": word(source), "indices": [k, k + 9]} for k in range(source.randint(0, 3))],
+                "urls": [],
+                "user_mentions": [{"screen_name": word(source), "id": k, "indices": [k, k + 5]} for k in range(2)],
+            },
+            "favorited": False,
+        }
+
+
+def small(source):
+    for i in range(150000):
+        yield {"_id": i, "n": source.randint(0, 10**12)}
+
+
+def doubles(source):
+    for i in range(2000):
+        yield {"_id": i, "values": [source.uniform(-1, 1) for _ in range(200)]}
+
+
+def names(source):
+    for i in range(10000):
+        yield {"%s.%d" % (text(source, 4)[:58].ljust(24, "x"), k): k for k in range(8)}
+
+
+def words(source):
+    letters = "абвгдежзийклмнопрстуфхцчшщъыьэюя "
+    for i in range(10000):
+        yield {"_id": i, "text": "".join(source.choice(letters) for _ in range(200))}
+
+
 def nested(source, documents, levels):
     for i in range(documents):
         it = {"leaf": word(source), "n": i}
@@ -84,5 +156,7 @@ if __name__ == "__main__":
     write("flat.bson", flat(shared))
     write("nested.bson", nested(shared, 2000, 80))
     write("blobs.bson", blobs(shared))
+    for name, corpus in (("tweets", tweets), ("small", small), ("doubles", doubles), ("names", names), ("words", words)):
+        write(name + ".bson", corpus(random.Random(len(name))))
     for depth in (6, 12, 25, 50, 100):
         write("depth%d.bson" % depth, nested(random.Random(depth), 160000 // depth, depth - 1))

@@ -14,6 +14,14 @@ impl Clone for Document {
     }
 }
 
+impl Clone for Array {
+    ghost is_clone = { λ v w. w ≡ v };
+
+    fn clone(&self) -> Result<Array, AllocError> {
+        copy_array(self)
+    }
+}
+
 impl Clone for Bson {
     ghost is_clone = { λ v w. tree w ≡ tree v };
 

@@ -10,11 +10,14 @@
 //! [`laws`] has what holds of them.
 #![tactic(auto)]
 
+mod access;
 mod check;
 mod clone;
 mod decode;
+mod each;
 mod equal;
 mod error;
+mod from;
 mod kind;
 pub mod laws;
 mod levels;
@@ -26,6 +29,7 @@ mod read;
 mod tree;
 mod write;
 
+pub use access::ValueAccessError;
 pub use decode::to_document;
 pub use error::BsonError;
 pub use kind::Kind;

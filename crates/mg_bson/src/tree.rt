@@ -480,6 +480,16 @@ impl Document {
             drop(value);
             return Err(BsonError::OutOfMemory);
         };
+        self.push(name, value)
+    }
+
+    // Puts the pair at the end.
+    #[inline(always)]
+    pub(crate) fn push(&mut self, name: Name, value: Bson) -> Result<(), BsonError>
+        ensures ok { OnOk result (self.new ≡ with_field self.old name (tree value)) }
+        ensures err { IfErr result (λ e. e ≡ OutOfMemory) }
+        ensures same { OnErr result (self.new ≡ self.old) }
+    {
         self.fields.push(Field { name, value })?;
         Ok(())
     }
@@ -586,6 +596,7 @@ impl Array {
     }
 
     /// Puts the value at the end. Only memory can fail, and then nothing has changed.
+    #[inline(always)]
     pub fn push(&mut self, value: Bson) -> Result<(), BsonError>
         ensures ok { OnOk result (self.new ≡ with_item self.old (tree value)) }
         ensures err { IfErr result (λ e. (e ≡ OutOfMemory) × (self.new ≡ self.old)) }

@@ -1,0 +1,138 @@
+use super::{expect, parted};
+use mg_bson::{
+    Array, Bson, BsonError, DateTime, Document, ObjectId, RawDocument, RawDocumentBuf, RawValue,
+    to_bytes, to_document,
+};
+use std::alloc::{AllocError, Global};
+use std::fmt::Debug;
+use std::test::Fail;
+
+// A document, the reader and the name, and what it finds.
+const READERS: &str = "\
+10000000017800000000000000f03f00 double x Ok([0, 0, 0, 0, 0, 0, 240, 63])
+0f0000000278000300000068690000 str x Ok(\"hi\")
+0d000000037800050000000000 document x Ok(Document { fields: [] })
+0d000000047800050000000000 array x Ok(Array { items: [] })
+0f0000000578000200000000010200 binary x Ok(Binary { subtype: 0, bytes: [1, 2] })
+140000000778000102030405060708090a0b0c00 object_id x Ok(ObjectId([1, 2, 3, 4, 5, 6, 7, 8, 9, 10, 11, 12]))
+090000000878000100 bool x Ok(true)
+10000000097800ffffffffffffffff00 datetime x Ok(DateTime { millis: -1 })
+0c0000001078000100000000 i32 x Ok(1)
+1000000011780001000000feffffff00 timestamp x Ok(Timestamp { time: 4294967294, increment: 1 })
+10000000127800fdffffffffffffff00 i64 x Ok(-3)
+0c0000001078000100000000 i64 x Err(UnexpectedType)
+080000000a780000 str x Err(UnexpectedType)
+10000000107800010000000878000100 bool x Err(UnexpectedType)
+0c0000001078000100000000 i32 y Err(NotPresent)
+0500000000 document x Err(NotPresent)
+";
+
+fn shown<T: Debug + Drop>(alloc: Global, found: T) -> Result<String, AllocError> {
+    format!(in alloc; "{found:?}")
+}
+
+// How what the reader finds prints.
+fn found_by(
+    alloc: Global,
+    reader: &str,
+    document: &Document,
+    name: &str,
+) -> Result<String, AllocError> {
+    match reader {
+        "double" => shown(alloc, document.get_double(name)),
+        "str" => shown(alloc, document.get_str(name)),
+        "document" => shown(alloc, document.get_document(name)),
+        "array" => shown(alloc, document.get_array(name)),
+        "binary" => shown(alloc, document.get_binary(name)),
+        "object_id" => shown(alloc, document.get_object_id(name)),
+        "bool" => shown(alloc, document.get_bool(name)),
+        "datetime" => shown(alloc, document.get_datetime(name)),
+        "i32" => shown(alloc, document.get_i32(name)),
+        "timestamp" => shown(alloc, document.get_timestamp(name)),
+        _ => shown(alloc, document.get_i64(name)),
+    }
+}
+
+fn read(alloc: Global, bytes: Vec<u8>, reader: &str, name: &str) -> Result<String, BsonError> {
+    let raw = RawDocumentBuf::from_bytes(bytes)?;
+    let document = to_document(alloc, raw.as_raw())?;
+    Ok(found_by(alloc, reader, &document, name)?)
+}
+
+#[test]
+fn readers_by_kind(rt: HostRuntime) -> Result<(), Fail> {
+    let alloc = rt.alloc();
+    for line in READERS.lines() {
+        let (digits, rest) = parted(line);
+        let (reader, rest) = parted(rest);
+        let (name, wanted) = parted(rest);
+        let found = read(alloc, hex::decode(alloc, digits)?, reader, name)?;
+        expect(&rt, line, found.as_str(), wanted);
+    }
+    Ok(())
+}
+
+// A document of plain values.
+fn plain(alloc: Global) -> Result<Document, BsonError> {
+    let mut items = Array::new(alloc);
+    items.push(Bson::from(true))?;
+    items.push(Bson::from(-1i64))?;
+    let mut document = Document::new(alloc);
+    document.append("n", Bson::from(7))?;
+    document.append("a", Bson::from(items))?;
+    document.append("t", Bson::from(DateTime { millis: 5 }))?;
+    document.append(
+        "a name of more than 23 bytes",
+        Bson::from(ObjectId([1; 12])),
+    )?;
+    Ok(document)
+}
+
+// The names and values in order, and the values of the arrays among them.
+fn listed(alloc: Global, document: &Document) -> Result<String, AllocError> {
+    let mut text = String::new(alloc);
+    for (name, value) in document {
+        text.push_str(format!(in alloc; "{name}={value:?};")?.as_str())?;
+    }
+    if let Ok(items) = document.get_array("a") {
+        for value in items {
+            text.push_str(format!(in alloc; "{value:?};")?.as_str())?;
+        }
+    }
+    Ok(text)
+}
+
+// The same of the bytes.
+fn listed_raw(alloc: Global, document: &RawDocument<'_>) -> Result<String, AllocError> {
+    let mut text = String::new(alloc);
+    for (name, _) in document {
+        text.push_str(name)?;
+        text.push(';')?;
+    }
+    if let Some(RawValue::Array(items)) = &document.get("a") {
+        for value in items {
+            text.push_str(format!(in alloc; "{value:?};")?.as_str())?;
+        }
+    }
+    Ok(text)
+}
+
+fn both_listed(alloc: Global) -> Result<String, BsonError> {
+    let document = plain(alloc)?;
+    let raw = to_bytes(alloc, &document)?;
+    let tree = listed(alloc, &document)?;
+    let lent = listed_raw(alloc, &raw.as_raw())?;
+    Ok(format!(in alloc; "{tree} {lent}")?)
+}
+
+#[test]
+fn gone_through_in_order(rt: HostRuntime) -> Result<(), Fail> {
+    let found = both_listed(rt.alloc())?;
+    let wanted = concat!(
+        "n=Int32(7);a=Array(Array { items: [Boolean(true), Int64(-1)] });t=DateTime(DateTime { millis: 5 });",
+        "a name of more than 23 bytes=ObjectId(ObjectId([1, 1, 1, 1, 1, 1, 1, 1, 1, 1, 1, 1]));Boolean(true);Int64(-1); ",
+        "n;a;t;a name of more than 23 bytes;Boolean(true);Int64(-1);",
+    );
+    expect(&rt, "in order", found.as_str(), wanted);
+    Ok(())
+}
