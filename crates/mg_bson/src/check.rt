@@ -1,9 +1,11 @@
 //! Whether bytes are a document.
 ghost use Rattle.std.specs.Prelude.{◌≡◌, is_some};
-ghost use Rattle.mg_bson.specs.Reading.{fields_at, value_at, binary_at, doc_at};
+ghost use Rattle.mg_bson.specs.Reading.{fields_at, value_at, doc_at};
 
 use crate::kind::Kind;
-use crate::read::{body_of, pointer_of, regex_of, scope_of, split_element, text_of, u32_at};
+use crate::read::{
+    binary_of, body_of, boolean_of, pointer_of, regex_of, scope_of, split_element, text_of,
+};
 
 // Whether the bytes are a document of at most so many levels. A recursion of 100 levels needs no
 // memory but the stack.
@@ -49,10 +51,10 @@ fn is_value(kind: Kind, bytes: &[u8], levels: u32) -> bool
         Kind::Double | Kind::DateTime | Kind::Timestamp | Kind::Int64 => bytes.len() == 8,
         Kind::String | Kind::Code | Kind::Symbol => text_of(bytes).is_some(),
         Kind::Document | Kind::Array => is_document(bytes, levels),
-        Kind::Binary => is_binary(bytes),
+        Kind::Binary => binary_of(bytes).is_some(),
         Kind::Undefined | Kind::Null | Kind::MinKey | Kind::MaxKey => bytes.is_empty(),
         Kind::ObjectId => bytes.len() == 12,
-        Kind::Boolean => matches!(bytes, [0] | [1]),
+        Kind::Boolean => boolean_of(bytes).is_some(),
         Kind::Regex => regex_of(bytes).is_some(),
         Kind::DbPointer => pointer_of(bytes).is_some(),
         Kind::CodeWithScope => match scope_of(bytes) {
@@ -62,11 +64,4 @@ fn is_value(kind: Kind, bytes: &[u8], levels: u32) -> bool
         Kind::Int32 => bytes.len() == 4,
         Kind::Decimal128 => bytes.len() == 16,
     }
-}
-
-#[tactic(auto, unfolding(crate::specs::Reading::binary_at))]
-fn is_binary(bytes: &[u8]) -> bool
-    ensures { result ≡ is_some (binary_at bytes.now) }
-{
-    bytes.len() >= 5 && u32_at(bytes) as usize + 5 == bytes.len()
 }

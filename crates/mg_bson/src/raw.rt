@@ -20,8 +20,8 @@ use crate::kind::Kind;
 use crate::limits::MAX_LEVELS;
 use crate::object_id::ObjectId;
 use crate::read::{
-    Element, array_8, array_12, array_16, binary_of, body_of, boolean_of, i32_at, i64_at,
-    known_text_of, pointer_of, regex_of, scope_of, split_element, u32_at,
+    Element, array_of, binary_of, body_of, boolean_of, i32_at, i64_at, known_text_of, pointer_of,
+    regex_of, scope_of, split_element, u32_at,
 };
 use crate::tree::{Bson, DateTime, Timestamp};
 use std::alloc::{AllocError, Global};
@@ -29,6 +29,9 @@ use std::marker::Model;
 
 /// The bytes of a document, all levels of which were checked. In a contract it is those bytes, and
 /// `fields` is what they spell.
+///
+///     let raw = RawDocumentBuf::from_bytes(bytes)?;
+///     let document = to_document(alloc, raw.as_raw())?;
 #[derive(Debug, Drop)]
 pub struct RawDocumentBuf {
     bytes: Vec<u8>,
@@ -47,6 +50,9 @@ impl Model for RawDocumentBuf {
 
 /// A document that is lent from checked bytes. In a contract it is its bytes, and `fields` is what
 /// they spell.
+///
+///     for (name, value) in &document { .. }
+///     let Some(value) = document.get("ok") else { .. };
 #[derive(Debug, Drop)]
 pub struct RawDocument<'a> {
     bytes: &'a [u8],
@@ -83,6 +89,12 @@ impl<'a> Model for RawIter<'a> {
 
 /// A value that is lent from checked bytes: one variant for each variant of
 /// [`Bson`](crate::Bson). In a contract `value` is the tree that it stands for.
+///
+///     match &value {
+///         RawValue::Int32(n) => i64::from(*n),
+///         RawValue::Int64(n) => *n,
+///         _ => 0,
+///     }
 #[derive(Debug)]
 pub enum RawValue<'a> {
     /// A floating point number, as its eight bytes.
@@ -160,6 +172,8 @@ impl Drop for RawValue<'_> {
 
 /// An array that is lent from checked bytes: a document whose names are not looked at. In a
 /// contract it is its bytes, and `items` is what they spell.
+///
+///     for value in &array { .. }
 #[derive(Debug, Drop)]
 pub struct RawArray<'a> {
     bytes: &'a [u8],
@@ -382,13 +396,13 @@ fn open<'a>(name: &'a str, kind: Kind, bytes: &'a [u8]) -> Option<(&'a str, RawV
     ensures value { option_map (λ r. value r.1) result ≡ value_at (doc_at 99) kind bytes.now }
 {
     match kind {
-        Kind::Double => Some((name, RawValue::Double(array_8(bytes)))),
+        Kind::Double => Some((name, RawValue::Double(array_of(bytes)))),
         Kind::String => Some((name, RawValue::String(known_text_of(bytes)))),
         Kind::Document => Some((name, RawValue::Document(RawDocument { bytes }))),
         Kind::Array => Some((name, RawValue::Array(RawArray { bytes }))),
         Kind::Binary => open_binary(name, bytes),
         Kind::Undefined => Some((name, RawValue::Undefined)),
-        Kind::ObjectId => Some((name, RawValue::ObjectId(ObjectId(array_12(bytes))))),
+        Kind::ObjectId => Some((name, RawValue::ObjectId(ObjectId(array_of(bytes))))),
         Kind::Boolean => Some((name, RawValue::Boolean(boolean_of(bytes)?))),
         Kind::DateTime => {
             let millis = i64_at(bytes);
@@ -403,7 +417,7 @@ fn open<'a>(name: &'a str, kind: Kind, bytes: &'a [u8]) -> Option<(&'a str, RawV
         Kind::Int32 => Some((name, RawValue::Int32(i32_at(bytes)))),
         Kind::Timestamp => Some((name, RawValue::Timestamp(timestamp_at(bytes)))),
         Kind::Int64 => Some((name, RawValue::Int64(i64_at(bytes)))),
-        Kind::Decimal128 => Some((name, RawValue::Decimal128(array_16(bytes)))),
+        Kind::Decimal128 => Some((name, RawValue::Decimal128(array_of(bytes)))),
         Kind::MinKey => Some((name, RawValue::MinKey)),
         Kind::MaxKey => Some((name, RawValue::MaxKey)),
     }
@@ -433,7 +447,7 @@ fn open_pointer<'a>(name: &'a str, bytes: &'a [u8]) -> Option<(&'a str, RawValue
     ensures value { option_map (λ r. value r.1) result ≡ pointer_at bytes.now }
 {
     let (namespace, id) = pointer_of(bytes)?;
-    let id = ObjectId(array_12(id));
+    let id = ObjectId(array_of(id));
     Some((name, RawValue::DbPointer(namespace, id)))
 }
 
@@ -541,7 +555,7 @@ impl<'a> RawValue<'a> {
         }
     }
 
-    /// The eight bytes of a floating point number, and nothing of another kind.
+    /// The eight bytes of a floating point number, the lowest first, and nothing of another kind.
     pub fn as_double(&self) -> Option<[u8; 8]>
         ensures { result ≡ as_double (value self.now) }
     {

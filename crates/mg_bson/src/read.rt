@@ -305,32 +305,14 @@ pub(crate) fn scope_of(bytes: &[u8]) -> Option<(&str, &[u8])>
     text_and_rest_of(&bytes[4..])
 }
 
+// The bytes as an array of just so many.
 #[inline(always)]
-pub(crate) fn array_8(bytes: &[u8]) -> [u8; 8]
-    requires { length bytes.now ≡ 8 }
+pub(crate) fn array_of<const N: usize>(bytes: &[u8]) -> [u8; N]
+    requires { length bytes.now ≡ N }
     ensures { result ≡ bytes.now }
 {
-    let mut array = [0; 8];
-    array.copy_from_slice(bytes);
-    array
-}
-
-#[inline(always)]
-pub(crate) fn array_12(bytes: &[u8]) -> [u8; 12]
-    requires { length bytes.now ≡ 12 }
-    ensures { result ≡ bytes.now }
-{
-    let mut array = [0; 12];
-    array.copy_from_slice(bytes);
-    array
-}
-
-#[inline(always)]
-pub(crate) fn array_16(bytes: &[u8]) -> [u8; 16]
-    requires { length bytes.now ≡ 16 }
-    ensures { result ≡ bytes.now }
-{
-    let mut array = [0; 16];
-    array.copy_from_slice(bytes);
-    array
+    match <[u8; N]>::try_from(bytes) {
+        Ok(array) => array,
+        Err(_) => unreachable!(),
+    }
 }

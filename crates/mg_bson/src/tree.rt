@@ -15,6 +15,9 @@ use std::marker::Model;
 use std::mem;
 
 /// Bytes and what they are for.
+///
+///     let bytes = Vec::from_slice(alloc, &[1, 2])?;
+///     document.append("key", Bson::from(Binary { subtype: 0, bytes }))?;
 #[derive(Clone, Debug, PartialEq, Eq, Drop)]
 pub struct Binary {
     /// The subtype of the BSON specification: 0 for bytes of no further meaning.
@@ -24,6 +27,8 @@ pub struct Binary {
 }
 
 /// A time in milliseconds since the start of 1970 in UTC.
+///
+///     document.append("at", Bson::from(DateTime { millis: 1_700_000_000_000 }))?;
 #[derive(Clone, Copy, Debug, PartialEq, Eq, PartialOrd, Ord, Hash)]
 pub struct DateTime {
     /// The milliseconds, below 0 before 1970.
@@ -31,6 +36,8 @@ pub struct DateTime {
 }
 
 /// A time of the server's log of operations.
+///
+///     document.append("clusterTime", Bson::from(Timestamp { time: 1_700_000_000, increment: 1 }))?;
 #[derive(Clone, Copy, Debug, PartialEq, Eq, PartialOrd, Ord, Hash)]
 pub struct Timestamp {
     /// Seconds since the start of 1970 in UTC.
@@ -40,6 +47,9 @@ pub struct Timestamp {
 }
 
 /// A regular expression as text, which is not looked into.
+///
+///     let regex = Regex { pattern, options };
+///     document.append("name", Bson::Regex(Box::new(alloc, regex)?))?;
 #[derive(Clone, Debug, PartialEq, Eq, Drop)]
 pub struct Regex {
     /// The expression. It can be encoded if it does not hold the character 0.
@@ -49,6 +59,9 @@ pub struct Regex {
 }
 
 /// A reference to a document of another collection, of an old form.
+///
+///     let pointer = DbPointer { namespace, id };
+///     document.append("ref", Bson::DbPointer(Box::new(alloc, pointer)?))?;
 #[derive(Clone, Debug, PartialEq, Eq, Drop)]
 pub struct DbPointer {
     /// The database and the collection, with a dot between them.
@@ -58,6 +71,9 @@ pub struct DbPointer {
 }
 
 /// JavaScript code, and the values of its free variables.
+///
+///     let code = CodeWithScope { code, scope: Document::new(alloc) };
+///     document.append("f", Bson::CodeWithScope(Box::new(alloc, code)?))?;
 #[cycle(tree)]
 #[derive(Debug, PartialEq, Eq, Drop)]
 pub struct CodeWithScope {
@@ -69,10 +85,17 @@ pub struct CodeWithScope {
 
 /// A value of a document: one variant for each kind of element of the BSON specification. The rare kinds with two parts
 /// stand in a box, so that the others take less room.
+///
+///     match value {
+///         Bson::Int32(n) => i64::from(*n),
+///         Bson::Int64(n) => *n,
+///         _ => 0,
+///     }
 #[cycle(tree)]
 #[derive(Debug, Drop)]
 pub enum Bson {
-    /// A floating point number, as its eight bytes in a document.
+    /// A floating point number: the eight bytes of IEEE 754's binary64, the lowest first, as they stand in a document.
+    /// `f64::to_le_bytes` gives them.
     Double([u8; 8]),
     /// A text in UTF-8.
     String(String),
@@ -108,7 +131,8 @@ pub enum Bson {
     Timestamp(Timestamp),
     /// A whole number of 64 bits.
     Int64(i64),
-    /// A decimal floating point number, as its 16 bytes in a document.
+    /// A decimal floating point number: the 16 bytes of IEEE 754's decimal128 in its binary integer form, the lowest
+    /// first, as they stand in a document.
     Decimal128([u8; 16]),
     /// The value below all others.
     MinKey,
@@ -127,6 +151,12 @@ pub(crate) struct Field {
 /// A document: a list of pairs of a name and a value. A name may stand in it more than once.
 ///
 /// In a contract it is that list. `==` says whether the lists are the same, in the same order.
+///
+///     let mut document = Document::new(alloc);
+///     document.append("name", Bson::String(String::from_str(alloc, "Ada")?))?;
+///     document.append("born", Bson::from(1815))?;
+///     for (name, value) in &document { .. }
+///     let born = document.get_i32("born");  // Ok(1815)
 #[cycle(tree)]
 #[derive(Debug)]
 pub struct Document {
@@ -142,6 +172,10 @@ impl Drop for Document {
 }
 
 /// A list of values. In a contract it is that list.
+///
+///     let mut items = Array::new(alloc);
+///     items.push(Bson::from(1))?;
+///     for value in &items { .. }
 #[cycle(tree)]
 #[derive(Debug)]
 pub struct Array {
@@ -224,7 +258,7 @@ impl Bson {
         }
     }
 
-    /// The eight bytes of a floating point number, and nothing of another kind.
+    /// The eight bytes of a floating point number, the lowest first, and nothing of another kind.
     pub fn as_double(&self) -> Option<[u8; 8]>
         ensures { result ≡ as_double (tree self.now) }
     {

@@ -40,20 +40,20 @@ returns-in-Regex-clause-value c = rw c.in-Regex.is c.open_regex.ensures.value
 pub returns-in-DbPointer-clause-value : goal.returns-in-DbPointer-clause-value
 returns-in-DbPointer-clause-value c = rw c.in-DbPointer.is c.open_pointer.ensures.value
 
-pub array_8-requires : goal.array_8-requires
-array_8-requires c = (is_fixed 8 double c.args.bytes.now (at _ _ _ c.in-Double.is c.requires)).long
+pub array_of-requires : goal.array_of-requires
+array_of-requires c = (omega arith, (is_fixed 8 double c.args.bytes.now (at _ _ _ c.in-Double.is c.requires)).long)
 
 pub returns-in-Double-clause-value : goal.returns-in-Double-clause-value
-returns-in-Double-clause-value c = rw c.in-Double.is (ap (λ v. Some (double v)) c.array_8.ensures ∙ sym (is_fixed 8 double c.args.bytes.now (at _ _ _ c.in-Double.is c.requires)).read)
+returns-in-Double-clause-value c = rw c.in-Double.is (ap (λ v. Some (double v)) c.array_of.ensures ∙ sym (is_fixed 8 double c.args.bytes.now (at _ _ _ c.in-Double.is c.requires)).read)
 
 pub returns-in-Undefined-clause-value : goal.returns-in-Undefined-clause-value
 returns-in-Undefined-clause-value c = rw c.in-Undefined.is (sym (is_fixed 0 (λ _. undefined) c.args.bytes.now (at _ _ _ c.in-Undefined.is c.requires)).read)
 
-pub array_12-requires : goal.array_12-requires
-array_12-requires c = (is_fixed 12 object_id c.args.bytes.now (at _ _ _ c.in-ObjectId.is c.requires)).long
+pub array_of-requires-in-ObjectId : goal.array_of-requires-in-ObjectId
+array_of-requires-in-ObjectId c = (omega arith, (is_fixed 12 object_id c.args.bytes.now (at _ _ _ c.in-ObjectId.is c.requires)).long)
 
 pub returns-in-ObjectId-clause-value : goal.returns-in-ObjectId-clause-value
-returns-in-ObjectId-clause-value c = rw c.in-ObjectId.is (ap (λ v. Some (object_id v)) c.array_12.ensures ∙ sym (is_fixed 12 object_id c.args.bytes.now (at _ _ _ c.in-ObjectId.is c.requires)).read)
+returns-in-ObjectId-clause-value c = rw c.in-ObjectId.is (ap (λ v. Some (object_id v)) c.array_of-in-ObjectId.ensures ∙ sym (is_fixed 12 object_id c.args.bytes.now (at _ _ _ c.in-ObjectId.is c.requires)).read)
 
 pub i64_at-millis-requires : goal.i64_at-millis-requires
 i64_at-millis-requires c = omega (arith, (is_fixed 8 (λ bs. date_time (cast_signed w64 (le64_at bs))) c.args.bytes.now (at _ _ _ c.in-DateTime.is c.requires)).long)
@@ -88,11 +88,11 @@ returns-in-Int64-clause-value c =
     let fits : SFits w64 c.i64_at.result = search rules in
     rw c.in-Int64.is (ap (λ v. Some (int64 v)) (to_z-of_z w64 c.i64_at.result fits ∙ c.i64_at.ensures) ∙ sym (is_fixed 8 (λ bs. int64 (cast_signed w64 (le64_at bs))) c.args.bytes.now (at _ _ _ c.in-Int64.is c.requires)).read)
 
-pub array_16-requires : goal.array_16-requires
-array_16-requires c = (is_fixed 16 decimal128 c.args.bytes.now (at _ _ _ c.in-Decimal128.is c.requires)).long
+pub array_of-requires-in-Decimal128 : goal.array_of-requires-in-Decimal128
+array_of-requires-in-Decimal128 c = (omega arith, (is_fixed 16 decimal128 c.args.bytes.now (at _ _ _ c.in-Decimal128.is c.requires)).long)
 
 pub returns-in-Decimal128-clause-value : goal.returns-in-Decimal128-clause-value
-returns-in-Decimal128-clause-value c = rw c.in-Decimal128.is (ap (λ v. Some (decimal128 v)) c.array_16.ensures ∙ sym (is_fixed 16 decimal128 c.args.bytes.now (at _ _ _ c.in-Decimal128.is c.requires)).read)
+returns-in-Decimal128-clause-value c = rw c.in-Decimal128.is (ap (λ v. Some (decimal128 v)) c.array_of-in-Decimal128.ensures ∙ sym (is_fixed 16 decimal128 c.args.bytes.now (at _ _ _ c.in-Decimal128.is c.requires)).read)
 
 pub returns-in-MinKey-clause-value : goal.returns-in-MinKey-clause-value
 returns-in-MinKey-clause-value c = rw c.in-MinKey.is (sym (is_fixed 0 (λ _. min_key) c.args.bytes.now (at _ _ _ c.in-MinKey.is c.requires)).read)
