@@ -130,3 +130,7 @@ empty_items (t ∷ ts) = (λ e. absurd (omega (arith, eqb-true (length (t ∷ ts
 pub item_got : {R : Type 0} (now : R → Bson) (ts : List Bson) (i : ℕ) (r : Option R) → ItemBy now ts i i r → option_map (λ v. tree (now v)) r ≡ item_at i (items_of ts)
 item_got now ts i (Some x) h = ap (λ t. Some (tree t)) h.1 ∙ ap (option_map tree) (sym (slice_get-get_or ts i (now x) h.3.0)) ∙ item_at-items_of ts i
 item_got now ts i None h = ap (option_map tree) (sym (slice_get_past ts i h.3)) ∙ item_at-items_of ts i
+
+-- functions that are the same at each value are the same, beside a name
+pub everywhere : {N A B : Type 0} {n : N} {f g : A → B} → ((x : A) → f x ≡ g x) → ◌≡◌ {A = N × (A → B)} (n, f) (n, g)
+everywhere {n = n} same = λ i. (n, λ x. same x i)

@@ -8,6 +8,7 @@ pub mod Reading
 pub mod ReadView
 pub mod Raw
 pub mod Find
+pub mod Lends
 pub mod Access
 pub mod Plain
 pub mod Writable

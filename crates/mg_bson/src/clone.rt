@@ -22,6 +22,16 @@ impl Clone for Array {
     }
 }
 
+impl Clone for CodeWithScope {
+    ghost is_clone = { λ v w. (string_bytes w.code ≡ string_bytes v.code) × (w.scope ≡ v.scope) };
+
+    fn clone(&self) -> Result<CodeWithScope, AllocError> {
+        let code = self.code.clone()?;
+        let scope = self.scope.clone()?;
+        Ok(CodeWithScope { code, scope })
+    }
+}
+
 impl Clone for Bson {
     ghost is_clone = { λ v w. tree w ≡ tree v };
 

@@ -1,7 +1,6 @@
 //! Checked bytes as a document that owns its parts.
-ghost use Rattle.std.specs.Prelude.{◌≡◌, IfOk, IfErr, OnOk, true, string_bytes};
+ghost use Rattle.std.specs.Prelude.{◌≡◌, IfOk, IfErr, true, string_bytes};
 ghost use Rattle.mg_bson.specs.Tree.{binary, regex, db_pointer, scoped};
-ghost use Rattle.mg_bson.specs.Find.{with_field, with_item};
 ghost use Rattle.mg_bson.specs.Raw.{fields, items};
 ghost use Rattle.mg_bson.specs.RawView.{value};
 ghost use Rattle.mg_bson.specs.Plain.{is_plain};
@@ -9,7 +8,6 @@ ghost use Rattle.mg_bson.specs.View.{tree};
 ghost use Rattle.mg_bson.specs.declared.error.BsonError.TheVariants.{OutOfMemory};
 
 use crate::error::BsonError;
-use crate::name::Name;
 use crate::object_id::ObjectId;
 use crate::raw::{RawArray, RawDocument, RawValue};
 use crate::tree::{Array, Binary, Bson, CodeWithScope, DbPointer, Document, Regex};
@@ -31,37 +29,9 @@ fn read_document(alloc: Global, raw: &RawDocument<'_>) -> Result<Document, BsonE
     let mut document = Document::new(alloc);
     let mut left = raw.iter();
     while let Some((name, value)) = left.next() {
-        read_field(alloc, &mut document, name, &value)?;
+        document.append(name, read_value(alloc, &value)?)?;
     }
     Ok(document)
-}
-
-// Puts the value at the end of the document. The usual kinds are made where they are put, so that none is moved again.
-#[cycle(decode)]
-#[inline(always)]
-fn read_field(
-    alloc: Global,
-    document: &mut Document,
-    name: &str,
-    raw: &RawValue<'_>,
-) -> Result<(), BsonError>
-    ensures ok { OnOk result (document.new ≡ with_field document.old name.now (value raw.now)) }
-    ensures err { IfErr result (λ e. e ≡ OutOfMemory) }
-{
-    let name = Name::from_str(alloc, name)?;
-    match raw {
-        RawValue::Double(v) => document.push(name, Bson::Double(*v)),
-        RawValue::String(text) => document.push(name, Bson::String(read_text(alloc, text)?)),
-        RawValue::Document(d) => document.push(name, Bson::Document(read_document(alloc, d)?)),
-        RawValue::Array(a) => document.push(name, Bson::Array(read_array(alloc, a)?)),
-        RawValue::ObjectId(id) => document.push(name, Bson::ObjectId(*id)),
-        RawValue::Boolean(b) => document.push(name, Bson::Boolean(*b)),
-        RawValue::DateTime(t) => document.push(name, Bson::DateTime(*t)),
-        RawValue::Null => document.push(name, Bson::Null),
-        RawValue::Int32(n) => document.push(name, Bson::Int32(*n)),
-        RawValue::Int64(n) => document.push(name, Bson::Int64(*n)),
-        _ => document.push(name, read_value(alloc, raw)?),
-    }
 }
 
 #[cycle(decode)]
@@ -72,31 +42,9 @@ fn read_array(alloc: Global, raw: &RawArray<'_>) -> Result<Array, BsonError>
     let mut array = Array::new(alloc);
     let mut left = raw.iter();
     while let Some(value) = left.next() {
-        read_item(alloc, &mut array, &value)?;
+        array.push(read_value(alloc, &value)?)?;
     }
     Ok(array)
-}
-
-// Puts the value at the end of the array, as `read_field` does.
-#[cycle(decode)]
-#[inline(always)]
-fn read_item(alloc: Global, array: &mut Array, raw: &RawValue<'_>) -> Result<(), BsonError>
-    ensures ok { OnOk result (array.new ≡ with_item array.old (value raw.now)) }
-    ensures err { IfErr result (λ e. e ≡ OutOfMemory) }
-{
-    match raw {
-        RawValue::Double(v) => array.push(Bson::Double(*v)),
-        RawValue::String(text) => array.push(Bson::String(read_text(alloc, text)?)),
-        RawValue::Document(d) => array.push(Bson::Document(read_document(alloc, d)?)),
-        RawValue::Array(a) => array.push(Bson::Array(read_array(alloc, a)?)),
-        RawValue::ObjectId(id) => array.push(Bson::ObjectId(*id)),
-        RawValue::Boolean(b) => array.push(Bson::Boolean(*b)),
-        RawValue::DateTime(t) => array.push(Bson::DateTime(*t)),
-        RawValue::Null => array.push(Bson::Null),
-        RawValue::Int32(n) => array.push(Bson::Int32(*n)),
-        RawValue::Int64(n) => array.push(Bson::Int64(*n)),
-        _ => array.push(read_value(alloc, raw)?),
-    }
 }
 
 #[cycle(decode)]

@@ -20,6 +20,7 @@ mod error;
 mod from;
 mod kind;
 pub mod laws;
+mod lend;
 mod levels;
 mod limits;
 mod name;

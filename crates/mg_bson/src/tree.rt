@@ -514,16 +514,6 @@ impl Document {
             drop(value);
             return Err(BsonError::OutOfMemory);
         };
-        self.push(name, value)
-    }
-
-    // Puts the pair at the end.
-    #[inline(always)]
-    pub(crate) fn push(&mut self, name: Name, value: Bson) -> Result<(), BsonError>
-        ensures ok { OnOk result (self.new ≡ with_field self.old name (tree value)) }
-        ensures err { IfErr result (λ e. e ≡ OutOfMemory) }
-        ensures same { OnErr result (self.new ≡ self.old) }
-    {
         self.fields.push(Field { name, value })?;
         Ok(())
     }
@@ -539,7 +529,7 @@ impl Document {
 }
 
 // Where the first field of the name stands.
-fn place_of(fields: &[Field], name: &str) -> Option<usize>
+pub(crate) fn place_of(fields: &[Field], name: &str) -> Option<usize>
     ensures { result ≡ place name.now fields.now }
 {
     for (i, field) in fields.iter().enumerate() {
@@ -630,7 +620,6 @@ impl Array {
     }
 
     /// Puts the value at the end. Only memory can fail, and then nothing has changed.
-    #[inline(always)]
     pub fn push(&mut self, value: Bson) -> Result<(), BsonError>
         ensures ok { OnOk result (self.new ≡ with_item self.old (tree value)) }
         ensures err { IfErr result (λ e. (e ≡ OutOfMemory) × (self.new ≡ self.old)) }

@@ -136,3 +136,20 @@ fn gone_through_in_order(rt: HostRuntime) -> Result<(), Fail> {
     expect(&rt, "in order", found.as_str(), wanted);
     Ok(())
 }
+
+// What is read of a name whose value was changed in its place, and whether a name that is absent has none.
+fn changed(alloc: Global) -> Result<String, BsonError> {
+    let mut document = plain(alloc)?;
+    if let Some(value) = document.get_mut("n") {
+        *value = Bson::from(8);
+    }
+    let is_absent = document.get_mut("m").is_none();
+    Ok(format!(in alloc; "{:?} {is_absent}", document.get_i32("n"))?)
+}
+
+#[test]
+fn changed_in_place(rt: HostRuntime) -> Result<(), Fail> {
+    let found = changed(rt.alloc())?;
+    expect(&rt, "in place", found.as_str(), "Ok(8) true");
+    Ok(())
+}

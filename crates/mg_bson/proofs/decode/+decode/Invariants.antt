@@ -28,9 +28,3 @@ decreases-read_array-loop-value l = items_size (items_left l.left)
 
 abbrev pub decreases-read_scoped : goal.decreases-read_scoped
 decreases-read_scoped l = 2 * fields_size (fields l.scope.now) + 1
-
-abbrev pub decreases-read_field : goal.decreases-read_field
-decreases-read_field l = 2 * tree_size (value l.raw.now) + 1
-
-abbrev pub decreases-read_item : goal.decreases-read_item
-decreases-read_item l = 2 * tree_size (value l.raw.now) + 1
