@@ -1,4 +1,4 @@
-use super::{expect, parted};
+use super::{expect, one_field, parted, with};
 use mg_bson::{
     Array, Bson, BsonError, DateTime, Document, ObjectId, RawDocument, RawDocumentBuf, RawValue,
     to_bytes, to_document,
@@ -72,20 +72,24 @@ fn readers_by_kind(rt: HostRuntime) -> Result<(), Fail> {
     Ok(())
 }
 
-// A document of plain values.
-fn plain(alloc: Global) -> Result<Document, BsonError> {
+// An array of plain values.
+fn items(alloc: Global) -> Result<Bson, BsonError> {
     let mut items = Array::new(alloc);
     items.push(Bson::from(true))?;
     items.push(Bson::from(-1i64))?;
-    let mut document = Document::new(alloc);
-    document.append("n", Bson::from(7))?;
-    document.append("a", Bson::from(items))?;
-    document.append("t", Bson::from(DateTime { millis: 5 }))?;
-    document.append(
+    Ok(Bson::from(items))
+}
+
+// A document of plain values.
+fn plain(alloc: Global) -> Result<Document, BsonError> {
+    let document = one_field(alloc, "n", Bson::from(7))?;
+    let document = with(document, "a", items(alloc)?)?;
+    let document = with(document, "t", Bson::from(DateTime { millis: 5 }))?;
+    with(
+        document,
         "a name of more than 23 bytes",
         Bson::from(ObjectId([1; 12])),
-    )?;
-    Ok(document)
+    )
 }
 
 // The names and values in order, and the values of the arrays among them.
