@@ -36,3 +36,5 @@ pub mod Rules
 pub mod Kept
 pub mod Example
 pub mod Worked
+pub mod Words
+pub mod Concerns

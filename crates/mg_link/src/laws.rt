@@ -2,6 +2,7 @@
 ghost use Rattle.std.specs.Prelude.{◌≡◌, ◌+◌, ◌<◌, ◌≤◌, ◌^◌, ◌++◌, ℕ, suc, ℤ, pos, Bool, Some, List, [], ◌∷◌, length, slice_get, slice_set, take};
 ghost use Rattle.mg_bson.specs.Raw.{fields};
 ghost use Rattle.mg_bson.specs.Tree.{Fields, Tree};
+ghost use Rattle.mg_link.specs.Concerns.{level_word, levels, preference_word, preferences};
 ghost use Rattle.mg_link.specs.Commands.{Batch, asked, asks_watch};
 ghost use Rattle.mg_link.specs.Events.{AsksForEvents, HaveIds, TellsItsInserts, events_in};
 ghost use Rattle.mg_link.specs.Example.{IsExample, IsStep, asks_more, gave_two, inserted_two, inserts_two, killed, kills, opened, opens};
@@ -15,6 +16,7 @@ ghost use Rattle.mg_link.specs.Rules.{answer_of, refusal};
 ghost use Rattle.mg_link.specs.Standing.{IsSelfMade, Stands, history_before};
 ghost use Rattle.mg_link.specs.State.{Entry, Start, State, Watch, after, deletes, events_between, updates};
 ghost use Rattle.mg_link.specs.Worked.{IsStepOf, IsWorked, adds, deleted_one, deletes_second, dropped, drops_all, entry_of, finds_all, finds_more, found_last, found_two, gave_four, inserts_three, opened_watch, opens_watch, t_4, t_5, three_inserts, two_drops, updated_one, updates_first, watches_more, wrote_three};
+ghost use Rattle.mg_link.specs.Words.{AreReadBack};
 
 /// Any 2^64 ids that a counter gives in a row differ.
 pub fn counted_ids_differ()
@@ -148,4 +150,10 @@ pub fn streams_go_on_knowing()
 pub fn jobs_stay_apart()
     ensures { (calls calls' : List Call) (owners : List Owner) (k : ℕ) (o o' : Owner) → slice_get owners k ≡ Some o
         → Passes calls calls' o o' → AreApart calls owners → AreApart calls' (slice_set owners k o') }
+{}
+
+/// Each word of the tables is read back as the value that is written so: levels of read concerns, and read preferences.
+pub fn words_are_read_back()
+    ensures levels { AreReadBack level_word levels levels }
+    ensures preferences { AreReadBack preference_word preferences preferences }
 {}

@@ -5,6 +5,7 @@
 mod action;
 mod attempt;
 mod codes;
+mod concern;
 mod ends;
 mod error;
 mod error_text;
@@ -17,6 +18,7 @@ mod link;
 mod log;
 mod memory;
 mod namespace;
+mod read_preference;
 mod reading;
 mod reply;
 mod reserved;
@@ -25,6 +27,7 @@ mod std_ends;
 mod writing;
 
 pub use action::{Action, Step};
+pub use concern::{Acknowledgment, ReadConcern, ReadConcernLevel, WriteConcern};
 pub use ends::{ReadFailed, Sink, Source, WriteFailed};
 pub use error::{
     BadArgument, CommandError, Error, ErrorKind, GridFsErrorKind, GridFsFileIdentifier,
@@ -38,6 +41,7 @@ pub use link::{Link, LinkError, Polled, Ticket};
 pub use log::{Log, LoggedCall, Seen};
 pub use memory::{MemSink, MemSource};
 pub use namespace::{Namespace, OperationTarget};
+pub use read_preference::{ReadPreference, SelectionCriteria};
 pub use reading::{InputError, read_all};
 pub use reply::{Verdict, code_of, refusal, verdict_of};
 pub use reserved::push_reserved;

@@ -1,3 +1,10 @@
 pub mod Given
 pub mod Tokens
 pub mod Options
+pub mod Fields
+pub mod Reading
+pub mod Printing
+pub mod Collations
+pub mod Tables
+pub mod Shown
+pub mod Values
