@@ -9,9 +9,11 @@ mod link;
 mod mem_link;
 mod operations;
 mod options;
+mod records;
 mod runs;
 mod store;
 mod streams;
+mod words;
 
 use mg_bson::{Bson, BsonError, Document, to_bytes};
 use mg_link::Namespace;

@@ -8,3 +8,5 @@ pub mod Collations
 pub mod Tables
 pub mod Shown
 pub mod Values
+pub mod Records
+pub mod Conversions

@@ -66,3 +66,11 @@ mode p = shown (document ("mode" ⇒ word_value (preference_word p) ⨾ empty))
 abbrev pub selection : Option SelectionCriteria → Shown
 selection None = absent
 selection (Some (criteria.ReadPreference p)) = mode p
+
+-- what stands behind the body of a command
+abbrev pub concern_lines : Option ReadConcern → Option WriteConcern → Option SelectionCriteria → List Line
+concern_lines reads writes asks =
+    "readConcern" ⟼ read_concern reads
+    ⨾ "writeConcern" ⟼ write_concern writes
+    ⨾ "$readPreference" ⟼ selection asks
+    ⨾ nothing

@@ -1,5 +1,5 @@
 //! How texts are compared.
-ghost use Rattle.std.specs.Prelude.{◌≡◌, ◌⊎◌, ◌<◌, Some, None, IfOk, IfErr, OnErr, OnOk, decimal, string_bytes};
+ghost use Rattle.std.specs.Prelude.{◌≡◌, ◌⊎◌, ◌<◌, Some, None, IfOk, IfErr, OnErr, decimal};
 ghost use Rattle.mg_link.specs.Errors.{plain};
 ghost use Rattle.mg_link.specs.Words.{named, text};
 ghost use Rattle.mg_link.specs.declared.error.BadArgument.TheVariants as arguments;
@@ -91,6 +91,114 @@ impl Drop for Collation {
             normalization: _,
             backwards: _,
         } = self;
+    }
+}
+
+impl Collation {
+    /// The rules of this locale, of which nothing is changed.
+    pub fn builder(locale: String) -> Collation
+        ensures { result ≡ record {
+          locale = locale;
+          strength = None;
+          case_level = None;
+          case_first = None;
+          numeric_ordering = None;
+          alternate = None;
+          max_variable = None;
+          normalization = None;
+          backwards = None;
+        } }
+    {
+        Collation {
+            locale,
+            strength: None,
+            case_level: None,
+            case_first: None,
+            numeric_ordering: None,
+            alternate: None,
+            max_variable: None,
+            normalization: None,
+            backwards: None,
+        }
+    }
+
+    /// Gives `locale`.
+    pub fn locale(mut self, value: String) -> Collation
+        ensures { result ≡ record self { locale = value } }
+    {
+        self.locale = value;
+        self
+    }
+
+    /// Gives `strength`.
+    pub fn strength(mut self, value: CollationStrength) -> Collation
+        ensures { result ≡ record self { strength = Some value } }
+    {
+        self.strength = Some(value);
+        self
+    }
+
+    /// Gives `case_level`.
+    pub fn case_level(mut self, value: bool) -> Collation
+        ensures { result ≡ record self { case_level = Some value } }
+    {
+        self.case_level = Some(value);
+        self
+    }
+
+    /// Gives `case_first`.
+    pub fn case_first(mut self, value: CollationCaseFirst) -> Collation
+        ensures { result ≡ record self { case_first = Some value } }
+    {
+        self.case_first = Some(value);
+        self
+    }
+
+    /// Gives `numeric_ordering`.
+    pub fn numeric_ordering(mut self, value: bool) -> Collation
+        ensures { result ≡ record self { numeric_ordering = Some value } }
+    {
+        self.numeric_ordering = Some(value);
+        self
+    }
+
+    /// Gives `alternate`.
+    pub fn alternate(mut self, value: CollationAlternate) -> Collation
+        ensures { result ≡ record self { alternate = Some value } }
+    {
+        self.alternate = Some(value);
+        self
+    }
+
+    /// Gives `max_variable`.
+    pub fn max_variable(mut self, value: CollationMaxVariable) -> Collation
+        ensures { result ≡ record self { max_variable = Some value } }
+    {
+        self.max_variable = Some(value);
+        self
+    }
+
+    /// Gives `normalization`.
+    pub fn normalization(mut self, value: bool) -> Collation
+        ensures { result ≡ record self { normalization = Some value } }
+    {
+        self.normalization = Some(value);
+        self
+    }
+
+    /// Gives `backwards`.
+    pub fn backwards(mut self, value: bool) -> Collation
+        ensures { result ≡ record self { backwards = Some value } }
+    {
+        self.backwards = Some(value);
+        self
+    }
+
+    /// The record as it was given.
+    pub fn build(self) -> Collation
+        ensures { result ≡ self }
+    {
+        self
     }
 }
 

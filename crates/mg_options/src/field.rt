@@ -8,12 +8,12 @@ use mg_bson::{Bson, Document};
 use mg_link::Error;
 use std::alloc::Global;
 
-// What may be given to a field.
-pub(crate) trait Print {
-    // What the field comes to.
+/// What may be given to a field.
+pub trait Print {
+    /// What the field comes to.
     ghost shown: { Self → Shown };
 
-    // The value of the field, where it is given.
+    /// The value of the field, where it is given. It fails where memory runs out, or the argument is outside its range.
     fn print(&self, alloc: Global) -> Result<Option<Bson>, Error>
         ensures ok { IfOk result (λ v. shown self.now ≡ given (option_map tree v)) }
         ensures err { IfErr result (λ e. FailsBy (unfit_of (shown self.now)) e) };
@@ -52,8 +52,9 @@ pub(crate) fn put_all<V: Print>(
     Ok(())
 }
 
-// Puts the fields at the end, in their order. After an error the document is as it was.
-pub(crate) fn append_given<V: Print>(
+/// Puts the fields that are given at the end, in their order. It fails where memory runs out, or an argument is outside
+/// its range; after an error the document is as it was.
+pub fn append_given<V: Print>(
     alloc: Global,
     body: &mut Document,
     list: &[(&str, V)],

@@ -40,26 +40,44 @@ pub(crate) enum Part<'a> {
     Millis(Option<u64>),
 }
 
-// A value of an option.
+/// A value of an option, to be printed.
 #[derive(Clone, Copy)]
-pub(crate) enum Value<'a> {
+pub enum Value<'a> {
+    /// True or false.
     Flag(Option<bool>),
+    /// The size of a batch, an Int32.
     Size(Option<u32>),
+    /// The size of a batch in the document of a cursor.
     Cursor(Option<u32>),
+    /// A number, an Int64.
     Count(Option<u64>),
+    /// A limit, whose sign is left out: an Int64.
     Limit(Option<i64>),
+    /// Milliseconds: an Int32 where they fit, else an Int64.
     Millis(Option<u64>),
+    /// A time of the server's log of operations.
     Time(Option<Timestamp>),
+    /// A document.
     Document(&'a Option<Document>),
+    /// Any value.
     Any(&'a Option<Bson>),
+    /// A resume token.
     Token(&'a Option<ResumeToken>),
+    /// Which index is to be used.
     Hint(&'a Option<Hint>),
+    /// How many servers are to be ready.
     Quorum(&'a Option<CommitQuorum>),
+    /// Which documents events hold in full.
     FullDocument(&'a Option<FullDocumentType>),
+    /// Which documents events hold as they were before.
     FullDocumentBefore(&'a Option<FullDocumentBeforeChangeType>),
+    /// How texts are compared.
     Collation(&'a Option<Collation>),
+    /// What data is read.
     ReadConcern(&'a Option<ReadConcern>),
+    /// How far a write is to have come.
     WriteConcern(&'a Option<WriteConcern>),
+    /// Which servers may be asked. The primary alone is left out, since a server takes it so.
     Selection(Option<SelectionCriteria>),
 }
 

@@ -1,0 +1,204 @@
+use super::expect;
+use mg_bson::Bson;
+use mg_link::{Acknowledgment, Error, ReadConcernLevel, ReadPreference};
+use mg_options::{
+    CollationAlternate, CollationCaseFirst, CollationMaxVariable, CollationStrength, CommitQuorum,
+    FullDocumentBeforeChangeType, FullDocumentType, ReturnDocument,
+};
+use std::alloc::{AllocError, Global};
+use std::test::Fail;
+
+/// Each line is a list of words, a word, and what it is read as: its own text where the list has it or keeps it.
+const WORDS: &str = "strength 1 1
+strength 5 5
+strength 6 invalid collation strength: 6
+strength 0 invalid collation strength: 0
+case upper upper
+case lower lower
+case off off
+case Off invalid CollationCaseFirst: Off
+alternate shifted shifted
+alternate non-ignorable non-ignorable
+alternate nonIgnorable invalid collation alternate: nonIgnorable
+variable punct punct
+variable space space
+variable x invalid collation max variable: x
+return after after
+return AFTER after
+return Before before
+return x Unknown return document value: x
+preference primary primary
+preference primaryPreferred primaryPreferred
+preference secondary secondary
+preference secondaryPreferred secondaryPreferred
+preference nearest nearest
+preference Nearest none
+level local local
+level majority majority
+level linearizable linearizable
+level available available
+level snapshot snapshot
+level Local other Local
+full updateLookup updateLookup
+full whenAvailable whenAvailable
+full required required
+full off other off
+before whenAvailable whenAvailable
+before required required
+before off off
+before updateLookup other updateLookup
+w majority majority
+w dc1 other dc1
+quorum votingMembers votingMembers
+quorum majority majority
+quorum all other all";
+
+// What an error says.
+fn said(alloc: Global, error: &Error) -> Result<String, AllocError> {
+    format!(in alloc; "{error}")
+}
+
+fn number_of(text: &str) -> u32 {
+    match text.parse::<u32>() {
+        Ok(n) => n,
+        Err(_) => 0,
+    }
+}
+
+fn strength(alloc: Global, word: &str) -> Result<String, AllocError> {
+    match CollationStrength::try_from(number_of(word)) {
+        Ok(value) => format!(in alloc; "{value}"),
+        Err(e) => said(alloc, &e),
+    }
+}
+
+fn case_first(alloc: Global, word: &str) -> Result<String, AllocError> {
+    match CollationCaseFirst::from_str(alloc, word) {
+        Ok(value) => format!(in alloc; "{value}"),
+        Err(e) => said(alloc, &e),
+    }
+}
+
+fn alternate(alloc: Global, word: &str) -> Result<String, AllocError> {
+    match CollationAlternate::from_str(alloc, word) {
+        Ok(value) => format!(in alloc; "{value}"),
+        Err(e) => said(alloc, &e),
+    }
+}
+
+fn max_variable(alloc: Global, word: &str) -> Result<String, AllocError> {
+    match CollationMaxVariable::from_str(alloc, word) {
+        Ok(value) => format!(in alloc; "{value}"),
+        Err(e) => said(alloc, &e),
+    }
+}
+
+fn return_document(alloc: Global, word: &str) -> Result<String, AllocError> {
+    match ReturnDocument::from_word(alloc, word) {
+        Ok(value) if value.as_bool() => String::from_str(alloc, "after"),
+        Ok(_) => String::from_str(alloc, "before"),
+        Err(e) => said(alloc, &e),
+    }
+}
+
+fn preference(alloc: Global, word: &str) -> Result<String, AllocError> {
+    match ReadPreference::from_word(word) {
+        Some(mode) => String::from_str(alloc, mode.as_word()),
+        None => String::from_str(alloc, "none"),
+    }
+}
+
+fn kept(alloc: Global, word: &str) -> Result<String, AllocError> {
+    format!(in alloc; "other {word}")
+}
+
+fn level(alloc: Global, word: &str) -> Result<String, AllocError> {
+    match ReadConcernLevel::from_word(alloc, word) {
+        Ok(ReadConcernLevel::Custom(word)) => kept(alloc, word.as_str()),
+        Ok(level) => String::from_str(alloc, level.as_word()),
+        Err(e) => said(alloc, &e),
+    }
+}
+
+fn full_document(alloc: Global, word: &str) -> Result<String, AllocError> {
+    match FullDocumentType::from_word(alloc, word) {
+        Ok(FullDocumentType::Other(word)) => kept(alloc, word.as_str()),
+        Ok(value) => String::from_str(alloc, value.as_word()),
+        Err(e) => said(alloc, &e),
+    }
+}
+
+fn before(alloc: Global, word: &str) -> Result<String, AllocError> {
+    match FullDocumentBeforeChangeType::from_word(alloc, word) {
+        Ok(FullDocumentBeforeChangeType::Other(word)) => kept(alloc, word.as_str()),
+        Ok(value) => String::from_str(alloc, value.as_word()),
+        Err(e) => said(alloc, &e),
+    }
+}
+
+fn acknowledgment(alloc: Global, word: &str) -> Result<String, AllocError> {
+    match Acknowledgment::from_word(alloc, word) {
+        Ok(Acknowledgment::Nodes(n)) => format!(in alloc; "{n}"),
+        Ok(Acknowledgment::Majority) => String::from_str(alloc, "majority"),
+        Ok(Acknowledgment::Custom(word)) => kept(alloc, word.as_str()),
+        Err(e) => said(alloc, &e),
+    }
+}
+
+fn quorum_of(alloc: Global, value: &Bson) -> Result<String, AllocError> {
+    match CommitQuorum::from_value(value) {
+        Ok(CommitQuorum::Nodes(n)) => format!(in alloc; "{n}"),
+        Ok(CommitQuorum::VotingMembers) => String::from_str(alloc, "votingMembers"),
+        Ok(CommitQuorum::Majority) => String::from_str(alloc, "majority"),
+        Ok(CommitQuorum::Custom(word)) => kept(alloc, word.as_str()),
+        Err(e) => said(alloc, &e),
+    }
+}
+
+fn quorum(alloc: Global, word: &str) -> Result<String, AllocError> {
+    let word = String::from_str(alloc, word)?;
+    quorum_of(alloc, &Bson::String(word))
+}
+
+/// What a word of a list is read as.
+fn reading_of(alloc: Global, list: &str, word: &str) -> Result<String, AllocError> {
+    match list {
+        "strength" => strength(alloc, word),
+        "case" => case_first(alloc, word),
+        "alternate" => alternate(alloc, word),
+        "variable" => max_variable(alloc, word),
+        "return" => return_document(alloc, word),
+        "preference" => preference(alloc, word),
+        "level" => level(alloc, word),
+        "full" => full_document(alloc, word),
+        "before" => before(alloc, word),
+        "w" => acknowledgment(alloc, word),
+        _ => quorum(alloc, word),
+    }
+}
+
+#[test]
+fn words_are_read(rt: HostRuntime) -> Result<(), Fail> {
+    let alloc = rt.alloc();
+    for line in WORDS.lines() {
+        let (list, rest) = super::parted(line);
+        let (word, wanted) = super::parted(rest);
+        let found = reading_of(alloc, list, word)?;
+        expect(&rt, line, found.as_str(), wanted);
+    }
+    Ok(())
+}
+
+#[test]
+fn quorums(rt: HostRuntime) -> Result<(), Fail> {
+    let alloc = rt.alloc();
+    let most = quorum_of(alloc, &Bson::Int64(4_294_967_295))?;
+    expect(&rt, "most", most.as_str(), "4294967295");
+    let more = quorum_of(alloc, &Bson::Int64(4_294_967_296))?;
+    expect(&rt, "more", more.as_str(), "number out of range");
+    let less = quorum_of(alloc, &Bson::Int32(-1))?;
+    expect(&rt, "less", less.as_str(), "number out of range");
+    let flag = quorum_of(alloc, &Bson::Boolean(true))?;
+    expect(&rt, "flag", flag.as_str(), "number out of range");
+    Ok(())
+}
