@@ -1,13 +1,12 @@
 -- Fields that go into a document one after another.
-use Rattle.std.proofs.Common.{◌≡◌, ◌⊎◌, inl, inr, ℕ, ◌+◌, ◌<◌, ◌≤◌, length, get_or, drop, List, [], ◌∷◌, Option, Some, None, refl, ap, sym, ◌∙◌}
+use Rattle.std.proofs.Common.{◌≡◌, ℕ, ◌+◌, ◌<◌, ◌≤◌, length, get_or, drop, List, [], ◌∷◌, Option, None, refl, ap, sym, ◌∙◌}
 use Rattle.std.proofs.lemmas.List.{drop_more, drop_all}
 use Rattle.std.specs.Borrow.{Bor}
 use Rattle.mg_bson.specs.Tree.{Tree, Fields, no_fields, field}
 use Rattle.mg_bson.specs.Find.{with_field, joined}
 use Rattle.mg_bson.proofs.Joining.{joined_more, joined_all}
-use Rattle.mg_link.specs.declared.error.Error.{Error}
 use Rattle.mg_link.specs.declared.error.BadArgument.{BadArgument}
-use Rattle.mg_options.specs.Fields.{Shown, absent, shown, unfit, Line, line, fields_in, first_unfit, unfit_of, FailsBy, lines}
+use Rattle.mg_options.specs.Fields.{Shown, absent, shown, unfit, Line, line, fields_in, first_unfit, unfit_of, lines}
 
 pub put_none : (a : Fields) (k : List ℕ) (s : Shown) → s ≡ absent → a ≡ joined a (fields_in (line k s ∷ []))
 put_none a k s e = sym (ap (λ (s : Shown). joined a (fields_in (line k s ∷ []))) e ∙ joined_all a)
@@ -40,9 +39,10 @@ pub field_on : {V : Type 0} (show : V → Shown) (gs : List (Bor (List ℕ) × V
     → (joined a (fields_in (lines show (drop i gs))) ≡ all) × (first_unfit (lines show (drop i gs)) ≡ first)
     → (joined b (fields_in (lines show (drop (i + 1) gs))) ≡ all) × (first_unfit (lines show (drop (i + 1) gs)) ≡ first)
 field_on show gs i g a b all first lt is after fits so_far =
-    let here : lines show (drop i gs) ≡ line g.0.now (show g.1) ∷ lines show (drop (i + 1) gs) = lines_here show gs i g lt is in
-    (one_more a b all g.0.now (show g.1) (lines show (drop (i + 1) gs)) after (ap (λ (ls : List Line). joined a (fields_in ls)) (sym here) ∙ so_far.0),
-    unfit_behind g.0.now (show g.1) (lines show (drop (i + 1) gs)) first fits (ap first_unfit (sym here) ∙ so_far.1))
+    let here : lines show (drop i gs) ≡ line g.0.now (show g.1) ∷ lines show (drop (i + 1) gs) = lines_here show gs i g lt is in (
+      one_more a b all g.0.now (show g.1) (lines show (drop (i + 1) gs)) after (ap (λ (ls : List Line). joined a (fields_in ls)) (sym here) ∙ so_far.0),
+      unfit_behind g.0.now (show g.1) (lines show (drop (i + 1) gs)) first fits (ap first_unfit (sym here) ∙ so_far.1),
+    )
 
 pub field_end : {V : Type 0} (show : V → Shown) (gs : List (Bor (List ℕ) × V)) (i : ℕ) (a all : Fields) → length gs ≤ i → joined a (fields_in (lines show (drop i gs))) ≡ all → a ≡ all
 field_end show gs i a all le so_far = sym (joined_all a) ∙ ap (λ (ls : List Line). joined a (fields_in ls)) (sym (ap (lines show) (drop_all i gs le))) ∙ so_far

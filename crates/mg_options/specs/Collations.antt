@@ -2,7 +2,7 @@
 use Rattle.std.specs.Prelude.{ℕ, List, [], ◌∷◌, string_bytes, option_map, pos, Some}
 use Rattle.mg_bson.specs.Tree.{int32, string}
 use Rattle.mg_link.specs.Words.{Word, spelled}
-use Rattle.mg_options.specs.Fields.{Line, Shown, given, ◌⟼◌⨾◌, nothing}
+use Rattle.mg_options.specs.Fields.{Line, given, ◌⟼◌⨾◌, nothing}
 use Rattle.mg_options.specs.Printing.{flag, word}
 use Rattle.mg_options.specs.declared.collation.Collation.{Collation}
 use Rattle.mg_options.specs.declared.collation.CollationStrength.{CollationStrength}

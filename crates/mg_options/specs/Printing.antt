@@ -1,5 +1,5 @@
 -- What the values of options come to in a document.
-use Rattle.std.specs.Prelude.{ℕ, ℤ, pos, nat_abs, List, Bool, Option, Some, None, option_map, if◌then◌else◌, ltb, ◌^◌}
+use Rattle.std.specs.Prelude.{ℕ, ℤ, pos, nat_abs, Bool, Option, Some, None, option_map, if◌then◌else◌, ltb, ◌^◌}
 use Rattle.mg_bson.specs.Tree.{Tree, Fields, string, document, boolean, int32, int64, timestamp}
 use Rattle.mg_bson.specs.Literal.{◌⇒◌⨾◌, empty}
 use Rattle.mg_bson.specs.View.{tree}

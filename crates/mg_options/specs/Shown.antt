@@ -3,7 +3,6 @@ use Rattle.std.specs.Prelude.{pos, List, Option, Some, None, option_map}
 use Rattle.mg_bson.specs.Tree.{document, int32}
 use Rattle.mg_bson.specs.Literal.{◌⇒◌⨾◌, empty}
 use Rattle.mg_link.specs.Concerns.{acknowledged, level_word, preference_word}
-use Rattle.mg_link.specs.declared.concern.Acknowledgment.{Acknowledgment}
 use Rattle.mg_link.specs.declared.concern.ReadConcern.{ReadConcern}
 use Rattle.mg_link.specs.declared.concern.WriteConcern.{WriteConcern}
 use Rattle.mg_link.specs.declared.read_preference.ReadPreference.{ReadPreference}

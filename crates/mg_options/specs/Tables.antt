@@ -1,5 +1,5 @@
 -- The words and values of options (find, change streams and index specifications).
-use Rattle.std.specs.Prelude.{ℕ, ℤ, pos, List, [], ◌∷◌, codes, string_bytes, Option, Some, None, if◌then◌else◌, ltb, ◌^◌}
+use Rattle.std.specs.Prelude.{ℤ, pos, List, [], ◌∷◌, codes, string_bytes, Option, Some, None, if◌then◌else◌, ltb, ◌^◌}
 use Rattle.std.specs.Str.{bytes_eq}
 use Rattle.mg_bson.specs.Tree.{Tree, string, document, array, int32, int64, Fields, Items, no_items, item}
 use Rattle.mg_link.specs.Words.{Word, spelled, other}

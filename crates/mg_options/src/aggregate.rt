@@ -199,7 +199,10 @@ impl AggregateOptions {
             &[
                 ("allowDiskUse", Value::Flag(self.allow_disk_use)),
                 ("cursor", Value::Cursor(self.batch_size)),
-                ("bypassDocumentValidation", Value::Flag(self.bypass_document_validation)),
+                (
+                    "bypassDocumentValidation",
+                    Value::Flag(self.bypass_document_validation),
+                ),
                 ("collation", Value::Collation(&self.collation)),
                 ("comment", Value::Any(&self.comment)),
                 ("hint", Value::Hint(&self.hint)),

@@ -215,9 +215,7 @@ impl CollationStrength {
             3 => Ok(CollationStrength::Tertiary),
             4 => Ok(CollationStrength::Quaternary),
             5 => Ok(CollationStrength::Identical),
-            _ => Err(plain(ErrorKind::InvalidArgument(
-                BadArgument::CollationStrength(level),
-            ))),
+            _ => Err(plain(ErrorKind::InvalidArgument(BadArgument::CollationStrength(level)))),
         }
     }
 }
@@ -258,9 +256,7 @@ impl CollationCaseFirst {
             "off" => Ok(CollationCaseFirst::Off),
             _ => {
                 let word = String::from_str(alloc, word)?;
-                Err(plain(ErrorKind::InvalidArgument(
-                    BadArgument::CollationCaseFirst(word),
-                )))
+                Err(plain(ErrorKind::InvalidArgument(BadArgument::CollationCaseFirst(word))))
             }
         }
     }
@@ -297,9 +293,7 @@ impl CollationAlternate {
             "shifted" => Ok(CollationAlternate::Shifted),
             _ => {
                 let word = String::from_str(alloc, word)?;
-                Err(plain(ErrorKind::InvalidArgument(
-                    BadArgument::CollationAlternate(word),
-                )))
+                Err(plain(ErrorKind::InvalidArgument(BadArgument::CollationAlternate(word))))
             }
         }
     }
@@ -335,9 +329,7 @@ impl CollationMaxVariable {
             "space" => Ok(CollationMaxVariable::Space),
             _ => {
                 let word = String::from_str(alloc, word)?;
-                Err(plain(ErrorKind::InvalidArgument(
-                    BadArgument::CollationMaxVariable(word),
-                )))
+                Err(plain(ErrorKind::InvalidArgument(BadArgument::CollationMaxVariable(word))))
             }
         }
     }

@@ -15,7 +15,9 @@ pub struct RunCommandOptions {
 // By hand, so that letting one go is one call.
 impl Drop for RunCommandOptions {
     fn drop(self) {
-        let RunCommandOptions { selection_criteria: _ } = self;
+        let RunCommandOptions {
+            selection_criteria: _,
+        } = self;
     }
 }
 

@@ -20,12 +20,7 @@ pub trait Print {
 }
 
 // Puts one field at the end.
-fn put<V: Print>(
-    alloc: Global,
-    body: &mut Document,
-    name: &str,
-    value: &V,
-) -> Result<(), Error>
+fn put<V: Print>(alloc: Global, body: &mut Document, name: &str, value: &V) -> Result<(), Error>
     ensures ok { OnOk result (body.new ≡ joined body.old (fields_in (line name.now (V.shown value.now) ∷ []))) }
     ensures fits { OnOk result (unfit_of (V.shown value.now) ≡ None) }
     ensures err { IfErr result (λ e. FailsBy (unfit_of (V.shown value.now)) e) }

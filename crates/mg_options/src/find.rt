@@ -319,7 +319,10 @@ impl FindOptions {
             body,
             &[
                 ("allowDiskUse", Value::Flag(self.allow_disk_use)),
-                ("allowPartialResults", Value::Flag(self.allow_partial_results)),
+                (
+                    "allowPartialResults",
+                    Value::Flag(self.allow_partial_results),
+                ),
                 ("batchSize", Value::Size(self.batch_size)),
                 ("comment", Value::Any(&self.comment)),
                 ("hint", Value::Hint(&self.hint)),

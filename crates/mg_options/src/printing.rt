@@ -369,10 +369,7 @@ fn print_mode(alloc: Global, mode: ReadPreference) -> Result<Option<Bson>, Error
     Ok(Some(Bson::Document(inside)))
 }
 
-fn print_selection(
-    alloc: Global,
-    value: Option<SelectionCriteria>,
-) -> Result<Option<Bson>, Error>
+fn print_selection(alloc: Global, value: Option<SelectionCriteria>) -> Result<Option<Bson>, Error>
     ensures ok { IfOk result (λ v. selection value ≡ given (option_map tree v)) }
     ensures err { IfErr result (λ e. e ≡ plain kinds.OutOfMemory) }
 {
@@ -407,10 +404,7 @@ fn print_strength(value: Option<CollationStrength>) -> Option<Bson>
     }
 }
 
-fn print_case_first(
-    alloc: Global,
-    value: Option<CollationCaseFirst>,
-) -> Result<Option<Bson>, Error>
+fn print_case_first(alloc: Global, value: Option<CollationCaseFirst>) -> Result<Option<Bson>, Error>
     ensures ok { IfOk result (λ v. word (option_map case_first_word value) ≡ given (option_map tree v)) }
     ensures err { IfErr result (λ e. e ≡ plain kinds.OutOfMemory) }
 {
@@ -420,10 +414,7 @@ fn print_case_first(
     }
 }
 
-fn print_alternate(
-    alloc: Global,
-    value: Option<CollationAlternate>,
-) -> Result<Option<Bson>, Error>
+fn print_alternate(alloc: Global, value: Option<CollationAlternate>) -> Result<Option<Bson>, Error>
     ensures ok { IfOk result (λ v. word (option_map alternate_word value) ≡ given (option_map tree v)) }
     ensures err { IfErr result (λ e. e ≡ plain kinds.OutOfMemory) }
 {

@@ -96,9 +96,7 @@ impl ReturnDocument {
             Ok(ReturnDocument::Before)
         } else {
             let word = String::from_str(alloc, word)?;
-            Err(plain(ErrorKind::InvalidArgument(
-                BadArgument::ReturnDocument(word),
-            )))
+            Err(plain(ErrorKind::InvalidArgument(BadArgument::ReturnDocument(word))))
         }
     }
 

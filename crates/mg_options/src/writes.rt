@@ -168,7 +168,10 @@ impl InsertManyOptions {
             alloc,
             body,
             &[
-                ("bypassDocumentValidation", Value::Flag(self.bypass_document_validation)),
+                (
+                    "bypassDocumentValidation",
+                    Value::Flag(self.bypass_document_validation),
+                ),
                 ("ordered", Value::Flag(self.ordered)),
                 ("comment", Value::Any(&self.comment)),
             ],

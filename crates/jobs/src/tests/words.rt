@@ -5,6 +5,7 @@ use mg_options::{
     CollationAlternate, CollationCaseFirst, CollationMaxVariable, CollationStrength, CommitQuorum,
     FullDocumentBeforeChangeType, FullDocumentType, ReturnDocument,
 };
+use mg_records::{ChangeNamespaceType, OperationType};
 use std::alloc::{AllocError, Global};
 use std::test::Fail;
 
@@ -49,6 +50,19 @@ before off off
 before updateLookup other updateLookup
 w majority majority
 w dc1 other dc1
+operation insert insert
+operation update update
+operation replace replace
+operation delete delete
+operation drop drop
+operation rename rename
+operation dropDatabase dropDatabase
+operation invalidate invalidate
+operation create other create
+type Collection Collection
+type Timeseries Timeseries
+type View View
+type view other view
 quorum votingMembers votingMembers
 quorum majority majority
 quorum all other all";
@@ -136,6 +150,22 @@ fn before(alloc: Global, word: &str) -> Result<String, AllocError> {
     }
 }
 
+fn operation(alloc: Global, word: &str) -> Result<String, AllocError> {
+    match OperationType::from_word(alloc, word) {
+        Ok(OperationType::Other(word)) => kept(alloc, word.as_str()),
+        Ok(value) => String::from_str(alloc, value.as_word()),
+        Err(e) => said(alloc, &e),
+    }
+}
+
+fn namespace_type(alloc: Global, word: &str) -> Result<String, AllocError> {
+    match ChangeNamespaceType::from_word(alloc, word) {
+        Ok(ChangeNamespaceType::Other(word)) => kept(alloc, word.as_str()),
+        Ok(value) => String::from_str(alloc, value.as_word()),
+        Err(e) => said(alloc, &e),
+    }
+}
+
 fn acknowledgment(alloc: Global, word: &str) -> Result<String, AllocError> {
     match Acknowledgment::from_word(alloc, word) {
         Ok(Acknowledgment::Nodes(n)) => format!(in alloc; "{n}"),
@@ -173,6 +203,8 @@ fn reading_of(alloc: Global, list: &str, word: &str) -> Result<String, AllocErro
         "full" => full_document(alloc, word),
         "before" => before(alloc, word),
         "w" => acknowledgment(alloc, word),
+        "operation" => operation(alloc, word),
+        "type" => namespace_type(alloc, word),
         _ => quorum(alloc, word),
     }
 }
