@@ -59,6 +59,8 @@ impl<T: Transport + Drop> Link for OneCall<T> {
 
     ghost pends = { λ l. 0 };
 
+    ghost polls = { λ l place. 0 };
+
     ghost log = { λ l. None };
 
     ghost awaited = { λ l. waits l.reply };

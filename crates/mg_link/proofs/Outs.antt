@@ -1,10 +1,10 @@
 -- Tickets whose numbers are the places of their calls.
-use Rattle.std.proofs.Common.{◌≡◌, ℕ, zero, suc, ◌<◌, List, [], ◌∷◌, length, Option, Some, None, true, false, refl, sym, ap, ◌∙◌, arith}
-use Rattle.std.specs.Prelude.{slice_get, IsSome}
+use Rattle.std.proofs.Common.{◌≡◌, ℕ, zero, suc, ◌+◌, ◌<◌, List, [], ◌∷◌, ◌++◌, length, Option, Some, None, true, false, refl, sym, ap, ◌∙◌, subst, arith}
+use Rattle.std.specs.Prelude.{slice_get, slice_set, IsSome, unwrap_or}
 use Rattle.mg_link.specs.Log.{Sight, waiting, reply, fault, memory, Call, see}
-use Rattle.mg_link.specs.Places.{if_waiting, waiting_at, out_at, IsAnswer}
+use Rattle.mg_link.specs.Places.{if_waiting, waiting_at, out_at, polls_in, IsAnswer}
 use Rattle.mg_link.specs.Scripted.{commands_of}
-use Rattle.mg_link.specs.Link.{Ends}
+use Rattle.mg_link.specs.Link.{Ends, OneMore, OneMoreAt, SamePolls}
 
 same_some : {A : Type 0} (x y : A) → Some x ≡ Some y → x ≡ y
 same_some x y h = cc
@@ -83,3 +83,46 @@ ends_at calls n seen out answer =
             ap (λ l. Some (see n seen l)) same,
           );
     }
+
+-- ---- how many polls pended
+
+-- the place of a ticket that is out is its number
+place_waiting : (seen : Sight) (n k : ℕ) → if_waiting seen n ≡ Some k → k ≡ n
+place_waiting waiting n k h = same_some k n (sym h)
+place_waiting (reply bytes) n k h = cc
+place_waiting fault n k h = cc
+place_waiting memory n k h = cc
+
+place_at : (call : Option Call) (n k : ℕ) → waiting_at call n ≡ Some k → k ≡ n
+place_at None n k h = cc
+place_at (Some call) n k h = place_waiting call.seen n k h
+
+-- a call that is new pended never
+pub polls_push : (pended : List ℕ) → SamePolls (polls_in pended) (polls_in (pended ++ 0 ∷ []))
+polls_push [] zero = refl
+polls_push [] (suc k) = refl
+polls_push (n ∷ pended) zero = refl
+polls_push (n ∷ pended) (suc k) = polls_push pended k
+
+polls_set_here : (pended : List ℕ) (k n m : ℕ) → slice_get pended k ≡ Some n → polls_in (slice_set pended k m) k ≡ m
+polls_set_here [] k n m h = cc
+polls_set_here (o ∷ pended) zero n m h = refl
+polls_set_here (o ∷ pended) (suc k) n m h = polls_set_here pended k n m h
+
+polls_set_other : (pended : List ℕ) (k m other : ℕ) → (other ≡ k → ⊥) → polls_in (slice_set pended k m) other ≡ polls_in pended other
+polls_set_other [] k m other ne = refl
+polls_set_other (o ∷ pended) zero m zero ne = absurd (ne refl)
+polls_set_other (o ∷ pended) zero m (suc other) ne = refl
+polls_set_other (o ∷ pended) (suc k) m zero ne = refl
+polls_set_other (o ∷ pended) (suc k) m (suc other) ne = polls_set_other pended k m other (λ e. ne (ap suc e))
+
+one_more_set : (pended : List ℕ) (k n : ℕ) → slice_get pended k ≡ Some n → OneMore k (polls_in pended) (polls_in (slice_set pended k (n + 1)))
+one_more_set pended k n h = record {
+  here = polls_set_here pended k n (n + 1) h ∙ ap (λ o. unwrap_or o 0 + 1) (sym h);
+  rest = polls_set_other pended k (n + 1);
+}
+
+-- one more poll of the call of a ticket pended
+pub polled_once_more : (calls : List Call) (pended : List ℕ) (at n : ℕ) → slice_get pended at ≡ Some n → OneMoreAt (out_at calls at) (polls_in pended) (polls_in (slice_set pended at (n + 1)))
+polled_once_more calls pended at n found place out =
+    subst (λ k. OneMore k (polls_in pended) (polls_in (slice_set pended at (n + 1)))) (sym (place_at (slice_get calls at) at place out)) (one_more_set pended at n found)

@@ -1,5 +1,5 @@
 -- What the calls of a link do to its tickets and its log.
-use Rattle.std.specs.Prelude.{◌≡◌, ◌≢◌, ◌≤◌, ◌++◌, ◌∷◌, ℕ, ℤ, Option, Some, None, List, [], length, slice_get, IsSome, Result, Ok, Err}
+use Rattle.std.specs.Prelude.{◌≡◌, ◌≢◌, ◌≤◌, ◌+◌, ◌++◌, ◌∷◌, ℕ, ℤ, Option, Some, None, List, [], length, slice_get, IsSome, Result, Ok, Err}
 use Rattle.mg_link.specs.declared.link.LinkError.{LinkError}
 use Rattle.mg_link.specs.declared.link.LinkError.TheVariants as error
 use Rattle.mg_link.specs.declared.link.Polled.{Polled}
@@ -15,6 +15,10 @@ Awaited = ℕ → Option ℕ
 -- the calls, where the link tells them
 abbrev pub Told : Type 0
 Told = Option (List Call)
+
+-- how many polls pended of the call at each place of the log
+abbrev pub Polls : Type 0
+Polls = ℕ → ℕ
 
 -- a call with this command is added at the end of a log that is told
 abbrev pub Adds : Told → Told → List ℕ → Sight → Type 0
@@ -67,12 +71,25 @@ PollMeans old new log log' number (polled.Reply bytes) = Ends old new log log' n
 PollMeans old new log log' number polled.Failed = Ends old new log log' number fault
 PollMeans old new log log' number polled.Memory = Ends old new log log' number memory
 
--- the count of pending replies rises by one where a reply pends, and only there
-abbrev pub PollPends : Polled → ℕ → ℕ → Type 0
-PollPends (polled.Pending given) before now = RoseJust 1 before now
-PollPends (polled.Reply bytes) before now = now ≡ before
-PollPends polled.Failed before now = now ≡ before
-PollPends polled.Memory before now = now ≡ before
+-- no further poll pended
+abbrev pub SamePolls : Polls → Polls → Type 0
+SamePolls before now = (place : ℕ) → now place ≡ before place
+
+-- one more poll pended, of the call at this place
+pub record OneMore (place : ℕ) (before now : Polls) : Type 0 where
+  pub here : now place ≡ before place + 1
+  pub rest : (other : ℕ) → other ≢ place → now other ≡ before other
+
+-- the same of a call that has a place
+abbrev pub OneMoreAt : Option ℕ → Polls → Polls → Type 0
+OneMoreAt place before now = (at : ℕ) → place ≡ Some at → OneMore at before now
+
+-- where a reply pends, and only there, the count of pending replies rises by one, and that of the call at this place does
+abbrev pub PollPends : Polled → (place : Option ℕ) → (before now : ℕ) → (polls polls' : Polls) → Type 0
+PollPends (polled.Pending given) place before now polls polls' = RoseJust 1 before now × OneMoreAt place polls polls'
+PollPends (polled.Reply bytes) place before now polls polls' = (now ≡ before) × SamePolls polls polls'
+PollPends polled.Failed place before now polls polls' = (now ≡ before) × SamePolls polls polls'
+PollPends polled.Memory place before now polls polls' = (now ≡ before) × SamePolls polls polls'
 
 -- a prompt link lets nothing pend, and loses nothing by a fault
 abbrev pub StartsAtOnce : Result Ticket LinkError → Type 0

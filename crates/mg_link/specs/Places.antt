@@ -1,5 +1,5 @@
 -- Tickets whose numbers are the places of their calls in a log.
-use Rattle.std.specs.Prelude.{ℕ, Option, Some, None, List, slice_get}
+use Rattle.std.specs.Prelude.{ℕ, Option, Some, None, List, slice_get, unwrap_or}
 use Rattle.mg_link.specs.Log.{Sight, waiting, reply, fault, memory, Call}
 
 abbrev pub if_waiting : Sight → ℕ → Option ℕ
@@ -22,3 +22,7 @@ IsAnswer waiting = ⊥
 IsAnswer (reply bytes) = Unit {0}
 IsAnswer fault = Unit {0}
 IsAnswer memory = Unit {0}
+
+-- how many polls pended of the call at each place, where these are the counts of the calls in their order
+abbrev pub polls_in : List ℕ → ℕ → ℕ
+polls_in pended place = unwrap_or (slice_get pended place) 0

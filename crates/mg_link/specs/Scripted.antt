@@ -4,9 +4,10 @@ use Rattle.mg_link.specs.Log.{Call}
 use Rattle.mg_link.specs.declared.script_link.Heard.{Heard}
 use Rattle.mg_link.specs.declared.script_link.Heard.TheVariants as heard
 
--- its calls, its counts and its wire version
+-- its calls, how many polls of each of them pended, its counts and its wire version
 pub record Scripting : Type 0 where
   pub calls : List Call
+  pub pended : List ℕ
   pub faults : ℕ
   pub pends : ℕ
   pub wire : ℤ

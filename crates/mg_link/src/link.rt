@@ -2,7 +2,7 @@
 ghost use Rattle.std.specs.Prelude.{◌≡◌, ℕ, ℤ, Option, List, IsErrOf, IsSome};
 ghost use Rattle.mg_link.specs.Causes.{Rose};
 ghost use Rattle.mg_link.specs.Log.{Call};
-ghost use Rattle.mg_link.specs.Link.{AnswersAtOnce, Later, PollMeans, PollPends, StartMeans, StartsAtOnce};
+ghost use Rattle.mg_link.specs.Link.{AnswersAtOnce, Later, PollMeans, PollPends, SamePolls, StartMeans, StartsAtOnce};
 
 use mg_bson::RawDocument;
 use std::marker::Model;
@@ -70,6 +70,9 @@ pub trait Link {
     /// 2^64 - 1 once it is there.
     ghost pends: { Self → ℕ };
 
+    /// How many polls of the call at each place of the log it answered by a reply that pends.
+    ghost polls: { Self → ℕ → ℕ };
+
     /// Its calls, in the order of their starts, where it tells them.
     ghost log: { Self → Option (List Call) };
 
@@ -88,6 +91,7 @@ pub trait Link {
         ensures fault { IsErrOf result LinkError.Fault → Rose (faults self.old) (faults self.new) }
         ensures prompt { prompt self.old → StartsAtOnce result }
         ensures pends_same { pends self.new ≡ pends self.old }
+        ensures polls_same { SamePolls (polls self.old) (polls self.new) }
         ensures later { Later (faults self.old) (faults self.new) (pends self.old) (pends self.new)
             (wire self.old) (wire self.new) (prompt self.old) (prompt self.new) };
 
@@ -97,7 +101,7 @@ pub trait Link {
         ensures polls { PollMeans (awaited self.old) (awaited self.new) (log self.old) (log self.new) ticket result }
         ensures fault { result ≡ Polled.Failed → Rose (faults self.old) (faults self.new) }
         ensures prompt { prompt self.old → AnswersAtOnce result }
-        ensures pended { PollPends result (pends self.old) (pends self.new) }
+        ensures pended { PollPends result (awaited self.old ticket) (pends self.old) (pends self.new) (polls self.old) (polls self.new) }
         ensures later { Later (faults self.old) (faults self.new) (pends self.old) (pends self.new)
             (wire self.old) (wire self.new) (prompt self.old) (prompt self.new) };
 

@@ -1,9 +1,9 @@
 //! A link for tests, which answers by a list.
-ghost use Rattle.std.specs.Prelude.{◌≡◌, ◌+◌, ◌≤◌, ◌++◌, ◌∷◌, [], Some, IfOk, IsErrOf, IsSome, OnErr, OnOk, length, vec_len};
+ghost use Rattle.std.specs.Prelude.{◌≡◌, ◌≤◌, ◌++◌, ◌∷◌, [], Some, IfOk, IsErrOf, IsSome, OnErr, OnOk, length};
 ghost use Rattle.mg_link.specs.Causes.{Rose};
-ghost use Rattle.mg_link.specs.Link.{Ends, PollMeans, PollPends, StartMeans};
+ghost use Rattle.mg_link.specs.Link.{Ends, PollMeans, PollPends, SamePolls, StartMeans};
 ghost use Rattle.mg_link.specs.LogView.{sight};
-ghost use Rattle.mg_link.specs.Places.{IsAnswer, out_at};
+ghost use Rattle.mg_link.specs.Places.{IsAnswer, out_at, polls_in};
 ghost use Rattle.mg_link.specs.Scripted.{IsOneReply, commands_of};
 
 use crate::error::OutOfMemory;
@@ -50,39 +50,38 @@ pub struct ScriptLink {
     script: Vec<Scripted>,
     wire: i32,
     commands: Vec<RawDocumentBuf>,
-    left: Vec<u32>,
+    polled: Vec<u32>,
     log: Log,
     faults: u64,
     pends: u64,
 }
 
 impl Model for ScriptLink {
-    ghost use Rattle.std.specs.Prelude.{◌≡◌, length, vec_len};
+    ghost use Rattle.std.specs.Prelude.{◌≡◌, length};
     ghost use Rattle.mg_link.specs.Scripted.{Scripting, commands_of};
 
     ghost Value = { Scripting };
 
-    ghost view = { λ l. record { calls = l.log; faults = l.faults; pends = l.pends; wire = l.wire } };
+    ghost view = { λ l. record { calls = l.log; pended = l.polled.items; faults = l.faults; pends = l.pends; wire = l.wire } };
 
-    ghost invariant = { λ l. (l.commands.items ≡ commands_of l.log) × (vec_len l.left ≡ length l.log) };
+    ghost invariant = { λ l. (l.commands.items ≡ commands_of l.log) × (length l.polled.items ≡ length l.log) };
 }
 
 // Adds a call. An `Err` changes nothing.
 fn add(
     commands: &mut Vec<RawDocumentBuf>,
-    left: &mut Vec<u32>,
+    polled: &mut Vec<u32>,
     log: &mut Log,
     command: &RawDocument<'_>,
-    pend: u32,
     seen: Seen,
 ) -> Result<(), OutOfMemory>
     ensures commands { OnOk result (commands.new.items ≡ commands.old.items ++ command.now ∷ []) }
-    ensures left { OnOk result (vec_len left.new ≡ vec_len left.old + 1) }
+    ensures polled { OnOk result (polled.new.items ≡ polled.old.items ++ 0 ∷ []) }
     ensures log { OnOk result (log.new ≡ log.old ++ record { command = command.now; position = None; seen = sight seen } ∷ []) }
-    ensures err { OnErr result ((commands.new.items ≡ commands.old.items) × (vec_len left.new ≡ vec_len left.old) × (log.new ≡ log.old)) }
+    ensures err { OnErr result ((commands.new.items ≡ commands.old.items) × (polled.new.items ≡ polled.old.items) × (log.new ≡ log.old)) }
 {
     commands.reserve(1)?;
-    left.reserve(1)?;
+    polled.reserve(1)?;
     let alloc = *commands.allocator();
     let Ok(kept) = command.to_buf(alloc) else {
         return Err(OutOfMemory);
@@ -96,7 +95,7 @@ fn add(
         seen,
     })?;
     push_reserved(commands, kept);
-    push_reserved(left, pend);
+    push_reserved(polled, 0);
     Ok(())
 }
 
@@ -105,6 +104,14 @@ fn entry(script: &[Scripted], place: usize) -> Option<&Scripted> {
     match script.get(place) {
         Some(entry) => Some(entry),
         None => script.last(),
+    }
+}
+
+// How many polls of the command of this number pend.
+fn pend_at(script: &[Scripted], place: usize) -> u32 {
+    match entry(script, place) {
+        Some(entry) => entry.pend,
+        None => 0,
     }
 }
 
@@ -138,26 +145,27 @@ fn hear(script: &[Scripted], place: usize) -> Heard
 fn start_over(
     script: &[Scripted],
     commands: &mut Vec<RawDocumentBuf>,
-    left: &mut Vec<u32>,
+    polled: &mut Vec<u32>,
     log: &mut Log,
     faults: &mut u64,
     command: &RawDocument<'_>,
 ) -> Result<Ticket, LinkError>
     requires same { commands.old.items ≡ commands_of log.old }
-    requires counted { vec_len left.old ≡ length log.old }
+    requires counted { length polled.old.items ≡ length log.old }
     ensures same { commands.new.items ≡ commands_of log.new }
-    ensures counted { vec_len left.new ≡ length log.new }
+    ensures counted { length polled.new.items ≡ length log.new }
+    ensures polls_same { SamePolls (polls_in polled.old.items) (polls_in polled.new.items) }
     ensures starts { StartMeans (out_at log.old) (out_at log.new) (Some log.old) (Some log.new) command.now result }
     ensures fault { IsErrOf result LinkError.Fault → Rose faults.old faults.new }
     ensures later { faults.old ≤ faults.new }
 {
     let place = log.len();
     match entry(script, place) {
-        Some(entry) => match add(commands, left, log, command, entry.pend, Seen::Waiting) {
+        Some(_) => match add(commands, polled, log, command, Seen::Waiting) {
             Ok(()) => Ok(Ticket::new(place as u64)),
             Err(OutOfMemory) => Err(LinkError::Memory),
         },
-        None => match add(commands, left, log, command, 0, Seen::Fault) {
+        None => match add(commands, polled, log, command, Seen::Fault) {
             Ok(()) => {
                 *faults = faults.saturating_add(1);
                 Err(LinkError::Fault)
@@ -181,26 +189,26 @@ fn finish(log: &mut Log, number: u64, seen: Seen)
 // Polls the call of a ticket.
 fn poll_over(
     script: &[Scripted],
-    left: &mut Vec<u32>,
+    polled: &mut Vec<u32>,
     log: &mut Log,
     faults: &mut u64,
     pends: &mut u64,
     ticket: Ticket,
 ) -> Polled
     requires out { IsSome (out_at log.old ticket) }
-    requires counted { vec_len left.old ≡ length log.old }
+    requires counted { length polled.old.items ≡ length log.old }
     ensures commands { commands_of log.new ≡ commands_of log.old }
-    ensures counted { vec_len left.new ≡ length log.new }
+    ensures counted { length polled.new.items ≡ length log.new }
     ensures polls { PollMeans (out_at log.old) (out_at log.new) (Some log.old) (Some log.new) ticket result }
     ensures fault { result ≡ Polled.Failed → Rose faults.old faults.new }
-    ensures pended { PollPends result pends.old pends.new }
+    ensures pended { PollPends result (out_at log.old ticket) pends.old pends.new (polls_in polled.old.items) (polls_in polled.new.items) }
     ensures faults_later { faults.old ≤ faults.new }
     ensures pends_later { pends.old ≤ pends.new }
 {
     let number = ticket.number();
     let place = number as usize;
-    if left[place] > 0 {
-        left[place] -= 1;
+    if polled[place] < pend_at(script, place) {
+        polled[place] += 1;
         *pends = pends.saturating_add(1);
         return Polled::Pending(ticket);
     }
@@ -227,14 +235,14 @@ impl ScriptLink {
 
     /// A link over which nothing was sent, with this wire version.
     pub fn new(list: Vec<Scripted>, wire: i32) -> ScriptLink
-        ensures { result ≡ record { calls = []; faults = 0; pends = 0; wire = wire } }
+        ensures { result ≡ record { calls = []; pended = []; faults = 0; pends = 0; wire = wire } }
     {
         let alloc = *list.allocator();
         ScriptLink {
             script: list,
             wire,
             commands: Vec::new(alloc),
-            left: Vec::new(alloc),
+            polled: Vec::new(alloc),
             log: Log::new(alloc),
             faults: 0,
             pends: 0,
@@ -251,11 +259,13 @@ impl ScriptLink {
 
 impl Link for ScriptLink {
     ghost use Rattle.std.specs.Prelude.{Some};
-    ghost use Rattle.mg_link.specs.Places.{out_at};
+    ghost use Rattle.mg_link.specs.Places.{out_at, polls_in};
 
     ghost faults = { λ l. l.faults };
 
     ghost pends = { λ l. l.pends };
+
+    ghost polls = { λ l. polls_in l.pended };
 
     ghost log = { λ l. Some l.calls };
 
@@ -269,7 +279,7 @@ impl Link for ScriptLink {
         start_over(
             &self.script,
             &mut self.commands,
-            &mut self.left,
+            &mut self.polled,
             &mut self.log,
             &mut self.faults,
             &command,
@@ -279,7 +289,7 @@ impl Link for ScriptLink {
     fn poll(&mut self, ticket: Ticket) -> Polled {
         poll_over(
             &self.script,
-            &mut self.left,
+            &mut self.polled,
             &mut self.log,
             &mut self.faults,
             &mut self.pends,

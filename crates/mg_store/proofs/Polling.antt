@@ -6,14 +6,14 @@ use Rattle.mg_bson.specs.Tree.{Fields}
 use Rattle.mg_link.specs.Causes.{Rose, RoseJust}
 use Rattle.mg_link.specs.History.{Step}
 use Rattle.mg_link.specs.Kept.{Kept, steps_of}
-use Rattle.mg_link.specs.Link.{AnswersAtOnce, Ends, PollMeans, PollPends, StaysPrompt}
+use Rattle.mg_link.specs.Link.{AnswersAtOnce, Ends, OneMoreAt, PollMeans, PollPends, SamePolls, StaysPrompt}
 use Rattle.mg_link.specs.Log.{Sight, waiting, reply, fault, memory, Call, see}
-use Rattle.mg_link.specs.Places.{out_at, IsAnswer}
+use Rattle.mg_link.specs.Places.{out_at, polls_in, IsAnswer}
 use Rattle.mg_link.specs.Rules.{refusal}
 use Rattle.mg_link.specs.Standing.{Stands, SeenFits}
 use Rattle.mg_link.specs.declared.link.Polled.{Polled}
 use Rattle.mg_link.specs.declared.link.Polled.TheVariants as polled
-use Rattle.mg_link.proofs.Outs.{is_waiting, ends_at, length-see}
+use Rattle.mg_link.proofs.Outs.{is_waiting, ends_at, length-see, polled_once_more}
 use Rattle.mg_store.specs.InMemory.{fate_at, TookStep, by_rules, TookAs, reply_at, coming, SeesWhatComes, PendedAs, fault_by, faults_in, pends_in, one_more, pended_after, Comes, IsPrompt}
 use Rattle.mg_store.specs.Sending.{pended_of, IsKept, Honest, Pends, Answered, PolledAt}
 use Rattle.mg_store.specs.declared.fate.Fate.{Fate}
@@ -235,6 +235,19 @@ pended_polled pend calls calls' waits waits' at (polled.Reply bytes) h = pended_
 pended_polled pend calls calls' waits waits' at polled.Failed h = pended_answered pend calls calls' waits waits' at None fault h
 pended_polled pend calls calls' waits waits' at polled.Memory h = pended_answered pend calls calls' waits waits' at (Some h.0) memory h.1
 
+get_pended : (waits : List Wait) (at : ℕ) (w : Wait) → slice_get waits at ≡ Some w → slice_get (pended_of waits) at ≡ Some w.pended
+get_pended [] at w h = cc
+get_pended (v ∷ waits) zero w h = ap (λ (x : Wait). Some x.pended) (same_some v w h)
+get_pended (v ∷ waits) (suc at) w h = get_pended waits at w h
+
+set_pended : (waits : List Wait) (at : ℕ) (w : Wait) → pended_of (slice_set waits at w) ≡ slice_set (pended_of waits) at w.pended
+set_pended [] at w = refl
+set_pended (v ∷ waits) zero w = refl
+set_pended (v ∷ waits) (suc at) w = ap (λ l. v.pended ∷ l) (set_pended waits at w)
+
+pended_set : (pend : ℕ) (calls calls' : List Call) (waits waits' : List Wait) (at given : ℕ) → (h : PolledAt (polled.Pending given) pend waits waits' calls calls' at) → pended_of waits' ≡ slice_set (pended_of waits) at (h.1.wait.pended + 1)
+pended_set pend calls calls' waits waits' at given h = ap pended_of h.1.waits_are ∙ set_pended waits at (record { pended = h.1.wait.pended + 1; reply = h.1.wait.reply })
+
 pends_more : (waits : List Wait) (at : ℕ) (w : Wait) → slice_get waits at ≡ Some w → pends_in (one_more at (pended_of waits)) ≡ pends_in (pended_of waits) + 1
 pends_more [] at w h = cc
 pends_more (v ∷ waits) zero w h = omega arith
@@ -246,17 +259,23 @@ pends_rise pend calls calls' waits waits' at given h = ap pends_in (pended_polle
 rose_more : (before now : ℕ) → now ≡ before + 1 → RoseJust 1 before now
 rose_more before now e = (omega arith, omega arith)
 
-pub pends_polled : (pend : ℕ) (calls calls' : List Call) (waits waits' : List Wait) (at : ℕ) (result : Polled) → PolledAt result pend waits waits' calls calls' at → PollPends result (pends_in (pended_of waits)) (pends_in (pended_of waits'))
-pends_polled pend calls calls' waits waits' at (polled.Pending given) h = rose_more (pends_in (pended_of waits)) (pends_in (pended_of waits')) (pends_rise pend calls calls' waits waits' at given h)
-pends_polled pend calls calls' waits waits' at (polled.Reply bytes) h = ap pends_in (pended_polled pend calls calls' waits waits' at (polled.Reply bytes) h)
-pends_polled pend calls calls' waits waits' at polled.Failed h = ap pends_in (pended_polled pend calls calls' waits waits' at polled.Failed h)
-pends_polled pend calls calls' waits waits' at polled.Memory h = ap pends_in (pended_polled pend calls calls' waits waits' at polled.Memory h)
+same_polls : (pended pended' : List ℕ) → pended' ≡ pended → SamePolls (polls_in pended) (polls_in pended')
+same_polls pended pended' e place = ap (λ l. polls_in l place) e
+
+pub pends_polled : (pend : ℕ) (calls calls' : List Call) (waits waits' : List Wait) (at : ℕ) (result : Polled) → PolledAt result pend waits waits' calls calls' at → PollPends result (out_at calls at) (pends_in (pended_of waits)) (pends_in (pended_of waits')) (polls_in (pended_of waits)) (polls_in (pended_of waits'))
+pends_polled pend calls calls' waits waits' at (polled.Pending given) h = (
+  rose_more (pends_in (pended_of waits)) (pends_in (pended_of waits')) (pends_rise pend calls calls' waits waits' at given h),
+  subst (λ l. OneMoreAt (out_at calls at) (polls_in (pended_of waits)) (polls_in l)) (sym (pended_set pend calls calls' waits waits' at given h)) (polled_once_more calls (pended_of waits) at h.1.wait.pended (get_pended waits at h.1.wait h.1.found)),
+)
+pends_polled pend calls calls' waits waits' at (polled.Reply bytes) h = let e = pended_polled pend calls calls' waits waits' at (polled.Reply bytes) h in (ap pends_in e, same_polls (pended_of waits) (pended_of waits') e)
+pends_polled pend calls calls' waits waits' at polled.Failed h = let e = pended_polled pend calls calls' waits waits' at polled.Failed h in (ap pends_in e, same_polls (pended_of waits) (pended_of waits') e)
+pends_polled pend calls calls' waits waits' at polled.Memory h = let e = pended_polled pend calls calls' waits waits' at polled.Memory h in (ap pends_in e, same_polls (pended_of waits) (pended_of waits') e)
 
 pub pends_later : (pend : ℕ) (calls calls' : List Call) (waits waits' : List Wait) (at : ℕ) (result : Polled) → PolledAt result pend waits waits' calls calls' at → pends_in (pended_of waits) ≤ pends_in (pended_of waits')
 pends_later pend calls calls' waits waits' at (polled.Pending given) h = let e = pends_rise pend calls calls' waits waits' at given h in omega arith
-pends_later pend calls calls' waits waits' at (polled.Reply bytes) h = let e = pends_polled pend calls calls' waits waits' at (polled.Reply bytes) h in omega arith
-pends_later pend calls calls' waits waits' at polled.Failed h = let e = pends_polled pend calls calls' waits waits' at polled.Failed h in omega arith
-pends_later pend calls calls' waits waits' at polled.Memory h = let e = pends_polled pend calls calls' waits waits' at polled.Memory h in omega arith
+pends_later pend calls calls' waits waits' at (polled.Reply bytes) h = let e = (pends_polled pend calls calls' waits waits' at (polled.Reply bytes) h).0 in omega arith
+pends_later pend calls calls' waits waits' at polled.Failed h = let e = (pends_polled pend calls calls' waits waits' at polled.Failed h).0 in omega arith
+pends_later pend calls calls' waits waits' at polled.Memory h = let e = (pends_polled pend calls calls' waits waits' at polled.Memory h).0 in omega arith
 
 -- one fault more where it failed
 abbrev fault_of : Polled → ℕ

@@ -6,13 +6,14 @@ use Rattle.std.proofs.lemmas.Option.{slice_get_past}
 use Rattle.mg_bson.specs.Tree.{Fields}
 use Rattle.mg_link.specs.History.{Step}
 use Rattle.mg_link.specs.Kept.{Kept, step_of, state_behind, given_after, steps_from, steps_of, state_of_kept, given_of, is_started}
-use Rattle.mg_link.specs.Link.{Starts}
+use Rattle.mg_link.specs.Link.{SamePolls, Starts}
 use Rattle.mg_link.specs.Log.{waiting, Call}
-use Rattle.mg_link.specs.Places.{waiting_at, out_at}
+use Rattle.mg_link.specs.Places.{waiting_at, out_at, polls_in}
 use Rattle.mg_link.specs.Rules.{refusal}
 use Rattle.mg_link.specs.Standing.{Stands}
 use Rattle.mg_link.specs.State.{State}
 use Rattle.mg_link.proofs.Legal.{steps_push}
+use Rattle.mg_link.proofs.Outs.{polls_push}
 use Rattle.mg_link.proofs.Places.{get_within}
 use Rattle.mg_store.specs.InMemory.{fate_of, fate_at, TookStep, by_rules, TookAs, reply_at, coming, SeesWhatComes, IsAsFate, AreAsFates, ArePlaced, fault_by, faults_in, pends_in, Performed, Takes, position_behind, sent_call, Started, NamesNone, Comes, IsPrompt, IsSmall, AreSmall}
 use Rattle.mg_store.specs.Sending.{pended_of, IsKept, Honest, Sent}
@@ -247,6 +248,10 @@ faults_sent kind old new command calls calls' waits waits' sent = ap faults_in s
 
 pub pends_sent : (kind : FateKind) (old new : Stored) (command : List ℕ) (calls calls' : List Call) (waits waits' : List Wait) → Sent kind command old new calls calls' waits waits' → pends_in (pended_of waits') ≡ pends_in (pended_of waits)
 pends_sent kind old new command calls calls' waits waits' sent = ap (λ l. pends_in (pended_of l)) sent.waits_are ∙ ap pends_in (pended-push waits sent.reply) ∙ pends-push (pended_of waits)
+
+pub polls_sent : (kind : FateKind) (old new : Stored) (command : List ℕ) (calls calls' : List Call) (waits waits' : List Wait) → Sent kind command old new calls calls' waits waits' → SamePolls (polls_in (pended_of waits)) (polls_in (pended_of waits'))
+polls_sent kind old new command calls calls' waits waits' sent place =
+    ap (λ l. polls_in l place) (ap pended_of sent.waits_are ∙ pended-push waits sent.reply) ∙ polls_push (pended_of waits) place
 
 -- what a start of the link does
 pub started_sent : (kind kind' : FateKind) (old new : Stored) (command : List ℕ) (calls calls' : List Call) (waits waits' : List Wait) (n : ℕ) → kind ≡ kind' → n ≡ length calls → Sent kind command old new calls calls' waits waits' → Started n kind' command old new calls calls' (pended_of waits) (pended_of waits')

@@ -2,8 +2,8 @@
 ghost use Rattle.std.specs.Prelude.{◌≡◌, ◌<◌, ◌≤◌, [], Some, IfOk, IsErrOf, IsSome, OnErr, length, map, string_bytes, vec_len};
 ghost use Rattle.mg_link.specs.Causes.{Rose};
 ghost use Rattle.mg_link.specs.Kept.{IsReply};
-ghost use Rattle.mg_link.specs.Link.{AnswersAtOnce, Later, PollMeans, PollPends, StartMeans, StartsAtOnce, StaysPrompt};
-ghost use Rattle.mg_link.specs.Places.{out_at};
+ghost use Rattle.mg_link.specs.Link.{AnswersAtOnce, Later, PollMeans, PollPends, SamePolls, StartMeans, StartsAtOnce, StaysPrompt};
+ghost use Rattle.mg_link.specs.Places.{out_at, polls_in};
 ghost use Rattle.mg_link.specs.Rules.{refusal};
 ghost use Rattle.mg_store.specs.InMemory.{IsPrompt, IsSmall, NamesNone, Performed, StartedAs, Takes, by_rules, fate_at, faults_in, pended_after, pends_in, position_behind};
 ghost use Rattle.mg_store.specs.Sending.{HandsOver, HeardAt, Hearing, Honest, PolledAt, Sent, pended_of};
@@ -170,6 +170,7 @@ fn start_over(
     ensures sent { StartedAs result (fate_at fates.now (length log.old)).kind command.entry store.old store.new log.old log.new (pended_of waits.old.items) (pended_of waits.new.items) }
     ensures faults { faults_in log.new ≡ faults_in log.old }
     ensures pends { pends_in (pended_of waits.new.items) ≡ pends_in (pended_of waits.old.items) }
+    ensures polls { SamePolls (polls_in (pended_of waits.old.items)) (polls_in (pended_of waits.new.items)) }
     ensures prompt { IsPrompt fates.now log.old (pended_of waits.old.items) → IsPrompt fates.now log.new (pended_of waits.new.items) }
 {
     let place = log.len();
@@ -239,7 +240,8 @@ fn poll_over(
     ensures polls { PollMeans (out_at log.old) (out_at log.new) (Some log.old) (Some log.new) ticket result }
     ensures fault { result ≡ Polled.Failed → Rose (faults_in log.old) (faults_in log.new) }
     ensures at_once { IsPrompt fates.now log.old (pended_of waits.old.items) → AnswersAtOnce result }
-    ensures pended { PollPends result (pends_in (pended_of waits.old.items)) (pends_in (pended_of waits.new.items)) }
+    ensures pended { PollPends result (out_at log.old ticket) (pends_in (pended_of waits.old.items)) (pends_in (pended_of waits.new.items))
+        (polls_in (pended_of waits.old.items)) (polls_in (pended_of waits.new.items)) }
     ensures counts { pended_of waits.new.items ≡ pended_after result ticket (pended_of waits.old.items) }
     ensures faults_later { faults_in log.old ≤ faults_in log.new }
     ensures pends_later { pends_in (pended_of waits.old.items) ≤ pends_in (pended_of waits.new.items) }
@@ -390,12 +392,14 @@ impl MemLink {
 
 impl Link for MemLink {
     ghost use Rattle.std.specs.Prelude.{Some};
-    ghost use Rattle.mg_link.specs.Places.{out_at};
+    ghost use Rattle.mg_link.specs.Places.{out_at, polls_in};
     ghost use Rattle.mg_store.specs.InMemory.{IsPrompt, faults_in, pends_in};
 
     ghost faults = { λ m. faults_in m.calls };
 
     ghost pends = { λ m. pends_in m.pended };
+
+    ghost polls = { λ m. polls_in m.pended };
 
     ghost log = { λ m. Some m.calls };
 
@@ -410,6 +414,7 @@ impl Link for MemLink {
         ensures fault { IsErrOf result LinkError.Fault → Rose (faults_in self.old.calls) (faults_in self.new.calls) }
         ensures prompt { IsPrompt self.old.fates self.old.calls self.old.pended → StartsAtOnce result }
         ensures pends_same { pends_in self.new.pended ≡ pends_in self.old.pended }
+        ensures polls_same { SamePolls (polls_in self.old.pended) (polls_in self.new.pended) }
         ensures later { Later (faults_in self.old.calls) (faults_in self.new.calls) (pends_in self.old.pended) (pends_in self.new.pended)
             self.old.wire self.new.wire (IsPrompt self.old.fates self.old.calls self.old.pended) (IsPrompt self.new.fates self.new.calls self.new.pended) }
         ensures sent { StartedAs result (fate_at self.old.fates (length self.old.calls)).kind command.entry self.old.stored self.new.stored self.old.calls self.new.calls self.old.pended self.new.pended }
@@ -430,7 +435,7 @@ impl Link for MemLink {
         ensures polls { PollMeans (out_at self.old.calls) (out_at self.new.calls) (Some self.old.calls) (Some self.new.calls) ticket result }
         ensures fault { result ≡ Polled.Failed → Rose (faults_in self.old.calls) (faults_in self.new.calls) }
         ensures prompt { IsPrompt self.old.fates self.old.calls self.old.pended → AnswersAtOnce result }
-        ensures pended { PollPends result (pends_in self.old.pended) (pends_in self.new.pended) }
+        ensures pended { PollPends result (out_at self.old.calls ticket) (pends_in self.old.pended) (pends_in self.new.pended) (polls_in self.old.pended) (polls_in self.new.pended) }
         ensures later { Later (faults_in self.old.calls) (faults_in self.new.calls) (pends_in self.old.pended) (pends_in self.new.pended)
             self.old.wire self.new.wire (IsPrompt self.old.fates self.old.calls self.old.pended) (IsPrompt self.new.fates self.new.calls self.new.pended) }
         ensures counts { self.new.pended ≡ pended_after result ticket self.old.pended }

@@ -18,6 +18,9 @@ returns-in-Ok-clause-faults c = sending.faults_sent _ _ _ _ _ _ _ _ c.in-Ok.ensu
 pub returns-in-Ok-clause-pends : goal.returns-in-Ok-clause-pends
 returns-in-Ok-clause-pends c = sending.pends_sent _ _ _ _ _ _ _ _ c.in-Ok.ensures.sent
 
+pub returns-in-Ok-clause-polls : goal.returns-in-Ok-clause-polls
+returns-in-Ok-clause-polls c = sending.polls_sent _ _ _ _ _ _ _ _ c.in-Ok.ensures.sent
+
 pub returns-in-Ok-clause-prompt : goal.returns-in-Ok-clause-prompt
 returns-in-Ok-clause-prompt c prompt = sending.prompt_sent _ _ _ _ _ _ _ _ _ c.requires.honest.counted c.in-Ok.ensures.sent prompt
 
