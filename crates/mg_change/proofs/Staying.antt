@@ -17,7 +17,7 @@ stays_on log mid log' p q calls told =
     let y = q x.0 x.1 in
     (y.0, y.1, keeps_on calls x.0 y.0 x.2 y.2)
 
-stays_adds : (log log' : Told) (command : List ℕ) (seen : Sight) → Adds log log' command seen → Stays log log'
+pub stays_adds : (log log' : Told) (command : List ℕ) (seen : Sight) → Adds log log' command seen → Stays log log'
 stays_adds log log' command seen adds calls told =
     let add = adds calls told in
     let call : Call = record { command = command; position = add.0; seen = seen } in

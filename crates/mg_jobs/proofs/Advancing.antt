@@ -339,8 +339,14 @@ follow_played calls k last stage.Ended c at =
     ]
 
 played_at : (t : Task) (p : Player) (r : Outcome) (k : ℕ) (last : Bool) → Does t p → OutcomeOf p r → IsAt (calls_of t) p k last → IsPlayed t k last r
-played_at (plan.put db bucket name id chunk pieces) p r k last does of at = tt
-played_at (plan.get db bucket id read) p r k last does of at = tt
+played_at (plan.put db bucket name id chunk pieces) player.Put r k last does of at = subst (λ (x : Outcome). IsPlayed (plan.put db bucket name id chunk pieces) k last x) (sym of) tt
+played_at (plan.put db bucket name id chunk pieces) (player.Insert job) r k last does of at = absurd does
+played_at (plan.put db bucket name id chunk pieces) (player.Follow job) r k last does of at = absurd does
+played_at (plan.put db bucket name id chunk pieces) player.Get r k last does of at = absurd does
+played_at (plan.get db bucket id read) player.Get r k last does of at = subst (λ (x : Outcome). IsPlayed (plan.get db bucket id read) k last x) (sym of.1) (of.2, tt)
+played_at (plan.get db bucket id read) (player.Insert job) r k last does of at = absurd does
+played_at (plan.get db bucket id read) (player.Follow job) r k last does of at = absurd does
+played_at (plan.get db bucket id read) player.Put r k last does of at = absurd does
 played_at (plan.insert ns docs) (player.Insert job) r k last does of at = subst (λ (x : Outcome). IsPlayed (plan.insert ns docs) k last x) (sym of) (insert_played k last job.stage at)
 played_at (plan.insert ns docs) (player.Follow job) r k last does of at = absurd does
 played_at (plan.insert ns docs) player.Put r k last does of at = absurd does

@@ -22,4 +22,7 @@ pub mod Completing
 pub mod InsertCauses
 pub mod InsertTelling
 pub mod Drawing
+pub mod OwnTickets
+pub mod Polling
+pub mod Showing
 mod Stepping

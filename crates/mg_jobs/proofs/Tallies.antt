@@ -1,15 +1,16 @@
 -- What is counted of a turn, poll by poll.
-use Rattle.std.proofs.Common.{◌≡◌, ◌+◌, ◌<◌, ◌≤◌, ◌^◌, ◌++◌, ◌∷◌, [], List, length, ℕ, zero, suc, min, ◌-◌, Bool, true, false, Option, Result, Ok, Err, IfOk, arith, refl, sym, ◌∙◌, subst}
+use Rattle.std.proofs.Common.{◌≡◌, ◌+◌, ◌<◌, ◌≤◌, ◌^◌, ◌++◌, ◌∷◌, [], List, length, ℕ, zero, suc, min, ◌-◌, Bool, true, false, Option, Result, Ok, Err, IfOk, arith, refl, sym, ap, ◌∙◌, subst, inl, inr, length-append}
 use Rattle.std.specs.List.{sum_by}
 use Rattle.std.proofs.lemmas.List.Sums.{sum_by-append}
 use Rattle.mg_link.specs.declared.error.Error.{Error}
 use Rattle.mg_script.specs.declared.outcome.Played.{Played}
 use Rattle.mg_script.specs.declared.outcome.Turned.{Turned}
-use Rattle.mg_link.specs.Link.{Sees, Told}
+use Rattle.mg_link.specs.Link.{Adds, Sees, Told}
 use Rattle.mg_link.specs.Log.{Sight, fault, Call, see}
 use Rattle.mg_link.proofs.Onward.{rose_on}
 use Rattle.mg_link.proofs.Outs.{length-see}
-use Rattle.mg_change.proofs.Staying.{stays_on, stays_sees}
+use Rattle.mg_link.proofs.Places.{get_push}
+use Rattle.mg_change.proofs.Staying.{stays_adds, stays_on, stays_sees}
 use Rattle.mg_change.specs.Calls.{Stays}
 use Rattle.mg_link.specs.Causes.{RoseJust}
 use Rattle.mg_jobs.specs.Counts.{AreNoted, Counted, Faultless, IsNoted, LosesNothing, RoseIf, StartedBy, one_if, turns_pended}
@@ -50,6 +51,34 @@ counted_seen old log log' n pended before pends pends' prompts p p' place seen c
       never_less = omega (arith, same, counted.never_less);
       prompt = λ was. let r = counted.prompt was in (stays r.0, r.1, loses_on old log log' r.2 (loses_sees log log' place seen (saved r.0) sees));
     }
+
+push_faultless : (calls : List Call) (added : Call) → (added.seen ≡ fault → ⊥) → Faultless calls (calls ++ added ∷ [])
+push_faultless calls added saved place call there is = elim (get_push calls added place call there) [
+  | inl old ↦ old
+  | inr new ↦ absurd (saved (ap (λ (c : Call). c.seen) new.1 ∙ is))
+]
+
+-- a command was sent
+pub counted_started : (old log log' : Told) (n more pended before pends pends' : ℕ) (prompts p p' : Type 0) (command : List ℕ) (seen : Sight) → Counted old log n pended before pends prompts p → Adds log log' command seen → more ≡ n + 1 → pends' ≡ pends → (p → p') → (p → seen ≡ fault → ⊥) → Counted old log' more pended before pends' prompts p'
+counted_started old log log' n more pended before pends pends' prompts p p' command seen counted adds is same stays saved =
+    record {
+      starts = λ calls told.
+          let s = counted.starts calls told in
+          let a = adds s.0 s.1 in
+          let added : Call = record { command = command; position = a.0; seen = seen } in
+          let count = s.2 in
+          (s.0 ++ added ∷ [], a.1, omega (arith, count, is, length-append s.0 (added ∷ [])));
+      stays = stays_on old log log' counted.stays (stays_adds log log' command seen adds);
+      pends = λ few. subst (λ m. RoseJust pended before m) (sym same) (counted.pends few);
+      never_less = omega (arith, same, counted.never_less);
+      prompt = λ was.
+          let r = counted.prompt was in
+          (stays r.0, r.1, loses_on old log log' r.2 (λ calls told. let a = adds calls told in let added : Call = record { command = command; position = a.0; seen = seen } in (calls ++ added ∷ [], a.1, push_faultless calls added (saved r.0))));
+    }
+
+-- a count that goes on by one, or stays at its greatest number
+pub rose_counted : (n more : ℕ) → more ≡ min (n + 1) (2 ^ 64 - 1) → RoseJust 1 n more
+rose_counted n more is = (omega (arith, is), omega (arith, is))
 
 -- ---- notes
 
@@ -93,7 +122,7 @@ noted_rose [] old new before now noted = (omega (arith, noted.1), omega (arith, 
 noted_rose (x ∷ xs) old new before now noted =
     rose_on (one_if x.pended) (turns_pended xs) before noted.1 now (pended_by x.pended before noted.1 noted.4) (noted_rose xs noted.0 new noted.1 now noted.5)
 
-one_at_most : (pended : Bool) → one_if pended ≤ 1
+pub one_at_most : (pended : Bool) → one_if pended ≤ 1
 one_at_most true = omega arith
 one_at_most false = omega arith
 

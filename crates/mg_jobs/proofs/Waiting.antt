@@ -112,7 +112,7 @@ follow_pended calls (stage.Open stream) c k last ticket at holds = some_if (stag
 follow_pended calls (stage.Closes closing) c k last ticket at holds = at.1
 follow_pended calls stage.Ended c k last ticket at holds = absurd cc
 
-job_pended : (calls : ℕ) (p : Player) (k : ℕ) (last : Bool) (ticket : ℕ) → IsAt calls p k last → job_ticket p ≡ Some ticket → last ≡ true
+pub job_pended : (calls : ℕ) (p : Player) (k : ℕ) (last : Bool) (ticket : ℕ) → IsAt calls p k last → job_ticket p ≡ Some ticket → last ≡ true
 job_pended calls (player.Insert job) k last ticket at holds = insert_pended job.stage k last ticket at holds
 job_pended calls (player.Follow job) k last ticket at holds = follow_pended calls job.stage (came job) k last ticket at holds
 job_pended calls player.Put k last ticket at holds = absurd cc
@@ -156,7 +156,7 @@ insert_own awaited past at sent had inserts.Unsent ticket turn tells holds = abs
 insert_own awaited past at sent had (inserts.Goes i) ticket turn tells holds = command_own awaited past at sent i.command ticket (tells turn).0.flies holds
 insert_own awaited past at sent had (inserts.Ended e) ticket turn tells holds = absurd cc
 
-job_own : (ids : ℕ → List ℕ) (first : ℕ) (awaited : Awaited) (calls : List Call) (wire : ℤ) (c : Course) (i : ℕ) (p : Player) (at : Option ℕ) (ticket : ℕ) → JobHadTurn (has_turn i c.order) p → JobTold ids first awaited calls wire c i p at → job_ticket p ≡ Some ticket → SentOwn awaited c i ticket
+pub job_own : (ids : ℕ → List ℕ) (first : ℕ) (awaited : Awaited) (calls : List Call) (wire : ℤ) (c : Course) (i : ℕ) (p : Player) (at : Option ℕ) (ticket : ℕ) → JobHadTurn (has_turn i c.order) p → JobTold ids first awaited calls wire c i p at → job_ticket p ≡ Some ticket → SentOwn awaited c i ticket
 job_own ids first awaited calls wire c i (player.Insert job) at ticket had t holds =
     sent_own awaited c i 0 t.places calls wire ticket t.sent (insert_own awaited (sent_at t.places calls wire) (space job.ns.now) _ (has_turn i c.order) job.stage ticket had t.tells holds)
 job_own ids first awaited calls wire c i (player.Follow job) at ticket had t holds = follow_own awaited calls wire c i job.stage (kept job) at ticket t holds

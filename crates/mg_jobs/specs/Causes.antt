@@ -3,7 +3,7 @@ use Rattle.std.specs.Prelude.{◌≡◌, ◌≢◌, ◌↔◌, ◌⊎◌, ◌<�
 use Rattle.std.specs.List.{sum_by}
 use Rattle.mg_bson.specs.Tree.{Tree, Fields}
 use Rattle.mg_link.specs.History.{IsLegal, Step}
-use Rattle.mg_link.specs.Link.{Awaited, Told}
+use Rattle.mg_link.specs.Link.{Awaited, Polls, SamePolls, Told}
 use Rattle.mg_link.specs.Log.{Call}
 use Rattle.mg_link.specs.Namespace.{Space, Target}
 use Rattle.mg_link.specs.Owner.{IsOf}
@@ -20,6 +20,7 @@ use Rattle.mg_change.specs.Following.{token_of}
 use Rattle.mg_change.specs.OpeningCauses.{Opened, OpeningFails}
 use Rattle.mg_change.specs.Openings.{opening_command}
 use Rattle.mg_jobs.specs.Appended.{Appended}
+use Rattle.mg_jobs.specs.Counts.{PolledBy, one_if}
 use Rattle.mg_jobs.specs.Drawing.{as_sent}
 use Rattle.mg_jobs.specs.Follows.{FollowedFrom, IsArgsFor, IsUnfinished, poll_of}
 use Rattle.mg_jobs.specs.InsertCauses.{InsertFails, IsPiece}
@@ -197,7 +198,8 @@ abbrev pub AllCaused : (ℕ → List ℕ) → Awaited → Told → Told → ℤ 
 AllCaused ids awaited log log' wire tasks order notes outcomes = (calls : List Call) → log ≡ Some calls → (calls' : List Call) × (log' ≡ Some calls')
     × ((i : ℕ) (t : Task) (r : Outcome) → slice_get tasks i ≡ Some t → slice_get outcomes i ≡ Some r → OutcomeCaused awaited (course calls order notes) i calls' wire (as_sent ids tasks order i t) r)
 
--- The call of this ticket was sent in a turn of a job whose newest turn pended, and the job waits for no other, but where a ticket was out before.
+-- The call of this ticket was sent in a turn of a job whose newest turn pended by its note, and the job waits for no other, but where a ticket was out before
+-- for the same call.
 pub record WaitsAlone (before awaited : Awaited) (c : Course) (ticket place : ℕ) : Type 0 where
   pub job : ℕ
   pub done : ℕ
@@ -209,3 +211,26 @@ pub record WaitsAlone (before awaited : Awaited) (c : Course) (ticket place : �
 abbrev pub AllWaitAlone : (before awaited : Awaited) → Told → List ℕ → List Turned → Type 0
 AllWaitAlone before awaited log order notes = (calls : List Call) → log ≡ Some calls → (ticket place : ℕ) → awaited ticket ≡ Some place
     → (before ticket ≡ Some place) ⊎ WaitsAlone before awaited (course calls order notes) ticket place
+
+-- ---- which calls the turns polled
+
+-- Behind these turns of a run, which began with these calls, job i took a turn with this note: the call at this place was sent in it; or an earlier turn of
+-- the job sent it, and its newest one before pended by its note.
+abbrev pub IsPolledIn : List Call → List ℕ → List Turned → ℕ → Turned → ℕ → Type 0
+IsPolledIn calls order notes i note place = ((length calls + sum_by (λ t. t.started) notes ≤ place) × (place < length calls + sum_by (λ t. t.started) notes + note.started))
+    ⊎ ((pends_last i order notes ≡ true) × ((k : ℕ) × SentIn (course calls order notes) i k place))
+
+-- the same of a link that tells its log: one poll of such a call pended in the turn where the note says so, and otherwise none did
+abbrev pub PollsOwn : Told → List ℕ → List Turned → ℕ → Turned → (before now : Polls) → Type 0
+PollsOwn log order notes i note before now = (calls : List Call) → log ≡ Some calls → PolledBy (one_if note.pended) (IsPolledIn calls order notes i note) before now
+
+-- So it was in each of these turns, behind those that were gone through.
+abbrev pub PollOwnFrom : List Call → List ℕ → List Turned → List ℕ → List Turned → (before now : Polls) → Type 0
+PollOwnFrom calls gone noted [] notes before now = SamePolls before now
+PollOwnFrom calls gone noted (i ∷ order) [] before now = SamePolls before now
+PollOwnFrom calls gone noted (i ∷ order) (note ∷ notes) before now =
+    (between : Polls) × PolledBy (one_if note.pended) (IsPolledIn calls gone noted i note) before between × PollOwnFrom calls (gone ++ i ∷ []) (noted ++ note ∷ []) order notes between now
+
+-- Over a link that tells its log each turn of a run polled calls of its own job alone, and one poll pended in it just where its note says so.
+abbrev pub AllPollOwn : Told → List ℕ → List Turned → (before now : Polls) → Type 0
+AllPollOwn log order notes before now = (calls : List Call) → log ≡ Some calls → PollOwnFrom calls [] [] order notes before now

@@ -1,7 +1,7 @@
 -- What is counted of a turn.
-use Rattle.std.specs.Prelude.{◌≡◌, ◌+◌, ◌-◌, ◌^◌, ◌<◌, ◌≤◌, ℕ, Bool, true, false, Some, List, [], ◌∷◌, length, slice_get}
+use Rattle.std.specs.Prelude.{◌≡◌, ◌⊎◌, ◌+◌, ◌-◌, ◌^◌, ◌<◌, ◌≤◌, ℕ, zero, suc, Bool, true, false, nat_eq, Option, Some, None, is_some, IsSome, List, [], ◌∷◌, length, slice_get, if◌then◌else◌}
 use Rattle.mg_link.specs.Causes.{RoseJust}
-use Rattle.mg_link.specs.Link.{Told}
+use Rattle.mg_link.specs.Link.{Awaited, OneMore, Polls, SamePolls, Told}
 use Rattle.mg_link.specs.Log.{fault, Call}
 use Rattle.mg_change.specs.Calls.{Stays}
 use Rattle.mg_script.specs.declared.outcome.Turned.{Turned}
@@ -42,6 +42,40 @@ pub record IsNoted (note : Turned) (old new : Told) (before now : ℕ) (prompts 
   pub pends : RoseIf note.pended before now
   pub never_less : before ≤ now
   pub prompt : StayedPrompt old new prompts prompts' (note.pended ≡ false)
+
+-- ---- the calls of a turn
+
+-- the ticket is this one
+abbrev pub is_held : Option ℕ → ℕ → Bool
+is_held None n = false
+is_held (Some m) n = nat_eq m n
+
+-- A turn is shown the ticket that its job held as it began, and those that were not out then.
+abbrev pub shown : Option ℕ → (began now : Awaited) → Awaited
+shown held began now n = if is_held held n then now n else (if is_some (began n) then None else now n)
+
+-- the call at this place was sent between two states of a log, where it is told
+abbrev pub IsSentBetween : Told → Told → ℕ → Type 0
+IsSentBetween from to place = (calls : List Call) → from ≡ Some calls → (calls' : List Call) × (to ≡ Some calls') × (length calls ≤ place) × (place < length calls')
+
+-- since a turn began of a job that held this ticket the tickets of others are as they were, and the call of each other one was the job's, or was sent since
+pub record TicketsSince (held : Option ℕ) (began now : Awaited) (from to : Told) : Type 0 where
+  pub others : (n : ℕ) → is_held held n ≡ false → IsSome (began n) → now n ≡ began n
+  pub own : (n place : ℕ) → now n ≡ Some place → (began n ≡ Some place) ⊎ IsSentBetween from to place
+
+-- the call at this place is that of the ticket which the job of a turn held as it began, or was sent in it
+abbrev pub IsTurnsCall : Option ℕ → Awaited → (from to : Told) → ℕ → Type 0
+IsTurnsCall held began from to place = ((n : ℕ) × (held ≡ Some n) × (began n ≡ Some place)) ⊎ IsSentBetween from to place
+
+-- so many polls pended, one behind the other, each of a call of which this holds
+abbrev pub PolledBy : ℕ → (ℕ → Type 0) → (before now : Polls) → Type 0
+PolledBy zero own before now = SamePolls before now
+PolledBy (suc n) own before now = (between : Polls) × PolledBy n own before between × ((place : ℕ) × own place × OneMore place between now)
+
+-- the tickets and the polls of a turn, of which so many pended
+pub record IsOwnTurn (held : Option ℕ) (began now : Awaited) (from to : Told) (pended : ℕ) (before after : Polls) : Type 0 where
+  pub tickets : TicketsSince held began now from to
+  pub polls : pended < 2 ^ 64 - 1 → PolledBy pended (IsTurnsCall held began from to) before after
 
 -- ---- the notes of many turns
 

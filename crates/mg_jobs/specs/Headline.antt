@@ -1,5 +1,6 @@
 -- What the jobs of a run know of their server, and what their answers come to.
-use Rattle.std.specs.Prelude.{◌≡◌, ◌⊎◌, ◌++◌, ℕ, List, [], Option, Some, None, length, slice_get}
+use Rattle.std.specs.Prelude.{◌≡◌, ◌⊎◌, ◌++◌, ℕ, List, [], Option, Some, None, Vec, length, slice_get}
+use Rattle.std.specs.declared.alloc.Global.{Global}
 use Rattle.mg_bson.specs.Tree.{Fields, Tree}
 use Rattle.mg_link.specs.Link.{Awaited, Told}
 use Rattle.mg_link.specs.Log.{Call}
@@ -101,8 +102,8 @@ Knowing awaited log log' players = (calls : List Call) → log ≡ Some calls �
 abbrev pub OutcomeOf : Player → Outcome → Type 0
 OutcomeOf (player.Insert job) r = r ≡ outcome.Insert (end_of job.stage)
 OutcomeOf (player.Follow job) r = r ≡ outcome.Follow job.opened job.answers (token_at job.stage job.token) job.alive job.closed
-OutcomeOf player.Put r = Unit {0}
-OutcomeOf player.Get r = Unit {0}
+OutcomeOf player.Put r = r ≡ outcome.Put ended.Unfinished
+OutcomeOf player.Get r = (bytes : Vec ℕ Global) × (r ≡ outcome.Get bytes ended.Unfinished) × (bytes.items ≡ [])
 
 abbrev pub OutcomesOf : List Player → List Outcome → Type 0
 OutcomesOf players outcomes = (i : ℕ) (p : Player) (r : Outcome) → slice_get players i ≡ Some p → slice_get outcomes i ≡ Some r → OutcomeOf p r

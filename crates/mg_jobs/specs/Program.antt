@@ -10,9 +10,9 @@ use Rattle.mg_link.specs.History.{IsLegal}
 use Rattle.mg_link.specs.Kept.{IsByRules, steps_of}
 use Rattle.mg_link.specs.Log.{Call}
 use Rattle.mg_link.specs.Owner.{NamesItsOwn}
-use Rattle.mg_link.specs.Places.{out_at}
+use Rattle.mg_link.specs.Places.{out_at, polls_in}
 use Rattle.mg_link.specs.Standing.{Stands}
-use Rattle.mg_jobs.specs.Causes.{AllWaitAlone, OutcomeCaused, course}
+use Rattle.mg_jobs.specs.Causes.{AllPollOwn, AllWaitAlone, OutcomeCaused, course}
 use Rattle.mg_jobs.specs.Counts.{AreNoted, turns_pended}
 use Rattle.mg_jobs.specs.Fated.{AreItsSteps}
 use Rattle.mg_jobs.specs.Drawing.{as_sent}
@@ -76,11 +76,12 @@ abbrev pub script_ids : Script → ℕ → List ℕ
 script_ids script n = counted_id (script.ids ++ 0 ∷ []) n
 
 -- What the jobs of a run over one link came to. The link's log stands in the history of the run's own store, which is legal and whose steps are by the
--- rules; each of its calls is as the fate of its number in the script says, and each of them names the log's own cursors only. In every
--- legal history in which the log stands each follow answered consecutive entries from its own opening place on; each answer of a follow has its cause among the commands of its own
--- turns; each insert sends its documents with the script's next ids. There is one outcome for each job and one note for each turn, by which it follows
--- how far each job came. As many turns pended as polls of the calls did, each of these as often as its fate says, or less while it waits; and a call that
--- waits was sent in a turn of a job whose newest turn pended, and which waits for no other.
+-- rules; each of its calls is as the fate of its number in the script says, and each of them names the log's own cursors only. In every legal history in
+-- which the log stands each follow answered consecutive entries from its own opening place on; each answer of a follow has its cause among the commands of
+-- its own turns; each insert sends its documents with the script's next ids. There is one outcome for each job and one note for each turn, by which it
+-- follows how far each job came. Each note is true: one poll pended in its turn, or none, as it says, and that of a call which its job sent in the turn, or
+-- waited for; and each call pended as often as its fate says, or less while it waits. A call that waits was sent in a turn of a job whose newest turn
+-- pended by its note, and which waits for no other.
 pub record RunFollowed (run : Run) : Type 0 where
   pub calls : List Call
   pub log_is : run.logs.items ≡ calls ∷ []
@@ -103,6 +104,7 @@ pub record RunFollowed (run : Run) : Type 0 where
   pub notes : length turns.items ≡ length run.script.order.items
   pub noted : AreNoted turns.items (Some []) (Some calls) 0 (pends_in pended)
   pub pended_in_turns : pends_in pended ≡ turns_pended turns.items
+  pub polled : AllPollOwn (Some []) run.script.order.items turns.items (polls_in []) (polls_in pended)
   pub waits_alone : AllWaitAlone (out_at []) (out_at calls) (Some []) run.script.order.items turns.items
 
 -- the run is of the script that was read, over one link

@@ -27,19 +27,19 @@ abbrev pub one_unless : Bool → ℕ
 one_unless true = 0
 one_unless false = 1
 
--- how many of the turns of job i did not pend
+-- how many of the turns of job i did not pend, by their notes
 abbrev pub turns_done : ℕ → List ℕ → List Turned → ℕ
 turns_done i [] notes = 0
 turns_done i (n ∷ order) [] = 0
 turns_done i (n ∷ order) (note ∷ notes) = cond (nat_eq i n) (one_unless note.pended) 0 + turns_done i order notes
 
--- whether the newest of these turns of job i pended, or else the one before them
+-- whether the newest of these turns of job i pended by its note, or else the one before them
 abbrev pub pended_since : Bool → ℕ → List ℕ → List Turned → Bool
 pended_since last i [] notes = last
 pended_since last i (n ∷ order) [] = last
 pended_since last i (n ∷ order) (note ∷ notes) = pended_since (cond (nat_eq i n) note.pended last) i order notes
 
--- whether the newest turn of job i pended, where it had one
+-- whether the newest turn of job i pended by its note, where it had one
 abbrev pub pends_last : ℕ → List ℕ → List Turned → Bool
 pends_last i order notes = pended_since false i order notes
 
@@ -213,7 +213,7 @@ FollowPlayed ended.Unfinished closed calls answered alive k last = (k ≡ 0) × 
 FollowPlayed (ended.Gave x) closed calls answered alive k last = OpenPlayed closed calls answered k last
 FollowPlayed (ended.Failed e) closed calls answered alive k last = (1 ≤ k) × (answered ≡ 0) × (alive ≡ false) × IsUnfinished closed × (last ≡ false)
 
--- a task comes to this outcome by k turns that did not pend, where its newest turn pended or not
+-- a task comes to this outcome by k turns that did not pend, where its newest turn pended or not; puts and gets stay unfinished
 abbrev pub IsPlayed : Task → ℕ → Bool → Outcome → Type 0
 IsPlayed (insert ns docs) k last (outcome.Insert e) = InsertPlayed e k last
 IsPlayed (insert ns docs) k last (outcome.Follow opened answers token alive closed) = ⊥
@@ -223,8 +223,14 @@ IsPlayed (follow on calls start filter batch) k last (outcome.Follow opened answ
 IsPlayed (follow on calls start filter batch) k last (outcome.Insert e) = ⊥
 IsPlayed (follow on calls start filter batch) k last (outcome.Put e) = ⊥
 IsPlayed (follow on calls start filter batch) k last (outcome.Get bytes e) = ⊥
-IsPlayed (put db bucket name id chunk pieces) k last r = Unit {0}
-IsPlayed (get db bucket id read) k last r = Unit {0}
+IsPlayed (put db bucket name id chunk pieces) k last (outcome.Put e) = IsUnfinished e
+IsPlayed (put db bucket name id chunk pieces) k last (outcome.Insert e) = ⊥
+IsPlayed (put db bucket name id chunk pieces) k last (outcome.Follow opened answers token alive closed) = ⊥
+IsPlayed (put db bucket name id chunk pieces) k last (outcome.Get bytes e) = ⊥
+IsPlayed (get db bucket id read) k last (outcome.Get bytes e) = (bytes.items ≡ []) × IsUnfinished e
+IsPlayed (get db bucket id read) k last (outcome.Insert e) = ⊥
+IsPlayed (get db bucket id read) k last (outcome.Follow opened answers token alive closed) = ⊥
+IsPlayed (get db bucket id read) k last (outcome.Put e) = ⊥
 
 -- each job's outcome is what its turns brought
 abbrev pub AllPlayed : List Task → List ℕ → List Turned → List Outcome → Type 0

@@ -1,7 +1,7 @@
 //! A link over which the commands of a turn are counted.
-ghost use Rattle.std.specs.Prelude.{◌≡◌, ℕ, nat_lt};
-ghost use Rattle.mg_link.specs.Link.{Told};
-ghost use Rattle.mg_jobs.specs.Counts.{Counted};
+ghost use Rattle.std.specs.Prelude.{◌≡◌, ℕ, Option, nat_lt};
+ghost use Rattle.mg_link.specs.Link.{Awaited, Polls, Told};
+ghost use Rattle.mg_jobs.specs.Counts.{Counted, IsOwnTurn};
 
 use mg_bson::RawDocument;
 use mg_link::{Link, LinkError, Polled, Ticket};
@@ -13,8 +13,17 @@ pub(crate) trait Began {
     /// The calls of the link, where it tells them.
     ghost calls: { Told };
 
+    /// Its tickets that were out.
+    ghost awaited: { Awaited };
+
+    /// The ticket that the job of the turn held.
+    ghost held: { Option ℕ };
+
     /// The count of its pending replies.
     ghost pends: { ℕ };
+
+    /// How many polls of each call pended.
+    ghost polls: { Polls };
 
     /// Holds where it was prompt.
     ghost prompts: { Type 0 };
@@ -25,13 +34,19 @@ impl Began for Brand {
 
     ghost calls = { None };
 
+    ghost awaited = { λ ticket. None };
+
+    ghost held = { None };
+
     ghost pends = { 0 };
+
+    ghost polls = { λ place. 0 };
 
     ghost prompts = { ⊥ };
 }
 
 /// A link that counts what a turn does over it. To clauses it is the link behind it, and how many of the turn's replies
-/// pended.
+/// pended. It shows the turn no ticket of another job, so that only calls of its own are polled in it.
 pub(crate) struct Counting<L: Link, B: Began> {
     link: L,
     started: u64,
@@ -41,20 +56,23 @@ pub(crate) struct Counting<L: Link, B: Began> {
 
 impl<L: Link, B: Began> Model for Counting<L, B> {
     ghost use Rattle.std.specs.Prelude.{ℕ};
-    ghost use Rattle.mg_jobs.specs.Counts.{Counted};
+    ghost use Rattle.mg_jobs.specs.Counts.{Counted, IsOwnTurn};
 
     ghost Value = { L × ℕ };
 
     ghost view = { λ c. (c.link, c.pended) };
 
-    ghost invariant = { λ c. Counted B.calls (L.log c.link) c.started c.pended B.pends (L.pends c.link) B.prompts (L.prompt c.link) };
+    ghost invariant = { λ c. Counted B.calls (L.log c.link) c.started c.pended B.pends (L.pends c.link) B.prompts (L.prompt c.link)
+        × IsOwnTurn B.held B.awaited (L.awaited c.link) B.calls (L.log c.link) c.pended B.polls (L.polls c.link) };
 }
 
 impl<L: Link, B: Began> Counting<L, B> {
     /// Nothing is counted yet.
     pub(crate) fn new(link: L) -> Counting<L, B>
         requires calls { L.log link ≡ B.calls }
+        requires awaited { L.awaited link ≡ B.awaited }
         requires pends { L.pends link ≡ B.pends }
+        requires polls { L.polls link ≡ B.polls }
         requires prompts { B.prompts → L.prompt link }
         ensures link { result.0 ≡ link }
         ensures none { result.1 ≡ 0 }
@@ -71,6 +89,7 @@ impl<L: Link, B: Began> Counting<L, B> {
     pub(crate) fn into_parts(self) -> (L, Turned)
         ensures link { result.0 ≡ self.0 }
         ensures counted { Counted B.calls (L.log self.0) result.1.started self.1 B.pends (L.pends self.0) B.prompts (L.prompt self.0) }
+        ensures own { IsOwnTurn B.held B.awaited (L.awaited self.0) B.calls (L.log self.0) self.1 B.polls (L.polls self.0) }
         ensures pended { result.1.pended ≡ nat_lt 0 self.1 }
     {
         let Counting {
@@ -90,13 +109,17 @@ impl<L: Link, B: Began> Counting<L, B> {
 }
 
 impl<L: Link, B: Began> Link for Counting<L, B> {
+    ghost use Rattle.mg_jobs.specs.Counts.{shown};
+
     ghost faults = { λ c. L.faults c.0 };
 
     ghost pends = { λ c. c.1 };
 
+    ghost polls = { λ c. L.polls c.0 };
+
     ghost log = { λ c. L.log c.0 };
 
-    ghost awaited = { λ c. L.awaited c.0 };
+    ghost awaited = { λ c. shown B.held B.awaited (L.awaited c.0) };
 
     ghost prompt = { λ c. L.prompt c.0 };
 

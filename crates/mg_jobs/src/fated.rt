@@ -70,12 +70,14 @@ impl<F: Fated> FatedLink<F> {
 
 impl<F: Fated> Link for FatedLink<F> {
     ghost use Rattle.std.specs.Prelude.{Some};
-    ghost use Rattle.mg_link.specs.Places.{out_at};
+    ghost use Rattle.mg_link.specs.Places.{out_at, polls_in};
     ghost use Rattle.mg_store.specs.InMemory.{IsPrompt, faults_in, pends_in};
 
     ghost faults = { λ m. faults_in m.calls };
 
     ghost pends = { λ m. pends_in m.pended };
+
+    ghost polls = { λ m. polls_in m.pended };
 
     ghost log = { λ m. Some m.calls };
 

@@ -4,7 +4,7 @@ ghost use Rattle.std.specs.List.{All, sum_by};
 ghost use Rattle.mg_link.specs.Errors.{plain};
 ghost use Rattle.mg_link.specs.Link.{Awaited, Later, Told};
 ghost use Rattle.mg_link.specs.Causes.{RoseJust};
-ghost use Rattle.mg_jobs.specs.Counts.{AreNoted, IsNoted, LosesNothing, StartedBy, turns_pended};
+ghost use Rattle.mg_jobs.specs.Counts.{AreNoted, IsNoted, IsTurnsCall, LosesNothing, PolledBy, StartedBy, one_if, turns_pended};
 ghost use Rattle.mg_jobs.specs.Drawing.{AreLater, HaveDrawn, JobHasIds, drawn_in, turn_draws};
 ghost use Rattle.mg_jobs.specs.Runs.{AreHeld, AreNew, AreSameJobs, CanGo, Draws, Goes, IsNew, IsReady, IsSameJob, JobHolds, Stands, has_ended, idle, job_ended, job_ticket};
 ghost use Rattle.mg_link.specs.Log.{Call};
@@ -12,7 +12,7 @@ ghost use Rattle.mg_link.specs.Owner.{Owner};
 ghost use Rattle.mg_jobs.specs.Headline.{AllFollowed, AreFirst, GoesOnNaming, DoTasks, Does, IsFirst, IsSameTask, Knowing, OutcomeOf, OutcomesOf, Plays};
 ghost use Rattle.mg_script.specs.Plan.{Task, task, tasks};
 ghost use Rattle.mg_jobs.specs.Progress.{AllAt, AllPlayed, GoesBy, IsAt, IsReadyAt, JobGoes, TurnsBy, calls_of};
-ghost use Rattle.mg_jobs.specs.Causes.{AllCaused, AllWaitAlone};
+ghost use Rattle.mg_jobs.specs.Causes.{AllCaused, AllPollOwn, AllWaitAlone, PollsOwn};
 ghost use Rattle.mg_jobs.specs.Completing.{AllWell};
 ghost use Rattle.mg_script.specs.Script.{first_missing};
 ghost use Rattle.mg_jobs.specs.Telling.{AllTell, IsSameTeller};
@@ -170,12 +170,16 @@ fn counted_since<'a, L: Link, B: Began>(link: L, turn: Turn<'a>) -> (L, Gone<'a>
     requires can { CanGo (L.awaited link) (L.wire link) turn.player }
     requires ready { IsReady turn.player }
     requires calls { L.log link ≡ B.calls }
+    requires awaited { L.awaited link ≡ B.awaited }
+    requires held { job_ticket turn.player ≡ B.held }
     requires pends { L.pends link ≡ B.pends }
+    requires polls { L.polls link ≡ B.polls }
     requires prompts { B.prompts → L.prompt link }
     ensures goes { Goes (L.awaited link) (L.awaited result.0) (L.log link) (L.log result.0) (L.wire result.0) turn.entry.player result.1.player }
     ensures later { Later (L.faults link) (L.faults result.0) (L.pends link) (L.pends result.0)
         (L.wire link) (L.wire result.0) (L.prompt link) (L.prompt result.0) }
     ensures noted { IsNoted result.1.note B.calls (L.log result.0) B.pends (L.pends result.0) B.prompts (L.prompt result.0) }
+    ensures polled { PolledBy (one_if result.1.note.pended) (IsTurnsCall (job_ticket turn.entry.player) (L.awaited link) (L.log link) (L.log result.0)) (L.polls link) (L.polls result.0) }
     ensures comes { GoesBy result.1.note turn.entry.player result.1.player }
 {
     let Turn { alloc, player } = turn;
@@ -193,6 +197,7 @@ fn counted<'a, L: Link>(link: L, turn: Turn<'a>) -> (L, Gone<'a>)
     ensures later { Later (L.faults link) (L.faults result.0) (L.pends link) (L.pends result.0)
         (L.wire link) (L.wire result.0) (L.prompt link) (L.prompt result.0) }
     ensures noted { IsNoted result.1.note (L.log link) (L.log result.0) (L.pends link) (L.pends result.0) (L.prompt link) (L.prompt result.0) }
+    ensures polled { PolledBy (one_if result.1.note.pended) (IsTurnsCall (job_ticket turn.entry.player) (L.awaited link) (L.log link) (L.log result.0)) (L.polls link) (L.polls result.0) }
     ensures comes { GoesBy result.1.note turn.entry.player result.1.player }
 {
     counted_since::<L, Brand>(link, turn)
@@ -206,6 +211,7 @@ fn take_turn<'a, L: Link>(player: &mut Player<'a>, alloc: Global, link: &mut L) 
     ensures later { Later (L.faults link.old) (L.faults link.new) (L.pends link.old) (L.pends link.new)
         (L.wire link.old) (L.wire link.new) (L.prompt link.old) (L.prompt link.new) }
     ensures noted { IsNoted result (L.log link.old) (L.log link.new) (L.pends link.old) (L.pends link.new) (L.prompt link.old) (L.prompt link.new) }
+    ensures polled { PolledBy (one_if result.pended) (IsTurnsCall (job_ticket player.old) (L.awaited link.old) (L.log link.old) (L.log link.new)) (L.polls link.old) (L.polls link.new) }
     ensures comes { GoesBy result player.old player.new }
 {
     let turn = Turn {
@@ -230,6 +236,7 @@ fn turn_of<'a, L: Link, I: IdSource>(
     ensures later { Later (L.faults link.old) (L.faults link.new) (L.pends link.old) (L.pends link.new)
         (L.wire link.old) (L.wire link.new) (L.prompt link.old) (L.prompt link.new) }
     ensures noted { IfOk result (λ n. IsNoted n (L.log link.old) (L.log link.new) (L.pends link.old) (L.pends link.new) (L.prompt link.old) (L.prompt link.new)) }
+    ensures polled { IfOk result (λ n. PolledBy (one_if n.pended) (IsTurnsCall (job_ticket player.old) (L.awaited link.old) (L.log link.old) (L.log link.new)) (L.polls link.old) (L.polls link.new)) }
     ensures comes { IfOk result (λ n. TurnsBy n player.old player.new) }
     ensures draws { OnOk result (Draws (I.ids ids.old) (I.ids ids.new) (L.awaited link.new) (L.log link.old) (L.log link.new) (L.wire link.new) player.old player.new) }
     ensures ended { has_ended player.old ≡ true → (result ≡ Ok idle) × (link.new ≡ link.old) × (player.new ≡ player.old) }
@@ -318,6 +325,12 @@ impl<'a> Runner<'a> {
             → HaveDrawn first (I.ids ids.old) ts order self.old.players.items
             → AllTell first (L.awaited link.old) begun (L.log link.old) (L.wire link.old) ts order self.old.turns.items self.old.players.items
             → AllTell first (L.awaited link.new) begun (L.log link.new) (L.wire link.new) ts (order ++ job ∷ []) self.new.turns.items self.new.players.items) }
+        // It polled calls of its own job alone, and one poll pended just where the note says so.
+        ensures polled { OnOk result ((note : _) × (self.new.turns.items ≡ self.old.turns.items ++ note ∷ [])
+            × ((first : ℕ → List ℕ) (begun : Told) (ts : List Task) (order : List ℕ) → AllAt ts order self.old.turns.items self.old.players.items
+            → HaveDrawn first (I.ids ids.old) ts order self.old.players.items
+            → AllTell first (L.awaited link.old) begun (L.log link.old) (L.wire link.old) ts order self.old.turns.items self.old.players.items
+            → PollsOwn begun order self.old.turns.items job note (L.polls link.old) (L.polls link.new))) }
         // E15 just where the number names no job, and otherwise want of memory.
         ensures missing { length self.old.players.items ≤ job → result ≡ Err (plain (ErrorKind.NoSuchJob job)) }
         ensures err { IfErr result (λ e. ((e ≡ plain (ErrorKind.NoSuchJob job)) × (length self.old.players.items ≤ job)) ⊎ (e ≡ plain ErrorKind.OutOfMemory)) }
@@ -396,6 +409,10 @@ fn play<L: Link, I: IdSource>(
         → HaveDrawn first (I.ids ids.old) ts [] runner.old.players.items
         → AllTell first (L.awaited link.old) begun (L.log link.old) (L.wire link.old) ts [] [] runner.old.players.items
         → AllTell first (L.awaited link.new) begun (L.log link.new) (L.wire link.new) ts order.now runner.new.turns.items runner.new.players.items) }
+    ensures polled { OnOk result ((first : ℕ → List ℕ) (begun : Told) (ts : List Task) → DoTasks ts runner.old.players.items → AllAt ts [] [] runner.old.players.items
+        → HaveDrawn first (I.ids ids.old) ts [] runner.old.players.items
+        → AllTell first (L.awaited link.old) begun (L.log link.old) (L.wire link.old) ts [] [] runner.old.players.items
+        → AllPollOwn begun order.now runner.new.turns.items (L.polls link.old) (L.polls link.new)) }
     ensures err { IfErr result (λ e. e ≡ plain ErrorKind.OutOfMemory) }
 {
     for number in order {
@@ -435,8 +452,8 @@ pub fn run_jobs<L: Link, I: IdSource>(
     // one that failed did so; what it sends has the ids that it drew. One that is unfinished, and whose last turn pended,
     // waits for the reply to a command of its own.
     ensures caused { IfOk result (λ p. AllCaused (I.ids ids.old) (L.awaited link.new) (L.log link.old) (L.log link.new) (L.wire link.old) (tasks jobs.now) order.now p.turns.items p.outcomes.items) }
-    // Over a link that tells its log, each call that waits for its reply was sent in a turn of a job whose newest turn pended,
-    // and that job waits for no other, unless a ticket was out for the same call before the run.
+    // Over a link that tells its log, each call that waits for its reply was sent in a turn of a job whose newest turn pended
+    // by its note, and that job waits for no other, unless a ticket was out for the same call before the run.
     ensures waits_alone { IfOk result (λ p. AllWaitAlone (L.awaited link.old) (L.awaited link.new) (L.log link.old) order.now p.turns.items) }
     // Over a prompt link each job ends well, where its server holds nothing back.
     ensures complete { L.prompt link.old → IfOk result (λ p. AllWell (I.ids ids.old) (L.log link.old) (L.log link.new) (tasks jobs.now) order.now p.turns.items p.outcomes.items) }
@@ -447,6 +464,9 @@ pub fn run_jobs<L: Link, I: IdSource>(
     // many turns pended as that count rose by.
     ensures noted { IfOk result (λ p. AreNoted p.turns.items (L.log link.old) (L.log link.new) (L.pends link.old) (L.pends link.new)) }
     ensures pended { IfOk result (λ p. RoseJust (turns_pended p.turns.items) (L.pends link.old) (L.pends link.new)) }
+    // Over a link that tells its log each note is true: one poll pended in its turn, or none, as it says, and that of a call
+    // which its job sent in that turn, or waited for since the one before.
+    ensures polled { IfOk result (λ p. AllPollOwn (L.log link.old) order.now p.turns.items (L.polls link.old) (L.polls link.new)) }
     // The notes count what was started, and over a prompt link no turn pends.
     ensures started { IfOk result (λ p. StartedBy (sum_by (λ t. t.started) p.turns.items) (L.log link.old) (L.log link.new)) }
     ensures prompt { L.prompt link.old → IfOk result (λ p. All (λ t. t.pended ≡ false) p.turns.items) }

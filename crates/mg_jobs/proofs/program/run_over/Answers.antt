@@ -4,7 +4,7 @@ use Rattle.mg_link.specs.Ids.{counted_id}
 use Rattle.mg_link.specs.History.{IsLegal}
 use Rattle.mg_link.specs.Kept.{IsByRules, steps_of}
 use Rattle.mg_link.specs.Log.{Call}
-use Rattle.mg_link.specs.Places.{out_at}
+use Rattle.mg_link.specs.Places.{out_at, polls_in}
 use Rattle.mg_link.specs.Standing.{Stands}
 use Rattle.mg_link.proofs.Owners.{same_some}
 use Rattle.mg_link.proofs.Runs.{names_none_at_first}
@@ -13,7 +13,7 @@ use Rattle.mg_link.specs.Link.{Told}
 use Rattle.mg_jobs.specs.Counts.{AreNoted}
 use Rattle.mg_jobs.specs.Fated.{AreItsSteps}
 use Rattle.mg_jobs.specs.Progress.{AllPlayed}
-use Rattle.mg_jobs.specs.Causes.{AllWaitAlone, OutcomeCaused, course}
+use Rattle.mg_jobs.specs.Causes.{AllPollOwn, AllWaitAlone, OutcomeCaused, course}
 use Rattle.mg_jobs.specs.Drawing.{as_sent}
 use Rattle.mg_jobs.specs.Headline.{OutcomeFollowed}
 use Rattle.mg_jobs.specs.Program.{script_ids}
@@ -79,6 +79,12 @@ returns-clause-followed g c =
       notes = c.in_ok-played.ensures.turns ∙ ap length c.as_slice-2.ensures.value;
       noted = noted;
       pended_in_turns = let few = c.in_ok-played.played.turns.ok.0 in turns_counted notes (pends_in link.pended) (omega (arith, few)) (noted_rose notes (Some []) (Some f.0) 0 (pends_in link.pended) noted);
+      polled =
+          let order = c.args.script.order.items in
+          subst (λ (ps : List ℕ). AllPollOwn (Some []) order notes (polls_in []) (polls_in ps)) (sym (ap (λ m. m.pended) c.into_link.ensures.link))
+          (subst (λ (ps : List ℕ). AllPollOwn (Some []) order notes (polls_in ps) (polls_in c.run_jobs.new.link.pended)) (ap (λ m. m.pended) c.new-link.ensures ∙ c.requires.unpolled)
+          (subst (λ (l : Told). AllPollOwn l order notes (polls_in c.new-link.result.pended) (polls_in c.run_jobs.new.link.pended)) begins
+          (subst (λ (o : List ℕ). AllPollOwn (Some c.new-link.result.calls) o notes (polls_in c.new-link.result.pended) (polls_in c.run_jobs.new.link.pended)) c.as_slice-2.ensures.value c.in_ok-played.ensures.polled)));
       waits_alone =
           let begun = ap (λ m. m.calls) c.new-link.ensures ∙ c.requires.unused in
           subst (λ (l : List Call). AllWaitAlone (out_at l) (out_at f.0) (Some l) c.args.script.order.items notes) begun

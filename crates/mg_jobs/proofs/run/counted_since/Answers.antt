@@ -1,8 +1,25 @@
 use Rattle.std.proofs.Common.{subst, sym}
-use Rattle.mg_jobs.specs.Counts.{IsNoted}
+use Rattle.mg_link.specs.Link.{Awaited, Told}
+use Rattle.mg_jobs.specs.Counts.{IsNoted, TicketsSince, shown}
+use Rattle.mg_jobs.specs.Runs.{Goes}
 use Rattle.mg_jobs.proofs.Advancing.{noted_once, noted_so}
+use Rattle.mg_jobs.proofs.Showing.{goes_shown}
 use Rattle.mg_jobs.proofs.Tallies.{is_noted}
 use Rattle.mg_jobs.proofs.run.counted_since.Goals as goal
+
+pub returns-clause-goes : goal.returns-clause-goes
+returns-clause-goes g c =
+    let held = g.B.Began.held in
+    let began = g.B.Began.awaited in
+    let link = c.go-player.new.link.0 in
+    let p = c.args.turn.player in
+    let p' = c.go-player.result in
+    let goes = subst (λ (a : Awaited). Goes (shown held began a) (shown held began (g.L.Link.awaited link)) (g.L.Link.log c.args.link) (g.L.Link.log link) (g.L.Link.wire link) p p') c.requires.awaited
+        (subst (λ l. Goes (shown held began (g.L.Link.awaited l)) (shown held began (g.L.Link.awaited link)) (g.L.Link.log l) (g.L.Link.log link) (g.L.Link.wire link) p p') c.new-counting.ensures.link c.go-player.ensures.goes) in
+    let since = subst (λ (l : Told). TicketsSince held began (g.L.Link.awaited link) l (g.L.Link.log link)) (sym c.requires.calls) c.into_parts-link.ensures.own.tickets in
+    subst (λ l. Goes (g.L.Link.awaited c.args.link) (g.L.Link.awaited l) (g.L.Link.log c.args.link) (g.L.Link.log l) (g.L.Link.wire l) p p') (sym c.into_parts-link.ensures.link)
+    (subst (λ (a : Awaited). Goes a (g.L.Link.awaited link) (g.L.Link.log c.args.link) (g.L.Link.log link) (g.L.Link.wire link) p p') (sym c.requires.awaited)
+    (goes_shown held began (g.L.Link.awaited link) (g.L.Link.log c.args.link) (g.L.Link.log link) (g.L.Link.wire link) p p' c.requires.held since goes))
 
 pub returns-clause-comes : goal.returns-clause-comes
 returns-clause-comes g c = noted_so _ _ c.into_parts-link.result.1 _ _ c.new-counting.ensures.none c.into_parts-link.ensures.pended c.go-player.ensures.comes

@@ -9,6 +9,7 @@ use Rattle.mg_jobs.proofs.Advancing.{rows_so}
 use Rattle.mg_jobs.proofs.Completing.{well_so}
 use Rattle.mg_jobs.proofs.Drawing.{drawn_first, drawn_so}
 use Rattle.mg_jobs.proofs.Waiting.{wait_so}
+use Rattle.mg_jobs.proofs.Polling.{polls_so}
 use Rattle.mg_jobs.proofs.Tallies.{noted_so, pended_so}
 use Rattle.mg_jobs.proofs.Told.{caused_so, followed_so, tell_as, tell_first}
 use Rattle.mg_jobs.proofs.run.run_jobs.Goals as goal
@@ -85,3 +86,10 @@ returns-clause-noted g c = noted_so c.into_played.result c.play.new.runner.turns
 
 pub returns-clause-pended : goal.returns-clause-pended
 returns-clause-pended g c = pended_so c.into_played.result _ _ _ _ (returns-clause-noted g c)
+
+pub returns-clause-polled : goal.returns-clause-polled
+returns-clause-polled g c =
+    let jobs = c.in_ok-runner.ensures.jobs ∙ sym (length-map c.args.jobs.now task) in
+    let first = drawn_first (g.I.IdSource.ids c.args.ids.now) (tasks c.args.jobs.now) c.in_ok-runner.runner.players.items jobs c.in_ok-runner.ensures.first in
+    polls_so c.into_played.result _ c.args.order.now c.play.new.runner.turns.items _ _ c.into_played.ensures.turns
+    (c.in_ok-play.ensures.polled _ (g.L.Link.log c.args.link.now) (tasks c.args.jobs.now) c.in_ok-runner.ensures.tasks c.in_ok-runner.ensures.at first (tell_first _ _ _ _ (tasks c.args.jobs.now) c.in_ok-runner.runner.players.items c.in_ok-runner.ensures.first))

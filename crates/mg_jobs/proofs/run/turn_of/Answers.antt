@@ -2,6 +2,7 @@ use Rattle.std.proofs.Common.{sym, subst, ◌∙◌}
 use Rattle.mg_link.specs.Acts.{IsOut, Tickets}
 use Rattle.mg_link.proofs.Onward.{tickets_same}
 use Rattle.mg_jobs.proofs.Knowing.{turned_not, turned_ready}
+use Rattle.mg_jobs.specs.Counts.{IsTurnsCall, PolledBy, one_if}
 use Rattle.mg_jobs.specs.Follows.{same_place}
 use Rattle.mg_jobs.specs.Runs.{job_ticket}
 use Rattle.mg_jobs.proofs.Advancing.{over_turns}
@@ -62,3 +63,7 @@ returns-clause-draws g c = record {
   has = turned_has _ _ _ _ _ c.ready.new.self c.take_turn.new.player _ c.take_turn.ensures.goes.told c.in_ok-ready.ensures.has;
   first = ready_first _ _ _ _ _ _ c.args.player.now c.ready.new.self c.take_turn.new.player _ c.in_ok-ready.ensures.teller c.take_turn.ensures.goes.told;
 }
+
+pub returns-clause-polled : goal.returns-clause-polled
+returns-clause-polled g c =
+    subst (λ t. PolledBy (one_if c.take_turn.result.pended) (IsTurnsCall t (g.L.Link.awaited c.args.link.now) (g.L.Link.log c.args.link.now) (g.L.Link.log c.take_turn.new.link)) (g.L.Link.polls c.args.link.now) (g.L.Link.polls c.take_turn.new.link)) c.in_ok-ready.ensures.ticket c.take_turn.ensures.polled

@@ -10,6 +10,7 @@ use Rattle.mg_jobs.proofs.Knowing.{knowing_on, tasks_after}
 use Rattle.mg_jobs.proofs.Advancing.{at_after}
 use Rattle.mg_jobs.proofs.Drawing.{drawn_on}
 use Rattle.mg_jobs.proofs.Waiting.{held_turn}
+use Rattle.mg_jobs.proofs.Polling.{polls_turn}
 use Rattle.mg_jobs.proofs.Told.{all_turn, tell_as}
 use Rattle.mg_jobs.specs.Progress.{AllAt}
 use Rattle.mg_jobs.specs.Telling.{AllTell}
@@ -145,3 +146,15 @@ returns-clause-told g c = λ first begun ts order same all drawn tell.
     (apart_as _ _ _ c.args.self.now.players.items c.turn_of.ensures.later.wire c.requires) c.turn_of.ensures.goes c.in_ok-note.note c.in_ok-note.ensures.noted.starts c.in_ok-note.ensures.noted.stays
     (λ over. let idles = c.in_ok-note.ensures.ended over in let is : c.in_ok-note.note ≡ idle = cc idles.0 in ap (λ (n : Turned). n.started) is)
     (g.I.IdSource.ids c.args.ids.now) c.in_ok-note.ensures.draws.first first begun ts order c.args.self.now.turns.items same all drawn (tell_as _ _ _ _ _ _ ts order c.args.self.now.turns.items c.args.self.now.players.items c.turn_of.ensures.later.wire tell))
+
+pub returns-clause-polled : goal.returns-clause-polled
+returns-clause-polled g c =
+    let ok = c.args.self.now.players.ok.0 in
+    let within : c.args.job < length c.args.self.now.players.items = omega (arith, c.len.ensures, c.if-at-len.false) in
+    let at = slice_get_read c.args.self.now.players.items (length c.args.self.now.players.items) c.args.job c.index_mut-player.result.now refl within c.index_mut-player.ensures.value in (
+      c.in_ok-note.note,
+      c.push_reserved.ensures ∙ ap (λ l. l ++ c.in_ok-note.note ∷ []) c.in_ok-reserve.ensures.items,
+      λ first begun ts order all drawn tell.
+          polls_turn first (g.I.IdSource.ids c.args.ids.now) (g.L.Link.awaited c.args.link.now) (g.L.Link.log c.args.link.now) (g.L.Link.log c.turn_of.new.link) (g.L.Link.wire c.args.link.now) ts order c.args.self.now.turns.items c.args.self.now.players.items c.args.job c.index_mut-player.result.now c.in_ok-note.note
+          (g.L.Link.polls c.args.link.now) (g.L.Link.polls c.turn_of.new.link) begun at c.in_ok-note.ensures.noted.starts all drawn tell c.in_ok-note.ensures.polled,
+    )

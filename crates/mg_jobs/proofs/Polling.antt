@@ -1,0 +1,97 @@
+-- Whose calls are polled in the turns of a run.
+use Rattle.std.proofs.Common.{◌≡◌, ◌+◌, ◌≤◌, ℕ, zero, suc, ℤ, List, [], ◌∷◌, ◌++◌, length, Option, Some, Result, Ok, Err, IfOk, refl, sym, ap, ◌∙◌, subst, inl, inr, take, arith, append_assoc}
+use Rattle.std.specs.Prelude.{slice_get}
+use Rattle.std.proofs.lemmas.List.{append-nil, take_all}
+use Rattle.mg_link.specs.Link.{Awaited, Polls, SamePolls, Told}
+use Rattle.mg_link.specs.Log.{Call}
+use Rattle.mg_link.specs.declared.error.Error.{Error}
+use Rattle.mg_link.proofs.Owners.{same_some}
+use Rattle.mg_jobs.specs.Causes.{AllPollOwn, IsPolledIn, PollOwnFrom, PollsOwn, SentIn, course}
+use Rattle.mg_jobs.specs.Counts.{IsOwnTurn, IsTurnsCall, PolledBy, StartedBy, one_if}
+use Rattle.mg_jobs.specs.Drawing.{HaveDrawn, first_id}
+use Rattle.mg_jobs.specs.Progress.{AllAt, calls_of, pends_last, turns_done}
+use Rattle.mg_jobs.specs.Runs.{job_ticket}
+use Rattle.mg_jobs.specs.Telling.{AllTell}
+use Rattle.mg_script.specs.Plan.{Task}
+use Rattle.mg_script.specs.declared.outcome.Played.{Played}
+use Rattle.mg_script.specs.declared.outcome.Turned.{Turned}
+use Rattle.mg_jobs.specs.declared.run.Player.{Player}
+use Rattle.mg_jobs.proofs.Knowing.{get_length, one_more, take_next}
+use Rattle.mg_jobs.proofs.OwnTickets.{polled_map}
+use Rattle.mg_jobs.proofs.Waiting.{job_own, job_pended}
+
+-- ---- one turn
+
+-- of a turn whose polls were counted
+pub polled_in : (held : Option ℕ) (began now : Awaited) (from to : Told) (n pended : ℕ) (before after : Polls) → n ≡ pended → pended ≤ 1 → IsOwnTurn held began now from to n before after → PolledBy pended (IsTurnsCall held began from to) before after
+polled_in held began now from to n pended before after is few own = subst (λ m. PolledBy m (IsTurnsCall held began from to) before after) is (own.polls (omega (arith, is, few)))
+
+-- nothing was polled
+pub polled_none : (own : ℕ → Type 0) (polls : Polls) → PolledBy 0 own polls polls
+polled_none own polls = λ place. refl
+
+-- The call that was polled is one that the turn's job sent in it, or that it waited for.
+pub polls_turn : (ids given : ℕ → List ℕ) (old : Awaited) (log log' : Told) (wire : ℤ) (ts : List Task) (order : List ℕ) (notes : List Turned) (players : List Player) (j : ℕ) (p : Player) (note : Turned) (polls polls' : Polls) (begun : Told) → slice_get players j ≡ Some p → StartedBy note.started log log'
+    → AllAt ts order notes players → HaveDrawn ids given ts order players → AllTell ids old begun log wire ts order notes players → PolledBy (one_if note.pended) (IsTurnsCall (job_ticket p) old log log') polls polls' → PollsOwn begun order notes j note polls polls'
+polls_turn ids given old log log' wire ts order notes players j p note polls polls' begun at started all drawn tell polled calls told =
+    let run = tell calls told in
+    let t = get_length ts players drawn.jobs j p at in
+    let count = run.3.count in
+    polled_map (one_if note.pended) (IsTurnsCall (job_ticket p) old log log') (IsPolledIn calls order notes j note) polls polls'
+    (λ place own. elim own [
+      | inl held ↦
+          let it = job_own ids (first_id ts order j) old run.0 wire (course calls order notes) j p (run.2.places j) held.0 (drawn.each j p at) (run.3.each j t.0 p t.1 at) held.1 in
+          inr (
+            job_pended (calls_of t.0) p (turns_done j order notes) (pends_last j order notes) held.0 (all j t.0 p t.1 at) held.1,
+            (it.done, subst (λ n. SentIn (course calls order notes) j it.done n) (same_some it.place place (sym it.at ∙ held.2)) it.sent),
+          )
+      | inr between ↦
+          let s = started run.0 run.1 in
+          let b = between run.0 run.1 in
+          let same : b.0 ≡ s.0 = same_some b.0 s.0 (sym b.1 ∙ s.1) in
+          let low = b.2 in
+          let high = b.3 in
+          let grew = s.2 in
+          let length_is : length b.0 ≡ length s.0 = ap (λ (l : List Call). length l) same in
+          inl (omega (arith, low, count), omega (arith, high, length_is, grew, count))
+    ])
+    polled
+
+-- ---- turn by turn
+
+polled_from : (n : ℕ) (own : ℕ → Type 0) (before mid now : Polls) → SamePolls before mid → PolledBy n own mid now → PolledBy n own before now
+polled_from zero own before mid now same p = λ place. p place ∙ same place
+polled_from (suc n) own before mid now same p = (p.0, polled_from n own before mid p.0 same p.1, p.2)
+
+-- one turn more
+pub polls_more : (calls : List Call) (gone : List ℕ) (noted : List Turned) (order : List ℕ) (notes : List Turned) (i : ℕ) (note : Turned) (before mid now : Polls) → length order ≡ length notes → PollOwnFrom calls gone noted order notes before mid
+    → PolledBy (one_if note.pended) (IsPolledIn calls (gone ++ order) (noted ++ notes) i note) mid now → PollOwnFrom calls gone noted (order ++ i ∷ []) (notes ++ note ∷ []) before now
+polls_more calls gone noted [] [] i note before mid now abreast first polled = (
+  now,
+  polled_from (one_if note.pended) (IsPolledIn calls gone noted i note) before mid now first
+      (subst (λ (g : List ℕ). PolledBy (one_if note.pended) (IsPolledIn calls g noted i note) mid now) (append-nil gone) (subst (λ (ns : List Turned). PolledBy (one_if note.pended) (IsPolledIn calls (gone ++ []) ns i note) mid now) (append-nil noted) polled)),
+  λ place. refl,
+)
+polls_more calls gone noted [] (y ∷ notes) i note before mid now abreast first polled = absurd (omega (arith, abreast))
+polls_more calls gone noted (x ∷ order) [] i note before mid now abreast first polled = absurd (omega (arith, abreast))
+polls_more calls gone noted (x ∷ order) (y ∷ notes) i note before mid now abreast first polled = (
+  first.0,
+  first.1,
+  polls_more calls (gone ++ x ∷ []) (noted ++ y ∷ []) order notes i note first.0 mid now (omega (arith, abreast)) first.2
+      (subst (λ (g : List ℕ). PolledBy (one_if note.pended) (IsPolledIn calls g ((noted ++ y ∷ []) ++ notes) i note) mid now) (sym (append_assoc gone (x ∷ []) order))
+      (subst (λ (ns : List Turned). PolledBy (one_if note.pended) (IsPolledIn calls (gone ++ x ∷ order) ns i note) mid now) (sym (append_assoc noted (y ∷ []) notes)) polled)),
+)
+
+-- the turn of this number was taken too
+pub polls_next : (begun : Told) (order : List ℕ) (k i : ℕ) (notes : List Turned) (note : Turned) (before mid now : Polls) → slice_get order k ≡ Some i → length (take k order) ≡ length notes → AllPollOwn begun (take k order) notes before mid → PollsOwn begun (take k order) notes i note mid now → AllPollOwn begun (take (k + 1) order) (notes ++ note ∷ []) before now
+polls_next begun order k i notes note before mid now there abreast all polled calls told =
+    subst (λ (ns : List ℕ). PollOwnFrom calls [] [] ns (notes ++ note ∷ []) before now) (sym (take_next order k i there) ∙ ap (λ m. take m order) (one_more k))
+    (polls_more calls [] [] (take k order) notes i note before mid now abreast (all calls told) (polled calls told))
+
+pub polls_whole : (begun : Told) (order : List ℕ) (k : ℕ) (notes : List Turned) (before now : Polls) → length order ≤ k → AllPollOwn begun (take k order) notes before now → AllPollOwn begun order notes before now
+polls_whole begun order k notes before now over all = subst (λ (ns : List ℕ). AllPollOwn begun ns notes before now) (take_all k order over) all
+
+-- the same of a run, unless memory ran out
+pub polls_so : (played : Result Played Error) (log : Told) (order : List ℕ) (notes : List Turned) (before now : Polls) → IfOk played (λ p. p.turns.items ≡ notes) → AllPollOwn log order notes before now → IfOk played (λ p. AllPollOwn log order p.turns.items before now)
+polls_so (Ok p) log order notes before now same all = subst (λ (ts : List Turned). AllPollOwn log order ts before now) (sym same) all
+polls_so (Err e) log order notes before now same all = tt

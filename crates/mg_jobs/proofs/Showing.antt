@@ -1,0 +1,135 @@
+-- A turn that was shown its own tickets alone is one over all of them.
+use Rattle.std.proofs.Common.{◌≡◌, ◌⊎◌, ℕ, ℤ, List, true, false, Option, Some, None, refl, sym, ap, ◌∙◌, subst, inl, inr}
+use Rattle.std.specs.Prelude.{is_some, IsSome}
+use Rattle.mg_bson.specs.Tree.{Fields}
+use Rattle.mg_link.specs.Acts.{Tickets}
+use Rattle.mg_link.specs.Link.{Awaited, Told}
+use Rattle.mg_link.specs.Log.{Call}
+use Rattle.mg_link.specs.Namespace.{Space, space}
+use Rattle.mg_change.specs.Calls.{Grows, Keeps, Past, past_of}
+use Rattle.mg_jobs.specs.Causes.{sent_at}
+use Rattle.mg_jobs.specs.Counts.{TicketsSince, is_held, shown}
+use Rattle.mg_jobs.specs.Follows.{Placing}
+use Rattle.mg_jobs.specs.Headline.{Turns}
+use Rattle.mg_jobs.specs.Playing.{inserts_ticket, stage_ticket}
+use Rattle.mg_jobs.specs.Runs.{CanGo, Goes, job_ticket}
+use Rattle.mg_jobs.specs.Telling.{FollowTells, InsertTurns, JobTells, Kept}
+use Rattle.mg_jobs.specs.declared.player.InsertStage.{InsertStage}
+use Rattle.mg_jobs.specs.declared.player.Stage.{Stage}
+use Rattle.mg_jobs.specs.declared.run.Player.{Player}
+use Rattle.mg_jobs.specs.declared.run.Player.TheVariants as player
+use Rattle.mg_jobs.proofs.InsertTelling.{insert_tells_grow}
+use Rattle.mg_jobs.proofs.Knowing.{same_player}
+use Rattle.mg_jobs.proofs.OwnTickets.{cases_held, held_is, is_held_so, none_is_not, shown_held, shown_new, shown_out, shown_own}
+use Rattle.mg_jobs.proofs.Telling.{tells_later}
+
+-- ---- other tickets, and the same log
+
+-- the tickets that are held go with the same calls
+abbrev Agree : Option ℕ → Awaited → Awaited → Type 0
+Agree ticket old new = (m : ℕ) → ticket ≡ Some m → new m ≡ old m
+
+keeps_same : (calls : List Call) → Keeps calls calls
+keeps_same calls place call there = (call, there, refl, λ seen. refl)
+
+grows_same : (past : Past) → Grows past past
+grows_same past = record { own = λ place call there own. own; keeps = keeps_same past.calls; wire = refl }
+
+module _ (old old' new new' : Awaited) (log log' : Told) where
+  turns_agree : (p p' : Player) (next : Placing) → Agree (job_ticket p) old old' → Agree (job_ticket p') new new' → Turns old' new log log' p p' next → Turns old new' log log' p p' next
+  turns_agree p p' next before after turns calls told o at plays =
+      let r = turns calls told o at (same_player old old' calls p o at before plays) in
+      (r.0, r.1, record { owner = r.2.owner; plays = same_player new new' r.0 p' r.2.owner (next at) after r.2.plays; passes = r.2.passes })
+
+  module _ (wire : ℤ) where
+    follow_agrees : (s : Stage) (k : Kept) (s' : Stage) (k' : Kept) (next : Placing) → Agree (stage_ticket s) old old' → Agree (stage_ticket s') new new' → FollowTells old' new log log' wire s k s' k' next → FollowTells old new' log log' wire s k s' k' next
+    follow_agrees s k s' k' next before after tells calls calls' is is' q at told =
+        let r = tells calls calls' is is' q at (tells_later old old' calls calls wire q s k at (keeps_same calls) before told) in
+        record { longer = r.longer; places = r.places; tells = tells_later new new' calls' calls' wire r.places s' k' (next at) (keeps_same calls') after r.tells; extends = r.extends }
+
+    insert_agrees : (at : Space) (sent : List Fields) (s s' : InsertStage) → Agree (inserts_ticket s) old old' → Agree (inserts_ticket s') new new' → InsertTurns old' new log log' wire at sent s s' → InsertTurns old new' log log' wire at sent s s'
+    insert_agrees at sent s s' before after turns calls calls' is is' places told =
+        insert_tells_grow (past_of places _ calls' wire) _ (grows_same _) at sent new new' s' after
+        (turns calls calls' is is' places (insert_tells_grow (sent_at places calls wire) _ (grows_same _) at sent old old' s before told))
+
+    tells_agree : (p p' : Player) (next : Placing) → Agree (job_ticket p) old old' → Agree (job_ticket p') new new' → JobTells old' new log log' wire p p' next → JobTells old new' log log' wire p p' next
+    tells_agree (player.Follow job) (player.Follow job') next before after told = follow_agrees job.stage _ job'.stage _ next before after told
+    tells_agree (player.Follow job) (player.Insert job') next before after told = told
+    tells_agree (player.Follow job) player.Put next before after told = told
+    tells_agree (player.Follow job) player.Get next before after told = told
+    tells_agree (player.Insert job) (player.Insert job') next before after told = (told.0, λ sent. insert_agrees (space job.ns.now) sent job.stage job'.stage before after (told.1 sent))
+    tells_agree (player.Insert job) (player.Follow job') next before after told = told
+    tells_agree (player.Insert job) player.Put next before after told = told
+    tells_agree (player.Insert job) player.Get next before after told = told
+    tells_agree player.Put p' next before after told = told
+    tells_agree player.Get p' next before after told = told
+
+-- ---- the tickets of a turn
+
+module _ (held : Option ℕ) (began new : Awaited) (from to : Told) (since : TicketsSince held began new from to) where
+  not_held : (m : ℕ) → (held ≡ Some m → ⊥) → is_held held m ≡ false
+  not_held m ne = elim (cases_held (is_held held m)) [ inl mine ↦ absurd (ne (held_is held m mine)) | inr other ↦ other ]
+
+  was_out : (m : ℕ) (o : Option ℕ) → began m ≡ o → (IsSome (began m)) ⊎ (began m ≡ None)
+  was_out m None at = inr at
+  was_out m (Some k) at = inl (ap (λ x. is_some x) at)
+
+  module _ (after : Option ℕ) (t : Tickets (shown held began began) (shown held began new) held after) where
+    origin_shown : (m : ℕ) → after ≡ Some m → (held ≡ Some m) ⊎ (began m ≡ None)
+    origin_shown m e = elim (cases_held (is_held held m)) [
+      | inl mine ↦ inl (held_is held m mine)
+      | inr other ↦ elim (was_out m (began m) refl) [
+        | inl was ↦ absurd (shown_own held began new m (t.held m e) other was)
+        | inr none ↦ inr none
+      ]
+    ]
+
+    only_new : (m : ℕ) → IsSome (new m) → began m ≡ None → (after ≡ Some m) ⊎ (IsSome (began m) × (held ≡ Some m → ⊥))
+    only_new m out none = elim (t.only m (subst (λ (o : Option ℕ). IsSome o) (sym (shown_new held began new m none)) out)) [
+      | inl e ↦ inl e
+      | inr was ↦ absurd (none_is_not (began m) none (subst (λ (o : Option ℕ). IsSome o) (shown_new held began began m none) was.0))
+    ]
+
+    only_mine : (m : ℕ) → IsSome (new m) → held ≡ Some m → (after ≡ Some m) ⊎ (IsSome (began m) × (held ≡ Some m → ⊥))
+    only_mine m out mine = elim (t.only m (subst (λ (o : Option ℕ). IsSome o) (sym (shown_held held began new m mine)) out)) [
+      | inl e ↦ inl e
+      | inr was ↦ absurd (was.1 mine)
+    ]
+
+    only_shown : (m : ℕ) → IsSome (new m) → (after ≡ Some m) ⊎ (IsSome (began m) × (held ≡ Some m → ⊥))
+    only_shown m out = elim (cases_held (is_held held m)) [
+      | inl mine ↦ only_mine m out (held_is held m mine)
+      | inr other ↦ elim (was_out m (began m) refl) [
+        | inl was ↦ inr (was, λ e. (let bad : true ≡ false = sym (is_held_so held m e) ∙ other in cc))
+        | inr none ↦ only_new m out none
+      ]
+    ]
+
+    pub tickets_shown : Tickets began new held after
+    tickets_shown = record {
+      held = λ m e. subst (λ (o : Option ℕ). IsSome o) (shown_out held began new m (t.held m e)) (t.held m e);
+      rest = λ m ne was. since.others m (not_held m ne) was;
+      origin = origin_shown;
+      only = only_shown;
+    }
+
+-- it may go over its own tickets alone
+pub can_go_shown : (held : Option ℕ) (began : Awaited) (wire : ℤ) (p : Player) → job_ticket p ≡ held → CanGo began wire p → CanGo (shown held began began) wire p
+can_go_shown held began wire p mine can = record {
+  out = λ n e. subst (λ (o : Option ℕ). IsSome o) (sym (shown_held held began began n (sym mine ∙ e))) (can.out n e);
+  holds = can.holds;
+}
+
+pub goes_shown : (held : Option ℕ) (began new : Awaited) (log log' : Told) (wire : ℤ) (p p' : Player) → job_ticket p ≡ held → TicketsSince held began new log log' → Goes (shown held began began) (shown held began new) log log' wire p p' → Goes began new log log' wire p p'
+goes_shown held began new log log' wire p p' mine since goes =
+    let t = subst (λ (o : Option ℕ). Tickets (shown held began began) (shown held began new) o (job_ticket p')) mine goes.tickets in
+    let before = λ (m : ℕ) (e : job_ticket p ≡ Some m). shown_held held began began m (sym mine ∙ e) in
+    let after = λ (m : ℕ) (e : job_ticket p' ≡ Some m). sym (shown_out held began new m (t.held m e)) in
+    record {
+      tickets = subst (λ (o : Option ℕ). Tickets began new o (job_ticket p')) (sym mine) (tickets_shown held began new log log' since (job_ticket p') t);
+      holds = goes.holds;
+      next = goes.next;
+      turned = turns_agree began (shown held began began) (shown held began new) new log log' p p' goes.next before after goes.turned;
+      told = tells_agree began (shown held began began) (shown held began new) new log log' wire p p' goes.next before after goes.told;
+      task = goes.task;
+    }
