@@ -20,15 +20,6 @@ same_some x y h = cc
 abbrev shown_by : Bool → Bool → Option ℕ → Option ℕ
 shown_by mine was now = if mine then now else (if was then None else now)
 
-none_shown : (mine was : Bool) → shown_by mine was None ≡ None
-none_shown true was = refl
-none_shown false true = refl
-none_shown false false = refl
-
--- what is not out is not shown
-pub shown_none : (held : Option ℕ) (began now : Awaited) (n : ℕ) → now n ≡ None → shown held began now n ≡ None
-shown_none held began now n none = ap (shown_by (is_held held n) (is_some (began n))) none ∙ none_shown (is_held held n) (is_some (began n))
-
 some_shown : (mine was : Bool) (now : Option ℕ) → IsSome (shown_by mine was now) → shown_by mine was now ≡ now
 some_shown true was now out = refl
 some_shown false true now out = absurd cc
@@ -37,9 +28,6 @@ some_shown false false now out = refl
 -- what is shown is out with that call
 pub shown_out : (held : Option ℕ) (began now : Awaited) (n : ℕ) → IsSome (shown held began now n) → shown held began now n ≡ now n
 shown_out held began now n out = some_shown (is_held held n) (is_some (began n)) (now n) out
-
-pub shown_same : (held : Option ℕ) (began old new : Awaited) (n : ℕ) → new n ≡ old n → shown held began new n ≡ shown held began old n
-shown_same held began old new n e = ap (shown_by (is_held held n) (is_some (began n))) e
 
 pub none_is_not : (o : Option ℕ) → o ≡ None → IsSome o → ⊥
 none_is_not o none out = let bad : false ≡ true = ap (λ x. is_some x) (sym none) ∙ out in cc
@@ -76,11 +64,6 @@ new_shown false (Some m) now none = cc
 -- so is one that was not out
 pub shown_new : (held : Option ℕ) (began now : Awaited) (n : ℕ) → began n ≡ None → shown held began now n ≡ now n
 shown_new held began now n none = new_shown (is_held held n) (began n) (now n) none
-
-visible_by : (mine was : Bool) (now : Option ℕ) → (mine ≡ false → was ≡ true → ⊥) → shown_by mine was now ≡ now
-visible_by true was now not = refl
-visible_by false false now not = refl
-visible_by false true now not = absurd (not refl refl)
 
 hidden_by : (mine was : Bool) (now : Option ℕ) → mine ≡ false → was ≡ true → shown_by mine was now ≡ None
 hidden_by true was now mine out = cc
@@ -136,16 +119,6 @@ polled_same zero own before now now' same p = λ place. same place ∙ p place
 polled_same (suc n) own before now now' same p = (p.0, p.1, (p.2.0, p.2.1, one_more_same p.2.0 p.0 now now' same p.2.2))
 
 module _ (held : Option ℕ) (began : Awaited) (from : Told) (before : Polls) where
-  -- a turn in which nothing was done
-  pub own_first : (pended : ℕ) (now : Awaited) (to : Told) (polls : Polls) → now ≡ began → polls ≡ before → pended ≡ 0 → IsOwnTurn held began now from to pended before polls
-  own_first pended now to polls same same_polls none = record {
-    tickets = record {
-      others = λ n mine out. ap (λ (a : Awaited). a n) same;
-      own = λ n place at. inl (ap (λ (a : Awaited). a n) (sym same) ∙ at);
-    };
-    polls = λ few. subst (λ m. PolledBy m (IsTurnsCall held began from to) before polls) (sym none) (λ place. ap (λ (p : Polls). p place) same_polls);
-  }
-
   call_longer : (to to' : Told) → IsLonger to to' → (place : ℕ) → IsTurnsCall held began from to place → IsTurnsCall held began from to' place
   call_longer to to' longer place (inl mine) = inl mine
   call_longer to to' longer place (inr sent) = inr (sent_longer from to to' place longer sent)
@@ -159,7 +132,7 @@ module _ (held : Option ℕ) (began : Awaited) (from : Told) (before : Polls) wh
   tickets_stay : (old new : Awaited) (to to' : Told) → IsLonger to to' → ((m : ℕ) → new m ≡ old m) → TicketsSince held began old from to → TicketsSince held began new from to'
   tickets_stay old new to to' longer same was = record {
     others = λ n mine out. same n ∙ was.others n mine out;
-    own = λ n place at. elim (was.own n place (sym (same n) ∙ at)) [ inl e ↦ inl e | inr sent ↦ inr (sent_longer from to to' place longer sent) ];
+    each = λ n place at. elim (was.each n place (sym (same n) ∙ at)) [ inl e ↦ inl e | inr sent ↦ inr (sent_longer from to to' place longer sent) ];
   }
 
   -- ---- a start
@@ -171,14 +144,10 @@ module _ (held : Option ℕ) (began : Awaited) (from : Told) (before : Polls) wh
         let none : old n ≡ None = ap old e ∙ fresh in
         none_is_not (began n) (sym there ∙ none) out
 
-    -- a ticket that was given just now is shown
-    visible : (number : ℕ) → old number ≡ None → TicketsSince held began old from to → shown held began new number ≡ new number
-    visible number fresh was = visible_by (is_held held number) (is_some (began number)) (new number) (λ mine out. fresh_other number number fresh was mine out refl)
-
     starts_tickets : (number : ℕ) → Starts old new to to' number command → TicketsSince held began old from to → IsLonger from to → TicketsSince held began new from to'
     starts_tickets number s was grown = record {
       others = λ n mine out. s.rest n (fresh_other number n s.fresh was mine out) ∙ was.others n mine out;
-      own = λ n place at. elim (cases_eq n number) [
+      each = λ n place at. elim (cases_eq n number) [
         | inl e ↦ inr (λ calls told.
             let g = grown calls told in
             let a = s.adds g.0 g.1 in
@@ -186,7 +155,7 @@ module _ (held : Option ℕ) (began : Awaited) (from : Told) (before : Polls) wh
             let here : place ≡ length g.0 = same_some place (length g.0) (sym at ∙ ap new e ∙ s.place g.0 g.1) in
             let more = g.2 in
             (g.0 ++ one ∷ [], a.1, omega (arith, here, more), omega (arith, here, length-append g.0 (one ∷ []))))
-        | inr ne ↦ elim (was.own n place (sym (s.rest n ne) ∙ at)) [ inl e ↦ inl e | inr sent ↦ inr (sent_longer from to to' place (adds_longer to to' command waiting s.adds) sent) ]
+        | inr ne ↦ elim (was.each n place (sym (s.rest n ne) ∙ at)) [ inl e ↦ inl e | inr sent ↦ inr (sent_longer from to to' place (adds_longer to to' command waiting s.adds) sent) ]
       ];
     }
 
@@ -208,18 +177,6 @@ module _ (held : Option ℕ) (began : Awaited) (from : Told) (before : Polls) wh
       polls = on_polls pended to to' polls polls' (start_longer result s) same was.polls;
     }
 
-    -- a start over what is shown
-    pub shown_starts : (result : Result Ticket LinkError) → TicketsSince held began old from to → StartMeans old new to to' command result → StartMeans (shown held began old) (shown held began new) to to' command result
-    shown_starts (Ok number) was s = record {
-      fresh = shown_none held began old number s.fresh;
-      out = subst (λ (o : Option ℕ). IsSome o) (sym (visible number s.fresh was)) s.out;
-      place = λ calls told. visible number s.fresh was ∙ s.place calls told;
-      rest = λ m ne. shown_same held began old new m (s.rest m ne);
-      adds = s.adds;
-    }
-    shown_starts (Err error.Fault) was s = record { rest = λ m. shown_same held began old new m (s.rest m); adds = s.adds }
-    shown_starts (Err error.Memory) was s = record { rest = λ m. shown_same held began old new m (s.rest m); log_same = s.log_same }
-
   -- ---- a poll
 
   module _ (old new : Awaited) (to to' : Told) (ticket : ℕ) (out : IsSome (shown held began old ticket)) where
@@ -232,7 +189,7 @@ module _ (held : Option ℕ) (began : Awaited) (from : Told) (before : Polls) wh
     ends_tickets : (seen : Sight) → Ends old new to to' ticket seen → TicketsSince held began old from to → TicketsSince held began new from to'
     ends_tickets seen e was = record {
       others = λ n mine there. e.rest n (not_other n mine there) ∙ was.others n mine there;
-      own = λ n place at. elim (was.own n place (sym (e.rest n (not_gone n place e.gone at)) ∙ at)) [ inl i ↦ inl i | inr sent ↦ inr (sent_longer from to to' place (sees_longer to to' (old ticket) seen e.sees) sent) ];
+      each = λ n place at. elim (was.each n place (sym (e.rest n (not_gone n place e.gone at)) ∙ at)) [ inl i ↦ inl i | inr sent ↦ inr (sent_longer from to to' place (sees_longer to to' (old ticket) seen e.sees) sent) ];
     }
 
     poll_tickets : (result : Polled) → PollMeans old new to to' ticket result → TicketsSince held began old from to → TicketsSince held began new from to'
@@ -240,20 +197,6 @@ module _ (held : Option ℕ) (began : Awaited) (from : Told) (before : Polls) wh
     poll_tickets (polled.Reply bytes) e was = ends_tickets _ e was
     poll_tickets polled.Failed e was = ends_tickets _ e was
     poll_tickets polled.Memory e was = ends_tickets _ e was
-
-    -- a poll over what is shown
-    shown_ends : (seen : Sight) → Ends old new to to' ticket seen → Ends (shown held began old) (shown held began new) to to' ticket seen
-    shown_ends seen e = record {
-      gone = shown_none held began new ticket e.gone;
-      rest = λ m ne. shown_same held began old new m (e.rest m ne);
-      sees = subst (λ (o : Option ℕ). Sees to to' o seen) (sym (shown_out held began old ticket out)) e.sees;
-    }
-
-    pub shown_polls : (result : Polled) → PollMeans old new to to' ticket result → PollMeans (shown held began old) (shown held began new) to to' ticket result
-    shown_polls (polled.Pending given) w = record { same = w.same; rest = λ m. shown_same held began old new m (w.rest m); log_same = w.log_same }
-    shown_polls (polled.Reply bytes) e = shown_ends _ e
-    shown_polls polled.Failed e = shown_ends _ e
-    shown_polls polled.Memory e = shown_ends _ e
 
     poll_longer : (result : Polled) → PollMeans old new to to' ticket result → IsLonger to to'
     poll_longer (polled.Pending given) w = same_longer to to' w.log_same
@@ -263,7 +206,7 @@ module _ (held : Option ℕ) (began : Awaited) (from : Told) (before : Polls) wh
 
     -- the call of the ticket is one of the turn
     own_call : (place : ℕ) → old ticket ≡ Some place → TicketsSince held began old from to → IsTurnsCall held began from to place
-    own_call place at was = elim (was.own ticket place at) [
+    own_call place at was = elim (was.each ticket place at) [
       | inl there ↦ elim (cases_held (is_held held ticket)) [
         | inl mine ↦ inl (ticket, held_is held ticket mine, there)
         | inr other ↦ absurd (shown_own held began old ticket out other (ap (λ o. is_some o) there))
@@ -294,7 +237,3 @@ module _ (held : Option ℕ) (began : Awaited) (from : Told) (before : Polls) wh
       tickets = poll_tickets result w was.tickets;
       polls = on_polls pended to to' polls polls' (poll_longer result w) same was.polls;
     }
-
-    -- the polls of what is shown
-    pub shown_pends : (result : Polled) (pends pends' : ℕ) (polls polls' : Polls) → PollPends result (old ticket) pends pends' polls polls' → PollPends result (shown held began old ticket) pends pends' polls polls'
-    shown_pends result pends pends' polls polls' p = subst (λ (o : Option ℕ). PollPends result o pends pends' polls polls') (sym (shown_out held began old ticket out)) p

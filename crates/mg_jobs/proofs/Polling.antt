@@ -1,5 +1,5 @@
 -- Whose calls are polled in the turns of a run.
-use Rattle.std.proofs.Common.{◌≡◌, ◌+◌, ◌≤◌, ℕ, zero, suc, ℤ, List, [], ◌∷◌, ◌++◌, length, Option, Some, Result, Ok, Err, IfOk, refl, sym, ap, ◌∙◌, subst, inl, inr, take, arith, append_assoc}
+use Rattle.std.proofs.Common.{◌≡◌, ◌+◌, ◌≤◌, ℕ, zero, suc, ℤ, List, [], ◌∷◌, ◌++◌, length, Some, Result, Ok, Err, IfOk, refl, sym, ap, ◌∙◌, subst, inl, inr, take, arith, append_assoc}
 use Rattle.std.specs.Prelude.{slice_get}
 use Rattle.std.proofs.lemmas.List.{append-nil, take_all}
 use Rattle.mg_link.specs.Link.{Awaited, Polls, SamePolls, Told}
@@ -7,7 +7,7 @@ use Rattle.mg_link.specs.Log.{Call}
 use Rattle.mg_link.specs.declared.error.Error.{Error}
 use Rattle.mg_link.proofs.Owners.{same_some}
 use Rattle.mg_jobs.specs.Causes.{AllPollOwn, IsPolledIn, PollOwnFrom, PollsOwn, SentIn, course}
-use Rattle.mg_jobs.specs.Counts.{IsOwnTurn, IsTurnsCall, PolledBy, StartedBy, one_if}
+use Rattle.mg_jobs.specs.Counts.{IsTurnsCall, PolledBy, StartedBy, one_if}
 use Rattle.mg_jobs.specs.Drawing.{HaveDrawn, first_id}
 use Rattle.mg_jobs.specs.Progress.{AllAt, calls_of, pends_last, turns_done}
 use Rattle.mg_jobs.specs.Runs.{job_ticket}
@@ -21,14 +21,6 @@ use Rattle.mg_jobs.proofs.OwnTickets.{polled_map}
 use Rattle.mg_jobs.proofs.Waiting.{job_own, job_pended}
 
 -- ---- one turn
-
--- of a turn whose polls were counted
-pub polled_in : (held : Option ℕ) (began now : Awaited) (from to : Told) (n pended : ℕ) (before after : Polls) → n ≡ pended → pended ≤ 1 → IsOwnTurn held began now from to n before after → PolledBy pended (IsTurnsCall held began from to) before after
-polled_in held began now from to n pended before after is few own = subst (λ m. PolledBy m (IsTurnsCall held began from to) before after) is (own.polls (omega (arith, is, few)))
-
--- nothing was polled
-pub polled_none : (own : ℕ → Type 0) (polls : Polls) → PolledBy 0 own polls polls
-polled_none own polls = λ place. refl
 
 -- The call that was polled is one that the turn's job sent in it, or that it waited for.
 pub polls_turn : (ids given : ℕ → List ℕ) (old : Awaited) (log log' : Told) (wire : ℤ) (ts : List Task) (order : List ℕ) (notes : List Turned) (players : List Player) (j : ℕ) (p : Player) (note : Turned) (polls polls' : Polls) (begun : Told) → slice_get players j ≡ Some p → StartedBy note.started log log'

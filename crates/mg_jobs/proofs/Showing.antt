@@ -12,7 +12,7 @@ use Rattle.mg_jobs.specs.Counts.{TicketsSince, is_held, shown}
 use Rattle.mg_jobs.specs.Follows.{Placing}
 use Rattle.mg_jobs.specs.Headline.{Turns}
 use Rattle.mg_jobs.specs.Playing.{inserts_ticket, stage_ticket}
-use Rattle.mg_jobs.specs.Runs.{CanGo, Goes, job_ticket}
+use Rattle.mg_jobs.specs.Runs.{Goes, job_ticket}
 use Rattle.mg_jobs.specs.Telling.{FollowTells, InsertTurns, JobTells, Kept}
 use Rattle.mg_jobs.specs.declared.player.InsertStage.{InsertStage}
 use Rattle.mg_jobs.specs.declared.player.Stage.{Stage}
@@ -112,13 +112,6 @@ module _ (held : Option ℕ) (began new : Awaited) (from to : Told) (since : Tic
       origin = origin_shown;
       only = only_shown;
     }
-
--- it may go over its own tickets alone
-pub can_go_shown : (held : Option ℕ) (began : Awaited) (wire : ℤ) (p : Player) → job_ticket p ≡ held → CanGo began wire p → CanGo (shown held began began) wire p
-can_go_shown held began wire p mine can = record {
-  out = λ n e. subst (λ (o : Option ℕ). IsSome o) (sym (shown_held held began began n (sym mine ∙ e))) (can.out n e);
-  holds = can.holds;
-}
 
 pub goes_shown : (held : Option ℕ) (began new : Awaited) (log log' : Told) (wire : ℤ) (p p' : Player) → job_ticket p ≡ held → TicketsSince held began new log log' → Goes (shown held began began) (shown held began new) log log' wire p p' → Goes began new log log' wire p p'
 goes_shown held began new log log' wire p p' mine since goes =

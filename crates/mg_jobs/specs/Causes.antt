@@ -212,7 +212,7 @@ abbrev pub AllWaitAlone : (before awaited : Awaited) → Told → List ℕ → L
 AllWaitAlone before awaited log order notes = (calls : List Call) → log ≡ Some calls → (ticket place : ℕ) → awaited ticket ≡ Some place
     → (before ticket ≡ Some place) ⊎ WaitsAlone before awaited (course calls order notes) ticket place
 
--- ---- which calls the turns polled
+-- ---- whose calls pended in which turns
 
 -- Behind these turns of a run, which began with these calls, job i took a turn with this note: the call at this place was sent in it; or an earlier turn of
 -- the job sent it, and its newest one before pended by its note.
@@ -231,6 +231,6 @@ PollOwnFrom calls gone noted (i ∷ order) [] before now = SamePolls before now
 PollOwnFrom calls gone noted (i ∷ order) (note ∷ notes) before now =
     (between : Polls) × PolledBy (one_if note.pended) (IsPolledIn calls gone noted i note) before between × PollOwnFrom calls (gone ++ i ∷ []) (noted ++ note ∷ []) order notes between now
 
--- Over a link that tells its log each turn of a run polled calls of its own job alone, and one poll pended in it just where its note says so.
+-- Over a link that tells its log: in each turn of a run one poll pended just where its note says so, and that was of such a call of its own job.
 abbrev pub AllPollOwn : Told → List ℕ → List Turned → (before now : Polls) → Type 0
 AllPollOwn log order notes before now = (calls : List Call) → log ≡ Some calls → PollOwnFrom calls [] [] order notes before now

@@ -58,10 +58,11 @@ shown held began now n = if is_held held n then now n else (if is_some (began n)
 abbrev pub IsSentBetween : Told → Told → ℕ → Type 0
 IsSentBetween from to place = (calls : List Call) → from ≡ Some calls → (calls' : List Call) × (to ≡ Some calls') × (length calls ≤ place) × (place < length calls')
 
--- since a turn began of a job that held this ticket the tickets of others are as they were, and the call of each other one was the job's, or was sent since
+-- since a turn began of a job that held this ticket: the tickets of others are as they were, and each that is out was out then for the same call, or its
+-- call was sent since
 pub record TicketsSince (held : Option ℕ) (began now : Awaited) (from to : Told) : Type 0 where
   pub others : (n : ℕ) → is_held held n ≡ false → IsSome (began n) → now n ≡ began n
-  pub own : (n place : ℕ) → now n ≡ Some place → (began n ≡ Some place) ⊎ IsSentBetween from to place
+  pub each : (n place : ℕ) → now n ≡ Some place → (began n ≡ Some place) ⊎ IsSentBetween from to place
 
 -- the call at this place is that of the ticket which the job of a turn held as it began, or was sent in it
 abbrev pub IsTurnsCall : Option ℕ → Awaited → (from to : Told) → ℕ → Type 0

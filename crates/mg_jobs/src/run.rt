@@ -325,7 +325,8 @@ impl<'a> Runner<'a> {
             → HaveDrawn first (I.ids ids.old) ts order self.old.players.items
             → AllTell first (L.awaited link.old) begun (L.log link.old) (L.wire link.old) ts order self.old.turns.items self.old.players.items
             → AllTell first (L.awaited link.new) begun (L.log link.new) (L.wire link.new) ts (order ++ job ∷ []) self.new.turns.items self.new.players.items) }
-        // It polled calls of its own job alone, and one poll pended just where the note says so.
+        // One poll pended just where the note says so, and that of a call which its own job sent in this turn, or in an earlier
+        // one where its newest turn before pended too.
         ensures polled { OnOk result ((note : _) × (self.new.turns.items ≡ self.old.turns.items ++ note ∷ [])
             × ((first : ℕ → List ℕ) (begun : Told) (ts : List Task) (order : List ℕ) → AllAt ts order self.old.turns.items self.old.players.items
             → HaveDrawn first (I.ids ids.old) ts order self.old.players.items
@@ -464,8 +465,8 @@ pub fn run_jobs<L: Link, I: IdSource>(
     // many turns pended as that count rose by.
     ensures noted { IfOk result (λ p. AreNoted p.turns.items (L.log link.old) (L.log link.new) (L.pends link.old) (L.pends link.new)) }
     ensures pended { IfOk result (λ p. RoseJust (turns_pended p.turns.items) (L.pends link.old) (L.pends link.new)) }
-    // Over a link that tells its log each note is true: one poll pended in its turn, or none, as it says, and that of a call
-    // which its job sent in that turn, or waited for since the one before.
+    // Over a link that tells its log each note says rightly whether its turn pended: one poll pended in it just where it says
+    // so, and that of a call which its job sent in it, or in an earlier one where its newest turn before pended too.
     ensures polled { IfOk result (λ p. AllPollOwn (L.log link.old) order.now p.turns.items (L.polls link.old) (L.polls link.new)) }
     // The notes count what was started, and over a prompt link no turn pends.
     ensures started { IfOk result (λ p. StartedBy (sum_by (λ t. t.started) p.turns.items) (L.log link.old) (L.log link.new)) }
