@@ -15,7 +15,7 @@ returns-clause-goes g c =
     let p = c.args.turn.player in
     let p' = c.go-player.result in
     let goes = subst (λ (a : Awaited). Goes (shown held began a) (shown held began (g.L.Link.awaited link)) (g.L.Link.log c.args.link) (g.L.Link.log link) (g.L.Link.wire link) p p') c.requires.awaited
-        (subst (λ l. Goes (shown held began (g.L.Link.awaited l)) (shown held began (g.L.Link.awaited link)) (g.L.Link.log l) (g.L.Link.log link) (g.L.Link.wire link) p p') c.new-counting.ensures.link c.go-player.ensures.goes) in
+    (subst (λ l. Goes (shown held began (g.L.Link.awaited l)) (shown held began (g.L.Link.awaited link)) (g.L.Link.log l) (g.L.Link.log link) (g.L.Link.wire link) p p') c.new-counting.ensures.link c.go-player.ensures.goes) in
     let since = subst (λ (l : Told). TicketsSince held began (g.L.Link.awaited link) l (g.L.Link.log link)) (sym c.requires.calls) c.into_parts-link.ensures.own.tickets in
     subst (λ l. Goes (g.L.Link.awaited c.args.link) (g.L.Link.awaited l) (g.L.Link.log c.args.link) (g.L.Link.log l) (g.L.Link.wire l) p p') (sym c.into_parts-link.ensures.link)
     (subst (λ (a : Awaited). Goes a (g.L.Link.awaited link) (g.L.Link.log c.args.link) (g.L.Link.log link) (g.L.Link.wire link) p p') (sym c.requires.awaited)

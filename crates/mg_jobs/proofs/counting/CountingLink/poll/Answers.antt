@@ -38,6 +38,6 @@ pub returns-in-Pending-clause-pended : goal.returns-in-Pending-clause-pended
 returns-in-Pending-clause-pended g c =
     let out = subst (λ l. IsSome (shown g.B.Began.held g.B.Began.awaited (g.L.Link.awaited l) c.args.ticket)) (sym (ap (λ v. v.0) c.self.view_is)) c.requires in
     rw (sym c.self.view_is) (
-  rose_counted _ _ c.saturating_add-self-inside.ensures,
-  λ at there. c.in-Pending.ensures.pended.1 at (sym (shown_out g.B.Began.held g.B.Began.awaited (g.L.Link.awaited c.self.inside.link) c.args.ticket out) ∙ there),
-)
+      rose_counted _ _ c.saturating_add-self-inside.ensures,
+      λ at there. c.in-Pending.ensures.pended.1 at (sym (shown_out g.B.Began.held g.B.Began.awaited (g.L.Link.awaited c.self.inside.link) c.args.ticket out) ∙ there),
+    )
