@@ -18,8 +18,7 @@ use std::test::Fail;
 /// The names of a document, in order, and what it prints as.
 fn shown(alloc: Global, body: Document) -> Result<String, AllocError> {
     let mut line = String::new(alloc);
-    let mut names = body.keys();
-    while let Some(name) = names.next() {
+    for (name, _) in &body {
         line.push_str(name)?;
         line.push_str(" ")?;
     }
