@@ -1,6 +1,7 @@
 //! What a proof cannot see of the program and of each layer below it, by examples.
 
 mod bson;
+mod corpus;
 mod documents;
 mod exec;
 mod grammar;

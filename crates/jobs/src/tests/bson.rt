@@ -219,7 +219,7 @@ fn encoding_vectors(rt: HostRuntime) -> Result<(), Fail> {
 }
 
 // The digits of a document that is read and written again.
-fn rewritten(alloc: Global, bytes: Vec<u8>) -> Result<String, BsonError> {
+pub(super) fn rewritten(alloc: Global, bytes: Vec<u8>) -> Result<String, BsonError> {
     let document = document_of(alloc, bytes)?;
     digits_of(alloc, &document)
 }
@@ -236,7 +236,7 @@ fn renamed_items(rt: HostRuntime) -> Result<(), Fail> {
 }
 
 // Whether the bytes are taken for no document.
-fn are_malformed(bytes: Vec<u8>) -> bool {
+pub(super) fn are_malformed(bytes: Vec<u8>) -> bool {
     matches!(RawDocumentBuf::from_bytes(bytes), Err(BsonError::Malformed))
 }
 
