@@ -12,7 +12,7 @@ use Rattle.mg_link.proofs.Collections.{documents_here}
 use Rattle.mg_link.proofs.Fronts.{legal_take}
 use Rattle.mg_link.proofs.Owners.{legal_back, legal_parts, state_one}
 use Rattle.mg_jobs.specs.Appended.{InsertsAt}
-use Rattle.mg_jobs.proofs.Appending.{take_more}
+use Rattle.mg_link.proofs.Places.{take_more}
 
 written_all : (n : ℕ) (ds : List Fields) → written true [] n ds ≡ ds
 written_all n [] = refl

@@ -11,7 +11,7 @@ use Rattle.mg_link.specs.Log.{Sight, waiting, reply, Call, see}
 use Rattle.mg_link.specs.Namespace.{Space}
 use Rattle.mg_link.specs.declared.action.Step.{Step}
 use Rattle.mg_link.specs.declared.action.Step.TheVariants as step
-use Rattle.mg_link.proofs.Places.{get_front, get_seam, get_within}
+use Rattle.mg_link.proofs.Places.{get_front, get_seam, get_within, take_more}
 use Rattle.mg_change.specs.Calls.{Grows, IsOwn, Keeps, Past, past_of}
 use Rattle.mg_change.proofs.Calls.{grows_by, keeps_longer, see_keeps}
 use Rattle.mg_jobs.specs.Appended.{InsertsAt, Piece, ArePieces, InsertedBelow, Appended}
@@ -75,11 +75,6 @@ sent_at [] (e ∷ ds) zero d h = h
 sent_at [] (e ∷ ds) (suc i) d h = sent_at [] ds i d h
 sent_at (o ∷ os) (e ∷ ds) zero d h = let same : e ≡ d = cc in ap (λ (x : Fields). Some (with_id o x)) same
 sent_at (o ∷ os) (e ∷ ds) (suc i) d h = sent_at os ds i d h
-
-pub take_more : {A : Type 0} (xs : List A) (k : ℕ) (x : A) → slice_get xs k ≡ Some x → take (suc k) xs ≡ take k xs ++ x ∷ []
-take_more [] k x h = absurd cc
-take_more (y ∷ ys) zero x h = let same : y ≡ x = cc in ap (λ z. z ∷ []) same
-take_more (y ∷ ys) (suc k) x h = ap (λ l. y ∷ l) (take_more ys k x h)
 
 pub take_whole : {A : Type 0} (xs : List A) (k : ℕ) → length xs ≤ k → take k xs ≡ xs
 take_whole [] zero le = refl

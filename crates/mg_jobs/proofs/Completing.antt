@@ -54,6 +54,7 @@ use Rattle.mg_script.specs.declared.outcome.Played.{Played}
 use Rattle.mg_script.specs.declared.outcome.Turned.{Turned}
 use Rattle.mg_jobs.proofs.Batches.{breaks_not}
 use Rattle.mg_jobs.proofs.InsertWell.{never_lists}
+use Rattle.mg_jobs.proofs.Creating.{CreatesNone, asked_creates, asking_none, inserting_none, killing_none, resuming_none, watching_none}
 use Rattle.mg_jobs.proofs.Prompting.{Brings, IsPrompted, prompt_success, prompted}
 use Rattle.mg_jobs.proofs.Identified.{IsHonest, StandsWell, empty_well, failed_well, gave_well, heard_by, honest_over, next_well, opened_well, replied_well, resumed_brings}
 use Rattle.mg_link.proofs.Watched.{IsWatched}
@@ -63,7 +64,7 @@ use Rattle.mg_link.proofs.Watched.{IsWatched}
 -- nothing that it sent was lost or refused, and each success has a batch where one was asked for
 record IsServed (watched : ℤ → Type 0) (past : Past) : Type 0 where
   lost : (command : Fields) → HeardBy past command fault → ⊥
-  refused : (command : Fields) (bytes : List ℕ) (wire : ℤ) (e : Error) → HeardBy past command (reply bytes) → FailsByReply (doc bytes) wire e → ⊥
+  refused : (command : Fields) (bytes : List ℕ) (wire : ℤ) (e : Error) → CreatesNone command → HeardBy past command (reply bytes) → FailsByReply (doc bytes) wire e → ⊥
   honest : IsHonest watched past
 
 fails_as : (o : Option Fields) (wire : ℤ) (e : Error) → verdict_of (unwrap_or o no_fields) ≡ verdict.Success → FailsByReply o wire e → ⊥
@@ -121,7 +122,7 @@ module _ (c : Course) (i k : ℕ) (begun calls : List Call) (wire : ℤ) (places
   serves : IsServed (IsWatched well.history) (sent_at places calls wire)
   serves = record {
     lost = never_lost;
-    refused = λ command bytes wire e h fails. let t = taken command bytes h in fails_not bytes wire e (subst IsSuccess (sym t.reply_is) (prompt_success t.step t.at_once)) fails;
+    refused = λ command bytes wire e other h fails. let t = taken command bytes h in fails_not bytes wire e (subst IsSuccess (sym t.reply_is) (prompt_success t.step t.at_once (asked_creates t.step.command command t.command_is other))) fails;
     honest = honest_over well.history calls well.legal well.stands places wire;
   }
 
@@ -140,12 +141,12 @@ module _ (watched : ℤ → Type 0) (are_its : WatchArgs → Type 0) (fits : (ar
   fails_well after e (causes.may_lose room owes may) = inl room
   fails_well after e (causes.no_memory room stays) = inl room
   fails_well after e (causes.lost owes why is heard) = absurd (served.lost (resume_command past.wire at) (heard_by past (resume_command past.wire at) true fault heard))
-  fails_well after e (causes.refused bytes owes why heard fails) = absurd (served.refused (resume_command past.wire at) bytes past.wire e (heard_by past (resume_command past.wire at) true (reply bytes) heard) fails)
+  fails_well after e (causes.refused bytes owes why heard fails) = absurd (served.refused (resume_command past.wire at) bytes past.wire e (resuming_none at.aggregate past.wire) (heard_by past (resume_command past.wire at) true (reply bytes) heard) fails)
   fails_well after e (causes.unread bytes owes why heard success breaks) = let b = brings bytes (heard_by past (resume_command past.wire at) true (reply bytes) heard) success in absurd (breaks_not (fields bytes) b.batch e b.there (inl breaks))
   fails_well after e (causes.broken bytes upto owes r breaks) = let b = (replied_well watched are_its past served.honest at well true bytes after.cursor upto r).0 in absurd (breaks_not (fields bytes) b.batch e b.there (inr breaks))
   fails_well after e (causes.cannot_resume owes why by) =
       inr (resume_command past.wire at, resumes at.aggregate past.wire well.args refl, cannot_build at.aggregate.args.options.batch_size (resume_command past.wire at) e (fits at.aggregate.args well.args) by)
-  fails_well after e (causes.refused_more bytes heard fails final is) = absurd (served.refused (more_command at) bytes past.wire e heard.heard fails)
+  fails_well after e (causes.refused_more bytes heard fails final is) = absurd (served.refused (more_command at) bytes past.wire e (asking_none at.cursor.id (space at.cursor.ns) at.cursor.batch_size) heard.heard fails)
   fails_well after e (causes.cannot_ask asked by is) =
       inr (
         more_command at,
@@ -168,7 +169,7 @@ module _ (watched : ℤ → Type 0) (are_its : WatchArgs → Type 0) (fits : (ar
   opening_well : (e : Error) → OpeningFails past args e → IsExcused are_its e
   opening_well e (openings.no_memory room) = inl room
   opening_well e (openings.lost is heard) = absurd (served.lost (opening_command args) (heard_by past (opening_command args) true fault heard))
-  opening_well e (openings.refused bytes heard fails) = absurd (served.refused (opening_command args) bytes past.wire e (heard_by past (opening_command args) true (reply bytes) heard) fails)
+  opening_well e (openings.refused bytes heard fails) = absurd (served.refused (opening_command args) bytes past.wire e (watching_none (target args.target) args.pipeline.items args.options) (heard_by past (opening_command args) true (reply bytes) heard) fails)
   opening_well e (openings.broken bytes heard success breaks) = let b = opening_brings bytes heard success in absurd (breaks_not (fields bytes) b.batch e b.there (inl breaks))
   opening_well e (openings.cannot_open by) = inr (opening_command args, opens args its refl, cannot_build args.options.batch_size (opening_command args) e (fits args its) by)
 
@@ -177,7 +178,7 @@ module _ (watched : ℤ → Type 0) (are_its : WatchArgs → Type 0) (fits : (ar
 kill_well : (watched : ℤ → Type 0) (are_its : WatchArgs → Type 0) (past : Past) (c : CursorInformation) (e : Error) → IsServed watched past → NotKilled past c (pos 0) e → IsExcused are_its e
 kill_well watched are_its past c e served (closings.no_memory room) = inl room
 kill_well watched are_its past c e served (closings.lost is heard) = absurd (served.lost (last_command c (pos 0)) (heard_by past (last_command c (pos 0)) false fault heard))
-kill_well watched are_its past c e served (closings.refused bytes heard fails) = absurd (served.refused (last_command c (pos 0)) bytes past.wire e (heard_by past (last_command c (pos 0)) false (reply bytes) heard) fails)
+kill_well watched are_its past c e served (closings.refused bytes heard fails) = absurd (served.refused (last_command c (pos 0)) bytes past.wire e (killing_none (space c.ns) (ids_left c.id (pos 0))) (heard_by past (last_command c (pos 0)) false (reply bytes) heard) fails)
 kill_well watched are_its past c e served (closings.cannot_kill by) = inr (last_command c (pos 0), kills (space c.ns) (ids_left c.id (pos 0)) refl, by)
 
 -- ---- all calls
@@ -255,7 +256,7 @@ module _ (awaited : Awaited) (c : Course) (i : ℕ) (begun calls : List Call) (w
     insert_fails : (e : Error) → InsertFails (sent_at places calls wire) ns docs e → IsExcusedInsert ns docs e
     insert_fails e (no_memory room) = inl room
     insert_fails e (lost piece part is heard) = absurd (served.lost (insert_command ns piece) (heard_by (sent_at places calls wire) (insert_command ns piece) false fault heard))
-    insert_fails e (refused piece bytes part heard fails) = absurd (served.refused (insert_command ns piece) bytes wire e (heard_by (sent_at places calls wire) (insert_command ns piece) false (reply bytes) heard) fails)
+    insert_fails e (refused piece bytes part heard fails) = absurd (served.refused (insert_command ns piece) bytes wire e (inserting_none ns piece) (heard_by (sent_at places calls wire) (insert_command ns piece) false (reply bytes) heard) fails)
     insert_fails e (listed piece bytes part heard success lists) = absurd (never_listed piece bytes e.kind (heard_by (sent_at places calls wire) (insert_command ns piece) false (reply bytes) heard) lists)
     insert_fails e (cannot_encode d part by) = inr (inr (d, part, by))
     insert_fails e (cannot_insert piece part by) = inr (inl (piece, part, by))

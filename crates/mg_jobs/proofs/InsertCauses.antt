@@ -34,7 +34,8 @@ use Rattle.mg_jobs.specs.declared.insert.Heard.{Heard}
 use Rattle.mg_jobs.specs.declared.insert.Heard.TheVariants as heard
 use Rattle.mg_jobs.specs.declared.insert.Inserting.{Inserting}
 use Rattle.mg_jobs.specs.declared.insert.Next.TheVariants as next
-use Rattle.mg_jobs.proofs.Appending.{same_sent, sent_at, sent_length, take_more}
+use Rattle.mg_link.proofs.Places.{take_more}
+use Rattle.mg_jobs.proofs.Appending.{same_sent, sent_at, sent_length}
 use Rattle.mg_jobs.proofs.Plainly.{same_command}
 
 -- ---- what is sent next

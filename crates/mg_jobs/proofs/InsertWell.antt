@@ -18,6 +18,7 @@ use Rattle.mg_link.specs.declared.reply.Verdict.TheVariants as verdict
 use Rattle.mg_ops.specs.Cursors.{found, ◌>>=◌}
 use Rattle.mg_ops.specs.Writes.{Inserted, ListsAs, as_count, count_of, failure, failures_of, last_index, write_errors_at, write_errors_in}
 use Rattle.mg_jobs.specs.Completing.{AreFresh}
+use Rattle.mg_jobs.proofs.Creating.{creates}
 use Rattle.mg_jobs.proofs.Prompting.{IsPrompted, lawful, may_tell, prompt_success, told_so}
 
 -- ---- the rules of the store let them in
@@ -114,7 +115,7 @@ module _ (step : Step) (p : IsPrompted step) (space : Space) (documents : List F
   )
 
   told_inserted : told_at step ≡ unwrap_or (within_grammar (fields step.reply) (inserted_by (fields step.reply))) garbled
-  told_inserted = told_so step (lawful step p) verdict.Success (prompt_success step p) ∙ ap (λ (c : Asked). told_by verdict.Success c (fields step.reply)) asks
+  told_inserted = told_so step (lawful step p) verdict.Success (prompt_success step p (ap creates asks)) ∙ ap (λ (c : Asked). told_by verdict.Success c (fields step.reply)) asks
 
   -- it is no failure
   pub never_lists : (count : ℕ) (k : ErrorKind) → ListsAs count (fields step.reply) k → ⊥

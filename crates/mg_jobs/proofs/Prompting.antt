@@ -1,5 +1,5 @@
 -- What replies say that a server gave at once: they are successes, and each event of a batch has an `_id`.
-use Rattle.std.proofs.Common.{◌≡◌, ◌≢◌, ◌⊎◌, ℕ, ℤ, pos, suc, List, [], ◌∷◌, ◌++◌, Option, Some, None, Contains, refl, sym, ap, ◌∙◌, subst, take, inl, inr}
+use Rattle.std.proofs.Common.{◌≡◌, ◌≢◌, ◌⊎◌, ℕ, ℤ, pos, suc, false, List, [], ◌∷◌, ◌++◌, Option, Some, None, Contains, refl, sym, ap, ◌∙◌, subst, take, inl, inr}
 use Rattle.std.specs.Prelude.{slice_get}
 use Rattle.mg_bson.specs.Raw.{fields}
 use Rattle.mg_link.specs.Commands.{Asked, Batch, Told, asked, asks_more, asks_other, asks_watch, batch_of, garbled, gave_by, told, told_by}
@@ -8,7 +8,7 @@ use Rattle.mg_link.specs.Exec.{IsSuccess}
 use Rattle.mg_link.specs.History.{Step, IsLegal, state_of, step_after, told_at}
 use Rattle.mg_link.specs.Namespace.{Space}
 use Rattle.mg_link.specs.Prompt.{AnswersAtOnce, IsPrompt, MeetsConcern}
-use Rattle.mg_link.specs.Reply.{verdict_of}
+use Rattle.mg_link.specs.Reply.{code_of, labels_of, verdict_of}
 use Rattle.mg_link.specs.State.{Cursor, query, Start, State, Watch, nothing}
 use Rattle.mg_link.specs.Standing.{OpensId}
 use Rattle.mg_link.specs.Step.{May, MayTell, grown}
@@ -21,7 +21,8 @@ use Rattle.mg_link.proofs.Numbered.{AreNumbered, numbered_of}
 use Rattle.mg_link.proofs.Watched.{AsksToWatch, IsWatching}
 use Rattle.mg_link.proofs.Owners.{legal_back, legal_front, legal_parts}
 use Rattle.mg_ops.specs.Aims.{Aim, asked_for}
-use Rattle.mg_jobs.proofs.Appending.{take_more}
+use Rattle.mg_link.proofs.Places.{take_more}
+use Rattle.mg_jobs.proofs.Creating.{creates, never_refused}
 
 -- ---- a step of a legal history
 
@@ -75,11 +76,12 @@ module _ (step : Step) (p : IsLawful step) where
 
 -- ---- it is a success
 
-module _ (step : Step) (p : IsPrompted step) where
+module _ (step : Step) (p : IsPrompted step) (other : creates (asked step.command) ≡ false) where
   success_as : (v : Verdict) → verdict_of (fields step.reply) ≡ v → v ≡ verdict.Success
   success_as verdict.Success is = refl
   success_as verdict.Refusal is =
-      absurd (subst (λ (t : Told). AnswersAtOnce p.before (step_after p.before step) (asked step.command) t) (told_so step (lawful step p) verdict.Refusal is) p.prompt)
+      absurd (never_refused p.before (step_after p.before step) (asked step.command) (code_of (fields step.reply)) (labels_of (fields step.reply)) other
+      (subst (λ (t : Told). AnswersAtOnce p.before (step_after p.before step) (asked step.command) t) (told_so step (lawful step p) verdict.Refusal is) p.prompt))
   success_as verdict.NoOk is = absurd (never_garbled step (lawful step p) (told_so step (lawful step p) verdict.NoOk is))
 
   pub prompt_success : IsSuccess step.reply

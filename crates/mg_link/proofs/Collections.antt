@@ -1,12 +1,12 @@
 -- Collections by their names.
-use Rattle.std.proofs.Common.{◌≡◌, ℕ, Bool, true, false, List, [], ◌∷◌, Option, Some, refl, sym, ap, ap₂, ◌∙◌, inl, inr}
+use Rattle.std.proofs.Common.{◌≡◌, ℕ, Bool, true, false, List, [], ◌∷◌, Option, Some, None, refl, sym, ap, ap₂, ◌∙◌, inl, inr}
 use Rattle.std.specs.Prelude.{if◌then◌else◌, option_map}
 use Rattle.std.proofs.lemmas.Bool.{cases_Bool, and_parts}
 use Rattle.std.proofs.lemmas.Slice.Eq.{bytes_eq-Decides}
 use Rattle.std.specs.Str.{bytes_eq}
 use Rattle.mg_bson.specs.Tree.{Fields}
 use Rattle.mg_link.specs.Namespace.{Space}
-use Rattle.mg_link.specs.State.{Collection, State, is_space, comes_before, collection_in, put_collection, documents_at, indexes_of, with_documents}
+use Rattle.mg_link.specs.State.{Collection, State, is_space, comes_before, collection_in, put_collection, change_documents, documents_at, indexes_of, with_documents}
 
 -- a name of these bytes is that name
 pub same_space : (s t : Space) → is_space s t ≡ true → s ≡ t
@@ -62,14 +62,67 @@ put_is c (d ∷ ds) space =
 abbrev pub put_documents : Space → Option (List Fields) → (Space → Option (List Fields)) → Space → Option (List Fields)
 put_documents space ds documents other = if is_space other space then ds else documents other
 
-pub documents_put : (s : State) (space : Space) (ds : List Fields) (other : Space) → option_map (λ (c : Collection). c.documents) (collection_in (with_documents s space ds) other) ≡ put_documents space (Some ds) (documents_at s) other
-documents_put s space ds other =
-    let c : Collection = record { space = space; documents = ds; indexes = indexes_of s space } in
-    ap (option_map (λ (c : Collection). c.documents)) (put_is c s.collections other) ∙ map_if (is_space other space) c (collection_in s.collections other)
+-- those behind a collection that is put
+pub documents_of_put : (s : State) (c : Collection) (other : Space) → option_map (λ (c : Collection). c.documents) (collection_in (put_collection c s.collections) other) ≡ put_documents c.space (Some c.documents) (documents_at s) other
+documents_of_put s c other = ap (option_map (λ (c : Collection). c.documents)) (put_is c s.collections other) ∙ map_if (is_space other c.space) c (collection_in s.collections other)
   where
     map_if : (b : Bool) (c : Collection) (o : Option Collection) → option_map (λ (c : Collection). c.documents) (if b then Some c else o) ≡ (if b then Some c.documents else option_map (λ (c : Collection). c.documents) o)
     map_if true c o = refl
     map_if false c o = refl
+
+pub documents_put : (s : State) (space : Space) (ds : List Fields) (other : Space) → option_map (λ (c : Collection). c.documents) (collection_in (with_documents s space ds) other) ≡ put_documents space (Some ds) (documents_at s) other
+documents_put s space ds other = documents_of_put s (record { space = space; documents = ds; indexes = indexes_of s space }) other
+
+-- the documents of collections once this one's are changed
+abbrev pub changed_documents : Space → (List Fields → List Fields) → (Space → Option (List Fields)) → Space → Option (List Fields)
+changed_documents space g documents other = if is_space other space then option_map g (documents other) else documents other
+
+abbrev documents_found : List Collection → Space → Option (List Fields)
+documents_found cs other = option_map (λ (c : Collection). c.documents) (collection_in cs other)
+
+found_if : (b : Bool) (c : Collection) (cs : List Collection) (other : Space) → option_map (λ (c : Collection). c.documents) (if b then Some c else collection_in cs other) ≡ (if b then Some c.documents else documents_found cs other)
+found_if true c cs other = refl
+found_if false c cs other = refl
+
+changed_here : (b d : Bool) (ds : List Fields) (g : List Fields → List Fields) (o : Option (List Fields)) → b ≡ d → (if b then Some (g ds) else o) ≡ (if d then option_map g (if b then Some ds else o) else (if b then Some ds else o))
+changed_here true true ds g o e = refl
+changed_here false false ds g o e = refl
+changed_here true false ds g o e = absurd cc
+changed_here false true ds g o e = absurd cc
+
+changed_behind : (b d : Bool) (ds : List Fields) (g : List Fields → List Fields) (o : Option (List Fields)) → (b ≡ true → d ≡ true → ⊥)
+    → (if b then Some ds else (if d then option_map g o else o)) ≡ (if d then option_map g (if b then Some ds else o) else (if b then Some ds else o))
+changed_behind true true ds g o apart = absurd (apart refl refl)
+changed_behind true false ds g o apart = refl
+changed_behind false true ds g o apart = refl
+changed_behind false false ds g o apart = refl
+
+pub documents_changed : (space : Space) (g : List Fields → List Fields) (cs : List Collection) (other : Space) → documents_found (change_documents space g cs) other ≡ changed_documents space g (documents_found cs) other
+documents_changed space g [] other = cond_none (is_space other space) g
+  where
+    cond_none : (b : Bool) (g : List Fields → List Fields) → None ≡ (if b then option_map g None else None)
+    cond_none true g = refl
+    cond_none false g = refl
+documents_changed space g (c ∷ cs) other =
+    elim (cases_Bool (is_space space c.space)) [
+      | inl same ↦
+          let e : space ≡ c.space = same_space space c.space same in
+          ap (λ (b : Bool). documents_found (if b then record c { documents = g c.documents } ∷ cs else c ∷ change_documents space g cs) other) same
+          ∙ found_if (is_space other c.space) (record c { documents = g c.documents }) cs other
+          ∙ changed_here (is_space other c.space) (is_space other space) c.documents g (documents_found cs other) (ap (is_space other) (sym e))
+          ∙ ap (λ (o : Option (List Fields)). if is_space other space then option_map g o else o) (sym (found_if (is_space other c.space) c cs other))
+      | inr differs ↦
+          let apart = λ (here : is_space other c.space ≡ true) (there : is_space other space ≡ true).
+          let e : space ≡ c.space = sym (same_space other space there) ∙ same_space other c.space here in
+          let bad : is_space space c.space ≡ true = ap (is_space space) (sym e) ∙ is_space_self space in
+          let no_way : true ≡ false = sym bad ∙ differs in
+          absurd cc in
+          ap (λ (b : Bool). documents_found (if b then record c { documents = g c.documents } ∷ cs else c ∷ change_documents space g cs) other) differs
+          ∙ found_if (is_space other c.space) c (change_documents space g cs) other
+          ∙ ap (λ (o : Option (List Fields)). if is_space other c.space then Some c.documents else o) (documents_changed space g cs other)
+          ∙ changed_behind (is_space other c.space) (is_space other space) c.documents g (documents_found cs other) apart
+          ∙ ap (λ (o : Option (List Fields)). if is_space other space then option_map g o else o) (sym (found_if (is_space other c.space) c cs other))
+    ]
 
 -- the documents stand where they were put
 pub documents_here : (s : State) (space : Space) (ds : List Fields) → option_map (λ (c : Collection). c.documents) (collection_in (with_documents s space ds) space) ≡ Some ds

@@ -1,14 +1,16 @@
 -- What replies do to the cursors of a store in memory.
 use Rattle.std.proofs.Common.{◌≡◌, ◌⊎◌, ℕ, ℤ, pos, negsuc, zero, suc, ◌≤◌, Bool, true, false, List, [], ◌∷◌, length, Option, Some, None, refl, sym, ap, ◌∙◌, subst, inl, inr, le_refl, arith}
-use Rattle.std.specs.Prelude.{if◌then◌else◌, nat_lt, unwrap_or}
+use Rattle.std.specs.Prelude.{if◌then◌else◌, drop, nat_lt, unwrap_or}
 use Rattle.std.specs.Ordering.{int_eq}
 use Rattle.std.proofs.lemmas.Bool.{cases_Bool, cases_eq, false_from_ne_true, lt-ltb, le-ltb}
 use Rattle.std.proofs.lemmas.Bool.Decides.{Decides-int_eq, nat_tests}
 use Rattle.mg_bson.specs.Tree.{Tree, Fields}
-use Rattle.mg_link.specs.State.{Watch, Cursor, watching, Collection, State, put_cursor, without_cursors, give}
+use Rattle.mg_link.specs.Namespace.{Space}
+use Rattle.mg_link.specs.State.{Watch, Cursor, query, watching, Collection, State, put_cursor, without_cursors, give}
 use Rattle.mg_link.specs.Commands.{Asked, asks_more, refuses}
 use Rattle.mg_link.specs.Step.{effect, watching_at, opened_cursor, moved, moved_cursor, ends_cursor}
-use Rattle.mg_link.specs.Kept.{IsCollection, IsStoreCursor, IsStoreState, is_given}
+use Rattle.mg_link.specs.Rules.{id_unless}
+use Rattle.mg_link.specs.Kept.{IsStoreCursor, IsStoreState, is_given}
 
 pub same_int : (x y : ℤ) → int_eq x y ≡ true → x ≡ y
 same_int x y h = (Decides-int_eq x y).0 h
@@ -84,30 +86,48 @@ is_zero_no given (pos zero) h = absurd cc
 is_zero_no given (pos (suc n)) h = not_zero n
 is_zero_no given (negsuc n) h = absurd cc
 
-opened_state : (s : State) (given : ℕ) (w : Watch) (place : ℕ) → IsStoreState s given true → IsCollection w.target → place ≤ length s.changes
-    → IsStoreState (record s { cursors = put_cursor (pos (suc given)) (Some (watching w place)) s.cursors; given = give (pos (suc given)) s.given }) (suc given) true
-opened_state s given w place h target le = record {
+opened_state : (s : State) (given : ℕ) (d : Cursor) → IsStoreState s given true → IsStoreCursor (length s.changes) d
+    → IsStoreState (record s { cursors = put_cursor (pos (suc given)) (Some d) s.cursors; given = give (pos (suc given)) s.given }) (suc given) true
+opened_state s given d h fits = record {
   entries_are = h.entries_are;
   tokens_are = h.tokens_are;
   ids_are = λ id. ap (λ (b : Bool). if int_eq id (pos (suc given)) then true else b) (h.ids_are id) ∙ given_more given id;
   cursors_are = λ id c there.
-      elim (put_is (pos (suc given)) (Some (watching w place)) s.cursors id c there) [
+      elim (put_is (pos (suc given)) (Some d) s.cursors id c there) [
         | inl here ↦
-            let e : watching w place ≡ c = cc in
-            (subst (IsStoreCursor (length s.changes)) e (target, le), subst (λ (x : ℤ). is_given (suc given) x ≡ true) (sym here.0) (next_given given))
+            let e : d ≡ c = cc in
+            (subst (IsStoreCursor (length s.changes)) e fits, subst (λ (x : ℤ). is_given (suc given) x ≡ true) (sym here.0) (next_given given))
         | inr before ↦ let old = h.cursors_are id c before in (old.0, still_given given id old.1)
       ];
   time_is = h.time_is;
   empty_before = h.empty_before;
 }
 
+-- the next id is given to a cursor
+cursor_opened : (s : State) (given : ℕ) (d : Cursor) → IsStoreState s given true → IsStoreCursor (length s.changes) d → IsStoreState (opened_cursor s (pos (suc given)) d) (suc given) true
+cursor_opened s given d h fits =
+    subst (λ (b : Bool). IsStoreState (if b then s else record s { cursors = put_cursor (pos (suc given)) (Some d) s.cursors; given = give (pos (suc given)) s.given }) (suc given) true) (sym (not_zero given)) (opened_state s given d h fits)
+
 -- the next id is given to a cursor at a place that the token names
-pub opened_is : (s : State) (given : ℕ) (w : Watch) (token : Tree) (place : ℕ) → IsStoreState s given true → IsCollection w.target → s.tokens token ≡ Some place → place ≤ length s.changes
+opened_is : (s : State) (given : ℕ) (w : Watch) (token : Tree) (place : ℕ) → IsStoreState s given true → s.tokens token ≡ Some place → place ≤ length s.changes
     → IsStoreState (opened_cursor s (pos (suc given)) (watching_at s w (Some token))) (suc given) true
-opened_is s given w token place h target named le =
+opened_is s given w token place h named le =
     let e : watching w place ≡ watching_at s w (Some token) = ap (λ (o : Option ℕ). watching w (unwrap_or o 0)) (sym named) in
-    let opened = subst (λ (c : Cursor). IsStoreState (record s { cursors = put_cursor (pos (suc given)) (Some c) s.cursors; given = give (pos (suc given)) s.given }) (suc given) true) e (opened_state s given w place h target le) in
-    subst (λ (b : Bool). IsStoreState (if b then s else record s { cursors = put_cursor (pos (suc given)) (Some (watching_at s w (Some token))) s.cursors; given = give (pos (suc given)) s.given }) (suc given) true) (sym (not_zero given)) opened
+    cursor_opened s given (watching_at s w (Some token)) h (subst (IsStoreCursor (length s.changes)) e le)
+
+-- a query gives the next id to its cursor, or none where its reply has id 0
+pub query_opened : (s : State) (given : ℕ) (id : ℤ) (sp : Space) (left : List Fields) → IsStoreState s given true → (id ≡ pos 0) ⊎ (id ≡ pos (suc given)) → IsStoreState (opened_cursor s id (query sp left)) (if int_eq id (pos 0) then given else suc given) true
+query_opened s given id sp left h (inl none) = subst (λ (x : ℤ). IsStoreState (opened_cursor s x (query sp left)) (if int_eq x (pos 0) then given else suc given) true) (sym none) h
+query_opened s given id sp left h (inr next) =
+    subst (λ (x : ℤ). IsStoreState (opened_cursor s x (query sp left)) (if int_eq x (pos 0) then given else suc given) true) (sym next)
+    (subst (λ (b : Bool). IsStoreState (opened_cursor s (pos (suc given)) (query sp left)) (if b then given else suc given) true) (sym (not_zero given)) (cursor_opened s given (query sp left) h tt))
+
+-- where the batch ends with an invalidate entry, no cursor is opened and no id is given
+pub opened_unless : (ended : Bool) (s : State) (given : ℕ) (w : Watch) (token : Tree) (place : ℕ) → IsStoreState s given true → s.tokens token ≡ Some place → place ≤ length s.changes
+    → IsStoreState (opened_cursor s (id_unless ended (pos (suc given))) (watching_at s w (Some token))) (if int_eq (id_unless ended (pos (suc given))) (pos 0) then given else suc given) true
+opened_unless true s given w token place h named le = h
+opened_unless false s given w token place h named le =
+    subst (λ (b : Bool). IsStoreState (opened_cursor s (pos (suc given)) (watching_at s w (Some token))) (if b then given else suc given) true) (sym (not_zero given)) (opened_is s given w token place h named le)
 
 -- ---- a cursor moves
 
@@ -123,7 +143,21 @@ moved_is s given id left w at events token place h there named le =
       | inr stays ↦
           let f : moved s events (Some token) (s.cursors id) ≡ Some c = sym (ap (λ (b : Bool). if b then None else moved s events (Some token) (s.cursors id)) stays) ∙ e in
           let g : watching w place ≡ c = cc in
-          (subst (IsStoreCursor (length s.changes)) g (old.0.0, le), old.1)
+          (subst (IsStoreCursor (length s.changes)) g le, old.1)
+    ])
+
+-- a query goes on behind these documents, or ends
+pub queried_is : (s : State) (given : ℕ) (id next : ℤ) (sp : Space) (left ds : List Fields) (token : Option Tree) → IsStoreState s given true → s.cursors id ≡ Some (query sp left) → IsStoreState (moved_cursor s id next ds token) given true
+queried_is s given id next sp left ds token h there =
+    let old = h.cursors_are id (query sp left) there in
+    let now_at : moved s ds token (s.cursors id) ≡ Some (query sp (drop (length ds) left)) = ap (moved s ds token) there in
+    cursor_put s given true id (if int_eq next (pos 0) then None else moved s ds token (s.cursors id)) h (λ c e.
+    elim (cases_Bool (int_eq next (pos 0))) [
+      | inl ends ↦ let f : None ≡ Some c = sym (ap (λ (b : Bool). if b then None else moved s ds token (s.cursors id)) ends) ∙ e in absurd cc
+      | inr stays ↦
+          let f : moved s ds token (s.cursors id) ≡ Some c = sym (ap (λ (b : Bool). if b then None else moved s ds token (s.cursors id)) stays) ∙ e in
+          let g : query sp (drop (length ds) left) ≡ c = cc in
+          (subst (IsStoreCursor (length s.changes)) g tt, old.1)
     ])
 
 -- ---- cursors are killed

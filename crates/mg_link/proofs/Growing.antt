@@ -73,8 +73,8 @@ entries_join place (x ∷ xs) ys h g =
     (h.0, entries_join (suc place) xs ys h.1 (subst (λ (n : ℕ). AreStoreEntries n ys) e g))
 
 cursor_stays : (n m : ℕ) (c : Cursor) → n ≤ m → IsStoreCursor n c → IsStoreCursor m c
-cursor_stays n m (watching w place) le h = (h.0, le_trans h.1 le)
-cursor_stays n m (query space left) le h = absurd h
+cursor_stays n m (watching w place) le h = le_trans h le
+cursor_stays n m (query space left) le h = tt
 
 -- a step that adds entries of the rules, behind which the time is this one
 abbrev with_now : Bool → List Entry → ℕ → Made

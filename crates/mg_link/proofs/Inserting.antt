@@ -100,7 +100,7 @@ inserts_one : (space : Space) (ordered : Bool) (index place : ℕ) (there : List
 inserts_one space ordered index place there d ds id i fs ok rest =
     let known = accepted there d id ok in
     record {
-      entries_are = (record { token_is = refl; time_is = refl; change_is = refl }, rest.entries_are);
+      entries_are = (record { token_is = refl; time_is = refl }, rest.entries_are);
       events_are = (is_event (suc place) space id d, rest.events_are);
       tell_of = (tells_of (suc place) space id d, rest.tell_of);
       ids_are = ((id, known.0, no_id id there known.1), rest.ids_are);

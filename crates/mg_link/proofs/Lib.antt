@@ -14,6 +14,7 @@ pub mod Collections
 pub mod Requests
 pub mod Growing
 pub mod Inserting
+pub mod Changing
 pub mod Telling
 pub mod Batching
 pub mod Cursoring
@@ -21,6 +22,7 @@ pub mod Allowed
 pub mod Legal
 pub mod Examples
 pub mod Behind
+pub mod Indexed
 pub mod Later
 pub mod Timed
 pub mod Owners
@@ -46,3 +48,5 @@ pub mod Killing
 pub mod Identified
 pub mod Resuming
 pub mod Workings
+pub mod Files
+pub mod Batched

@@ -54,7 +54,8 @@ step_ids s s' (asks_delete space conditions many) (deleted n []) made j e may h 
 step_ids s s' (asks_delete space conditions many) (deleted n (f ∷ fs)) made j e may h = absurd (none_there made j e may.no_entry h)
 step_ids s s' (asks_create space) done made j e may h = absurd (none_there made j e may.no_entry h)
 step_ids s s' (asks_indexes space indexes) done made j e may h = absurd (none_there made j e may h)
-step_ids s s' (asks_drop space) done made j e may h = drop_ids space may.dropped may.ended made j e may.entries may.drop_is may.end_is h
+step_ids s s' (asks_drop space) done made j e (inl may) h = drop_ids space may.dropped may.ended made j e may.entries may.drop_is may.end_is h
+step_ids s s' (asks_drop space) done made j e (inr may) h = absurd (none_there made j e may.no_entry h)
 step_ids s s' (asks_query q) (opened id at documents token time) made j e may h = absurd (none_there made j e may.no_entry h)
 step_ids s s' (asks_watch watch start) (opened id at events token time) made j e may h = absurd (none_there made j e may.no_entry h)
 step_ids s s' (asks_more id space) (gave left at events token) made j e (inl may) h = absurd (none_there made j e may.no_entry h)

@@ -18,6 +18,16 @@ get_within [] k x h = cc
 get_within (y ∷ xs) zero x h = omega arith
 get_within (y ∷ xs) (suc k) x h = let i = get_within xs k x h in omega arith
 
+pub get_there : {A : Type 0} (xs : List A) (k : ℕ) → k < length xs → (x : A) × (slice_get xs k ≡ Some x)
+get_there [] k lt = absurd (omega arith)
+get_there (x ∷ xs) zero lt = (x, refl)
+get_there (x ∷ xs) (suc k) lt = get_there xs k (omega arith)
+
+pub take_more : {A : Type 0} (xs : List A) (k : ℕ) (x : A) → slice_get xs k ≡ Some x → take (suc k) xs ≡ take k xs ++ x ∷ []
+take_more [] k x h = absurd cc
+take_more (y ∷ ys) zero x h = let same : y ≡ x = cc in ap (λ z. z ∷ []) same
+take_more (y ∷ ys) (suc k) x h = ap (λ l. y ∷ l) (take_more ys k x h)
+
 -- an element of two lists joined is one of the first or one of the second
 pub get_either : {A : Type 0} (xs ys : List A) (k : ℕ) (x : A) → slice_get (xs ++ ys) k ≡ Some x → (slice_get xs k ≡ Some x) ⊎ ((j : ℕ) × (slice_get ys j ≡ Some x))
 get_either [] ys k x h = inr (k, h)

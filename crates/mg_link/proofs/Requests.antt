@@ -1,18 +1,20 @@
 -- What the store reads as a request is what the command asks for.
-use Rattle.std.proofs.Common.{◌≡◌, ℕ, ℤ, pos, negsuc, Bool, true, false, List, [], ◌∷◌, length, Option, Some, None, Result, Ok, Err, refl, sym, ap, ap₂, ◌∙◌, subst, inl, inr}
-use Rattle.std.specs.Prelude.{if◌then◌else◌, nat_lt, nat_le, ◌&&◌, ◌||◌, option_and_then, unwrap_or, codes}
+use Rattle.std.proofs.Common.{◌≡◌, ℕ, ℤ, pos, negsuc, Bool, true, false, List, [], ◌∷◌, length, Option, Some, None, Result, Ok, Err, refl, sym, ap, ap₂, ◌∙◌, subst, inl, inr, ◌++◌}
+use Rattle.std.specs.Prelude.{if◌then◌else◌, nat_lt, nat_le, ◌&&◌, option_and_then, option_map, unwrap_or, is_some, codes}
+use Rattle.std.specs.Ordering.{int_eq}
 use Rattle.std.specs.Str.{bytes_eq}
-use Rattle.std.proofs.lemmas.Bool.{cases_Bool, and_parts, or_from, both_ways}
+use Rattle.std.proofs.lemmas.Bool.{cases_Bool, and_parts}
 use Rattle.std.proofs.lemmas.Slice.Eq.{bytes_eq-Decides}
-use Rattle.mg_bson.specs.Tree.{Tree, Fields, no_fields, field, Items, no_items, item}
+use Rattle.mg_bson.specs.Tree.{Tree, int32, int64, Fields, no_fields, field, Items, no_items, item}
 use Rattle.mg_bson.specs.Raw.{fields}
 use Rattle.mg_bson.specs.Reading.{◌>>=◌}
-use Rattle.mg_bson.specs.Find.{get}
-use Rattle.mg_link.specs.Namespace.{Space, collection}
+use Rattle.mg_bson.specs.Find.{get, as_string, as_boolean, as_document}
+use Rattle.mg_link.specs.Namespace.{Space, Target, database, collection, cluster}
 use Rattle.mg_link.specs.Filter.{Condition, has_dot}
-use Rattle.mg_link.specs.State.{Start, nowhere, after}
-use Rattle.mg_link.specs.Commands.{Asked, asks_insert, asks_watch, asks_more, asks_kill, asks_other, asked_by, asked, text_of, as_database, as_collection, database_at, space_at, as_integer, documents_in, integers_in, flag_or, insert_of, filter_stages, start_by, start_of, target_of, watch_from, watch_of, more_of, kill_of, or_asks, pipeline_query, is_name_among, ignored, has_only, optional_count, batch_size}
-use Rattle.mg_link.specs.Rules.{Request, insert, watch, more, kill, max_name, as_name, name_at, without_dot, named_space, as_id, id_of, array_at, insert_request, watch_options, behind_first, watch_request, some_size, more_request, ids_in, kill_request, bad_request, unknown_command, or_code, request_of}
+use Rattle.mg_link.specs.State.{Start, Index}
+use Rattle.mg_link.specs.Commands.{Asked, asks_insert, asks_watch, asks_more, asks_kill, asks_other, asked_by, asked, text_of, as_database, as_collection, database_at, space_at, as_integer, documents_in, integers_in, flag_or, insert_of, filter_stages, start_of, whole_target, target_by, target_of, watch_from, watch_of, more_of, kill_of, or_asks, pipeline_query, has_only, optional_count, batch_size, pipeline_fields, stages_in, asks_create, asks_indexes, create_fields, create_of, indexing_fields, indexing_of, indexes_in, further_by, asks_query, find_fields, find_stages, find_query, find_of, query_by, pipeline_of, piped, stage_by, stage_of, watch_by, watch_stage}
+use Rattle.mg_link.specs.Rules.{Request, insert, watch, more, kill, max_name, as_name, name_at, without_dot, named_space, as_id, id_of, array_at, insert_request, watch_options, behind_first, named_database, target_at, option_names, watch_with, watch_request, watch_space, some_size, more_request, ids_in, kill_request, bad_request, unknown_command, or_code, request_of, create_collection, create_indexes, create_request, indexes_request, find, find_request, query_space, pipeline_request, or_request, aggregate_request}
+use Rattle.mg_link.specs.Query.{Query, Source, of_collection, Stage}
 
 -- ---- steps that gave something
 
@@ -44,7 +46,7 @@ pub record IsNamed (space : Space) : Type 0 where
   pub coll_there : nat_lt 0 (length space.coll) ≡ true
   pub no_dot : has_dot space.db ≡ false
 
-name_some : (k : List ℕ) (fs : Fields) (s : List ℕ) → name_at k fs ≡ Some s → (text_of k fs ≡ Some s) × (nat_lt 0 (length s) ≡ true)
+pub name_some : (k : List ℕ) (fs : Fields) (s : List ℕ) → name_at k fs ≡ Some s → (text_of k fs ≡ Some s) × (nat_lt 0 (length s) ≡ true)
 name_some k fs s h =
     let t = and_then_some as_name (text_of k fs) s h in
     let w = when_some (nat_lt 0 (length t.0) && nat_le (length t.0) max_name) (Some t.0) s t.2 in
@@ -61,7 +63,7 @@ undotted_some s db h =
           (f, subst (λ (n : List ℕ). has_dot n ≡ false) f undotted)
     ]
 
-as_collection-some : (s : List ℕ) → nat_lt 0 (length s) ≡ true → as_collection s ≡ Some s
+pub as_collection-some : (s : List ℕ) → nat_lt 0 (length s) ≡ true → as_collection s ≡ Some s
 as_collection-some [] h = absurd cc
 as_collection-some (b ∷ bs) h = refl
 
@@ -101,21 +103,23 @@ space_some at fs space h =
 
 -- ---- what a request asks for
 
-abbrev pub start_from : Option Tree → Start
-start_from None = nowhere
-start_from (Some token) = after token
-
 abbrev pub asks_of : Request → Asked
 asks_of (insert space documents ordered) = asks_insert space documents ordered
-asks_of (watch space filter resume_after size) = asks_watch (record { target = collection space; filter = filter }) (start_from resume_after)
+asks_of (find q) = asks_query q
+asks_of (watch w start resumes size) = asks_watch w start
 asks_of (more id space size) = asks_more id space
 asks_of (kill ids) = asks_kill ids
+asks_of (create_collection space) = asks_create space
+asks_of (create_indexes space indexes) = asks_indexes space indexes
 
 abbrev pub HasName : Request → Type 0
 HasName (insert space documents ordered) = IsNamed space
-HasName (watch space filter resume_after size) = IsNamed space
+HasName (find q) = IsNamed (query_space q.source)
+HasName (watch w start resumes size) = IsNamed (watch_space w.target)
 HasName (more id space size) = IsNamed space
 HasName (kill ids) = Unit {0}
+HasName (create_collection space) = IsNamed space
+HasName (create_indexes space indexes) = IsNamed space
 
 -- the command asks for the request
 pub record Reads (o : Option Asked) (r : Request) : Type 0 where
@@ -151,70 +155,147 @@ insert_reads fs r h =
     let asks = insert_asks fs a.0 b.0 c.0 d.0 space.here b.1 c.1 d.1 in
     reads_as (insert_of fs) (insert a.0 c.0 d.0) r d.2 asks space.named
 
--- a field of another name is not there
-pub only_get : (ns : List (List ℕ)) (fs : Fields) (k : List ℕ) → has_only ns fs ≡ true → is_name_among k ns ≡ false → is_name_among k ignored ≡ false → get k fs ≡ None
-only_get ns no_fields k h other other' = refl
-only_get ns (field l t fs) k h other other' =
-    let parts = and_parts (is_name_among l ns || is_name_among l ignored) (has_only ns fs) h in
-    elim (cases_Bool (bytes_eq l k)) [
-      | inl same ↦
-          let e : l ≡ k = (bytes_eq-Decides l k).0 same in
-          let f : (is_name_among l ns || is_name_among l ignored) ≡ false = subst (λ (n : List ℕ). (is_name_among n ns || is_name_among n ignored) ≡ false) (sym e) (or_from (is_name_among k ns) (is_name_among k ignored) other other') in
-          absurd (both_ways _ f parts.0)
-      | inr differs ↦ ap (λ (b : Bool). if b then Some t else get k fs) differs ∙ only_get ns fs k parts.1 other other'
-    ]
+-- a find is of the collection that it names
+find_source : (fs : Fields) (space : Space) (q : Query) → find_query fs space ≡ Some q → q.source ≡ of_collection space
+find_source fs space q h =
+    let a = then_some (find_stages fs) (λ (stages : List Stage). flag_or false (get (codes "singleBatch") fs) >>= λ single. optional_count (get (codes "batchSize") fs) >>= λ size. Some (query_by (of_collection space) single stages size)) q h in
+    let b = then_some (flag_or false (get (codes "singleBatch") fs)) (λ (single : Bool). optional_count (get (codes "batchSize") fs) >>= λ size. Some (query_by (of_collection space) single a.0 size)) q a.2 in
+    let c = then_some (optional_count (get (codes "batchSize") fs)) (λ (size : Option ℕ). Some (query_by (of_collection space) b.0 a.0 size)) q b.2 in
+    let e : query_by (of_collection space) b.0 a.0 c.0 ≡ q = cc in
+    sym (ap (λ (x : Query). x.source) e)
 
-start_alone : (o : Option Tree) → start_by o None None ≡ Some (start_from o)
-start_alone None = refl
-start_alone (Some token) = refl
+find_asks : (fs : Fields) (space : Space) (q : Query) → has_only find_fields fs ≡ true → space_at (codes "find") fs ≡ Some space → find_query fs space ≡ Some q → find_of fs ≡ Some (asks_query q)
+unfolding find_of
+find_asks fs space q a b c = rw (a, b, c) refl
 
-start_reads : (options : Fields) → has_only (codes "resumeAfter" ∷ []) options ≡ true → start_of options ≡ Some (start_from (get (codes "resumeAfter") options))
-start_reads options h =
-    let a = only_get (codes "resumeAfter" ∷ []) options (codes "startAfter") h refl refl in
-    let b = only_get (codes "resumeAfter" ∷ []) options (codes "startAtOperationTime") h refl refl in
-    ap₂ (start_by (get (codes "resumeAfter") options)) a b ∙ start_alone (get (codes "resumeAfter") options)
+find_reads : (fs : Fields) (r : Request) → find_request fs ≡ Some r → Reads (find_of fs) r
+unfolding find_request
+find_reads fs r h =
+    let w = when_some (has_only find_fields fs) (named_space (codes "find") fs >>= find_query fs >>= λ q. Some (find q)) r h in
+    let a = then_some (named_space (codes "find") fs >>= find_query fs) (λ (q : Query). Some (find q)) r w.1 in
+    let b = then_some (named_space (codes "find") fs) (find_query fs) a.0 a.1 in
+    let space = space_some (codes "find") fs b.0 b.1 in
+    let named : IsNamed (query_space a.0.source) = subst (λ (x : Source). IsNamed (query_space x)) (sym (find_source fs b.0 a.0 b.2)) space.named in
+    reads_as (find_of fs) (find a.0) r a.2 (find_asks fs b.0 a.0 w.0 space.here b.2) named
 
-stages_read : (fs : Fields) (stages : List Fields) (options : Fields) (filter : List Condition) (space : Space) → watch_options stages ≡ Some options → filter_stages (behind_first stages) ≡ Some filter → start_of options ≡ Some (start_from (get (codes "resumeAfter") options))
-    → NamesSpace (codes "aggregate") fs space → watch_from fs stages ≡ Some (asks_watch (record { target = collection space; filter = filter }) (start_from (get (codes "resumeAfter") options)))
-stages_read fs [] options filter space o f s at = absurd cc
-stages_read fs (stage ∷ stages) options filter space o f s at =
-    let t : target_of options fs ≡ Some (collection space) = rw (at.db_is, at.text_is, at.coll_is) refl in
-    rw (o, f, s, t) refl
+-- ---- watches
 
-abbrev watch_sized : Fields → Space → Fields → List Condition → Option Request
-watch_sized fs space options filter = if has_only (codes "resumeAfter" ∷ []) options then (batch_size fs >>= λ size. Some (watch space filter (get (codes "resumeAfter") options) size)) else None
+-- the database that a command names
+record NamesDatabase (fs : Fields) (db : List ℕ) : Type 0 where
+  here : database_at fs ≡ Some db
+  there : nat_lt 0 (length db) ≡ true
+  no_dot : has_dot db ≡ false
 
-abbrev watch_filtered : Fields → Space → List Fields → Fields → Option Request
-watch_filtered fs space stages options = filter_stages (behind_first stages) >>= watch_sized fs space options
+database_some : (fs : Fields) (db : List ℕ) → named_database fs ≡ Some db → NamesDatabase fs db
+database_some fs db h =
+    let a = then_some (name_at (codes "$db") fs) without_dot db h in
+    let name = name_some (codes "$db") fs a.0 a.1 in
+    let whole = undotted_some a.0 db a.2 in
+    let there : nat_lt 0 (length db) ≡ true = subst (λ (n : List ℕ). nat_lt 0 (length n) ≡ true) whole.0 name.1 in
+    record {
+      here = ap (option_and_then as_database) (name.0 ∙ ap Some whole.0) ∙ as_database-some db there whole.1;
+      there = there;
+      no_dot = whole.1;
+    }
 
-abbrev watch_staged : Fields → Space → List Fields → Option Request
-watch_staged fs space stages = watch_options stages >>= watch_filtered fs space stages
+whole_named : (all : Bool) (db : List ℕ) (t : Target) → nat_lt 0 (length db) ≡ true → has_dot db ≡ false → whole_target all db ≡ Some t → IsNamed (watch_space t)
+whole_named true db t there dot e =
+    let a = when_some (bytes_eq db (codes "admin")) (Some cluster) t e in
+    let f : cluster ≡ t = cc in
+    subst (λ (x : Target). IsNamed (watch_space x)) f (record { db_there = refl; coll_there = refl; no_dot = refl })
+whole_named false db t there dot e =
+    let f : database db ≡ t = cc in
+    subst (λ (x : Target). IsNamed (watch_space x)) f (record { db_there = there; coll_there = refl; no_dot = dot })
 
-abbrev watch_listed : Fields → Space → Items → Option Request
-watch_listed fs space items = documents_in items >>= watch_staged fs space
+int_no_text : (found : Option Tree) (n : ℤ) → option_and_then as_integer found ≡ Some n → option_and_then as_string found ≡ None
+int_no_text None n h = refl
+int_no_text (Some (int32 z)) n h = refl
+int_no_text (Some (int64 z)) n h = refl
+int_no_text (Some t) n h = absurd cc
 
-abbrev watch_on : Fields → Space → Option Request
-watch_on fs space = array_at (codes "pipeline") fs >>= watch_listed fs space
+-- what a watch is aimed at, and that its cursor has a name
+record Aims (all : Bool) (db : List ℕ) (text : Option (List ℕ)) (number : Option ℤ) (t : Target) : Type 0 where
+  here : target_by all db text number ≡ Some t
+  named : IsNamed (watch_space t)
 
-watch_asks : (fs : Fields) (items : Items) (stages : List Fields) (asks : Asked) → array_at (codes "pipeline") fs ≡ Some items → documents_in items ≡ Some stages → watch_from fs stages ≡ Some asks → watch_of fs ≡ Some asks
+aims_by : (all : Bool) (fs : Fields) (db : List ℕ) (t : Target) (name : Option (List ℕ)) (number : Option ℤ) → nat_lt 0 (length db) ≡ true → has_dot db ≡ false → name_at (codes "aggregate") fs ≡ name → option_and_then as_integer (get (codes "aggregate") fs) ≡ number
+    → target_by all db name number ≡ Some t → Aims all db (text_of (codes "aggregate") fs) number t
+aims_by all fs db t (Some name) number there dot is whole e =
+    let text = name_some (codes "aggregate") fs name is in
+    let coll = as_collection-some name text.1 in
+    let f : Some (collection (record { db = db; coll = name })) ≡ Some t = sym (ap (option_map (λ (coll : List ℕ). collection (record { db = db; coll = coll }))) coll) ∙ e in
+    let g : collection (record { db = db; coll = name }) ≡ t = cc in
+    record {
+      here = ap (λ (o : Option (List ℕ)). target_by all db o number) text.0 ∙ e;
+      named = subst (λ (x : Target). IsNamed (watch_space x)) g (record { db_there = there; coll_there = text.1; no_dot = dot });
+    }
+aims_by all fs db t None None there dot is whole e = absurd cc
+aims_by all fs db t None (Some n) there dot is whole e =
+    let a = when_some (int_eq n (pos 1)) (whole_target all db) t e in
+    record {
+      here = ap (λ (o : Option (List ℕ)). target_by all db o (Some n)) (int_no_text (get (codes "aggregate") fs) n whole) ∙ e;
+      named = whole_named all db t there dot a.1;
+    }
+
+cluster_is : (found : Option Tree) (all : Bool) → flag_or false found ≡ Some all → unwrap_or (option_and_then as_boolean found) false ≡ all
+cluster_is None all h = cc
+cluster_is (Some t) all h = ap (λ (o : Option Bool). unwrap_or o false) h
+
+record AimsAt (options fs : Fields) (t : Target) : Type 0 where
+  here : target_of options fs ≡ Some t
+  named : IsNamed (watch_space t)
+
+target_some : (options fs : Fields) (all : Bool) (t : Target) → flag_or false (get (codes "allChangesForCluster") options) ≡ Some all → target_at fs all ≡ Some t → AimsAt options fs t
+target_some options fs all t flag h =
+    let number : Option ℤ = option_and_then as_integer (get (codes "aggregate") fs) in
+    let a = then_some (named_database fs) (λ (db : List ℕ). target_by all db (name_at (codes "aggregate") fs) number) t h in
+    let db = database_some fs a.0 a.1 in
+    let aims = aims_by all fs a.0 t (name_at (codes "aggregate") fs) number db.there db.no_dot refl refl a.2 in
+    record {
+      here = ap₂ (λ (b : Bool) (o : Option (List ℕ)). option_and_then (λ db. target_by b db (text_of (codes "aggregate") fs) number) o) (cluster_is (get (codes "allChangesForCluster") options) all flag) db.here ∙ aims.here;
+      named = aims.named;
+    }
+
+stages_read : (fs : Fields) (stages : List Fields) (options : Fields) (filter : List Condition) (start : Start) (t : Target) → watch_options stages ≡ Some options → filter_stages (behind_first stages) ≡ Some filter → start_of options ≡ Some start
+    → target_of options fs ≡ Some t → watch_from fs stages ≡ Some (asks_watch (record { target = t; filter = filter }) start)
+stages_read fs [] options filter start t o f s at = absurd cc
+stages_read fs (stage ∷ stages) options filter start t o f s at = rw (o, f, s, at) refl
+
+abbrev watch_sized : Fields → Fields → List Condition → Target → Start → Option Request
+watch_sized fs options filter target start = batch_size fs >>= λ size. Some (watch (record { target = target; filter = filter }) start (is_some (get (codes "resumeAfter") options)) size)
+
+abbrev watch_started : Fields → Fields → List Condition → Target → Option Request
+watch_started fs options filter target = start_of options >>= watch_sized fs options filter target
+
+abbrev watch_aimed : Fields → Fields → List Condition → Bool → Option Request
+watch_aimed fs options filter all = target_at fs all >>= watch_started fs options filter
+
+abbrev watch_filtered : Fields → List Fields → Fields → Option Request
+watch_filtered fs stages options = filter_stages (behind_first stages) >>= watch_with fs options
+
+abbrev watch_staged : Fields → List Fields → Option Request
+watch_staged fs stages = watch_options stages >>= watch_filtered fs stages
+
+watch_asks : (fs : Fields) (stages : List Fields) (asks : Asked) → stages_in fs ≡ Some stages → watch_from fs stages ≡ Some asks → watch_of fs ≡ Some asks
 unfolding watch_of
-watch_asks fs items stages asks a b c = rw (a, b) c
+watch_asks fs stages asks a b = ap (option_and_then (watch_from fs)) a ∙ b
 
 watch_reads : (fs : Fields) (r : Request) → watch_request fs ≡ Some r → Reads (watch_of fs) r
 unfolding watch_request
 watch_reads fs r h =
-    let w = when_some (has_only (codes "aggregate" ∷ codes "pipeline" ∷ codes "cursor" ∷ []) fs) (named_space (codes "aggregate") fs >>= watch_on fs) r h in
-    let a = then_some (named_space (codes "aggregate") fs) (watch_on fs) r w.1 in
-    let b = then_some (array_at (codes "pipeline") fs) (watch_listed fs a.0) r a.2 in
-    let c = then_some (documents_in b.0) (watch_staged fs a.0) r b.2 in
-    let d = then_some (watch_options c.0) (watch_filtered fs a.0 c.0) r c.2 in
-    let e = then_some (filter_stages (behind_first c.0)) (watch_sized fs a.0 d.0) r d.2 in
-    let f = when_some (has_only (codes "resumeAfter" ∷ []) d.0) (batch_size fs >>= λ size. Some (watch a.0 e.0 (get (codes "resumeAfter") d.0) size)) r e.2 in
-    let g = then_some (batch_size fs) (λ (size : Option ℕ). Some (watch a.0 e.0 (get (codes "resumeAfter") d.0) size)) r f.1 in
-    let space = space_some (codes "aggregate") fs a.0 a.1 in
-    let stages = stages_read fs c.0 d.0 e.0 a.0 d.1 e.1 (start_reads d.0 f.0) space in
-    let asks = watch_asks fs b.0 c.0 (asks_of (watch a.0 e.0 (get (codes "resumeAfter") d.0) g.0)) b.1 c.1 stages in
-    reads_as (watch_of fs) (watch a.0 e.0 (get (codes "resumeAfter") d.0) g.0) r g.2 asks space.named
+    let w = when_some (has_only pipeline_fields fs) (stages_in fs >>= watch_staged fs) r h in
+    let a = then_some (stages_in fs) (watch_staged fs) r w.1 in
+    let b = then_some (watch_options a.0) (watch_filtered fs a.0) r a.2 in
+    let c = then_some (filter_stages (behind_first a.0)) (watch_with fs b.0) r b.2 in
+    let d = when_some (has_only option_names b.0) (flag_or false (get (codes "allChangesForCluster") b.0) >>= watch_aimed fs b.0 c.0) r c.2 in
+    let e = then_some (flag_or false (get (codes "allChangesForCluster") b.0)) (watch_aimed fs b.0 c.0) r d.1 in
+    let f = then_some (target_at fs e.0) (watch_started fs b.0 c.0) r e.2 in
+    let g = then_some (start_of b.0) (watch_sized fs b.0 c.0 f.0) r f.2 in
+    let k = then_some (batch_size fs) (λ (size : Option ℕ). Some (watch (record { target = f.0; filter = c.0 }) g.0 (is_some (get (codes "resumeAfter") b.0)) size)) r g.2 in
+    let aims = target_some b.0 fs e.0 f.0 e.1 f.1 in
+    let stages = stages_read fs a.0 b.0 c.0 g.0 f.0 b.1 c.1 g.1 aims.here in
+    let asks = watch_asks fs a.0 (asks_watch (record { target = f.0; filter = c.0 }) g.0) a.1 stages in
+    reads_as (watch_of fs) (watch (record { target = f.0; filter = c.0 }) g.0 (is_some (get (codes "resumeAfter") b.0)) k.0) r k.2 asks aims.named
 
 id_some : (id : ℤ) (t : Tree) → id_of t ≡ Some id → as_integer t ≡ Some id
 id_some id t h =
@@ -267,23 +348,127 @@ kill_reads fs r h =
     let asks = kill_asks fs b.0 c.0 b.1 ids in
     reads_as (kill_of fs) (kill c.0) r c.2 asks tt
 
+create_asks : (fs : Fields) (space : Space) → has_only create_fields fs ≡ true → space_at (codes "create") fs ≡ Some space → create_of fs ≡ Some (asks_create space)
+unfolding create_of
+create_asks fs space a b = rw (a, b) refl
+
+create_reads : (fs : Fields) (r : Request) → create_request fs ≡ Some r → Reads (create_of fs) r
+unfolding create_request
+create_reads fs r h =
+    let w = when_some (has_only create_fields fs) (named_space (codes "create") fs >>= λ space. Some (create_collection space)) r h in
+    let a = then_some (named_space (codes "create") fs) (λ (space : Space). Some (create_collection space)) r w.1 in
+    let space = space_some (codes "create") fs a.0 a.1 in
+    reads_as (create_of fs) (create_collection a.0) r a.2 (create_asks fs a.0 w.0 space.here) space.named
+
+indexes_ask : (fs : Fields) (space : Space) (indexes : List Index) → has_only indexing_fields fs ≡ true → space_at (codes "createIndexes") fs ≡ Some space → indexes_in fs ≡ Some indexes → indexing_of fs ≡ Some (asks_indexes space indexes)
+unfolding indexing_of
+indexes_ask fs space indexes a b c = rw (a, b, c) refl
+
+indexes_read : (fs : Fields) (r : Request) → indexes_request fs ≡ Some r → Reads (indexing_of fs) r
+unfolding indexes_request
+indexes_read fs r h =
+    let w = when_some (has_only indexing_fields fs) (named_space (codes "createIndexes") fs >>= λ space. indexes_in fs >>= λ indexes. Some (create_indexes space indexes)) r h in
+    let a = then_some (named_space (codes "createIndexes") fs) (λ (space : Space). indexes_in fs >>= λ indexes. Some (create_indexes space indexes)) r w.1 in
+    let b = then_some (indexes_in fs) (λ (indexes : List Index). Some (create_indexes a.0 indexes)) r a.2 in
+    let space = space_some (codes "createIndexes") fs a.0 a.1 in
+    reads_as (indexing_of fs) (create_indexes a.0 b.0) r b.2 (indexes_ask fs a.0 b.0 w.0 space.here b.1) space.named
+
+-- ---- aggregates
+
+-- a stage of a query opens no watch
+stage_by_none : (k : List ℕ) (t : Tree) (a : List Stage) → stage_by k t ≡ Some a → bytes_eq k (codes "$changeStream") ≡ true → ⊥
+stage_by_none k t a h same =
+    let e : stage_by (codes "$changeStream") t ≡ Some a = subst (λ (n : List ℕ). stage_by n t ≡ Some a) ((bytes_eq-Decides k (codes "$changeStream")).0 same) h in
+    none_some a e
+  where
+    none_some : (a : List Stage) → ◌≡◌ {A = Option (List Stage)} None (Some a) → ⊥
+    none_some a e = absurd cc
+
+no_watch_stage : (stage : Fields) (a : List Stage) → stage_of stage ≡ Some a → watch_stage stage ≡ None
+no_watch_stage no_fields a h = refl
+no_watch_stage (field k t no_fields) a h =
+    elim (cases_Bool (bytes_eq k (codes "$changeStream"))) [
+      | inl same ↦ absurd (stage_by_none k t a h same)
+      | inr differs ↦ ap (λ (b : Bool). if b then as_document t else None) differs
+    ]
+no_watch_stage (field k t (field l u fs)) a h = refl
+
+no_watch : (fs : Fields) (stages : List Fields) (a : List Stage) → pipeline_of stages ≡ Some a → watch_from fs stages ≡ None
+no_watch fs [] a h = refl
+no_watch fs (stage ∷ stages) a h =
+    let first = then_some (stage_of stage) (λ (x : List Stage). pipeline_of stages >>= λ y. Some (x ++ y)) a h in
+    ap (option_and_then (λ (options : Fields). watch_by fs options stages)) (no_watch_stage stage first.0 first.1)
+
+watch_none : (fs : Fields) (stages : List Fields) → stages_in fs ≡ Some stages → watch_from fs stages ≡ None → watch_of fs ≡ None
+unfolding watch_of
+watch_none fs stages a b = ap (option_and_then (watch_from fs)) a ∙ b
+
+abbrev piped_sized : Fields → Space → List Stage → Option Query
+piped_sized fs space stages = batch_size fs >>= λ size. Some (query_by (of_collection space) false stages size)
+
+pipeline_asks : (fs : Fields) (space : Space) (q : Query) → has_only pipeline_fields fs ≡ true → space_at (codes "aggregate") fs ≡ Some space → piped fs (stages_in fs) space ≡ Some q → pipeline_query fs ≡ Some (asks_query q)
+unfolding pipeline_query
+pipeline_asks fs space q a b c = rw (a, b, c) refl
+
+reads_second : (o p : Option Asked) (r : Request) → o ≡ None → Reads p r → Reads (or_asks o p) r
+reads_second o p r none h = record { asks = ap (λ (x : Option Asked). or_asks x p) none ∙ h.asks; named = h.named }
+
+pipeline_reads : (fs : Fields) (r : Request) → pipeline_request fs ≡ Some r → Reads (or_asks (watch_of fs) (pipeline_query fs)) r
+unfolding pipeline_request
+pipeline_reads fs r h =
+    let w = when_some (has_only pipeline_fields fs) (named_space (codes "aggregate") fs >>= piped fs (stages_in fs) >>= λ q. Some (find q)) r h in
+    let a = then_some (named_space (codes "aggregate") fs >>= piped fs (stages_in fs)) (λ (q : Query). Some (find q)) r w.1 in
+    let b = then_some (named_space (codes "aggregate") fs) (piped fs (stages_in fs)) a.0 a.1 in
+    let c = then_some (stages_in fs >>= pipeline_of) (piped_sized fs b.0) a.0 b.2 in
+    let d = then_some (stages_in fs) pipeline_of c.0 c.1 in
+    let e = then_some (batch_size fs) (λ (size : Option ℕ). Some (query_by (of_collection b.0) false c.0 size)) a.0 c.2 in
+    let made : query_by (of_collection b.0) false c.0 e.0 ≡ a.0 = cc in
+    let space = space_some (codes "aggregate") fs b.0 b.1 in
+    let named : IsNamed (query_space a.0.source) = subst (λ (x : Query). IsNamed (query_space x.source)) made space.named in
+    reads_second (watch_of fs) (pipeline_query fs) r (watch_none fs d.0 d.1 (no_watch fs d.0 c.0 d.2))
+    (reads_as (pipeline_query fs) (find a.0) r a.2 (pipeline_asks fs b.0 a.0 w.0 space.here b.2) named)
+
 -- ---- any request
 
 by_name : (b : Bool) (o : Option Request) (rest : Result Request ℤ) (u v : Option Asked) (r : Request) → (o ≡ Some r → Reads u r) → (rest ≡ Ok r → Reads v r) → (if b then or_code bad_request o else rest) ≡ Ok r → Reads (if b then u else v) r
 by_name true o rest u v r f g h = f (code_some bad_request o r h)
 by_name false o rest u v r f g h = g h
 
+-- a command of the further ones is read by its name
+by_further : (b : Bool) (o : Option Request) (rest : Result Request ℤ) (u v : Option Asked) (r : Request) → (b ≡ true → v ≡ u) → (o ≡ Some r → Reads u r) → (rest ≡ Ok r → Reads v r) → (if b then or_code bad_request o else rest) ≡ Ok r → Reads v r
+by_further true o rest u v r same f g h = subst (λ (x : Option Asked). Reads x r) (sym (same refl)) (f (code_some bad_request o r h))
+by_further false o rest u v r same f g h = g h
+
+finds : (k : List ℕ) (fs : Fields) → bytes_eq k (codes "find") ≡ true → further_by k fs ≡ find_of fs
+finds k fs same = ap (λ (n : List ℕ). further_by n fs) ((bytes_eq-Decides k (codes "find")).0 same)
+
+creates : (k : List ℕ) (fs : Fields) → bytes_eq k (codes "create") ≡ true → further_by k fs ≡ create_of fs
+creates k fs same = ap (λ (n : List ℕ). further_by n fs) ((bytes_eq-Decides k (codes "create")).0 same)
+
+indexes : (k : List ℕ) (fs : Fields) → bytes_eq k (codes "createIndexes") ≡ true → further_by k fs ≡ indexing_of fs
+indexes k fs same = ap (λ (n : List ℕ). further_by n fs) ((bytes_eq-Decides k (codes "createIndexes")).0 same)
+
 reads_first : (o p : Option Asked) (r : Request) → Reads o r → Reads (or_asks o p) r
 reads_first o p r h = record { asks = ap (λ (x : Option Asked). or_asks x p) h.asks; named = h.named }
+
+aggregate_by : (o p : Option Request) (fs : Fields) (r : Request) → (o ≡ Some r → Reads (watch_of fs) r) → (p ≡ Some r → Reads (or_asks (watch_of fs) (pipeline_query fs)) r) → or_request o p ≡ Some r → Reads (or_asks (watch_of fs) (pipeline_query fs)) r
+aggregate_by (Some q) p fs r f g h = reads_first (watch_of fs) (pipeline_query fs) r (f h)
+aggregate_by None p fs r f g h = g h
+
+aggregate_reads : (fs : Fields) (r : Request) → aggregate_request fs ≡ Some r → Reads (or_asks (watch_of fs) (pipeline_query fs)) r
+aggregate_reads fs r h = aggregate_by (watch_request fs) (pipeline_request fs) fs r (watch_reads fs r) (pipeline_reads fs r) h
 
 -- what the store reads as a request is what the command asks for
 pub request_reads : (fs : Fields) (r : Request) → request_of fs ≡ Ok r → Reads (asked_by fs) r
 request_reads no_fields r h = absurd cc
 request_reads (field k t fs) r h =
     by_name (bytes_eq k (codes "insert")) (insert_request (field k t fs)) _ (insert_of (field k t fs)) _ r (insert_reads (field k t fs) r)
-    (by_name (bytes_eq k (codes "aggregate")) (watch_request (field k t fs)) _ (or_asks (watch_of (field k t fs)) (pipeline_query (field k t fs))) _ r (λ e. reads_first (watch_of (field k t fs)) (pipeline_query (field k t fs)) r (watch_reads (field k t fs) r e))
+    (by_name (bytes_eq k (codes "aggregate")) (aggregate_request (field k t fs)) _ (or_asks (watch_of (field k t fs)) (pipeline_query (field k t fs))) _ r (λ e. aggregate_reads (field k t fs) r e)
     (by_name (bytes_eq k (codes "getMore")) (more_request (field k t fs)) _ (more_of (field k t fs)) _ r (more_reads (field k t fs) r)
-    (by_name (bytes_eq k (codes "killCursors")) (kill_request (field k t fs)) (Err unknown_command) (kill_of (field k t fs)) _ r (kill_reads (field k t fs) r) (λ e. absurd cc)))) h
+    (by_name (bytes_eq k (codes "killCursors")) (kill_request (field k t fs)) _ (kill_of (field k t fs)) (further_by k (field k t fs)) r (kill_reads (field k t fs) r)
+    (by_further (bytes_eq k (codes "find")) (find_request (field k t fs)) _ (find_of (field k t fs)) (further_by k (field k t fs)) r (finds k (field k t fs)) (find_reads (field k t fs) r)
+    (by_further (bytes_eq k (codes "create")) (create_request (field k t fs)) _ (create_of (field k t fs)) (further_by k (field k t fs)) r (creates k (field k t fs)) (create_reads (field k t fs) r)
+    (by_further (bytes_eq k (codes "createIndexes")) (indexes_request (field k t fs)) (Err unknown_command) (indexing_of (field k t fs)) (further_by k (field k t fs)) r (indexes k (field k t fs)) (indexes_read (field k t fs) r) (λ e. absurd cc))))))) h
 
 pub asked_is : (command : List ℕ) (r : Request) → request_of (fields command) ≡ Ok r → asked command ≡ asks_of r
 unfolding asked

@@ -1,6 +1,6 @@
 -- What the replies of the rules tell.
 use Rattle.std.proofs.Common.{◌≡◌, ℕ, ℤ, pos, suc, ◌+◌, Bool, true, false, List, [], ◌∷◌, ◌++◌, length, take, drop, Option, Some, None, refl, sym, ap, ap₂, ◌∙◌, arith, option_map, length-append, append_assoc}
-use Rattle.std.specs.Prelude.{if◌then◌else◌, cond, not, ◌&&◌, nat_lt, nat_le, option_and_then, unwrap_or}
+use Rattle.std.specs.Prelude.{if◌then◌else◌, cond, not, ◌&&◌, nat_lt, nat_le, option_and_then, unwrap_or, codes}
 use Rattle.std.specs.List.{position_or_len}
 use Rattle.std.proofs.lemmas.Bool.{or_parts, lt-ltb}
 use Rattle.std.proofs.lemmas.List.{take_at, drop_at}
@@ -10,11 +10,13 @@ use Rattle.mg_bson.specs.Literal.{◌⇒◌⨾◌, empty}
 use Rattle.mg_link.specs.declared.reply.Verdict.{Verdict}
 use Rattle.mg_link.specs.declared.reply.Verdict.TheVariants as verdict
 use Rattle.mg_link.specs.Namespace.{Space, is_dot, space_of, full_name}
-use Rattle.mg_link.specs.Filter.{has_dot}
-use Rattle.mg_link.specs.State.{Watch, Start, State}
+use Rattle.mg_link.specs.Filter.{Condition, has_dot}
+use Rattle.mg_link.specs.Write.{Modification}
+use Rattle.mg_link.specs.State.{Index, Watch, Start, State}
 use Rattle.mg_link.specs.Reply.{verdict_of, code_of, labels_of, texts_of}
-use Rattle.mg_link.specs.Commands.{Asked, asks_insert, asks_watch, asks_more, asks_kill, Failure, Told, refuses, inserted, opened, gave, killed, garbled, as_integer, documents_in, failures_by, failures_at, inserted_by, Batch, batch_by, batch_of, opened_by, gave_by, success_by, told, told_by, are_write_errors, within_grammar}
-use Rattle.mg_link.specs.Rules.{Inserted, number_of, errors_field, inserted_reply, documents_of_items, cursor_fields, first_batch, next_batch, token_of, stamp_of, now_of, killed_reply, words_of, refusal}
+use Rattle.mg_link.specs.Commands.{Asked, asks_insert, asks_watch, asks_more, asks_kill, Failure, Told, refuses, inserted, opened, gave, killed, garbled, as_integer, documents_in, failures_by, failures_at, inserted_by, Batch, batch_by, batch_of, opened_by, gave_by, success_by, told, told_by, asks_create, asks_indexes, done, asks_update, asks_delete, updated, deleted, updated_by, deleted_by, are_write_errors, within_grammar, asks_query}
+use Rattle.mg_link.specs.Rules.{Inserted, number_of, errors_field, inserted_reply, documents_of_items, cursor_fields, first_batch, next_batch, token_of, stamp_of, now_of, killed_reply, done_reply, updated_reply, words_of, refusal, query_cursor}
+use Rattle.mg_link.specs.Query.{Query}
 use Rattle.mg_link.proofs.Requests.{IsNamed}
 
 -- a reply is told by what it is read as
@@ -122,8 +124,65 @@ pub gave_tells : (asked : ℤ) (at : Space) (id : ℤ) (space : Space) (events :
 unfolding verdict_of
 gave_tells asked at id space events place h = told_well verdict.Success (asks_more asked at) (gave_reply id space events place) (gave id space events (Some (token_of place))) refl (gave_read asked at id space events place h)
 
+-- ---- batches of queries
+
+abbrev plain_with : ℤ → Option Space → Option (List Fields) → Option Batch
+plain_with id space ds = option_and_then (λ (s : Space). option_map (λ (l : List Fields). record { id = id; space = s; events = l; token = None }) ds) space
+
+plain_again : (id : ℤ) (space : Space) (ds : List Fields) → IsNamed space → plain_with id (space_of (full_name space)) (documents_in (documents_of_items ds)) ≡ Some (record { id = id; space = space; events = ds; token = None })
+plain_again id space ds h = ap₂ (plain_with id) (space_again space h) (documents_again ds)
+
+found_read : (q : Query) (id : ℤ) (space : Space) (ds : List Fields) → IsNamed space → success_by (asks_query q) (query_cursor id space (codes "firstBatch") ds) ≡ Some (opened id space ds None None)
+unfolding batch_of
+found_read q id space ds h = ap (option_map (opened_by None)) (plain_again id space ds h)
+
+pub found_tells : (q : Query) (id : ℤ) (space : Space) (ds : List Fields) → IsNamed space → told_by (verdict_of (query_cursor id space (codes "firstBatch") ds)) (asks_query q) (query_cursor id space (codes "firstBatch") ds) ≡ opened id space ds None None
+unfolding verdict_of
+found_tells q id space ds h = told_well verdict.Success (asks_query q) (query_cursor id space (codes "firstBatch") ds) (opened id space ds None None) refl (found_read q id space ds h)
+
+more_found_read : (asked : ℤ) (at : Space) (id : ℤ) (space : Space) (ds : List Fields) → IsNamed space → success_by (asks_more asked at) (query_cursor id space (codes "nextBatch") ds) ≡ Some (gave id space ds None)
+unfolding batch_of
+more_found_read asked at id space ds h = ap (option_map gave_by) (plain_again id space ds h)
+
+pub more_found_tells : (asked : ℤ) (at : Space) (id : ℤ) (space : Space) (ds : List Fields) → IsNamed space → told_by (verdict_of (query_cursor id space (codes "nextBatch") ds)) (asks_more asked at) (query_cursor id space (codes "nextBatch") ds) ≡ gave id space ds None
+unfolding verdict_of
+more_found_tells asked at id space ds h = told_well verdict.Success (asks_more asked at) (query_cursor id space (codes "nextBatch") ds) (gave id space ds None) refl (more_found_read asked at id space ds h)
+
 -- ---- kills
 
 pub killed_tells : (s : State) (ids : List ℤ) → told_by (verdict_of (killed_reply s ids)) (asks_kill ids) (killed_reply s ids) ≡ killed
 unfolding verdict_of
 killed_tells s ids = refl
+
+-- ---- collections and indexes
+
+pub created_tells : (space : Space) → told_by (verdict_of done_reply) (asks_create space) done_reply ≡ done
+unfolding verdict_of
+created_tells space = refl
+
+pub indexed_tells : (space : Space) (indexes : List Index) → told_by (verdict_of done_reply) (asks_indexes space indexes) done_reply ≡ done
+unfolding verdict_of
+indexed_tells space indexes = refl
+
+-- ---- updates and deletes
+
+abbrev pub deleted_reply : ℕ → Fields
+deleted_reply n = "n" ⇒ number_of n ⨾ done_reply
+
+delete_read : (space : Space) (conditions : List Condition) (many : Bool) (n : ℕ) → success_by (asks_delete space conditions many) (deleted_reply n) ≡ Some (deleted (pos n) [])
+unfolding deleted_by
+delete_read space conditions many n = ap (λ (z : Option ℤ). option_and_then (λ (z : ℤ). Some (deleted z [])) z) (number_again n)
+
+pub deleted_tells : (space : Space) (conditions : List Condition) (many : Bool) (n : ℕ) → told_by (verdict_of (deleted_reply n)) (asks_delete space conditions many) (deleted_reply n) ≡ deleted (pos n) []
+unfolding verdict_of
+deleted_tells space conditions many n = told_well verdict.Success (asks_delete space conditions many) (deleted_reply n) (deleted (pos n) []) refl (delete_read space conditions many n)
+
+update_read : (space : Space) (conditions : List Condition) (m : Modification) (many : Bool) (n changed : ℕ) → success_by (asks_update space conditions m many) (updated_reply n changed) ≡ Some (updated (pos n) (pos changed) [])
+unfolding updated_by
+update_read space conditions m many n changed =
+    ap₂ (λ (y z : Option ℤ). option_and_then (λ (y : ℤ). option_and_then (λ (z : ℤ). Some (updated y z [])) z) y) (number_again n) (number_again changed)
+
+pub updated_tells : (space : Space) (conditions : List Condition) (m : Modification) (many : Bool) (n changed : ℕ) → told_by (verdict_of (updated_reply n changed)) (asks_update space conditions m many) (updated_reply n changed) ≡ updated (pos n) (pos changed) []
+unfolding verdict_of
+updated_tells space conditions m many n changed =
+    told_well verdict.Success (asks_update space conditions m many) (updated_reply n changed) (updated (pos n) (pos changed) []) refl (update_read space conditions m many n changed)

@@ -146,7 +146,7 @@ may_7 : May state_6 (asked_of drops_all) (told_of drops_all dropped) (adds two_d
 unfolding commands.insert_of commands.watch_of commands.find_of commands.update_of commands.more_of commands.delete_of commands.drop_of commands.space_at commands.batch_of commands.inserted_by commands.updated_by commands.deleted_by verdict_of effect grown le32 le64 digits queries.result
 may_7 = record {
   grows = record { later = omega arith; times = (omega arith, omega arith, (omega arith, omega arith, tt)); names = (refl, omega arith, (refl, omega arith, tt)) };
-  tells = record {
+  tells = inl (record {
     collection = record { space = app_c; documents = x_7 ∷ x_3 ∷ []; indexes = [] };
     there = refl;
     dropped = entry_of t_6 6 drops;
@@ -154,7 +154,7 @@ may_7 = record {
     entries = refl;
     drop_is = record { at = refl; change_is = refl; token_is = refl };
     end_is = record { at = refl; change_is = refl; token_is = refl };
-  };
+  });
 }
 
 may_8 : May state_7 (asked_of watches_more) (told_of watches_more gave_four) (adds [] 7)

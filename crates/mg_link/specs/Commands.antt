@@ -124,7 +124,7 @@ target_by all db None (Some n) = if int_eq n (pos 1) then whole_target all db el
 target_by all db None None = None
 
 abbrev pub target_of : Fields → Fields → Option Target
-target_of options fs = option_and_then (λ db. target_by (is_cluster options) db (text_of (codes "aggregate") fs) (option_and_then as_int32 (get (codes "aggregate") fs))) (database_at fs)
+target_of options fs = option_and_then (λ db. target_by (is_cluster options) db (text_of (codes "aggregate") fs) (option_and_then as_integer (get (codes "aggregate") fs))) (database_at fs)
 
 abbrev pub watch_by : Fields → Fields → List Fields → Option Asked
 watch_by fs options stages = option_and_then (λ filter. option_and_then (λ start. option_map (λ target. asks_watch (record { target = target; filter = filter }) start)
@@ -220,16 +220,17 @@ abbrev pub find_stages : Fields → Option (List Stage)
 find_stages fs = stages_by selecting (get (codes "filter") fs) >>= λ a. stages_by sorting (get (codes "sort") fs) >>= λ b. stages_by skipping (get (codes "skip") fs) >>= λ c.
     stages_by limiting (get (codes "limit") fs) >>= λ d. stages_by showing (get (codes "projection") fs) >>= λ e. Some (a ++ b ++ c ++ d ++ e)
 
-abbrev pub query_by : Source → Bool → List Stage → Option ℕ → Asked
-query_by source single stages size = asks_query (record { source = source; stages = stages; single = single; size = size })
+abbrev pub query_by : Source → Bool → List Stage → Option ℕ → Query
+query_by source single stages size = record { source = source; stages = stages; single = single; size = size }
 
 abbrev pub find_fields : List (List ℕ)
 find_fields = codes "find" ∷ codes "filter" ∷ codes "sort" ∷ codes "skip" ∷ codes "limit" ∷ codes "singleBatch" ∷ codes "batchSize" ∷ codes "projection" ∷ []
 
+abbrev pub find_query : Fields → Space → Option Query
+find_query fs space = find_stages fs >>= λ stages. flag_or false (get (codes "singleBatch") fs) >>= λ single. optional_count (get (codes "batchSize") fs) >>= λ size. Some (query_by (of_collection space) single stages size)
+
 unfoldable pub find_of : Fields → Option Asked
-find_of fs = if has_only find_fields fs
-    then (space_at (codes "find") fs >>= λ space. find_stages fs >>= λ stages. flag_or false (get (codes "singleBatch") fs) >>= λ single. optional_count (get (codes "batchSize") fs) >>= λ size.
-    Some (query_by (of_collection space) single stages size)) else None
+find_of fs = if has_only find_fields fs then option_map asks_query (space_at (codes "find") fs >>= find_query fs) else None
 
 -- one stage of a pipeline, by its name
 abbrev pub stage_by : List ℕ → Tree → Option (List Stage)
@@ -263,26 +264,33 @@ optional_size fs = size_or_none (get (codes "cursor") fs) fs
 abbrev pub pipeline_fields : List (List ℕ)
 pipeline_fields = codes "aggregate" ∷ codes "pipeline" ∷ codes "cursor" ∷ []
 
-abbrev pub piped : Fields → Space → Option (List Fields) → Option Asked
-piped fs space ds = ds >>= pipeline_of >>= λ stages. batch_size fs >>= λ size. Some (query_by (of_collection space) false stages size)
+abbrev pub piped : Fields → Option (List Fields) → Space → Option Query
+piped fs stages space = stages >>= pipeline_of >>= λ stages. batch_size fs >>= λ size. Some (query_by (of_collection space) false stages size)
+
+-- the stages of the pipeline of a command
+abbrev pub stages_in : Fields → Option (List Fields)
+stages_in fs = option_and_then documents_in (option_and_then as_array (get (codes "pipeline") fs))
 
 unfoldable pub pipeline_query : Fields → Option Asked
-pipeline_query fs = if has_only pipeline_fields fs
-    then (space_at (codes "aggregate") fs >>= λ space. piped fs space (option_and_then documents_in (option_and_then as_array (get (codes "pipeline") fs)))) else None
+pipeline_query fs = if has_only pipeline_fields fs then option_map asks_query (space_at (codes "aggregate") fs >>= piped fs (stages_in fs)) else None
 
 abbrev pub collections_fields : List (List ℕ)
 collections_fields = codes "listCollections" ∷ codes "filter" ∷ codes "cursor" ∷ []
 
+abbrev pub listing_of : Fields → List ℕ → Option Query
+listing_of fs db = stages_by selecting (get (codes "filter") fs) >>= λ stages. optional_size fs >>= λ size. Some (query_by (of_database db) false stages size)
+
 unfoldable pub collections_query : Fields → Option Asked
-collections_query fs = if has_only collections_fields fs
-    then (database_at fs >>= λ db. stages_by selecting (get (codes "filter") fs) >>= λ stages. optional_size fs >>= λ size. Some (query_by (of_database db) false stages size)) else None
+collections_query fs = if has_only collections_fields fs then option_map asks_query (database_at fs >>= listing_of fs) else None
 
 abbrev pub indexes_fields : List (List ℕ)
 indexes_fields = codes "listIndexes" ∷ codes "cursor" ∷ []
 
+abbrev pub indexes_listed : Fields → Space → Option Query
+indexes_listed fs space = optional_size fs >>= λ size. Some (query_by (of_indexes space) false [] size)
+
 unfoldable pub indexes_query : Fields → Option Asked
-indexes_query fs = if has_only indexes_fields fs
-    then (space_at (codes "listIndexes") fs >>= λ space. optional_size fs >>= λ size. Some (query_by (of_indexes space) false [] size)) else None
+indexes_query fs = if has_only indexes_fields fs then option_map asks_query (space_at (codes "listIndexes") fs >>= indexes_listed fs) else None
 
 -- ---- updates and deletes
 
@@ -323,15 +331,16 @@ filter_at name fs = option_and_then conditions_of (option_and_then as_document (
 abbrev pub update_parts : List (List ℕ)
 update_parts = codes "q" ∷ codes "u" ∷ codes "multi" ∷ []
 
-abbrev pub update_by : Space → Fields → Option Asked
-update_by space u = if has_only update_parts u
-    then (filter_at (codes "q") u >>= λ conditions. option_and_then as_document (get (codes "u") u) >>= λ d. modification_of d >>= λ m. flag_or false (get (codes "multi") u) >>= λ many. Some (asks_update space conditions m many)) else None
+-- what is made of the parts of an update
+abbrev pub update_by : {A : Type 0} → (List Condition → Modification → Bool → A) → Fields → Option A
+update_by make u = if has_only update_parts u
+    then (filter_at (codes "q") u >>= λ conditions. option_and_then as_document (get (codes "u") u) >>= λ d. modification_of d >>= λ m. flag_or false (get (codes "multi") u) >>= λ many. Some (make conditions m many)) else None
 
 abbrev pub update_fields : List (List ℕ)
 update_fields = codes "update" ∷ codes "updates" ∷ codes "ordered" ∷ []
 
 unfoldable pub update_of : Fields → Option Asked
-update_of fs = if has_only update_fields fs then (space_at (codes "update") fs >>= λ space. one_at (codes "updates") fs >>= update_by space) else None
+update_of fs = if has_only update_fields fs then (space_at (codes "update") fs >>= λ space. one_at (codes "updates") fs >>= update_by (asks_update space)) else None
 
 -- a limit of 1 is the first document, and of 0 all
 abbrev pub many_by : ℕ → Option Bool
@@ -342,15 +351,16 @@ many_by (suc (suc n)) = None
 abbrev pub delete_parts : List (List ℕ)
 delete_parts = codes "q" ∷ codes "limit" ∷ []
 
-abbrev pub delete_by : Space → Fields → Option Asked
-delete_by space d = if has_only delete_parts d
-    then (filter_at (codes "q") d >>= λ conditions. option_and_then count_of (get (codes "limit") d) >>= many_by >>= λ many. Some (asks_delete space conditions many)) else None
+-- what is made of the parts of a delete
+abbrev pub delete_by : {A : Type 0} → (List Condition → Bool → A) → Fields → Option A
+delete_by make d = if has_only delete_parts d
+    then (filter_at (codes "q") d >>= λ conditions. option_and_then count_of (get (codes "limit") d) >>= many_by >>= λ many. Some (make conditions many)) else None
 
 abbrev pub delete_fields : List (List ℕ)
 delete_fields = codes "delete" ∷ codes "deletes" ∷ codes "ordered" ∷ []
 
 unfoldable pub delete_of : Fields → Option Asked
-delete_of fs = if has_only delete_fields fs then (space_at (codes "delete") fs >>= λ space. one_at (codes "deletes") fs >>= delete_by space) else None
+delete_of fs = if has_only delete_fields fs then (space_at (codes "delete") fs >>= λ space. one_at (codes "deletes") fs >>= delete_by (asks_delete space)) else None
 
 -- ---- collections and indexes
 
@@ -370,9 +380,12 @@ indexes_by (fs ∷ more) = option_and_then (λ i. option_map (λ is. i ∷ is) (
 abbrev pub indexing_fields : List (List ℕ)
 indexing_fields = codes "createIndexes" ∷ codes "indexes" ∷ []
 
+-- the indexes that a command is to create
+abbrev pub indexes_in : Fields → Option (List Index)
+indexes_in fs = option_and_then as_array (get (codes "indexes") fs) >>= documents_in >>= indexes_by
+
 unfoldable pub indexing_of : Fields → Option Asked
-indexing_of fs = if has_only indexing_fields fs
-    then (space_at (codes "createIndexes") fs >>= λ space. option_and_then as_array (get (codes "indexes") fs) >>= documents_in >>= indexes_by >>= λ indexes. Some (asks_indexes space indexes)) else None
+indexing_of fs = if has_only indexing_fields fs then (space_at (codes "createIndexes") fs >>= λ space. option_map (asks_indexes space) (indexes_in fs)) else None
 
 abbrev pub drop_fields : List (List ℕ)
 drop_fields = codes "drop" ∷ []

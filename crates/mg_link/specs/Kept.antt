@@ -4,8 +4,7 @@ use Rattle.std.specs.Ordering.{int_eq}
 use Rattle.mg_bson.specs.Tree.{Tree, Fields}
 use Rattle.mg_bson.specs.Bytes.{bytes}
 use Rattle.mg_bson.specs.Raw.{fields}
-use Rattle.mg_link.specs.Namespace.{Target, database, collection, cluster}
-use Rattle.mg_link.specs.State.{inserts, Entry, Cursor, query, watching, State, nothing}
+use Rattle.mg_link.specs.State.{Entry, Cursor, query, watching, State, nothing}
 use Rattle.mg_link.specs.Commands.{Told, refuses, inserted, opened, gave, killed, garbled, asked, told, updated, deleted, done}
 use Rattle.mg_link.specs.Step.{Made, Named, May}
 use Rattle.mg_link.specs.History.{Step, step_after, state_of}
@@ -128,7 +127,6 @@ IsByRules kept = AreByRulesFrom nothing 0 false kept
 pub record IsStoreEntry (place : ℕ) (e : Entry) : Type 0 where
   pub token_is : e.token ≡ token_of (suc place)
   pub time_is : e.time ≡ now_of (suc place)
-  pub change_is : e.change ≡ inserts
 
 abbrev pub AreStoreEntries : ℕ → List Entry → Type 0
 AreStoreEntries place [] = Unit {0}
@@ -144,15 +142,10 @@ is_given given (pos zero) = false
 is_given given (pos (suc n)) = nat_lt n given
 is_given given (negsuc n) = false
 
-abbrev pub IsCollection : Target → Type 0
-IsCollection (collection space) = Unit {0}
-IsCollection (database db) = ⊥
-IsCollection cluster = ⊥
-
--- the cursors of a store watch collections, each from a place that is there
+-- the cursors of a store are of queries, or of watches, each at a place that is there
 abbrev pub IsStoreCursor : ℕ → Cursor → Type 0
-IsStoreCursor places (watching w place) = IsCollection w.target × (place ≤ places)
-IsStoreCursor places (query space left) = ⊥
+IsStoreCursor places (watching w place) = place ≤ places
+IsStoreCursor places (query space left) = Unit {0}
 
 -- the time is that of the number of entries, or that of an empty store
 abbrev pub IsStoreTime : ℕ → ℕ → Type 0

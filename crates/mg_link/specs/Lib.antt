@@ -34,7 +34,10 @@ pub mod Owner
 pub mod Follow
 pub mod Rules
 pub mod Kept
+pub mod Files
+pub mod NineBytes
 pub mod Example
+pub mod RuleRows
 pub mod Worked
 pub mod Words
 pub mod Concerns

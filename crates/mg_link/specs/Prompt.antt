@@ -8,7 +8,7 @@ use Rattle.mg_link.specs.State.{Entry, Watch, watching, State, start_place, even
 use Rattle.mg_link.specs.Commands.{Asked, asks_insert, asks_watch, asks_more, asks_kill, Failure, Told, refuses, inserted, opened, gave, killed, asked, failures_at, updated, deleted, asks_update, asks_delete, asks_query, asks_create, asks_indexes, asks_drop}
 use Rattle.mg_link.specs.Step.{IsNamed, documents_of}
 use Rattle.mg_link.specs.History.{Step, state_of, step_after, told_at}
-use Rattle.mg_link.specs.Rules.{inserting, inserted_reply}
+use Rattle.mg_link.specs.Rules.{collection_exists, inserting, inserted_reply}
 use Rattle.mg_link.specs.Query.{result}
 
 -- the write errors that the store's rules list for an insert
@@ -28,8 +28,10 @@ pub record HoldsBack (size : Option ℕ) (id : ℤ) (given left : List Fields) :
   pub some : size ≢ Some 0 → given ≡ [] → left ≡ []
   pub ends : left ≡ [] → id ≡ pos 0
 
--- The first batch of a watch may be empty, and later ones not while an entry is left. Nothing is refused, and a write fails only as the store's rules have it.
+-- The first batch of a watch may be empty, and later ones not while an entry is left. Nothing is refused but a create of a collection that is there,
+-- and a write fails only as the store's rules have it.
 abbrev pub AnswersAtOnce : State → State → Asked → Told → Type 0
+AnswersAtOnce s s' (asks_create space) (refuses code labels) = code ≡ collection_exists
 AnswersAtOnce s s' command (refuses code labels) = ⊥
 AnswersAtOnce s s' (asks_insert space documents ordered) (inserted n failures) = (f : Failure) → Contains failures f → Contains (rule_failures s space documents ordered) f
 AnswersAtOnce s s' (asks_update space conditions modification many) (updated n changed failures) = failures ≡ []

@@ -1,5 +1,6 @@
 -- The rules of the store in memory: what it answers to a command, and what it adds.
-use Rattle.std.specs.Prelude.{ℕ, zero, suc, ◌+◌, ◌-◌, ◌&&◌, ◌||◌, ℤ, pos, Bool, true, false, Option, Some, None, option_map, option_and_then, unwrap_or, is_some, Result, Ok, Err, List, [], ◌∷◌, ◌++◌, length, drop, min, nat_lt, nat_le, codes, if◌then◌else◌}
+use Rattle.std.specs.Prelude.{◌≡◌, ◌⊎◌, ◌<◌, ◌≤◌, ℕ, zero, suc, ◌+◌, ◌-◌, ◌&&◌, ◌||◌, ℤ, pos, Bool, true, false, Option, Some, None, option_map, option_and_then, unwrap_or, is_some, Result, Ok, Err, List, [], ◌∷◌, ◌++◌, length, drop, take, map, min, nat_lt, nat_le, codes, if◌then◌else◌, slice_get}
+use Rattle.std.specs.List.{list_all, list_any}
 use Rattle.std.specs.Int.{w64, to_be_bytes}
 use Rattle.std.specs.Ordering.{int_eq}
 use Rattle.std.specs.Str.{bytes_eq}
@@ -11,8 +12,10 @@ use Rattle.mg_bson.specs.Find.{get, as_string, as_array}
 use Rattle.mg_bson.specs.Literal.{◌⇒◌⨾◌, empty, word}
 use Rattle.mg_link.specs.Namespace.{Space, Target, database, collection, cluster, full_name}
 use Rattle.mg_link.specs.Filter.{Condition, is_same, has_dot}
-use Rattle.mg_link.specs.State.{inserts, Entry, Watch, Cursor, query, watching, State, is_space, sees, events_between, time_of, is_invalidate}
-use Rattle.mg_link.specs.Commands.{as_integer, documents_in, flag_or, filter_stages, watch_stage, has_only, optional_count, batch_size}
+use Rattle.mg_link.specs.State.{inserts, deletes, drops, invalidates, Change, Entry, Watch, Cursor, query, watching, State, Index, Start, nowhere, after, at_time, is_space, sees, seen_between, events_between, count_before, time_of, is_invalidate, collection_in, indexes_of}
+use Rattle.mg_link.specs.Query.{Query, Source, of_collection, of_database, of_indexes, id_alone, index_listed, read, through}
+use Rattle.mg_link.specs.Write.{Modification, sets, puts, modified, with_fields, change_of, chosen, changing, with_indexes}
+use Rattle.mg_link.specs.Commands.{as_integer, documents_in, flag_or, filter_stages, watch_stage, has_only, optional_count, batch_size, start_of, target_by, pipeline_fields, stages_in, create_fields, indexing_fields, indexes_in, find_fields, find_query, piped}
 use Rattle.mg_link.specs.Step.{documents_of}
 
 -- ---- limits
@@ -26,6 +29,10 @@ max_document = 16777216
 -- as many levels as fit the event in a reply
 abbrev pub max_stored_levels : ℕ
 max_stored_levels = 96
+
+-- as many levels as fit a document in a reply
+abbrev pub max_given_levels : ℕ
+max_given_levels = 97
 
 abbrev pub max_batch : ℕ
 max_batch = 16777216
@@ -53,13 +60,22 @@ no_such_token = pos 260
 abbrev pub duplicate_id : ℤ
 duplicate_id = pos 11000
 
+abbrev pub no_such_collection : ℤ
+no_such_collection = pos 26
+
+abbrev pub collection_exists : ℤ
+collection_exists = pos 48
+
 -- ---- what a command asks of the store
 
 pub data Request : Type 0 where
   insert : (space : Space) (documents : List Fields) (ordered : Bool) → Request
-  watch : (space : Space) (filter : List Condition) (resume_after : Option Tree) (size : Option ℕ) → Request
+  find : (query : Query) → Request
+  watch : (seen : Watch) (start : Start) (resumes : Bool) (size : Option ℕ) → Request
   more : (id : ℤ) (space : Space) (size : Option ℕ) → Request
   kill : (ids : List ℤ) → Request
+  create_collection : (space : Space) → Request
+  create_indexes : (space : Space) (indexes : List Index) → Request
 
 -- a text that may name a database or a collection
 abbrev pub as_name : List ℕ → Option (List ℕ)
@@ -90,6 +106,9 @@ insert_request fs = if has_only (codes "insert" ∷ codes "documents" ∷ codes 
     then (named_space (codes "insert") fs >>= λ space. array_at (codes "documents") fs >>= λ items. documents_in items >>= λ ds. flag_or true (get (codes "ordered") fs) >>= λ ordered. Some (insert space ds ordered))
     else None
 
+unfoldable pub find_request : Fields → Option Request
+find_request fs = if has_only find_fields fs then (named_space (codes "find") fs >>= find_query fs >>= λ q. Some (find q)) else None
+
 -- the options of the stage that opens a watch
 abbrev pub watch_options : List Fields → Option Fields
 watch_options [] = None
@@ -99,12 +118,40 @@ abbrev pub behind_first : List Fields → List Fields
 behind_first [] = []
 behind_first (stage ∷ stages) = stages
 
-unfoldable pub watch_request : Fields → Option Request
-watch_request fs = if has_only (codes "aggregate" ∷ codes "pipeline" ∷ codes "cursor" ∷ []) fs
-    then (named_space (codes "aggregate") fs >>= λ space. array_at (codes "pipeline") fs >>= λ items. documents_in items >>= λ stages.
-    watch_options stages >>= λ options. filter_stages (behind_first stages) >>= λ filter.
-    (if has_only (codes "resumeAfter" ∷ []) options then (batch_size fs >>= λ size. Some (watch space filter (get (codes "resumeAfter") options) size)) else None))
+-- the database of a command
+abbrev pub named_database : Fields → Option (List ℕ)
+named_database fs = name_at (codes "$db") fs >>= without_dot
+
+-- what a watch is aimed at: a collection by its name, or by 1 a whole database, or the cluster where the changes of all are asked for
+abbrev pub target_at : Fields → Bool → Option Target
+target_at fs all = named_database fs >>= λ db. target_by all db (name_at (codes "aggregate") fs) (option_and_then as_integer (get (codes "aggregate") fs))
+
+abbrev pub option_names : List (List ℕ)
+option_names = codes "resumeAfter" ∷ codes "startAfter" ∷ codes "startAtOperationTime" ∷ codes "allChangesForCluster" ∷ []
+
+-- the watch with these options and this filter
+abbrev pub watch_with : Fields → Fields → List Condition → Option Request
+watch_with fs options filter = if has_only option_names options
+    then (flag_or false (get (codes "allChangesForCluster") options) >>= λ all. target_at fs all >>= λ target. start_of options >>= λ start. batch_size fs >>= λ size.
+    Some (watch (record { target = target; filter = filter }) start (is_some (get (codes "resumeAfter") options)) size))
     else None
+
+unfoldable pub watch_request : Fields → Option Request
+watch_request fs = if has_only pipeline_fields fs
+    then (stages_in fs >>= λ stages. watch_options stages >>= λ options. filter_stages (behind_first stages) >>= watch_with fs options)
+    else None
+
+unfoldable pub pipeline_request : Fields → Option Request
+pipeline_request fs = if has_only pipeline_fields fs then (named_space (codes "aggregate") fs >>= piped fs (stages_in fs) >>= λ q. Some (find q)) else None
+
+-- the first of two readings
+abbrev pub or_request : Option Request → Option Request → Option Request
+or_request (Some r) other = Some r
+or_request None other = other
+
+-- an aggregate opens a watch, or is a query
+abbrev pub aggregate_request : Fields → Option Request
+aggregate_request fs = or_request (watch_request fs) (pipeline_request fs)
 
 -- a batch size of 0 counts as none given
 abbrev pub some_size : Option ℕ → Option ℕ
@@ -126,6 +173,12 @@ kill_request fs = if has_only (codes "killCursors" ∷ codes "cursors" ∷ []) f
     then (named_space (codes "killCursors") fs >>= λ space. array_at (codes "cursors") fs >>= λ items. ids_in items >>= λ ids. Some (kill ids))
     else None
 
+unfoldable pub create_request : Fields → Option Request
+create_request fs = if has_only create_fields fs then (named_space (codes "create") fs >>= λ space. Some (create_collection space)) else None
+
+unfoldable pub indexes_request : Fields → Option Request
+indexes_request fs = if has_only indexing_fields fs then (named_space (codes "createIndexes") fs >>= λ space. indexes_in fs >>= λ indexes. Some (create_indexes space indexes)) else None
+
 abbrev pub or_code : {A : Type 0} → ℤ → Option A → Result A ℤ
 or_code code (Some x) = Ok x
 or_code code None = Err code
@@ -134,11 +187,19 @@ or_code code None = Err code
 abbrev pub request_of : Fields → Result Request ℤ
 request_of no_fields = Err unknown_command
 request_of (field k t fs) = if bytes_eq k (codes "insert") then or_code bad_request (insert_request (field k t fs))
-    else (if bytes_eq k (codes "aggregate") then or_code bad_request (watch_request (field k t fs))
+    else (if bytes_eq k (codes "aggregate") then or_code bad_request (aggregate_request (field k t fs))
     else (if bytes_eq k (codes "getMore") then or_code bad_request (more_request (field k t fs))
-    else (if bytes_eq k (codes "killCursors") then or_code bad_request (kill_request (field k t fs)) else Err unknown_command)))
+    else (if bytes_eq k (codes "killCursors") then or_code bad_request (kill_request (field k t fs))
+    else (if bytes_eq k (codes "find") then or_code bad_request (find_request (field k t fs))
+    else (if bytes_eq k (codes "create") then or_code bad_request (create_request (field k t fs))
+    else (if bytes_eq k (codes "createIndexes") then or_code bad_request (indexes_request (field k t fs)) else Err unknown_command))))))
 
 -- ---- tokens, times and events
+
+-- the value is there, and is this one
+abbrev pub same_id : Tree → Option Tree → Bool
+same_id id None = false
+same_id id (Some other) = is_same other id
 
 -- the token of a place: the number in 16 hexadecimal digits
 abbrev pub token_fields : ℕ → Fields
@@ -170,11 +231,48 @@ insert_event place space id d = "_id" ⇒ token_of place ⨾ "operationType" ⇒
 abbrev pub insert_entry : ℕ → Space → Tree → Fields → Entry
 insert_entry place space id d = record { token = token_of place; time = now_of place; space = space; change = inserts; event = insert_event place space id d }
 
--- ---- inserts
+-- the event of a change to this document, with what it tells besides
+abbrev pub document_event : ℕ → List ℕ → Space → Fields → Fields → Fields
+document_event place kind space d told = "_id" ⇒ token_of place ⨾ "operationType" ⇒ string kind ⨾ "clusterTime" ⇒ stamp_of place
+    ⨾ "ns" ⇒ document ("db" ⇒ string space.db ⨾ "coll" ⇒ string space.coll ⨾ empty) ⨾ "documentKey" ⇒ document (id_alone (get (codes "_id") d)) ⨾ told
 
-abbrev pub same_id : Tree → Option Tree → Bool
-same_id id None = false
-same_id id (Some other) = is_same other id
+-- the fields that are to have another value than the document has
+abbrev pub set_anew : Fields → Fields → Fields
+set_anew d no_fields = no_fields
+set_anew d (field k t fs) = if same_id t (get k d) then set_anew d fs else field k t (set_anew d fs)
+
+-- an update tells of each name that it sets once, with the last value that it gives it
+abbrev pub modified_event : ℕ → Space → Modification → Fields → Fields
+modified_event place space (sets new) d = document_event place (codes "update") space d ("updateDescription" ⇒ document ("updatedFields" ⇒ document (set_anew d (with_fields new no_fields)) ⨾ "removedFields" ⇒ array no_items ⨾ empty) ⨾ empty)
+modified_event place space (puts new) d = document_event place (codes "replace") space d ("fullDocument" ⇒ document (modified (puts new) d) ⨾ empty)
+
+abbrev pub deleted_event : ℕ → Space → Fields → Fields
+deleted_event place space d = document_event place (codes "delete") space d empty
+
+abbrev pub dropped_event : ℕ → Space → Fields
+dropped_event place space = "_id" ⇒ token_of place ⨾ "operationType" ⇒ word "drop" ⨾ "clusterTime" ⇒ stamp_of place ⨾ "ns" ⇒ document ("db" ⇒ string space.db ⨾ "coll" ⇒ string space.coll ⨾ empty) ⨾ empty
+
+abbrev pub invalidate_event : ℕ → Fields
+invalidate_event place = "_id" ⇒ token_of place ⨾ "operationType" ⇒ word "invalidate" ⨾ "clusterTime" ⇒ stamp_of place ⨾ empty
+
+-- the entry that stands before this place
+abbrev pub entry_before : ℕ → Space → Change → Fields → Entry
+entry_before place space change event = record { token = token_of place; time = now_of place; space = space; change = change; event = event }
+
+-- the entries of documents that are changed, behind this place
+abbrev pub modified_entries : ℕ → Space → Modification → List Fields → List Entry
+modified_entries place space m [] = []
+modified_entries place space m (d ∷ ds) = entry_before (suc place) space (change_of m) (modified_event (suc place) space m d) ∷ modified_entries (suc place) space m ds
+
+abbrev pub deleted_entries : ℕ → Space → List Fields → List Entry
+deleted_entries place space [] = []
+deleted_entries place space (d ∷ ds) = entry_before (suc place) space deletes (deleted_event (suc place) space d) ∷ deleted_entries (suc place) space ds
+
+-- the entry of a drop, and that by which watches of the collection end
+abbrev pub dropped_entries : ℕ → Space → List Entry
+dropped_entries place space = entry_before (suc place) space drops (dropped_event (suc place) space) ∷ entry_before (suc (suc place)) space invalidates (invalidate_event (suc (suc place))) ∷ []
+
+-- ---- inserts
 
 -- some document of the list has the id
 abbrev pub has_id : Tree → List Fields → Bool
@@ -274,12 +372,61 @@ first_batch events place = "firstBatch" ⇒ array (documents_of_items events) �
 abbrev pub next_batch : List Fields → ℕ → Fields
 next_batch events place = "nextBatch" ⇒ array (documents_of_items events) ⨾ "postBatchResumeToken" ⇒ token_of place ⨾ empty
 
--- ---- answers
+-- ---- batches of queries
 
-abbrev pub is_target_of : Space → Target → Bool
-is_target_of space (collection other) = is_space space other
-is_target_of space (database db) = false
-is_target_of space cluster = false
+-- the bytes of documents together
+abbrev pub bytes_of : List Fields → ℕ
+bytes_of [] = 0
+bytes_of (d ∷ ds) = length (bytes d) + bytes_of ds
+
+-- how many of the documents a batch holds by its size and its bytes; one where the size is not 0
+abbrev pub held_in : (size room : ℕ) → (given : Bool) → List Fields → ℕ
+held_in zero room given ds = 0
+held_in (suc size) room given [] = 0
+held_in (suc size) room given (d ∷ ds) = if given && nat_lt room (length (bytes d)) then 0 else suc (held_in size (room - length (bytes d)) true ds)
+
+abbrev pub batch_of_query : ℕ → List Fields → ℕ
+batch_of_query size ds = held_in size max_batch false ds
+
+-- so many documents are a batch: as many as its size and its bytes allow, and one more would be too many
+pub record IsFull (size : ℕ) (ds : List Fields) (n : ℕ) : Type 0 where
+  pub within : (n ≤ size) × (n ≤ length ds)
+  pub some : 0 < size → 0 < length ds → 0 < n
+  pub fits : (bytes_of (take n ds) ≤ max_batch) ⊎ (n ≡ 1)
+  pub full : n < size → n < length ds → max_batch < bytes_of (take (suc n) ds)
+
+-- the namespace that a query's cursor has
+abbrev pub query_space : Source → Space
+query_space (of_collection space) = space
+query_space (of_database db) = record { db = db; coll = codes "$cmd.listCollections" }
+query_space (of_indexes space) = space
+
+-- a reply has this id while something is left
+abbrev pub id_while : ℤ → List Fields → ℤ
+id_while id [] = pos 0
+id_while id (d ∷ ds) = id
+
+-- how many documents the first batch of a query holds
+abbrev pub first_held : Query → List Fields → ℕ
+first_held q ds = batch_of_query (unwrap_or q.size default_batch) ds
+
+-- the id of a query's reply, where id is the next one: none where one batch is asked for, or nothing is left
+abbrev pub query_id : ℤ → Query → List Fields → ℤ
+query_id id q ds = if q.single then pos 0 else id_while id (drop (first_held q ds) ds)
+
+-- the part of a reply that holds a batch of a query, under this name
+abbrev pub query_cursor : ℤ → Space → List ℕ → List Fields → Fields
+query_cursor id space batch ds = "cursor" ⇒ document (cursor_fields id space (field batch (array (documents_of_items ds)) empty)) ⨾ "ok" ⇒ int32 (pos 1) ⨾ empty
+
+abbrev pub query_reply : ℤ → Query → List Fields → Fields
+query_reply id q ds = query_cursor (query_id id q ds) (query_space q.source) (codes "firstBatch") (take (first_held q ds) ds)
+
+abbrev pub query_more_reply : ℤ → Space → List Fields → ℕ → Fields
+query_more_reply id space left size =
+    let n = batch_of_query size left in
+    query_cursor (id_while id (drop n left)) space (codes "nextBatch") (take n left)
+
+-- ---- answers
 
 abbrev pub same_answer : Bool → Bool → Bool
 same_answer true b = b
@@ -312,28 +459,63 @@ answer_with entries reply = record { reply = reply; entries = entries }
 abbrev pub answer_insert : State → Space → List Fields → Bool → Answer
 answer_insert s space documents ordered = let i = inserting space ordered 0 (length s.changes) (documents_of s space) documents in answer_with i.entries (inserted_reply i)
 
--- the place that a token names
-abbrev pub place_at : State → Option Tree → Result ℕ ℤ
-place_at s None = Ok (length s.changes)
-place_at s (Some token) = or_code no_such_token (token_place (length s.changes) token)
+-- the watch hands out the entry, and ends with it
+abbrev pub ends_with : Watch → Option Entry → Bool
+ends_with w None = false
+ends_with w (Some e) = sees w e && is_invalidate e.change
 
-abbrev pub watch_reply : State → ℤ → Space → List Condition → ℕ → ℕ → Fields
-watch_reply s id space filter from size =
-    let w : Watch = record { target = collection space; filter = filter } in
+-- the watch ended with the last entry before the place
+abbrev pub ended_before : Watch → List Entry → ℕ → Bool
+ended_before w changes zero = false
+ended_before w changes (suc n) = ends_with w (slice_get changes n)
+
+-- the place of a token; a watch that ended there is not resumed
+abbrev pub place_after : Watch → List Entry → Bool → Option ℕ → Result ℕ ℤ
+place_after w changes resumes None = Err no_such_token
+place_after w changes resumes (Some place) = if resumes && ended_before w changes place then Err no_such_token else Ok place
+
+-- the place that a watch opens at
+abbrev pub place_at : State → Watch → Start → Bool → Result ℕ ℤ
+place_at s w nowhere resumes = Ok (length s.changes)
+place_at s w (after token) resumes = place_after w s.changes resumes (token_place (length s.changes) token)
+place_at s w (at_time time) resumes = Ok (count_before time s.changes)
+
+-- the namespace that the cursor of a watch has
+abbrev pub watch_space : Target → Space
+watch_space (collection space) = space
+watch_space (database db) = record { db = db; coll = codes "$cmd.aggregate" }
+watch_space cluster = record { db = codes "admin"; coll = codes "$cmd.aggregate" }
+
+abbrev pub has_invalidate : List Entry → Bool
+has_invalidate es = list_any (λ (e : Entry). is_invalidate e.change) es
+
+-- a watch that ends leaves no cursor
+abbrev pub id_unless : Bool → ℤ → ℤ
+id_unless ended id = if ended then pos 0 else id
+
+-- the batch between two places hands out an invalidate entry
+abbrev pub ends_watch : Watch → List Entry → ℕ → ℕ → Bool
+ends_watch w changes from place = has_invalidate (seen_between w changes from place)
+
+abbrev pub batch_id : ℤ → Watch → List Entry → ℕ → ℕ → ℤ
+batch_id id w changes from place = id_unless (ends_watch w changes from place) id
+
+abbrev pub watch_reply : State → ℤ → Watch → ℕ → ℕ → Fields
+watch_reply s id w from size =
     let place = batch_place w s.changes from size in
-    "cursor" ⇒ document (cursor_fields id space (first_batch (events_between w s.changes from place) place)) ⨾ "operationTime" ⇒ stamp_of (length s.changes) ⨾ "ok" ⇒ int32 (pos 1) ⨾ empty
+    "cursor" ⇒ document (cursor_fields (batch_id id w s.changes from place) (watch_space w.target) (first_batch (events_between w s.changes from place) place)) ⨾ "operationTime" ⇒ stamp_of (length s.changes) ⨾ "ok" ⇒ int32 (pos 1) ⨾ empty
 
 abbrev pub more_reply : State → ℤ → Space → Watch → ℕ → ℕ → Fields
 more_reply s id space w from size =
     let place = batch_place w s.changes from size in
-    "cursor" ⇒ document (cursor_fields id space (next_batch (events_between w s.changes from place) place)) ⨾ "ok" ⇒ int32 (pos 1) ⨾ empty
+    "cursor" ⇒ document (cursor_fields (batch_id id w s.changes from place) space (next_batch (events_between w s.changes from place) place)) ⨾ "ok" ⇒ int32 (pos 1) ⨾ empty
 
 abbrev pub is_watch_of : Space → Watch → Bool
-is_watch_of space w = is_target_of space w.target
+is_watch_of space w = is_space space (watch_space w.target)
 
 abbrev pub answer_more : State → ℤ → Space → ℕ → Option Cursor → Result Answer ℤ
 answer_more s id space size None = Err no_such_cursor
-answer_more s id space size (Some (query other left)) = Err bad_request
+answer_more s id space size (Some (query other left)) = if is_space space other then Ok (answer_with [] (query_more_reply id space left size)) else Err bad_request
 answer_more s id space size (Some (watching w place)) = if is_watch_of space w then Ok (answer_with [] (more_reply s id space w place size)) else Err bad_request
 
 -- the ids that name a cursor, and the others; one that was named before names none
@@ -351,12 +533,60 @@ killed_reply s ids = "cursorsKilled" ⇒ array (ids_if true s [] ids) ⨾ "curso
 abbrev pub size_of : Option ℕ → ℕ
 size_of size = unwrap_or size default_batch
 
+abbrev pub done_reply : Fields
+done_reply = "ok" ⇒ int32 (pos 1) ⨾ empty
+
+-- a document that a reply may give
+abbrev pub may_be_given : Fields → Bool
+may_be_given d = nat_le (levels d) max_given_levels
+
+-- a document or an index that may stand in a collection
+abbrev pub may_stay : Fields → Bool
+may_stay d = nat_le (length (bytes d)) max_document && may_be_given d
+
+abbrev pub events_may_be_given : List Entry → Bool
+events_may_be_given es = list_all (λ (e : Entry). may_be_given e.event) es
+
+abbrev pub updated_reply : (n changed : ℕ) → Fields
+updated_reply n changed = "n" ⇒ number_of n ⨾ "nModified" ⇒ number_of changed ⨾ done_reply
+
+-- an update whose documents or entries would pass a limit is refused
+abbrev pub answer_update : State → Space → List Condition → Modification → Bool → Result Answer ℤ
+answer_update s space conditions m many =
+    let ds = documents_of s space in
+    let changed = changing conditions many m ds in
+    let entries = modified_entries (length s.changes) space m changed in
+    if list_all may_stay (map (modified m) changed) && events_may_be_given entries
+    then Ok (answer_with entries (updated_reply (length (chosen conditions many ds)) (length changed))) else Err bad_request
+
+abbrev pub answer_delete : State → Space → List Condition → Bool → Result Answer ℤ
+answer_delete s space conditions many =
+    let gone = chosen conditions many (documents_of s space) in
+    let entries = deleted_entries (length s.changes) space gone in
+    if events_may_be_given entries then Ok (answer_with entries ("n" ⇒ number_of (length gone) ⨾ done_reply)) else Err bad_request
+
+abbrev pub answer_create : State → Space → Result Answer ℤ
+answer_create s space = if is_some (collection_in s.collections space) then Err collection_exists else Ok (answer_with [] done_reply)
+
+-- indexes are refused where one would pass a limit
+abbrev pub answer_indexes : State → Space → List Index → Result Answer ℤ
+answer_indexes s space indexes = if list_all (λ (i : Index). may_stay (index_listed i)) (with_indexes (indexes_of s space) indexes) then Ok (answer_with [] done_reply) else Err bad_request
+
+abbrev pub answer_drop : State → Space → Result Answer ℤ
+answer_drop s space = if is_some (collection_in s.collections space) then Ok (answer_with (dropped_entries (length s.changes) space) done_reply) else Err no_such_collection
+
+abbrev pub answer_query : State → ℤ → Query → Result Answer ℤ
+answer_query s id q = and_then (λ ds. map_ok (λ result. answer_with [] (query_reply id q result)) (or_code bad_request (through q.stages ds))) (or_code no_such_collection (read s q.source))
+
 -- what the store answers to a request; id is the next one that it gives to a cursor
 abbrev pub answer : State → ℤ → Request → Result Answer ℤ
 answer s id (insert space documents ordered) = Ok (answer_insert s space documents ordered)
-answer s id (watch space filter resume_after size) = map_ok (λ from. answer_with [] (watch_reply s id space filter from (size_of size))) (place_at s resume_after)
+answer s id (find q) = answer_query s id q
+answer s id (watch w start resumes size) = map_ok (λ from. answer_with [] (watch_reply s id w from (size_of size))) (place_at s w start resumes)
 answer s id (more cursor space size) = answer_more s cursor space (size_of size) (s.cursors cursor)
 answer s id (kill ids) = Ok (answer_with [] (killed_reply s ids))
+answer s id (create_collection space) = answer_create s space
+answer s id (create_indexes space indexes) = answer_indexes s space indexes
 
 -- the reply that refuses
 abbrev pub refusal : ℤ → List (List ℕ) → Fields

@@ -188,6 +188,11 @@ pub record MayDrop (s : State) (space : Space) (made : Made) : Type 0 where
   pub drop_is : IsEventOf space drops dropped
   pub end_is : IsEventOf space invalidates ended
 
+-- where no collection of the name is there, a server may also succeed, and has nothing to log
+pub record DropsNothing (s : State) (space : Space) (made : Made) : Type 0 where
+  pub no_entry : AddsNoEntry made
+  pub missing : collection_in s.collections space ≡ None
+
 -- a batch of a query ends its cursor where nothing is left, or where one batch was asked for, which holds a document unless its size was 0
 abbrev pub MayEnd : Query → List Fields → List Fields → Type 0
 MayEnd q given left = (left ≡ []) ⊎ ((q.single ≡ true) × ((given ≢ []) ⊎ (q.size ≡ Some 0)))
@@ -251,7 +256,7 @@ MayTell s s' (asks_delete space conditions many) (deleted n []) made = MayDelete
 MayTell s s' (asks_delete space conditions many) (deleted n (f ∷ fs)) made = DidNothing n made
 MayTell s s' (asks_create space) done made = MayCreate s space made
 MayTell s s' (asks_indexes space indexes) done made = AddsNoEntry made
-MayTell s s' (asks_drop space) done made = MayDrop s space made
+MayTell s s' (asks_drop space) done made = MayDrop s space made ⊎ DropsNothing s space made
 MayTell s s' (asks_query q) (opened id space documents token time) made = MayFind s s' q id documents made
 MayTell s s' (asks_more id space) (gave left other events token) made = MayGoOn s s' id left events token made ⊎ MayGoThrough s id left events made
 MayTell s s' (asks_kill ids) killed made = AddsNoEntry made

@@ -3,7 +3,7 @@ use Rattle.std.specs.Prelude.{◌≡◌, ℕ, pos, Some, None, List, [], ◌∷�
 use Rattle.mg_bson.specs.Tree.{Tree, document, array, object_id, int32, int64, timestamp, Fields, no_items}
 use Rattle.mg_bson.specs.Raw.{fields}
 use Rattle.mg_bson.specs.Literal.{◌⇒◌⨾◌, empty, word, ◌⨟◌}
-use Rattle.mg_link.specs.State.{Change, inserts, updates, deletes, drops, invalidates, Entry, query, watching, documents_at, events_between}
+use Rattle.mg_link.specs.State.{Change, inserts, drops, invalidates, Entry, query, watching, documents_at, events_between}
 use Rattle.mg_link.specs.Step.{Made}
 use Rattle.mg_link.specs.History.{Step, IsLegal, state_of}
 use Rattle.mg_link.specs.Example.{app_c, watch, id_0, id_1, x_1, x_2}

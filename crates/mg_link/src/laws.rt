@@ -1,20 +1,27 @@
 //! What holds of the definitions.
-ghost use Rattle.std.specs.Prelude.{◌≡◌, ◌+◌, ◌<◌, ◌≤◌, ◌^◌, ◌++◌, ℕ, suc, ℤ, pos, Bool, Some, List, [], ◌∷◌, length, slice_get, slice_set, take};
+ghost use Rattle.std.specs.Prelude.{◌≡◌, ◌+◌, ◌<◌, ◌≤◌, ◌^◌, ◌++◌, ℕ, suc, ℤ, pos, Bool, Some, List, [], ◌∷◌, length, slice_get, slice_set, take, codes};
+ghost use Rattle.std.specs.List.{concat};
 ghost use Rattle.mg_bson.specs.Raw.{fields};
 ghost use Rattle.mg_bson.specs.Tree.{Fields, Tree};
 ghost use Rattle.mg_link.specs.Concerns.{level_word, levels, preference_word, preferences};
 ghost use Rattle.mg_link.specs.Commands.{Batch, asked, asks_watch};
 ghost use Rattle.mg_link.specs.Events.{AsksForEvents, HaveIds, TellsItsInserts, events_in};
 ghost use Rattle.mg_link.specs.Example.{IsExample, IsStep, asks_more, gave_two, inserted_two, inserts_two, killed, kills, opened, opens};
+ghost use Rattle.mg_link.specs.Files.{Bucket, HaveSize, IsQuiet, IsWhole, LeavesFile, LeavesThose, Spares, chunked, chunks_space, file_of, files_space, has_value};
+ghost use Rattle.mg_link.specs.Filter.{Condition};
 ghost use Rattle.mg_link.specs.Follow.{Follow, FollowsOn, IsOpen, Knows, Reads, holding, owner_of};
 ghost use Rattle.mg_link.specs.History.{IsLegal, OpensAt, Reached, Step, opening, state_of, told_at, view_of};
 ghost use Rattle.mg_link.specs.Ids.{counted_id};
 ghost use Rattle.mg_link.specs.Kept.{IsAllowed, IsByRules, IsStoreState, Kept, given_of, is_started, made_of, state_of_kept, steps_of};
 ghost use Rattle.mg_link.specs.Log.{Call, see, waiting};
+ghost use Rattle.mg_link.specs.Namespace.{Space};
+ghost use Rattle.mg_link.specs.NineBytes.{bucket, holds_file, nine_bytes, seven};
 ghost use Rattle.mg_link.specs.Owner.{AreApart, NamesItsOwn, Onward, Owner, Passes};
-ghost use Rattle.mg_link.specs.Rules.{answer_of, refusal};
+ghost use Rattle.mg_link.specs.Rules.{IsFull, answer_of, batch_of_query, refusal};
+ghost use Rattle.mg_link.specs.RuleRows.{AreCollections, AreQueries, AreWrites};
 ghost use Rattle.mg_link.specs.Standing.{IsSelfMade, Stands, history_before};
 ghost use Rattle.mg_link.specs.State.{Entry, Start, State, Watch, after, deletes, events_between, updates};
+ghost use Rattle.mg_link.specs.Step.{May};
 ghost use Rattle.mg_link.specs.Worked.{IsStepOf, IsWorked, adds, deleted_one, deletes_second, dropped, drops_all, entry_of, finds_all, finds_more, found_last, found_two, gave_four, inserts_three, opened_watch, opens_watch, t_4, t_5, three_inserts, two_drops, updated_one, updates_first, watches_more, wrote_three};
 ghost use Rattle.mg_link.specs.Words.{AreReadBack};
 
@@ -150,6 +157,44 @@ pub fn streams_go_on_knowing()
 pub fn jobs_stay_apart()
     ensures { (calls calls' : List Call) (owners : List Owner) (k : ℕ) (o o' : Owner) → slice_get owners k ≡ Some o
         → Passes calls calls' o o' → AreApart calls owners → AreApart calls' (slice_set owners k o') }
+{}
+
+/// A batch of a query holds as many documents as its size and its bytes allow: at least one where one is left and its size is
+/// not 0, and one more would pass its size or its bytes.
+pub fn batches_are_full()
+    ensures { (size : ℕ) (ds : List Fields) → IsFull size ds (batch_of_query size ds) }
+{}
+
+/// What the store's rules answer to updates, deletes, creates, indexes, drops and queries over two documents, as written out.
+pub fn rules_by_rows()
+    ensures writes { AreWrites }
+    ensures collections { AreCollections }
+    ensures queries { AreQueries }
+{}
+
+/// The chunks of a file are its bytes, in order. Each but the last has the size that was asked for, and the last has at
+/// least one byte.
+pub fn chunks_are_the_bytes()
+    ensures join { (size : ℕ) (bytes : List ℕ) → concat (chunked size bytes) ≡ bytes }
+    ensures sizes { (size : ℕ) (bytes : List ℕ) → 0 < size → HaveSize size (chunked size bytes) }
+{}
+
+/// A file of nine bytes in chunks of four is whole, also where its chunks were not inserted in their order.
+pub fn nine_bytes_are_whole()
+    ensures { IsWhole holds_file bucket seven nine_bytes 4 }
+{}
+
+/// A command leaves the documents that it spares: one that reads, one about other collections, and a write that is for none
+/// that meets the condition. So it leaves a file whose record and chunks it spares. Where no step of a stretch of a history
+/// changes a file, it stays so over the stretch.
+pub fn spared_files_stay()
+    ensures documents { (s : State) (step : Step) (space : Space) (c : Condition)
+        → May s (asked step.command) (told_at step) step.made → Spares (asked step.command) space c → LeavesThose s step space c }
+    ensures parts { (s : State) (step : Step) (b : Bucket) (id : Tree) → LeavesThose s step (files_space b) (has_value (codes "_id") id)
+        → LeavesThose s step (chunks_space b) (has_value (codes "files_id") id) → LeavesFile s step b id }
+    ensures quiet { (history : List Step) (b : Bucket) (id : Tree) (from upto : ℕ) → from ≤ upto → upto < length history
+        → IsQuiet history [] b id from upto
+        → file_of (state_of (take (suc upto) history)) b id ≡ file_of (state_of (take from history)) b id }
 {}
 
 /// Each word of the tables is read back as the value that is written so: levels of read concerns, and read preferences.

@@ -8,7 +8,7 @@ use Rattle.mg_bson.proofs.Joining.{items_joined_more, items_joined_all}
 use Rattle.mg_link.specs.Namespace.{Space}
 use Rattle.mg_link.specs.State.{Entry}
 use Rattle.mg_link.specs.Rules.{accept, choose, insert_entry, Inserted, inserting, no_more, with_document, with_error, write_error}
-use Rattle.mg_store.specs.Holding.{AreExact, entries_from, entry_at}
+use Rattle.mg_store.specs.Holding.{AreExact, entries_from, entry_at, change_told}
 use Rattle.mg_store.specs.Inserting.{Accepts, Appends, Fits, Lists, Refuses, Takes, new_documents, number_in, number_of_id}
 use Rattle.mg_store.specs.declared.change.ChangeEntry.{ChangeEntry}
 use Rattle.mg_store.specs.declared.insert.Appended.{Appended}
@@ -68,7 +68,7 @@ insert_accepts s ordered entries index next before a b d ds i number got h =
     let same : rest ≡ rest_of s ordered entries next before b ds =
     ap₂ (λ (n p : ℕ). inserting s ordered n p ((before ++ new_documents a) ++ d ∷ []) ds) later more ∙ ap (λ (l : List Fields). inserting s ordered next (entries + length b.entries.items) l ds) docs in
     let here : rest_of s ordered entries index before a (d ∷ ds) ≡ with_document d e (rest_of s ordered entries next before b ds) = inserting_ok s ordered index place (before ++ new_documents a) d ds got.id got.accepted ∙ ap (with_document d e) same in
-    let logged : entry_at place got.entry ≡ e = ap₂ (λ (sp : Space) (ev : Fields). record e { space = sp; event = ev }) got.at got.event_is in
+    let logged : entry_at place got.entry ≡ e = ap₂ (λ (sp : Space) (ev : Fields). record e { space = sp; change = change_told ev; event = ev }) got.at got.event_is in
     record {
       documents_are = ap (λ (l : List Fields). l ++ (rest_of s ordered entries next before b ds).documents) got.documents_are ∙ append_assoc (new_documents a) (d ∷ []) (rest_of s ordered entries next before b ds).documents
           ∙ sym (ap (λ (x : Inserted). new_documents a ++ x.documents) here) ∙ h.documents_are;

@@ -10,10 +10,10 @@ use Rattle.mg_bson.specs.Raw.{fields}
 use Rattle.mg_link.specs.Namespace.{Space, Target}
 use Rattle.mg_link.specs.Filter.{Condition, has_dot}
 use Rattle.mg_link.specs.State.{Start, Index}
-use Rattle.mg_link.specs.Commands.{Asked, asks_insert, asks_watch, asks_more, asks_kill, asks_other, as_collection, as_database, as_integer, asked, asked_by, documents_in, filter_stages, flag_or, insert_of, integers_in, kill_of, more_of, space_at, start_of, target_of, text_of, watch_by, watch_from, watch_of, watch_stage, or_asks, pipeline_query, update_of, delete_of, find_of, collections_query, indexes_query, create_of, indexing_of, drop_of, further_by, asks_update, asks_delete, asks_create, asks_indexes, asks_drop, has_only, update_parts, update_fields, delete_parts, delete_fields, find_fields, pipeline_fields, collections_fields, indexes_fields, create_fields, indexing_fields, drop_fields, filter_at, one_at, modification_of, update_by, delete_by, many_by, count_of, optional_count, optional_size, batch_size, find_stages, pipeline_of, stages_by, selecting, query_by, indexes_by, database_at}
+use Rattle.mg_link.specs.Commands.{Asked, asks_insert, asks_watch, asks_more, asks_kill, asks_other, as_collection, as_database, as_integer, asked, asked_by, documents_in, filter_stages, flag_or, insert_of, integers_in, kill_of, more_of, space_at, start_of, target_of, text_of, watch_by, watch_from, watch_of, watch_stage, or_asks, pipeline_query, update_of, delete_of, find_of, collections_query, indexes_query, create_of, indexing_of, drop_of, further_by, asks_update, asks_delete, asks_create, asks_indexes, asks_drop, has_only, update_parts, update_fields, delete_parts, delete_fields, find_fields, pipeline_fields, collections_fields, indexes_fields, create_fields, indexing_fields, drop_fields, filter_at, one_at, modification_of, update_by, delete_by, many_by, count_of, database_at, asks_query, find_query, piped, stages_in, listing_of, indexes_listed, indexes_in}
 use Rattle.mg_store.specs.Continued.{continued, continued_by}
 use Rattle.mg_bson.specs.Reading.{◌>>=◌}
-use Rattle.mg_link.specs.Query.{Stage, of_collection, of_database, of_indexes}
+use Rattle.mg_link.specs.Query.{Query}
 use Rattle.mg_link.specs.Write.{Modification}
 
 abbrev goes_on : Option Asked → Option ℤ
@@ -69,10 +69,10 @@ by_update_parts space true None d f = refl
 by_update_parts space true (Some q) None f = refl
 by_update_parts space true (Some q) (Some d) f = by_change space q (modification_of d) f
 
-update_by_not : (space : Space) (u : Fields) → goes_on (update_by space u) ≡ None
+update_by_not : (space : Space) (u : Fields) → goes_on (update_by (asks_update space) u) ≡ None
 update_by_not space u = by_update_parts space (has_only update_parts u) (filter_at (codes "q") u) (option_and_then as_document (get (codes "u") u)) (flag_or false (get (codes "multi") u))
 
-by_update : (b : Bool) (s : Option Space) (u : Option Fields) → goes_on (if b then (s >>= λ space. u >>= update_by space) else None) ≡ None
+by_update : (b : Bool) (s : Option Space) (u : Option Fields) → goes_on (if b then (s >>= λ space. u >>= update_by (asks_update space)) else None) ≡ None
 by_update false s u = refl
 by_update true None u = refl
 by_update true (Some s) None = refl
@@ -88,10 +88,10 @@ by_delete_parts space true None f = refl
 by_delete_parts space true (Some q) None = refl
 by_delete_parts space true (Some q) (Some many) = refl
 
-delete_by_not : (space : Space) (d : Fields) → goes_on (delete_by space d) ≡ None
+delete_by_not : (space : Space) (d : Fields) → goes_on (delete_by (asks_delete space) d) ≡ None
 delete_by_not space d = by_delete_parts space (has_only delete_parts d) (filter_at (codes "q") d) (option_and_then count_of (get (codes "limit") d) >>= many_by)
 
-by_delete : (b : Bool) (s : Option Space) (d : Option Fields) → goes_on (if b then (s >>= λ space. d >>= delete_by space) else None) ≡ None
+by_delete : (b : Bool) (s : Option Space) (d : Option Fields) → goes_on (if b then (s >>= λ space. d >>= delete_by (asks_delete space)) else None) ≡ None
 by_delete false s d = refl
 by_delete true None d = refl
 by_delete true (Some s) None = refl
@@ -101,50 +101,26 @@ delete_not : (fs : Fields) → goes_on (delete_of fs) ≡ None
 unfolding delete_of
 delete_not fs = by_delete (has_only delete_fields fs) (space_at (codes "delete") fs) (one_at (codes "deletes") fs)
 
-by_find : (b : Bool) (s : Option Space) (t : Option (List Stage)) (f : Option Bool) (n : Option (Option ℕ))
-    → goes_on (if b then (s >>= λ space. t >>= λ stages. f >>= λ single. n >>= λ size. Some (query_by (of_collection space) single stages size)) else None) ≡ None
-by_find false s t f n = refl
-by_find true None t f n = refl
-by_find true (Some s) None f n = refl
-by_find true (Some s) (Some t) None n = refl
-by_find true (Some s) (Some t) (Some f) None = refl
-by_find true (Some s) (Some t) (Some f) (Some n) = refl
+by_query : (b : Bool) (q : Option Query) → goes_on (if b then option_map asks_query q else None) ≡ None
+by_query false q = refl
+by_query true None = refl
+by_query true (Some q) = refl
 
 find_not : (fs : Fields) → goes_on (find_of fs) ≡ None
 unfolding find_of
-find_not fs = by_find (has_only find_fields fs) (space_at (codes "find") fs) (find_stages fs) (flag_or false (get (codes "singleBatch") fs)) (optional_count (get (codes "batchSize") fs))
-
-by_pipeline : (b : Bool) (s : Option Space) (t : Option (List Stage)) (n : Option (Option ℕ)) → goes_on (if b then (s >>= λ space. t >>= λ stages. n >>= λ size. Some (query_by (of_collection space) false stages size)) else None) ≡ None
-by_pipeline false s t n = refl
-by_pipeline true None t n = refl
-by_pipeline true (Some s) None n = refl
-by_pipeline true (Some s) (Some t) None = refl
-by_pipeline true (Some s) (Some t) (Some n) = refl
+find_not fs = by_query (has_only find_fields fs) (space_at (codes "find") fs >>= find_query fs)
 
 pipeline_not : (fs : Fields) → goes_on (pipeline_query fs) ≡ None
 unfolding pipeline_query
-pipeline_not fs = by_pipeline (has_only pipeline_fields fs) (space_at (codes "aggregate") fs) (option_and_then documents_in (option_and_then as_array (get (codes "pipeline") fs)) >>= pipeline_of) (batch_size fs)
-
-by_collections : (b : Bool) (d : Option (List ℕ)) (t : Option (List Stage)) (n : Option (Option ℕ)) → goes_on (if b then (d >>= λ db. t >>= λ stages. n >>= λ size. Some (query_by (of_database db) false stages size)) else None) ≡ None
-by_collections false d t n = refl
-by_collections true None t n = refl
-by_collections true (Some d) None n = refl
-by_collections true (Some d) (Some t) None = refl
-by_collections true (Some d) (Some t) (Some n) = refl
+pipeline_not fs = by_query (has_only pipeline_fields fs) (space_at (codes "aggregate") fs >>= piped fs (stages_in fs))
 
 collections_not : (fs : Fields) → goes_on (collections_query fs) ≡ None
 unfolding collections_query
-collections_not fs = by_collections (has_only collections_fields fs) (database_at fs) (stages_by selecting (get (codes "filter") fs)) (optional_size fs)
-
-by_indexes : (b : Bool) (s : Option Space) (n : Option (Option ℕ)) → goes_on (if b then (s >>= λ space. n >>= λ size. Some (query_by (of_indexes space) false [] size)) else None) ≡ None
-by_indexes false s n = refl
-by_indexes true None n = refl
-by_indexes true (Some s) None = refl
-by_indexes true (Some s) (Some n) = refl
+collections_not fs = by_query (has_only collections_fields fs) (database_at fs >>= listing_of fs)
 
 indexes_not : (fs : Fields) → goes_on (indexes_query fs) ≡ None
 unfolding indexes_query
-indexes_not fs = by_indexes (has_only indexes_fields fs) (space_at (codes "listIndexes") fs) (optional_size fs)
+indexes_not fs = by_query (has_only indexes_fields fs) (space_at (codes "listIndexes") fs >>= indexes_listed fs)
 
 by_space : (b : Bool) (asks : Space → Asked) (s : Option Space) → ((space : Space) → continued (asks space) ≡ None) → goes_on (if b then option_map asks s else None) ≡ None
 by_space false asks s h = refl
@@ -155,7 +131,7 @@ create_not : (fs : Fields) → goes_on (create_of fs) ≡ None
 unfolding create_of
 create_not fs = by_space (has_only create_fields fs) asks_create (space_at (codes "create") fs) (λ space. refl)
 
-by_indexing : (b : Bool) (s : Option Space) (is : Option (List Index)) → goes_on (if b then (s >>= λ space. is >>= λ indexes. Some (asks_indexes space indexes)) else None) ≡ None
+by_indexing : (b : Bool) (s : Option Space) (is : Option (List Index)) → goes_on (if b then (s >>= λ space. option_map (asks_indexes space) is) else None) ≡ None
 by_indexing false s is = refl
 by_indexing true None is = refl
 by_indexing true (Some s) None = refl
@@ -163,7 +139,7 @@ by_indexing true (Some s) (Some is) = refl
 
 indexing_not : (fs : Fields) → goes_on (indexing_of fs) ≡ None
 unfolding indexing_of
-indexing_not fs = by_indexing (has_only indexing_fields fs) (space_at (codes "createIndexes") fs) (option_and_then as_array (get (codes "indexes") fs) >>= documents_in >>= indexes_by)
+indexing_not fs = by_indexing (has_only indexing_fields fs) (space_at (codes "createIndexes") fs) (indexes_in fs)
 
 drop_not : (fs : Fields) → goes_on (drop_of fs) ≡ None
 unfolding drop_of

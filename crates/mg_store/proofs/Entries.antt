@@ -1,8 +1,12 @@
 -- The entries that the store holds, as those of a state.
-use Rattle.std.proofs.Common.{◌≡◌, ℕ, zero, suc, ◌+◌, ◌<◌, List, [], ◌∷◌, ◌++◌, length, drop, get_or, refl, sym, ap, ap₂, ◌∙◌, subst, arith}
+use Rattle.std.proofs.Common.{◌≡◌, ℕ, zero, suc, ◌+◌, ◌<◌, ◌≤◌, ◌⊎◌, inl, inr, Bool, false, Some, List, [], ◌∷◌, ◌++◌, length, drop, get_or, refl, sym, ap, ap₂, ◌∙◌, subst, arith}
+use Rattle.std.specs.Prelude.{nat_lt, slice_get, ◌&&◌, if◌then◌else◌}
+use Rattle.std.proofs.lemmas.Option.{slice_get_past}
+use Rattle.std.proofs.lemmas.Bool.{lt-ltb, le-ltb}
 use Rattle.mg_bson.specs.Bytes.{bytes}
 use Rattle.mg_bson.specs.Raw.{fields}
-use Rattle.mg_link.specs.State.{Entry}
+use Rattle.mg_link.specs.State.{Entry, Watch, count_before, is_invalidate, sees}
+use Rattle.mg_link.specs.Rules.{ended_before, ends_with, now_of}
 use Rattle.mg_store.specs.Holding.{entry_at, entries_from, AreExact}
 use Rattle.mg_store.specs.declared.change.ChangeEntry.{ChangeEntry}
 
@@ -42,3 +46,49 @@ exact_at (suc n) (x ∷ es) e lt is h = exact_at n es e (omega arith) is h.1
 pub exact-append : (es fs : List ChangeEntry) → AreExact es → AreExact fs → AreExact (es ++ fs)
 exact-append [] fs h g = g
 exact-append (e ∷ es) fs h g = (h.0, exact-append es fs h.1 g)
+
+abbrev counted : Bool → ℕ → ℕ
+counted below n = if below then suc n else n
+
+counted_from : (time p n : ℕ) (es : List ChangeEntry) → n < length es → count_before time (drop n (entries_from p es)) ≡ counted (nat_lt (now_of (suc (p + n))) time) (count_before time (drop (suc n) (entries_from p es)))
+counted_from time p n [] lt = absurd (omega arith)
+counted_from time p zero (e ∷ es) lt = let at : p ≡ p + 0 = omega arith in ap (λ (q : ℕ). counted (nat_lt (now_of (suc q)) time) (count_before time (entries_from (suc p) es))) at
+counted_from time p (suc n) (e ∷ es) lt =
+    let at : suc p + n ≡ p + suc n = omega arith in
+    counted_from time (suc p) n es (omega arith) ∙ ap (λ (q : ℕ). counted (nat_lt (now_of (suc q)) time) (count_before time (drop (suc n) (entries_from (suc p) es)))) at
+
+-- the entry at a place counts where its time is below
+pub counted_at : (time n below bound now : ℕ) (es : List ChangeEntry) → n < length es → now ≡ now_of (n + 1) → (below + count_before time (drop n (entries_from 0 es)) ≡ bound)
+    → (now < time → below + 1 + count_before time (drop (n + 1) (entries_from 0 es)) ≡ bound) × (time ≤ now → below + count_before time (drop (n + 1) (entries_from 0 es)) ≡ bound)
+counted_at time n below bound now es lt is so_far =
+    let at : suc (0 + n) ≡ n + 1 = omega arith in
+    let next : suc n ≡ n + 1 = omega arith in
+    let step = counted_from time 0 n es lt ∙ ap₂ (λ (q r : ℕ). counted (nat_lt (now_of q) time) (count_before time (drop r (entries_from 0 es)))) at next ∙ ap (λ (q : ℕ). counted (nat_lt q time) (count_before time (drop (n + 1) (entries_from 0 es)))) (sym is) in (
+      λ less. let e = step ∙ ap (λ (b : Bool). counted b (count_before time (drop (n + 1) (entries_from 0 es)))) (lt-ltb now time less) in omega (arith, so_far, e),
+      λ more. let e = step ∙ ap (λ (b : Bool). counted b (count_before time (drop (n + 1) (entries_from 0 es)))) (le-ltb now time more) in omega (arith, so_far, e),
+    )
+
+got_from : (p n : ℕ) (es : List ChangeEntry) (e : ChangeEntry) → n < length es → e ≡ get_or es n e → slice_get (entries_from p es) n ≡ Some (entry_at (p + n) e)
+got_from p n [] e lt is = absurd (omega arith)
+got_from p zero (x ∷ es) e lt is = let at : p ≡ p + 0 = omega arith in ap₂ (λ (q : ℕ) (y : ChangeEntry). Some (entry_at q y)) at (sym is)
+got_from p (suc n) (x ∷ es) e lt is = let at : suc p + n ≡ p + suc n = omega arith in got_from (suc p) n es e (omega arith) is ∙ ap (λ (q : ℕ). Some (entry_at q e)) at
+
+-- whether a watch ended with the entry before the place
+pub ended_at : (w : Watch) (place n : ℕ) (es : List ChangeEntry) (e : ChangeEntry) → place ≡ suc n → n < length es → e ≡ get_or es n e → ended_before w (entries_from 0 es) place ≡ (sees w (entry_at n e) && is_invalidate (entry_at n e).change)
+ended_at w zero n es e at lt is = absurd (omega (arith, at))
+ended_at w (suc m) n es e at lt is =
+    let same : m ≡ 0 + n = omega (arith, at) in
+    let here : 0 + n ≡ n = omega arith in
+    ap (λ (k : ℕ). ends_with w (slice_get (entries_from 0 es) k)) (same ∙ here) ∙ ap (ends_with w) (got_from 0 n es e lt is ∙ ap (λ (q : ℕ). Some (entry_at q e)) here)
+
+ended_past : (w : Watch) (place : ℕ) (es : List ChangeEntry) → length es < place → ended_before w (entries_from 0 es) place ≡ false
+ended_past w zero es past = absurd (omega arith)
+ended_past w (suc m) es past = ap (ends_with w) (slice_get_past (entries_from 0 es) m (omega (arith, length-entries 0 es)))
+
+none_before : (w : Watch) (place : ℕ) (es : List ChangeEntry) → place ≡ 0 → ended_before w (entries_from 0 es) place ≡ false
+none_before w zero es e = refl
+none_before w (suc m) es e = absurd (omega arith)
+
+pub ended_none : (w : Watch) (place : ℕ) (es : List ChangeEntry) → (place ≡ 0) ⊎ (length es < place) → ended_before w (entries_from 0 es) place ≡ false
+ended_none w place es (inl e) = none_before w place es e
+ended_none w place es (inr past) = ended_past w place es past

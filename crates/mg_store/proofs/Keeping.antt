@@ -1,5 +1,5 @@
 -- A step more is kept.
-use Rattle.std.proofs.Common.{◌≡◌, ℕ, ℤ, suc, ◌<◌, ◌^◌, Bool, true, false, List, [], ◌∷◌, ◌++◌, length, map, Option, None, is_some, option_map, refl, sym, ap, ap₂, ◌∙◌, subst, arith}
+use Rattle.std.proofs.Common.{◌≡◌, ℕ, ℤ, suc, ◌<◌, ◌^◌, Bool, true, false, List, [], ◌∷◌, ◌++◌, length, map, Option, Some, None, is_some, option_map, refl, sym, ap, ap₂, ◌∙◌, subst, arith}
 use Rattle.std.specs.Prelude.{◌||◌, if◌then◌else◌, unwrap_or}
 use Rattle.std.specs.BTreeMap.{get}
 use Rattle.std.specs.Cmp.{both_ways}
@@ -10,15 +10,16 @@ use Rattle.std.proofs.lemmas.Bool.Decides.{Decides-int_eq}
 use Rattle.mg_bson.specs.Tree.{Fields}
 use Rattle.mg_bson.specs.Raw.{fields}
 use Rattle.mg_link.specs.Namespace.{Space}
-use Rattle.mg_link.specs.State.{Cursor, State, nothing, documents_at, put_cursor}
+use Rattle.mg_link.specs.State.{Cursor, State, nothing, documents_at, indexes_of, put_cursor}
 use Rattle.mg_link.specs.Commands.{Asked, asks_more, asked}
 use Rattle.mg_link.specs.Step.{documents_of, ends_cursor}
 use Rattle.mg_link.specs.Rules.{is_id_among, refusal}
 use Rattle.mg_link.specs.Kept.{AreByRulesFrom, Kept, IsReply, by_choice, by_rules, given_after, given_of, given_from, is_started, state_behind, state_of_kept, steps_from, steps_of}
 use Rattle.mg_link.specs.History.{IsLegal, state_after}
 use Rattle.mg_link.proofs.Behind.{behind_refusal, cursors_refused}
+use Rattle.mg_link.proofs.Indexed.{indexes_refused}
 use Rattle.mg_link.proofs.Legal.{by_rules_push, given_push, kept_is_legal, kept_state, state_push}
-use Rattle.mg_store.specs.Contents.{AnswersBy, Becomes, Does, Keeps, MayKeep, Represents, closing, collection_at}
+use Rattle.mg_store.specs.Contents.{AnswersBy, Becomes, Does, Keeps, Leads, MayKeep, Represents, closing, collection_at, indexes_behind}
 use Rattle.mg_store.specs.Continued.{continued}
 use Rattle.mg_store.specs.declared.perform.Answer.{Answer}
 use Rattle.mg_store.specs.declared.perform.Content.{Content}
@@ -32,7 +33,7 @@ use Rattle.mg_store.proofs.Holdings.{changes-length, held_is}
 use Rattle.mg_store.proofs.Maps.{int_test}
 
 pub keeps_more : (c c' : Content) (history : List Kept) (command : List ℕ) (a : Answer) → Keeps c history → MayKeep history command a → length c.changes.items < 2 ^ 64
-    → ((s : State) (given : ℕ) (s' : State) (given' : ℕ) → Represents c s given → Does a.effect s given s' given' → Represents c' s' given')
+    → ((s : State) (given : ℕ) (s' : State) (given' : ℕ) → Represents c s given → Leads a.effect s given s' given' → Represents c' s' given')
     → Keeps c' (history ++ record { command = command; reply = a.reply } ∷ [])
 keeps_more c c' history command a h may lt commits =
     let kept : Kept = record { command = command; reply = a.reply } in
@@ -66,6 +67,11 @@ closed false (asks_more id sp) s s' given given' code e h =
 closed true command s s' given given' code e h = h
 closed false command s s' given given' code e h = h
 
+closing_leaves : (ends : Bool) (found : Option ℤ) (s : State) (sp : Space) → indexes_behind (closing ends found) s sp ≡ indexes_of s sp
+closing_leaves false found s sp = refl
+closing_leaves true None s sp = refl
+closing_leaves true (Some id) s sp = refl
+
 -- a refusal that is chosen may be kept
 pub may_by_choice : (history : List Kept) (command : List ℕ) (a : Answer) (code : ℤ) (labels : List (List ℕ)) → IsReply (refusal code labels) a.reply → a.effect ≡ closing (ends_cursor code) (continued (asked command)) → MayKeep history command a
 may_by_choice history command a code labels reply effect = record {
@@ -80,8 +86,9 @@ may_by_choice history command a code labels reply effect = record {
         cursors_are = λ id. ap (λ (f : ℤ → Option Cursor). f id) parts.cursors_are ∙ ap (λ (c : List ℕ). cursors_refused (asked c) code s.cursors id) is_command;
         given_are = parts.given_are;
       } in
-      subst (λ (e : Effect). Does e s given (state_behind s given started kept) (given_after given kept)) (sym effect)
-      (closed (ends_cursor code) (asked command) s (state_behind s given started kept) given (given_after given kept) code refl becomes);
+      let does = subst (λ (e : Effect). Does e s given (state_behind s given started kept) (given_after given kept)) (sym effect)
+      (closed (ends_cursor code) (asked command) s (state_behind s given started kept) given (given_after given kept) code refl becomes) in
+      (does, λ sp. indexes_refused s given started kept code labels (ap fields is_reply ∙ reply.read_back) sp ∙ sym (ap (λ (e : Effect). indexes_behind e s sp) effect ∙ closing_leaves (ends_cursor code) (continued (asked command)) s sp));
 }
 
 -- ---- an empty store
@@ -114,7 +121,7 @@ open_ids c history ids h ascending has = record { ascending = ascending; these =
 
 -- a step that came to nothing
 pub keeps_still : (c c' : Content) (history : List Kept) (command : List ℕ) (a : Answer) → Keeps c history → MayKeep history command a → length c.changes.items < 2 ^ 64
-    → ((s : State) (given : ℕ) (s' : State) (given' : ℕ) → Represents c s given → Does a.effect s given s' given' → Represents c' s given) → Keeps c' history
+    → ((s : State) (given : ℕ) (s' : State) (given' : ℕ) → Represents c s given → Leads a.effect s given s' given' → Represents c' s given) → Keeps c' history
 keeps_still c c' history command a h may lt commits =
     let kept : Kept = record { command = command; reply = a.reply } in
     let s : State = state_of_kept history in

@@ -18,5 +18,10 @@ pub mod Killing
 pub mod Maps
 pub mod Places
 pub mod Settling
+pub mod Sorting
+pub mod Giving
+pub mod Staging
+pub mod Finding
 pub mod Appending
 pub mod Continued
+pub mod Indexes

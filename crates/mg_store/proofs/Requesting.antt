@@ -1,15 +1,18 @@
 -- From what the code reads of a command to the request of the rules.
 use Rattle.std.proofs.Common.{◌≡◌, ℕ, ℤ, pos, List, length, map, Option, Some, None, Bool, Result, Ok, Err, refl, ap, ◌∙◌, subst, arith}
-use Rattle.mg_bson.specs.Tree.{Tree, Fields}
+use Rattle.std.specs.Prelude.{◌&&◌, true, false, if◌then◌else◌}
+use Rattle.mg_bson.specs.Tree.{Fields}
 use Rattle.mg_bson.specs.Raw.{fields}
-use Rattle.mg_link.specs.Namespace.{Space}
-use Rattle.mg_link.specs.Filter.{Condition}
-use Rattle.mg_link.specs.State.{State}
+use Rattle.mg_link.specs.Namespace.{Space, Target}
+use Rattle.mg_link.specs.State.{Entry, Watch, State, Start, nowhere, after, at_time, count_before, Index}
+use Rattle.mg_link.specs.Commands.{query_by}
+use Rattle.mg_link.specs.Query.{Query, Source, Stage, of_collection}
 use Rattle.mg_link.specs.Rules as rules
-use Rattle.mg_link.specs.Rules.{map_ok, or_code, no_such_token, place_at, request_of, token_place}
+use Rattle.mg_link.specs.Rules.{ended_before, map_ok, no_such_token, place_after, place_at, request_of, token_place, or_code}
 use Rattle.mg_store.specs.Asking.{Keyed, keyed}
+use Rattle.mg_store.specs.Querying.{Doing, doing}
 use Rattle.mg_store.specs.Contents.{AnswersOr, Misses, OpensAt, Settles}
-use Rattle.mg_store.specs.Wanted.{Wanted, StopsBy, code_of, insert, kill, more, wanted, watch}
+use Rattle.mg_store.specs.Wanted.{Wanted, StopsBy, code_of, create_collection, create_indexes, insert, kill, more, wanted, watch, find}
 use Rattle.mg_store.specs.declared.perform.Answer.{Answer}
 use Rattle.mg_store.specs.declared.request.Refusal.{Refusal}
 use Rattle.mg_store.specs.declared.request.Refusal.TheVariants as refusals
@@ -30,32 +33,84 @@ read (Err code) w e = absurd cc
 
 insert_is : (r : rules.Request) (sp : Space) (ds : List Fields) (ordered : Bool) → wanted r ≡ insert sp ds ordered → r ≡ rules.insert sp ds ordered
 insert_is (rules.insert a b c) sp ds ordered e = cc
+insert_is (rules.find q) sp ds ordered e = cc
 insert_is (rules.watch a b c d) sp ds ordered e = cc
 insert_is (rules.more a b c) sp ds ordered e = cc
 insert_is (rules.kill a) sp ds ordered e = cc
+insert_is (rules.create_collection a) sp ds ordered e = cc
+insert_is (rules.create_indexes a b) sp ds ordered e = cc
 
 more_is : (r : rules.Request) (id : ℤ) (sp : Space) (size : Option ℕ) → wanted r ≡ more id sp size → r ≡ rules.more id sp size
 more_is (rules.insert a b c) id sp size e = cc
+more_is (rules.find q) id sp size e = cc
 more_is (rules.watch a b c d) id sp size e = cc
 more_is (rules.more a b c) id sp size e = cc
 more_is (rules.kill a) id sp size e = cc
+more_is (rules.create_collection a) id sp size e = cc
+more_is (rules.create_indexes a b) id sp size e = cc
 
 kill_is : (r : rules.Request) (ids : List ℤ) → wanted r ≡ kill ids → r ≡ rules.kill ids
 kill_is (rules.insert a b c) ids e = cc
+kill_is (rules.find q) ids e = cc
 kill_is (rules.watch a b c d) ids e = cc
 kill_is (rules.more a b c) ids e = cc
 kill_is (rules.kill a) ids e = cc
+kill_is (rules.create_collection a) ids e = cc
+kill_is (rules.create_indexes a b) ids e = cc
 
-pub record IsWatched (r : rules.Request) (sp : Space) (keys : List Keyed) (resume_after : Option Tree) (size : Option ℕ) : Type 0 where
-  pub filter : List Condition
-  pub is : r ≡ rules.watch sp filter resume_after size
-  pub keys_are : keys ≡ map keyed filter
+create_is : (r : rules.Request) (sp : Space) → wanted r ≡ create_collection sp → r ≡ rules.create_collection sp
+create_is (rules.insert a b c) sp e = cc
+create_is (rules.find q) sp e = cc
+create_is (rules.watch a b c d) sp e = cc
+create_is (rules.more a b c) sp e = cc
+create_is (rules.kill a) sp e = cc
+create_is (rules.create_collection a) sp e = cc
+create_is (rules.create_indexes a b) sp e = cc
 
-abbrev pub watch_is : (r : rules.Request) (sp : Space) (keys : List Keyed) (resume_after : Option Tree) (size : Option ℕ) → wanted r ≡ watch sp keys resume_after size → IsWatched r sp keys resume_after size
-watch_is (rules.watch a b c d) sp keys resume_after size e = record { filter = b; is = cc; keys_are = cc }
-watch_is (rules.insert a b c) sp keys resume_after size e = absurd cc
-watch_is (rules.more a b c) sp keys resume_after size e = absurd cc
-watch_is (rules.kill a) sp keys resume_after size e = absurd cc
+indexes_is : (r : rules.Request) (sp : Space) (indexes : List Index) → wanted r ≡ create_indexes sp indexes → r ≡ rules.create_indexes sp indexes
+indexes_is (rules.insert a b c) sp indexes e = cc
+indexes_is (rules.find q) sp indexes e = cc
+indexes_is (rules.watch a b c d) sp indexes e = cc
+indexes_is (rules.more a b c) sp indexes e = cc
+indexes_is (rules.kill a) sp indexes e = cc
+indexes_is (rules.create_collection a) sp indexes e = cc
+indexes_is (rules.create_indexes a b) sp indexes e = cc
+
+pub record IsWatched (r : rules.Request) (target : Target) (keys : List Keyed) (start : Start) (resumes : Bool) (size : Option ℕ) : Type 0 where
+  pub watch : Watch
+  pub is : r ≡ rules.watch watch start resumes size
+  pub target_is : watch.target ≡ target
+  pub keys_are : keys ≡ map keyed watch.filter
+
+abbrev pub watch_is : (r : rules.Request) (target : Target) (keys : List Keyed) (start : Start) (resumes : Bool) (size : Option ℕ) → wanted r ≡ watch target keys start resumes size → IsWatched r target keys start resumes size
+watch_is (rules.watch w b c d) target keys start resumes size e = record { watch = w; is = cc; target_is = cc; keys_are = cc }
+watch_is (rules.insert a b c) target keys start resumes size e = absurd cc
+watch_is (rules.find q) target keys start resumes size e = absurd cc
+watch_is (rules.more a b c) target keys start resumes size e = absurd cc
+watch_is (rules.kill a) target keys start resumes size e = absurd cc
+watch_is (rules.create_collection a) target keys start resumes size e = absurd cc
+watch_is (rules.create_indexes a b) target keys start resumes size e = absurd cc
+
+pub found_by_stages : (q : Query) (source : Source) (single : Bool) (size : Option ℕ) → source ≡ q.source → single ≡ q.single → size ≡ q.size → rules.find q ≡ rules.find (query_by source single q.stages size)
+found_by_stages q source single size a b c = ap rules.find (rw (a, b, c) refl)
+
+pub record IsFound (r : rules.Request) (source : Source) (steps : List Doing) (single : Bool) (size : Option ℕ) : Type 0 where
+  pub stages : List Stage
+  pub is : r ≡ rules.find (query_by source single stages size)
+  pub steps_are : steps ≡ map doing stages
+
+abbrev pub find_is : (r : rules.Request) (source : Source) (steps : List Doing) (single : Bool) (size : Option ℕ) → wanted r ≡ find source steps single size → IsFound r source steps single size
+find_is (rules.find q) source steps single size e =
+    let a : source ≡ q.source = cc in
+    let b : single ≡ q.single = cc in
+    let c : size ≡ q.size = cc in
+    record { stages = q.stages; is = found_by_stages q source single size a b c; steps_are = cc }
+find_is (rules.insert a b c) source steps single size e = absurd cc
+find_is (rules.watch a b c d) source steps single size e = absurd cc
+find_is (rules.more a b c) source steps single size e = absurd cc
+find_is (rules.kill a) source steps single size e = absurd cc
+find_is (rules.create_collection a) source steps single size e = absurd cc
+find_is (rules.create_indexes a b) source steps single size e = absurd cc
 
 -- ---- the answers
 
@@ -64,6 +119,14 @@ pub insert_answers : (s : State) (given : ℕ) (command : List ℕ) (sp at : Spa
 insert_answers s given command sp at ds ordered result e same h =
     let r = read (request_of (fields command)) (insert sp ds ordered) e in
     answers_or s given command (rules.insert sp ds ordered) result (r.is ∙ ap (λ (x : rules.Request). Ok x) (insert_is r.request sp ds ordered r.wants)) (subst (λ (x : Space). Settles s given (rules.insert x ds ordered) result) same h)
+
+pub find_answers : (s : State) (given : ℕ) (command : List ℕ) (sp at : Space) (steps : List Doing) (single : Bool) (size : Option ℕ) (result : Result Answer Stop) → map_ok wanted (request_of (fields command)) ≡ Ok (find (of_collection sp) steps single size) → at ≡ sp
+    → ((stages : List Stage) → steps ≡ map doing stages → Settles s given (rules.find (query_by (of_collection at) single stages size)) result) → AnswersOr s given command result
+find_answers s given command sp at steps single size result e same h =
+    let r = read (request_of (fields command)) (find (of_collection sp) steps single size) e in
+    let f = find_is r.request (of_collection sp) steps single size r.wants in
+    answers_or s given command (rules.find (query_by (of_collection sp) single f.stages size)) result (r.is ∙ ap (λ (x : rules.Request). Ok x) f.is)
+    (subst (λ (x : Space). Settles s given (rules.find (query_by (of_collection x) single f.stages size)) result) same (h f.stages f.steps_are))
 
 pub more_answers : (s : State) (given : ℕ) (command : List ℕ) (id : ℤ) (sp at : Space) (size : Option ℕ) (result : Result Answer Stop) → map_ok wanted (request_of (fields command)) ≡ Ok (more id sp size) → at ≡ sp
     → Settles s given (rules.more id at size) result → AnswersOr s given command result
@@ -76,12 +139,23 @@ kill_answers s given command ids result e h =
     let r = read (request_of (fields command)) (kill ids) e in
     answers_or s given command (rules.kill ids) result (r.is ∙ ap (λ (x : rules.Request). Ok x) (kill_is r.request ids r.wants)) h
 
-pub watch_answers : (s : State) (given : ℕ) (command : List ℕ) (sp at : Space) (keys : List Keyed) (resume_after : Option Tree) (size : Option ℕ) (result : Result Answer Stop) → map_ok wanted (request_of (fields command)) ≡ Ok (watch sp keys resume_after size) → at ≡ sp
-    → ((filter : List Condition) → keys ≡ map keyed filter → Settles s given (rules.watch at filter resume_after size) result) → AnswersOr s given command result
-watch_answers s given command sp at keys resume_after size result e same h =
-    let r = read (request_of (fields command)) (watch sp keys resume_after size) e in
-    let w = watch_is r.request sp keys resume_after size r.wants in
-    answers_or s given command (rules.watch sp w.filter resume_after size) result (r.is ∙ ap (λ (x : rules.Request). Ok x) w.is) (subst (λ (x : Space). Settles s given (rules.watch x w.filter resume_after size) result) same (h w.filter w.keys_are))
+pub create_answers : (s : State) (given : ℕ) (command : List ℕ) (sp at : Space) (result : Result Answer Stop) → map_ok wanted (request_of (fields command)) ≡ Ok (create_collection sp) → at ≡ sp → Settles s given (rules.create_collection at) result → AnswersOr s given command result
+create_answers s given command sp at result e same h =
+    let r = read (request_of (fields command)) (create_collection sp) e in
+    answers_or s given command (rules.create_collection sp) result (r.is ∙ ap (λ (x : rules.Request). Ok x) (create_is r.request sp r.wants)) (subst (λ (x : Space). Settles s given (rules.create_collection x) result) same h)
+
+pub indexes_answer : (s : State) (given : ℕ) (command : List ℕ) (sp at : Space) (indexes : List Index) (result : Result Answer Stop) → map_ok wanted (request_of (fields command)) ≡ Ok (create_indexes sp indexes) → at ≡ sp
+    → Settles s given (rules.create_indexes at indexes) result → AnswersOr s given command result
+indexes_answer s given command sp at indexes result e same h =
+    let r = read (request_of (fields command)) (create_indexes sp indexes) e in
+    answers_or s given command (rules.create_indexes sp indexes) result (r.is ∙ ap (λ (x : rules.Request). Ok x) (indexes_is r.request sp indexes r.wants)) (subst (λ (x : Space). Settles s given (rules.create_indexes x indexes) result) same h)
+
+pub watch_answers : (s : State) (given : ℕ) (command : List ℕ) (target : Target) (keys : List Keyed) (start : Start) (resumes : Bool) (size : Option ℕ) (result : Result Answer Stop) → map_ok wanted (request_of (fields command)) ≡ Ok (watch target keys start resumes size)
+    → ((w : Watch) → w.target ≡ target → keys ≡ map keyed w.filter → Settles s given (rules.watch w start resumes size) result) → AnswersOr s given command result
+watch_answers s given command target keys start resumes size result e h =
+    let r = read (request_of (fields command)) (watch target keys start resumes size) e in
+    let w = watch_is r.request target keys start resumes size r.wants in
+    answers_or s given command (rules.watch w.watch start resumes size) result (r.is ∙ ap (λ (x : rules.Request). Ok x) w.is) (h w.watch w.target_is w.keys_are)
 
 pub stops_answer : (s : State) (given : ℕ) (command : List ℕ) (stop : Stop) → StopsBy stop (request_of (fields command)) → AnswersOr s given command (Err stop)
 stops_answer s given command stops.Memory h = tt
@@ -96,20 +170,29 @@ pos_inner m n e = cc
 ok_not_err : (p : ℕ) (y : ℤ) → ◌≡◌ {A = Result ℕ ℤ} (Ok p) (Err y) → ⊥
 ok_not_err p y e = absurd cc
 
-no_43 : (o : Option ℕ) → or_code no_such_token o ≡ Err (pos 43) → ⊥
-no_43 None e = let f : 260 ≡ 43 = pos_inner 260 43 (err_inner (pos 260) (pos 43) e) in omega (arith, f)
-no_43 (Some p) e = ok_not_err p (pos 43) e
+not_260 : pos 260 ≡ pos 43 → ⊥
+not_260 e = let f : 260 ≡ 43 = pos_inner 260 43 e in omega (arith, f)
 
-place_not_43 : (s : State) (resume_after : Option Tree) → place_at s resume_after ≡ Err (pos 43) → ⊥
-place_not_43 s None e = ok_not_err (length s.changes) (pos 43) e
-place_not_43 s (Some token) e = no_43 (token_place (length s.changes) token) e
+refused_260 : (b : Bool) (place : ℕ) → ◌≡◌ {A = Result ℕ ℤ} (if b then Err no_such_token else Ok place) (Err (pos 43)) → ⊥
+refused_260 true place e = not_260 (err_inner (pos 260) (pos 43) e)
+refused_260 false place e = ok_not_err place (pos 43) e
 
-misses_none : (s : State) (given : ℕ) (sp : Space) (filter : List Condition) (resume_after : Option Tree) (size : Option ℕ) (refusal : Refusal) → place_at s resume_after ≡ Err (code_of refusal) → Misses s refusal (rules.watch sp filter resume_after size)
-misses_none s given sp filter resume_after size refusals.NoSuchCursor e = absurd (place_not_43 s resume_after e)
-misses_none s given sp filter resume_after size refusals.UnknownCommand e = tt
-misses_none s given sp filter resume_after size refusals.BadRequest e = tt
-misses_none s given sp filter resume_after size refusals.NoSuchToken e = tt
+after_not_43 : (w : Watch) (changes : List Entry) (resumes : Bool) (o : Option ℕ) → place_after w changes resumes o ≡ Err (pos 43) → ⊥
+after_not_43 w changes resumes None e = not_260 (err_inner (pos 260) (pos 43) e)
+after_not_43 w changes resumes (Some p) e = refused_260 (resumes && ended_before w changes p) p e
 
-pub start_stops : (s : State) (given : ℕ) (sp : Space) (filter : List Condition) (resume_after : Option Tree) (size : Option ℕ) (stop : Stop) → OpensAt (Err stop) (place_at s resume_after) → Settles s given (rules.watch sp filter resume_after size) (Err stop)
-start_stops s given sp filter resume_after size stops.Memory h = tt
-start_stops s given sp filter resume_after size (stops.Refused refusal) h = (watch_refused s given sp filter resume_after size (code_of refusal) h, misses_none s given sp filter resume_after size refusal h)
+place_not_43 : (s : State) (w : Watch) (start : Start) (resumes : Bool) → place_at s w start resumes ≡ Err (pos 43) → ⊥
+place_not_43 s w nowhere resumes e = ok_not_err (length s.changes) (pos 43) e
+place_not_43 s w (after token) resumes e = after_not_43 w s.changes resumes (token_place (length s.changes) token) e
+place_not_43 s w (at_time time) resumes e = ok_not_err (count_before time s.changes) (pos 43) e
+
+misses_none : (s : State) (w : Watch) (start : Start) (resumes : Bool) (size : Option ℕ) (refusal : Refusal) → place_at s w start resumes ≡ Err (code_of refusal) → Misses s refusal (rules.watch w start resumes size)
+misses_none s w start resumes size refusals.NoSuchCursor e = absurd (place_not_43 s w start resumes e)
+misses_none s w start resumes size refusals.UnknownCommand e = tt
+misses_none s w start resumes size refusals.BadRequest e = tt
+misses_none s w start resumes size refusals.NoSuchToken e = tt
+misses_none s w start resumes size refusals.CollectionExists e = tt
+
+pub start_stops : (s : State) (given : ℕ) (w : Watch) (start : Start) (resumes : Bool) (size : Option ℕ) (stop : Stop) → OpensAt (Err stop) (place_at s w start resumes) → Settles s given (rules.watch w start resumes size) (Err stop)
+start_stops s given w start resumes size stops.Memory h = tt
+start_stops s given w start resumes size (stops.Refused refusal) h = (watch_refused s given w start resumes size (code_of refusal) h, misses_none s w start resumes size refusal h)

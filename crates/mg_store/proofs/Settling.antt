@@ -1,6 +1,7 @@
 -- From the answer to a request to that of a command, and to the state behind its step.
-use Rattle.std.proofs.Common.{◌≡◌, ◌⊎◌, inl, inr, ℕ, ℤ, pos, suc, Bool, true, false, List, [], ◌++◌, length, Option, Some, None, Result, Ok, Err, codes, refl, sym, ap, ◌∙◌, subst}
-use Rattle.std.specs.Prelude.{IfOk, if◌then◌else◌}
+use Rattle.std.proofs.Common.{◌≡◌, ◌⊎◌, inl, inr, ℕ, ℤ, pos, suc, Bool, true, false, List, [], ◌++◌, ◌<◌, ◌^◌, length, Option, Some, None, Result, Ok, Err, codes, refl, sym, ap, ap₂, ◌∙◌, subst, append-nil, option_map, ◌∷◌}
+use Rattle.std.specs.Prelude.{IfOk, if◌then◌else◌, unwrap_or, map, drop}
+use Rattle.std.specs.List.{list_all}
 use Rattle.std.specs.Ordering.{int_eq}
 use Rattle.std.specs.Str.{bytes_eq}
 use Rattle.std.proofs.lemmas.Bool.{cases_Bool}
@@ -8,21 +9,29 @@ use Rattle.mg_bson.specs.Tree.{Fields, no_fields, field}
 use Rattle.mg_bson.specs.Bytes.{bytes}
 use Rattle.mg_bson.specs.Raw.{fields}
 use Rattle.mg_link.specs.Namespace.{Space, space}
-use Rattle.mg_link.specs.State.{Entry, Watch, Cursor, watching, State, documents_at, put_cursor, without_cursors}
+use Rattle.mg_link.specs.State.{Entry, Watch, Cursor, watching, Collection, Index, State, collection_in, indexes_of, is_space, documents_at, put_cursor, without_cursors, query}
 use Rattle.mg_link.specs.Commands.{Asked, asks_more, asked}
 use Rattle.mg_link.specs.Step.{documents_of, ends_cursor}
+use Rattle.mg_link.specs.Query.{index_listed}
+use Rattle.mg_link.specs.Write.{with_indexes}
 use Rattle.mg_link.specs.Rules as rules
-use Rattle.mg_link.specs.Rules.{Inserted, answer, answer_insert, answer_of, and_then, bad_request, fitting, inserting, insert_request, kill_request, more_request, or_code, refusal, refused, request_of, size_of, unknown_command, watch_reply, watch_request}
-use Rattle.mg_link.specs.Kept.{Kept, state_behind, given_after}
-use Rattle.mg_link.proofs.Requests.{asked_is}
-use Rattle.mg_link.proofs.Behind.{Parts, behind_insert, behind_kill, behind_more, behind_refusal, behind_watch, cursors_refused}
+use Rattle.mg_link.specs.Rules.{Inserted, answer, answer_insert, answer_of, and_then, bad_request, batch_place, ends_watch, fitting, inserting, insert_request, kill_request, more_request, or_code, refusal, refused, request_of, size_of, unknown_command, watch_reply, may_stay, create_request, indexes_request, batch_of_query, find_request, first_held, query_id, query_space, aggregate_request, watch_request}
+use Rattle.mg_link.specs.Kept.{Kept, state_behind, given_after, IsStoreState}
+use Rattle.mg_link.proofs.Requests.{asked_is, asks_of}
+use Rattle.mg_link.proofs.Behind.{Parts, behind_insert, behind_kill, behind_more, behind_refusal, behind_watch, cursor_moved, cursors_opened, cursors_refused, given_opened, behind_create, behind_indexes, behind_find, behind_query_more, cursors_found, given_found, rest_of}
+use Rattle.mg_link.proofs.Allowed.{answered_if, create_ok, found_by, query_id-is}
 use Rattle.mg_link.proofs.Collections.{put_documents}
-use Rattle.mg_link.proofs.Cursoring.{same_int}
+use Rattle.mg_link.proofs.Cursoring.{same_int, not_zero}
+use Rattle.mg_link.proofs.Indexed.{HasIndexesOf, LeavesIndexes, indexes_created, indexes_refused, indexes_stay}
 use Rattle.mg_store.specs.Answering.{Answers, Replies}
-use Rattle.mg_store.specs.Contents.{AnswersBy, AnswersOr, Becomes, Does, EffectOf, LeadsOn, LosesNone, Misses, Settled, Settles, watch_on}
+use Rattle.mg_store.specs.Contents.{AnswersBy, AnswersOr, Becomes, Does, EffectOf, LosesNone, Misses, Settled, Settles, moving, opening, indexes_behind, beginning, taking, IsCursor}
+use Rattle.mg_store.specs.Holding.{entries_from}
 use Rattle.mg_store.specs.Inserting.{Fits, new_documents}
+use Rattle.mg_store.specs.Querying.{is_none}
 use Rattle.mg_store.specs.Replies.{IsWritten, fits}
+use Rattle.mg_store.specs.declared.cursor.Found.{Found}
 use Rattle.mg_store.specs.Wanted.{code_of}
+use Rattle.mg_store.specs.declared.cursor.Cursor as code
 use Rattle.mg_store.specs.declared.perform.Answer.{Answer}
 use Rattle.mg_store.specs.declared.perform.Effect.{Effect}
 use Rattle.mg_store.specs.declared.perform.Effect.TheVariants as effects
@@ -46,6 +55,69 @@ becomes : (s : State) (given : ℕ) (documents : Space → Option (List Fields))
 becomes s given documents changes cursors given' p =
     record { documents_are = p.documents_are; changes_are = p.changes_are; cursors_are = λ id. ap (λ (f : ℤ → Option Cursor). f id) p.cursors_are; given_are = p.given_are }
 
+-- what the opening of a watch does, by whether that ended
+opening_does : (ended : Bool) (s s' : State) (given given' : ℕ) (w : Watch) (cursor : code.Cursor) (at place : ℕ) → IsCursor cursor (watching w at) → at ≡ place → Parts s' given' (documents_at s) s.changes (cursors_opened ended given (watching w place) s.cursors) (given_opened ended given)
+    → Does (opening ended (pos (suc given)) cursor) s given s' given'
+opening_does true s s' given given' w cursor at place watches same p = becomes _ _ _ _ _ _ p
+opening_does false s s' given given' w cursor at place watches same p =
+    (watching w at, watches, refl, subst (λ (n : ℕ). Becomes s' given' (documents_at s) s.changes (put_cursor (pos (suc given)) (Some (watching w n)) s.cursors) (suc given)) (sym same) (becomes _ _ _ _ _ _ p))
+
+-- what a batch does to its cursor
+moving_does : (ended : Bool) (s s' : State) (given given' : ℕ) (id : ℤ) (w : Watch) (from place : ℕ) → s.cursors id ≡ Some (watching w from) → Parts s' given' (documents_at s) s.changes (put_cursor id (cursor_moved ended (watching w place)) s.cursors) given
+    → Does (moving ended id place) s given s' given'
+moving_does true s s' given given' id w from place stood p = becomes _ _ _ _ _ _ p
+moving_does false s s' given given' id w from place stood p = (w, from, stood, becomes _ _ _ _ _ _ p)
+
+-- neither has anything to do with indexes
+opening_leaves : (ended : Bool) (id : ℤ) (cursor : code.Cursor) (s : State) (sp : Space) → indexes_behind (opening ended id cursor) s sp ≡ indexes_of s sp
+opening_leaves true id cursor s sp = refl
+opening_leaves false id cursor s sp = refl
+
+moving_leaves : (ended : Bool) (id : ℤ) (place : ℕ) (s : State) (sp : Space) → indexes_behind (moving ended id place) s sp ≡ indexes_of s sp
+moving_leaves true id place s sp = refl
+moving_leaves false id place s sp = refl
+
+beginning_leaves : (ended : Bool) (id : ℤ) (found : Found) (place : ℕ) (s : State) (sp : Space) → indexes_behind (beginning ended id found place) s sp ≡ indexes_of s sp
+beginning_leaves true id found place s sp = refl
+beginning_leaves false id found place s sp = refl
+
+taking_leaves : (ended : Bool) (id : ℤ) (count : ℕ) (s : State) (sp : Space) → indexes_behind (taking ended id count) s sp ≡ indexes_of s sp
+taking_leaves true id count s sp = refl
+taking_leaves false id count s sp = refl
+
+-- the effect leads to the state behind a step of this command and reply
+abbrev DoesOn : State → ℕ → List ℕ → Answer → Type 0
+DoesOn s given command a = (started : Bool) (kept : Kept) → kept.command ≡ command → kept.reply ≡ a.reply → IsStoreState s given started → length s.changes < 2 ^ 64
+    → Does a.effect s given (state_behind s given started kept) (given_after given kept)
+
+-- ---- queries
+
+some_inner : (xs ys : List Fields) → Some xs ≡ Some ys → xs ≡ ys
+some_inner xs ys e = cc
+
+-- a batch of a query takes its documents, or ends the cursor
+takes_does : (s s' : State) (given given' : ℕ) (id : ℤ) (sp : Space) (left : List Fields) (n : ℕ) (rest : List Fields) → drop n left ≡ rest → s.cursors id ≡ Some (query sp left) → Becomes s' given' (documents_at s) s.changes (put_cursor id (rest_of sp (drop n left)) s.cursors) given
+    → Does (taking (is_none (drop n left)) id n) s given s' given'
+takes_does s s' given given' id sp left n [] e stood h =
+    subst (λ (l : List Fields). Does (taking (is_none l) id n) s given s' given') (sym e) (subst (λ (l : List Fields). Becomes s' given' (documents_at s) s.changes (put_cursor id (rest_of sp l) s.cursors) given) e h)
+takes_does s s' given given' id sp left n (d ∷ ds) e stood h =
+    let some = subst (λ (l : List Fields). Becomes s' given' (documents_at s) s.changes (put_cursor id (rest_of sp l) s.cursors) given) e h in
+    let back = subst (λ (l : List Fields). Becomes s' given' (documents_at s) s.changes (put_cursor id (Some (query sp l)) s.cursors) given) (sym e) some in
+    subst (λ (l : List Fields). Does (taking (is_none l) id n) s given s' given') (sym e) (sp, left, stood, back)
+
+-- a query opens a cursor of what is left, or none
+begins_does : (s s' : State) (given given' : ℕ) (found : Found) (id : ℤ) (n : ℕ) (sp : Space) → sp ≡ space found.ns → (id ≡ pos 0) ⊎ (id ≡ pos (suc given))
+    → Becomes s' given' (documents_at s) s.changes (cursors_found id (query sp (drop n (map fields found.documents.items))) s.cursors) (given_found id given) → Does (beginning (int_eq id (pos 0)) (pos (suc given)) found n) s given s' given'
+begins_does s s' given given' found id n sp at (inl none) h =
+    let left : Cursor = query sp (drop n (map fields found.documents.items)) in
+    subst (λ (x : ℤ). Does (beginning (int_eq x (pos 0)) (pos (suc given)) found n) s given s' given') (sym none) (subst (λ (x : ℤ). Becomes s' given' (documents_at s) s.changes (cursors_found x left s.cursors) (given_found x given)) none h)
+begins_does s s' given given' found id n sp at (inr next) h =
+    let left : Cursor = query sp (drop n (map fields found.documents.items)) in
+    let there = subst (λ (x : ℤ). Becomes s' given' (documents_at s) s.changes (cursors_found x left s.cursors) (given_found x given)) next h in
+    let put = subst (λ (b : Bool). Becomes s' given' (documents_at s) s.changes (if b then s.cursors else put_cursor (pos (suc given)) (Some left) s.cursors) (if b then given else suc given)) (not_zero given) there in
+    subst (λ (x : ℤ). Does (beginning (int_eq x (pos 0)) (pos (suc given)) found n) s given s' given') (sym next)
+    (subst (λ (b : Bool). Does (beginning b (pos (suc given)) found n) s given s' given') (sym (not_zero given)) (left, (at, refl), refl, put))
+
 module _ (s : State) (given : ℕ) (command : List ℕ) (a : Answer) (by_rules : rules.Answer) (answers_are : answer_of s (pos (suc given)) (fields command) ≡ by_rules) (written : fields a.reply ≡ by_rules.reply) where
   same_answer : (kept : Kept) → kept.command ≡ command → answer_of s (pos (suc given)) (fields kept.command) ≡ by_rules
   same_answer kept e = ap (λ (c : List ℕ). answer_of s (pos (suc given)) (fields c)) e ∙ answers_are
@@ -63,7 +135,7 @@ module _ (s : State) (given : ℕ) (command : List ℕ) (a : Answer) (by_rules :
   if_known true x y e = cc
   if_known false x y e = cc
 
-  leads_by : (r : rules.Request) → request_of (fields command) ≡ Ok r → answer s (pos (suc given)) r ≡ Ok by_rules → EffectOf s given r a.effect → LeadsOn s given command a
+  leads_by : (r : rules.Request) → request_of (fields command) ≡ Ok r → answer s (pos (suc given)) r ≡ Ok by_rules → EffectOf s given r a.effect → DoesOn s given command a
   leads_by (rules.insert sp ds ordered) asks answers effect started kept is_command is_reply h lt =
       let i : Inserted = inserting sp ordered 0 (length s.changes) (documents_of s sp) ds in
       let known : by_rules ≡ answer_insert s sp ds ordered = inner (answer_insert s sp ds ordered) by_rules answers in
@@ -73,24 +145,83 @@ module _ (s : State) (given : ℕ) (command : List ℕ) (a : Answer) (by_rules :
       let all = subst (λ (l : List Entry). Becomes (state_behind s given started kept) (given_after given kept) (put_documents (space effect.ns) (Some (documents_of s (space effect.ns) ++ new_documents effect.appended)) (documents_at s)) (s.changes ++ l) s.cursors given) (sym effect.entries_are) docs in
       subst (λ (e : Effect). Does e s given (state_behind s given started kept) (given_after given kept)) (sym effect.is)
       (subst (λ (x : Space). Fits (documents_of s x) effect.appended) (sym effect.at) effect.fits, all)
-  leads_by (rules.watch sp filter resume_after size) asks answers effect started kept is_command is_reply h lt =
-      let given_answer : answer s (pos (suc given)) (rules.watch sp filter resume_after size) ≡ Ok (rules.answer_with [] (watch_reply s (pos (suc given)) sp filter effect.from (size_of size))) = ap (λ (x : Result ℕ ℤ). rules.map_ok (λ from. rules.answer_with [] (watch_reply s (pos (suc given)) sp filter from (size_of size))) x) effect.at in
-      let known : by_rules ≡ rules.answer_with [] (watch_reply s (pos (suc given)) sp filter effect.from (size_of size)) = inner _ by_rules (sym given_answer ∙ answers) in
-      let parts = behind_watch s given started kept sp filter resume_after size effect.from (size_of size) h lt (same_request kept (rules.watch sp filter resume_after size) is_command asks) effect.at (watch_on sp filter) refl (same_answer kept is_command ∙ known) (same_reply kept is_reply ∙ ap (λ (x : rules.Answer). x.reply) known) in
+  leads_by (rules.find q) asks answers effect started kept is_command is_reply h lt =
+      let ds : List Fields = map fields effect.found.documents.items in
+      let found = found_by s (pos (suc given)) q by_rules answers in
+      let same : found.documents ≡ ds = some_inner found.documents ds (sym found.these ∙ effect.these) in
+      let known : by_rules ≡ rules.answer_with [] (rules.query_reply (pos (suc given)) q ds) = sym found.is ∙ ap (λ (l : List Fields). rules.answer_with [] (rules.query_reply (pos (suc given)) q l)) same in
+      let parts = behind_find s given started kept q ds (same_request kept (rules.find q) is_command asks) effect.these (same_answer kept is_command ∙ known) (same_reply kept is_reply ∙ ap (λ (x : rules.Answer). x.reply) known) in
       subst (λ (e : Effect). Does e s given (state_behind s given started kept) (given_after given kept)) (sym effect.is)
-      (watch_on sp filter, effect.watches, refl, subst (λ (p : ℕ). Becomes (state_behind s given started kept) (given_after given kept) (documents_at s) s.changes (put_cursor (pos (suc given)) (Some (watching (watch_on sp filter) p)) s.cursors) (suc given)) (sym effect.place_is) (becomes _ _ _ _ _ _ parts))
-  leads_by (rules.more id sp size) asks answers effect started kept is_command is_reply h lt =
-      let w : Watch = effect.watch in
-      let given_answer : answer s (pos (suc given)) (rules.more id sp size) ≡ (if rules.is_watch_of sp w then Ok (rules.answer_with [] (rules.more_reply s id sp w effect.from (size_of size))) else Err bad_request) = ap (rules.answer_more s id sp (size_of size)) effect.stood in
-      let known : by_rules ≡ rules.answer_with [] (rules.more_reply s id sp w effect.from (size_of size)) = if_known (rules.is_watch_of sp w) _ by_rules (sym given_answer ∙ answers) in
-      let parts = behind_more s given started kept id sp size w effect.from (size_of size) h lt (same_request kept (rules.more id sp size) is_command asks) effect.stood (same_answer kept is_command ∙ known) (same_reply kept is_reply ∙ ap (λ (x : rules.Answer). x.reply) known) in
+      (begins_does s (state_behind s given started kept) given (given_after given kept) effect.found (query_id (pos (suc given)) q ds) (first_held q ds) (query_space q.source) effect.at (query_id-is (pos (suc given)) q ds) (becomes _ _ _ _ _ _ parts))
+  leads_by (rules.watch w start resumes size) asks answers effect started kept is_command is_reply h lt =
+      let reply : ℕ → rules.Answer = λ from. rules.answer_with [] (watch_reply s (pos (suc given)) w from (size_of size)) in
+      let known : by_rules ≡ reply effect.from = inner _ by_rules (sym (ap (rules.map_ok reply) effect.at) ∙ answers) in
+      let parts = behind_watch s given started kept w start resumes size effect.from (size_of size) h lt (same_request kept (rules.watch w start resumes size) is_command asks) effect.at (same_answer kept is_command ∙ known) (same_reply kept is_reply ∙ ap (λ (x : rules.Answer). x.reply) known) in
       subst (λ (e : Effect). Does e s given (state_behind s given started kept) (given_after given kept)) (sym effect.is)
-      (w, effect.from, effect.stood, becomes _ _ _ _ _ _ parts)
+      (opening_does (ends_watch w s.changes effect.from (batch_place w s.changes effect.from (size_of size))) s (state_behind s given started kept) given (given_after given kept) w effect.cursor effect.place (batch_place w s.changes effect.from (size_of size)) effect.watches effect.place_is parts)
+  leads_by (rules.more id sp size) asks answers (inl moves) started kept is_command is_reply h lt =
+      let w : Watch = moves.watch in
+      let given_answer : answer s (pos (suc given)) (rules.more id sp size) ≡ (if rules.is_watch_of sp w then Ok (rules.answer_with [] (rules.more_reply s id sp w moves.from (size_of size))) else Err bad_request) = ap (rules.answer_more s id sp (size_of size)) moves.stood in
+      let known : by_rules ≡ rules.answer_with [] (rules.more_reply s id sp w moves.from (size_of size)) = if_known (rules.is_watch_of sp w) _ by_rules (sym given_answer ∙ answers) in
+      let parts = behind_more s given started kept id sp size w moves.from (size_of size) h lt (same_request kept (rules.more id sp size) is_command asks) moves.stood (same_answer kept is_command ∙ known) (same_reply kept is_reply ∙ ap (λ (x : rules.Answer). x.reply) known) in
+      subst (λ (e : Effect). Does e s given (state_behind s given started kept) (given_after given kept)) (sym moves.is)
+      (moving_does (ends_watch w s.changes moves.from (batch_place w s.changes moves.from (size_of size))) s (state_behind s given started kept) given (given_after given kept) id w moves.from (batch_place w s.changes moves.from (size_of size)) moves.stood parts)
+  leads_by (rules.more id sp size) asks answers (inr takes) started kept is_command is_reply h lt =
+      let n : ℕ = batch_of_query (size_of size) takes.left in
+      let given_answer : answer s (pos (suc given)) (rules.more id sp size) ≡ (if is_space sp takes.space then Ok (rules.answer_with [] (rules.query_more_reply id sp takes.left (size_of size))) else Err bad_request) = ap (rules.answer_more s id sp (size_of size)) takes.stood in
+      let known : by_rules ≡ rules.answer_with [] (rules.query_more_reply id sp takes.left (size_of size)) = if_known (is_space sp takes.space) _ by_rules (sym given_answer ∙ answers) in
+      let parts = behind_query_more s given started kept id sp takes.space size takes.left (size_of size) h (same_request kept (rules.more id sp size) is_command asks) takes.stood (same_answer kept is_command ∙ known) (same_reply kept is_reply ∙ ap (λ (x : rules.Answer). x.reply) known) in
+      subst (λ (e : Effect). Does e s given (state_behind s given started kept) (given_after given kept)) (sym takes.is)
+      (takes_does s (state_behind s given started kept) given (given_after given kept) id takes.space takes.left n (drop n takes.left) refl takes.stood (becomes _ _ _ _ _ _ parts))
   leads_by (rules.kill ids) asks answers effect started kept is_command is_reply h lt =
       let known : by_rules ≡ rules.answer_with [] (rules.killed_reply s ids) = inner _ by_rules answers in
       let parts = behind_kill s given started kept ids (same_request kept (rules.kill ids) is_command asks) (same_answer kept is_command ∙ known) (same_reply kept is_reply ∙ ap (λ (x : rules.Answer). x.reply) known) in
       subst (λ (e : Effect). Does e s given (state_behind s given started kept) (given_after given kept)) (sym effect.is)
       (subst (λ (l : List ℤ). Becomes (state_behind s given started kept) (given_after given kept) (documents_at s) s.changes (without_cursors l s.cursors) given) (sym effect.these) (becomes _ _ _ _ _ _ parts))
+  leads_by (rules.create_collection sp) asks answers effect started kept is_command is_reply h lt =
+      let none = create_ok (collection_in s.collections sp) by_rules answers in
+      let parts = behind_create s given started kept sp (same_request kept (rules.create_collection sp) is_command asks) (same_answer kept is_command ∙ sym none.1) (same_reply kept is_reply ∙ ap (λ (x : rules.Answer). x.reply) (sym none.1)) in
+      let empty : documents_of s sp ≡ [] = ap (λ (o : Option Collection). unwrap_or (option_map (λ (c : Collection). c.documents) o) []) none.0 in
+      let docs : [] ≡ documents_of s sp ++ new_documents effect.appended = sym (ap₂ (λ (x y : List Fields). x ++ y) empty effect.documents_are) in
+      let logged : s.changes ≡ s.changes ++ entries_from (length s.changes) effect.appended.entries.items = sym (ap (λ l. s.changes ++ entries_from (length s.changes) l) effect.entries_are ∙ append-nil s.changes) in
+      let there = subst (λ (l : List Fields). Becomes (state_behind s given started kept) (given_after given kept) (put_documents sp (Some l) (documents_at s)) s.changes s.cursors given) docs (becomes _ _ _ _ _ _ parts) in
+      let all = subst (λ (l : List Entry). Becomes (state_behind s given started kept) (given_after given kept) (put_documents sp (Some (documents_of s sp ++ new_documents effect.appended)) (documents_at s)) l s.cursors given) logged there in
+      subst (λ (e : Effect). Does e s given (state_behind s given started kept) (given_after given kept)) (sym effect.is)
+      (subst (λ (x : Space). Fits (documents_of s x) effect.appended × Becomes (state_behind s given started kept) (given_after given kept) (put_documents x (Some (documents_of s x ++ new_documents effect.appended)) (documents_at s)) (s.changes ++ entries_from (length s.changes) effect.appended.entries.items) s.cursors given) (sym effect.at)
+      (subst (λ (l : List Fields). Fits l effect.appended) (sym empty) effect.fits, all))
+  leads_by (rules.create_indexes sp indexes) asks answers effect started kept is_command is_reply h lt =
+      let known = answered_if (list_all (λ (i : Index). may_stay (index_listed i)) (with_indexes (indexes_of s sp) indexes)) (rules.answer_with [] rules.done_reply) by_rules answers in
+      let parts = behind_indexes s given started kept sp indexes (same_request kept (rules.create_indexes sp indexes) is_command asks) (same_answer kept is_command ∙ sym known.1) (same_reply kept is_reply ∙ ap (λ (x : rules.Answer). x.reply) (sym known.1)) in
+      subst (λ (e : Effect). Does e s given (state_behind s given started kept) (given_after given kept)) (sym effect.is)
+      (subst (λ (x : Space). Becomes (state_behind s given started kept) (given_after given kept) (put_documents x (Some (documents_of s x)) (documents_at s)) s.changes s.cursors given) (sym effect.at) (becomes _ _ _ _ _ _ parts))
+
+  -- ---- the indexes behind a step
+
+  -- a request for documents or cursors leaves them
+  stay_by : (r : rules.Request) → request_of (fields command) ≡ Ok r → LeavesIndexes (asks_of r) → (started : Bool) (kept : Kept) → kept.command ≡ command → HasIndexesOf s (state_behind s given started kept)
+  stay_by r asks leaves started kept is_command = indexes_stay s given started kept (asks_of r) (ap asked is_command ∙ asked_is command r asks) leaves
+
+  indexes_by : (r : rules.Request) → request_of (fields command) ≡ Ok r → answer s (pos (suc given)) r ≡ Ok by_rules → EffectOf s given r a.effect
+      → (started : Bool) (kept : Kept) → kept.command ≡ command → kept.reply ≡ a.reply → (sp : Space) → indexes_of (state_behind s given started kept) sp ≡ indexes_behind a.effect s sp
+  indexes_by (rules.insert at ds ordered) asks answers effect started kept is_command is_reply sp = stay_by (rules.insert at ds ordered) asks tt started kept is_command sp ∙ sym (ap (λ (e : Effect). indexes_behind e s sp) effect.is)
+  indexes_by (rules.watch w start resumes size) asks answers effect started kept is_command is_reply sp =
+      stay_by (rules.watch w start resumes size) asks tt started kept is_command sp
+      ∙ sym (ap (λ (e : Effect). indexes_behind e s sp) effect.is ∙ opening_leaves (ends_watch w s.changes effect.from (batch_place w s.changes effect.from (size_of size))) (pos (suc given)) effect.cursor s sp)
+  indexes_by (rules.find q) asks answers effect started kept is_command is_reply sp =
+      stay_by (rules.find q) asks tt started kept is_command sp
+      ∙ sym (ap (λ (e : Effect). indexes_behind e s sp) effect.is ∙ beginning_leaves (int_eq (query_id (pos (suc given)) q (map fields effect.found.documents.items)) (pos 0)) (pos (suc given)) effect.found (first_held q (map fields effect.found.documents.items)) s sp)
+  indexes_by (rules.more id at size) asks answers (inl moves) started kept is_command is_reply sp =
+      stay_by (rules.more id at size) asks tt started kept is_command sp
+      ∙ sym (ap (λ (e : Effect). indexes_behind e s sp) moves.is ∙ moving_leaves (ends_watch moves.watch s.changes moves.from (batch_place moves.watch s.changes moves.from (size_of size))) id (batch_place moves.watch s.changes moves.from (size_of size)) s sp)
+  indexes_by (rules.more id at size) asks answers (inr takes) started kept is_command is_reply sp =
+      stay_by (rules.more id at size) asks tt started kept is_command sp
+      ∙ sym (ap (λ (e : Effect). indexes_behind e s sp) takes.is ∙ taking_leaves (is_none (drop (batch_of_query (size_of size) takes.left) takes.left)) id (batch_of_query (size_of size) takes.left) s sp)
+  indexes_by (rules.kill ids) asks answers effect started kept is_command is_reply sp = stay_by (rules.kill ids) asks tt started kept is_command sp ∙ sym (ap (λ (e : Effect). indexes_behind e s sp) effect.is)
+  indexes_by (rules.create_collection at) asks answers effect started kept is_command is_reply sp = stay_by (rules.create_collection at) asks tt started kept is_command sp ∙ sym (ap (λ (e : Effect). indexes_behind e s sp) effect.is)
+  indexes_by (rules.create_indexes at indexes) asks answers effect started kept is_command is_reply sp =
+      let known = answered_if (list_all (λ (i : Index). may_stay (index_listed i)) (with_indexes (indexes_of s at) indexes)) (rules.answer_with [] rules.done_reply) by_rules answers in
+      let made = indexes_created s given started kept at indexes (ap asked is_command ∙ asked_is command (rules.create_indexes at indexes) asks) (same_reply kept is_reply ∙ ap (λ (x : rules.Answer). x.reply) (sym known.1)) sp in
+      made ∙ ap₂ (λ (x : Space) (l : List Index). if is_space sp x then l else indexes_of s sp) (sym effect.at) (sym effect.these) ∙ sym (ap (λ (e : Effect). indexes_behind e s sp) effect.is)
 
 -- ---- answers to commands
 
@@ -102,7 +233,8 @@ answers_settled s given command r a asks h =
     ap (λ (x : Result rules.Request ℤ). fitting (and_then (answer s (pos (suc given))) x)) asks ∙ ap fitting h.answers ∙ ap (λ (b : Bool). if b then h.by_rules else refused bad_request) h.written.fitting in
     record {
       reply = record { encoded = h.written.these ∙ ap (λ (x : rules.Answer). bytes x.reply) (sym known); read_back = h.written.read_back ∙ ap (λ (x : rules.Answer). x.reply) (sym known) };
-      leads = leads_by s given command a h.by_rules known h.written.read_back r asks h.answers h.effect;
+      leads = λ started kept is_command is_reply state lt.
+          (leads_by s given command a h.by_rules known h.written.read_back r asks h.answers h.effect started kept is_command is_reply state lt, indexes_by s given command a h.by_rules known h.written.read_back r asks h.answers h.effect started kept is_command is_reply);
     }
 
 -- ---- refusals
@@ -130,23 +262,30 @@ loses_none s command r refusals.NoSuchCursor asks missing id =
 loses_none s command r refusals.UnknownCommand asks missing id = by_code (asked command) (pos 59) s.cursors id refl
 loses_none s command r refusals.BadRequest asks missing id = by_code (asked command) (pos 9) s.cursors id refl
 loses_none s command r refusals.NoSuchToken asks missing id = by_code (asked command) (pos 260) s.cursors id refl
+loses_none s command r refusals.CollectionExists asks missing id = by_code (asked command) (pos 48) s.cursors id refl
 
 -- what the rules read of no command is a bad one, or one that they do not know
 or_code_is : (o : Option rules.Request) (code : ℤ) → or_code bad_request o ≡ Err code → code ≡ bad_request
 or_code_is None code e = cc
 or_code_is (Some r) code e = cc
 
-four : (a b c d : Bool) (o p q t : Option rules.Request) (code : ℤ) → (if a then or_code bad_request o else (if b then or_code bad_request p else (if c then or_code bad_request q else (if d then or_code bad_request t else Err unknown_command)))) ≡ Err code
-    → (code ≡ bad_request) ⊎ (code ≡ unknown_command)
-four true b c d o p q t code e = inl (or_code_is o code e)
-four false true c d o p q t code e = inl (or_code_is p code e)
-four false false true d o p q t code e = inl (or_code_is q code e)
-four false false false true o p q t code e = inl (or_code_is t code e)
-four false false false false o p q t code e = let same : unknown_command ≡ code = cc in inr (sym same)
+one_unread : (b : Bool) (o : Option rules.Request) (rest : Result rules.Request ℤ) (code : ℤ) → (rest ≡ Err code → (code ≡ bad_request) ⊎ (code ≡ unknown_command)) → (if b then or_code bad_request o else rest) ≡ Err code → (code ≡ bad_request) ⊎ (code ≡ unknown_command)
+one_unread true o rest code others e = inl (or_code_is o code e)
+one_unread false o rest code others e = others e
+
+unknown_is : (code : ℤ) → ◌≡◌ {A = Result rules.Request ℤ} (Err unknown_command) (Err code) → (code ≡ bad_request) ⊎ (code ≡ unknown_command)
+unknown_is code e = let same : unknown_command ≡ code = cc in inr (sym same)
 
 not_read : (fs : Fields) (code : ℤ) → request_of fs ≡ Err code → (code ≡ bad_request) ⊎ (code ≡ unknown_command)
-not_read no_fields code e = let same : unknown_command ≡ code = cc in inr (sym same)
-not_read (field k t fs) code e = four (bytes_eq k (codes "insert")) (bytes_eq k (codes "aggregate")) (bytes_eq k (codes "getMore")) (bytes_eq k (codes "killCursors")) (insert_request (field k t fs)) (watch_request (field k t fs)) (more_request (field k t fs)) (kill_request (field k t fs)) code e
+not_read no_fields code e = unknown_is code e
+not_read (field k t fs) code e =
+    one_unread (bytes_eq k (codes "insert")) (insert_request (field k t fs)) _ code
+    (one_unread (bytes_eq k (codes "aggregate")) (aggregate_request (field k t fs)) _ code
+    (one_unread (bytes_eq k (codes "getMore")) (more_request (field k t fs)) _ code
+    (one_unread (bytes_eq k (codes "killCursors")) (kill_request (field k t fs)) _ code
+    (one_unread (bytes_eq k (codes "find")) (find_request (field k t fs)) _ code
+    (one_unread (bytes_eq k (codes "create")) (create_request (field k t fs)) _ code
+    (one_unread (bytes_eq k (codes "createIndexes")) (indexes_request (field k t fs)) _ code (unknown_is code))))))) e
 
 pub loses_none_unread : (s : State) (command : List ℕ) (code : ℤ) → request_of (fields command) ≡ Err code → LosesNone s command code
 loses_none_unread s command code e id =
@@ -174,13 +313,14 @@ answers_refused s given command code a known keeps got = record {
   reply = record { encoded = got.reply.these ∙ ap (λ (x : rules.Answer). bytes x.reply) (sym known); read_back = got.reply.read_back ∙ ap (λ (x : rules.Answer). x.reply) (sym known) };
   leads = λ started kept is_command is_reply h lt.
       let parts = behind_refusal s given started kept code [] (ap fields is_reply ∙ got.reply.read_back) in
-      subst (λ (e : Effect). Does e s given (state_behind s given started kept) (given_after given kept)) (sym got.effect_is)
+      let does = subst (λ (e : Effect). Does e s given (state_behind s given started kept) (given_after given kept)) (sym got.effect_is)
       (record {
         documents_are = parts.documents_are;
         changes_are = parts.changes_are;
         cursors_are = λ id. ap (λ (f : ℤ → Option Cursor). f id) parts.cursors_are ∙ ap (λ (c : List ℕ). cursors_refused (asked c) code s.cursors id) is_command ∙ keeps id;
         given_are = parts.given_are;
-      });
+      }) in
+      (does, λ sp. indexes_refused s given started kept code [] (ap fields is_reply ∙ got.reply.read_back) sp ∙ sym (ap (λ (e : Effect). indexes_behind e s sp) got.effect_is));
 }
 
 pub refused_ok : {E : Type 0} (s : State) (given : ℕ) (command : List ℕ) (code : ℤ) (r : Result Answer E) → answer_of s (pos (suc given)) (fields command) ≡ refused code → LosesNone s command code → IfOk r (Replies (refusal code []) effects.Nothing) → IfOk r (AnswersBy s given command)

@@ -1,16 +1,17 @@
 -- What an aggregate asks for, taken apart as the rules do and as the code does.
-use Rattle.std.proofs.Common.{◌≡◌, ℕ, Bool, true, false, List, [], ◌∷◌, Option, Some, None, option_map, option_and_then, codes, map, refl, sym, ap, ap₂, ◌∙◌, if◌then◌else◌}
+use Rattle.std.proofs.Common.{◌≡◌, ℕ, Bool, true, false, List, [], ◌∷◌, Option, Some, None, option_map, option_and_then, is_some, codes, map, refl, sym, ap, ◌∙◌, if◌then◌else◌}
 use Rattle.std.specs.Str.{bytes_eq}
-use Rattle.mg_bson.specs.Tree.{Tree, Fields, no_fields, field, Items, no_items, item}
+use Rattle.mg_bson.specs.Tree.{Fields, no_fields, field, Items, no_items, item}
 use Rattle.mg_bson.specs.Find.{as_document, get}
 use Rattle.mg_bson.specs.Reading.{◌>>=◌}
-use Rattle.mg_link.specs.Namespace.{Space}
+use Rattle.mg_link.specs.Namespace.{Target}
 use Rattle.mg_link.specs.Filter.{Condition, conditions_of}
-use Rattle.mg_link.specs.Commands.{batch_size, documents_in, filter_stages, has_only, match_stage, watch_stage}
+use Rattle.mg_link.specs.State.{Start}
+use Rattle.mg_link.specs.Commands.{batch_size, documents_in, filter_stages, flag_or, has_only, match_stage, pipeline_fields, start_of, watch_stage}
 use Rattle.mg_link.specs.Rules as rules
-use Rattle.mg_link.specs.Rules.{array_at, behind_first, named_space, watch_options, watch_request}
+use Rattle.mg_link.specs.Rules.{array_at, behind_first, option_names, target_at, watch_options, watch_request, watch_with}
 use Rattle.mg_store.specs.Asking.{Keyed, keyed, only_document}
-use Rattle.mg_store.specs.Wanted.{wanted, watch, Stages, Opening, conditions_at, opening_of, stages_of}
+use Rattle.mg_store.specs.Wanted.{wanted, watch, Stages, Opening, conditions_at, opening_of, opening_with, stages_of}
 
 watch_stage-is : (fs : Fields) → watch_stage fs ≡ only_document (codes "$changeStream") fs
 watch_stage-is no_fields = refl
@@ -75,41 +76,47 @@ stages_rules more (item t no_items) = alone more (as_document t)
 stages_rules more (item t (item u no_items)) = two more (as_document t) (as_document u)
 stages_rules more (item t (item u (item v ts))) = three more (as_document t) (as_document u) (as_document v) (documents_in ts)
 
-later : {O B : Type 0} (b : Bool) (z : Option (Option ℕ)) (cs : Option (List Condition)) (make : Option ℕ → O) (w : O → List Condition → B) (conditions : O → Option (List Condition)) → ((size : Option ℕ) → conditions (make size) ≡ cs)
-    → (cs >>= λ f. if b then (z >>= λ size. Some (w (make size) f)) else None) ≡ ((if b then (z >>= λ size. Some (make size)) else None) >>= λ o. conditions o >>= λ f. Some (w o f))
-later false z None make w conditions h = refl
-later false z (Some f) make w conditions h = refl
-later true None None make w conditions h = refl
-later true None (Some f) make w conditions h = refl
-later true (Some size) None make w conditions h = rw (h size) refl
-later true (Some size) (Some f) make w conditions h = rw (h size) refl
-
 abbrev asked_by : Opening → List Condition → rules.Request
-asked_by o filter = rules.watch o.space filter (get (codes "resumeAfter") o.stages.options) o.size
+asked_by o filter = rules.watch (record { target = o.target; filter = filter }) o.start o.resumes o.size
 
 abbrev pub opened : Option Opening → Option rules.Request
 opened found = found >>= λ o. conditions_at o.stages.filter >>= λ filter. Some (asked_by o filter)
 
-abbrev more_of : Fields → Space → Fields → List Condition → Option rules.Request
-more_of fs space options filter = if has_only (codes "resumeAfter" ∷ []) options then (batch_size fs >>= λ size. Some (rules.watch space filter (get (codes "resumeAfter") options) size)) else None
+no_more : (cs : Option (List Condition)) → ◌≡◌ {A = Option rules.Request} (cs >>= λ filter. None) None
+no_more None = refl
+no_more (Some cs) = refl
 
-abbrev sized : Fields → Space → Stages → Option Opening
-sized fs space stages = if has_only (codes "resumeAfter" ∷ []) stages.options then (batch_size fs >>= λ size. Some (record { space = space; stages = stages; size = size })) else None
+abbrev resumes_at : Stages → Bool
+resumes_at st = is_some (get (codes "resumeAfter") st.options)
 
-regroup : (fs : Fields) (space : Space) (found : Option Stages) → by_stages (more_of fs space) found ≡ opened (found >>= sized fs space)
-regroup fs space None = refl
-regroup fs space (Some st) = later (has_only (codes "resumeAfter" ∷ []) st.options) (batch_size fs) (conditions_at st.filter) (λ size. record { space = space; stages = st; size = size }) asked_by (λ o. conditions_at o.stages.filter) (λ size. refl)
+-- the conditions are read first by the rules, and last by the code
+aimed : (st : Stages) (target : Option Target) (start : Option Start) (size : Option (Option ℕ))
+    → (conditions_at st.filter >>= λ filter. target >>= λ target. start >>= λ start. size >>= λ size. Some (rules.watch (record { target = target; filter = filter }) start (resumes_at st) size))
+    ≡ opened (target >>= λ target. start >>= λ start. size >>= λ size. Some (record { target = target; stages = st; start = start; resumes = resumes_at st; size = size }))
+aimed st None start size = no_more (conditions_at st.filter)
+aimed st (Some target) None size = no_more (conditions_at st.filter)
+aimed st (Some target) (Some start) None = no_more (conditions_at st.filter)
+aimed st (Some target) (Some start) (Some size) = refl
 
-watch_parts : (fs : Fields) (b : Bool) (ns : Option Space) (a : Option Items) → (if b then (ns >>= λ space. a >>= λ items. by_rules (more_of fs space) (documents_in items)) else None)
-    ≡ opened (if b then (ns >>= λ space. (a >>= stages_of) >>= sized fs space) else None)
-watch_parts fs false ns a = refl
-watch_parts fs true None a = refl
-watch_parts fs true (Some space) None = refl
-watch_parts fs true (Some space) (Some ts) = stages_rules (more_of fs space) ts ∙ regroup fs space (stages_of ts)
+later : (st : Stages) (b : Bool) (all : Option Bool) (target : Bool → Option Target) (start : Option Start) (size : Option (Option ℕ))
+    → (conditions_at st.filter >>= λ filter. if b then (all >>= λ all. target all >>= λ target. start >>= λ start. size >>= λ size. Some (rules.watch (record { target = target; filter = filter }) start (resumes_at st) size)) else None)
+    ≡ opened (if b then (all >>= λ all. target all >>= λ target. start >>= λ start. size >>= λ size. Some (record { target = target; stages = st; start = start; resumes = resumes_at st; size = size })) else None)
+later st false all target start size = no_more (conditions_at st.filter)
+later st true None target start size = no_more (conditions_at st.filter)
+later st true (Some all) target start size = aimed st (target all) start size
+
+regroup : (fs : Fields) (found : Option Stages) → by_stages (watch_with fs) found ≡ opened (found >>= opening_with fs)
+regroup fs None = refl
+regroup fs (Some st) = later st (has_only option_names st.options) (flag_or false (get (codes "allChangesForCluster") st.options)) (target_at fs) (start_of st.options) (batch_size fs)
+
+watch_parts : (fs : Fields) (b : Bool) (a : Option Items) → (if b then by_rules (watch_with fs) (option_and_then documents_in a) else None) ≡ opened (if b then ((a >>= stages_of) >>= opening_with fs) else None)
+watch_parts fs false a = refl
+watch_parts fs true None = refl
+watch_parts fs true (Some ts) = stages_rules (watch_with fs) ts ∙ regroup fs (stages_of ts)
 
 watch_by_opening : (fs : Fields) → watch_request fs ≡ opened (opening_of fs)
 unfolding watch_request opening_of
-watch_by_opening fs = watch_parts fs (has_only (codes "aggregate" ∷ codes "pipeline" ∷ codes "cursor" ∷ []) fs) (named_space (codes "aggregate") fs) (array_at (codes "pipeline") fs)
+watch_by_opening fs = watch_parts fs (has_only pipeline_fields fs) (array_at (codes "pipeline") fs)
 
 pub watch_none : (fs : Fields) → None ≡ opening_of fs → None ≡ option_map wanted (watch_request fs)
 watch_none fs e = sym (ap (option_map wanted) (watch_by_opening fs ∙ ap opened (sym e)))
@@ -121,13 +128,11 @@ unfiltered o (Some cs) none = cc
 pub watch_unfiltered : (fs : Fields) (o : Opening) → Some o ≡ opening_of fs → None ≡ option_map (map keyed) (conditions_at o.stages.filter) → None ≡ option_map wanted (watch_request fs)
 watch_unfiltered fs o e none = unfiltered o (conditions_at o.stages.filter) none ∙ sym (ap (option_map wanted) (watch_by_opening fs ∙ ap opened (sym e)))
 
-filtered : (o : Opening) (found : Option (List Condition)) (filter : List Keyed) (resume : Option Tree) → Some filter ≡ option_map (map keyed) found → resume ≡ get (codes "resumeAfter") o.stages.options
-    → Some (watch o.space filter resume o.size) ≡ option_map wanted (found >>= λ filter. Some (asked_by o filter))
-filtered o None filter resume some e = cc
-filtered o (Some cs) filter resume some e =
+filtered : (o : Opening) (found : Option (List Condition)) (filter : List Keyed) → Some filter ≡ option_map (map keyed) found → Some (watch o.target filter o.start o.resumes o.size) ≡ option_map wanted (found >>= λ filter. Some (asked_by o filter))
+filtered o None filter some = cc
+filtered o (Some cs) filter some =
     let same : filter ≡ map keyed cs = cc in
-    ap₂ (λ f r. Some (watch o.space f r o.size)) same e
+    ap (λ (f : List Keyed). Some (watch o.target f o.start o.resumes o.size)) same
 
-pub watch_some : (fs : Fields) (o : Opening) (filter : List Keyed) (resume : Option Tree) → Some o ≡ opening_of fs → Some filter ≡ option_map (map keyed) (conditions_at o.stages.filter) → resume ≡ get (codes "resumeAfter") o.stages.options
-    → Some (watch o.space filter resume o.size) ≡ option_map wanted (watch_request fs)
-watch_some fs o filter resume e some same = filtered o (conditions_at o.stages.filter) filter resume some same ∙ sym (ap (option_map wanted) (watch_by_opening fs ∙ ap opened (sym e)))
+pub watch_some : (fs : Fields) (o : Opening) (filter : List Keyed) → Some o ≡ opening_of fs → Some filter ≡ option_map (map keyed) (conditions_at o.stages.filter) → Some (watch o.target filter o.start o.resumes o.size) ≡ option_map wanted (watch_request fs)
+watch_some fs o filter e some = filtered o (conditions_at o.stages.filter) filter some ∙ sym (ap (option_map wanted) (watch_by_opening fs ∙ ap opened (sym e)))

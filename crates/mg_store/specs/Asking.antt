@@ -3,16 +3,24 @@ use Rattle.std.specs.Prelude.{ℕ, ℤ, Bool, false, true, ◌||◌, ◌&&◌, L
 use Rattle.std.specs.Str.{bytes_eq}
 use Rattle.mg_bson.specs.Tree.{Tree, Fields, no_fields, field, Items, no_items, item}
 use Rattle.mg_bson.specs.Find.{as_document, get}
-use Rattle.mg_link.specs.Namespace.{Space}
+use Rattle.mg_link.specs.Namespace.{Space, Target, database, collection, cluster}
 use Rattle.mg_link.specs.Filter as filter
 use Rattle.mg_link.specs.Filter.{begins_with_dollar, key}
 use Rattle.mg_link.specs.Rules.{id_of}
 use Rattle.mg_store.specs.declared.reading.LentSpace.{LentSpace}
+use Rattle.mg_store.specs.declared.reading.LentTarget.{LentTarget}
+use Rattle.mg_store.specs.declared.reading.LentTarget.TheVariants as lent
 use Rattle.mg_store.specs.declared.filter.Condition.{Condition}
 
 -- the namespace that is lent
 abbrev pub lent_space : LentSpace → Space
 lent_space s = record { db = s.db.now; coll = s.coll.now }
+
+-- the target that is lent
+abbrev pub lent_target : LentTarget → Target
+lent_target (lent.Collection s) = collection (lent_space s)
+lent_target (lent.Database db) = database db.now
+lent_target lent.Cluster = cluster
 
 abbrev pub ahead : {A : Type 0} → Option A → List A → List A
 ahead None xs = xs

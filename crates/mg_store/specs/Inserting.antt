@@ -14,8 +14,10 @@ use Rattle.mg_bson.specs.View.{tree}
 use Rattle.mg_bson.specs.declared.tree.Bson.{Bson}
 use Rattle.mg_link.specs.Namespace.{Space, space}
 use Rattle.mg_link.specs.Filter.{key}
+use Rattle.mg_link.specs.State.{Index}
 use Rattle.mg_link.specs.Rules.{accept, bad_request, insert_event, Inserted, is_storable, write_error}
 use Rattle.mg_store.specs.Holding.{AreExact, entries_from}
+use Rattle.mg_store.specs.Indexing.{index_held}
 use Rattle.mg_store.specs.declared.change.ChangeEntry.{ChangeEntry}
 use Rattle.mg_store.specs.declared.insert.Appended.{Appended}
 use Rattle.mg_store.specs.declared.insert.Collection.{Collection}
@@ -67,8 +69,18 @@ AreApart before ds = (k : List ℕ) → is_some (number_of_id 0 k before) ≡ tr
 abbrev pub stored : Collection → List Fields
 stored c = map fields c.documents.items
 
+-- the indexes of a collection, none where there is no collection
+abbrev pub indexed : Option Collection → List Index
+indexed None = []
+indexed (Some c) = map index_held c.indexes.items
+
 abbrev pub KeepsIds : Collection → Type 0
 KeepsIds c = HasIds c.ids 0 (stored c)
+
+-- the indexes that are there before a command
+abbrev pub indexes_there : Option (Bor Collection) → List Index
+indexes_there None = []
+indexes_there (Some c) = map index_held c.now.indexes.items
 
 -- the documents that are there before an insert
 abbrev pub there : Option (Bor Collection) → List Fields

@@ -3,8 +3,10 @@ pub mod Continued
 pub mod Holding
 pub mod Contents
 pub mod Inserting
+pub mod Indexing
 pub mod Asking
 pub mod Wanted
+pub mod Querying
 pub mod Replies
 pub mod Answering
 pub mod InMemory

@@ -1,10 +1,11 @@
 -- The replies of the store, as it writes them.
-use Rattle.std.specs.Prelude.{◌≡◌, ℕ, pos, List, length, Bool, true, false, ◌&&◌, Option, Some, None, nat_le}
-use Rattle.mg_bson.specs.Tree.{array, int32, Fields, Items, no_items}
+use Rattle.std.specs.Prelude.{◌≡◌, ℕ, ℤ, pos, List, length, Bool, true, false, ◌&&◌, Option, Some, None, nat_le}
+use Rattle.mg_bson.specs.Tree.{array, document, int32, Fields, field, Items, no_items}
 use Rattle.mg_bson.specs.Bytes.{bytes, levels}
 use Rattle.mg_bson.specs.Raw.{fields}
 use Rattle.mg_bson.specs.Literal.{◌⇒◌⨾◌, empty}
-use Rattle.mg_link.specs.Rules.{max_reply}
+use Rattle.mg_link.specs.Namespace.{Space}
+use Rattle.mg_link.specs.Rules.{cursor_fields, max_reply}
 
 -- a reply is no larger and no deeper than one may be
 abbrev pub fits : Fields → Bool
@@ -20,6 +21,10 @@ pub record IsWritten (d : Fields) (written : List ℕ) : Type 0 where
 abbrev pub Written : Fields → Option (List ℕ) → Type 0
 Written d (Some written) = IsWritten d written
 Written d None = fits d ≡ false
+
+-- the reply to a query, or to its getMore
+abbrev pub found_with : ℤ → Space → List ℕ → Items → Fields
+found_with id sp batch documents = "cursor" ⇒ document (cursor_fields id sp (field batch (array documents) empty)) ⨾ "ok" ⇒ int32 (pos 1) ⨾ empty
 
 -- the reply to a killCursors
 abbrev pub killed_with : Items → Items → Fields

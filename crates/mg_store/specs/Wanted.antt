@@ -1,16 +1,23 @@
 -- The request of a command, where filters are held by the encodings of their values.
-use Rattle.std.specs.Prelude.{◌≡◌, ℕ, ℤ, Bool, true, false, List, [], ◌∷◌, map, Option, Some, None, option_map, Result, Ok, Err, codes, if◌then◌else◌}
-use Rattle.mg_bson.specs.Tree.{Tree, Fields, Items, no_items, item}
-use Rattle.mg_bson.specs.Find.{as_document}
+use Rattle.std.specs.Prelude.{◌≡◌, ℕ, ℤ, Bool, true, false, List, [], map, Option, Some, None, is_some, option_map, Result, Ok, Err, codes, if◌then◌else◌}
+use Rattle.mg_bson.specs.Tree.{Fields, Items, no_items, item}
+use Rattle.mg_bson.specs.Find.{as_document, get}
 use Rattle.mg_bson.specs.Raw.{fields, items}
 use Rattle.mg_bson.specs.RawView.{value}
 use Rattle.mg_bson.specs.Reading.{◌>>=◌}
-use Rattle.mg_link.specs.Namespace.{Space}
+use Rattle.mg_link.specs.Namespace.{Space, Target}
 use Rattle.mg_link.specs.Filter.{Condition, conditions_of}
+use Rattle.mg_link.specs.State.{Index, Start, nowhere, after, at_time, time_of}
 use Rattle.mg_link.specs.Rules as rules
-use Rattle.mg_link.specs.Commands.{batch_size, has_only}
-use Rattle.mg_link.specs.Rules.{array_at, map_ok, named_space}
-use Rattle.mg_store.specs.Asking.{Keyed, documents_among, held, ids_among, keyed, lent_space, only_document}
+use Rattle.mg_link.specs.Commands.{batch_size, flag_or, has_only, pipeline_fields, start_of, indexing_fields, find_fields, find_stages, optional_count}
+use Rattle.mg_link.specs.Rules.{array_at, map_ok, option_names, target_at, named_space}
+use Rattle.mg_store.specs.Asking.{Keyed, documents_among, held, ids_among, keyed, lent_space, lent_target, only_document}
+use Rattle.mg_store.specs.declared.request.LentStart.{LentStart}
+use Rattle.mg_store.specs.declared.request.LentStart.TheVariants as starts
+use Rattle.mg_store.specs.Indexing.{index_held}
+use Rattle.mg_link.specs.Query.{Source, of_collection}
+use Rattle.mg_store.specs.Querying.{Doing, doing, held_stage, pipeline_doing}
+use Rattle.mg_store.specs.declared.request.Plan as code_plan
 use Rattle.mg_store.specs.declared.request.Request.{Request}
 use Rattle.mg_store.specs.declared.request.Request.TheVariants as requests
 use Rattle.mg_store.specs.declared.request.Refusal.{Refusal}
@@ -19,31 +26,48 @@ use Rattle.mg_store.specs.declared.request.Stop.{Stop}
 use Rattle.mg_store.specs.declared.request.Stop.TheVariants as stops
 use Rattle.mg_store.specs.declared.request.Stages as code_stages
 use Rattle.mg_store.specs.declared.request.Opening as code_opening
+use Rattle.mg_store.specs.declared.request.Indexing as code_indexing
 
 pub data Wanted : Type 0 where
   insert : (space : Space) (documents : List Fields) (ordered : Bool) → Wanted
-  watch : (space : Space) (filter : List Keyed) (resume_after : Option Tree) (size : Option ℕ) → Wanted
+  find : (source : Source) (stages : List Doing) (single : Bool) (size : Option ℕ) → Wanted
+  watch : (target : Target) (filter : List Keyed) (start : Start) (resumes : Bool) (size : Option ℕ) → Wanted
   more : (id : ℤ) (space : Space) (size : Option ℕ) → Wanted
   kill : (ids : List ℤ) → Wanted
+  create_collection : (space : Space) → Wanted
+  create_indexes : (space : Space) (indexes : List Index) → Wanted
 
 abbrev pub wanted : rules.Request → Wanted
 wanted (rules.insert space documents ordered) = insert space documents ordered
-wanted (rules.watch space filter resume_after size) = watch space (map keyed filter) resume_after size
+wanted (rules.find q) = find q.source (map doing q.stages) q.single q.size
+wanted (rules.watch w start resumes size) = watch w.target (map keyed w.filter) start resumes size
 wanted (rules.more id space size) = more id space size
 wanted (rules.kill ids) = kill ids
+wanted (rules.create_collection space) = create_collection space
+wanted (rules.create_indexes space indexes) = create_indexes space indexes
+
+-- the start that the code holds
+abbrev pub lent_start : LentStart → Start
+lent_start starts.Nowhere = nowhere
+lent_start (starts.After token) = after (value token)
+lent_start (starts.AtTime t) = at_time (time_of t.time t.increment)
 
 -- the request that the code holds
 abbrev pub lent : Request → Wanted
 lent (requests.Insert space documents ordered) = insert (lent_space space) (documents_among (items documents)) ordered
-lent (requests.Watch space filter resume_after size) = watch (lent_space space) (map held filter.items) (option_map value resume_after) size
+lent (requests.Find space plan) = find (of_collection (lent_space space)) (map held_stage plan.stages.items) plan.single plan.batch_size
+lent (requests.Watch target filter start resumes size) = watch (lent_target target) (map held filter.items) (lent_start start) resumes size
 lent (requests.GetMore id space size) = more id (lent_space space) size
 lent (requests.KillCursors ids) = kill (ids_among (items ids))
+lent (requests.Create space) = create_collection (lent_space space)
+lent (requests.CreateIndexes space indexes) = create_indexes (lent_space space) (map index_held indexes.items)
 
 abbrev pub code_of : Refusal → ℤ
 code_of refusals.UnknownCommand = rules.unknown_command
 code_of refusals.BadRequest = rules.bad_request
 code_of refusals.NoSuchCursor = rules.no_such_cursor
 code_of refusals.NoSuchToken = rules.no_such_token
+code_of refusals.CollectionExists = rules.collection_exists
 
 -- why there is none: that is the rules' refusal, unless memory ran out
 abbrev pub StopsBy : {A : Type 0} → Stop → Result A ℤ → Type 0
@@ -59,6 +83,44 @@ Asks (Err stop) asked = StopsBy stop asked
 abbrev pub OrBadRequest : Result Request Stop → Option Request → Type 0
 OrBadRequest (Ok request) found = found ≡ Some request
 OrBadRequest (Err stop) found = (stop ≡ stops.Refused refusals.BadRequest) × (found ≡ None)
+
+-- ---- finds
+
+-- what a find does with the documents of its collection, and how it gives them
+pub record Plan : Type 0 where
+  pub stages : List Doing
+  pub single : Bool
+  pub size : Option ℕ
+
+-- whether one batch is asked for, and the size
+abbrev pub giving_of : Fields → Option (Bool × Option ℕ)
+giving_of fs = flag_or false (get (codes "singleBatch") fs) >>= λ single. optional_count (get (codes "batchSize") fs) >>= λ size. Some (single, size)
+
+unfoldable pub plan_of : Fields → Option Plan
+plan_of fs = option_map (map doing) (find_stages fs) >>= λ stages. giving_of fs >>= λ giving. Some (record { stages = stages; single = giving.0; size = giving.1 })
+
+-- the plan that the code holds
+abbrev pub lent_plan : code_plan.Plan → Plan
+lent_plan p = record { stages = map held_stage p.stages.items; single = p.single; size = p.batch_size }
+
+-- the collection of a find whose fields are all known
+abbrev pub find_space : Fields → Option Space
+find_space fs = if has_only find_fields fs then named_space (codes "find") fs else None
+
+unfoldable pub found_of : Fields → Option Wanted
+found_of fs = find_space fs >>= λ space. plan_of fs >>= λ plan. Some (find (of_collection space) plan.stages plan.single plan.size)
+
+-- ---- pipelines
+
+-- the collection of a pipeline whose fields are all known
+abbrev pub pipeline_space : Fields → Option Space
+pipeline_space fs = if has_only pipeline_fields fs then named_space (codes "aggregate") fs else None
+
+abbrev pub pipeline_plan : Fields → Option Plan
+pipeline_plan fs = array_at (codes "pipeline") fs >>= pipeline_doing >>= λ stages. batch_size fs >>= λ size. Some (record { stages = stages; single = false; size = size })
+
+abbrev pub piped_of : Fields → Option Wanted
+piped_of fs = pipeline_space fs >>= λ space. pipeline_plan fs >>= λ plan. Some (find (of_collection space) plan.stages plan.single plan.size)
 
 -- ---- the aggregate that opens a watch
 
@@ -86,15 +148,21 @@ abbrev pub stages_at : Fields → Option Stages
 stages_at fs = array_at (codes "pipeline") fs >>= stages_of
 
 pub record Opening : Type 0 where
-  pub space : Space
+  pub target : Target
   pub stages : Stages
+  pub start : Start
+  pub resumes : Bool
   pub size : Option ℕ
 
-unfoldable pub opening_of : Fields → Option Opening
-opening_of fs = if has_only (codes "aggregate" ∷ codes "pipeline" ∷ codes "cursor" ∷ []) fs
-    then (named_space (codes "aggregate") fs >>= λ space. stages_at fs >>= λ stages.
-    (if has_only (codes "resumeAfter" ∷ []) stages.options then (batch_size fs >>= λ size. Some (record { space = space; stages = stages; size = size })) else None))
+-- what the options of these stages open
+abbrev pub opening_with : Fields → Stages → Option Opening
+opening_with fs stages = if has_only option_names stages.options
+    then (flag_or false (get (codes "allChangesForCluster") stages.options) >>= λ all. target_at fs all >>= λ target. start_of stages.options >>= λ start. batch_size fs >>= λ size.
+    Some (record { target = target; stages = stages; start = start; resumes = is_some (get (codes "resumeAfter") stages.options); size = size }))
     else None
+
+unfoldable pub opening_of : Fields → Option Opening
+opening_of fs = if has_only pipeline_fields fs then (stages_at fs >>= opening_with fs) else None
 
 abbrev pub conditions_at : Option Fields → Option (List Condition)
 conditions_at None = Some []
@@ -105,4 +173,17 @@ abbrev pub lent_stages : code_stages.Stages → Stages
 lent_stages s = record { options = fields s.options; filter = option_map fields s.filter }
 
 abbrev pub lent_opening : code_opening.Opening → Opening
-lent_opening o = record { space = lent_space o.space; stages = lent_stages o.stages; size = o.batch_size }
+lent_opening o = record { target = lent_target o.target; stages = lent_stages o.stages; start = lent_start o.start; resumes = o.resumes; size = o.batch_size }
+
+-- ---- the command that creates indexes
+
+-- the collection that gets indexes, and what describes them
+pub record Indexing : Type 0 where
+  pub space : Space
+  pub indexes : Items
+
+unfoldable pub indexing_of : Fields → Option Indexing
+indexing_of fs = if has_only indexing_fields fs then (named_space (codes "createIndexes") fs >>= λ space. array_at (codes "indexes") fs >>= λ items. Some (record { space = space; indexes = items })) else None
+
+abbrev pub lent_indexing : code_indexing.Indexing → Indexing
+lent_indexing i = record { space = lent_space i.space; indexes = items i.indexes }

@@ -1,26 +1,26 @@
 //! The list of changes.
-ghost use Rattle.std.specs.Prelude.{◌≡◌, ◌&&◌, IfOk, map};
+ghost use Rattle.std.specs.Prelude.{◌≡◌, ℕ, IfOk};
 ghost use Rattle.mg_bson.specs.Bytes.{bytes};
 ghost use Rattle.mg_bson.specs.Raw.{fields};
 ghost use Rattle.mg_bson.specs.Literal.{◌⇒◌⨾◌, empty, word};
 ghost use Rattle.mg_bson.specs.Tree.{document, string};
 ghost use Rattle.mg_bson.specs.View.{tree};
-ghost use Rattle.mg_link.specs.Namespace.{space};
-ghost use Rattle.mg_link.specs.Rules.{insert_event, stamp_of, token_of};
+ghost use Rattle.mg_link.specs.Namespace.{space, target};
+ghost use Rattle.mg_link.specs.Rules.{ended_before, insert_event, stamp_of, token_of};
 ghost use Rattle.mg_link.specs.State as state;
-ghost use Rattle.mg_link.specs.State.{is_space};
-ghost use Rattle.mg_store.specs.Asking.{held, matches_keys};
-ghost use Rattle.mg_store.specs.Holding.{AreExact, GivesBatch, IsWatch, entries_from};
+ghost use Rattle.mg_link.specs.State.{count_before, is_invalidate, is_of, time_of};
+ghost use Rattle.mg_store.specs.Holding.{AreExact, GivesBatch, IsWatch, change_told, entries_from, entry_at};
 
 use crate::cursor::Watch;
 use crate::filter::matches;
+use crate::reading::{is_same_space, text_at};
 use crate::reply::{put_item, time, token, with, with_text};
-use mg_bson::{Array, Bson, Document, RawDocumentBuf, to_bytes, to_document};
-use mg_link::{Namespace, OutOfMemory};
+use mg_bson::{Array, Bson, Document, RawDocumentBuf, Timestamp, to_bytes, to_document};
+use mg_link::{Namespace, OperationTarget, OutOfMemory};
 use std::alloc::Global;
 
 /// The most bytes of the documents of a batch together.
-const MAX_BATCH: usize = 16_777_216;
+pub(crate) const MAX_BATCH: usize = 16_777_216;
 
 /// One change, as watches see it. Its token, its time and its kind stand in its event.
 pub struct ChangeEntry {
@@ -83,19 +83,96 @@ pub(crate) fn insert_event(
     with(event, "fullDocument", Bson::Document(inserted))
 }
 
-/// The events of a batch, and the place behind it.
+/// The events of a batch, the place behind it, and whether the watch ends with it.
 #[derive(Drop)]
 pub(crate) struct Events {
     pub(crate) events: Array,
     pub(crate) place: u64,
+    pub(crate) ended: bool,
+}
+
+impl Events {
+    fn new(events: Array, place: u64, ended: bool) -> Events
+        ensures events { result.events ≡ events }
+        ensures place { result.place ≡ place }
+        ensures ended { result.ended ≡ ended }
+    {
+        Events {
+            events,
+            place,
+            ended,
+        }
+    }
+}
+
+/// Whether the entry is one by which watches of its collection end.
+fn is_invalidate(entry: &ChangeEntry) -> bool
+    ensures { result ≡ is_invalidate (change_told (fields entry.now.event)) }
+{
+    match text_at(&entry.event.as_raw(), "operationType") {
+        Some(kind) => kind == "invalidate",
+        None => false,
+    }
+}
+
+/// Whether the entry belongs to the target.
+fn is_of(aimed: &OperationTarget, entry: &ChangeEntry) -> bool
+    ensures { (place : ℕ) → result ≡ is_of (target aimed.now) (entry_at place entry.now) }
+{
+    match aimed {
+        OperationTarget::Collection(ns) => is_same_space(ns, &entry.ns),
+        OperationTarget::Database(db) => !is_invalidate(entry) && *db == entry.ns.db,
+        OperationTarget::Cluster => !is_invalidate(entry),
+    }
 }
 
 /// Whether the watch is to see the entry.
 fn sees(alloc: Global, watch: &Watch, entry: &ChangeEntry) -> Result<bool, OutOfMemory>
-    ensures { IfOk result (λ b. b ≡ (is_space (space watch.now.ns) (space entry.now.ns) && matches_keys (map held watch.now.filter.items) (fields entry.now.event))) }
+    ensures { IfOk result (λ b. (w : state.Watch) (place : ℕ) → IsWatch watch.now w → b ≡ state.sees w (entry_at place entry.now)) }
 {
-    if watch.ns == entry.ns {
+    if is_of(&watch.target, entry) {
         matches(alloc, &watch.filter, &entry.event.as_raw())
+    } else {
+        Ok(false)
+    }
+}
+
+/// The number by which times are ordered.
+fn number_of(at: Timestamp) -> u64
+    ensures { result ≡ time_of at.time at.increment }
+{
+    u64::from(at.time) * 4_294_967_296 + u64::from(at.increment)
+}
+
+/// How many entries have a time below this.
+pub(crate) fn count_before(changes: &[ChangeEntry], at: Timestamp) -> u64
+    ensures { result ≡ count_before (time_of at.time at.increment) (entries_from 0 changes.now) }
+{
+    let bound = number_of(at);
+    let mut below = 0;
+    for place in 0..changes.len() {
+        if number_of(time(place as u64 + 1)) < bound {
+            below += 1;
+        }
+    }
+    below
+}
+
+/// Whether the watch ended with the last entry before the place.
+pub(crate) fn ended_before(
+    alloc: Global,
+    changes: &[ChangeEntry],
+    watch: &Watch,
+    place: u64,
+) -> Result<bool, OutOfMemory>
+    ensures { IfOk result (λ b. (w : state.Watch) → IsWatch watch.now w → b ≡ ended_before w (entries_from 0 changes.now) place) }
+{
+    if place == 0 || place as usize > changes.len() {
+        return Ok(false);
+    }
+    let entry = &changes[place as usize - 1];
+    if is_invalidate(entry) {
+        sees(alloc, watch, entry)
     } else {
         Ok(false)
     }
@@ -111,8 +188,8 @@ fn event_of(alloc: Global, entry: &ChangeEntry) -> Result<Bson, OutOfMemory>
     }
 }
 
-/// The events that a watch sees from a place on: at most so many, and not more than fit a batch. A batch that ended
-/// before the changes did ends behind its last entry.
+/// The events that a watch sees from a place on: at most so many, and not more than fit a batch, and none behind an
+/// invalidate entry. A batch that ended before the changes did ends behind its last entry.
 pub(crate) fn events_from(
     alloc: Global,
     changes: &[ChangeEntry],
@@ -128,24 +205,21 @@ pub(crate) fn events_from(
     let mut left = size;
     for place in from..changes.len() {
         if left == 0 {
-            return Ok(Events {
-                events,
-                place: behind,
-            });
+            return Ok(Events::new(events, behind, false));
         }
         let entry = &changes[place];
         if sees(alloc, watch, entry)? {
             let len = entry.event.as_bytes().len();
             if left < size && room < len {
-                return Ok(Events {
-                    events,
-                    place: behind,
-                });
+                return Ok(Events::new(events, behind, false));
             }
             put_item(&mut events, event_of(alloc, entry)?)?;
+            behind = place as u64 + 1;
+            if is_invalidate(entry) {
+                return Ok(Events::new(events, behind, true));
+            }
             room = room.saturating_sub(len);
             left -= 1;
-            behind = place as u64 + 1;
         }
     }
     let place = if left == 0 {
@@ -153,7 +227,7 @@ pub(crate) fn events_from(
     } else {
         changes.len() as u64
     };
-    Ok(Events { events, place })
+    Ok(Events::new(events, place, false))
 }
 
 /// The bytes of the event of a document that is stored. Such an event can always be encoded.

@@ -82,7 +82,8 @@ fn begins_with_dollar(name: &str) -> bool
     }
 }
 
-fn is_top_name(name: &str) -> bool
+/// Whether it is a name at the top of a document.
+pub(crate) fn is_top_name(name: &str) -> bool
     ensures { result ≡ is_top_name name.now }
 {
     !begins_with_dollar(name) && !has_dot(name)

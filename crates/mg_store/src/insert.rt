@@ -11,6 +11,8 @@ ghost use Rattle.mg_store.specs.Inserting.{AcceptsOr, Adds, Appends, AreApart, E
 
 use crate::change::{ChangeEntry, event_bytes, insert_event};
 use crate::filter::key_of;
+use crate::index::Index;
+use crate::limits::MAX_DOCUMENT;
 use crate::reply::{put_item, write_error};
 use mg_bson::{
     Array, Bson, BsonError, Document, RawArray, RawDocument, RawDocumentBuf, to_bytes, to_document,
@@ -18,9 +20,6 @@ use mg_bson::{
 use mg_link::{Namespace, OutOfMemory};
 use std::alloc::{AllocError, AllocFailed, Global};
 use std::collections::BTreeMap;
-
-/// The most bytes of a stored document.
-const MAX_DOCUMENT: usize = 16_777_216;
 
 /// The most levels of a stored document: as many as fit the event in a reply.
 const MAX_LEVELS: u32 = 96;
@@ -31,10 +30,12 @@ const BAD_DOCUMENT: i32 = 9;
 /// The code for an `_id` that is there already.
 const DUPLICATE_ID: i32 = 11000;
 
-/// The documents of a collection, in order, and the number of each by the bytes of its `_id`.
+/// The documents of a collection, in order, the number of each by the bytes of its `_id`, and the indexes beside that of
+/// `_id`.
 pub(crate) struct Collection {
     pub(crate) documents: Vec<RawDocumentBuf>,
     pub(crate) ids: BTreeMap<Vec<u8>, u64>,
+    pub(crate) indexes: Vec<Index>,
 }
 
 // By hand, so that letting one go is one call.
@@ -43,15 +44,20 @@ impl Drop for Collection {
         let Collection {
             documents: _,
             ids: _,
+            indexes: _,
         } = self;
     }
 }
 
 impl Collection {
-    pub(crate) fn new(alloc: Global) -> Collection {
+    pub(crate) fn new(alloc: Global) -> Collection
+        ensures none { stored result ≡ [] }
+        ensures ids { KeepsIds result }
+    {
         Collection {
             documents: Vec::new(alloc),
             ids: BTreeMap::new(alloc),
+            indexes: Vec::new(alloc),
         }
     }
 
@@ -64,12 +70,20 @@ impl Collection {
         ensures ok { OnOk result (stored self.new ≡ stored self.old ++ map fields documents.items) }
         ensures err { OnErr result (stored self.new ≡ stored self.old) }
         ensures ids { KeepsIds self.old → HasIds ids (length (stored self.old)) (map fields documents.items) → AreApart (stored self.old) (map fields documents.items) → KeepsIds self.new }
+        ensures indexes { self.new.indexes ≡ self.old.indexes }
     {
         self.documents.reserve(documents.len())?;
         let count = self.documents.len() as u64;
         add_ids(&mut self.ids, ids, count)?;
         append_reserved(&mut self.documents, &mut documents);
         Ok(())
+    }
+
+    /// The collection has these indexes from now on.
+    pub(crate) fn put_indexes(&mut self, indexes: Vec<Index>)
+        ensures { self.new ≡ record self.old { indexes = indexes } }
+    {
+        let _old = std::mem::replace(&mut self.indexes, indexes);
     }
 }
 
@@ -213,7 +227,8 @@ fn entry_of(
 }
 
 impl Appended {
-    fn new(alloc: Global) -> Appended
+    /// What is to be appended where there is nothing.
+    pub(crate) fn new(alloc: Global) -> Appended
         ensures fits { (before : List Fields) → Fits before result }
         ensures none { new_documents result ≡ [] }
         ensures no_entries { result.entries.items ≡ [] }

@@ -1,17 +1,23 @@
 //! A store in memory that answers the commands of a server, and a link to it.
 #![tactic(auto)]
 
+mod batch;
 mod change;
 mod cursor;
 mod fate;
 mod filter;
+mod index;
 mod insert;
+mod limits;
 mod link;
 mod perform;
 mod reading;
 mod refusing;
 mod reply;
 mod request;
+mod results;
+mod sort;
+mod stages;
 mod store;
 mod token;
 

@@ -1,25 +1,37 @@
 //! What a command is answered, and what it does.
-ghost use Rattle.mg_store.specs.declared.perform.Effect.TheVariants.{Insert};
-ghost use Rattle.std.specs.Prelude.{◌≡◌, ℕ, ℤ, None, List, [], IfOk, OnOk, OnErr, if◌then◌else◌, length, map, option_map, string_bytes};
+ghost use Rattle.mg_store.specs.declared.perform.Effect.TheVariants.{Insert, Indexes};
+ghost use Rattle.std.specs.Prelude.{◌≡◌, ℕ, ℤ, None, [], IfOk, OnOk, OnErr, if◌then◌else◌, map, string_bytes, pos, drop, Some, List};
 ghost use Rattle.std.specs.BTreeMap.{get, keys};
 ghost use Rattle.std.specs.Ordering.{int_cmp};
-ghost use Rattle.mg_bson.specs.Raw.{items};
+ghost use Rattle.mg_bson.specs.Raw.{fields, items};
+ghost use Rattle.mg_bson.specs.Tree.{Fields};
 ghost use Rattle.mg_bson.specs.RawView.{value};
-ghost use Rattle.mg_link.specs.Filter.{Condition};
 ghost use Rattle.mg_link.specs.Namespace.{space};
 ghost use Rattle.mg_link.specs.Rules as rules;
-ghost use Rattle.mg_link.specs.Rules.{insert, is_id_among, kill, more, place_at, refusal, size_of};
-ghost use Rattle.mg_link.specs.State.{State, nothing};
+ghost use Rattle.mg_link.specs.Commands.{query_by};
+ghost use Rattle.mg_link.specs.Query as query;
+ghost use Rattle.mg_link.specs.Query.{Query, Stage, of_collection};
+ghost use Rattle.mg_link.specs.Step.{documents_of};
+ghost use Rattle.mg_link.specs.Rules.{create_collection, create_indexes, find, id_unless, insert, is_id_among, kill, more, place_at, query_space, refusal, size_of};
+ghost use Rattle.mg_link.specs.State as state;
+ghost use Rattle.mg_link.specs.State.{State, after, nothing, watching};
 ghost use Rattle.mg_store.specs.Answering.{Answers, Refuses};
-ghost use Rattle.mg_store.specs.Asking.{documents_among, held, ids_among, keyed};
-ghost use Rattle.mg_store.specs.Contents.{AnswersBy, AnswersOr, Does, OpensAt, Represents, Settles, closing};
+ghost use Rattle.mg_store.specs.Asking.{documents_among, ids_among};
+ghost use Rattle.mg_store.specs.Contents.{AnswersBy, AnswersOr, Leads, OpensAt, Represents, Settles, beginning, closing, moving, opening, taking};
+ghost use Rattle.mg_store.specs.Holding.{IsWatch, entries_from};
+ghost use Rattle.mg_store.specs.Indexing.{index_held};
+ghost use Rattle.mg_store.specs.Querying.{doing, held_stage};
+ghost use Rattle.mg_store.specs.Wanted.{lent_start};
 
-use crate::change::{ChangeEntry, events_from};
-use crate::cursor::{Cursor, Watch};
+use crate::batch::batch_from;
+use crate::change::{ChangeEntry, count_before, ended_before, events_from};
+use crate::cursor::{Cursor, Found, Source, Watch};
+use crate::index::{Index, all_may_stay, with_indexes};
 use crate::insert::{Appended, Collection, append_all, append_reserved};
-use crate::reading::{id_of, is_same_space, namespace};
+use crate::reading::{id_of, is_same_space, namespace, target, watch_namespace};
 use crate::reply;
-use crate::request::{Refusal, Request, Stop, request_of};
+use crate::request::{LentStart, Plan, Refusal, Request, Stop, request_of};
+use crate::results::through;
 use crate::token::place_of;
 use mg_bson::{Array, Bson, Document, RawArray, RawDocument, RawDocumentBuf, RawValue};
 use mg_link::{Namespace, OutOfMemory};
@@ -56,8 +68,11 @@ pub(crate) enum Effect {
     Insert { ns: Namespace, appended: Appended },
     Open { id: i64, cursor: Cursor },
     Move { id: i64, place: u64 },
+    /// So many of the documents of a query are given.
+    Take { id: i64, count: u64 },
     Kill { ids: Vec<i64> },
     Close { id: i64 },
+    Indexes { ns: Namespace, indexes: Vec<Index> },
 }
 
 // By hand, so that letting one go is one call.
@@ -68,8 +83,10 @@ impl Drop for Effect {
             Effect::Insert { ns: _, appended: _ } => {}
             Effect::Open { id: _, cursor: _ } => {}
             Effect::Move { id: _, place: _ } => {}
+            Effect::Take { id: _, count: _ } => {}
             Effect::Kill { ids: _ } => {}
             Effect::Close { id: _ } => {}
+            Effect::Indexes { ns: _, indexes: _ } => {}
         }
     }
 }
@@ -115,11 +132,85 @@ fn answered(alloc: Global, document: Document, effect: Effect) -> Result<Answer,
     }
 }
 
+/// What the opening of a watch does: one that ended leaves no cursor.
+fn opening(ended: bool, id: i64, cursor: Cursor) -> Effect
+    ensures { result ≡ opening ended id cursor }
+{
+    if ended {
+        Effect::Nothing
+    } else {
+        Effect::Open { id, cursor }
+    }
+}
+
+/// What a batch does to its cursor, which is gone where the watch ended.
+fn moving(ended: bool, id: i64, place: u64) -> Effect
+    ensures { result ≡ moving ended id place }
+{
+    if ended {
+        Effect::Close { id }
+    } else {
+        Effect::Move { id, place }
+    }
+}
+
+/// The id that a reply has, which is 0 where the cursor ended.
+fn id_unless(ended: bool, id: i64) -> i64
+    ensures { result ≡ id_unless ended id }
+{
+    if ended { 0 } else { id }
+}
+
 /// The most events of a batch.
 fn size_of(batch_size: Option<u64>) -> u64
     ensures { result ≡ size_of batch_size }
 {
     batch_size.unwrap_or(DEFAULT_BATCH)
+}
+
+/// What the first batch of a query does.
+fn beginning(ends: bool, id: i64, found: Found, place: u64) -> Effect
+    ensures { result ≡ beginning ends id found place }
+{
+    if ends {
+        return Effect::Nothing;
+    }
+    let source = Source::Found(found);
+    let cursor = Cursor { source, place };
+    Effect::Open { id, cursor }
+}
+
+/// What a later batch of a query does.
+fn taking(is_last: bool, id: i64, count: u64) -> Effect
+    ensures { result ≡ taking is_last id count }
+{
+    if is_last {
+        Effect::Close { id }
+    } else {
+        Effect::Take { id, count }
+    }
+}
+
+/// The next batch of what a query found, behind the first so many documents.
+fn more_of_found(
+    alloc: Global,
+    id: i64,
+    ns: &Namespace,
+    found: &Found,
+    from: u64,
+    batch_size: Option<u64>,
+) -> Result<Answer, Stop>
+    ensures { (s : State) (given : ℕ) (left : List Fields) → s.cursors id ≡ Some (state.query (space found.now.ns) left) → left ≡ drop from (map fields found.now.documents.items) → Settles s given (more id (space ns.now) batch_size) result }
+{
+    if !is_same_space(ns, &found.ns) {
+        return Err(Stop::Refused(Refusal::BadRequest));
+    }
+    let size = size_of(batch_size);
+    let batch = batch_from(alloc, found.documents.as_slice(), from as usize, size)?;
+    let next = id_unless(batch.is_last, id);
+    let effect = taking(batch.is_last, id, batch.count);
+    let document = reply::found(alloc, next, ns, "nextBatch", batch.documents)?;
+    answered(alloc, document, effect)
 }
 
 /// Removes the cursors with these ids.
@@ -161,17 +252,39 @@ impl Content {
         answered(alloc, document, Effect::Insert { ns, appended })
     }
 
-    /// The place where a watch opens: that of the token, and otherwise the end.
-    fn place_at(&self, alloc: Global, resume_after: Option<RawValue<'_>>) -> Result<u64, Stop>
-        ensures { (s : State) → length s.changes ≡ length self.now.changes.items → OpensAt result (place_at s (option_map value resume_after.entry)) }
+    /// The place that a token names; a watch that ended there is not resumed.
+    fn place_after(
+        &self,
+        alloc: Global,
+        watch: &Watch,
+        token: &RawValue<'_>,
+        resumes: bool,
+    ) -> Result<u64, Stop>
+        ensures { (s : State) (w : state.Watch) → s.changes ≡ entries_from 0 self.now.changes.items → IsWatch watch.now w → OpensAt result (place_at s w (after (value token.now)) resumes) }
     {
-        let end = self.changes.len() as u64;
-        match resume_after {
-            Some(found) => match place_of(alloc, &found, end)? {
-                Some(place) => Ok(place),
-                None => Err(Stop::Refused(Refusal::NoSuchToken)),
-            },
-            None => Ok(end),
+        let Some(place) = place_of(alloc, token, self.changes.len() as u64)? else {
+            return Err(Stop::Refused(Refusal::NoSuchToken));
+        };
+        if resumes && ended_before(alloc, &self.changes, watch, place)? {
+            return Err(Stop::Refused(Refusal::NoSuchToken));
+        }
+        Ok(place)
+    }
+
+    /// The place where a watch opens: the end where it names no start.
+    fn place_at(
+        &self,
+        alloc: Global,
+        watch: &Watch,
+        start: &LentStart<'_>,
+        resumes: bool,
+    ) -> Result<u64, Stop>
+        ensures { (s : State) (w : state.Watch) → s.changes ≡ entries_from 0 self.now.changes.items → IsWatch watch.now w → OpensAt result (place_at s w (lent_start start.now) resumes) }
+    {
+        match start {
+            LentStart::Nowhere => Ok(self.changes.len() as u64),
+            LentStart::After(token) => self.place_after(alloc, watch, token, resumes),
+            LentStart::AtTime(time) => Ok(count_before(&self.changes, *time)),
         }
     }
 
@@ -179,22 +292,26 @@ impl Content {
         &self,
         alloc: Global,
         watch: Watch,
-        resume_after: Option<RawValue<'_>>,
+        start: &LentStart<'_>,
+        resumes: bool,
         batch_size: Option<u64>,
     ) -> Result<Answer, Stop>
-        ensures { (s : State) (given : ℕ) (filter : List Condition) → Represents self.now s given → map held watch.filter.items ≡ map keyed filter → Settles s given (rules.watch (space watch.ns) filter (option_map value resume_after.entry) batch_size) result }
+        ensures { (s : State) (given : ℕ) (w : state.Watch) → Represents self.now s given → IsWatch watch w → Settles s given (rules.watch w (lent_start start.now) resumes batch_size) result }
     {
-        let start = self.place_at(alloc, resume_after)?;
+        let from = self.place_at(alloc, &watch, start, resumes)?;
         let Some(id) = self.given.checked_add(1) else {
             return Err(Stop::Memory);
         };
         let now = reply::time(self.changes.len() as u64);
         let size = size_of(batch_size);
-        let batch = events_from(alloc, &self.changes, &watch, start as usize, size)?;
-        let place = batch.place;
-        let document = reply::opened(alloc, id, &watch.ns, batch.events, place, now)?;
-        let cursor = Cursor { watch, place };
-        answered(alloc, document, Effect::Open { id, cursor })
+        let batch = events_from(alloc, &self.changes, &watch, from as usize, size)?;
+        let (place, ended) = (batch.place, batch.ended);
+        let ns = watch_namespace(alloc, &watch.target)?;
+        let reply_id = id_unless(ended, id);
+        let document = reply::opened(alloc, reply_id, &ns, batch.events, place, now)?;
+        let source = Source::Watch(watch);
+        let effect = opening(ended, id, Cursor { source, place });
+        answered(alloc, document, effect)
     }
 
     fn answer_get_more(
@@ -209,15 +326,77 @@ impl Content {
         let Some(cursor) = self.cursors.get(&id) else {
             return Err(Stop::Refused(Refusal::NoSuchCursor));
         };
-        if !is_same_space(ns, &cursor.watch.ns) {
+        match &cursor.source {
+            Source::Watch(watch) => {
+                self.more_of_watch(alloc, id, ns, watch, cursor.place, batch_size)
+            }
+            Source::Found(found) => {
+                more_of_found(alloc, id, ns, found, cursor.place, batch_size)
+            }
+        }
+    }
+
+    /// The next batch of a watch.
+    fn more_of_watch(
+        &self,
+        alloc: Global,
+        id: i64,
+        ns: &Namespace,
+        watch: &Watch,
+        from: u64,
+        batch_size: Option<u64>,
+    ) -> Result<Answer, Stop>
+        ensures { (s : State) (given : ℕ) (w : state.Watch) → Represents self.now s given → IsWatch watch.now w → s.cursors id ≡ Some (watching w from) → Settles s given (more id (space ns.now) batch_size) result }
+    {
+        if !is_same_space(ns, &watch_namespace(alloc, &watch.target)?) {
             return Err(Stop::Refused(Refusal::BadRequest));
         }
-        let from = cursor.place as usize;
         let size = size_of(batch_size);
-        let batch = events_from(alloc, &self.changes, &cursor.watch, from, size)?;
-        let place = batch.place;
-        let document = reply::next_batch(alloc, id, ns, batch.events, place)?;
-        answered(alloc, document, Effect::Move { id, place })
+        let batch = events_from(alloc, &self.changes, watch, from as usize, size)?;
+        let (place, ended) = (batch.place, batch.ended);
+        let left = id_unless(ended, id);
+        let document = reply::next_batch(alloc, left, ns, batch.events, place)?;
+        answered(alloc, document, moving(ended, id, place))
+    }
+
+    /// The documents of a collection, none where it is not there.
+    fn documents_of(&self, ns: &Namespace) -> &[RawDocumentBuf]
+        ensures { (s : State) (given : ℕ) → Represents self.now s given → map fields result.now ≡ documents_of s (space ns.now) }
+    {
+        match self.collections.get(ns) {
+            Some(collection) => collection.documents.as_slice(),
+            None => &[],
+        }
+    }
+
+    /// The first batch of what a query found.
+    fn answer_found(
+        &self,
+        alloc: Global,
+        found: Found,
+        single: bool,
+        batch_size: Option<u64>,
+    ) -> Result<Answer, Stop>
+        ensures { (s : State) (given : ℕ) (q : Query) → Represents self.now s given → query_space q.source ≡ space found.ns → query.result s q ≡ Some (map fields found.documents.items) → q.single ≡ single → q.size ≡ batch_size → Settles s given (find q) result }
+    {
+        let Some(id) = self.given.checked_add(1) else {
+            return Err(Stop::Memory);
+        };
+        let size = size_of(batch_size);
+        let batch = batch_from(alloc, found.documents.as_slice(), 0, size)?;
+        let ends = single || batch.is_last;
+        let next = id_unless(ends, id);
+        let place = batch.count;
+        let document = reply::found(alloc, next, &found.ns, "firstBatch", batch.documents)?;
+        answered(alloc, document, beginning(ends, id, found, place))
+    }
+
+    fn answer_find(&self, alloc: Global, ns: Namespace, plan: &Plan) -> Result<Answer, Stop>
+        ensures { (s : State) (given : ℕ) (stages : List Stage) → Represents self.now s given → map held_stage plan.now.stages.items ≡ map doing stages → Settles s given (find (query_by (of_collection (space ns)) plan.now.single stages plan.now.batch_size)) result }
+    {
+        let documents = through(alloc, plan.stages.as_slice(), self.documents_of(&ns))?;
+        let found = Found { ns, documents };
+        self.answer_found(alloc, found, plan.single, plan.batch_size)
     }
 
     fn answer_kill(&self, alloc: Global, ids: &RawArray<'_>) -> Result<Answer, Stop>
@@ -243,6 +422,33 @@ impl Content {
         answered(alloc, document, Effect::Kill { ids: named })
     }
 
+    fn answer_create(&self, alloc: Global, ns: Namespace) -> Result<Answer, Stop>
+        ensures { (s : State) (given : ℕ) → Represents self.now s given → Settles s given (create_collection (space ns)) result }
+    {
+        if self.collections.contains_key(&ns) {
+            return Err(Stop::Refused(Refusal::CollectionExists));
+        }
+        let appended = Appended::new(alloc);
+        let document = reply::done(alloc)?;
+        answered(alloc, document, Effect::Insert { ns, appended })
+    }
+
+    fn answer_create_indexes(
+        &self,
+        alloc: Global,
+        ns: Namespace,
+        more: &Vec<Index>,
+    ) -> Result<Answer, Stop>
+        ensures { (s : State) (given : ℕ) → Represents self.now s given → Settles s given (create_indexes (space ns) (map index_held more.now.items)) result }
+    {
+        let indexes = with_indexes(alloc, self.collections.get(&ns), more.as_slice())?;
+        if !all_may_stay(alloc, indexes.as_slice())? {
+            return Err(Stop::Refused(Refusal::BadRequest));
+        }
+        let document = reply::done(alloc)?;
+        answered(alloc, document, Effect::Indexes { ns, indexes })
+    }
+
     fn answer_request(&self, alloc: Global, command: &RawDocument<'_>) -> Result<Answer, Stop>
         ensures { (s : State) (given : ℕ) → Represents self.now s given → AnswersOr s given command.now result }
     {
@@ -252,14 +458,18 @@ impl Content {
                 documents,
                 ordered,
             } => self.answer_insert(alloc, namespace(alloc, space)?, &documents, ordered),
+            Request::Find { space, plan } => {
+                self.answer_find(alloc, namespace(alloc, space)?, &plan)
+            }
             Request::Watch {
-                space,
+                target: aimed,
                 filter,
-                resume_after,
+                start,
+                resumes,
                 batch_size,
             } => {
-                let ns = namespace(alloc, space)?;
-                self.answer_watch(alloc, Watch { ns, filter }, resume_after, batch_size)
+                let target = target(alloc, aimed)?;
+                self.answer_watch(alloc, Watch { target, filter }, &start, resumes, batch_size)
             }
             Request::GetMore {
                 id,
@@ -267,6 +477,10 @@ impl Content {
                 batch_size,
             } => self.answer_get_more(alloc, id, &namespace(alloc, space)?, batch_size),
             Request::KillCursors { ids } => self.answer_kill(alloc, &ids),
+            Request::Create { space } => self.answer_create(alloc, namespace(alloc, space)?),
+            Request::CreateIndexes { space, indexes } => {
+                self.answer_create_indexes(alloc, namespace(alloc, space)?, &indexes)
+            }
         }
     }
 
@@ -287,8 +501,8 @@ impl Content {
 
     /// Appends the documents of an insert and their entries.
     fn append(&mut self, ns: Namespace, appended: Appended) -> Result<(), OutOfMemory>
-        ensures ok { OnOk result ((s : State) (given : ℕ) (s' : State) (given' : ℕ) → Represents self.old s given → Does (Insert ns appended) s given s' given' → Represents self.new s' given') }
-        ensures err { OnErr result ((s : State) (given : ℕ) (s' : State) (given' : ℕ) → Represents self.old s given → Does (Insert ns appended) s given s' given' → Represents self.new s given) }
+        ensures ok { OnOk result ((s : State) (given : ℕ) (s' : State) (given' : ℕ) → Represents self.old s given → Leads (Insert ns appended) s given s' given' → Represents self.new s' given') }
+        ensures err { OnErr result ((s : State) (given : ℕ) (s' : State) (given' : ℕ) → Represents self.old s given → Leads (Insert ns appended) s given s' given' → Represents self.new s given) }
         ensures cursors { self.new.cursors ≡ self.old.cursors }
     {
         let (documents, ids, mut entries) = appended.into_parts();
@@ -296,10 +510,33 @@ impl Content {
         match self.collections.get_mut(&ns) {
             Some(collection) => collection.append(documents, ids)?,
             None => {
-                self.collections.insert(ns, Collection { documents, ids })?;
+                let indexes = Vec::new(*documents.allocator());
+                let collection = Collection {
+                    documents,
+                    ids,
+                    indexes,
+                };
+                self.collections.insert(ns, collection)?;
             }
         }
         append_reserved(&mut self.changes, &mut entries);
+        Ok(())
+    }
+
+    /// Gives these indexes to a collection, which is made where it is not there.
+    fn index(&mut self, ns: Namespace, indexes: Vec<Index>) -> Result<(), OutOfMemory>
+        ensures ok { OnOk result ((s : State) (given : ℕ) (s' : State) (given' : ℕ) → Represents self.old s given → Leads (Indexes ns indexes) s given s' given' → Represents self.new s' given') }
+        ensures err { OnErr result ((s : State) (given : ℕ) (s' : State) (given' : ℕ) → Represents self.old s given → Leads (Indexes ns indexes) s given s' given' → Represents self.new s given) }
+        ensures cursors { self.new.cursors ≡ self.old.cursors }
+    {
+        match self.collections.get_mut(&ns) {
+            Some(collection) => collection.put_indexes(indexes),
+            None => {
+                let mut collection = Collection::new(*indexes.allocator());
+                collection.put_indexes(indexes);
+                self.collections.insert(ns, collection)?;
+            }
+        }
         Ok(())
     }
 }
@@ -307,8 +544,8 @@ impl Content {
 impl Effect {
     /// Does what a command does. An error changes nothing.
     pub(crate) fn commit(self, content: &mut Content) -> Result<(), OutOfMemory>
-        ensures ok { OnOk result ((s : State) (given : ℕ) (s' : State) (given' : ℕ) → Represents content.old s given → Does self s given s' given' → Represents content.new s' given') }
-        ensures err { OnErr result ((s : State) (given : ℕ) (s' : State) (given' : ℕ) → Represents content.old s given → Does self s given s' given' → Represents content.new s given) }
+        ensures ok { OnOk result ((s : State) (given : ℕ) (s' : State) (given' : ℕ) → Represents content.old s given → Leads self s given s' given' → Represents content.new s' given') }
+        ensures err { OnErr result ((s : State) (given : ℕ) (s' : State) (given' : ℕ) → Represents content.old s given → Leads self s given s' given' → Represents content.new s given) }
         ensures same { OnErr result (keys content.new.cursors ≡ keys content.old.cursors) }
     {
         match self {
@@ -325,10 +562,17 @@ impl Effect {
                 }
                 Ok(())
             }
+            Effect::Take { id, count } => {
+                if let Some(cursor) = content.cursors.get_mut(&id) {
+                    cursor.place = cursor.place.saturating_add(count);
+                }
+                Ok(())
+            }
             Effect::Kill { ids } => {
                 remove_all(&mut content.cursors, &ids);
                 Ok(())
             }
+            Effect::Indexes { ns, indexes } => content.index(ns, indexes),
             Effect::Close { id } => {
                 let _cursor = content.cursors.remove(&id);
                 Ok(())

@@ -1,17 +1,17 @@
 //! What the fields of a command hold.
-ghost use Rattle.std.specs.Prelude.{◌≡◌, map, is_some, IfOk, option_and_then, option_map};
+ghost use Rattle.std.specs.Prelude.{◌≡◌, None, codes, map, is_some, IfOk, option_and_then, option_map};
 ghost use Rattle.mg_bson.specs.Find.{as_document, get};
 ghost use Rattle.mg_bson.specs.Raw.{fields, items};
 ghost use Rattle.mg_bson.specs.RawView.{value};
-ghost use Rattle.mg_link.specs.Commands.{as_integer, count_of, documents_in, flag_or, has_only, ignored, is_name_among, optional_count, text_of};
+ghost use Rattle.mg_link.specs.Commands.{as_integer, count_of, documents_in, flag_or, has_only, ignored, is_name_among, optional_count, target_by, text_of, whole_target};
 ghost use Rattle.mg_link.specs.Filter.{has_dot};
-ghost use Rattle.mg_link.specs.Namespace.{space};
+ghost use Rattle.mg_link.specs.Namespace.{database, space, target};
 ghost use Rattle.mg_link.specs.State.{is_space};
-ghost use Rattle.mg_link.specs.Rules.{array_at, id_of, ids_in, name_at, named_space};
-ghost use Rattle.mg_store.specs.Asking.{documents_among, ids_among, is_single, lent_space, only_document};
+ghost use Rattle.mg_link.specs.Rules.{array_at, id_of, ids_in, name_at, named_database, named_space, target_at, watch_space};
+ghost use Rattle.mg_store.specs.Asking.{documents_among, ids_among, is_single, lent_space, lent_target, only_document};
 
 use mg_bson::{RawArray, RawDocument, RawValue};
-use mg_link::{Namespace, OutOfMemory};
+use mg_link::{Namespace, OperationTarget, OutOfMemory};
 use std::alloc::Global;
 
 /// The most bytes of the name of a database or a collection.
@@ -24,6 +24,14 @@ pub(crate) struct LentSpace<'a> {
     pub(crate) coll: &'a str,
 }
 
+/// What a watch is aimed at, lent from the command that names it.
+#[derive(Clone, Copy)]
+pub(crate) enum LentTarget<'a> {
+    Collection(LentSpace<'a>),
+    Database(&'a str),
+    Cluster,
+}
+
 /// A namespace of its own.
 pub(crate) fn namespace(alloc: Global, lent: LentSpace<'_>) -> Result<Namespace, OutOfMemory>
     ensures { IfOk result (λ n. space n ≡ lent_space lent.entry) }
@@ -31,6 +39,42 @@ pub(crate) fn namespace(alloc: Global, lent: LentSpace<'_>) -> Result<Namespace,
     let db = String::from_str(alloc, lent.db)?;
     let coll = String::from_str(alloc, lent.coll)?;
     Ok(Namespace { db, coll })
+}
+
+/// A target of its own.
+pub(crate) fn target(alloc: Global, lent: LentTarget<'_>) -> Result<OperationTarget, OutOfMemory>
+    ensures { IfOk result (λ t. target t ≡ lent_target lent.entry) }
+{
+    match lent {
+        LentTarget::Collection(space) => {
+            Ok(OperationTarget::Collection(namespace(alloc, space)?))
+        }
+        LentTarget::Database(db) => Ok(OperationTarget::Database(String::from_str(alloc, db)?)),
+        LentTarget::Cluster => Ok(OperationTarget::Cluster),
+    }
+}
+
+/// The namespace that a watch of a whole database has.
+fn whole_namespace(alloc: Global, db: &str) -> Result<Namespace, OutOfMemory>
+    ensures { IfOk result (λ n. space n ≡ watch_space (database db.now)) }
+{
+    let db = String::from_str(alloc, db)?;
+    let coll = String::from_str(alloc, "$cmd.aggregate")?;
+    Ok(Namespace { db, coll })
+}
+
+/// The namespace that the cursor of a watch has.
+pub(crate) fn watch_namespace(
+    alloc: Global,
+    aimed: &OperationTarget,
+) -> Result<Namespace, OutOfMemory>
+    ensures { IfOk result (λ n. space n ≡ watch_space (target aimed.now)) }
+{
+    match aimed {
+        OperationTarget::Collection(ns) => Ok(ns.clone()?),
+        OperationTarget::Database(db) => whole_namespace(alloc, db),
+        OperationTarget::Cluster => whole_namespace(alloc, "admin"),
+    }
 }
 
 /// Whether both name one collection.
@@ -151,6 +195,52 @@ pub(crate) fn space_at<'a>(command: &RawDocument<'a>, field: &str) -> Option<Len
     Some(LentSpace { db, coll })
 }
 
+/// The database of the command.
+fn database_at<'a>(command: &RawDocument<'a>) -> Option<&'a str>
+    ensures { option_map (λ s. s.now) result ≡ named_database (fields command.now) }
+{
+    let db = name_at(command, "$db")?;
+    if has_dot(db) { None } else { Some(db) }
+}
+
+/// A whole database, or the cluster where the changes of all are asked for, which only `admin` may.
+fn whole_target<'a>(all: bool, db: &'a str) -> Option<LentTarget<'a>>
+    ensures { option_map lent_target result ≡ whole_target all db.now }
+{
+    if !all {
+        return Some(LentTarget::Database(db));
+    }
+    if db == "admin" {
+        Some(LentTarget::Cluster)
+    } else {
+        None
+    }
+}
+
+/// What an aggregate that names no collection is aimed at.
+fn whole_at<'a>(command: &RawDocument<'a>, all: bool, db: &'a str) -> Option<LentTarget<'a>>
+    ensures { option_map lent_target result ≡ target_by all db.now None (option_and_then as_integer (get (codes "aggregate") (fields command.now))) }
+{
+    let found = command.get("aggregate")?;
+    let number = integer_of(&found)?;
+    if number == 1 {
+        whole_target(all, db)
+    } else {
+        None
+    }
+}
+
+/// What an aggregate that opens a watch is aimed at.
+pub(crate) fn target_at<'a>(command: &RawDocument<'a>, all: bool) -> Option<LentTarget<'a>>
+    ensures { option_map lent_target result ≡ target_at (fields command.now) all }
+{
+    let db = database_at(command)?;
+    match name_at(command, "aggregate") {
+        Some(coll) => Some(LentTarget::Collection(LentSpace { db, coll })),
+        None => whole_at(command, all, db),
+    }
+}
+
 /// A whole number, in 32 or 64 bits.
 pub(crate) fn integer_of(found: &RawValue<'_>) -> Option<i64>
     ensures { result ≡ as_integer (value found.now) }
@@ -163,7 +253,7 @@ pub(crate) fn integer_of(found: &RawValue<'_>) -> Option<i64>
 }
 
 /// A number that is not negative.
-fn count_of(found: &RawValue<'_>) -> Option<u64>
+pub(crate) fn count_of(found: &RawValue<'_>) -> Option<u64>
     ensures { result ≡ count_of (value found.now) }
 {
     let n = integer_of(found)?;

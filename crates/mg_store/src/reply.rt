@@ -5,8 +5,8 @@ ghost use Rattle.mg_bson.specs.Literal.{◌⇒◌⨾◌, empty, word};
 ghost use Rattle.mg_bson.specs.Tree.{array, document, field, int32, string, timestamp};
 ghost use Rattle.mg_bson.specs.View.{tree};
 ghost use Rattle.mg_link.specs.Namespace.{space};
-ghost use Rattle.mg_link.specs.Rules.{cursor_fields, errors_field, number_of, refusal, stamp_of, token_fields, token_of, words_of};
-ghost use Rattle.mg_store.specs.Replies.{Written, killed_with};
+ghost use Rattle.mg_link.specs.Rules.{cursor_fields, done_reply, errors_field, number_of, refusal, stamp_of, token_fields, token_of, words_of};
+ghost use Rattle.mg_store.specs.Replies.{Written, killed_with, found_with};
 
 use mg_bson::{Array, Bson, BsonError, Document, RawDocumentBuf, Timestamp, to_bytes};
 use mg_link::{Namespace, OutOfMemory};
@@ -164,6 +164,22 @@ pub(crate) fn next_batch(
     with(reply, "ok", Bson::Int32(1))
 }
 
+/// The reply to a query, or to its getMore: a batch of documents, under this name.
+pub(crate) fn found(
+    alloc: Global,
+    id: i64,
+    ns: &Namespace,
+    batch: &str,
+    documents: Array,
+) -> Result<Document, OutOfMemory>
+    ensures { IfOk result (λ d. d ≡ found_with id (space ns.now) batch.now documents) }
+{
+    let cursor = begun_cursor(alloc, id, ns)?;
+    let cursor = with(cursor, batch, Bson::Array(documents))?;
+    let reply = with(Document::new(alloc), "cursor", Bson::Document(cursor))?;
+    with(reply, "ok", Bson::Int32(1))
+}
+
 /// The reply to an insert: how many documents were appended, and which were not.
 pub(crate) fn inserted(alloc: Global, n: u64, errors: Array) -> Result<Document, OutOfMemory>
     ensures { n < 2 ^ 63 → IfOk result (λ d. d ≡ ("n" ⇒ number_of n ⨾ errors_field errors ("ok" ⇒ int32 (pos 1) ⨾ empty))) }
@@ -183,6 +199,13 @@ pub(crate) fn write_error(alloc: Global, index: i32, code: i32) -> Result<Docume
     let error = with(Document::new(alloc), "index", Bson::Int32(index))?;
     let error = with(error, "code", Bson::Int32(code))?;
     with_text(alloc, error, "errmsg", "refused")
+}
+
+/// The reply that tells of success alone.
+pub(crate) fn done(alloc: Global) -> Result<Document, OutOfMemory>
+    ensures { IfOk result (λ d. d ≡ done_reply) }
+{
+    with(Document::new(alloc), "ok", Bson::Int32(1))
 }
 
 /// The reply to a killCursors.

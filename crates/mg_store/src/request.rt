@@ -1,19 +1,22 @@
 //! What a command asks of the store.
 ghost use Rattle.mg_store.specs.declared.request.Stop.TheVariants.{Memory};
-ghost use Rattle.std.specs.Prelude.{◌≡◌, IfOk, codes, map, option_map};
-ghost use Rattle.mg_bson.specs.Find.{get};
+ghost use Rattle.std.specs.Prelude.{◌≡◌, IfOk, None, Some, map, option_map, if◌then◌else◌};
 ghost use Rattle.mg_bson.specs.Raw.{fields, items, items_left};
-ghost use Rattle.mg_link.specs.Commands.{batch_size};
-ghost use Rattle.mg_link.specs.Rules.{insert_request, kill_request, more_request, request_of, some_size, watch_request};
-ghost use Rattle.mg_store.specs.Asking.{held, keyed, lent_space};
-ghost use Rattle.mg_store.specs.Wanted.{Asks, IsEnd, OrBadRequest, code_of, conditions_at, filter_behind, lent, lent_opening, lent_stages, opening_of, stages_at, stages_of, wanted, watch};
+ghost use Rattle.mg_bson.specs.RawView.{value};
+ghost use Rattle.mg_link.specs.Commands.{as_time, batch_size, start_of};
+ghost use Rattle.mg_link.specs.Rules.{insert_request, kill_request, more_request, request_of, some_size, watch_request, create_request, indexes_request, find_request, aggregate_request, pipeline_request};
+ghost use Rattle.mg_link.specs.State.{after, at_time};
+ghost use Rattle.mg_store.specs.Asking.{held, keyed, lent_target, lent_space};
+ghost use Rattle.mg_store.specs.Wanted.{Asks, IsEnd, OrBadRequest, code_of, conditions_at, filter_behind, lent, lent_opening, lent_stages, lent_start, opening_of, opening_with, stages_at, stages_of, wanted, watch, indexing_of, lent_indexing, find_space, found_of, giving_of, lent_plan, plan_of, pipeline_plan, pipeline_space, piped_of};
 
 use crate::filter::{Condition, conditions_of};
+use crate::index::{Index, indexes_in};
 use crate::reading::{
-    LentSpace, array_at, count_at, document_at, documents_of, flag_or, has_only, id_at, ids_of,
-    only_document, space_at,
+    LentSpace, LentTarget, array_at, count_at, document_at, documents_of, flag_or, has_only, id_at,
+    ids_of, only_document, space_at, target_at,
 };
-use mg_bson::{RawArray, RawDocument, RawItems, RawValue};
+use crate::stages::{Stage, find_stages, pipeline_stages};
+use mg_bson::{RawArray, RawDocument, RawItems, RawValue, Timestamp};
 use mg_link::OutOfMemory;
 use std::alloc::{AllocError, AllocFailed, Global};
 
@@ -28,6 +31,8 @@ pub(crate) enum Refusal {
     NoSuchCursor,
     /// The token names no place.
     NoSuchToken,
+    /// The collection to be created is there.
+    CollectionExists,
 }
 
 impl Refusal {
@@ -40,6 +45,7 @@ impl Refusal {
             Refusal::BadRequest => 9,
             Refusal::NoSuchCursor => 43,
             Refusal::NoSuchToken => 260,
+            Refusal::CollectionExists => 48,
         }
     }
 }
@@ -75,6 +81,43 @@ impl From<OutOfMemory> for Stop {
     }
 }
 
+/// Where a watch begins, lent from its command.
+pub(crate) enum LentStart<'a> {
+    Nowhere,
+    After(RawValue<'a>),
+    AtTime(Timestamp),
+}
+
+// By hand, so that letting one go is one call.
+impl Drop for LentStart<'_> {
+    fn drop(self) {
+        match self {
+            LentStart::Nowhere => {}
+            LentStart::After(_) => {}
+            LentStart::AtTime(_) => {}
+        }
+    }
+}
+
+/// What a query does with the documents of its source, and how it gives them.
+pub(crate) struct Plan {
+    pub(crate) stages: Vec<Stage>,
+    /// Whether one batch is asked for.
+    pub(crate) single: bool,
+    pub(crate) batch_size: Option<u64>,
+}
+
+// By hand, so that letting one go is one call.
+impl Drop for Plan {
+    fn drop(self) {
+        let Plan {
+            stages: _,
+            single: _,
+            batch_size: _,
+        } = self;
+    }
+}
+
 /// A command, taken apart.
 #[derive(Drop)]
 pub(crate) enum Request<'a> {
@@ -83,10 +126,15 @@ pub(crate) enum Request<'a> {
         documents: RawArray<'a>,
         ordered: bool,
     },
-    Watch {
+    Find {
         space: LentSpace<'a>,
+        plan: Plan,
+    },
+    Watch {
+        target: LentTarget<'a>,
         filter: Vec<Condition>,
-        resume_after: Option<RawValue<'a>>,
+        start: LentStart<'a>,
+        resumes: bool,
         batch_size: Option<u64>,
     },
     GetMore {
@@ -96,6 +144,13 @@ pub(crate) enum Request<'a> {
     },
     KillCursors {
         ids: RawArray<'a>,
+    },
+    Create {
+        space: LentSpace<'a>,
+    },
+    CreateIndexes {
+        space: LentSpace<'a>,
+        indexes: Vec<Index>,
     },
 }
 
@@ -114,6 +169,144 @@ fn insert_of<'a>(command: &RawDocument<'a>) -> Option<Request<'a>>
         documents,
         ordered,
     })
+}
+
+/// The flag and the size of a find, which say how it gives what it finds.
+fn giving_of(command: &RawDocument<'_>) -> Option<(bool, Option<u64>)>
+    ensures { result ≡ giving_of (fields command.now) }
+{
+    let single = flag_or(false, command.get("singleBatch"))?;
+    let batch_size = count_at(command, "batchSize")?;
+    Some((single, batch_size))
+}
+
+/// What a find does.
+#[tactic(auto, unfolding(crate::specs::Wanted::plan_of))]
+fn plan_of(alloc: Global, command: &RawDocument<'_>) -> Result<Option<Plan>, OutOfMemory>
+    ensures { IfOk result (λ p. option_map lent_plan p ≡ plan_of (fields command.now)) }
+{
+    let Some(stages) = find_stages(alloc, command)? else {
+        return Ok(None);
+    };
+    match giving_of(command) {
+        Some((single, batch_size)) => Ok(Some(Plan {
+            stages,
+            single,
+            batch_size,
+        })),
+        None => Ok(None),
+    }
+}
+
+/// The collection of a find whose fields are all known.
+fn find_space<'a>(command: &RawDocument<'a>) -> Option<LentSpace<'a>>
+    ensures { option_map lent_space result ≡ find_space (fields command.now) }
+{
+    if !has_only(
+        command,
+        &[
+            "find",
+            "filter",
+            "sort",
+            "skip",
+            "limit",
+            "singleBatch",
+            "batchSize",
+            "projection",
+        ],
+    ) {
+        return None;
+    }
+    space_at(command, "find")
+}
+
+#[tactic(auto, unfolding(crate::specs::Wanted::found_of))]
+fn find_parts<'a>(
+    alloc: Global,
+    command: &RawDocument<'a>,
+) -> Result<Option<Request<'a>>, OutOfMemory>
+    ensures { IfOk result (λ r. option_map lent r ≡ found_of (fields command.now)) }
+{
+    let Some(space) = find_space(command) else {
+        return Ok(None);
+    };
+    match plan_of(alloc, command)? {
+        Some(plan) => Ok(Some(Request::Find { space, plan })),
+        None => Ok(None),
+    }
+}
+
+fn find_of<'a>(alloc: Global, command: &RawDocument<'a>) -> Result<Option<Request<'a>>, OutOfMemory>
+    ensures { IfOk result (λ r. option_map lent r ≡ option_map wanted (find_request (fields command.now))) }
+{
+    find_parts(alloc, command)
+}
+
+/// The collection of a pipeline whose fields are all known.
+fn pipeline_space<'a>(command: &RawDocument<'a>) -> Option<LentSpace<'a>>
+    ensures { option_map lent_space result ≡ pipeline_space (fields command.now) }
+{
+    if !has_only(command, &["aggregate", "pipeline", "cursor"]) {
+        return None;
+    }
+    space_at(command, "aggregate")
+}
+
+/// What a pipeline does.
+fn pipeline_plan(alloc: Global, command: &RawDocument<'_>) -> Result<Option<Plan>, OutOfMemory>
+    ensures { IfOk result (λ p. option_map lent_plan p ≡ pipeline_plan (fields command.now)) }
+{
+    let Some(pipeline) = array_at(command, "pipeline") else {
+        return Ok(None);
+    };
+    let Some(stages) = pipeline_stages(alloc, &pipeline)? else {
+        return Ok(None);
+    };
+    match batch_size(command) {
+        Some(batch_size) => Ok(Some(Plan {
+            stages,
+            single: false,
+            batch_size,
+        })),
+        None => Ok(None),
+    }
+}
+
+fn pipeline_parts<'a>(
+    alloc: Global,
+    command: &RawDocument<'a>,
+) -> Result<Option<Request<'a>>, OutOfMemory>
+    ensures { IfOk result (λ r. option_map lent r ≡ piped_of (fields command.now)) }
+{
+    let Some(space) = pipeline_space(command) else {
+        return Ok(None);
+    };
+    match pipeline_plan(alloc, command)? {
+        Some(plan) => Ok(Some(Request::Find { space, plan })),
+        None => Ok(None),
+    }
+}
+
+fn pipeline_of<'a>(
+    alloc: Global,
+    command: &RawDocument<'a>,
+) -> Result<Option<Request<'a>>, OutOfMemory>
+    ensures { IfOk result (λ r. option_map lent r ≡ option_map wanted (pipeline_request (fields command.now))) }
+{
+    pipeline_parts(alloc, command)
+}
+
+/// An aggregate opens a watch, or is a query.
+fn aggregate_of<'a>(
+    alloc: Global,
+    command: &RawDocument<'a>,
+) -> Result<Option<Request<'a>>, OutOfMemory>
+    ensures { IfOk result (λ r. option_map lent r ≡ option_map wanted (aggregate_request (fields command.now))) }
+{
+    match watch_of(alloc, command)? {
+        Some(request) => Ok(Some(request)),
+        None => pipeline_of(alloc, command),
+    }
 }
 
 /// The stages of a pipeline that opens a watch: the options of the first, and the filter of a second.
@@ -187,10 +380,51 @@ fn batch_size(command: &RawDocument<'_>) -> Option<Option<u64>>
     count_at(&cursor, "batchSize")
 }
 
+/// A start at a time.
+fn start_at<'a>(found: &RawValue<'a>) -> Option<LentStart<'a>>
+    ensures { option_map lent_start result ≡ option_map at_time (as_time (value found.now)) }
+{
+    match found {
+        RawValue::Timestamp(time) => Some(LentStart::AtTime(*time)),
+        _ => None,
+    }
+}
+
+/// The start behind a token, where no other is given.
+fn start_after<'a>(token: RawValue<'a>, others: bool) -> Option<LentStart<'a>>
+    ensures { option_map lent_start result ≡ (if others then None else Some (after (value token.entry))) }
+{
+    if others {
+        None
+    } else {
+        Some(LentStart::After(token))
+    }
+}
+
+/// The start that the options name; more than one is none.
+fn start_of<'a>(options: &RawDocument<'a>) -> Option<LentStart<'a>>
+    ensures { option_map lent_start result ≡ start_of (fields options.now) }
+{
+    let start = options.get("startAfter");
+    let time = options.get("startAtOperationTime");
+    if let Some(token) = options.get("resumeAfter") {
+        return start_after(token, start.is_some() || time.is_some());
+    }
+    if let Some(token) = start {
+        return start_after(token, time.is_some());
+    }
+    match time {
+        Some(found) => start_at(&found),
+        None => Some(LentStart::Nowhere),
+    }
+}
+
 /// What an aggregate asks for but its conditions.
 struct Opening<'a> {
-    space: LentSpace<'a>,
+    target: LentTarget<'a>,
     stages: Stages<'a>,
+    start: LentStart<'a>,
+    resumes: bool,
     batch_size: Option<u64>,
 }
 
@@ -198,11 +432,64 @@ struct Opening<'a> {
 impl Drop for Opening<'_> {
     fn drop(self) {
         let Opening {
-            space: _,
+            target: _,
             stages: _,
+            start: _,
+            resumes: _,
             batch_size: _,
         } = self;
     }
+}
+
+impl<'a> Opening<'a> {
+    /// The request of the opening whose filter has these conditions.
+    fn watch_with(self, filter: Vec<Condition>) -> Request<'a>
+        ensures { lent result ≡ watch (lent_target self.entry.target) (map held filter.items) (lent_start self.entry.start) self.entry.resumes self.entry.batch_size }
+    {
+        let Opening {
+            target,
+            stages: _,
+            start,
+            resumes,
+            batch_size,
+        } = self;
+        Request::Watch {
+            target,
+            filter,
+            start,
+            resumes,
+            batch_size,
+        }
+    }
+}
+
+/// What a command with these stages opens.
+fn opening_with<'a>(command: &RawDocument<'a>, stages: Stages<'a>) -> Option<Opening<'a>>
+    ensures { option_map lent_opening result ≡ opening_with (fields command.now) (lent_stages stages.entry) }
+{
+    if !has_only(
+        &stages.options,
+        &[
+            "resumeAfter",
+            "startAfter",
+            "startAtOperationTime",
+            "allChangesForCluster",
+        ],
+    ) {
+        return None;
+    }
+    let all = flag_or(false, stages.options.get("allChangesForCluster"))?;
+    let target = target_at(command, all)?;
+    let start = start_of(&stages.options)?;
+    let resumes = stages.options.get("resumeAfter").is_some();
+    let batch_size = batch_size(command)?;
+    Some(Opening {
+        target,
+        stages,
+        start,
+        resumes,
+        batch_size,
+    })
 }
 
 #[tactic(auto, unfolding(crate::specs::Wanted::opening_of))]
@@ -212,17 +499,8 @@ fn opening_of<'a>(command: &RawDocument<'a>) -> Option<Opening<'a>>
     if !has_only(command, &["aggregate", "pipeline", "cursor"]) {
         return None;
     }
-    let space = space_at(command, "aggregate")?;
     let stages = stages_at(command)?;
-    if !has_only(&stages.options, &["resumeAfter"]) {
-        return None;
-    }
-    let batch_size = batch_size(command)?;
-    Some(Opening {
-        space,
-        stages,
-        batch_size,
-    })
+    opening_with(command, stages)
 }
 
 /// The conditions of the stages: those of their filter, and none where there is no filter.
@@ -232,18 +510,6 @@ fn conditions_in(alloc: Global, stages: &Stages<'_>) -> Result<Option<Vec<Condit
     match &stages.filter {
         Some(filter) => conditions_of(alloc, filter),
         None => Ok(Some(Vec::new(alloc))),
-    }
-}
-
-/// The request of an opening whose filter has these conditions.
-fn watch_with<'a>(opening: &Opening<'a>, filter: Vec<Condition>) -> Request<'a>
-    ensures { lent result ≡ watch (lent_space opening.now.space) (map held filter.items) (get (codes "resumeAfter") (fields opening.now.stages.options)) opening.now.batch_size }
-{
-    Request::Watch {
-        space: opening.space,
-        filter,
-        resume_after: opening.stages.options.get("resumeAfter"),
-        batch_size: opening.batch_size,
     }
 }
 
@@ -257,7 +523,7 @@ fn watch_of<'a>(
         return Ok(None);
     };
     match conditions_in(alloc, &opening.stages)? {
-        Some(filter) => Ok(Some(watch_with(&opening, filter))),
+        Some(filter) => Ok(Some(opening.watch_with(filter))),
         None => Ok(None),
     }
 }
@@ -301,6 +567,54 @@ fn kill_cursors_of<'a>(command: &RawDocument<'a>) -> Option<Request<'a>>
     Some(Request::KillCursors { ids })
 }
 
+#[tactic(auto, unfolding(mg_link::specs::Rules::create_request))]
+fn create_of<'a>(command: &RawDocument<'a>) -> Option<Request<'a>>
+    ensures { option_map lent result ≡ option_map wanted (create_request (fields command.now)) }
+{
+    if !has_only(command, &["create"]) {
+        return None;
+    }
+    let space = space_at(command, "create")?;
+    Some(Request::Create { space })
+}
+
+/// The collection that gets indexes, and what describes them.
+#[derive(Drop)]
+struct Indexing<'a> {
+    space: LentSpace<'a>,
+    indexes: RawArray<'a>,
+}
+
+#[tactic(auto, unfolding(crate::specs::Wanted::indexing_of))]
+fn indexing_of<'a>(command: &RawDocument<'a>) -> Option<Indexing<'a>>
+    ensures { option_map lent_indexing result ≡ indexing_of (fields command.now) }
+{
+    if !has_only(command, &["createIndexes", "indexes"]) {
+        return None;
+    }
+    let space = space_at(command, "createIndexes")?;
+    let indexes = array_at(command, "indexes")?;
+    Some(Indexing { space, indexes })
+}
+
+fn create_indexes_of<'a>(
+    alloc: Global,
+    command: &RawDocument<'a>,
+) -> Result<Option<Request<'a>>, OutOfMemory>
+    ensures { IfOk result (λ r. option_map lent r ≡ option_map wanted (indexes_request (fields command.now))) }
+{
+    let Some(indexing) = indexing_of(command) else {
+        return Ok(None);
+    };
+    match indexes_in(alloc, &indexing.indexes)? {
+        Some(indexes) => Ok(Some(Request::CreateIndexes {
+            space: indexing.space,
+            indexes,
+        })),
+        None => Ok(None),
+    }
+}
+
 fn or_bad_request<'a>(request: Option<Request<'a>>) -> Result<Request<'a>, Stop>
     ensures { OrBadRequest result request.entry }
 {
@@ -321,11 +635,17 @@ pub(crate) fn request_of<'a>(alloc: Global, command: &RawDocument<'a>) -> Result
     if name == "insert" {
         or_bad_request(insert_of(command))
     } else if name == "aggregate" {
-        or_bad_request(watch_of(alloc, command)?)
+        or_bad_request(aggregate_of(alloc, command)?)
     } else if name == "getMore" {
         or_bad_request(get_more_of(command))
     } else if name == "killCursors" {
         or_bad_request(kill_cursors_of(command))
+    } else if name == "find" {
+        or_bad_request(find_of(alloc, command)?)
+    } else if name == "create" {
+        or_bad_request(create_of(command))
+    } else if name == "createIndexes" {
+        or_bad_request(create_indexes_of(alloc, command)?)
     } else {
         Err(Stop::Refused(Refusal::UnknownCommand))
     }

@@ -1,5 +1,4 @@
-use Rattle.std.proofs.Common.{Some, codes, map, option_map, refl, ap, sym, ◌∙◌}
-use Rattle.mg_bson.specs.Find.{get}
+use Rattle.std.proofs.Common.{Some, map, option_map, ap, sym, ◌∙◌}
 use Rattle.mg_bson.specs.Raw.{fields}
 use Rattle.mg_store.specs.Asking.{held}
 use Rattle.mg_store.specs.Wanted.{lent_opening}
@@ -15,5 +14,4 @@ returns c = watch_unfiltered (fields c.args.command.now) (lent_opening c.in-Some
 pub returns-in-Some-2 : goal.returns-in-Some-2
 returns-in-Some-2 c =
     ap Some c.watch_with.ensures
-    ∙ watch_some (fields c.args.command.now) (lent_opening c.in-Some.opening) (map held c.in-Some-2.filter.items) (get (codes "resumeAfter") (fields c.in-Some.opening.stages.options)) c.in-Some.ensures
-    (ap (option_map (λ v. map held v.items)) (sym c.in-Some-2.is) ∙ c.in_ok-filter.ensures) refl
+    ∙ watch_some (fields c.args.command.now) (lent_opening c.in-Some.opening) (map held c.in-Some-2.filter.items) c.in-Some.ensures (ap (option_map (λ v. map held v.items)) (sym c.in-Some-2.is) ∙ c.in_ok-filter.ensures)

@@ -1,15 +1,16 @@
-use Rattle.std.proofs.Common.{◌≡◌, ℤ, map, Ok, ap, ◌∙◌, subst, option_map, rules, to_z, of_z, w64}
+use Rattle.std.proofs.Common.{◌≡◌, ℤ, map, Ok, sym, ap, ◌∙◌, subst, rules, to_z, of_z, w64}
 use mir.Val.{SFits}
 use Rattle.std.proofs.lemmas.Int.{to_z-of_z}
 use Rattle.std.proofs.lemmas.Result.{err_from_is_err_and}
 use Rattle.mg_bson.specs.Raw.{items}
-use Rattle.mg_bson.specs.RawView.{value}
 use Rattle.mg_link.specs.Namespace.{space}
-use Rattle.mg_store.specs.Asking.{documents_among, held, ids_among, lent_space}
+use Rattle.mg_store.specs.Asking.{documents_among, held, ids_among, lent_space, lent_target}
 use Rattle.mg_link.specs.Rules.{more}
+use Rattle.mg_store.specs.Indexing.{index_held}
 use Rattle.mg_store.specs.Contents.{Settles}
-use Rattle.mg_store.specs.Wanted.{lent}
-use Rattle.mg_store.proofs.Requesting.{insert_answers, kill_answers, more_answers, stops_answer, watch_answers}
+use Rattle.mg_store.specs.Wanted.{lent, lent_start}
+use Rattle.mg_store.proofs.Requesting.{insert_answers, kill_answers, more_answers, stops_answer, watch_answers, create_answers, indexes_answer, find_answers}
+use Rattle.mg_store.specs.Querying.{held_stage}
 use Rattle.mg_store.proofs.perform.Content.answer_request.Goals as goal
 
 pub returns-in_err-space : goal.returns-in_err-space
@@ -22,10 +23,10 @@ returns-in_ok-namespace-in-Insert c s given h =
     insert_answers s given c.args.command.now (lent_space c.in-Insert.space) (space c.in_ok-namespace-in-Insert.field-0) (documents_among (items c.in-Insert.documents)) c.in-Insert.ordered c.answer_insert.result
     (c.in_ok-space.ensures ∙ ap (λ r. Ok (lent r)) c.in-Insert.is) c.in_ok-namespace-in-Insert.ensures (c.answer_insert.ensures s given h)
 
-pub returns-in_ok-ns-in-Watch : goal.returns-in_ok-ns-in-Watch
-returns-in_ok-ns-in-Watch c s given h =
-    watch_answers s given c.args.command.now (lent_space c.in-Watch.space) (space c.in_ok-ns-in-Watch.ns) (map held c.in-Watch.filter.items) (option_map value c.in-Watch.resume_after) c.in-Watch.batch_size c.answer_watch.result
-    (c.in_ok-space.ensures ∙ ap (λ r. Ok (lent r)) c.in-Watch.is) c.in_ok-ns-in-Watch.ensures (λ filter keys. c.answer_watch.ensures s given filter h keys)
+pub returns-in_ok-target-in-Watch : goal.returns-in_ok-target-in-Watch
+returns-in_ok-target-in-Watch c s given h =
+    watch_answers s given c.args.command.now (lent_target c.in-Watch.aimed) (map held c.in-Watch.filter.items) (lent_start c.in-Watch.start) c.in-Watch.resumes c.in-Watch.batch_size c.answer_watch.result
+    (c.in_ok-space.ensures ∙ ap (λ r. Ok (lent r)) c.in-Watch.is) (λ w at keys. c.answer_watch.ensures s given w h (record { target_is = at ∙ sym c.in_ok-target-in-Watch.ensures; filter_is = keys }))
 
 pub returns-in_ok-namespace-in-GetMore : goal.returns-in_ok-namespace-in-GetMore
 returns-in_ok-namespace-in-GetMore c s given h =
@@ -37,3 +38,18 @@ returns-in_ok-namespace-in-GetMore c s given h =
 pub returns-in-KillCursors : goal.returns-in-KillCursors
 returns-in-KillCursors c s given h =
     kill_answers s given c.args.command.now (ids_among (items c.in-KillCursors.ids)) c.answer_kill.result (c.in_ok-space.ensures ∙ ap (λ r. Ok (lent r)) c.in-KillCursors.is) (c.answer_kill.ensures s given h)
+
+pub returns-in_ok-namespace-in-Find : goal.returns-in_ok-namespace-in-Find
+returns-in_ok-namespace-in-Find c s given h =
+    find_answers s given c.args.command.now (lent_space c.in-Find.space) (space c.in_ok-namespace-in-Find.field-0) (map held_stage c.in-Find.plan.stages.items) c.in-Find.plan.single c.in-Find.plan.batch_size c.answer_find.result
+    (c.in_ok-space.ensures ∙ ap (λ r. Ok (lent r)) c.in-Find.is) c.in_ok-namespace-in-Find.ensures (λ stages same. c.answer_find.ensures s given stages h same)
+
+pub returns-in_ok-namespace-in-Create : goal.returns-in_ok-namespace-in-Create
+returns-in_ok-namespace-in-Create c s given h =
+    create_answers s given c.args.command.now (lent_space c.in-Create.space) (space c.in_ok-namespace-in-Create.field-0) c.answer_create.result
+    (c.in_ok-space.ensures ∙ ap (λ r. Ok (lent r)) c.in-Create.is) c.in_ok-namespace-in-Create.ensures (c.answer_create.ensures s given h)
+
+pub returns-in_ok-namespace-in-CreateIndexes : goal.returns-in_ok-namespace-in-CreateIndexes
+returns-in_ok-namespace-in-CreateIndexes c s given h =
+    indexes_answer s given c.args.command.now (lent_space c.in-CreateIndexes.space) (space c.in_ok-namespace-in-CreateIndexes.field-0) (map index_held c.in-CreateIndexes.indexes.items) c.answer_create_indexes.result
+    (c.in_ok-space.ensures ∙ ap (λ r. Ok (lent r)) c.in-CreateIndexes.is) c.in_ok-namespace-in-CreateIndexes.ensures (c.answer_create_indexes.ensures s given h)

@@ -1,4 +1,4 @@
-use Rattle.std.proofs.Common.{◌≡◌, List, [], ◌++◌, length, Option, Some, None, option_map, refl, sym, ap, ◌∙◌, subst}
+use Rattle.std.proofs.Common.{◌≡◌, List, [], ◌++◌, length, map, Option, Some, None, option_map, refl, sym, ap, ◌∙◌, subst}
 use Rattle.std.specs.declared.alloc.Global.{Global}
 use Rattle.std.specs.Prelude.{if◌then◌else◌, unwrap_or, ℕ, Vec}
 use Rattle.std.specs.BTreeMap.{BTreeMap}
@@ -7,8 +7,9 @@ use Rattle.mg_bson.specs.Tree.{Fields}
 use Rattle.mg_link.specs.Namespace.{space}
 use Rattle.mg_link.specs.State.{is_space}
 use Rattle.mg_link.specs.Step.{documents_of}
-use Rattle.mg_store.specs.Contents.{Does, collection_at}
-use Rattle.mg_store.specs.Inserting.{AreApart, HasIds, new_documents, stored}
+use Rattle.mg_store.specs.Contents.{Leads, collection_at}
+use Rattle.mg_store.specs.Inserting.{AreApart, HasIds, indexed, new_documents, stored}
+use Rattle.mg_store.specs.Indexing.{index_held}
 use Rattle.mg_store.specs.declared.change.ChangeEntry.{ChangeEntry}
 use Rattle.mg_store.specs.declared.insert.Collection.{Collection}
 use Rattle.mg_store.specs.declared.insert.Appended.{Appended}
@@ -31,21 +32,21 @@ returns-in_err-append-in-Some-clause-err c =
     let p = err_from_is_err_and c.from_residual-in_err-append-in-Some.result c.from_residual-in_err-append-in-Some.ensures.1 in
     rw p.1 (λ s given s' given' h does.
     let a : Appended = record c.args.appended { documents = c.into_parts-documents.result.0; ids = c.into_parts-documents.result.1; entries = c.into_parts-documents.result.2 } in
-    let d = subst (λ (x : Appended). Does (Insert c.args.ns x) s given s' given') (of_parts c.args.appended a.documents a.ids a.entries c.into_parts-documents.ensures.documents c.into_parts-documents.ensures.ids c.into_parts-documents.ensures.entries) does in
+    let d = subst (λ (x : Appended). Leads (Insert c.args.ns x) s given s' given') (of_parts c.args.appended a.documents a.ids a.entries c.into_parts-documents.ensures.documents c.into_parts-documents.ensures.ids c.into_parts-documents.ensures.entries) does in
     let old : Collection = c.in-Some.collection.now in
     let found : collection_at c.args.self.now.collections (space c.args.ns) ≡ Some old = sym (found_at c.args.ns c.args.self.now.collections) ∙ sym c.in-Some.ensures.value in
     let there : documents_of s (space c.args.ns) ≡ stored old = ap (λ (x : Option (List Fields)). unwrap_or x []) (h.documents_are (space c.args.ns) ∙ ap (option_map stored) found) in
     let w : Collection = c.append.new.self in
     let writes = c.get_mut.follows.holds w in
     let updates = writes.3 (some_of _ old c.in-Some.ensures.value) in
-    insert_undone c.args.self.now _ s given c.args.ns old w h found (collections_update c.args.ns w c.args.self.now.collections (c.get_mut.follows.lender w) updates) c.in_err-append-in-Some.ensures.err
-    (c.append.ensures.ids (h.ids_are (space c.args.ns) old found) (subst (λ (l : List Fields). HasIds a.ids (length l) (new_documents a)) there d.0.ids_are) (subst (λ (l : List Fields). AreApart l (new_documents a)) there d.0.apart))
+    insert_undone c.args.self.now _ s given c.args.ns old w h found (collections_update c.args.ns w c.args.self.now.collections (c.get_mut.follows.lender w) updates) c.in_err-append-in-Some.ensures.err c.append.ensures.indexes
+    (c.append.ensures.ids (h.ids_are (space c.args.ns) old found) (subst (λ (l : List Fields). HasIds a.ids (length l) (new_documents a)) there d.0.0.ids_are) (subst (λ (l : List Fields). AreApart l (new_documents a)) there d.0.0.apart))
     c.in_ok-reserve.ensures.items refl refl)
 
 pub returns-clause-ok : goal.returns-clause-ok
 returns-clause-ok c s given s' given' h does =
     let a : Appended = record c.args.appended { documents = c.into_parts-documents.result.0; ids = c.into_parts-documents.result.1; entries = c.into_parts-documents.result.2 } in
-    let d = subst (λ (x : Appended). Does (Insert c.args.ns x) s given s' given') (of_parts c.args.appended a.documents a.ids a.entries c.into_parts-documents.ensures.documents c.into_parts-documents.ensures.ids c.into_parts-documents.ensures.entries) does in
+    let d = subst (λ (x : Appended). Leads (Insert c.args.ns x) s given s' given') (of_parts c.args.appended a.documents a.ids a.entries c.into_parts-documents.ensures.documents c.into_parts-documents.ensures.ids c.into_parts-documents.ensures.entries) does in
     elim c.match-get_mut.branch [
       | in-Some+in_ok-append-in-Some w ↦
           let old : Collection = w.in-Some.collection.now in
@@ -57,18 +58,20 @@ returns-clause-ok c s given s' given' h does =
           does_insert c.args.self.now _ s s' given given' c.args.ns a made h d
           (λ sp. ap (λ (x : Content). collection_at x.collections sp) w.self-is ∙ collections_update c.args.ns made c.args.self.now.collections (c.get_mut.follows.lender made) updates sp)
           (w.in_ok-append-in-Some.ensures.ok ∙ ap (λ (l : List Fields). l ++ new_documents a) (sym there))
-          (w.append.ensures.ids (h.ids_are (space c.args.ns) old found) (subst (λ (l : List Fields). HasIds a.ids (length l) (new_documents a)) there d.0.ids_are) (subst (λ (l : List Fields). AreApart l (new_documents a)) there d.0.apart))
+          (ap (λ v. map index_held v.items) w.append.ensures.indexes ∙ ap indexed (sym found))
+          (w.append.ensures.ids (h.ids_are (space c.args.ns) old found) (subst (λ (l : List Fields). HasIds a.ids (length l) (new_documents a)) there d.0.0.ids_are) (subst (λ (l : List Fields). AreApart l (new_documents a)) there d.0.0.apart))
           (c.append_reserved.ensures ∙ ap (λ (l : List ChangeEntry). l ++ a.entries.items) (ap (λ (x : Content). x.changes.items) w.self-is ∙ c.in_ok-reserve.ensures.items))
           (ap (λ (x : Content). x.cursors) w.self-is) (ap (λ (x : Content). x.given) w.self-is)
       | in-None+in_ok-insert-in-None w ↦
           let none : collection_at c.args.self.now.collections (space c.args.ns) ≡ None = sym (found_at c.args.ns c.args.self.now.collections) ∙ sym w.in-None.ensures.value in
           let there : documents_of s (space c.args.ns) ≡ [] = ap (λ (x : Option (List Fields)). unwrap_or x []) (h.documents_are (space c.args.ns) ∙ ap (option_map stored) none) in
-          let made : Collection = record { documents = a.documents; ids = a.ids } in
+          let made : Collection = record { documents = a.documents; ids = a.ids; indexes = w.new-indexes.result } in
           does_insert c.args.self.now _ s s' given given' c.args.ns a made h d
           (λ sp. ap (λ (x : Content). collection_at x.collections sp) w.self-is ∙ collections_update c.args.ns made c.get_mut.follows.lender-at-none w.insert.new.self w.in_ok-insert-in-None.ensures.updates sp
           ∙ ap (λ m. if is_space sp (space c.args.ns) then Some made else collection_at m sp) c.get_mut.follows.holds-at-none)
           (ap (λ (l : List Fields). l ++ new_documents a) (sym there))
-          (subst (λ (l : List Fields). HasIds a.ids (length l) (new_documents a)) there d.0.ids_are)
+          (ap (map index_held) w.new-indexes.ensures.items ∙ ap indexed (sym none))
+          (subst (λ (l : List Fields). HasIds a.ids (length l) (new_documents a)) there d.0.0.ids_are)
           (c.append_reserved.ensures ∙ ap (λ (l : List ChangeEntry). l ++ a.entries.items) (ap (λ (x : Content). x.changes.items) w.self-is ∙ c.in_ok-reserve.ensures.items))
           (ap (λ (x : Content). x.cursors) w.self-is) (ap (λ (x : Content). x.given) w.self-is)
     ]

@@ -1,7 +1,10 @@
-use Rattle.std.proofs.Common.{refl, subst}
-use Rattle.mg_store.specs.Contents.{Does}
+use Rattle.std.proofs.Common.{refl, subst, rules, w64}
+use mir.Val.{SFits}
+use Rattle.std.proofs.lemmas.Int.{to_z-of_z}
+use Rattle.mg_store.specs.Contents.{Leads}
+use Rattle.mg_store.specs.declared.cursor.Cursor as code
 use Rattle.mg_store.specs.declared.perform.Effect.{Effect}
-use Rattle.mg_store.proofs.Committing.{does_kill}
+use Rattle.mg_store.proofs.Committing.{does_kill, does_take, some_of}
 use Rattle.mg_store.proofs.perform.Effect.commit.Goals as goal
 
 pub returns-in-Insert-clause-ok : goal.returns-in-Insert-clause-ok
@@ -12,5 +15,21 @@ returns-in-Insert-clause-err c = rw c.in-Insert.is c.append.ensures.err
 
 pub returns-in-Kill-clause-ok : goal.returns-in-Kill-clause-ok
 returns-in-Kill-clause-ok c s given s' given' h does =
-    let d = subst (λ (e : Effect). Does e s given s' given') c.in-Kill.is does in
-    does_kill c.args.content.now _ s s' given given' c.in-Kill.ids.items h d.documents_are d.changes_are d.cursors_are d.given_are refl refl refl c.remove_all.ensures
+    let d = subst (λ (e : Effect). Leads e s given s' given') c.in-Kill.is does in
+    does_kill c.args.content.now _ s s' given given' c.in-Kill.ids.items h d.0.documents_are d.1 d.0.changes_are d.0.cursors_are d.0.given_are refl refl refl c.remove_all.ensures
+
+pub returns-in-Some-get_mut-clause-ok : goal.returns-in-Some-get_mut-clause-ok
+returns-in-Some-get_mut-clause-ok c s given s' given' h does =
+    let d = subst (λ (e : Effect). Leads e s given s' given') c.in-Take.is does in
+    let fits : SFits w64 c.in-Take.id = search rules in
+    let old : code.Cursor = c.in-Some-get_mut.cursor.now in
+    let new : code.Cursor = record old { place = c.saturating_add-cursor.result } in
+    let writes = c.get_mut-in-Take.follows.holds new in
+    let updates = writes.3 (some_of _ old c.in-Some-get_mut.ensures.value) in
+    does_take c.args.content.now _ s s' given given' c.in-Take.id _ c.in-Take.count c.saturating_add-cursor.result old h d (to_z-of_z w64 c.in-Take.id fits) c.in-Some-get_mut.ensures.value c.saturating_add-cursor.ensures refl refl refl updates.0
+
+pub returns-in-Indexes-clause-ok : goal.returns-in-Indexes-clause-ok
+returns-in-Indexes-clause-ok c = rw c.in-Indexes.is c.index.ensures.ok
+
+pub returns-in-Indexes-clause-err : goal.returns-in-Indexes-clause-err
+returns-in-Indexes-clause-err c = rw c.in-Indexes.is c.index.ensures.err

@@ -1,0 +1,119 @@
+-- What a query finds, by the stages that the code holds.
+use Rattle.std.proofs.Common.{◌≡◌, ℕ, Bool, true, false, List, [], ◌∷◌, Option, Some, None, option_map, option_and_then, codes, map, Err, refl, sym, ap, ap₂, ◌∙◌, subst}
+use Rattle.std.specs.Prelude.{if◌then◌else◌}
+use Rattle.std.specs.List.{filter}
+use Rattle.mg_bson.specs.Tree.{Fields, Items}
+use Rattle.mg_bson.specs.Find.{get}
+use Rattle.mg_bson.specs.Reading.{◌>>=◌}
+use Rattle.mg_link.specs.Namespace.{Space}
+use Rattle.mg_link.specs.Filter.{Condition, matches}
+use Rattle.mg_link.specs.Commands.{batch_size, documents_in, find_fields, find_stages, flag_or, has_only, optional_count, pipeline_fields, pipeline_of, query_by}
+use Rattle.mg_link.specs.Query.{Stage, selects, sorts, skips, limits, shows_id, hides_id, of_collection, result, staged, through}
+use Rattle.mg_link.specs.State.{State}
+use Rattle.mg_link.specs.Step.{documents_of}
+use Rattle.mg_link.specs.Rules as rules
+use Rattle.mg_link.specs.Rules.{array_at, find_request, named_space, or_request, pipeline_request, refused}
+use Rattle.mg_store.specs.Asking.{keyed, matches_keys}
+use Rattle.mg_store.specs.Contents.{Misses, Settles}
+use Rattle.mg_store.specs.Querying.{Doing, Results, all_done, doing, done, pipeline_doing}
+use Rattle.mg_store.specs.Wanted.{Plan, Wanted, code_of, find, found_of, piped_of, plan_of, wanted}
+use Rattle.mg_store.specs.declared.request.Refusal.{Refusal}
+use Rattle.mg_store.specs.declared.request.Stop.{Stop}
+use Rattle.mg_store.specs.declared.request.Stop.TheVariants as stops
+use Rattle.mg_store.proofs.Holdings.{find_refused}
+use Rattle.mg_store.proofs.Seeing.{matches_by_keys}
+
+-- ---- reading
+
+abbrev givings : Option Bool → Option (Option ℕ) → Option (Bool × Option ℕ)
+givings sg sz = sg >>= λ single. sz >>= λ size. Some (single, size)
+
+abbrev with_giving : List Doing → Bool × Option ℕ → Option Plan
+with_giving stages giving = Some (record { stages = stages; single = giving.0; size = giving.1 })
+
+abbrev with_plan : Space → Plan → Option Wanted
+with_plan space plan = Some (find (of_collection space) plan.stages plan.single plan.size)
+
+planned : (b : Bool) (a : Option Space) (st : Option (List Stage)) (sg : Option Bool) (sz : Option (Option ℕ))
+    → ((if b then a else None) >>= λ space. (option_map (map doing) st >>= λ stages. givings sg sz >>= with_giving stages) >>= with_plan space)
+    ≡ option_map wanted (if b then (a >>= (λ space. st >>= λ stages. sg >>= λ single. sz >>= λ size. Some (query_by (of_collection space) single stages size)) >>= λ q. Some (rules.find q)) else None)
+planned false a st sg sz = refl
+planned true None st sg sz = refl
+planned true (Some space) None sg sz = refl
+planned true (Some space) (Some stages) None sz = refl
+planned true (Some space) (Some stages) (Some single) None = refl
+planned true (Some space) (Some stages) (Some single) (Some size) = refl
+
+-- the parts of a find are those of the rules' request
+pub found_is : (fs : Fields) → found_of fs ≡ option_map wanted (find_request fs)
+unfolding found_of plan_of find_request
+found_is fs = planned (has_only find_fields fs) (named_space (codes "find") fs) (find_stages fs) (flag_or false (get (codes "singleBatch") fs)) (optional_count (get (codes "batchSize") fs))
+
+-- ---- pipelines
+
+piped_same : (b : Bool) (a : Option Space) (items : Option Items) (sz : Option (Option ℕ))
+    → ((if b then a else None) >>= λ space. (items >>= pipeline_doing >>= λ stages. sz >>= λ size. Some (record { stages = stages; single = false; size = size })) >>= with_plan space)
+    ≡ option_map wanted (if b then (a >>= (λ space. option_and_then documents_in items >>= pipeline_of >>= λ stages. sz >>= λ size. Some (query_by (of_collection space) false stages size)) >>= λ q. Some (rules.find q)) else None)
+piped_same false a items sz = refl
+piped_same true None items sz = refl
+piped_same true (Some space) None sz = refl
+piped_same true (Some space) (Some ts) sz = sized (documents_in ts >>= pipeline_of) sz
+  where
+    sized : (o : Option (List Stage)) (z : Option (Option ℕ)) → ((option_map (map doing) o >>= λ stages. z >>= λ size. Some (record { stages = stages; single = false; size = size })) >>= with_plan space)
+        ≡ option_map wanted ((o >>= λ stages. z >>= λ size. Some (query_by (of_collection space) false stages size)) >>= λ q. Some (rules.find q))
+    sized None z = refl
+    sized (Some stages) None = refl
+    sized (Some stages) (Some size) = refl
+
+pub piped_is : (fs : Fields) → piped_of fs ≡ option_map wanted (pipeline_request fs)
+unfolding pipeline_request
+piped_is fs = piped_same (has_only pipeline_fields fs) (named_space (codes "aggregate") fs) (array_at (codes "pipeline") fs) (batch_size fs)
+
+-- an aggregate that opens a watch
+pub watch_first : (a b : Option rules.Request) (w : Wanted) → Some w ≡ option_map wanted a → Some w ≡ option_map wanted (or_request a b)
+watch_first None b w e = absurd cc
+watch_first (Some r) b w e = e
+
+-- and one that is a query
+pub query_second : (a b : Option rules.Request) → None ≡ option_map wanted a → or_request a b ≡ b
+query_second None b e = refl
+query_second (Some r) b e = absurd cc
+
+-- ---- stages
+
+filter_same : (cs : List Condition) (ds : List Fields) → filter (matches_keys (map keyed cs)) ds ≡ filter (matches cs) ds
+filter_same cs [] = refl
+filter_same cs (d ∷ ds) = ap (λ (b : Bool). if b then d ∷ filter (matches_keys (map keyed cs)) ds else filter (matches_keys (map keyed cs)) ds) (matches_by_keys cs d) ∙ ap (λ l. if matches cs d then d ∷ l else l) (filter_same cs ds)
+
+stage_same : (stage : Stage) (ds : List Fields) → done (doing stage) ds ≡ staged stage ds
+stage_same (selects cs) ds = ap Some (filter_same cs ds)
+stage_same (sorts keys) ds = refl
+stage_same (skips n) ds = refl
+stage_same (limits n) ds = refl
+stage_same shows_id ds = refl
+stage_same hides_id ds = refl
+
+then_same : (stages : List Stage) (o : Option (List Fields)) → ((ds : List Fields) → all_done (map doing stages) ds ≡ through stages ds) → option_and_then (all_done (map doing stages)) o ≡ option_and_then (through stages) o
+then_same stages None h = refl
+then_same stages (Some ds) h = h ds
+
+-- the stages do what those of the rules do
+pub stages_same : (stages : List Stage) (ds : List Fields) → all_done (map doing stages) ds ≡ through stages ds
+stages_same [] ds = refl
+stages_same (stage ∷ stages) ds = ap (option_and_then (all_done (map doing stages))) (stage_same stage ds) ∙ then_same stages (staged stage ds) (stages_same stages)
+
+-- ---- results
+
+-- what a query of a collection finds
+pub collection_found : (s : State) (sp : Space) (stages : List Stage) (single : Bool) (size : Option ℕ) (steps : List Doing) (rows : List Fields) (found : List Fields) → steps ≡ map doing stages → rows ≡ documents_of s sp → all_done steps rows ≡ Some found
+    → result s (query_by (of_collection sp) single stages size) ≡ Some found
+unfolding result
+collection_found s sp stages single size steps rows found same there is = sym (stages_same stages (documents_of s sp)) ∙ ap₂ all_done (sym same) (sym there) ∙ is
+
+pub find_stops : (s : State) (given : ℕ) (sp : Space) (stages : List Stage) (single : Bool) (size : Option ℕ) (steps : List Doing) (rows : List Fields) (stop : Stop) → steps ≡ map doing stages → rows ≡ documents_of s sp → Results (Err stop) (all_done steps rows)
+    → Settles s given (rules.find (query_by (of_collection sp) single stages size)) (Err stop)
+find_stops s given sp stages single size steps rows stops.Memory same there is = tt
+find_stops s given sp stages single size steps rows (stops.Refused refusal) same there is = (
+  find_refused s given (query_by (of_collection sp) single stages size) (documents_of s sp) refl (sym (stages_same stages (documents_of s sp)) ∙ ap₂ all_done (sym same) (sym there) ∙ is.1) ∙ ap (λ (x : Refusal). refused (code_of x)) (sym is.0),
+  subst (λ (x : Refusal). Misses s x (rules.find (query_by (of_collection sp) single stages size))) (sym is.0) tt,
+)

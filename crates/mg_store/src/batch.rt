@@ -1,0 +1,78 @@
+//! Batches of the documents that a query found.
+ghost use Rattle.std.specs.Prelude.{◌≡◌, IfOk, drop, length, map};
+ghost use Rattle.mg_bson.specs.Bytes.{bytes};
+ghost use Rattle.mg_bson.specs.Raw.{fields};
+ghost use Rattle.mg_store.specs.Querying.{GivesDocuments};
+
+use crate::change::MAX_BATCH;
+use crate::reply::put_item;
+use mg_bson::{Array, Bson, Document, RawDocumentBuf, to_bytes, to_document};
+use mg_link::OutOfMemory;
+use std::alloc::Global;
+
+/// The documents of a batch, how many they are, and whether none is left behind them.
+#[derive(Drop)]
+pub(crate) struct Batch {
+    pub(crate) documents: Array,
+    pub(crate) count: u64,
+    pub(crate) is_last: bool,
+}
+
+fn tree_of(alloc: Global, document: &RawDocumentBuf) -> Result<Document, OutOfMemory>
+    ensures { IfOk result (λ d. d ≡ fields document.now) }
+{
+    match to_document(alloc, document.as_raw()) {
+        Ok(tree) => Ok(tree),
+        Err(_) => Err(OutOfMemory),
+    }
+}
+
+/// The length of a document as a reply has it. What was found can always be encoded.
+fn length_of(alloc: Global, document: &Document) -> Result<usize, OutOfMemory>
+    ensures { IfOk result (λ n. n ≡ length (bytes document.now)) }
+{
+    match to_bytes(alloc, document) {
+        Ok(bytes) => Ok(bytes.as_bytes().len()),
+        Err(_) => Err(OutOfMemory),
+    }
+}
+
+/// The batch that begins behind the first so many documents: at most so many, and not more than fit a batch.
+pub(crate) fn batch_from(
+    alloc: Global,
+    documents: &[RawDocumentBuf],
+    from: usize,
+    size: u64,
+) -> Result<Batch, OutOfMemory>
+    ensures { IfOk result (GivesDocuments (drop from (map fields documents.now)) size) }
+{
+    let mut given = Array::new(alloc);
+    let mut room = MAX_BATCH;
+    let mut left = size;
+    for place in from..documents.len() {
+        if left == 0 {
+            return Ok(Batch {
+                documents: given,
+                count: size,
+                is_last: false,
+            });
+        }
+        let document = tree_of(alloc, &documents[place])?;
+        let len = length_of(alloc, &document)?;
+        if left < size && room < len {
+            return Ok(Batch {
+                documents: given,
+                count: size - left,
+                is_last: false,
+            });
+        }
+        put_item(&mut given, Bson::Document(document))?;
+        room = room.saturating_sub(len);
+        left -= 1;
+    }
+    Ok(Batch {
+        documents: given,
+        count: size - left,
+        is_last: true,
+    })
+}

@@ -1,0 +1,192 @@
+//! The documents that a query finds.
+ghost use Rattle.std.specs.Prelude.{◌≡◌, IfOk, Some, codes, drop, map, take};
+ghost use Rattle.std.specs.List.{filter};
+ghost use Rattle.mg_bson.specs.Find.{get, without};
+ghost use Rattle.mg_bson.specs.Raw.{fields};
+ghost use Rattle.mg_bson.specs.RawView.{value};
+ghost use Rattle.mg_link.specs.Query.{id_alone};
+ghost use Rattle.mg_store.specs.Asking.{held, matches_keys};
+ghost use Rattle.mg_store.specs.Querying.{Results, all_done, done, held_key, held_stage, sorts};
+
+use crate::filter::{Condition, matches};
+use crate::reply::with;
+use crate::request::{Refusal, Stop};
+use crate::sort::{can_sort, sorted};
+use crate::stages::{Key, Stage};
+use crate::store::copy;
+use mg_bson::{Bson, Document, RawDocumentBuf, RawValue, to_bytes, to_document};
+use mg_link::OutOfMemory;
+use std::alloc::Global;
+
+/// Copies of the documents that meet each condition.
+fn selected(
+    alloc: Global,
+    conditions: &Vec<Condition>,
+    documents: &[RawDocumentBuf],
+) -> Result<Vec<RawDocumentBuf>, OutOfMemory>
+    ensures { IfOk result (λ r. map fields r.items ≡ filter (matches_keys (map held conditions.now.items)) (map fields documents.now)) }
+{
+    let mut selected = Vec::new(alloc);
+    for document in documents {
+        let document = document.as_raw();
+        if matches(alloc, conditions, &document)? {
+            selected.push(copy(alloc, &document)?)?;
+        }
+    }
+    Ok(selected)
+}
+
+fn copies(alloc: Global, documents: &[RawDocumentBuf]) -> Result<Vec<RawDocumentBuf>, OutOfMemory>
+    ensures { IfOk result (λ r. map fields r.items ≡ map fields documents.now) }
+{
+    let mut copies = Vec::new(alloc);
+    for document in documents {
+        copies.push(copy(alloc, &document.as_raw())?)?;
+    }
+    Ok(copies)
+}
+
+/// The documents behind the first so many.
+fn behind(documents: &[RawDocumentBuf], n: u64) -> &[RawDocumentBuf]
+    ensures { result.now ≡ drop n documents.now }
+{
+    let from = n.min(documents.len() as u64) as usize;
+    &documents[from..]
+}
+
+/// The first so many documents.
+fn front(documents: &[RawDocumentBuf], n: u64) -> &[RawDocumentBuf]
+    ensures { result.now ≡ take n documents.now }
+{
+    let upto = n.min(documents.len() as u64) as usize;
+    &documents[..upto]
+}
+
+/// The bytes of a part of a document, which can always be encoded.
+fn encoded(alloc: Global, document: &Document) -> Result<RawDocumentBuf, OutOfMemory>
+    ensures { IfOk result (λ r. fields r ≡ document.now) }
+{
+    match to_bytes(alloc, document) {
+        Ok(bytes) => Ok(bytes),
+        Err(_) => Err(OutOfMemory),
+    }
+}
+
+fn id_document(alloc: Global, id: &RawValue<'_>) -> Result<Document, OutOfMemory>
+    ensures { IfOk result (λ d. d ≡ id_alone (Some (value id.now))) }
+{
+    match id.to_value(alloc) {
+        Ok(id) => with(Document::new(alloc), "_id", id),
+        Err(_) => Err(OutOfMemory),
+    }
+}
+
+/// The document with its `_id` alone.
+fn with_id_alone(alloc: Global, document: &RawDocumentBuf) -> Result<RawDocumentBuf, OutOfMemory>
+    ensures { IfOk result (λ r. fields r ≡ id_alone (get (codes "_id") (fields document.now))) }
+{
+    let shown = match document.as_raw().get("_id") {
+        Some(id) => id_document(alloc, &id)?,
+        None => Document::new(alloc),
+    };
+    encoded(alloc, &shown)
+}
+
+/// The document without its `_id`.
+fn without_id(alloc: Global, document: &RawDocumentBuf) -> Result<RawDocumentBuf, OutOfMemory>
+    ensures { IfOk result (λ r. fields r ≡ without (codes "_id") (fields document.now)) }
+{
+    match to_document(alloc, document.as_raw()) {
+        Ok(mut shown) => {
+            let _id = shown.remove("_id");
+            encoded(alloc, &shown)
+        }
+        Err(_) => Err(OutOfMemory),
+    }
+}
+
+fn with_ids_alone(
+    alloc: Global,
+    documents: &[RawDocumentBuf],
+) -> Result<Vec<RawDocumentBuf>, OutOfMemory>
+    ensures { IfOk result (λ r. map fields r.items ≡ map (λ d. id_alone (get (codes "_id") d)) (map fields documents.now)) }
+{
+    let mut shown = Vec::new(alloc);
+    for document in documents {
+        shown.push(with_id_alone(alloc, document)?)?;
+    }
+    Ok(shown)
+}
+
+fn without_ids(
+    alloc: Global,
+    documents: &[RawDocumentBuf],
+) -> Result<Vec<RawDocumentBuf>, OutOfMemory>
+    ensures { IfOk result (λ r. map fields r.items ≡ map (without (codes "_id")) (map fields documents.now)) }
+{
+    let mut shown = Vec::new(alloc);
+    for document in documents {
+        shown.push(without_id(alloc, document)?)?;
+    }
+    Ok(shown)
+}
+
+fn ordered(
+    alloc: Global,
+    keys: &Vec<Key>,
+    documents: &[RawDocumentBuf],
+) -> Result<Vec<RawDocumentBuf>, Stop>
+    ensures { Results result (done (sorts (map held_key keys.now.items)) (map fields documents.now)) }
+{
+    if !can_sort(keys, documents) {
+        return Err(Stop::Refused(Refusal::BadRequest));
+    }
+    Ok(sorted(alloc, keys, documents)?)
+}
+
+/// What one stage makes of the documents.
+fn staged(
+    alloc: Global,
+    stage: &Stage,
+    documents: &[RawDocumentBuf],
+) -> Result<Vec<RawDocumentBuf>, Stop>
+    ensures { Results result (done (held_stage stage.now) (map fields documents.now)) }
+{
+    match stage {
+        Stage::Select(conditions) => Ok(selected(alloc, conditions, documents)?),
+        Stage::Sort(keys) => ordered(alloc, keys, documents),
+        Stage::Skip(n) => Ok(copies(alloc, behind(documents, *n))?),
+        Stage::Limit(n) => Ok(copies(alloc, front(documents, *n))?),
+        Stage::ShowId => Ok(with_ids_alone(alloc, documents)?),
+        Stage::HideId => Ok(without_ids(alloc, documents)?),
+    }
+}
+
+/// What the stages make of documents that were found so far.
+fn further(
+    alloc: Global,
+    stages: &[Stage],
+    found: Vec<RawDocumentBuf>,
+) -> Result<Vec<RawDocumentBuf>, Stop>
+    ensures { Results result (all_done (map held_stage stages.now) (map fields found.items)) }
+{
+    let mut found = found;
+    for stage in stages {
+        found = staged(alloc, stage, found.as_slice())?;
+    }
+    Ok(found)
+}
+
+/// What the stages make of the documents, one after another.
+pub(crate) fn through(
+    alloc: Global,
+    stages: &[Stage],
+    documents: &[RawDocumentBuf],
+) -> Result<Vec<RawDocumentBuf>, Stop>
+    ensures { Results result (all_done (map held_stage stages.now) (map fields documents.now)) }
+{
+    match stages {
+        [] => Ok(copies(alloc, documents)?),
+        [first, rest @ ..] => further(alloc, rest, staged(alloc, first, documents)?),
+    }
+}
