@@ -1,6 +1,7 @@
 //! What a proof cannot see of the program and of each layer below it, by examples.
 
 mod bson;
+mod commands;
 mod corpus;
 mod documents;
 mod exec;
@@ -11,6 +12,7 @@ mod mem_link;
 mod operations;
 mod options;
 mod records;
+mod replies;
 mod runs;
 mod store;
 mod streams;

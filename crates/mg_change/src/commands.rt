@@ -27,6 +27,8 @@ pub(crate) fn ask(
         ns: cursor.ns.clone()?,
         id: cursor.id,
         batch_size: cursor.batch_size,
+        max_time: None,
+        comment: None,
     };
     let command = encode(alloc, &get_more, wire)?;
     let exec = Exec::start(command, get_more.retry());

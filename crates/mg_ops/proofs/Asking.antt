@@ -8,19 +8,20 @@ use Rattle.mg_bson.specs.Literal.{◌⇒◌⨾◌, empty}
 use Rattle.mg_bson.specs.Raw.{fields}
 use Rattle.mg_link.specs.Namespace.{Space, Target, database, collection, cluster}
 use Rattle.mg_link.specs.Filter.{Condition}
+use Rattle.mg_link.specs.Query.{Query}
 use Rattle.mg_link.specs.State.{Start}
-use Rattle.mg_link.specs.Commands.{Asked, asked, asked_by, asks_insert, asks_kill, asks_more, asks_other, asks_watch, documents_in, filter_stages, insert_of, integers_in, is_cluster, kill_of, more_of, space_at, start_of, watch_of, or_asks, pipeline_query, piped, has_only, pipeline_fields}
+use Rattle.mg_link.specs.Commands.{Asked, asked, asked_by, asks_insert, asks_kill, asks_more, asks_other, asks_watch, documents_in, filter_stages, insert_of, integers_in, is_cluster, kill_of, more_of, space_at, start_of, watch_of, or_asks, pipeline_query, piped, stages_in, asks_query, has_only, pipeline_fields}
 use Rattle.mg_options.specs.Given.{before, ◌⇢◌⨾◌}
 use Rattle.mg_options.specs.Options.{change_stream_fields, time_value}
 use Rattle.mg_options.specs.declared.change_stream.ChangeStreamOptions.{ChangeStreamOptions}
-use Rattle.mg_ops.specs.Commands.{asked_size, get_more_command, insert_command, kill_command, listed, watch_command}
+use Rattle.mg_ops.specs.Commands.{asked_size, get_more_command, insert_command, kill_command, listed, more_command, wait_value, watch_command}
 use Rattle.mg_ops.specs.Aims.{Aim, aim, aim_of, asked_for}
 use Rattle.mg_ops.specs.Naming.{IsNamed, start_in, watches_all}
 use Rattle.mg_bson.specs.Reading.{◌>>=◌}
 
 -- ---- lists in arrays
 
-documents_listed : (ds : List Fields) → documents_in (listed document ds) ≡ Some ds
+pub documents_listed : (ds : List Fields) → documents_in (listed document ds) ≡ Some ds
 documents_listed [] = refl
 documents_listed (d ∷ ds) = ap (option_map (λ es. d ∷ es)) (documents_listed ds)
 
@@ -84,11 +85,17 @@ insert_by : (space : Space) (ds : List Fields) → IsNamed space → asked_by (i
 unfolding insert_of space_at
 insert_by space ds named = rw (named.db, named.coll, documents_listed ds) refl
 
-more_by : (id : ℤ) (space : Space) (t : Option Tree) → IsNamed space
-    → asked_by ("getMore" ⇒ int64 id ⨾ "collection" ⇒ string space.coll ⨾ "batchSize" ⇢ t ⨾ "$db" ⇒ string space.db ⨾ empty) ≡ Some (asks_more id space)
+next_by : (id : ℤ) (space : Space) (t u v : Option Tree) → IsNamed space
+    → asked_by ("getMore" ⇒ int64 id ⨾ "collection" ⇒ string space.coll ⨾ "batchSize" ⇢ t ⨾ "maxTimeMS" ⇢ u ⨾ "comment" ⇢ v ⨾ "$db" ⇒ string space.db ⨾ empty) ≡ Some (asks_more id space)
 unfolding more_of space_at
-more_by id space None named = rw (named.db, named.coll) refl
-more_by id space (Some t) named = rw (named.db, named.coll) refl
+next_by id space None None None named = rw (named.db, named.coll) refl
+next_by id space None None (Some v) named = rw (named.db, named.coll) refl
+next_by id space None (Some u) None named = rw (named.db, named.coll) refl
+next_by id space None (Some u) (Some v) named = rw (named.db, named.coll) refl
+next_by id space (Some t) None None named = rw (named.db, named.coll) refl
+next_by id space (Some t) None (Some v) named = rw (named.db, named.coll) refl
+next_by id space (Some t) (Some u) None named = rw (named.db, named.coll) refl
+next_by id space (Some t) (Some u) (Some v) named = rw (named.db, named.coll) refl
 
 kill_by : (space : Space) (ids : List ℤ) → asked_by (kill_command space ids) ≡ Some (asks_kill ids)
 unfolding kill_of
@@ -110,29 +117,26 @@ watch_found (collection space) stages o = rw (documents_listed stages, start_is 
 watch_found (database db) stages o = rw (documents_listed stages, start_is o, cluster_is o) (watched_of (filter_stages stages) (start_in o) (aim o (database db)))
 watch_found cluster stages o = rw (documents_listed stages, start_is o, cluster_is o) (watched_of (filter_stages stages) (start_in o) (aim o cluster))
 
-never_by : (b : Bool) (s : Option Space) (f : Space → Option Asked) → ((space : Space) → f space ≡ None) → (if b then (s >>= f) else None) ≡ None
+never_by : (b : Bool) (s : Option Space) (f : Space → Option Query) → ((space : Space) → f space ≡ None) → (if b then option_map asks_query (s >>= f) else None) ≡ None
 never_by true None f h = refl
-never_by true (Some space) f h = h space
+never_by true (Some space) f h = ap (option_map asks_query) (h space)
 never_by false s f h = refl
 
-abbrev piped_from : Fields → Space → Option Asked
-piped_from fs space = piped fs space (option_and_then documents_in (option_and_then as_array (get (codes "pipeline") fs)))
-
-not_piped : (fs : Fields) (at : Space) (o : ChangeStreamOptions) (stages : List Fields) → piped fs at (option_map (λ (ds : List Fields). ("$changeStream" ⇒ document (change_stream_fields o) ⨾ empty) ∷ ds) (documents_in (listed document stages))) ≡ None
-not_piped fs at o stages = rw (documents_listed stages) refl
+not_piped : (fs : Fields) (o : ChangeStreamOptions) (stages : List Fields) (at : Space) → piped fs (option_map (λ (ds : List Fields). ("$changeStream" ⇒ document (change_stream_fields o) ⨾ empty) ∷ ds) (documents_in (listed document stages))) at ≡ None
+not_piped fs o stages at = rw (documents_listed stages) refl
 
 -- the stage that opens a watch is none of a query
 no_query : (target : Target) (stages : List Fields) (o : ChangeStreamOptions) → pipeline_query (watch_command target stages o) ≡ None
 unfolding pipeline_query
 no_query (collection space) stages o =
     let fs : Fields = watch_command (collection space) stages o in
-    never_by (has_only pipeline_fields fs) (space_at (codes "aggregate") fs) (piped_from fs) (λ at. not_piped fs at o stages)
+    never_by (has_only pipeline_fields fs) (space_at (codes "aggregate") fs) (piped fs (stages_in fs)) (not_piped fs o stages)
 no_query (database db) stages o =
     let fs : Fields = watch_command (database db) stages o in
-    never_by (has_only pipeline_fields fs) (space_at (codes "aggregate") fs) (piped_from fs) (λ at. not_piped fs at o stages)
+    never_by (has_only pipeline_fields fs) (space_at (codes "aggregate") fs) (piped fs (stages_in fs)) (not_piped fs o stages)
 no_query cluster stages o =
     let fs : Fields = watch_command cluster stages o in
-    never_by (has_only pipeline_fields fs) (space_at (codes "aggregate") fs) (piped_from fs) (λ at. not_piped fs at o stages)
+    never_by (has_only pipeline_fields fs) (space_at (codes "aggregate") fs) (piped fs (stages_in fs)) (not_piped fs o stages)
 
 or_none : (o : Option Asked) → or_asks o None ≡ o
 or_none None = refl
@@ -148,15 +152,18 @@ watch_by : (target : Target) (stages : List Fields) (o : ChangeStreamOptions)
 watch_by target stages o =
     asked_aggregate target stages o ∙ ap (or_asks (watch_of (watch_command target stages o))) (no_query target stages o) ∙ or_none (watch_of (watch_command target stages o)) ∙ watch_found target stages o
 
-as_asked : (command : List ℕ) (fs : Fields) (a : Asked) → fields command ≡ fs → asked_by fs ≡ Some a → asked command ≡ a
+pub as_asked : (command : List ℕ) (fs : Fields) (a : Asked) → fields command ≡ fs → asked_by fs ≡ Some a → asked command ≡ a
 unfolding asked
 as_asked command fs a e by = ap (λ gs. unwrap_or (asked_by gs) asks_other) e ∙ ap (λ b. unwrap_or b asks_other) by
 
 pub asks_to_insert : (command : List ℕ) (space : Space) (ds : List Fields) → IsNamed space → fields command ≡ insert_command space ds → asked command ≡ asks_insert space ds true
 asks_to_insert command space ds named e = as_asked command (insert_command space ds) (asks_insert space ds true) e (insert_by space ds named)
 
+pub asks_for_next : (command : List ℕ) (id : ℤ) (space : Space) (size time : Option ℕ) (comment : Option Tree) → IsNamed space → fields command ≡ more_command id space size time comment → asked command ≡ asks_more id space
+asks_for_next command id space size time comment named e = as_asked command (more_command id space size time comment) (asks_more id space) e (next_by id space (asked_size size) (option_map wait_value time) comment named)
+
 pub asks_for_more : (command : List ℕ) (id : ℤ) (space : Space) (size : Option ℕ) → IsNamed space → fields command ≡ get_more_command id space size → asked command ≡ asks_more id space
-asks_for_more command id space size named e = as_asked command (get_more_command id space size) (asks_more id space) e (more_by id space (asked_size size) named)
+asks_for_more command id space size named e = asks_for_next command id space size None None named e
 
 pub asks_to_kill : (command : List ℕ) (space : Space) (ids : List ℤ) → fields command ≡ kill_command space ids → asked command ≡ asks_kill ids
 asks_to_kill command space ids e = as_asked command (kill_command space ids) (asks_kill ids) e (kill_by space ids)

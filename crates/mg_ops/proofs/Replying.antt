@@ -5,13 +5,17 @@ use Rattle.mg_bson.specs.Tree.{Tree, Fields, Items, no_items, item, array}
 use Rattle.mg_bson.specs.Find.{as_array, as_document, as_int64, get}
 use Rattle.mg_bson.specs.Raw.{fields}
 use Rattle.mg_link.specs.Namespace.{Space, space_of}
+use Rattle.mg_link.specs.Filter.{Condition}
+use Rattle.mg_link.specs.Query.{Query}
 use Rattle.mg_link.specs.Reply.{verdict_of}
-use Rattle.mg_link.specs.Commands.{Batch, as_integer, asks_insert, asks_more, batch_by, batch_items, batch_of, documents_in, failures_at, gave, inserted, inserted_by, text_of, token_in, told, list_write_errors, is_concern_error, keeps_grammar, are_write_errors}
+use Rattle.mg_link.specs.State.{Index}
+use Rattle.mg_link.specs.Write.{Modification}
+use Rattle.mg_link.specs.Commands.{Batch, as_integer, asks_create, asks_delete, asks_drop, asks_indexes, asks_insert, asks_more, asks_query, asks_update, batch_by, batch_items, batch_of, deleted, deleted_by, documents_in, done, failures_at, gave, inserted, inserted_by, opened, time_in, updated, updated_by, text_of, token_in, told, list_write_errors, is_concern_error, keeps_grammar, are_write_errors}
 use Rattle.mg_link.specs.declared.error.Malformed.{Malformed}
 use Rattle.mg_link.specs.declared.error.Malformed.TheVariants as malformed
 use Rattle.mg_link.specs.declared.reply.Verdict.TheVariants as verdict
 use Rattle.mg_ops.specs.Cursors.{Cursor, cursor_in, cursor_of, found, ◌>>=◌}
-use Rattle.mg_ops.specs.Writes.{Failure, Inserted, as_count, concern_error_at, count_of, failures_of, item_error, last_index, with_concern, write_errors_at, write_errors_in, failure_at}
+use Rattle.mg_ops.specs.Writes.{Failure, Inserted, Wrote, as_count, changed_of, concern_error_at, count_of, counts_of, failures_of, item_error, last_index, with_concern, write_errors_at, write_errors_in, failure_at}
 
 then_ok : {A B : Type 0} (r : Result A Malformed) (f : A → Result B Malformed) (y : B) → (r >>= f) ≡ Ok y → (x : A) × (r ≡ Ok x) × (f x ≡ Ok y)
 then_ok (Ok x) f y h = (x, refl, h)
@@ -150,3 +154,49 @@ pub tells_of_insert : (space : Space) (documents : List Fields) (ordered : Bool)
     → told (asks_insert space documents ordered) reply ≡ inserted (pos n) []
 unfolding told inserted_by
 tells_of_insert space documents ordered reply count n success i = rw (success, reply_keeps (last_index count) (fields reply) i.none_failed, reply_count (fields reply) n i.counted, reply_failures (last_index count) (fields reply) i.none_failed) refl
+
+-- ---- other writes
+
+pub tells_of_delete : (space : Space) (conditions : List Condition) (many : Bool) (reply : List ℕ) (n : ℕ) → verdict_of (fields reply) ≡ verdict.Success → Wrote (count_of (fields reply)) (fields reply) n
+    → told (asks_delete space conditions many) reply ≡ deleted (pos n) []
+unfolding told deleted_by
+tells_of_delete space conditions many reply n success w = rw (success, reply_keeps 0 (fields reply) w.none_failed, reply_count (fields reply) n w.has, reply_failures 0 (fields reply) w.none_failed) refl
+
+reply_changed : (reply : Fields) (n : ℕ) → changed_of reply ≡ Ok n → option_and_then as_integer (get (codes "nModified") reply) ≡ Some (pos n)
+unfolding changed_of
+reply_changed reply n h = count_back _ n (found_some malformed.BadCount _ n h)
+
+both_counts : (reply : Fields) (n changed : ℕ) → counts_of reply ≡ Ok (n, changed) → (count_of reply ≡ Ok n) × (changed_of reply ≡ Ok changed)
+both_counts reply n changed h =
+    let first = then_ok (count_of reply) (λ (x : ℕ). changed_of reply >>= λ y. Ok (x, y)) (n, changed) h in
+    let rest = then_ok (changed_of reply) (λ (y : ℕ). Ok (first.0, y)) (n, changed) first.2 in
+    let same : (first.0, rest.0) ≡ (n, changed) = (let e = rest.2 in cc) in
+    let found : first.0 ≡ n = ap (λ (p : ℕ × ℕ). p.0) same in
+    let other : rest.0 ≡ changed = ap (λ (p : ℕ × ℕ). p.1) same in
+    (first.1 ∙ ap (λ (x : ℕ). Ok x) found, rest.1 ∙ ap (λ (x : ℕ). Ok x) other)
+
+pub tells_of_update : (space : Space) (conditions : List Condition) (m : Modification) (many : Bool) (reply : List ℕ) (n changed : ℕ) → verdict_of (fields reply) ≡ verdict.Success
+    → Wrote (counts_of (fields reply)) (fields reply) (n, changed) → told (asks_update space conditions m many) reply ≡ updated (pos n) (pos changed) []
+unfolding told updated_by
+tells_of_update space conditions m many reply n changed success w =
+    let counts = both_counts (fields reply) n changed w.has in
+    rw (success, reply_keeps 0 (fields reply) w.none_failed, reply_count (fields reply) n counts.0, reply_changed (fields reply) changed counts.1, reply_failures 0 (fields reply) w.none_failed) refl
+
+pub tells_of_create : (space : Space) (reply : List ℕ) → verdict_of (fields reply) ≡ verdict.Success → failures_of 0 (fields reply) ≡ Ok [] → told (asks_create space) reply ≡ done
+unfolding told
+tells_of_create space reply success none = rw (success, reply_keeps 0 (fields reply) none) refl
+
+pub tells_of_drop : (space : Space) (reply : List ℕ) → verdict_of (fields reply) ≡ verdict.Success → failures_of 0 (fields reply) ≡ Ok [] → told (asks_drop space) reply ≡ done
+unfolding told
+tells_of_drop space reply success none = rw (success, reply_keeps 0 (fields reply) none) refl
+
+pub tells_of_index : (space : Space) (indexes : List Index) (reply : List ℕ) → verdict_of (fields reply) ≡ verdict.Success → failures_of 0 (fields reply) ≡ Ok [] → told (asks_indexes space indexes) reply ≡ done
+unfolding told
+tells_of_index space indexes reply success none = rw (success, reply_keeps 0 (fields reply) none) refl
+
+-- ---- queries
+
+pub tells_of_query : (query : Query) (reply : List ℕ) (c : Cursor) (documents : List Fields) → verdict_of (fields reply) ≡ verdict.Success → cursor_of (fields reply) ≡ Ok c → documents_in c.batch ≡ Some documents
+    → told (asks_query query) reply ≡ opened c.id c.space documents c.token (time_in (fields reply))
+unfolding told
+tells_of_query query reply c documents success h are = rw (success, reply_batch (fields reply) c documents h are) refl

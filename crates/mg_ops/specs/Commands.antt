@@ -1,5 +1,5 @@
 -- The exact commands of operations (insert, aggregate, getMore and killCursors specifications, `$db` behind the body).
-use Rattle.std.specs.Prelude.{ℕ, zero, suc, ℤ, pos, true, List, [], ◌∷◌, Option, Some, None, option_map, codes}
+use Rattle.std.specs.Prelude.{ℕ, zero, suc, ℤ, pos, min, true, List, [], ◌∷◌, Option, Some, None, option_map, codes}
 use Rattle.mg_bson.specs.Tree.{Tree, string, document, array, int32, int64, boolean, Fields, Items, no_items, item}
 use Rattle.mg_bson.specs.Literal.{◌⇒◌⨾◌, empty}
 use Rattle.mg_link.specs.Namespace.{Space, Target, database, collection, cluster}
@@ -26,9 +26,18 @@ asked_size (Some (suc n)) = Some (size_value (suc n))
 abbrev pub insert_command : Space → List Fields → Fields
 insert_command space documents = "insert" ⇒ string space.coll ⨾ "documents" ⇒ array (listed document documents) ⨾ "ordered" ⇒ boolean true ⨾ "$db" ⇒ string space.db ⨾ empty
 
--- asks for the next batch of a cursor
+-- the most milliseconds that a server waits, as far as a time goes
+abbrev pub wait_value : ℕ → Tree
+wait_value n = int32 (pos (min n 2147483647))
+
+-- asks for the next batch of a cursor, which the server may wait for so long, with a comment
+abbrev pub more_command : ℤ → Space → Option ℕ → Option ℕ → Option Tree → Fields
+more_command id space size time comment =
+    "getMore" ⇒ int64 id ⨾ "collection" ⇒ string space.coll ⨾ "batchSize" ⇢ asked_size size ⨾ "maxTimeMS" ⇢ option_map wait_value time ⨾ "comment" ⇢ comment ⨾ "$db" ⇒ string space.db ⨾ empty
+
+-- the same without a time and a comment
 abbrev pub get_more_command : ℤ → Space → Option ℕ → Fields
-get_more_command id space size = "getMore" ⇒ int64 id ⨾ "collection" ⇒ string space.coll ⨾ "batchSize" ⇢ asked_size size ⨾ "$db" ⇒ string space.db ⨾ empty
+get_more_command id space size = more_command id space size None None
 
 -- kills cursors
 abbrev pub kill_command : Space → List ℤ → Fields

@@ -3,6 +3,8 @@ use Rattle.std.specs.Prelude.{◌≡◌, ◌↔◌, IsTrue, ℕ, ℤ, pos, List,
 use Rattle.mg_bson.specs.Tree.{Tree, Fields, Items, no_items}
 use Rattle.mg_bson.specs.Find.{get, as_document, as_int64, as_timestamp}
 use Rattle.mg_bson.specs.Raw.{fields, items}
+use Rattle.mg_bson.specs.View.{tree}
+use Rattle.mg_bson.specs.declared.tree.Bson.{Bson}
 use Rattle.mg_link.specs.Namespace.{Space, space, space_of}
 use Rattle.mg_link.specs.Commands.{batch_items, text_of, token_in}
 use Rattle.mg_link.specs.Errors.{plain}
@@ -74,6 +76,12 @@ pub record Opens (size : Option ℕ) (reply : List ℕ) (out : CursorSpecificati
   pub whole : out.initial_reply ≡ reply
   pub first : IsTrue out.is_empty ↔ (batch ≡ no_items)
   pub size_is : out.info.batch_size ≡ size
+
+-- and how its getMores are asked
+pub record OpensWith (size time : Option ℕ) (comment : Option Bson) (reply : List ℕ) (out : CursorSpecification) : Type 0 where
+  pub opens : Opens size reply out
+  pub time_is : out.info.max_time ≡ time
+  pub comment_is : option_map tree out.info.comment ≡ option_map tree comment
 
 abbrev pub time_parts : Timestamp → ℕ × ℕ
 time_parts t = (t.time, t.increment)

@@ -6,3 +6,8 @@ pub mod Cursors
 pub mod Writes
 pub mod Naming
 pub mod Aims
+pub mod Pieces
+pub mod Bodies
+pub mod Entries
+pub mod Plain
+pub mod Updates

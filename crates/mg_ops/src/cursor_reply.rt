@@ -3,17 +3,18 @@ ghost use Rattle.std.specs.Prelude.{◌≡◌, Ok, Err, IfOk, IfErr, MatchResult
 ghost use Rattle.mg_bson.specs.Find.{as_int64, get};
 ghost use Rattle.mg_bson.specs.Raw.{fields, items};
 ghost use Rattle.mg_bson.specs.RawView.{value};
+ghost use Rattle.mg_bson.specs.View.{tree};
 ghost use Rattle.mg_link.specs.Commands.{array_in, as_token, batch_items, text_of, token_in};
 ghost use Rattle.mg_link.specs.Namespace.{space, space_of};
 ghost use Rattle.mg_link.specs.declared.error.Malformed.TheVariants as malformed;
-ghost use Rattle.mg_ops.specs.Cursors.{BreaksIn, Gave, Opens, batch_at, cursor_in, cursor_of, found, found_cursor};
+ghost use Rattle.mg_ops.specs.Cursors.{BreaksIn, Gave, Opens, OpensWith, batch_at, cursor_in, cursor_of, found, found_cursor};
 ghost use Rattle.mg_ops.specs.Failing.{FailsBy, Gives};
 
 use crate::fault::{Fault, error_of};
-use mg_bson::{RawArray, RawDocument, RawDocumentBuf, RawValue};
+use mg_bson::{Bson, RawArray, RawDocument, RawDocumentBuf, RawValue};
 use mg_link::{Error, Malformed, Namespace};
 use mg_options::ResumeToken;
-use std::alloc::Global;
+use std::alloc::{AllocError, Global};
 
 /// A cursor, and how its batches are asked for.
 pub struct CursorInformation {
@@ -23,6 +24,10 @@ pub struct CursorInformation {
     pub id: i64,
     /// The most documents of a batch.
     pub batch_size: Option<u32>,
+    /// The most milliseconds that the server may wait for a batch.
+    pub max_time: Option<u64>,
+    /// A value that the server writes beside each getMore into its logs.
+    pub comment: Option<Bson>,
 }
 
 // By hand, so that letting one go is one call.
@@ -32,6 +37,8 @@ impl Drop for CursorInformation {
             ns: _,
             id: _,
             batch_size: _,
+            max_time: _,
+            comment: _,
         } = self;
     }
 }
@@ -197,11 +204,44 @@ pub(crate) fn read_opening(
     };
     let is_empty = batch.is_empty();
     Ok(CursorSpecification {
-        info: CursorInformation { ns, id, batch_size },
+        info: CursorInformation {
+            ns,
+            id,
+            batch_size,
+            max_time: None,
+            comment: None,
+        },
         initial_reply: reply,
         is_empty,
         post_batch_resume_token: token,
     })
+}
+
+// A copy of a comment.
+fn copied(comment: &Option<Bson>) -> Result<Option<Bson>, AllocError>
+    ensures { IfOk result (λ c. option_map tree c ≡ option_map tree comment.now) }
+{
+    match comment {
+        Some(value) => Ok(Some(value.clone()?)),
+        None => Ok(None),
+    }
+}
+
+// Reads the reply to an opening, whose getMores wait so long and have this comment.
+pub(crate) fn read_cursor(
+    alloc: Global,
+    batch_size: Option<u32>,
+    max_time: Option<u64>,
+    comment: &Option<Bson>,
+    reply: RawDocumentBuf,
+) -> Result<CursorSpecification, Error>
+    ensures ok { IfOk result (λ out. OpensWith batch_size max_time comment.now reply out) }
+    ensures err { IfErr result (λ e. FailsBy (BreaksIn (fields reply)) e) }
+{
+    let mut specification = read_opening(alloc, batch_size, reply)?;
+    specification.info.max_time = max_time;
+    specification.info.comment = copied(comment)?;
+    Ok(specification)
 }
 
 // Reads the reply to a getMore.

@@ -1,6 +1,9 @@
 //! The next batch of a cursor.
-ghost use Rattle.std.specs.Prelude.{◌≡◌, OnOk, IfErr, codes};
-ghost use Rattle.mg_ops.specs.Commands.{asked_size};
+ghost use Rattle.std.specs.Prelude.{◌≡◌, OnOk, IfErr, codes, option_map};
+ghost use Rattle.mg_bson.specs.View.{tree};
+ghost use Rattle.mg_link.specs.Errors.{plain};
+ghost use Rattle.mg_link.specs.declared.error.ErrorKind.TheVariants as kinds;
+ghost use Rattle.mg_ops.specs.Commands.{asked_size, wait_value};
 ghost use Rattle.mg_ops.specs.Failing.{FailsBy, HasBadSize};
 ghost use Rattle.mg_ops.specs.Limits.{SizeFits};
 ghost use Rattle.mg_options.specs.Given.{behind};
@@ -20,6 +23,10 @@ pub struct GetMore {
     pub id: i64,
     /// The most documents of the batch. The server chooses where it is absent or 0.
     pub batch_size: Option<u32>,
+    /// The most milliseconds that the server may wait for it. One past 2,147,483,647 is sent as that.
+    pub max_time: Option<u64>,
+    /// A value that the server writes beside the command into its logs.
+    pub comment: Option<Bson>,
 }
 
 // By hand, so that letting one go is one call.
@@ -29,6 +36,8 @@ impl Drop for GetMore {
             ns: _,
             id: _,
             batch_size: _,
+            max_time: _,
+            comment: _,
         } = self;
     }
 }
@@ -45,17 +54,44 @@ fn append_size(command: &mut Document, batch_size: Option<u32>) -> Result<(), Er
     }
 }
 
+// Puts the time that the server may wait at the end, where one is given.
+fn append_time(command: &mut Document, max_time: Option<u64>) -> Result<(), Error>
+    ensures ok { OnOk result (command.new ≡ behind command.old (codes "maxTimeMS") (option_map wait_value max_time)) }
+    ensures err { IfErr result (λ e. e ≡ plain kinds.OutOfMemory) }
+{
+    match max_time {
+        None => Ok(()),
+        Some(n) => {
+            let n = i32::try_from(n).unwrap_or(i32::MAX);
+            Ok(command.append("maxTimeMS", Bson::Int32(n))?)
+        }
+    }
+}
+
+// Puts the comment at the end, where one is given.
+fn append_comment(command: &mut Document, comment: &Option<Bson>) -> Result<(), Error>
+    ensures ok { OnOk result (command.new ≡ behind command.old (codes "comment") (option_map tree comment.now)) }
+    ensures err { IfErr result (λ e. e ≡ plain kinds.OutOfMemory) }
+{
+    match comment {
+        None => Ok(()),
+        Some(value) => Ok(command.append("comment", value.clone()?)?),
+    }
+}
+
 impl Operation for GetMore {
     type Output = GetMoreResult;
 
     ghost use Rattle.mg_link.specs.Namespace.{space};
     ghost use Rattle.mg_link.specs.declared.exec.Retry.TheVariants as retries;
-    ghost use Rattle.mg_ops.specs.Commands.{get_more_command};
+    ghost use Rattle.std.specs.Prelude.{option_map};
+    ghost use Rattle.mg_bson.specs.View.{tree};
+    ghost use Rattle.mg_ops.specs.Commands.{more_command};
     ghost use Rattle.mg_ops.specs.Cursors.{BreaksIn, Gave};
     ghost use Rattle.mg_ops.specs.Failing.{HasBadSize};
     ghost use Rattle.mg_ops.specs.Limits.{SizeFits};
 
-    ghost command = { λ o wire. get_more_command o.id (space o.ns) o.batch_size };
+    ghost command = { λ o wire. more_command o.id (space o.ns) o.batch_size o.max_time (option_map tree o.comment) };
 
     ghost sound = { λ o. SizeFits o.batch_size };
 
@@ -72,6 +108,8 @@ impl Operation for GetMore {
         command.append("getMore", Bson::Int64(self.id))?;
         command.append("collection", text(alloc, self.ns.coll.as_str())?)?;
         append_size(&mut command, self.batch_size)?;
+        append_time(&mut command, self.max_time)?;
+        append_comment(&mut command, &self.comment)?;
         command.append("$db", text(alloc, self.ns.db.as_str())?)?;
         Ok(command)
     }

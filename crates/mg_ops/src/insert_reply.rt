@@ -1,22 +1,21 @@
 //! What the reply to an insert says.
-ghost use Rattle.std.specs.Prelude.{IfOk, IfErr, codes, map, string_bytes};
+ghost use Rattle.std.specs.Prelude.{IfOk, IfErr, codes, map, option_map, string_bytes};
 ghost use Rattle.mg_bson.specs.Find.{get};
 ghost use Rattle.mg_bson.specs.Raw.{fields, items};
 ghost use Rattle.mg_bson.specs.RawView.{value};
 ghost use Rattle.mg_ops.specs.Failing.{FailsBy, Gives};
-ghost use Rattle.mg_ops.specs.Writes.{Inserted, ListsAs, code_of, count_of, failure, failure_at, failures_of, index_of, item_error, message_of, with_concern, write_errors_at, write_errors_in};
+ghost use Rattle.mg_ops.specs.Writes.{Inserted, ListsAs, changed_of, code_of, count_by, count_of, failure, failure_at, failures_of, index_of, item_error, message_of, with_concern, write_errors_at, write_errors_in};
 
 use crate::fault::{Fault, error_of};
 use mg_bson::{RawArray, RawDocument, RawValue};
 use mg_link::{Error, ErrorKind, IndexedFailure, Malformed, plain};
 use std::alloc::Global;
 
-// The number of written documents.
-#[tactic(auto, unfolding(crate::specs::Writes::count_of))]
-fn count_of(reply: &RawDocument<'_>) -> Result<u64, Fault>
-    ensures { Gives (λ n. n) result (count_of (fields reply.now)) }
+// A number that is not negative.
+fn count_by(found: &Option<RawValue<'_>>) -> Result<u64, Fault>
+    ensures { Gives (λ n. n) result (count_by (option_map value found.now)) }
 {
-    let n = match &reply.get("n") {
+    let n = match found {
         Some(RawValue::Int32(n)) => i64::from(*n),
         Some(RawValue::Int64(n)) => *n,
         _ => return Err(Fault::Broken(Malformed::BadCount)),
@@ -25,6 +24,22 @@ fn count_of(reply: &RawDocument<'_>) -> Result<u64, Fault>
         Ok(n) => Ok(n),
         Err(_) => Err(Fault::Broken(Malformed::BadCount)),
     }
+}
+
+// The number of written documents.
+#[tactic(auto, unfolding(crate::specs::Writes::count_of))]
+pub(crate) fn count_of(reply: &RawDocument<'_>) -> Result<u64, Fault>
+    ensures { Gives (λ n. n) result (count_of (fields reply.now)) }
+{
+    count_by(&reply.get("n"))
+}
+
+// The number of changed documents.
+#[tactic(auto, unfolding(crate::specs::Writes::changed_of))]
+pub(crate) fn changed_of(reply: &RawDocument<'_>) -> Result<u64, Fault>
+    ensures { Gives (λ n. n) result (changed_of (fields reply.now)) }
+{
+    count_by(&reply.get("nModified"))
 }
 
 #[tactic(auto, unfolding(crate::specs::Writes::message_of))]
@@ -140,7 +155,7 @@ fn add_concern_error(
 
 // The write errors, and behind them the write concern error with this index.
 #[tactic(auto, unfolding(crate::specs::Writes::failures_of))]
-fn failures_of(
+pub(crate) fn failures_of(
     alloc: Global,
     index: u32,
     reply: &RawDocument<'_>,

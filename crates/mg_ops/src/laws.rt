@@ -1,17 +1,27 @@
 //! What the commands of operations ask a server for, and what it tells by their replies, for the proofs of callers.
-ghost use Rattle.std.specs.Prelude.{◌≡◌, ℕ, ℤ, pos, true, Bool, List, [], Option, Some, Ok};
+ghost use Rattle.std.specs.Prelude.{◌≡◌, ℕ, ℤ, pos, true, false, Bool, List, [], ◌∷◌, Option, Some, None, Ok};
 ghost use Rattle.mg_bson.specs.Tree.{Tree, Fields};
 ghost use Rattle.mg_bson.specs.Raw.{fields};
-ghost use Rattle.mg_link.specs.Commands.{asked, asks_insert, asks_kill, asks_more, documents_in, gave, inserted, told};
-ghost use Rattle.mg_link.specs.Namespace.{Space, Target};
+ghost use Rattle.mg_link.specs.Commands.{as_database, asked, asks_create, asks_delete, asks_drop, asks_indexes, asks_insert, asks_kill, asks_more, asks_query, asks_update, deleted, documents_in, done, gave, inserted, modification_of, opened, pipeline_of, time_in, told, updated};
+ghost use Rattle.mg_link.specs.Filter.{Condition, conditions_of};
+ghost use Rattle.mg_link.specs.Namespace.{Space, Target, collection};
+ghost use Rattle.mg_link.specs.Query.{Query, Stage, of_collection, of_database, of_indexes, selects};
 ghost use Rattle.mg_link.specs.Reply.{verdict_of};
+ghost use Rattle.mg_link.specs.State.{Index};
+ghost use Rattle.mg_link.specs.Write.{Modification};
+ghost use Rattle.mg_link.specs.declared.concern.WriteConcern.{WriteConcern};
 ghost use Rattle.mg_link.specs.declared.reply.Verdict.TheVariants as verdict;
 ghost use Rattle.mg_options.specs.declared.change_stream.ChangeStreamOptions.{ChangeStreamOptions};
+ghost use Rattle.mg_options.specs.Fields.{fields_in};
+ghost use Rattle.mg_options.specs.declared.write_words.UpdateModifications.TheVariants as modifications;
 ghost use Rattle.mg_ops.specs.Aims.{aim_of, asked_for};
-ghost use Rattle.mg_ops.specs.Commands.{get_more_command, insert_command, kill_command, watch_command};
+ghost use Rattle.mg_ops.specs.Bodies.{aggregate_body, create_body, create_indexes_body, delete_body, drop_body, find_body, list_collections_body, list_indexes_body, update_body};
+ghost use Rattle.mg_ops.specs.Commands.{get_more_command, insert_command, kill_command, more_command, watch_command};
 ghost use Rattle.mg_ops.specs.Cursors.{Cursor, cursor_of};
 ghost use Rattle.mg_ops.specs.Naming.{IsNamed};
-ghost use Rattle.mg_ops.specs.Writes.{Inserted};
+ghost use Rattle.mg_ops.specs.Pieces.{keys_onto};
+ghost use Rattle.mg_ops.specs.Plain.{plain_aggregate, plain_collections, plain_delete, plain_find, plain_index, plain_indexes};
+ghost use Rattle.mg_ops.specs.Writes.{Inserted, Wrote, count_of, counts_of, failures_of};
 
 /// An insert asks for its documents to be inserted, in order.
 pub fn asks_to_insert()
@@ -31,10 +41,75 @@ pub fn asks_for_more()
         → fields command ≡ get_more_command id space size → asked command ≡ asks_more id space }
 {}
 
+/// The same where it has a time to wait and a comment.
+pub fn asks_for_next()
+    ensures { (command : List ℕ) (id : ℤ) (space : Space) (size time : Option ℕ) (comment : Option Tree) → IsNamed space
+        → fields command ≡ more_command id space size time comment → asked command ≡ asks_more id space }
+{}
+
 /// A killCursors asks for its cursors to be removed.
 pub fn asks_to_kill()
     ensures { (command : List ℕ) (space : Space) (ids : List ℤ)
         → fields command ≡ kill_command space ids → asked command ≡ asks_kill ids }
+{}
+
+/// A create asks for its collection to be made.
+pub fn asks_to_create()
+    ensures { (command : List ℕ) (space : Space) (writes : Option WriteConcern) → IsNamed space
+        → fields command ≡ fields_in (create_body space writes) → asked command ≡ asks_create space }
+{}
+
+/// A drop asks for its collection to be removed.
+pub fn asks_to_drop()
+    ensures { (command : List ℕ) (space : Space) (writes : Option WriteConcern) → IsNamed space
+        → fields command ≡ fields_in (drop_body space writes) → asked command ≡ asks_drop space }
+{}
+
+/// A delete asks for the documents that meet its conditions to be removed: all, or the first.
+pub fn asks_to_delete()
+    ensures { (command : List ℕ) (space : Space) (filter : Fields) (conditions : List Condition) (many : Bool) (writes : Option WriteConcern)
+        → IsNamed space → conditions_of filter ≡ Some conditions
+        → fields command ≡ fields_in (delete_body space filter many (plain_delete writes)) → asked command ≡ asks_delete space conditions many }
+{}
+
+/// An update by a document asks for the documents that meet its conditions to be changed so: all, or the first.
+pub fn asks_to_update()
+    ensures { (command : List ℕ) (space : Space) (filter d : Fields) (conditions : List Condition) (m : Modification) (many : Bool) (writes : Option WriteConcern)
+        → IsNamed space → conditions_of filter ≡ Some conditions → modification_of d ≡ Some m
+        → fields command ≡ fields_in (update_body space filter (modifications.Document d) many writes) → asked command ≡ asks_update space conditions m many }
+{}
+
+/// A createIndexes asks for one index, which has its name of its keys.
+pub fn asks_to_index()
+    ensures { (command : List ℕ) (space : Space) (keys : Fields) (name : List ℕ) (writes : Option WriteConcern)
+        → IsNamed space → keys_onto [] keys ≡ Some name
+        → fields command ≡ fields_in (create_indexes_body space keys (plain_index writes)) → asked command ≡ asks_indexes space (record { name = name; key = keys } ∷ []) }
+{}
+
+/// A find asks for the documents that meet its conditions.
+pub fn asks_to_find()
+    ensures { (command : List ℕ) (space : Space) (filter : Fields) (conditions : List Condition)
+        → IsNamed space → conditions_of filter ≡ Some conditions
+        → fields command ≡ fields_in (find_body space filter plain_find) → asked command ≡ asks_query (record { source = of_collection space; stages = selects conditions ∷ []; single = false; size = None }) }
+{}
+
+/// An aggregate whose stages a store takes asks for what they make of the documents of its collection.
+pub fn asks_to_aggregate()
+    ensures { (command : List ℕ) (space : Space) (pipeline : List Fields) (stages : List Stage)
+        → IsNamed space → pipeline_of pipeline ≡ Some stages
+        → fields command ≡ fields_in (aggregate_body (collection space) pipeline plain_aggregate) → asked command ≡ asks_query (record { source = of_collection space; stages = stages; single = false; size = None }) }
+{}
+
+/// A listCollections asks for the collections of its database.
+pub fn asks_for_collections()
+    ensures { (command db : List ℕ) (name_only : Bool) → as_database db ≡ Some db
+        → fields command ≡ fields_in (list_collections_body db name_only plain_collections) → asked command ≡ asks_query (record { source = of_database db; stages = []; single = false; size = None }) }
+{}
+
+/// A listIndexes asks for the indexes of its collection.
+pub fn asks_for_indexes()
+    ensures { (command : List ℕ) (space : Space) → IsNamed space
+        → fields command ≡ fields_in (list_indexes_body space plain_indexes) → asked command ≡ asks_query (record { source = of_indexes space; stages = []; single = false; size = None }) }
 {}
 
 /// What a reply to a getMore tells: the cursor, the documents of its batch, and the token.
@@ -50,4 +125,44 @@ pub fn tells_of_insert()
     ensures { (space : Space) (documents : List Fields) (ordered : Bool) (reply : List ℕ) (count n : ℕ)
         → verdict_of (fields reply) ≡ verdict.Success → Inserted count (fields reply) n
         → told (asks_insert space documents ordered) reply ≡ inserted (pos n) [] }
+{}
+
+/// What a reply to a find or a list tells that its `read` takes without error: the cursor and the documents of its batch.
+pub fn tells_of_query()
+    ensures { (query : Query) (reply : List ℕ) (cursor : Cursor) (documents : List Fields)
+        → verdict_of (fields reply) ≡ verdict.Success → cursor_of (fields reply) ≡ Ok cursor
+        → documents_in cursor.batch ≡ Some documents
+        → told (asks_query query) reply ≡ opened cursor.id cursor.space documents cursor.token (time_in (fields reply)) }
+{}
+
+/// What a reply to a delete tells that `Delete::read` takes without error: its number.
+pub fn tells_of_delete()
+    ensures { (space : Space) (conditions : List Condition) (many : Bool) (reply : List ℕ) (n : ℕ)
+        → verdict_of (fields reply) ≡ verdict.Success → Wrote (count_of (fields reply)) (fields reply) n
+        → told (asks_delete space conditions many) reply ≡ deleted (pos n) [] }
+{}
+
+/// What a reply to an update tells that `Update::read` takes without error: how many it found, and how many it changed.
+pub fn tells_of_update()
+    ensures { (space : Space) (conditions : List Condition) (m : Modification) (many : Bool) (reply : List ℕ) (n changed : ℕ)
+        → verdict_of (fields reply) ≡ verdict.Success → Wrote (counts_of (fields reply)) (fields reply) (n, changed)
+        → told (asks_update space conditions m many) reply ≡ updated (pos n) (pos changed) [] }
+{}
+
+/// What a reply to a create tells that `Create::read` takes without error: that it is done.
+pub fn tells_of_create()
+    ensures { (space : Space) (reply : List ℕ) → verdict_of (fields reply) ≡ verdict.Success → failures_of 0 (fields reply) ≡ Ok []
+        → told (asks_create space) reply ≡ done }
+{}
+
+/// The same of a drop.
+pub fn tells_of_drop()
+    ensures { (space : Space) (reply : List ℕ) → verdict_of (fields reply) ≡ verdict.Success → failures_of 0 (fields reply) ≡ Ok []
+        → told (asks_drop space) reply ≡ done }
+{}
+
+/// The same of a createIndexes.
+pub fn tells_of_index()
+    ensures { (space : Space) (indexes : List Index) (reply : List ℕ) → verdict_of (fields reply) ≡ verdict.Success → failures_of 0 (fields reply) ≡ Ok []
+        → told (asks_indexes space indexes) reply ≡ done }
 {}

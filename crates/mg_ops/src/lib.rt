@@ -4,25 +4,43 @@
 #![tactic(auto)]
 
 mod aggregate;
+mod body;
 mod change_stream;
+mod changes;
+mod collections;
 mod cursor_reply;
+mod entry;
 mod fault;
+mod find;
 mod get_more;
 mod insert;
 mod insert_reply;
 mod kill_cursors;
 pub mod laws;
+mod lists;
+mod looking;
 mod operation;
 mod parts;
+mod pipelines;
+mod raw_output;
 mod resuming;
+mod run_commands;
+mod write_reply;
 
 pub use aggregate::ChangeStreamAggregate;
 pub use change_stream::{ChangeStreamData, WatchArgs};
+pub use changes::{Delete, Update, UpdateCounts};
+pub use collections::{Create, CreateIndexes, DropCollection};
 pub use cursor_reply::{CursorInformation, CursorSpecification, GetMoreResult, doc_slices};
 pub use fault::check_reply;
+pub use find::Find;
 pub use get_more::GetMore;
 pub use insert::Insert;
 pub use kill_cursors::KillCursors;
+pub use lists::{ListCollections, ListIndexes};
 pub use mg_link::OperationTarget;
 pub use operation::{Operation, encode};
+pub use pipelines::Aggregate;
+pub use raw_output::RawOutput;
 pub use resuming::{initial_operation_time, resume_options};
+pub use run_commands::{RunCommand, RunCursorCommand};

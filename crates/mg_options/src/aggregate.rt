@@ -193,12 +193,27 @@ impl AggregateOptions {
         ensures same { OnErr result (body.new ≡ body.old) }
         ensures err { IfErr result (λ e. FailsBy (first_unfit (aggregate_lines self.now)) e) }
     {
+        self.append_sized(alloc, body, self.batch_size)
+    }
+
+    /// As `append_fields`, with this size of a batch in place of the one that was given.
+    pub fn append_sized(
+        &self,
+        alloc: Global,
+        body: &mut Document,
+        batch_size: Option<u32>,
+    ) -> Result<(), Error>
+        ensures ok { OnOk result (body.new ≡ joined body.old (fields_in (aggregate_lines (record self.now { batch_size = batch_size })))) }
+        ensures fits { OnOk result (first_unfit (aggregate_lines (record self.now { batch_size = batch_size })) ≡ None) }
+        ensures same { OnErr result (body.new ≡ body.old) }
+        ensures err { IfErr result (λ e. FailsBy (first_unfit (aggregate_lines (record self.now { batch_size = batch_size }))) e) }
+    {
         append_given(
             alloc,
             body,
             &[
                 ("allowDiskUse", Value::Flag(self.allow_disk_use)),
-                ("cursor", Value::Cursor(self.batch_size)),
+                ("cursor", Value::Cursor(batch_size)),
                 (
                     "bypassDocumentValidation",
                     Value::Flag(self.bypass_document_validation),

@@ -314,6 +314,21 @@ impl FindOptions {
         ensures same { OnErr result (body.new ≡ body.old) }
         ensures err { IfErr result (λ e. FailsBy (first_unfit (find_lines self.now)) e) }
     {
+        self.append_sized(alloc, body, self.batch_size)
+    }
+
+    /// As `append_fields`, with this size of a batch in place of the one that was given.
+    pub fn append_sized(
+        &self,
+        alloc: Global,
+        body: &mut Document,
+        batch_size: Option<u32>,
+    ) -> Result<(), Error>
+        ensures ok { OnOk result (body.new ≡ joined body.old (fields_in (find_lines (record self.now { batch_size = batch_size })))) }
+        ensures fits { OnOk result (first_unfit (find_lines (record self.now { batch_size = batch_size })) ≡ None) }
+        ensures same { OnErr result (body.new ≡ body.old) }
+        ensures err { IfErr result (λ e. FailsBy (first_unfit (find_lines (record self.now { batch_size = batch_size }))) e) }
+    {
         append_given(
             alloc,
             body,
@@ -323,7 +338,7 @@ impl FindOptions {
                     "allowPartialResults",
                     Value::Flag(self.allow_partial_results),
                 ),
-                ("batchSize", Value::Size(self.batch_size)),
+                ("batchSize", Value::Size(batch_size)),
                 ("comment", Value::Any(&self.comment)),
                 ("hint", Value::Hint(&self.hint)),
                 ("limit", Value::Limit(self.limit)),

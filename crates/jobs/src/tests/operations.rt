@@ -28,6 +28,8 @@ fn get_more_without_a_size(rt: HostRuntime) -> Result<(), Fail> {
             ns: namespace(alloc)?,
             id: 9,
             batch_size,
+            max_time: None,
+            comment: None,
         };
         let Ok(command) = get_more.build(alloc, 21) else {
             return Err(Fail::from("build"));
@@ -133,6 +135,8 @@ fn gave(alloc: Global) -> Result<(i64, bool, bool, usize), Error> {
         ns: namespace(alloc)?,
         id: 1,
         batch_size: None,
+        max_time: None,
+        comment: None,
     };
     let gave = get_more.read(alloc, reply)?;
     let count = match doc_slices(&gave.raw_reply.as_raw()) {

@@ -30,7 +30,7 @@ fn shown(alloc: Global, body: Document) -> Result<String, AllocError> {
 }
 
 /// Fails a test where a body is not shown as this.
-fn is_shown(
+pub(super) fn is_shown(
     rt: &impl Abort,
     alloc: Global,
     about: &str,

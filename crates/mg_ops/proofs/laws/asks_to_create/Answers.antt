@@ -1,0 +1,5 @@
+use Rattle.mg_ops.proofs.AskingMore.{asks_to_create}
+use Rattle.mg_ops.proofs.laws.asks_to_create.Goals as goal
+
+pub returns : goal.returns
+returns c = asks_to_create
