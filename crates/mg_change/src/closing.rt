@@ -341,6 +341,21 @@ fn go_on<L: Link>(link: &mut L, landing: Step<Closing, Remains>) -> Step<Closing
     }
 }
 
+impl Closing {
+    /// The number of the ticket that it holds, while it waits for a reply.
+    pub fn ticket_number(&self) -> Option<u64>
+        ensures { result ≡ closing_ticket self.now }
+    {
+        match &self.flight {
+            Flight::Landed => None,
+            Flight::More(_, exec) => exec.ticket_number(),
+            Flight::Resumption(exec) => exec.ticket_number(),
+            Flight::Older(exec, _) => exec.ticket_number(),
+            Flight::Last(exec) => exec.ticket_number(),
+        }
+    }
+}
+
 impl Action for Closing {
     type Output = ();
 

@@ -175,6 +175,16 @@ impl Opening {
             exec: None,
         }
     }
+
+    /// The number of the ticket that it holds, while it waits for a reply.
+    pub fn ticket_number(&self) -> Option<u64>
+        ensures { result ≡ opening_ticket self.now }
+    {
+        match &self.exec {
+            Some(exec) => exec.ticket_number(),
+            None => None,
+        }
+    }
 }
 
 impl Action for Opening {

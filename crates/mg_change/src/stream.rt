@@ -241,6 +241,23 @@ impl ChangeStream {
         self.cursor.id != 0 || matches!(self.phase, Phase::Owing | Phase::Resuming(_))
     }
 
+    /// The number of the ticket that it holds, while it waits for a reply.
+    pub fn ticket_number(&self) -> Option<u64>
+        ensures { result ≡ ticket_in self.now.phase }
+    {
+        match &self.phase {
+            Phase::Taken => None,
+            Phase::Rest => None,
+            Phase::First(_) => None,
+            Phase::Fresh => None,
+            Phase::Asking(_, exec) => exec.ticket_number(),
+            Phase::Owing => None,
+            Phase::Resuming(exec) => exec.ticket_number(),
+            Phase::Killing(exec, _, _) => exec.ticket_number(),
+            Phase::Resumed(_) => None,
+        }
+    }
+
     /// Closes the stream. Nothing is sent until the closing is polled.
     pub fn close(self) -> Closing
         ensures ticket { closing_ticket result ≡ ticket_in self.phase }

@@ -6,8 +6,8 @@ use Rattle.mg_link.specs.Link.{Awaited, Told}
 use Rattle.mg_link.specs.declared.error.Error.{Error}
 use Rattle.mg_link.proofs.Owners.{same_some}
 use Rattle.mg_link.proofs.Places.{get_set_other, get_set_same}
-use Rattle.mg_jobs.specs.Playing.{IsSameFollow}
-use Rattle.mg_jobs.specs.Runs.{AreApart, AreNew, AreSameJobs, CanGo, Goes, IsNew, IsSameJob, job_ticket}
+use Rattle.mg_jobs.specs.Playing.{IsSameFollow, job_ticket}
+use Rattle.mg_jobs.specs.Runs.{AreApart, AreNew, AreSameJobs, CanGo, Goes, IsNew, IsSameJob}
 use Rattle.mg_jobs.specs.declared.player.FollowPlayer.{FollowPlayer}
 use Rattle.mg_jobs.specs.declared.run.Player.{Player}
 use Rattle.mg_jobs.specs.declared.run.Player.TheVariants as player

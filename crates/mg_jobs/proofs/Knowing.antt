@@ -15,12 +15,12 @@ use Rattle.mg_script.specs.Plan as plan
 use Rattle.mg_script.specs.Plan.{Task, begin, task, tasks}
 use Rattle.mg_script.specs.declared.script.Job.{Job}
 use Rattle.mg_jobs.specs.Follows.{FollowKnows, FollowTurns, FollowsNothing, HasNothing, IsUnfinished, IsUnwatched, IsWatched, Placing, filter_in, same_place}
-use Rattle.mg_jobs.specs.Playing.{IsPlainInsert, IsPlainJob, IsSameFollow, IsSameInsert}
+use Rattle.mg_jobs.specs.Playing.{IsPlainInsert, IsPlainJob, IsSameFollow, IsSameInsert, job_ticket}
 use Rattle.mg_jobs.specs.Headline.{AllKnow, AreFirst, DoTasks, Does, IsFirst, IsSameTask, Knowing, Made, OutcomeOf, OutcomesOf, Plays, PlaysAt, Took, Turns}
 use Rattle.mg_jobs.specs.declared.player.FollowPlayer.{FollowPlayer}
 use Rattle.mg_jobs.specs.declared.player.Stage.{Stage}
 use Rattle.mg_jobs.specs.declared.player.Stage.TheVariants as stage
-use Rattle.mg_jobs.specs.Runs.{AreApart, Goes, job_ticket}
+use Rattle.mg_jobs.specs.Runs.{AreApart, Goes}
 use Rattle.mg_jobs.specs.declared.run.Player.{Player}
 use Rattle.mg_jobs.specs.declared.run.Player.TheVariants as player
 use Rattle.mg_link.proofs.Owners.{same_some}

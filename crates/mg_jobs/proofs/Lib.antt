@@ -14,6 +14,7 @@ pub mod Sendings
 pub mod Telling
 pub mod Told
 pub mod Waiting
+pub mod Creating
 pub mod Prompting
 pub mod Batches
 pub mod Identified
@@ -23,6 +24,7 @@ pub mod InsertCauses
 pub mod InsertTelling
 pub mod Drawing
 pub mod OwnTickets
+pub mod Newest
 pub mod Polling
 pub mod Showing
 mod Stepping

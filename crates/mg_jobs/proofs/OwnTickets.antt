@@ -1,16 +1,12 @@
--- The tickets that a turn is shown, and the polls of its own calls.
-use Rattle.std.proofs.Common.{◌≡◌, ◌⊎◌, ◌+◌, ◌-◌, ◌^◌, ◌<◌, ◌≤◌, ◌++◌, ◌∷◌, [], List, length, min, ℕ, zero, suc, Bool, true, false, Option, Some, None, Result, Ok, Err, refl, sym, ap, ◌∙◌, subst, inl, inr, arith, length-append}
+-- The tickets that a turn is shown, and the polls of its newest call.
+use Rattle.std.proofs.Common.{◌≡◌, ◌⊎◌, ◌+◌, ◌-◌, ◌^◌, ◌<◌, ◌≤◌, ◌++◌, ◌∷◌, [], List, length, min, ℕ, zero, suc, Bool, true, false, Option, Some, None, refl, sym, ap, ◌∙◌, subst, inl, inr, arith, length-append}
 use Rattle.std.specs.Prelude.{is_some, IsSome, nat_eq, if◌then◌else◌}
 use Rattle.std.proofs.lemmas.Bool.{cases_eq, eq-eqb, ne_eqb}
-use Rattle.mg_link.specs.Link.{Adds, Awaited, Ends, OneMore, OneMoreAt, PollMeans, PollPends, Polls, SamePolls, Sees, StartMeans, Starts, Told}
+use Rattle.mg_link.specs.Acts.{IsOut}
+use Rattle.mg_link.specs.Link.{Awaited, Ends, OneMore, OneMoreAt, Polls, SamePolls, Sees, Sends, Starts, Told, Waits}
 use Rattle.mg_link.specs.Log.{Sight, Call, waiting, fault, see}
-use Rattle.mg_link.specs.declared.link.LinkError.{LinkError}
-use Rattle.mg_link.specs.declared.link.LinkError.TheVariants as error
-use Rattle.mg_link.specs.declared.link.Polled.{Polled}
-use Rattle.mg_link.specs.declared.link.Polled.TheVariants as polled
-use Rattle.mg_link.specs.declared.link.Ticket.{Ticket}
 use Rattle.mg_link.proofs.Outs.{length-see}
-use Rattle.mg_jobs.specs.Counts.{IsOwnTurn, IsSentBetween, IsTurnsCall, PolledBy, StartedBy, TicketsSince, is_held, shown}
+use Rattle.mg_jobs.specs.Counts.{IsNewest, IsOwnTurn, NewestAt, sent_last, was_held, PolledBy, PolledNewest, StartedBy, is_held, one_if, shown}
 
 same_some : {A : Type 0} (x y : A) → Some x ≡ Some y → x ≡ y
 same_some x y h = cc
@@ -76,16 +72,15 @@ shown_own held began now n out mine was =
     let bad : false ≡ true = ap (λ o. is_some o) (sym (hidden_by (is_held held n) (is_some (began n)) (now n) mine was)) ∙ out in
     cc
 
--- ---- the log
+-- one that stays as it is is shown as it was
+shown_same : (held : Option ℕ) (began old new : Awaited) (n : ℕ) → new n ≡ old n → IsSome (shown held began new n) → IsSome (shown held began old n)
+shown_same held began old new n same out = subst (λ (o : Option ℕ). IsSome (shown_by (is_held held n) (is_some (began n)) o)) same out
 
-sent_longer : (from to to' : Told) (place : ℕ) → ((calls : List Call) → to ≡ Some calls → (calls' : List Call) × (to' ≡ Some calls') × (length calls ≤ length calls')) → IsSentBetween from to place → IsSentBetween from to' place
-sent_longer from to to' place longer between calls told =
-    let b = between calls told in
-    let l = longer b.0 b.1 in
-    let more = l.2 in
-    let low = b.2 in
-    let high = b.3 in
-    (l.0, l.1, low, omega (arith, more, high))
+pub none_if : (o : Option ℕ) (b : Bool) → b ≡ is_some o → b ≡ false → o ≡ None
+none_if None b is e = refl
+none_if (Some n) b is e = cc
+
+-- ---- the log
 
 abbrev pub IsLonger : Told → Told → Type 0
 IsLonger to to' = (calls : List Call) → to ≡ Some calls → (calls' : List Call) × (to' ≡ Some calls') × (length calls ≤ length calls')
@@ -93,17 +88,14 @@ IsLonger to to' = (calls : List Call) → to ≡ Some calls → (calls' : List C
 pub started_longer : (n : ℕ) (from to : Told) → StartedBy n from to → IsLonger from to
 started_longer n from to started calls told = let s = started calls told in let more = s.2 in (s.0, s.1, omega (arith, more))
 
-adds_longer : (log log' : Told) (command : List ℕ) (seen : Sight) → Adds log log' command seen → IsLonger log log'
-adds_longer log log' command seen adds calls told =
-    let a = adds calls told in
-    let one : Call = record { command = command; position = a.0; seen = seen } in
-    (calls ++ one ∷ [], a.1, omega (arith, length-append calls (one ∷ [])))
+abbrev IsAsLong : Told → Told → Type 0
+IsAsLong to to' = (calls : List Call) → to ≡ Some calls → (calls' : List Call) × (to' ≡ Some calls') × (length calls' ≡ length calls)
 
-same_longer : (log log' : Told) → log' ≡ log → IsLonger log log'
-same_longer log log' e calls told = (calls, e ∙ told, omega arith)
+same_long : (log log' : Told) → log' ≡ log → IsAsLong log log'
+same_long log log' e calls told = (calls, e ∙ told, refl)
 
-sees_longer : (log log' : Told) (place : Option ℕ) (seen : Sight) → Sees log log' place seen → IsLonger log log'
-sees_longer log log' place seen sees calls told = let s = sees calls told in (see s.0 seen calls, s.5, omega (arith, length-see s.0 seen calls))
+sees_long : (log log' : Told) (place : Option ℕ) (seen : Sight) → Sees log log' place seen → IsAsLong log log'
+sees_long log log' place seen sees calls told = let s = sees calls told in (see s.0 seen calls, s.5, length-see s.0 seen calls)
 
 -- ---- polls
 
@@ -114,126 +106,127 @@ polled_map (suc n) own own' before now to p = (p.0, polled_map n own own' before
 one_more_same : (place : ℕ) (between now now' : Polls) → SamePolls now now' → OneMore place between now → OneMore place between now'
 one_more_same place between now now' same one = record { here = same place ∙ one.here; rest = λ other ne. same other ∙ one.rest other ne }
 
-pub polled_same : (n : ℕ) (own : ℕ → Type 0) (before now now' : Polls) → SamePolls now now' → PolledBy n own before now → PolledBy n own before now'
+polled_same : (n : ℕ) (own : ℕ → Type 0) (before now now' : Polls) → SamePolls now now' → PolledBy n own before now → PolledBy n own before now'
 polled_same zero own before now now' same p = λ place. same place ∙ p place
 polled_same (suc n) own before now now' same p = (p.0, p.1, (p.2.0, p.2.1, one_more_same p.2.0 p.0 now now' same p.2.2))
 
+none_polled : (n : ℕ) (own own' : ℕ → Type 0) (before now now' : Polls) → n ≡ 0 → SamePolls now now' → PolledBy n own before now → PolledBy n own' before now'
+none_polled zero own own' before now now' none same p = λ place. same place ∙ p place
+none_polled (suc n) own own' before now now' none same p = absurd (omega (arith, none))
+
 module _ (held : Option ℕ) (began : Awaited) (from : Told) (before : Polls) where
-  call_longer : (to to' : Told) → IsLonger to to' → (place : ℕ) → IsTurnsCall held began from to place → IsTurnsCall held began from to' place
-  call_longer to to' longer place (inl mine) = inl mine
-  call_longer to to' longer place (inr sent) = inr (sent_longer from to to' place longer sent)
-
-  -- the polls stay as they are, and the log grows
-  on_polls : (pended : ℕ) (to to' : Told) (polls polls' : Polls) → IsLonger to to' → SamePolls polls polls' → (pended < 2 ^ 64 - 1 → PolledBy pended (IsTurnsCall held began from to) before polls) → pended < 2 ^ 64 - 1 → PolledBy pended (IsTurnsCall held began from to') before polls'
-  on_polls pended to to' polls polls' longer same was few =
-      polled_same pended (IsTurnsCall held began from to') before polls polls' same (polled_map pended (IsTurnsCall held began from to) (IsTurnsCall held began from to') before polls (call_longer to to' longer) (was few))
-
-  -- no ticket changes
-  tickets_stay : (old new : Awaited) (to to' : Told) → IsLonger to to' → ((m : ℕ) → new m ≡ old m) → TicketsSince held began old from to → TicketsSince held began new from to'
-  tickets_stay old new to to' longer same was = record {
-    others = λ n mine out. same n ∙ was.others n mine out;
-    each = λ n place at. elim (was.each n place (sym (same n) ∙ at)) [ inl e ↦ inl e | inr sent ↦ inr (sent_longer from to to' place longer sent) ];
+  -- a turn begins
+  pub own_begun : (now : Awaited) (to : Told) (out : Option ℕ) (polls : Polls) → now ≡ began → to ≡ from → out ≡ held → polls ≡ before → IsOwnTurn held began now from to out 0 before polls
+  own_begun now to out polls same log is counts = record {
+    others = λ n mine there. ap (λ (a : Awaited). a n) same;
+    only = λ n there. elim (cases_held (is_held held n)) [
+      | inl mine ↦ is ∙ held_is held n mine
+      | inr other ↦ absurd (shown_own held began now n there other (subst (λ (o : Option ℕ). IsSome o) (shown_out held began now n there ∙ ap (λ (a : Awaited). a n) same) there))
+    ];
+    newest = λ n place e at calls told. (calls, log ∙ told, was_held refl n (sym is ∙ e) (sym (ap (λ (a : Awaited). a n) same) ∙ at));
+    polls = λ few place. ap (λ (p : Polls). p place) counts;
   }
+
+  still_newest : (calls mid new : List Call) (place : ℕ) → length new ≡ length mid → NewestAt held began calls mid place → NewestAt held began calls new place
+  still_newest calls mid new place long (sent_last less last) = sent_last (omega (arith, long, less)) (omega (arith, long, last))
+  still_newest calls mid new place long (was_held same n holds at) = was_held (omega (arith, long, same)) n holds at
+
+  newest_on : (to to' : Told) → IsAsLong to to' → (place : ℕ) → IsNewest held began from to place → IsNewest held began from to' place
+  newest_on to to' long place newest calls told =
+      let it = newest calls told in
+      let on = long it.0 it.1 in
+      (on.0, on.1, still_newest calls it.0 on.0 place on.2 it.2)
 
   -- ---- a start
 
-  module _ (old new : Awaited) (to to' : Told) (command : List ℕ) where
-    fresh_other : (number n : ℕ) → old number ≡ None → TicketsSince held began old from to → is_held held n ≡ false → IsSome (began n) → n ≡ number → ⊥
-    fresh_other number n fresh was mine out e =
-        let there : old n ≡ began n = was.others n mine out in
-        let none : old n ≡ None = ap old e ∙ fresh in
-        none_is_not (began n) (sym there ∙ none) out
+  module _ (old new : Awaited) (to to' : Told) (command : List ℕ) (out : Option ℕ) (none : out ≡ None) (pended : ℕ) (none_pended : pended ≡ 0) (polls polls' : Polls) (same : SamePolls polls polls') (was : IsOwnTurn held began old from to out pended before polls) where
+    not_shown : (n : ℕ) → IsSome (shown held began old n) → ⊥
+    not_shown n there = let bad : None ≡ Some n = sym none ∙ was.only n there in absurd cc
 
-    starts_tickets : (number : ℕ) → Starts old new to to' number command → TicketsSince held began old from to → IsLonger from to → TicketsSince held began new from to'
-    starts_tickets number s was grown = record {
-      others = λ n mine out. s.rest n (fresh_other number n s.fresh was mine out) ∙ was.others n mine out;
-      each = λ n place at. elim (cases_eq n number) [
-        | inl e ↦ inr (λ calls told.
-            let g = grown calls told in
-            let a = s.adds g.0 g.1 in
-            let one : Call = record { command = command; position = a.0; seen = waiting } in
-            let here : place ≡ length g.0 = same_some place (length g.0) (sym at ∙ ap new e ∙ s.place g.0 g.1) in
-            let more = g.2 in
-            (g.0 ++ one ∷ [], a.1, omega (arith, here, more), omega (arith, here, length-append g.0 (one ∷ []))))
-        | inr ne ↦ elim (was.each n place (sym (s.rest n ne) ∙ at)) [ inl e ↦ inl e | inr sent ↦ inr (sent_longer from to to' place (adds_longer to to' command waiting s.adds) sent) ]
-      ];
-    }
-
-    -- what a start does to the tickets
-    start_tickets : (result : Result Ticket LinkError) → StartMeans old new to to' command result → TicketsSince held began old from to → IsLonger from to → TicketsSince held began new from to'
-    start_tickets (Ok number) s was grown = starts_tickets number s was grown
-    start_tickets (Err error.Fault) s was grown = tickets_stay old new to to' (adds_longer to to' command fault s.adds) s.rest was
-    start_tickets (Err error.Memory) s was grown = tickets_stay old new to to' (same_longer to to' s.log_same) s.rest was
-
-    start_longer : (result : Result Ticket LinkError) → StartMeans old new to to' command result → IsLonger to to'
-    start_longer (Ok number) s = adds_longer to to' command waiting s.adds
-    start_longer (Err error.Fault) s = adds_longer to to' command fault s.adds
-    start_longer (Err error.Memory) s = same_longer to to' s.log_same
+    fresh_other : (number n : ℕ) → old number ≡ None → is_held held n ≡ false → IsSome (began n) → n ≡ number → ⊥
+    fresh_other number n fresh mine there e =
+        let stays : old n ≡ began n = was.others n mine there in
+        let gone : old n ≡ None = ap old e ∙ fresh in
+        none_is_not (began n) (sym stays ∙ gone) there
 
     -- a turn goes on by a start
-    pub own_started : (result : Result Ticket LinkError) (pended : ℕ) (polls polls' : Polls) → StartMeans old new to to' command result → SamePolls polls polls' → IsLonger from to → IsOwnTurn held began old from to pended before polls → IsOwnTurn held began new from to' pended before polls'
-    own_started result pended polls polls' s same grown was = record {
-      tickets = start_tickets result s was.tickets grown;
-      polls = on_polls pended to to' polls polls' (start_longer result s) same was.polls;
+    pub own_started : (number : ℕ) → Starts old new to to' number command → IsLonger from to → IsOwnTurn held began new from to' (Some number) pended before polls'
+    own_started number s grown = record {
+      others = λ n mine there. s.rest n (fresh_other number n s.fresh mine there) ∙ was.others n mine there;
+      only = λ n there. elim (cases_eq n number) [
+        | inl e ↦ ap (λ m. Some m) (sym e)
+        | inr ne ↦ absurd (not_shown n (shown_same held began old new n (s.rest n ne) there))
+      ];
+      newest = λ n place is at calls told.
+          let g = grown calls told in
+          let a = s.adds g.0 g.1 in
+          let one : Call = record { command = command; position = a.0; seen = waiting } in
+          let here : place ≡ length g.0 = same_some place (length g.0) (sym at ∙ ap new (sym (same_some number n is)) ∙ s.place g.0 g.1) in
+          let more = g.2 in
+          let sum = length-append g.0 (one ∷ []) in
+          (g.0 ++ one ∷ [], a.1, sent_last (omega (arith, more, sum)) (omega (arith, here, sum)));
+      polls = λ few. none_polled pended (IsNewest held began from to) (IsNewest held began from to') before polls polls' none_pended same (was.polls few);
+    }
+
+    -- it goes on by one that was lost
+    pub own_lost : Sends old new to to' command fault → IsOwnTurn held began new from to' out pended before polls'
+    own_lost s = record {
+      others = λ n mine there. s.rest n ∙ was.others n mine there;
+      only = λ n there. was.only n (shown_same held began old new n (s.rest n) there);
+      newest = λ n place is at. let bad : None ≡ Some n = sym none ∙ is in absurd cc;
+      polls = λ few. none_polled pended (IsNewest held began from to) (IsNewest held began from to') before polls polls' none_pended same (was.polls few);
     }
 
   -- ---- a poll
 
-  module _ (old new : Awaited) (to to' : Told) (ticket : ℕ) (out : IsSome (shown held began old ticket)) where
-    not_other : (n : ℕ) → is_held held n ≡ false → IsSome (began n) → n ≡ ticket → ⊥
-    not_other n mine was e = shown_own held began old ticket out (subst (λ (m : ℕ). is_held held m ≡ false) e mine) (subst (λ (m : ℕ). IsSome (began m)) e was)
-
-    not_gone : (n place : ℕ) → new ticket ≡ None → new n ≡ Some place → n ≡ ticket → ⊥
-    not_gone n place gone at e = let bad : Some place ≡ None = sym at ∙ ap new e ∙ gone in cc
-
-    ends_tickets : (seen : Sight) → Ends old new to to' ticket seen → TicketsSince held began old from to → TicketsSince held began new from to'
-    ends_tickets seen e was = record {
-      others = λ n mine there. e.rest n (not_other n mine there) ∙ was.others n mine there;
-      each = λ n place at. elim (was.each n place (sym (e.rest n (not_gone n place e.gone at)) ∙ at)) [ inl i ↦ inl i | inr sent ↦ inr (sent_longer from to to' place (sees_longer to to' (old ticket) seen e.sees) sent) ];
-    }
-
-    poll_tickets : (result : Polled) → PollMeans old new to to' ticket result → TicketsSince held began old from to → TicketsSince held began new from to'
-    poll_tickets (polled.Pending given) w was = tickets_stay old new to to' (same_longer to to' w.log_same) w.rest was
-    poll_tickets (polled.Reply bytes) e was = ends_tickets _ e was
-    poll_tickets polled.Failed e was = ends_tickets _ e was
-    poll_tickets polled.Memory e was = ends_tickets _ e was
-
-    poll_longer : (result : Polled) → PollMeans old new to to' ticket result → IsLonger to to'
-    poll_longer (polled.Pending given) w = same_longer to to' w.log_same
-    poll_longer (polled.Reply bytes) e = sees_longer to to' (old ticket) _ e.sees
-    poll_longer polled.Failed e = sees_longer to to' (old ticket) _ e.sees
-    poll_longer polled.Memory e = sees_longer to to' (old ticket) _ e.sees
-
-    -- the call of the ticket is one of the turn
-    own_call : (place : ℕ) → old ticket ≡ Some place → TicketsSince held began old from to → IsTurnsCall held began from to place
-    own_call place at was = elim (was.each ticket place at) [
-      | inl there ↦ elim (cases_held (is_held held ticket)) [
-        | inl mine ↦ inl (ticket, held_is held ticket mine, there)
-        | inr other ↦ absurd (shown_own held began old ticket out other (ap (λ o. is_some o) there))
-      ]
-      | inr sent ↦ inr sent
-    ]
-
-    one_polled : (o : Option ℕ) (polls polls' : Polls) → old ticket ≡ o → OneMoreAt o polls polls' → TicketsSince held began old from to → (place : ℕ) × IsTurnsCall held began from to place × OneMore place polls polls'
-    one_polled None polls polls' at more was = let bad : false ≡ true = ap (λ x. is_some x) (sym at) ∙ ap (λ x. is_some x) (sym (shown_out held began old ticket out)) ∙ out in cc
-    one_polled (Some place) polls polls' at more was = (place, own_call place at was, more place refl)
+  module _ (old new : Awaited) (to to' : Told) (ticket : ℕ) (there : IsSome (shown held began old ticket)) (out : Option ℕ) (pended : ℕ) (polls polls' : Polls) (was : IsOwnTurn held began old from to out pended before polls) where
+    one_polled : (o : Option ℕ) → old ticket ≡ o → OneMoreAt o polls polls' → (place : ℕ) × IsNewest held began from to place × OneMore place polls polls'
+    one_polled None at more = let bad : false ≡ true = ap (λ x. is_some x) (sym at) ∙ ap (λ x. is_some x) (sym (shown_out held began old ticket there)) ∙ there in cc
+    one_polled (Some place) at more = (place, was.newest ticket place (was.only ticket there) at, more place refl)
 
     -- a turn goes on by a poll that pended
-    pub own_pended : (given pended more now' : ℕ) (pends : ℕ) (polls polls' : Polls) → PollMeans old new to to' ticket (polled.Pending given) → PollPends (polled.Pending given) (old ticket) pends now' polls polls' → more ≡ min (pended + 1) (2 ^ 64 - 1)
-        → IsOwnTurn held began old from to pended before polls → IsOwnTurn held began new from to' more before polls'
-    own_pended given pended more now' pends polls polls' w p is was = record {
-      tickets = poll_tickets (polled.Pending given) w was.tickets;
-      polls = λ few.
-          let longer = same_longer to to' w.log_same in
-          let one : more ≡ suc pended = omega (arith, few, is) in
-          let own = one_polled (old ticket) polls polls' refl p.1 was.tickets in
-          subst (λ m. PolledBy m (IsTurnsCall held began from to') before polls') (sym one)
-          (polls, polled_map pended (IsTurnsCall held began from to) (IsTurnsCall held began from to') before polls (call_longer to to' longer) (was.polls (omega (arith, few, one))), (own.0, call_longer to to' longer own.0 own.1, own.2));
-    }
+    pub own_pended : (given more : ℕ) → Waits old new to to' ticket given → OneMoreAt (old ticket) polls polls' → more ≡ min (pended + 1) (2 ^ 64 - 1) → IsOwnTurn held began new from to' out more before polls'
+    own_pended given more w one is =
+        let long = same_long to to' w.log_same in
+        record {
+          others = λ n mine out. w.rest n ∙ was.others n mine out;
+          only = λ n out. was.only n (shown_same held began old new n (w.rest n) out);
+          newest = λ n place e at. newest_on to to' long place (was.newest n place e (sym (w.rest n) ∙ at));
+          polls = λ few.
+              let next : more ≡ suc pended = omega (arith, few, is) in
+              let own = one_polled (old ticket) refl one in
+              subst (λ m. PolledBy m (IsNewest held began from to') before polls') (sym next)
+              (polls, polled_map pended (IsNewest held began from to) (IsNewest held began from to') before polls (newest_on to to' long) (was.polls (omega (arith, few, next))), (own.0, newest_on to to' long own.0 own.1, own.2));
+        }
+
+    not_other : (n : ℕ) → is_held held n ≡ false → IsSome (began n) → n ≡ ticket → ⊥
+    not_other n mine out e = shown_own held began old ticket there (subst (λ (m : ℕ). is_held held m ≡ false) e mine) (subst (λ (m : ℕ). IsSome (began m)) e out)
+
+    gone_shown : (n : ℕ) → new ticket ≡ None → IsSome (shown held began new n) → n ≡ ticket → ⊥
+    gone_shown n gone out e = none_is_not (new n) (ap new e ∙ gone) (subst (λ (o : Option ℕ). IsSome o) (shown_out held began new n out) out)
 
     -- it goes on by a poll that answered
-    pub own_answered : (result : Polled) (pended : ℕ) (polls polls' : Polls) → PollMeans old new to to' ticket result → SamePolls polls polls' → IsOwnTurn held began old from to pended before polls → IsOwnTurn held began new from to' pended before polls'
-    own_answered result pended polls polls' w same was = record {
-      tickets = poll_tickets result w was.tickets;
-      polls = on_polls pended to to' polls polls' (poll_longer result w) same was.polls;
-    }
+    pub own_answered : (seen : Sight) → Ends old new to to' ticket seen → SamePolls polls polls' → IsOwnTurn held began new from to' None pended before polls'
+    own_answered seen e same =
+        let long = sees_long to to' (old ticket) seen e.sees in
+        record {
+          others = λ n mine out. e.rest n (not_other n mine out) ∙ was.others n mine out;
+          only = λ n out.
+              let ne = gone_shown n e.gone out in
+              let it = was.only n (shown_same held began old new n (e.rest n ne) out) in
+              absurd (ne (same_some n ticket (sym it ∙ was.only ticket there)));
+          newest = λ n place is at. absurd cc;
+          polls = λ few. polled_same pended (IsNewest held began from to') before polls polls' same (polled_map pended (IsNewest held began from to) (IsNewest held began from to') before polls (newest_on to to' long) (was.polls few));
+        }
+
+-- ---- behind a turn
+
+few_pended : (pended : Bool) → one_if pended < 2 ^ 64 - 1
+few_pended true = omega arith
+few_pended false = omega arith
+
+pub newest_of : (held after : Option ℕ) (began now : Awaited) (from to : Told) (out : Option ℕ) (pended : Bool) (n : ℕ) (polls polls' : Polls) → n ≡ one_if pended → IsOut (shown held began now) after → IsOwnTurn held began now from to out n polls polls' → PolledNewest pended held after began now from to polls polls'
+newest_of held after began now from to out pended n polls polls' is holds was = record {
+  polled = subst (λ m. PolledBy m (IsNewest held began from to) polls polls') is (was.polls (subst (λ m. m < 2 ^ 64 - 1) (sym is) (few_pended pended)));
+  holds = λ m place e at. was.newest m place (was.only m (holds m e)) at;
+}

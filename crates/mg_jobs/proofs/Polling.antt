@@ -1,52 +1,52 @@
 -- Whose calls are polled in the turns of a run.
-use Rattle.std.proofs.Common.{◌≡◌, ◌+◌, ◌≤◌, ℕ, zero, suc, ℤ, List, [], ◌∷◌, ◌++◌, length, Some, Result, Ok, Err, IfOk, refl, sym, ap, ◌∙◌, subst, inl, inr, take, arith, append_assoc}
+use Rattle.std.proofs.Common.{◌≡◌, ◌+◌, ◌≤◌, ℕ, zero, suc, ℤ, List, [], ◌∷◌, ◌++◌, length, Option, Some, Result, Ok, Err, IfOk, refl, sym, ap, ◌∙◌, subst, take, arith, append_assoc}
 use Rattle.std.specs.Prelude.{slice_get}
+use Rattle.std.specs.List.{sum_by}
 use Rattle.std.proofs.lemmas.List.{append-nil, take_all}
 use Rattle.mg_link.specs.Link.{Awaited, Polls, SamePolls, Told}
 use Rattle.mg_link.specs.Log.{Call}
 use Rattle.mg_link.specs.declared.error.Error.{Error}
 use Rattle.mg_link.proofs.Owners.{same_some}
-use Rattle.mg_jobs.specs.Causes.{AllPollOwn, IsPolledIn, PollOwnFrom, PollsOwn, SentIn, course}
-use Rattle.mg_jobs.specs.Counts.{IsTurnsCall, PolledBy, StartedBy, one_if}
-use Rattle.mg_jobs.specs.Drawing.{HaveDrawn, first_id}
-use Rattle.mg_jobs.specs.Progress.{AllAt, calls_of, pends_last, turns_done}
-use Rattle.mg_jobs.specs.Runs.{job_ticket}
-use Rattle.mg_jobs.specs.Telling.{AllTell}
+use Rattle.mg_jobs.specs.Causes.{AllPollOwn, IsPolledIn, in_turn, before_it, PollOwnFrom, PollsOwn, SentIn, SentNoneBehind, course}
+use Rattle.mg_jobs.specs.Counts.{IsNewest, NewestAt, sent_last, was_held, PolledBy, StartedBy, one_if}
+use Rattle.mg_jobs.specs.Drawing.{HaveDrawn, JobHadTurn, first_id, has_turn}
+use Rattle.mg_jobs.specs.Progress.{AllAt, IsAt, calls_of, pends_last, turns_done}
+use Rattle.mg_jobs.specs.Telling.{AllTell, JobTold}
 use Rattle.mg_script.specs.Plan.{Task}
 use Rattle.mg_script.specs.declared.outcome.Played.{Played}
 use Rattle.mg_script.specs.declared.outcome.Turned.{Turned}
 use Rattle.mg_jobs.specs.declared.run.Player.{Player}
 use Rattle.mg_jobs.proofs.Knowing.{get_length, one_more, take_next}
 use Rattle.mg_jobs.proofs.OwnTickets.{polled_map}
+use Rattle.mg_jobs.specs.Playing.{job_ticket}
 use Rattle.mg_jobs.proofs.Waiting.{job_own, job_pended}
 
 -- ---- one turn
 
--- The call that was polled is one that the turn's job sent in it, or that it waited for.
+-- the newest call of a turn is the newest one that its job sent
+polled_in : (ids : ℕ → List ℕ) (first : ℕ) (old : Awaited) (mid new : List Call) (wire : ℤ) (calls : List Call) (order : List ℕ) (notes : List Turned) (j : ℕ) (p : Player) (at : Option ℕ) (asks : ℕ) (note : Turned) (place : ℕ) → JobHadTurn (has_turn j order) p → JobTold ids first old mid wire (course calls order notes) j p at
+    → IsAt asks p (turns_done j order notes) (pends_last j order notes) → ((n : ℕ) → job_ticket p ≡ Some n → old n ≡ Some place → SentNoneBehind (course calls order notes) j place)
+    → length mid ≡ length calls + sum_by (λ (t : Turned). t.started) notes → length new ≡ length mid + note.started → NewestAt (job_ticket p) old mid new place → IsPolledIn calls order notes j note place
+polled_in ids first old mid new wire calls order notes j p at asks note place had told is none count more (sent_last less last) = in_turn (omega (arith, less, more)) (omega (arith, count, more, last))
+polled_in ids first old mid new wire calls order notes j p at asks note place had told is none count more (was_held same n holds out) =
+    let own = job_own ids first old mid wire (course calls order notes) j p at n had told holds in
+    before_it (omega (arith, same, more)) (job_pended asks p (turns_done j order notes) (pends_last j order notes) n is holds)
+    (record { done = own.done; sent = subst (λ m. SentIn (course calls order notes) j own.done m) (same_some own.place place (sym own.at ∙ out)) own.sent; newest = none n holds out })
+
+-- The call that was polled is the newest one that the turn's job sent.
 pub polls_turn : (ids given : ℕ → List ℕ) (old : Awaited) (log log' : Told) (wire : ℤ) (ts : List Task) (order : List ℕ) (notes : List Turned) (players : List Player) (j : ℕ) (p : Player) (note : Turned) (polls polls' : Polls) (begun : Told) → slice_get players j ≡ Some p → StartedBy note.started log log'
-    → AllAt ts order notes players → HaveDrawn ids given ts order players → AllTell ids old begun log wire ts order notes players → PolledBy (one_if note.pended) (IsTurnsCall (job_ticket p) old log log') polls polls' → PollsOwn begun order notes j note polls polls'
+    → AllAt ts order notes players → HaveDrawn ids given ts order players → AllTell ids old begun log wire ts order notes players → PolledBy (one_if note.pended) (IsNewest (job_ticket p) old log log') polls polls' → PollsOwn begun order notes j note polls polls'
 polls_turn ids given old log log' wire ts order notes players j p note polls polls' begun at started all drawn tell polled calls told =
     let run = tell calls told in
     let t = get_length ts players drawn.jobs j p at in
     let count = run.3.count in
-    polled_map (one_if note.pended) (IsTurnsCall (job_ticket p) old log log') (IsPolledIn calls order notes j note) polls polls'
-    (λ place own. elim own [
-      | inl held ↦
-          let it = job_own ids (first_id ts order j) old run.0 wire (course calls order notes) j p (run.2.places j) held.0 (drawn.each j p at) (run.3.each j t.0 p t.1 at) held.1 in
-          inr (
-            job_pended (calls_of t.0) p (turns_done j order notes) (pends_last j order notes) held.0 (all j t.0 p t.1 at) held.1,
-            (it.done, subst (λ n. SentIn (course calls order notes) j it.done n) (same_some it.place place (sym it.at ∙ held.2)) it.sent),
-          )
-      | inr between ↦
-          let s = started run.0 run.1 in
-          let b = between run.0 run.1 in
-          let same : b.0 ≡ s.0 = same_some b.0 s.0 (sym b.1 ∙ s.1) in
-          let low = b.2 in
-          let high = b.3 in
-          let grew = s.2 in
-          let length_is : length b.0 ≡ length s.0 = ap (λ (l : List Call). length l) same in
-          inl (omega (arith, low, count), omega (arith, high, length_is, grew, count))
-    ])
+    let s = started run.0 run.1 in
+    polled_map (one_if note.pended) (IsNewest (job_ticket p) old log log') (IsPolledIn calls order notes j note) polls polls'
+    (λ place own.
+    let it = own run.0 run.1 in
+    let same : it.0 ≡ s.0 = same_some it.0 s.0 (sym it.1 ∙ s.1) in
+    polled_in ids (first_id ts order j) old run.0 s.0 wire calls order notes j p (run.2.places j) (calls_of t.0) note place (drawn.each j p at) (run.3.each j t.0 p t.1 at) (all j t.0 p t.1 at) (λ n holds out. run.3.newest j p n place at holds out) count s.2
+    (subst (λ (c : List Call). NewestAt (job_ticket p) old run.0 c place) same it.2))
     polled
 
 -- ---- turn by turn

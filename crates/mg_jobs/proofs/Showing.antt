@@ -8,11 +8,11 @@ use Rattle.mg_link.specs.Log.{Call}
 use Rattle.mg_link.specs.Namespace.{Space, space}
 use Rattle.mg_change.specs.Calls.{Grows, Keeps, Past, past_of}
 use Rattle.mg_jobs.specs.Causes.{sent_at}
-use Rattle.mg_jobs.specs.Counts.{TicketsSince, is_held, shown}
+use Rattle.mg_jobs.specs.Counts.{OthersStay, is_held, shown}
 use Rattle.mg_jobs.specs.Follows.{Placing}
 use Rattle.mg_jobs.specs.Headline.{Turns}
-use Rattle.mg_jobs.specs.Playing.{inserts_ticket, stage_ticket}
-use Rattle.mg_jobs.specs.Runs.{Goes, job_ticket}
+use Rattle.mg_jobs.specs.Playing.{inserts_ticket, job_ticket, stage_ticket}
+use Rattle.mg_jobs.specs.Runs.{Goes}
 use Rattle.mg_jobs.specs.Telling.{FollowTells, InsertTurns, JobTells, Kept}
 use Rattle.mg_jobs.specs.declared.player.InsertStage.{InsertStage}
 use Rattle.mg_jobs.specs.declared.player.Stage.{Stage}
@@ -66,7 +66,7 @@ module _ (old old' new new' : Awaited) (log log' : Told) where
 
 -- ---- the tickets of a turn
 
-module _ (held : Option ℕ) (began new : Awaited) (from to : Told) (since : TicketsSince held began new from to) where
+module _ (held : Option ℕ) (began new : Awaited) (others : OthersStay held began new) where
   not_held : (m : ℕ) → (held ≡ Some m → ⊥) → is_held held m ≡ false
   not_held m ne = elim (cases_held (is_held held m)) [ inl mine ↦ absurd (ne (held_is held m mine)) | inr other ↦ other ]
 
@@ -108,18 +108,18 @@ module _ (held : Option ℕ) (began new : Awaited) (from to : Told) (since : Tic
     pub tickets_shown : Tickets began new held after
     tickets_shown = record {
       held = λ m e. subst (λ (o : Option ℕ). IsSome o) (shown_out held began new m (t.held m e)) (t.held m e);
-      rest = λ m ne was. since.others m (not_held m ne) was;
+      rest = λ m ne was. others m (not_held m ne) was;
       origin = origin_shown;
       only = only_shown;
     }
 
-pub goes_shown : (held : Option ℕ) (began new : Awaited) (log log' : Told) (wire : ℤ) (p p' : Player) → job_ticket p ≡ held → TicketsSince held began new log log' → Goes (shown held began began) (shown held began new) log log' wire p p' → Goes began new log log' wire p p'
-goes_shown held began new log log' wire p p' mine since goes =
+pub goes_shown : (held : Option ℕ) (began new : Awaited) (log log' : Told) (wire : ℤ) (p p' : Player) → job_ticket p ≡ held → OthersStay held began new → Goes (shown held began began) (shown held began new) log log' wire p p' → Goes began new log log' wire p p'
+goes_shown held began new log log' wire p p' mine others goes =
     let t = subst (λ (o : Option ℕ). Tickets (shown held began began) (shown held began new) o (job_ticket p')) mine goes.tickets in
     let before = λ (m : ℕ) (e : job_ticket p ≡ Some m). shown_held held began began m (sym mine ∙ e) in
     let after = λ (m : ℕ) (e : job_ticket p' ≡ Some m). sym (shown_out held began new m (t.held m e)) in
     record {
-      tickets = subst (λ (o : Option ℕ). Tickets began new o (job_ticket p')) (sym mine) (tickets_shown held began new log log' since (job_ticket p') t);
+      tickets = subst (λ (o : Option ℕ). Tickets began new o (job_ticket p')) (sym mine) (tickets_shown held began new others (job_ticket p') t);
       holds = goes.holds;
       next = goes.next;
       turned = turns_agree began (shown held began began) (shown held began new) new log log' p p' goes.next before after goes.turned;

@@ -24,16 +24,16 @@ use Rattle.mg_ops.specs.Commands.{insert_command}
 use Rattle.mg_jobs.specs.InsertCauses.{InsertFlies}
 use Rattle.mg_jobs.specs.Inserts.{held}
 use Rattle.mg_jobs.specs.declared.insert.Command.{Command}
-use Rattle.mg_jobs.specs.Causes.{AllCaused, AllSentIn, ClosedBy, CloseCaused, Course, EndsBy, FollowCaused, OpenStands, InsertEnds, InsertWaits, InsertWaits, OpenCaused, OpenWaits, OutcomeCaused, SentIn, at_rest, course, in_call, in_closing, sent_at}
-use Rattle.mg_jobs.specs.Counts.{StartedBy}
+use Rattle.mg_jobs.specs.Causes.{AllCaused, AllSentIn, ClosedBy, CloseCaused, Course, EndsBy, FollowCaused, OpenStands, InsertEnds, InsertWaits, InsertWaits, OpenCaused, OpenWaits, OutcomeCaused, SentIn, SentNoneBehind, at_rest, course, in_call, in_closing, sent_at}
+use Rattle.mg_jobs.specs.Counts.{HoldsNewest, NewestAt, StartedBy}
 use Rattle.mg_jobs.specs.Drawing.{AreLater, HadTurn, HaveDrawn, JobHadTurn, JobHasIds, as_sent, drawn_in, first_id, has_turn, with_ids}
 use Rattle.mg_jobs.specs.Follows.{Followed, FollowedFrom, HasGiven, IsArgsFor, IsUnfinished, Placing, events_of, filter_in, same_place, token_at}
 use Rattle.mg_jobs.specs.Headline.{AllFollowed, AllKnow, AreFirst, DoTasks, Does, FollowedOr, IsFirst, Knowing, OutcomeFollowed, OutcomeOf, OutcomesOf, Plays, Took}
 use Rattle.mg_script.specs.Plan as plan
 use Rattle.mg_script.specs.Plan.{Begin, Task, begin}
-use Rattle.mg_jobs.specs.Playing.{IsSameFollow, IsSameInsert, end_of, follow_ended, inserts_ended, stage_ticket}
+use Rattle.mg_jobs.specs.Playing.{IsSameFollow, IsSameInsert, end_of, follow_ended, inserts_ended, job_ticket, stage_ticket}
 use Rattle.mg_jobs.specs.Progress.{AllAt, Came, FollowAt, HoldsIf, InsertAt, IsAt, IsOpen, calls_of, came, pends_last, turns_done}
-use Rattle.mg_jobs.specs.Runs.{AreApart, Goes, IsSameJob, has_ended, job_ticket}
+use Rattle.mg_jobs.specs.Runs.{AreApart, Goes, IsSameJob, has_ended}
 use Rattle.mg_jobs.specs.Telling.{AllSent, AllTell, Extends, FirstTells, FollowTells, FollowTold, InsertBegins, InsertTells, InsertTold, InsertTurns, IsNow, IsOpened, IsSameTeller, JobTells, JobTold, Kept, Places, TellsEnd, TellsNothing, TellsOn, kept, number}
 use Rattle.mg_script.specs.declared.outcome.Ended.{Ended}
 use Rattle.mg_script.specs.declared.outcome.Ended.TheVariants as ended
@@ -55,6 +55,7 @@ use Rattle.mg_jobs.proofs.Knowing.{get_length, know_first, knowing_turn, one_mor
 use Rattle.mg_jobs.proofs.Drawing.{id_had, id_next, id_own, ids_from, none_had, turn_other}
 use Rattle.mg_jobs.proofs.Identified.{calls_identified, honest_over, opened_well}
 use Rattle.mg_jobs.proofs.InsertTelling.{ends_of, insert_tells_grow, none_done, ready_begins, ready_turns, stage_stays}
+use Rattle.mg_jobs.proofs.Newest.{newest_other, newest_own, none_sent}
 use Rattle.mg_jobs.proofs.Telling.{grows_ended, grows_later, sent_since, since_is, tells_at, tells_later, tells_same}
 use Rattle.mg_jobs.proofs.Turning.{failed_not_unfinished, follow_followed, unfinished_not_given}
 use Rattle.mg_jobs.proofs.Vainly.{nothing_at, outcome_vain}
@@ -311,7 +312,7 @@ module _ (begun : ℕ) (order : List ℕ) (notes : List Turned) (j : ℕ) (note 
   job_turn ids given ts old new log log' calls calls' wire player.Get p' next at n last is is' abreast count more is_at quiet stands had tells first t = nothing_told ids (first_id ts (order ++ j ∷ []) j) new calls' wire then j p' (next at) tells
 
 -- A run tells on behind the turn of one of its jobs.
-module _ (old new : Awaited) (log log' : Told) (wire : ℤ) (players : List Player) (k : ℕ) (p p' : Player) (at : slice_get players k ≡ Some p) (apart : AreApart old wire players) (goes : Goes old new log log' wire p p') (note : Turned) (started : StartedBy note.started log log') (keeps : Stays log log') (quiet : has_ended p ≡ true → note.started ≡ 0) (given : ℕ → List ℕ) (first : FirstTells given new log log' wire p p') where
+module _ (old new : Awaited) (log log' : Told) (wire : ℤ) (players : List Player) (k : ℕ) (p p' : Player) (at : slice_get players k ≡ Some p) (apart : AreApart old wire players) (goes : Goes old new log log' wire p p') (note : Turned) (started : StartedBy note.started log log') (keeps : Stays log log') (quiet : has_ended p ≡ true → note.started ≡ 0) (given : ℕ → List ℕ) (first : FirstTells given new log log' wire p p') (holds : HoldsNewest (job_ticket p) (job_ticket p') old new log log') where
   pub all_turn : (ids : ℕ → List ℕ) (begun : Told) (ts : List Task) (order : List ℕ) (notes : List Turned) → length order ≡ length notes → AllAt ts order notes players → HaveDrawn ids given ts order players → AllTell ids old begun log wire ts order notes players → AllTell ids new begun log' wire ts (order ++ k ∷ []) (notes ++ note ∷ []) (slice_set players k p')
   all_turn ids begun ts order notes abreast all drawn tell calls told =
       let before = tell calls told in
@@ -341,6 +342,15 @@ module _ (old new : Awaited) (log log' : Told) (wire : ℤ) (players : List Play
             | inr other ↦
                 subst (λ (x : Option ℕ). JobTold ids (first_id ts (order ++ k ∷ []) i) new s.0 wire (course calls (order ++ k ∷ []) (notes ++ note ∷ [])) i a x) (sym (place_other old new log log' wire players k p p' at apart goes before.2.places i other.0))
                 (job_other (length calls) order notes k note ids ts old new before.0 s.0 wire i a (before.2.places i) other.0 kept_calls (stays old new log log' wire players k p p' at apart goes i a other.0 other.1) (before.3.each i t a ht other.1))
+          ];
+          newest = λ i a m place ha e there. elim (which old new log log' wire players k p p' at apart goes i a ha) [
+            | inl mine ↦
+                let on = holds m place (ap (λ (x : Player). job_ticket x) mine.1 ∙ e) there before.0 before.1 in
+                let its : on.0 ≡ s.0 = (let e' : Some on.0 ≡ Some s.0 = sym on.1 ∙ s.1 in cc) in
+                subst (λ (x : ℕ). SentNoneBehind (course calls (order ++ k ∷ []) (notes ++ note ∷ [])) x place) (sym mine.0)
+                (newest_own (length calls) order notes k note abreast (job_ticket p) old before.0 s.0 place count more (λ n was out. before.3.newest k p n place at was out) (subst (λ (c : List Call). NewestAt (job_ticket p) old before.0 c place) its on.2))
+            | inr other ↦
+                newest_other (length calls) order notes k note abreast i place other.0 (before.3.newest i a m place other.1 e (sym (stays old new log log' wire players k p p' at apart goes i a other.0 other.1 m e) ∙ there))
           ];
         },
       )
@@ -375,7 +385,7 @@ first_told ids first awaited calls wire begun i player.Get is = tt
 
 -- Jobs that have done nothing tell what they should, whatever was called before.
 pub tell_first : (ids : ℕ → List ℕ) (awaited : Awaited) (log : Told) (wire : ℤ) (ts : List Task) (players : List Player) → AreFirst players → AllTell ids awaited log log wire ts [] [] players
-tell_first ids awaited log wire ts players first calls told = (calls, told, know_first awaited calls players first, record { count = omega arith; each = λ i t p ht hp. first_told ids (first_id ts [] i) awaited calls wire (length calls) i p (first i p hp) })
+tell_first ids awaited log wire ts players first calls told = (calls, told, know_first awaited calls players first, record { count = omega arith; each = λ i t p ht hp. first_told ids (first_id ts [] i) awaited calls wire (length calls) i p (first i p hp); newest = λ i p n place hp e at k later s. absurd (none_sent (length calls) i k later s) })
 
 -- ---- at the end
 

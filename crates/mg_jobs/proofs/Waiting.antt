@@ -20,9 +20,9 @@ use Rattle.mg_jobs.specs.Causes.{AllSentIn, AllWaitAlone, Course, WaitsAlone, Se
 use Rattle.mg_jobs.specs.Drawing.{HadTurn, HaveDrawn, JobHadTurn, first_id, has_turn}
 use Rattle.mg_jobs.specs.InsertCauses.{InsertFlies}
 use Rattle.mg_jobs.specs.Inserts.{held}
-use Rattle.mg_jobs.specs.Playing.{inserts_ticket, stage_ticket}
+use Rattle.mg_jobs.specs.Playing.{inserts_ticket, job_ticket, stage_ticket}
 use Rattle.mg_jobs.specs.Progress.{AllAt, Came, FollowAt, InsertAt, IsAt, calls_of, came, pends_last, turns_done}
-use Rattle.mg_jobs.specs.Runs.{AreHeld, HeldBy, job_ticket}
+use Rattle.mg_jobs.specs.Runs.{AreHeld, HeldBy}
 use Rattle.mg_jobs.specs.Telling.{AllTell, AllTold, FollowTold, InsertTells, JobTold, Kept, kept, number}
 use Rattle.mg_script.specs.Plan.{Task}
 use Rattle.mg_script.specs.declared.outcome.Played.{Played}

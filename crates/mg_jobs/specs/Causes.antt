@@ -214,13 +214,24 @@ AllWaitAlone before awaited log order notes = (calls : List Call) → log ≡ So
 
 -- ---- whose calls pended in which turns
 
--- Behind these turns of a run, which began with these calls, job i took a turn with this note: the call at this place was sent in it; or an earlier turn of
--- the job sent it, and its newest one before pended by its note.
-abbrev pub IsPolledIn : List Call → List ℕ → List Turned → ℕ → Turned → ℕ → Type 0
-IsPolledIn calls order notes i note place = ((length calls + sum_by (λ t. t.started) notes ≤ place) × (place < length calls + sum_by (λ t. t.started) notes + note.started))
-    ⊎ ((pends_last i order notes ≡ true) × ((k : ℕ) × SentIn (course calls order notes) i k place))
+-- job i sent no command in these turns that stands behind this place of the log
+abbrev pub SentNoneBehind : Course → ℕ → ℕ → Type 0
+SentNoneBehind c i place = (k later : ℕ) → SentIn c i k later → later ≤ place
 
--- the same of a link that tells its log: one poll of such a call pended in the turn where the note says so, and otherwise none did
+-- at this place of the log stands the newest of all commands that job i sent in these turns
+pub record IsNewestOf (c : Course) (i place : ℕ) : Type 0 where
+  pub done : ℕ
+  pub sent : SentIn c i done place
+  pub newest : SentNoneBehind c i place
+
+-- Behind these turns of a run, which began with these calls, job i took a turn with this note: at this place stands the last command that it sent.
+pub data IsPolledIn (calls : List Call) (order : List ℕ) (notes : List Turned) (i : ℕ) (note : Turned) (place : ℕ) : Type 0 where
+  -- it sent some in this turn
+  in_turn : 0 < note.started → place + 1 ≡ length calls + sum_by (λ t. t.started) notes + note.started → IsPolledIn calls order notes i note place
+  -- it sent none in this turn, and its newest one before pended by its note
+  before_it : note.started ≡ 0 → pends_last i order notes ≡ true → IsNewestOf (course calls order notes) i place → IsPolledIn calls order notes i note place
+
+-- the same of a link that tells its log: one poll of that call pended in the turn where the note says so, and otherwise none did
 abbrev pub PollsOwn : Told → List ℕ → List Turned → ℕ → Turned → (before now : Polls) → Type 0
 PollsOwn log order notes i note before now = (calls : List Call) → log ≡ Some calls → PolledBy (one_if note.pended) (IsPolledIn calls order notes i note) before now
 
@@ -231,6 +242,6 @@ PollOwnFrom calls gone noted (i ∷ order) [] before now = SamePolls before now
 PollOwnFrom calls gone noted (i ∷ order) (note ∷ notes) before now =
     (between : Polls) × PolledBy (one_if note.pended) (IsPolledIn calls gone noted i note) before between × PollOwnFrom calls (gone ++ i ∷ []) (noted ++ note ∷ []) order notes between now
 
--- Over a link that tells its log: in each turn of a run one poll pended just where its note says so, and that was of such a call of its own job.
+-- Over a link that tells its log: in each turn of a run one poll pended just where its note says so, and that was of the newest call of its own job.
 abbrev pub AllPollOwn : Told → List ℕ → List Turned → (before now : Polls) → Type 0
 AllPollOwn log order notes before now = (calls : List Call) → log ≡ Some calls → PollOwnFrom calls [] [] order notes before now

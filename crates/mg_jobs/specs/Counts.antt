@@ -1,5 +1,5 @@
 -- What is counted of a turn.
-use Rattle.std.specs.Prelude.{◌≡◌, ◌⊎◌, ◌+◌, ◌-◌, ◌^◌, ◌<◌, ◌≤◌, ℕ, zero, suc, Bool, true, false, nat_eq, Option, Some, None, is_some, IsSome, List, [], ◌∷◌, length, slice_get, if◌then◌else◌}
+use Rattle.std.specs.Prelude.{◌≡◌, ◌+◌, ◌-◌, ◌^◌, ◌<◌, ◌≤◌, ℕ, zero, suc, Bool, true, false, nat_eq, Option, Some, None, is_some, IsSome, List, [], ◌∷◌, length, slice_get, if◌then◌else◌}
 use Rattle.mg_link.specs.Causes.{RoseJust}
 use Rattle.mg_link.specs.Link.{Awaited, OneMore, Polls, SamePolls, Told}
 use Rattle.mg_link.specs.Log.{fault, Call}
@@ -54,29 +54,47 @@ is_held (Some m) n = nat_eq m n
 abbrev pub shown : Option ℕ → (began now : Awaited) → Awaited
 shown held began now n = if is_held held n then now n else (if is_some (began n) then None else now n)
 
--- the call at this place was sent between two states of a log, where it is told
-abbrev pub IsSentBetween : Told → Told → ℕ → Type 0
-IsSentBetween from to place = (calls : List Call) → from ≡ Some calls → (calls' : List Call) × (to ≡ Some calls') × (length calls ≤ place) × (place < length calls')
+-- since a turn began of a job that held this ticket, the tickets of others are as they were
+abbrev pub OthersStay : Option ℕ → (began now : Awaited) → Type 0
+OthersStay held began now = (n : ℕ) → is_held held n ≡ false → IsSome (began n) → now n ≡ began n
 
--- since a turn began of a job that held this ticket: the tickets of others are as they were, and each that is out was out then for the same call, or its
--- call was sent since
-pub record TicketsSince (held : Option ℕ) (began now : Awaited) (from to : Told) : Type 0 where
-  pub others : (n : ℕ) → is_held held n ≡ false → IsSome (began n) → now n ≡ began n
-  pub each : (n place : ℕ) → now n ≡ Some place → (began n ≡ Some place) ⊎ IsSentBetween from to place
+-- The newest call of a turn stands at this place of the log, from which on to which other the turn led.
+pub data NewestAt (held : Option ℕ) (began : Awaited) (calls calls' : List Call) (place : ℕ) : Type 0 where
+  -- it is the last one that the turn sent
+  sent_last : length calls < length calls' → place + 1 ≡ length calls' → NewestAt held began calls calls' place
+  -- the turn sent none, and it is that of the ticket which its job held as it began
+  was_held : length calls' ≡ length calls → (n : ℕ) → held ≡ Some n → began n ≡ Some place → NewestAt held began calls calls' place
 
--- the call at this place is that of the ticket which the job of a turn held as it began, or was sent in it
-abbrev pub IsTurnsCall : Option ℕ → Awaited → (from to : Told) → ℕ → Type 0
-IsTurnsCall held began from to place = ((n : ℕ) × (held ≡ Some n) × (began n ≡ Some place)) ⊎ IsSentBetween from to place
+-- the same of logs that are told
+abbrev pub IsNewest : Option ℕ → Awaited → (from to : Told) → ℕ → Type 0
+IsNewest held began from to place = (calls : List Call) → from ≡ Some calls → (calls' : List Call) × (to ≡ Some calls') × NewestAt held began calls calls' place
+
+-- where a ticket is held, its call is the newest of the turn
+abbrev pub HoldsNewest : (held after : Option ℕ) → (began now : Awaited) → (from to : Told) → Type 0
+HoldsNewest held after began now from to = (n place : ℕ) → after ≡ Some n → now n ≡ Some place → IsNewest held began from to place
+
+-- one where a turn pended
+abbrev pub one_if : Bool → ℕ
+one_if true = 1
+one_if false = 0
 
 -- so many polls pended, one behind the other, each of a call of which this holds
 abbrev pub PolledBy : ℕ → (ℕ → Type 0) → (before now : Polls) → Type 0
 PolledBy zero own before now = SamePolls before now
 PolledBy (suc n) own before now = (between : Polls) × PolledBy n own before between × ((place : ℕ) × own place × OneMore place between now)
 
--- the tickets and the polls of a turn, of which so many pended
-pub record IsOwnTurn (held : Option ℕ) (began now : Awaited) (from to : Told) (pended : ℕ) (before after : Polls) : Type 0 where
-  pub tickets : TicketsSince held began now from to
-  pub polls : pended < 2 ^ 64 - 1 → PolledBy pended (IsTurnsCall held began from to) before after
+-- The tickets and the polls of a turn, of which so many pended: no ticket of its own is out but this one, that of its newest call, and no other call was
+-- polled and pended.
+pub record IsOwnTurn (held : Option ℕ) (began now : Awaited) (from to : Told) (out : Option ℕ) (pended : ℕ) (before after : Polls) : Type 0 where
+  pub others : OthersStay held began now
+  pub only : (n : ℕ) → IsSome (shown held began now n) → out ≡ Some n
+  pub newest : HoldsNewest held out began now from to
+  pub polls : pended < 2 ^ 64 - 1 → PolledBy pended (IsNewest held began from to) before after
+
+-- One poll of a turn pended, or none: that was of the newest call of the turn, and so is the ticket that its job holds behind it.
+pub record PolledNewest (pended : Bool) (held after : Option ℕ) (began now : Awaited) (from to : Told) (polls polls' : Polls) : Type 0 where
+  pub polled : PolledBy (one_if pended) (IsNewest held began from to) polls polls'
+  pub holds : HoldsNewest held after began now from to
 
 -- ---- the notes of many turns
 
@@ -86,11 +104,6 @@ abbrev pub AreNoted : List Turned → (old new : Told) → (before now : ℕ) �
 AreNoted [] old new before now = (new ≡ old) × (now ≡ before)
 AreNoted (note ∷ notes) old new before now =
     (log : Told) × (count : ℕ) × StartedBy note.started old log × Stays old log × RoseIf note.pended before count × AreNoted notes log new count now
-
--- one where a turn pended
-abbrev pub one_if : Bool → ℕ
-one_if true = 1
-one_if false = 0
 
 -- how many turns pended
 abbrev pub turns_pended : List Turned → ℕ

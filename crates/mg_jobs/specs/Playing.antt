@@ -12,6 +12,8 @@ use Rattle.mg_script.specs.declared.outcome.Ended.TheVariants as ended
 use Rattle.mg_jobs.specs.declared.player.FollowPlayer.{FollowPlayer}
 use Rattle.mg_jobs.specs.declared.player.Stage.{Stage}
 use Rattle.mg_jobs.specs.declared.player.Stage.TheVariants as stage
+use Rattle.mg_jobs.specs.declared.run.Player.{Player}
+use Rattle.mg_jobs.specs.declared.run.Player.TheVariants as player
 
 -- the ticket that an insert holds
 abbrev pub inserts_ticket : InsertStage → Option ℕ
@@ -94,3 +96,10 @@ IsPlainInsert (inserts.Ended ended) = Unit {0}
 
 abbrev pub IsPlainJob : InsertPlayer → Type 0
 IsPlainJob job = IsPlainInsert job.stage
+
+-- the ticket that a job holds
+abbrev pub job_ticket : Player → Option ℕ
+job_ticket (player.Insert insert) = player_ticket insert
+job_ticket (player.Follow follow) = stage_ticket follow.stage
+job_ticket player.Put = None
+job_ticket player.Get = None

@@ -79,9 +79,9 @@ script_ids script n = counted_id (script.ids ++ 0 ∷ []) n
 -- rules; each of its calls is as the fate of its number in the script says, and each of them names the log's own cursors only. In every legal history in
 -- which the log stands each follow answered consecutive entries from its own opening place on; each answer of a follow has its cause among the commands of
 -- its own turns; each insert sends its documents with the script's next ids. There is one outcome for each job and one note for each turn, by which it
--- follows how far each job came. Each note says rightly whether its turn pended: one poll pended in it, or none, and that of a call which its job sent in
--- it, or in an earlier turn where its newest turn before pended too; and each call pended as often as its fate says, or less while it waits. A call that
--- waits was sent in a turn of a job whose newest turn pended by its note, and which waits for no other.
+-- follows how far each job came. Each note says rightly whether its turn pended: one poll pended in it, or none, and that of the newest command which its
+-- job sent up to then, by the notes; and each call pended as often as its fate says, or less while it waits. A call that waits was sent in a turn of a job
+-- whose newest turn pended by its note, and which waits for no other.
 pub record RunFollowed (run : Run) : Type 0 where
   pub calls : List Call
   pub log_is : run.logs.items ≡ calls ∷ []

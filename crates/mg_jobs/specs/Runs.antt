@@ -4,7 +4,7 @@ use Rattle.mg_link.specs.Acts.{IsOut, Tickets}
 use Rattle.mg_link.specs.Link.{Awaited, Told}
 use Rattle.mg_jobs.specs.Follows.{Placing}
 use Rattle.mg_jobs.specs.Headline.{IsSameTask, Turns}
-use Rattle.mg_jobs.specs.Playing.{HasRoom, IsSameFollow, StageHolds, follow_ended, insert_ended, player_ticket, stage_ticket}
+use Rattle.mg_jobs.specs.Playing.{HasRoom, IsSameFollow, StageHolds, follow_ended, insert_ended, job_ticket}
 use Rattle.mg_jobs.specs.Drawing.{AreLater, JobHasIds, turn_draws}
 use Rattle.mg_jobs.specs.Telling.{FirstTells, JobTells}
 use Rattle.mg_script.specs.declared.outcome.Turned.{Turned}
@@ -14,13 +14,6 @@ use Rattle.mg_jobs.specs.declared.run.Player.TheVariants as player
 use Rattle.mg_jobs.specs.declared.run.Runner.{Runner}
 
 -- ---- one job
-
--- the ticket that it holds
-abbrev pub job_ticket : Player → Option ℕ
-job_ticket (player.Insert insert) = player_ticket insert
-job_ticket (player.Follow follow) = stage_ticket follow.stage
-job_ticket player.Put = None
-job_ticket player.Get = None
 
 -- it sends nothing more
 abbrev pub has_ended : Player → Bool

@@ -17,13 +17,13 @@ use Rattle.mg_change.specs.OpeningCauses.{Opened, OpeningFails, OpensSoFar}
 use Rattle.mg_change.specs.Following.{token_of}
 use Rattle.mg_change.specs.Openings.{IsOpening}
 use Rattle.mg_change.specs.declared.stream.ChangeStream.{ChangeStream}
-use Rattle.mg_jobs.specs.Causes.{Answered, ClosedBy, Course, EndsBy, IsAlive, AllSentIn, course, sent_at}
+use Rattle.mg_jobs.specs.Causes.{Answered, ClosedBy, Course, EndsBy, IsAlive, AllSentIn, SentNoneBehind, course, sent_at}
 use Rattle.mg_jobs.specs.Follows.{FollowTurns, HasGiven, IsArgsFor, Placing, filter_in}
 use Rattle.mg_jobs.specs.Headline.{AllKnow}
 use Rattle.mg_jobs.specs.InsertCauses.{InsertsSoFar}
 use Rattle.mg_script.specs.Plan.{Task, begin}
 use Rattle.mg_jobs.specs.Drawing.{first_id, has_turn, with_ids}
-use Rattle.mg_jobs.specs.Playing.{IsSameInsert}
+use Rattle.mg_jobs.specs.Playing.{IsSameInsert, job_ticket}
 use Rattle.mg_jobs.specs.Underway.{HasInserted}
 use Rattle.mg_script.specs.declared.outcome.Answer.{Answer}
 use Rattle.mg_script.specs.declared.outcome.Ended.{Ended}
@@ -228,10 +228,12 @@ JobTold ids first awaited calls wire c i (player.Insert job) at = InsertTold ids
 JobTold ids first awaited calls wire c i player.Put at = Unit {0}
 JobTold ids first awaited calls wire c i player.Get at = Unit {0}
 
--- each job that has a task tells what it should, where these calls opened their streams, and the notes count what was sent
+-- each job that has a task tells what it should, where these calls opened their streams, and the notes count what was sent; the ticket of a job is that of
+-- its newest command
 pub record AllTold (ids : ℕ → List ℕ) (awaited : Awaited) (calls : List Call) (wire : ℤ) (c : Course) (tasks : List Task) (players : List Player) (places : ℕ → Option ℕ) : Type 0 where
   pub count : length calls ≡ c.begun + sum_by (λ t. t.started) c.notes
   pub each : (i : ℕ) (t : Task) (p : Player) → slice_get tasks i ≡ Some t → slice_get players i ≡ Some p → JobTold ids (first_id tasks c.order i) awaited calls wire c i p (places i)
+  pub newest : (i : ℕ) (p : Player) (n place : ℕ) → slice_get players i ≡ Some p → job_ticket p ≡ Some n → awaited n ≡ Some place → SentNoneBehind c i place
 
 -- how a run knows and tells that began with one log and these ids, and has another log
 abbrev pub AllTell : (ℕ → List ℕ) → Awaited → Told → Told → ℤ → List Task → List ℕ → List Turned → List Player → Type 0

@@ -46,11 +46,14 @@ impl Began for Brand {
 }
 
 /// A link that counts what a turn does over it. To clauses it is the link behind it, and how many of the turn's replies
-/// pended. It shows the turn no ticket of another job, so that only calls of its own are polled in it.
+/// pended. It shows the turn no ticket of another job, and starts nothing while a ticket of the turn is out, nor behind a poll
+/// that pended: so only the newest call of its own job is polled in it.
 pub(crate) struct Counting<L: Link, B: Began> {
     link: L,
     started: u64,
     pended: u64,
+    /// The ticket of the turn that is out.
+    out: Option<u64>,
     began: PhantomData<B>,
 }
 
@@ -63,14 +66,15 @@ impl<L: Link, B: Began> Model for Counting<L, B> {
     ghost view = { λ c. (c.link, c.pended) };
 
     ghost invariant = { λ c. Counted B.calls (L.log c.link) c.started c.pended B.pends (L.pends c.link) B.prompts (L.prompt c.link)
-        × IsOwnTurn B.held B.awaited (L.awaited c.link) B.calls (L.log c.link) c.pended B.polls (L.polls c.link) };
+        × IsOwnTurn B.held B.awaited (L.awaited c.link) B.calls (L.log c.link) c.out c.pended B.polls (L.polls c.link) };
 }
 
 impl<L: Link, B: Began> Counting<L, B> {
     /// Nothing is counted yet.
-    pub(crate) fn new(link: L) -> Counting<L, B>
+    pub(crate) fn new(link: L, held: Option<u64>) -> Counting<L, B>
         requires calls { L.log link ≡ B.calls }
         requires awaited { L.awaited link ≡ B.awaited }
+        requires held { held ≡ B.held }
         requires pends { L.pends link ≡ B.pends }
         requires polls { L.polls link ≡ B.polls }
         requires prompts { B.prompts → L.prompt link }
@@ -81,6 +85,7 @@ impl<L: Link, B: Began> Counting<L, B> {
             link,
             started: 0,
             pended: 0,
+            out: held,
             began: PhantomData,
         }
     }
@@ -89,13 +94,14 @@ impl<L: Link, B: Began> Counting<L, B> {
     pub(crate) fn into_parts(self) -> (L, Turned)
         ensures link { result.0 ≡ self.0 }
         ensures counted { Counted B.calls (L.log self.0) result.1.started self.1 B.pends (L.pends self.0) B.prompts (L.prompt self.0) }
-        ensures own { IsOwnTurn B.held B.awaited (L.awaited self.0) B.calls (L.log self.0) self.1 B.polls (L.polls self.0) }
+        ensures own { (out : Option ℕ) × IsOwnTurn B.held B.awaited (L.awaited self.0) B.calls (L.log self.0) out self.1 B.polls (L.polls self.0) }
         ensures pended { result.1.pended ≡ nat_lt 0 self.1 }
     {
         let Counting {
             link,
             started,
             pended,
+            out: _,
             began: _,
         } = self;
         (
@@ -125,14 +131,18 @@ impl<L: Link, B: Began> Link for Counting<L, B> {
 
     ghost wire = { λ c. L.wire c.0 };
 
-    /// A command that could not be counted is not sent.
+    /// A command that could not be counted is not sent, nor one of a turn that waits.
     fn start(&mut self, command: RawDocument<'_>) -> Result<Ticket, LinkError> {
+        if self.out.is_some() || self.pended > 0 {
+            return Err(LinkError::Memory);
+        }
         let Some(started) = self.started.checked_add(1) else {
             return Err(LinkError::Memory);
         };
         match self.link.start(command) {
             Ok(ticket) => {
                 self.started = started;
+                self.out = Some(ticket.number());
                 Ok(ticket)
             }
             Err(LinkError::Fault) => {
@@ -149,9 +159,18 @@ impl<L: Link, B: Began> Link for Counting<L, B> {
                 self.pended = self.pended.saturating_add(1);
                 Polled::Pending(ticket)
             }
-            Polled::Reply(bytes) => Polled::Reply(bytes),
-            Polled::Failed => Polled::Failed,
-            Polled::Memory => Polled::Memory,
+            Polled::Reply(bytes) => {
+                self.out = None;
+                Polled::Reply(bytes)
+            }
+            Polled::Failed => {
+                self.out = None;
+                Polled::Failed
+            }
+            Polled::Memory => {
+                self.out = None;
+                Polled::Memory
+            }
         }
     }
 

@@ -315,6 +315,18 @@ impl<'a> Inserting<'a> {
     }
 }
 
+impl Inserting<'_> {
+    /// The number of the ticket that it holds, while it waits for a reply.
+    pub(crate) fn ticket_number(&self) -> Option<u64>
+        ensures { result ≡ insert_ticket self.now }
+    {
+        match &self.command {
+            Some(command) => command.exec.ticket_number(),
+            None => None,
+        }
+    }
+}
+
 impl<'a> Action for Inserting<'a> {
     type Output = u64;
 

@@ -124,6 +124,17 @@ impl<'a> InsertPlayer<'a> {
         }
     }
 
+    /// The number of the ticket that it holds, while it waits for a reply.
+    pub(crate) fn ticket_number(&self) -> Option<u64>
+        ensures { result ≡ player_ticket self.now }
+    {
+        match &self.stage {
+            InsertStage::Unsent => None,
+            InsertStage::Goes(inserting) => inserting.ticket_number(),
+            InsertStage::Ended(_) => None,
+        }
+    }
+
     /// Draws the ids of an insert that has none yet. Nothing is sent.
     pub(crate) fn ready<I: IdSource>(&mut self, alloc: Global, ids: &mut I)
         ensures ticket { player_ticket self.new ≡ player_ticket self.old }
@@ -310,6 +321,19 @@ impl<'a> FollowPlayer<'a> {
         ensures { result ≡ follow_ended self.now.stage }
     {
         matches!(self.stage, Stage::Ended)
+    }
+
+    /// The number of the ticket that it holds, while it waits for a reply.
+    pub(crate) fn ticket_number(&self) -> Option<u64>
+        ensures { result ≡ stage_ticket self.now.stage }
+    {
+        match &self.stage {
+            Stage::Unopened => None,
+            Stage::Opens(opening) => opening.ticket_number(),
+            Stage::Open(stream) => stream.ticket_number(),
+            Stage::Closes(closing) => closing.ticket_number(),
+            Stage::Ended => None,
+        }
     }
 
     /// Finds a place for an answer. Nothing is sent, and nothing else changes.

@@ -4,9 +4,9 @@ ghost use Rattle.std.specs.List.{All, sum_by};
 ghost use Rattle.mg_link.specs.Errors.{plain};
 ghost use Rattle.mg_link.specs.Link.{Awaited, Later, Told};
 ghost use Rattle.mg_link.specs.Causes.{RoseJust};
-ghost use Rattle.mg_jobs.specs.Counts.{AreNoted, IsNoted, IsTurnsCall, LosesNothing, PolledBy, StartedBy, one_if, turns_pended};
+ghost use Rattle.mg_jobs.specs.Counts.{AreNoted, IsNoted, LosesNothing, PolledNewest, StartedBy, turns_pended};
 ghost use Rattle.mg_jobs.specs.Drawing.{AreLater, HaveDrawn, JobHasIds, drawn_in, turn_draws};
-ghost use Rattle.mg_jobs.specs.Runs.{AreHeld, AreNew, AreSameJobs, CanGo, Draws, Goes, IsNew, IsReady, IsSameJob, JobHolds, Stands, has_ended, idle, job_ended, job_ticket};
+ghost use Rattle.mg_jobs.specs.Runs.{AreHeld, AreNew, AreSameJobs, CanGo, Draws, Goes, IsNew, IsReady, IsSameJob, JobHolds, Stands, has_ended, idle, job_ended};
 ghost use Rattle.mg_link.specs.Log.{Call};
 ghost use Rattle.mg_link.specs.Owner.{Owner};
 ghost use Rattle.mg_jobs.specs.Headline.{AllFollowed, AreFirst, GoesOnNaming, DoTasks, Does, IsFirst, IsSameTask, Knowing, OutcomeOf, OutcomesOf, Plays};
@@ -15,6 +15,7 @@ ghost use Rattle.mg_jobs.specs.Progress.{AllAt, AllPlayed, GoesBy, IsAt, IsReady
 ghost use Rattle.mg_jobs.specs.Causes.{AllCaused, AllPollOwn, AllWaitAlone, PollsOwn};
 ghost use Rattle.mg_jobs.specs.Completing.{AllWell};
 ghost use Rattle.mg_script.specs.Script.{first_missing};
+ghost use Rattle.mg_jobs.specs.Playing.{job_ticket};
 ghost use Rattle.mg_jobs.specs.Telling.{AllTell, IsSameTeller};
 
 use crate::counting::{Began, Counting};
@@ -84,6 +85,18 @@ impl<'a> Player<'a> {
             Player::Follow(follow) => follow.has_ended(),
             Player::Put => true,
             Player::Get => true,
+        }
+    }
+
+    /// The number of the ticket that it holds, while it waits for a reply.
+    fn ticket_number(&self) -> Option<u64>
+        ensures { result ≡ job_ticket self.now }
+    {
+        match self {
+            Player::Insert(insert) => insert.ticket_number(),
+            Player::Follow(follow) => follow.ticket_number(),
+            Player::Put => None,
+            Player::Get => None,
         }
     }
 
@@ -179,11 +192,11 @@ fn counted_since<'a, L: Link, B: Began>(link: L, turn: Turn<'a>) -> (L, Gone<'a>
     ensures later { Later (L.faults link) (L.faults result.0) (L.pends link) (L.pends result.0)
         (L.wire link) (L.wire result.0) (L.prompt link) (L.prompt result.0) }
     ensures noted { IsNoted result.1.note B.calls (L.log result.0) B.pends (L.pends result.0) B.prompts (L.prompt result.0) }
-    ensures polled { PolledBy (one_if result.1.note.pended) (IsTurnsCall (job_ticket turn.entry.player) (L.awaited link) (L.log link) (L.log result.0)) (L.polls link) (L.polls result.0) }
+    ensures polled { PolledNewest result.1.note.pended (job_ticket turn.entry.player) (job_ticket result.1.player) (L.awaited link) (L.awaited result.0) (L.log link) (L.log result.0) (L.polls link) (L.polls result.0) }
     ensures comes { GoesBy result.1.note turn.entry.player result.1.player }
 {
     let Turn { alloc, player } = turn;
-    let mut counting = Counting::<L, B>::new(link);
+    let mut counting = Counting::<L, B>::new(link, player.ticket_number());
     let player = player.go(alloc, &mut counting);
     let (link, note) = counting.into_parts();
     (link, Gone { player, note })
@@ -197,7 +210,7 @@ fn counted<'a, L: Link>(link: L, turn: Turn<'a>) -> (L, Gone<'a>)
     ensures later { Later (L.faults link) (L.faults result.0) (L.pends link) (L.pends result.0)
         (L.wire link) (L.wire result.0) (L.prompt link) (L.prompt result.0) }
     ensures noted { IsNoted result.1.note (L.log link) (L.log result.0) (L.pends link) (L.pends result.0) (L.prompt link) (L.prompt result.0) }
-    ensures polled { PolledBy (one_if result.1.note.pended) (IsTurnsCall (job_ticket turn.entry.player) (L.awaited link) (L.log link) (L.log result.0)) (L.polls link) (L.polls result.0) }
+    ensures polled { PolledNewest result.1.note.pended (job_ticket turn.entry.player) (job_ticket result.1.player) (L.awaited link) (L.awaited result.0) (L.log link) (L.log result.0) (L.polls link) (L.polls result.0) }
     ensures comes { GoesBy result.1.note turn.entry.player result.1.player }
 {
     counted_since::<L, Brand>(link, turn)
@@ -211,7 +224,7 @@ fn take_turn<'a, L: Link>(player: &mut Player<'a>, alloc: Global, link: &mut L) 
     ensures later { Later (L.faults link.old) (L.faults link.new) (L.pends link.old) (L.pends link.new)
         (L.wire link.old) (L.wire link.new) (L.prompt link.old) (L.prompt link.new) }
     ensures noted { IsNoted result (L.log link.old) (L.log link.new) (L.pends link.old) (L.pends link.new) (L.prompt link.old) (L.prompt link.new) }
-    ensures polled { PolledBy (one_if result.pended) (IsTurnsCall (job_ticket player.old) (L.awaited link.old) (L.log link.old) (L.log link.new)) (L.polls link.old) (L.polls link.new) }
+    ensures polled { PolledNewest result.pended (job_ticket player.old) (job_ticket player.new) (L.awaited link.old) (L.awaited link.new) (L.log link.old) (L.log link.new) (L.polls link.old) (L.polls link.new) }
     ensures comes { GoesBy result player.old player.new }
 {
     let turn = Turn {
@@ -236,7 +249,7 @@ fn turn_of<'a, L: Link, I: IdSource>(
     ensures later { Later (L.faults link.old) (L.faults link.new) (L.pends link.old) (L.pends link.new)
         (L.wire link.old) (L.wire link.new) (L.prompt link.old) (L.prompt link.new) }
     ensures noted { IfOk result (λ n. IsNoted n (L.log link.old) (L.log link.new) (L.pends link.old) (L.pends link.new) (L.prompt link.old) (L.prompt link.new)) }
-    ensures polled { IfOk result (λ n. PolledBy (one_if n.pended) (IsTurnsCall (job_ticket player.old) (L.awaited link.old) (L.log link.old) (L.log link.new)) (L.polls link.old) (L.polls link.new)) }
+    ensures polled { IfOk result (λ n. PolledNewest n.pended (job_ticket player.old) (job_ticket player.new) (L.awaited link.old) (L.awaited link.new) (L.log link.old) (L.log link.new) (L.polls link.old) (L.polls link.new)) }
     ensures comes { IfOk result (λ n. TurnsBy n player.old player.new) }
     ensures draws { OnOk result (Draws (I.ids ids.old) (I.ids ids.new) (L.awaited link.new) (L.log link.old) (L.log link.new) (L.wire link.new) player.old player.new) }
     ensures ended { has_ended player.old ≡ true → (result ≡ Ok idle) × (link.new ≡ link.old) × (player.new ≡ player.old) }
@@ -325,8 +338,8 @@ impl<'a> Runner<'a> {
             → HaveDrawn first (I.ids ids.old) ts order self.old.players.items
             → AllTell first (L.awaited link.old) begun (L.log link.old) (L.wire link.old) ts order self.old.turns.items self.old.players.items
             → AllTell first (L.awaited link.new) begun (L.log link.new) (L.wire link.new) ts (order ++ job ∷ []) self.new.turns.items self.new.players.items) }
-        // One poll pended just where the note says so, and that of a call which its own job sent in this turn, or in an earlier
-        // one where its newest turn before pended too.
+        // One poll pended just where the note says so, and that of the newest command of its own job: the last one of this turn,
+        // or, where it sent none, the last one before, where its newest turn before pended too.
         ensures polled { OnOk result ((note : _) × (self.new.turns.items ≡ self.old.turns.items ++ note ∷ [])
             × ((first : ℕ → List ℕ) (begun : Told) (ts : List Task) (order : List ℕ) → AllAt ts order self.old.turns.items self.old.players.items
             → HaveDrawn first (I.ids ids.old) ts order self.old.players.items
@@ -466,7 +479,7 @@ pub fn run_jobs<L: Link, I: IdSource>(
     ensures noted { IfOk result (λ p. AreNoted p.turns.items (L.log link.old) (L.log link.new) (L.pends link.old) (L.pends link.new)) }
     ensures pended { IfOk result (λ p. RoseJust (turns_pended p.turns.items) (L.pends link.old) (L.pends link.new)) }
     // Over a link that tells its log each note says rightly whether its turn pended: one poll pended in it just where it says
-    // so, and that of a call which its job sent in it, or in an earlier one where its newest turn before pended too.
+    // so, and that of the newest command that its job sent up to then, by the notes.
     ensures polled { IfOk result (λ p. AllPollOwn (L.log link.old) order.now p.turns.items (L.polls link.old) (L.polls link.new)) }
     // The notes count what was started, and over a prompt link no turn pends.
     ensures started { IfOk result (λ p. StartedBy (sum_by (λ t. t.started) p.turns.items) (L.log link.old) (L.log link.new)) }

@@ -74,6 +74,17 @@ impl Exec {
             stage: Stage::Unsent,
         }
     }
+
+    /// The number of its ticket, while it waits for a reply.
+    pub fn ticket_number(&self) -> Option<u64>
+        ensures { result ≡ ticket_of self.now }
+    {
+        match &self.stage {
+            Stage::Unsent => None,
+            Stage::First(ticket) => Some(ticket.number()),
+            Stage::Second(ticket) => Some(ticket.number()),
+        }
+    }
 }
 
 // The error of a refusal, or want of memory.

@@ -1,8 +1,10 @@
 use Rattle.std.proofs.Common.{subst, sym}
-use Rattle.mg_link.specs.Link.{Awaited, Told}
-use Rattle.mg_jobs.specs.Counts.{IsNoted, TicketsSince, shown}
+use Rattle.mg_link.specs.Link.{Awaited}
+use Rattle.mg_jobs.specs.Counts.{IsNoted, shown}
 use Rattle.mg_jobs.specs.Runs.{Goes}
+use Rattle.mg_jobs.specs.Playing.{job_ticket}
 use Rattle.mg_jobs.proofs.Advancing.{noted_once, noted_so}
+use Rattle.mg_jobs.proofs.OwnTickets.{newest_of}
 use Rattle.mg_jobs.proofs.Showing.{goes_shown}
 use Rattle.mg_jobs.proofs.Tallies.{is_noted}
 use Rattle.mg_jobs.proofs.run.counted_since.Goals as goal
@@ -16,10 +18,9 @@ returns-clause-goes g c =
     let p' = c.go-player.result in
     let goes = subst (λ (a : Awaited). Goes (shown held began a) (shown held began (g.L.Link.awaited link)) (g.L.Link.log c.args.link) (g.L.Link.log link) (g.L.Link.wire link) p p') c.requires.awaited
     (subst (λ l. Goes (shown held began (g.L.Link.awaited l)) (shown held began (g.L.Link.awaited link)) (g.L.Link.log l) (g.L.Link.log link) (g.L.Link.wire link) p p') c.new-counting.ensures.link c.go-player.ensures.goes) in
-    let since = subst (λ (l : Told). TicketsSince held began (g.L.Link.awaited link) l (g.L.Link.log link)) (sym c.requires.calls) c.into_parts-link.ensures.own.tickets in
     subst (λ l. Goes (g.L.Link.awaited c.args.link) (g.L.Link.awaited l) (g.L.Link.log c.args.link) (g.L.Link.log l) (g.L.Link.wire l) p p') (sym c.into_parts-link.ensures.link)
     (subst (λ (a : Awaited). Goes a (g.L.Link.awaited link) (g.L.Link.log c.args.link) (g.L.Link.log link) (g.L.Link.wire link) p p') (sym c.requires.awaited)
-    (goes_shown held began (g.L.Link.awaited link) (g.L.Link.log c.args.link) (g.L.Link.log link) (g.L.Link.wire link) p p' c.requires.held since goes))
+    (goes_shown held began (g.L.Link.awaited link) (g.L.Link.log c.args.link) (g.L.Link.log link) (g.L.Link.wire link) p p' c.requires.held c.into_parts-link.ensures.own.1.others goes))
 
 pub returns-clause-comes : goal.returns-clause-comes
 returns-clause-comes g c = noted_so _ _ c.into_parts-link.result.1 _ _ c.new-counting.ensures.none c.into_parts-link.ensures.pended c.go-player.ensures.comes
@@ -29,3 +30,11 @@ returns-clause-noted g c =
     let once = noted_once _ _ c.into_parts-link.result.1 _ _ c.new-counting.ensures.none c.into_parts-link.ensures.pended c.go-player.ensures.comes in
     subst (λ l. IsNoted c.into_parts-link.result.1 g.B.Began.calls (g.L.Link.log l) g.B.Began.pends (g.L.Link.pends l) g.B.Began.prompts (g.L.Link.prompt l)) (sym c.into_parts-link.ensures.link)
     (is_noted c.into_parts-link.result.1 _ _ _ _ _ _ _ once c.into_parts-link.ensures.counted)
+
+pub returns-clause-polled : goal.returns-clause-polled
+returns-clause-polled g c =
+    let once = noted_once _ _ c.into_parts-link.result.1 _ _ c.new-counting.ensures.none c.into_parts-link.ensures.pended c.go-player.ensures.comes in
+    let own = c.into_parts-link.ensures.own in
+    let after = job_ticket c.go-player.result in
+    let newest = newest_of g.B.Began.held after g.B.Began.awaited (g.L.Link.awaited c.go-player.new.link.0) g.B.Began.calls (g.L.Link.log c.go-player.new.link.0) own.0 c.into_parts-link.result.1.pended _ g.B.Began.polls (g.L.Link.polls c.go-player.new.link.0) once c.go-player.ensures.goes.tickets.held own.1 in
+    rw (c.requires.held, c.requires.awaited, c.requires.calls, c.requires.polls, c.into_parts-link.ensures.link) newest

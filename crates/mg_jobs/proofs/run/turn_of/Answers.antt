@@ -1,13 +1,13 @@
-use Rattle.std.proofs.Common.{sym, subst, ◌∙◌}
+use Rattle.std.proofs.Common.{refl, sym, subst, ◌∙◌}
 use Rattle.mg_link.specs.Acts.{IsOut, Tickets}
 use Rattle.mg_link.proofs.Onward.{tickets_same}
 use Rattle.mg_jobs.proofs.Knowing.{turned_not, turned_ready}
-use Rattle.mg_jobs.specs.Counts.{IsTurnsCall, PolledBy, one_if}
+use Rattle.mg_jobs.specs.Counts.{PolledNewest, was_held}
 use Rattle.mg_jobs.specs.Follows.{same_place}
-use Rattle.mg_jobs.specs.Runs.{job_ticket}
 use Rattle.mg_jobs.proofs.Advancing.{over_turns}
 use Rattle.mg_jobs.proofs.Drawing.{ended_draws, ended_has}
 use Rattle.mg_jobs.proofs.Told.{ended_first, ready_first, ready_tells, same_tells, stays_telling, turned_has}
+use Rattle.mg_jobs.specs.Playing.{job_ticket}
 use Rattle.mg_jobs.proofs.run.turn_of.Goals as goal
 
 pub returns-then-has_ended-clause-goes : goal.returns-then-has_ended-clause-goes
@@ -64,6 +64,9 @@ returns-clause-draws g c = record {
   first = ready_first _ _ _ _ _ _ c.args.player.now c.ready.new.self c.take_turn.new.player _ c.in_ok-ready.ensures.teller c.take_turn.ensures.goes.told;
 }
 
+pub returns-then-has_ended-clause-polled : goal.returns-then-has_ended-clause-polled
+returns-then-has_ended-clause-polled g c = record { polled = λ place. refl; holds = λ n place e at calls told. (calls, told, was_held refl n e at) }
+
 pub returns-clause-polled : goal.returns-clause-polled
 returns-clause-polled g c =
-    subst (λ t. PolledBy (one_if c.take_turn.result.pended) (IsTurnsCall t (g.L.Link.awaited c.args.link.now) (g.L.Link.log c.args.link.now) (g.L.Link.log c.take_turn.new.link)) (g.L.Link.polls c.args.link.now) (g.L.Link.polls c.take_turn.new.link)) c.in_ok-ready.ensures.ticket c.take_turn.ensures.polled
+    subst (λ t. PolledNewest c.take_turn.result.pended t (job_ticket c.take_turn.new.player) (g.L.Link.awaited c.args.link.now) (g.L.Link.awaited c.take_turn.new.link) (g.L.Link.log c.args.link.now) (g.L.Link.log c.take_turn.new.link) (g.L.Link.polls c.args.link.now) (g.L.Link.polls c.take_turn.new.link)) c.in_ok-ready.ensures.ticket c.take_turn.ensures.polled

@@ -145,7 +145,7 @@ returns-clause-told g c = λ first begun ts order same all drawn tell.
     (all_turn (g.L.Link.awaited c.args.link.now) (g.L.Link.awaited c.turn_of.new.link) (g.L.Link.log c.args.link.now) (g.L.Link.log c.turn_of.new.link) (g.L.Link.wire c.turn_of.new.link) c.args.self.now.players.items c.args.job c.index_mut-player.result.now c.turn_of.new.player at
     (apart_as _ _ _ c.args.self.now.players.items c.turn_of.ensures.later.wire c.requires) c.turn_of.ensures.goes c.in_ok-note.note c.in_ok-note.ensures.noted.starts c.in_ok-note.ensures.noted.stays
     (λ over. let idles = c.in_ok-note.ensures.ended over in let is : c.in_ok-note.note ≡ idle = cc idles.0 in ap (λ (n : Turned). n.started) is)
-    (g.I.IdSource.ids c.args.ids.now) c.in_ok-note.ensures.draws.first first begun ts order c.args.self.now.turns.items same all drawn (tell_as _ _ _ _ _ _ ts order c.args.self.now.turns.items c.args.self.now.players.items c.turn_of.ensures.later.wire tell))
+    (g.I.IdSource.ids c.args.ids.now) c.in_ok-note.ensures.draws.first c.in_ok-note.ensures.polled.holds first begun ts order c.args.self.now.turns.items same all drawn (tell_as _ _ _ _ _ _ ts order c.args.self.now.turns.items c.args.self.now.players.items c.turn_of.ensures.later.wire tell))
 
 pub returns-clause-polled : goal.returns-clause-polled
 returns-clause-polled g c =
@@ -156,5 +156,5 @@ returns-clause-polled g c =
       c.push_reserved.ensures ∙ ap (λ l. l ++ c.in_ok-note.note ∷ []) c.in_ok-reserve.ensures.items,
       λ first begun ts order all drawn tell.
           polls_turn first (g.I.IdSource.ids c.args.ids.now) (g.L.Link.awaited c.args.link.now) (g.L.Link.log c.args.link.now) (g.L.Link.log c.turn_of.new.link) (g.L.Link.wire c.args.link.now) ts order c.args.self.now.turns.items c.args.self.now.players.items c.args.job c.index_mut-player.result.now c.in_ok-note.note
-          (g.L.Link.polls c.args.link.now) (g.L.Link.polls c.turn_of.new.link) begun at c.in_ok-note.ensures.noted.starts all drawn tell c.in_ok-note.ensures.polled,
+          (g.L.Link.polls c.args.link.now) (g.L.Link.polls c.turn_of.new.link) begun at c.in_ok-note.ensures.noted.starts all drawn tell c.in_ok-note.ensures.polled.polled,
     )
