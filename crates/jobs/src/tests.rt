@@ -1,16 +1,19 @@
 //! What a proof cannot see of the program and of each layer below it, by examples.
 
 mod bson;
+mod changes;
 mod commands;
 mod corpus;
 mod documents;
 mod exec;
 mod grammar;
 mod json;
+mod limits;
 mod link;
 mod mem_link;
 mod operations;
 mod options;
+mod queries;
 mod records;
 mod replies;
 mod runs;

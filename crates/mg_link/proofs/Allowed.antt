@@ -1,6 +1,6 @@
 -- What the store in memory does by its rules is what a server may do.
 use Rattle.std.proofs.Common.{◌≡◌, ◌≢◌, ◌⊎◌, ℕ, ℤ, pos, suc, ◌+◌, ◌<◌, ◌≤◌, ◌^◌, Bool, true, false, List, [], ◌∷◌, length, Option, Some, None, Result, Ok, Err, refl, sym, ap, ◌∙◌, subst, inl, inr, arith, append-nil, take, drop}
-use Rattle.std.specs.Prelude.{if◌then◌else◌, ◌&&◌, nat_le, nat_lt, is_some, option_and_then, zero}
+use Rattle.std.specs.Prelude.{if◌then◌else◌, ◌&&◌, nat_le, nat_lt, is_some, option_and_then, zero, map}
 use Rattle.std.specs.List.{list_all}
 use Rattle.std.proofs.lemmas.List.{take-append-drop}
 use Rattle.std.proofs.lemmas.Bool.{cases_Bool, cond_both}
@@ -10,21 +10,21 @@ use Rattle.mg_bson.specs.Raw.{fields}
 use Rattle.mg_link.specs.Namespace.{Space}
 use Rattle.mg_link.specs.Filter.{Condition}
 use Rattle.mg_link.specs.State.{Entry, Watch, Cursor, query, watching, State, Start, nowhere, after, at_time, events_between, seen_between, start_place, count_before, inserts, Collection, Index, collection_in, indexes_of, is_space}
-use Rattle.mg_link.specs.Commands.{Asked, asks_insert, asks_watch, asks_more, asks_kill, Failure, Told, refuses, inserted, opened, gave, killed, asked, told, asks_create, asks_indexes, done, asks_update, asks_delete, updated, deleted, asks_query}
+use Rattle.mg_link.specs.Commands.{Asked, asks_insert, asks_watch, asks_more, asks_kill, Failure, Told, refuses, inserted, opened, gave, killed, asked, told, asks_create, asks_indexes, done, asks_update, asks_delete, updated, deleted, asks_query, asks_drop}
 use Rattle.mg_link.specs.Step.{Made, grown, effect, next, documents_of, written, HaveNewIds, AreEventsOf, EndsAtInvalidate, MayGive, May, MayEnd}
 use Rattle.mg_link.specs.Events.{TellInserts, TellsWritten}
-use Rattle.mg_link.specs.Rules.{Request, insert, watch, more, kill, request_of, token_of, token_place, now_of, Inserted, inserting, inserted_reply, batch_place, Answer, answer_with, answer_insert, ended_before, place_after, place_at, watch_space, ends_watch, id_unless, batch_id, watch_reply, more_reply, is_watch_of, answer_more, killed_reply, size_of, answer, no_such_token, bad_request, max_reply, map_ok, and_then, refusal, refused, fitting, answer_of, create_collection, create_indexes, modified_entries, deleted_entries, collection_exists, done_reply, may_stay, find, batch_of_query, first_held, id_while, query_id, query_reply, query_more_reply, query_space, answer_query, no_such_collection, or_code}
+use Rattle.mg_link.specs.Rules.{Request, insert, watch, more, kill, request_of, token_of, token_place, now_of, Inserted, inserting, inserted_reply, batch_place, Answer, answer_with, answer_insert, ended_before, place_after, place_at, watch_space, ends_watch, id_unless, batch_id, watch_reply, more_reply, is_watch_of, answer_more, killed_reply, size_of, answer, no_such_token, bad_request, max_reply, map_ok, and_then, refusal, refused, fitting, answer_of, create_collection, create_indexes, modified_entries, deleted_entries, collection_exists, done_reply, may_stay, find, batch_of_query, first_held, id_while, query_id, query_reply, query_more_reply, query_space, answer_query, no_such_collection, or_code, update, delete, updated_reply, events_may_be_given, drop_collection, dropped_entries}
 use Rattle.mg_link.specs.Kept.{made_by, made_none, made_these, given_by, IsStoreState, Kept, IsAllowed, made_of, given_after, rule_entries}
 use Rattle.mg_link.specs.Query.{index_listed, Source, of_collection, of_database, of_indexes, Query, read, through, result}
-use Rattle.mg_link.specs.Write.{Modification, chosen, changing, with_indexes}
+use Rattle.mg_link.specs.Write.{Modification, chosen, changing, with_indexes, modified}
 use Rattle.mg_link.proofs.Tokens.{place_named, place_within}
 use Rattle.mg_link.proofs.Requests.{IsNamed, asks_of, HasName, request_reads, asked_is}
 use Rattle.mg_link.proofs.Growing.{grows_these, state_these, grows_none, state_none}
 use Rattle.mg_link.proofs.Inserting.{failing, Inserts, inserting_is}
-use Rattle.mg_link.proofs.Telling.{told_reads, refusal_tells, insert_tells, opened_tells, gave_tells, killed_tells, created_tells, indexed_tells, found_tells, more_found_tells}
+use Rattle.mg_link.proofs.Telling.{told_reads, refusal_tells, insert_tells, opened_tells, gave_tells, killed_tells, created_tells, indexed_tells, found_tells, more_found_tells, updated_tells, deleted_tells, deleted_reply, dropped_tells}
 use Rattle.mg_link.proofs.Batching.{batch_within, batch_ends}
 use Rattle.mg_link.proofs.Cursoring.{collections_put, opened_unless, moved_is, killed_are, refused_is, next_unnamed, query_opened, queried_is}
-use Rattle.mg_link.proofs.Changing.{modified_are, modified_tell, deleted_are, deleted_tell}
+use Rattle.mg_link.proofs.Changing.{modified_are, modified_tell, deleted_are, deleted_tell, dropped_are, drop_tells, end_tells}
 
 -- a server may tell so of the command, the events tell of the documents written, and the state behind it is one of a store
 pub record Fits (s : State) (given : ℕ) (started : Bool) (command : Asked) (reply : Told) (entries : List Entry) : Type 0 where
@@ -345,6 +345,28 @@ update_fits s given started space conditions m many h lt =
       stays = collections_put (grown s (made_these s started entries)) given true _ (state_these s given started entries h are lt);
     }
 
+pub drop_fits : (s : State) (given : ℕ) (started : Bool) (space : Space) (c : Collection) → IsStoreState s given started → collection_in s.collections space ≡ Some c → FitsWithin s given started (asks_drop space) done (dropped_entries (length s.changes) space)
+unfolding effect
+drop_fits s given started space c h there lt =
+    let entries : List Entry = dropped_entries (length s.changes) space in
+    let are = dropped_are (length s.changes) space in
+    record {
+      may = record {
+        grows = grows_these s given started entries h are lt;
+        tells = inl (record {
+          collection = c;
+          there = there;
+          dropped = _;
+          ended = _;
+          entries = refl;
+          drop_is = drop_tells (suc (length s.changes)) space;
+          end_is = end_tells (suc (suc (length s.changes))) space;
+        });
+      };
+      tells = tt;
+      stays = collections_put (grown s (made_these s started entries)) given true _ (state_these s given started entries h are lt);
+    }
+
 -- ---- answers
 
 map_some : {A B : Type 0} (f : A → B) (r : Result A ℤ) (y : B) → map_ok f r ≡ Ok y → (x : A) × (r ≡ Ok x) × (f x ≡ y)
@@ -418,10 +440,36 @@ indexes_answer : (s : State) (given : ℕ) (started : Bool) (space : Space) (ind
 indexes_answer s given started space indexes h =
     retold s given started (create_indexes space indexes) (answer_with [] done_reply) done (λ reply e. told_reads (asks_indexes space indexes) reply done_reply e ∙ indexed_tells space indexes) (indexes_fit s given started space indexes h)
 
+update_answers : (s : State) (given : ℕ) (started : Bool) (space : Space) (conditions : List Condition) (m : Modification) (many : Bool) → IsStoreState s given started
+    → AnswerFits s given started (update space conditions m many) (answer_with (modified_entries (length s.changes) space m (changing conditions many m (documents_of s space))) (updated_reply (length (chosen conditions many (documents_of s space))) (length (changing conditions many m (documents_of s space)))))
+update_answers s given started space conditions m many h =
+    let n : ℕ = length (chosen conditions many (documents_of s space)) in
+    let changed : List Fields = changing conditions many m (documents_of s space) in
+    retold s given started (update space conditions m many) (answer_with (modified_entries (length s.changes) space m changed) (updated_reply n (length changed))) (updated (pos n) (pos (length changed)) [])
+    (λ reply e. told_reads (asks_update space conditions m many) reply (updated_reply n (length changed)) e ∙ updated_tells space conditions m many n (length changed))
+    (update_fits s given started space conditions m many h)
+
+delete_answers : (s : State) (given : ℕ) (started : Bool) (space : Space) (conditions : List Condition) (many : Bool) → IsStoreState s given started
+    → AnswerFits s given started (delete space conditions many) (answer_with (deleted_entries (length s.changes) space (chosen conditions many (documents_of s space))) (deleted_reply (length (chosen conditions many (documents_of s space)))))
+delete_answers s given started space conditions many h =
+    let gone : List Fields = chosen conditions many (documents_of s space) in
+    retold s given started (delete space conditions many) (answer_with (deleted_entries (length s.changes) space gone) (deleted_reply (length gone))) (deleted (pos (length gone)) [])
+    (λ reply e. told_reads (asks_delete space conditions many) reply (deleted_reply (length gone)) e ∙ deleted_tells space conditions many (length gone))
+    (delete_fits s given started space conditions many h)
+
+drop_answers : (s : State) (given : ℕ) (started : Bool) (space : Space) (c : Collection) → IsStoreState s given started → collection_in s.collections space ≡ Some c → AnswerFits s given started (drop_collection space) (answer_with (dropped_entries (length s.changes) space) done_reply)
+drop_answers s given started space c h there =
+    retold s given started (drop_collection space) (answer_with (dropped_entries (length s.changes) space) done_reply) done (λ reply e. told_reads (asks_drop space) reply done_reply e ∙ dropped_tells space) (drop_fits s given started space c h there)
+
 -- a create is answered where no collection of the name is there
 pub create_ok : (o : Option Collection) (a : Answer) → (if is_some o then Err collection_exists else Ok (answer_with [] done_reply)) ≡ Ok a → (o ≡ None) × (answer_with [] done_reply ≡ a)
 create_ok None a e = (refl, cc)
 create_ok (Some c) a e = absurd cc
+
+-- and a drop where one is there
+pub drop_ok : (o : Option Collection) (x a : Answer) → (if is_some o then Ok x else Err no_such_collection) ≡ Ok a → (c : Collection) × (o ≡ Some c) × (x ≡ a)
+drop_ok (Some c) x a e = (c, refl, cc)
+drop_ok None x a e = absurd cc
 
 -- what is answered under a condition
 pub answered_if : (b : Bool) (x a : Answer) → (if b then Ok x else Err bad_request) ≡ Ok a → (b ≡ true) × (x ≡ a)
@@ -491,6 +539,19 @@ answer_fits s given started (create_collection space) a h named e =
 answer_fits s given started (create_indexes space indexes) a h named e =
     let known = answered_if (list_all (λ (i : Index). may_stay (index_listed i)) (with_indexes (indexes_of s space) indexes)) (answer_with [] done_reply) a e in
     subst (AnswerFits s given started (create_indexes space indexes)) known.1 (indexes_answer s given started space indexes h)
+answer_fits s given started (update space conditions m many) a h named e =
+    let changed : List Fields = changing conditions many m (documents_of s space) in
+    let entries : List Entry = modified_entries (length s.changes) space m changed in
+    let known = answered_if (list_all may_stay (map (modified m) changed) && events_may_be_given entries) (answer_with entries (updated_reply (length (chosen conditions many (documents_of s space))) (length changed))) a e in
+    subst (AnswerFits s given started (update space conditions m many)) known.1 (update_answers s given started space conditions m many h)
+answer_fits s given started (delete space conditions many) a h named e =
+    let gone : List Fields = chosen conditions many (documents_of s space) in
+    let entries : List Entry = deleted_entries (length s.changes) space gone in
+    let known = answered_if (events_may_be_given entries) (answer_with entries (deleted_reply (length gone))) a e in
+    subst (AnswerFits s given started (delete space conditions many)) known.1 (delete_answers s given started space conditions many h)
+answer_fits s given started (drop_collection space) a h named e =
+    let known = drop_ok (collection_in s.collections space) (answer_with (dropped_entries (length s.changes) space) done_reply) a e in
+    subst (AnswerFits s given started (drop_collection space)) known.2 (drop_answers s given started space known.0 h known.1)
 
 -- ---- any command
 

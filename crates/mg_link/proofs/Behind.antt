@@ -6,20 +6,21 @@ use Rattle.mg_bson.specs.Tree.{Fields}
 use Rattle.mg_bson.specs.Raw.{fields}
 use Rattle.mg_link.specs.Namespace.{Space}
 use Rattle.mg_link.specs.State.{Entry, Watch, Cursor, watching, Collection, State, Start, collection_in, documents_at, events_between, put_cursor, without_cursors, Index, indexes_of, query}
-use Rattle.mg_link.specs.Commands.{Asked, asks_insert, asks_watch, asks_more, asks_kill, Failure, Told, refuses, inserted, opened, gave, killed, asked, told, asks_create, asks_indexes, done, asks_query}
+use Rattle.mg_link.specs.Commands.{Asked, asks_insert, asks_watch, asks_more, asks_kill, Failure, Told, refuses, inserted, opened, gave, killed, asked, told, asks_create, asks_indexes, done, asks_query, asks_update, asks_delete, updated, deleted, asks_drop}
 use Rattle.mg_link.specs.Step.{grown, effect, next, documents_of, written, ends_cursor, watching_at, moved, queried_at}
-use Rattle.mg_link.specs.Rules.{insert, watch, more, kill, request_of, token_of, now_of, Inserted, inserting, inserted_reply, batch_place, Answer, answer_with, answer_insert, place_at, watch_space, ends_watch, id_unless, batch_id, watch_reply, more_reply, killed_reply, refusal, answer_of, create_collection, create_indexes, done_reply, find, batch_of_query, first_held, id_while, query_id, query_space, query_reply, query_more_reply}
-use Rattle.mg_link.specs.Write.{with_indexes}
+use Rattle.mg_link.specs.Rules.{insert, watch, more, kill, request_of, token_of, now_of, Inserted, inserting, inserted_reply, batch_place, Answer, answer_with, answer_insert, place_at, watch_space, ends_watch, id_unless, batch_id, watch_reply, more_reply, killed_reply, refusal, answer_of, create_collection, create_indexes, done_reply, find, batch_of_query, first_held, id_while, query_id, query_space, query_reply, query_more_reply, update, delete, updated_reply, drop_collection, dropped_entries}
+use Rattle.mg_link.specs.Write.{with_indexes, Modification, after_update, after_delete}
 use Rattle.mg_link.specs.Query.{Query, result}
 use Rattle.mg_link.specs.Kept.{made_by, made_none, made_these, given_by, IsStoreState, Kept, made_of, given_after, rule_entries, state_behind}
 use Rattle.mg_link.proofs.Requests.{request_reads, asked_is}
 use Rattle.mg_link.proofs.Growing.{state_these}
 use Rattle.mg_link.proofs.Inserting.{failing, inserting_is}
-use Rattle.mg_link.proofs.Telling.{told_reads, refusal_tells, insert_tells, opened_tells, gave_tells, killed_tells, created_tells, indexed_tells, found_tells, more_found_tells}
+use Rattle.mg_link.proofs.Telling.{told_reads, refusal_tells, insert_tells, opened_tells, gave_tells, killed_tells, created_tells, indexed_tells, found_tells, more_found_tells, updated_tells, deleted_tells, deleted_reply, dropped_tells}
 use Rattle.mg_link.proofs.Batching.{batch_within}
 use Rattle.mg_link.proofs.Cursoring.{not_zero, is_zero_no}
-use Rattle.mg_link.proofs.Collections.{put_documents, documents_put, documents_of_put}
+use Rattle.mg_link.proofs.Collections.{put_documents, documents_put, documents_of_put, changed_documents, documents_changed, documents_without}
 use Rattle.mg_link.proofs.Allowed.{named_by, place_fits, grown_changes, result_grown}
+use Rattle.mg_link.specs.Filter.{Condition}
 
 -- ---- the parts of a state
 
@@ -326,3 +327,42 @@ pub behind_indexes : (s : State) (given : ℕ) (started : Bool) (kept : Kept) (s
 behind_indexes s given started kept space indexes asks answers e =
     parts_by s given started kept (asks_indexes space indexes) done [] (put_documents space (Some (documents_of s space)) (documents_at s)) s.changes s.cursors given
     (asked_is kept.command (create_indexes space indexes) asks) (told_reads (asks_indexes space indexes) kept.reply done_reply e ∙ indexed_tells space indexes) (ap (λ (a : Answer). a.entries) answers) (indexes_parts s given started space indexes)
+
+-- ---- updates and deletes
+
+update_parts : (s : State) (given : ℕ) (started : Bool) (space : Space) (conditions : List Condition) (m : Modification) (many : Bool) (n changed : ℤ) (entries : List Entry)
+    → PartsBy s given started (asks_update space conditions m many) (updated n changed []) entries (changed_documents space (after_update conditions many m) (documents_at s)) (s.changes ++ entries) s.cursors given
+unfolding effect grown
+update_parts s given started space conditions m many n changed entries = record { documents_are = λ sp. documents_changed space (after_update conditions many m) s.collections sp; changes_are = refl; cursors_are = refl; given_are = refl }
+
+pub behind_update : (s : State) (given : ℕ) (started : Bool) (kept : Kept) (space : Space) (conditions : List Condition) (m : Modification) (many : Bool) (n changed : ℕ) (entries : List Entry) → request_of (fields kept.command) ≡ Ok (update space conditions m many)
+    → answer_of s (pos (suc given)) (fields kept.command) ≡ answer_with entries (updated_reply n changed) → fields kept.reply ≡ updated_reply n changed
+    → PartsBehind s given started kept (changed_documents space (after_update conditions many m) (documents_at s)) (s.changes ++ entries) s.cursors given
+behind_update s given started kept space conditions m many n changed entries asks answers e =
+    parts_by s given started kept (asks_update space conditions m many) (updated (pos n) (pos changed) []) entries (changed_documents space (after_update conditions many m) (documents_at s)) (s.changes ++ entries) s.cursors given
+    (asked_is kept.command (update space conditions m many) asks) (told_reads (asks_update space conditions m many) kept.reply (updated_reply n changed) e ∙ updated_tells space conditions m many n changed)
+    (ap (λ (a : Answer). a.entries) answers) (update_parts s given started space conditions m many (pos n) (pos changed) entries)
+
+delete_parts : (s : State) (given : ℕ) (started : Bool) (space : Space) (conditions : List Condition) (many : Bool) (n : ℤ) (entries : List Entry)
+    → PartsBy s given started (asks_delete space conditions many) (deleted n []) entries (changed_documents space (after_delete conditions many) (documents_at s)) (s.changes ++ entries) s.cursors given
+unfolding effect grown
+delete_parts s given started space conditions many n entries = record { documents_are = λ sp. documents_changed space (after_delete conditions many) s.collections sp; changes_are = refl; cursors_are = refl; given_are = refl }
+
+pub behind_delete : (s : State) (given : ℕ) (started : Bool) (kept : Kept) (space : Space) (conditions : List Condition) (many : Bool) (n : ℕ) (entries : List Entry) → request_of (fields kept.command) ≡ Ok (delete space conditions many)
+    → answer_of s (pos (suc given)) (fields kept.command) ≡ answer_with entries (deleted_reply n) → fields kept.reply ≡ deleted_reply n
+    → PartsBehind s given started kept (changed_documents space (after_delete conditions many) (documents_at s)) (s.changes ++ entries) s.cursors given
+behind_delete s given started kept space conditions many n entries asks answers e =
+    parts_by s given started kept (asks_delete space conditions many) (deleted (pos n) []) entries (changed_documents space (after_delete conditions many) (documents_at s)) (s.changes ++ entries) s.cursors given
+    (asked_is kept.command (delete space conditions many) asks) (told_reads (asks_delete space conditions many) kept.reply (deleted_reply n) e ∙ deleted_tells space conditions many n)
+    (ap (λ (a : Answer). a.entries) answers) (delete_parts s given started space conditions many (pos n) entries)
+
+drop_parts : (s : State) (given : ℕ) (started : Bool) (space : Space) (entries : List Entry) → PartsBy s given started (asks_drop space) done entries (put_documents space None (documents_at s)) (s.changes ++ entries) s.cursors given
+unfolding effect grown
+drop_parts s given started space entries = record { documents_are = λ sp. documents_without s space sp; changes_are = refl; cursors_are = refl; given_are = refl }
+
+pub behind_drop : (s : State) (given : ℕ) (started : Bool) (kept : Kept) (space : Space) → request_of (fields kept.command) ≡ Ok (drop_collection space)
+    → answer_of s (pos (suc given)) (fields kept.command) ≡ answer_with (dropped_entries (length s.changes) space) done_reply → fields kept.reply ≡ done_reply
+    → PartsBehind s given started kept (put_documents space None (documents_at s)) (s.changes ++ dropped_entries (length s.changes) space) s.cursors given
+behind_drop s given started kept space asks answers e =
+    parts_by s given started kept (asks_drop space) done (dropped_entries (length s.changes) space) (put_documents space None (documents_at s)) (s.changes ++ dropped_entries (length s.changes) space) s.cursors given
+    (asked_is kept.command (drop_collection space) asks) (told_reads (asks_drop space) kept.reply done_reply e ∙ dropped_tells space) (ap (λ (a : Answer). a.entries) answers) (drop_parts s given started space (dropped_entries (length s.changes) space))

@@ -6,7 +6,7 @@ use Rattle.std.proofs.lemmas.Slice.Eq.{bytes_eq-Decides}
 use Rattle.std.specs.Str.{bytes_eq}
 use Rattle.mg_bson.specs.Tree.{Fields}
 use Rattle.mg_link.specs.Namespace.{Space}
-use Rattle.mg_link.specs.State.{Collection, State, is_space, comes_before, collection_in, put_collection, change_documents, documents_at, indexes_of, with_documents}
+use Rattle.mg_link.specs.State.{Collection, State, is_space, comes_before, collection_in, put_collection, change_documents, documents_at, indexes_of, with_documents, without_collection}
 
 -- a name of these bytes is that name
 pub same_space : (s t : Space) → is_space s t ≡ true → s ≡ t
@@ -56,6 +56,40 @@ put_is c (d ∷ ds) space =
           ]
     ]
 
+-- one that was taken out is not found any more, and the others stay
+pub without_is : (space : Space) (cs : List Collection) (other : Space) → collection_in (without_collection space cs) other ≡ (if is_space other space then None else collection_in cs other)
+without_is space [] other = none_either (is_space other space)
+  where
+    none_either : (b : Bool) → ◌≡◌ {A = Option Collection} None (if b then None else None)
+    none_either true = refl
+    none_either false = refl
+without_is space (c ∷ cs) other =
+    elim (cases_Bool (is_space space c.space)) [
+      | inl same ↦
+          let e : space ≡ c.space = same_space space c.space same in
+          ap (λ (b : Bool). collection_in (if b then without_collection space cs else c ∷ without_collection space cs) other) same
+          ∙ without_is space cs other ∙ taken_out (is_space other space) (is_space other c.space) c (collection_in cs other) (ap (is_space other) e)
+      | inr differs ↦
+          let apart = λ (here : is_space other c.space ≡ true) (there : is_space other space ≡ true).
+          let e : space ≡ c.space = sym (same_space other space there) ∙ same_space other c.space here in
+          let bad : is_space space c.space ≡ true = ap (is_space space) (sym e) ∙ is_space_self space in
+          let no_way : true ≡ false = sym bad ∙ differs in
+          absurd cc in
+          ap (λ (b : Bool). collection_in (if b then without_collection space cs else c ∷ without_collection space cs) other) differs
+          ∙ ap (λ (o : Option Collection). if is_space other c.space then Some c else o) (without_is space cs other)
+          ∙ left_in (is_space other c.space) (is_space other space) c (collection_in cs other) apart
+    ]
+  where
+    taken_out : (b d : Bool) (c : Collection) (o : Option Collection) → b ≡ d → (if b then None else o) ≡ (if b then None else (if d then Some c else o))
+    taken_out true d c o e = refl
+    taken_out false false c o e = refl
+    taken_out false true c o e = absurd cc
+
+    left_in : (b d : Bool) (c : Collection) (o : Option Collection) → (b ≡ true → d ≡ true → ⊥) → (if b then Some c else (if d then None else o)) ≡ (if d then None else (if b then Some c else o))
+    left_in true true c o apart = absurd (apart refl refl)
+    left_in true false c o apart = refl
+    left_in false d c o apart = refl
+
 -- ---- documents
 
 -- the documents of collections once this one has others
@@ -72,6 +106,14 @@ documents_of_put s c other = ap (option_map (λ (c : Collection). c.documents)) 
 
 pub documents_put : (s : State) (space : Space) (ds : List Fields) (other : Space) → option_map (λ (c : Collection). c.documents) (collection_in (with_documents s space ds) other) ≡ put_documents space (Some ds) (documents_at s) other
 documents_put s space ds other = documents_of_put s (record { space = space; documents = ds; indexes = indexes_of s space }) other
+
+-- those behind a collection that is taken out
+pub documents_without : (s : State) (space other : Space) → option_map (λ (c : Collection). c.documents) (collection_in (without_collection space s.collections) other) ≡ put_documents space None (documents_at s) other
+documents_without s space other = ap (option_map (λ (c : Collection). c.documents)) (without_is space s.collections other) ∙ map_unless (is_space other space) (collection_in s.collections other)
+  where
+    map_unless : (b : Bool) (o : Option Collection) → option_map (λ (c : Collection). c.documents) (if b then None else o) ≡ (if b then None else option_map (λ (c : Collection). c.documents) o)
+    map_unless true o = refl
+    map_unless false o = refl
 
 -- the documents of collections once this one's are changed
 abbrev pub changed_documents : Space → (List Fields → List Fields) → (Space → Option (List Fields)) → Space → Option (List Fields)

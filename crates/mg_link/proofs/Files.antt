@@ -91,10 +91,11 @@ removed_documents at (c ∷ cs) space other =
       | inl its ↦
           let e : at ≡ c.space = same_space at c.space its in
           let no_it : is_space space c.space ≡ false = ap (is_space space) (sym e) ∙ other in
-          ap (λ (b : Bool). documents_in (if b then cs else c ∷ without_collection at cs) space) its
+          ap (λ (b : Bool). documents_in (if b then without_collection at cs else c ∷ without_collection at cs) space) its
+          ∙ removed_documents at cs space other
           ∙ sym (ap (λ (b : Bool). unwrap_or (option_map (λ (c : Collection). c.documents) (if b then Some c else collection_in cs space)) []) no_it)
       | inr others ↦
-          ap (λ (b : Bool). documents_in (if b then cs else c ∷ without_collection at cs) space) others
+          ap (λ (b : Bool). documents_in (if b then without_collection at cs else c ∷ without_collection at cs) space) others
           ∙ found_or (is_space space c.space) c (collection_in (without_collection at cs) space)
           ∙ ap (λ (l : List Fields). if is_space space c.space then c.documents else l) (removed_documents at cs space other)
           ∙ sym (found_or (is_space space c.space) c (collection_in cs space))

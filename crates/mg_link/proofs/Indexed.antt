@@ -1,5 +1,5 @@
 -- The indexes behind a step.
-use Rattle.std.proofs.Common.{◌≡◌, ℕ, ℤ, pos, Bool, true, false, List, [], ◌∷◌, Option, Some, refl, sym, ap, ap₂, ◌∙◌, subst}
+use Rattle.std.proofs.Common.{◌≡◌, ℕ, ℤ, pos, Bool, true, false, List, [], ◌∷◌, Option, Some, None, refl, sym, ap, ap₂, ◌∙◌, subst}
 use Rattle.std.specs.Prelude.{if◌then◌else◌, option_map, unwrap_or}
 use Rattle.std.specs.Ordering.{int_eq}
 use Rattle.mg_bson.specs.Tree.{Fields}
@@ -11,8 +11,8 @@ use Rattle.mg_link.specs.Step.{Made, documents_of, grown, effect, ends_cursor}
 use Rattle.mg_link.specs.Write.{with_indexes}
 use Rattle.mg_link.specs.Rules.{done_reply, refusal}
 use Rattle.mg_link.specs.Kept.{Kept, told_kept, state_behind, made_of}
-use Rattle.mg_link.proofs.Collections.{put_is, same_space}
-use Rattle.mg_link.proofs.Telling.{told_reads, refusal_tells, indexed_tells}
+use Rattle.mg_link.proofs.Collections.{put_is, same_space, without_is}
+use Rattle.mg_link.proofs.Telling.{told_reads, refusal_tells, indexed_tells, dropped_tells}
 
 -- ---- collections
 
@@ -128,3 +128,23 @@ indexes_created s given started kept space indexes asks e sp =
     let made : Made = made_of s given started kept in
     let tells : told_kept kept ≡ done = ap (λ (c : Asked). told c kept.reply) asks ∙ told_reads (asks_indexes space indexes) kept.reply done_reply e ∙ indexed_tells space indexes in
     ap₂ (λ (c : Asked) (t : Told). indexes_of (effect (grown s made) c t) sp) asks tells ∙ created_has (grown s made) space indexes sp ∙ grown_indexes s made space indexes sp
+
+if_none : (b : Bool) (o : Option Collection) → indexes_in (if b then None else o) ≡ (if b then [] else indexes_in o)
+if_none true o = refl
+if_none false o = refl
+
+dropped_has : (s : State) (space : Space) (sp : Space) → indexes_of (effect s (asks_drop space) done) sp ≡ (if is_space sp space then [] else indexes_of s sp)
+unfolding effect
+dropped_has s space sp = ap indexes_in (without_is space s.collections sp) ∙ if_none (is_space sp space) (collection_in s.collections sp)
+
+grown_dropped : (s : State) (made : Made) (space : Space) (sp : Space) → (if is_space sp space then [] else indexes_of (grown s made) sp) ≡ (if is_space sp space then [] else indexes_of s sp)
+unfolding grown
+grown_dropped s made space sp = refl
+
+-- behind a drop the collection has none
+pub indexes_dropped : (s : State) (given : ℕ) (started : Bool) (kept : Kept) (space : Space) → asked kept.command ≡ asks_drop space → fields kept.reply ≡ done_reply
+    → (sp : Space) → indexes_of (state_behind s given started kept) sp ≡ (if is_space sp space then [] else indexes_of s sp)
+indexes_dropped s given started kept space asks e sp =
+    let made : Made = made_of s given started kept in
+    let tells : told_kept kept ≡ done = ap (λ (c : Asked). told c kept.reply) asks ∙ told_reads (asks_drop space) kept.reply done_reply e ∙ dropped_tells space in
+    ap₂ (λ (c : Asked) (t : Told). indexes_of (effect (grown s made) c t) sp) asks tells ∙ dropped_has (grown s made) space sp ∙ grown_dropped s made space sp

@@ -11,6 +11,7 @@ pub mod Places
 pub mod Fronts
 pub mod Tokens
 pub mod Collections
+pub mod Ordered
 pub mod Requests
 pub mod Growing
 pub mod Inserting

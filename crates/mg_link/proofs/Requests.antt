@@ -5,16 +5,17 @@ use Rattle.std.specs.Ordering.{int_eq}
 use Rattle.std.specs.Str.{bytes_eq}
 use Rattle.std.proofs.lemmas.Bool.{cases_Bool, and_parts}
 use Rattle.std.proofs.lemmas.Slice.Eq.{bytes_eq-Decides}
-use Rattle.mg_bson.specs.Tree.{Tree, int32, int64, Fields, no_fields, field, Items, no_items, item}
+use Rattle.mg_bson.specs.Tree.{Tree, document, int32, int64, Fields, no_fields, field, Items, no_items, item}
 use Rattle.mg_bson.specs.Raw.{fields}
 use Rattle.mg_bson.specs.Reading.{◌>>=◌}
 use Rattle.mg_bson.specs.Find.{get, as_string, as_boolean, as_document}
 use Rattle.mg_link.specs.Namespace.{Space, Target, database, collection, cluster}
 use Rattle.mg_link.specs.Filter.{Condition, has_dot}
 use Rattle.mg_link.specs.State.{Start, Index}
-use Rattle.mg_link.specs.Commands.{Asked, asks_insert, asks_watch, asks_more, asks_kill, asks_other, asked_by, asked, text_of, as_database, as_collection, database_at, space_at, as_integer, documents_in, integers_in, flag_or, insert_of, filter_stages, start_of, whole_target, target_by, target_of, watch_from, watch_of, more_of, kill_of, or_asks, pipeline_query, has_only, optional_count, batch_size, pipeline_fields, stages_in, asks_create, asks_indexes, create_fields, create_of, indexing_fields, indexing_of, indexes_in, further_by, asks_query, find_fields, find_stages, find_query, find_of, query_by, pipeline_of, piped, stage_by, stage_of, watch_by, watch_stage}
-use Rattle.mg_link.specs.Rules.{Request, insert, watch, more, kill, max_name, as_name, name_at, without_dot, named_space, as_id, id_of, array_at, insert_request, watch_options, behind_first, named_database, target_at, option_names, watch_with, watch_request, watch_space, some_size, more_request, ids_in, kill_request, bad_request, unknown_command, or_code, request_of, create_collection, create_indexes, create_request, indexes_request, find, find_request, query_space, pipeline_request, or_request, aggregate_request}
-use Rattle.mg_link.specs.Query.{Query, Source, of_collection, Stage}
+use Rattle.mg_link.specs.Commands.{Asked, asks_insert, asks_watch, asks_more, asks_kill, asks_other, asked_by, asked, text_of, as_database, as_collection, database_at, space_at, as_integer, documents_in, integers_in, flag_or, insert_of, filter_stages, start_of, whole_target, target_by, target_of, watch_from, watch_of, more_of, kill_of, or_asks, pipeline_query, has_only, optional_count, batch_size, pipeline_fields, stages_in, asks_create, asks_indexes, create_fields, create_of, indexing_fields, indexing_of, indexes_in, further_by, asks_query, find_fields, find_stages, find_query, find_of, query_by, pipeline_of, piped, stage_by, stage_of, watch_by, watch_stage, asks_update, asks_delete, update_fields, update_of, update_parts, update_by, delete_fields, delete_of, delete_parts, delete_by, one_at, filter_at, modification_of, many_by, count_of, begin_without_dollar, may_set, setting, asks_drop, drop_fields, drop_of, collections_fields, collections_query, listing_of, indexes_fields, indexes_query, indexes_listed, optional_size, stages_by, selecting}
+use Rattle.mg_link.specs.Rules.{Request, insert, watch, more, kill, max_name, as_name, name_at, without_dot, named_space, as_id, id_of, array_at, insert_request, watch_options, behind_first, named_database, target_at, option_names, watch_with, watch_request, watch_space, some_size, more_request, ids_in, kill_request, bad_request, unknown_command, or_code, request_of, create_collection, create_indexes, create_request, indexes_request, find, find_request, query_space, pipeline_request, or_request, aggregate_request, update, delete, update_request, delete_request, drop_collection, drop_request, list_collections_request, list_indexes_request}
+use Rattle.mg_link.specs.Query.{Query, Source, of_collection, Stage, of_database, of_indexes}
+use Rattle.mg_link.specs.Write.{Modification, sets, puts}
 
 -- ---- steps that gave something
 
@@ -111,7 +112,16 @@ asks_of (more id space size) = asks_more id space
 asks_of (kill ids) = asks_kill ids
 asks_of (create_collection space) = asks_create space
 asks_of (create_indexes space indexes) = asks_indexes space indexes
+asks_of (update space conditions m many) = asks_update space conditions m many
+asks_of (delete space conditions many) = asks_delete space conditions many
+asks_of (drop_collection space) = asks_drop space
 
+-- the modification leaves the `_id` of a document as it is
+abbrev pub KeepsId : Modification → Type 0
+KeepsId (sets fs) = may_set fs ≡ true
+KeepsId (puts d) = Unit {0}
+
+-- what else is known of a request that was read
 abbrev pub HasName : Request → Type 0
 HasName (insert space documents ordered) = IsNamed space
 HasName (find q) = IsNamed (query_space q.source)
@@ -120,6 +130,9 @@ HasName (more id space size) = IsNamed space
 HasName (kill ids) = Unit {0}
 HasName (create_collection space) = IsNamed space
 HasName (create_indexes space indexes) = IsNamed space
+HasName (update space conditions m many) = IsNamed space × KeepsId m
+HasName (delete space conditions many) = IsNamed space
+HasName (drop_collection space) = IsNamed space
 
 -- the command asks for the request
 pub record Reads (o : Option Asked) (r : Request) : Type 0 where
@@ -373,6 +386,165 @@ indexes_read fs r h =
     let space = space_some (codes "createIndexes") fs a.0 a.1 in
     reads_as (indexing_of fs) (create_indexes a.0 b.0) r b.2 (indexes_ask fs a.0 b.0 w.0 space.here b.1) space.named
 
+-- ---- updates and deletes
+
+set_keeps : (t : Tree) (m : Modification) → setting t ≡ Some m → KeepsId m
+set_keeps (document fs) m h =
+    let w = when_some (may_set fs) (Some (sets fs)) m h in
+    let e : sets fs ≡ m = cc in
+    subst KeepsId e w.0
+set_keeps t m h = absurd cc
+
+put_keeps : (d : Fields) (b : Bool) (m : Modification) → (if b then Some (puts d) else None) ≡ Some m → KeepsId m
+put_keeps d true m h = let e : puts d ≡ m = cc in subst KeepsId e tt
+put_keeps d false m h = absurd cc
+
+-- no update that is read sets an `_id`
+modification_keeps : (d : Fields) (m : Modification) → modification_of d ≡ Some m → KeepsId m
+modification_keeps no_fields m h = put_keeps no_fields true m h
+modification_keeps (field k t no_fields) m h =
+    elim (cases_Bool (bytes_eq k (codes "$set"))) [
+      | inl same ↦ set_keeps t m (sym (ap (λ (b : Bool). if b then setting t else (if begin_without_dollar (field k t no_fields) then Some (puts (field k t no_fields)) else None)) same) ∙ h)
+      | inr differs ↦
+          put_keeps (field k t no_fields) (begin_without_dollar (field k t no_fields)) m
+          (sym (ap (λ (b : Bool). if b then setting t else (if begin_without_dollar (field k t no_fields) then Some (puts (field k t no_fields)) else None)) differs) ∙ h)
+    ]
+modification_keeps (field k t (field l u fs)) m h =
+    elim (cases_Bool (bytes_eq k (codes "$set"))) [
+      | inl same ↦
+          let e : None ≡ Some m = sym (ap (λ (b : Bool). if b then None else (if begin_without_dollar (field k t (field l u fs)) then Some (puts (field k t (field l u fs))) else None)) same) ∙ h in
+          absurd cc
+      | inr differs ↦
+          put_keeps (field k t (field l u fs)) (begin_without_dollar (field k t (field l u fs))) m
+          (sym (ap (λ (b : Bool). if b then None else (if begin_without_dollar (field k t (field l u fs)) then Some (puts (field k t (field l u fs))) else None)) differs) ∙ h)
+    ]
+
+-- the parts of an update
+record UpdateParts (u : Fields) : Type 0 where
+  conditions : List Condition
+  modification : Modification
+  many : Bool
+  keeps : KeepsId modification
+  asks : (space : Space) → update_by (asks_update space) u ≡ Some (asks_update space conditions modification many)
+
+update_asks : (space : Space) (u : Fields) (conditions : List Condition) (d : Fields) (m : Modification) (many : Bool) → has_only update_parts u ≡ true → filter_at (codes "q") u ≡ Some conditions
+    → option_and_then as_document (get (codes "u") u) ≡ Some d → modification_of d ≡ Some m → flag_or false (get (codes "multi") u) ≡ Some many → update_by (asks_update space) u ≡ Some (asks_update space conditions m many)
+update_asks space u conditions d m many w a b c e = rw (w, a, b, c, e) refl
+
+-- what was made of an update was made of its parts
+update_parted : {A : Type 0} (make : List Condition → Modification → Bool → A) (u : Fields) (x : A) → update_by make u ≡ Some x → (p : UpdateParts u) × (Some (make p.conditions p.modification p.many) ≡ Some x)
+update_parted {A = A} make u x h =
+    let w = when_some (has_only update_parts u) (filter_at (codes "q") u >>= λ conditions. option_and_then as_document (get (codes "u") u) >>= λ d. modification_of d >>= λ m. flag_or false (get (codes "multi") u) >>= λ many. Some (make conditions m many)) x h in
+    let a = then_some (filter_at (codes "q") u) (λ (conditions : List Condition). option_and_then as_document (get (codes "u") u) >>= λ d. modification_of d >>= λ m. flag_or false (get (codes "multi") u) >>= λ many. Some (make conditions m many)) x w.1 in
+    let b = then_some (option_and_then as_document (get (codes "u") u)) (λ (d : Fields). modification_of d >>= λ m. flag_or false (get (codes "multi") u) >>= λ many. Some (make a.0 m many)) x a.2 in
+    let c = then_some (modification_of b.0) (λ (m : Modification). flag_or false (get (codes "multi") u) >>= λ many. Some (make a.0 m many)) x b.2 in
+    let d = then_some (flag_or false (get (codes "multi") u)) (λ (many : Bool). Some (make a.0 c.0 many)) x c.2 in
+    (record { conditions = a.0; modification = c.0; many = d.0; keeps = modification_keeps b.0 c.0 c.1; asks = λ space. update_asks space u a.0 b.0 c.0 d.0 w.0 a.1 b.1 c.1 d.1 }, d.2)
+
+-- the parts of a delete
+record DeleteParts (d : Fields) : Type 0 where
+  conditions : List Condition
+  many : Bool
+  asks : (space : Space) → delete_by (asks_delete space) d ≡ Some (asks_delete space conditions many)
+
+delete_asks : (space : Space) (d : Fields) (conditions : List Condition) (many : Bool) → has_only delete_parts d ≡ true → filter_at (codes "q") d ≡ Some conditions → (option_and_then count_of (get (codes "limit") d) >>= many_by) ≡ Some many
+    → delete_by (asks_delete space) d ≡ Some (asks_delete space conditions many)
+delete_asks space d conditions many w a b = rw (w, a, b) refl
+
+delete_parted : {A : Type 0} (make : List Condition → Bool → A) (d : Fields) (x : A) → delete_by make d ≡ Some x → (p : DeleteParts d) × (Some (make p.conditions p.many) ≡ Some x)
+delete_parted {A = A} make d x h =
+    let w = when_some (has_only delete_parts d) (filter_at (codes "q") d >>= λ conditions. option_and_then count_of (get (codes "limit") d) >>= many_by >>= λ many. Some (make conditions many)) x h in
+    let a = then_some (filter_at (codes "q") d) (λ (conditions : List Condition). option_and_then count_of (get (codes "limit") d) >>= many_by >>= λ many. Some (make conditions many)) x w.1 in
+    let b = then_some (option_and_then count_of (get (codes "limit") d) >>= many_by) (λ (many : Bool). Some (make a.0 many)) x a.2 in
+    (record { conditions = a.0; many = b.0; asks = λ space. delete_asks space d a.0 b.0 w.0 a.1 b.1 }, b.2)
+
+update_asked : (fs : Fields) (space : Space) (u : Fields) (asks : Asked) → has_only update_fields fs ≡ true → space_at (codes "update") fs ≡ Some space → one_at (codes "updates") fs ≡ Some u → update_by (asks_update space) u ≡ Some asks → update_of fs ≡ Some asks
+unfolding update_of
+update_asked fs space u asks a b c d = rw (a, b, c) d
+
+update_reads : (fs : Fields) (r : Request) → update_request fs ≡ Some r → Reads (update_of fs) r
+unfolding update_request
+update_reads fs r h =
+    let w = when_some (has_only update_fields fs) (named_space (codes "update") fs >>= λ space. one_at (codes "updates") fs >>= update_by (update space)) r h in
+    let a = then_some (named_space (codes "update") fs) (λ (space : Space). one_at (codes "updates") fs >>= update_by (update space)) r w.1 in
+    let b = then_some (one_at (codes "updates") fs) (update_by (update a.0)) r a.2 in
+    let p = update_parted (update a.0) b.0 r b.2 in
+    let space = space_some (codes "update") fs a.0 a.1 in
+    let q : Request = update a.0 p.0.conditions p.0.modification p.0.many in
+    reads_as (update_of fs) q r p.1 (update_asked fs a.0 b.0 (asks_of q) w.0 space.here b.1 (p.0.asks a.0)) (space.named, p.0.keeps)
+
+delete_asked : (fs : Fields) (space : Space) (d : Fields) (asks : Asked) → has_only delete_fields fs ≡ true → space_at (codes "delete") fs ≡ Some space → one_at (codes "deletes") fs ≡ Some d → delete_by (asks_delete space) d ≡ Some asks → delete_of fs ≡ Some asks
+unfolding delete_of
+delete_asked fs space d asks a b c e = rw (a, b, c) e
+
+delete_reads : (fs : Fields) (r : Request) → delete_request fs ≡ Some r → Reads (delete_of fs) r
+unfolding delete_request
+delete_reads fs r h =
+    let w = when_some (has_only delete_fields fs) (named_space (codes "delete") fs >>= λ space. one_at (codes "deletes") fs >>= delete_by (delete space)) r h in
+    let a = then_some (named_space (codes "delete") fs) (λ (space : Space). one_at (codes "deletes") fs >>= delete_by (delete space)) r w.1 in
+    let b = then_some (one_at (codes "deletes") fs) (delete_by (delete a.0)) r a.2 in
+    let p = delete_parted (delete a.0) b.0 r b.2 in
+    let space = space_some (codes "delete") fs a.0 a.1 in
+    let q : Request = delete a.0 p.0.conditions p.0.many in
+    reads_as (delete_of fs) q r p.1 (delete_asked fs a.0 b.0 (asks_of q) w.0 space.here b.1 (p.0.asks a.0)) space.named
+
+drop_asks : (fs : Fields) (space : Space) → has_only drop_fields fs ≡ true → space_at (codes "drop") fs ≡ Some space → drop_of fs ≡ Some (asks_drop space)
+unfolding drop_of
+drop_asks fs space a b = rw (a, b) refl
+
+drop_reads : (fs : Fields) (r : Request) → drop_request fs ≡ Some r → Reads (drop_of fs) r
+unfolding drop_request
+drop_reads fs r h =
+    let w = when_some (has_only drop_fields fs) (named_space (codes "drop") fs >>= λ space. Some (drop_collection space)) r h in
+    let a = then_some (named_space (codes "drop") fs) (λ (space : Space). Some (drop_collection space)) r w.1 in
+    let space = space_some (codes "drop") fs a.0 a.1 in
+    reads_as (drop_of fs) (drop_collection a.0) r a.2 (drop_asks fs a.0 w.0 space.here) space.named
+
+-- ---- lists
+
+-- a list is of the collections of the database that it names
+listing_source : (fs : Fields) (db : List ℕ) (q : Query) → listing_of fs db ≡ Some q → q.source ≡ of_database db
+listing_source fs db q h =
+    let a = then_some (stages_by selecting (get (codes "filter") fs)) (λ (stages : List Stage). optional_size fs >>= λ size. Some (query_by (of_database db) false stages size)) q h in
+    let b = then_some (optional_size fs) (λ (size : Option ℕ). Some (query_by (of_database db) false a.0 size)) q a.2 in
+    let e : query_by (of_database db) false a.0 b.0 ≡ q = cc in
+    sym (ap (λ (x : Query). x.source) e)
+
+listing_asks : (fs : Fields) (db : List ℕ) (q : Query) → has_only collections_fields fs ≡ true → database_at fs ≡ Some db → listing_of fs db ≡ Some q → collections_query fs ≡ Some (asks_query q)
+unfolding collections_query
+listing_asks fs db q a b c = rw (a, b, c) refl
+
+listing_reads : (fs : Fields) (r : Request) → list_collections_request fs ≡ Some r → Reads (collections_query fs) r
+unfolding list_collections_request
+listing_reads fs r h =
+    let w = when_some (has_only collections_fields fs) (named_database fs >>= listing_of fs >>= λ q. Some (find q)) r h in
+    let a = then_some (named_database fs >>= listing_of fs) (λ (q : Query). Some (find q)) r w.1 in
+    let b = then_some (named_database fs) (listing_of fs) a.0 a.1 in
+    let db = database_some fs b.0 b.1 in
+    let named : IsNamed (query_space a.0.source) = subst (λ (x : Source). IsNamed (query_space x)) (sym (listing_source fs b.0 a.0 b.2)) (record { db_there = db.there; coll_there = refl; no_dot = db.no_dot }) in
+    reads_as (collections_query fs) (find a.0) r a.2 (listing_asks fs b.0 a.0 w.0 db.here b.2) named
+
+-- a list is of the indexes of the collection that it names
+indexes_source : (fs : Fields) (space : Space) (q : Query) → indexes_listed fs space ≡ Some q → q.source ≡ of_indexes space
+indexes_source fs space q h =
+    let a = then_some (optional_size fs) (λ (size : Option ℕ). Some (query_by (of_indexes space) false [] size)) q h in
+    let e : query_by (of_indexes space) false [] a.0 ≡ q = cc in
+    sym (ap (λ (x : Query). x.source) e)
+
+listed_asks : (fs : Fields) (space : Space) (q : Query) → has_only indexes_fields fs ≡ true → space_at (codes "listIndexes") fs ≡ Some space → indexes_listed fs space ≡ Some q → indexes_query fs ≡ Some (asks_query q)
+unfolding indexes_query
+listed_asks fs space q a b c = rw (a, b, c) refl
+
+listed_reads : (fs : Fields) (r : Request) → list_indexes_request fs ≡ Some r → Reads (indexes_query fs) r
+unfolding list_indexes_request
+listed_reads fs r h =
+    let w = when_some (has_only indexes_fields fs) (named_space (codes "listIndexes") fs >>= indexes_listed fs >>= λ q. Some (find q)) r h in
+    let a = then_some (named_space (codes "listIndexes") fs >>= indexes_listed fs) (λ (q : Query). Some (find q)) r w.1 in
+    let b = then_some (named_space (codes "listIndexes") fs) (indexes_listed fs) a.0 a.1 in
+    let space = space_some (codes "listIndexes") fs b.0 b.1 in
+    let named : IsNamed (query_space a.0.source) = subst (λ (x : Source). IsNamed (query_space x)) (sym (indexes_source fs b.0 a.0 b.2)) space.named in
+    reads_as (indexes_query fs) (find a.0) r a.2 (listed_asks fs b.0 a.0 w.0 space.here b.2) named
+
 -- ---- aggregates
 
 -- a stage of a query opens no watch
@@ -448,6 +620,21 @@ creates k fs same = ap (λ (n : List ℕ). further_by n fs) ((bytes_eq-Decides k
 indexes : (k : List ℕ) (fs : Fields) → bytes_eq k (codes "createIndexes") ≡ true → further_by k fs ≡ indexing_of fs
 indexes k fs same = ap (λ (n : List ℕ). further_by n fs) ((bytes_eq-Decides k (codes "createIndexes")).0 same)
 
+updates : (k : List ℕ) (fs : Fields) → bytes_eq k (codes "update") ≡ true → further_by k fs ≡ update_of fs
+updates k fs same = ap (λ (n : List ℕ). further_by n fs) ((bytes_eq-Decides k (codes "update")).0 same)
+
+deletes : (k : List ℕ) (fs : Fields) → bytes_eq k (codes "delete") ≡ true → further_by k fs ≡ delete_of fs
+deletes k fs same = ap (λ (n : List ℕ). further_by n fs) ((bytes_eq-Decides k (codes "delete")).0 same)
+
+drops : (k : List ℕ) (fs : Fields) → bytes_eq k (codes "drop") ≡ true → further_by k fs ≡ drop_of fs
+drops k fs same = ap (λ (n : List ℕ). further_by n fs) ((bytes_eq-Decides k (codes "drop")).0 same)
+
+lists : (k : List ℕ) (fs : Fields) → bytes_eq k (codes "listCollections") ≡ true → further_by k fs ≡ collections_query fs
+lists k fs same = ap (λ (n : List ℕ). further_by n fs) ((bytes_eq-Decides k (codes "listCollections")).0 same)
+
+lists_indexes : (k : List ℕ) (fs : Fields) → bytes_eq k (codes "listIndexes") ≡ true → further_by k fs ≡ indexes_query fs
+lists_indexes k fs same = ap (λ (n : List ℕ). further_by n fs) ((bytes_eq-Decides k (codes "listIndexes")).0 same)
+
 reads_first : (o p : Option Asked) (r : Request) → Reads o r → Reads (or_asks o p) r
 reads_first o p r h = record { asks = ap (λ (x : Option Asked). or_asks x p) h.asks; named = h.named }
 
@@ -468,7 +655,12 @@ request_reads (field k t fs) r h =
     (by_name (bytes_eq k (codes "killCursors")) (kill_request (field k t fs)) _ (kill_of (field k t fs)) (further_by k (field k t fs)) r (kill_reads (field k t fs) r)
     (by_further (bytes_eq k (codes "find")) (find_request (field k t fs)) _ (find_of (field k t fs)) (further_by k (field k t fs)) r (finds k (field k t fs)) (find_reads (field k t fs) r)
     (by_further (bytes_eq k (codes "create")) (create_request (field k t fs)) _ (create_of (field k t fs)) (further_by k (field k t fs)) r (creates k (field k t fs)) (create_reads (field k t fs) r)
-    (by_further (bytes_eq k (codes "createIndexes")) (indexes_request (field k t fs)) (Err unknown_command) (indexing_of (field k t fs)) (further_by k (field k t fs)) r (indexes k (field k t fs)) (indexes_read (field k t fs) r) (λ e. absurd cc))))))) h
+    (by_further (bytes_eq k (codes "createIndexes")) (indexes_request (field k t fs)) _ (indexing_of (field k t fs)) (further_by k (field k t fs)) r (indexes k (field k t fs)) (indexes_read (field k t fs) r)
+    (by_further (bytes_eq k (codes "update")) (update_request (field k t fs)) _ (update_of (field k t fs)) (further_by k (field k t fs)) r (updates k (field k t fs)) (update_reads (field k t fs) r)
+    (by_further (bytes_eq k (codes "delete")) (delete_request (field k t fs)) _ (delete_of (field k t fs)) (further_by k (field k t fs)) r (deletes k (field k t fs)) (delete_reads (field k t fs) r)
+    (by_further (bytes_eq k (codes "drop")) (drop_request (field k t fs)) _ (drop_of (field k t fs)) (further_by k (field k t fs)) r (drops k (field k t fs)) (drop_reads (field k t fs) r)
+    (by_further (bytes_eq k (codes "listCollections")) (list_collections_request (field k t fs)) _ (collections_query (field k t fs)) (further_by k (field k t fs)) r (lists k (field k t fs)) (listing_reads (field k t fs) r)
+    (by_further (bytes_eq k (codes "listIndexes")) (list_indexes_request (field k t fs)) (Err unknown_command) (indexes_query (field k t fs)) (further_by k (field k t fs)) r (lists_indexes k (field k t fs)) (listed_reads (field k t fs) r) (λ e. absurd cc)))))))))))) h
 
 pub asked_is : (command : List ℕ) (r : Request) → request_of (fields command) ≡ Ok r → asked command ≡ asks_of r
 unfolding asked

@@ -14,7 +14,7 @@ use Rattle.mg_link.specs.Filter.{Condition, has_dot}
 use Rattle.mg_link.specs.Write.{Modification}
 use Rattle.mg_link.specs.State.{Index, Watch, Start, State}
 use Rattle.mg_link.specs.Reply.{verdict_of, code_of, labels_of, texts_of}
-use Rattle.mg_link.specs.Commands.{Asked, asks_insert, asks_watch, asks_more, asks_kill, Failure, Told, refuses, inserted, opened, gave, killed, garbled, as_integer, documents_in, failures_by, failures_at, inserted_by, Batch, batch_by, batch_of, opened_by, gave_by, success_by, told, told_by, asks_create, asks_indexes, done, asks_update, asks_delete, updated, deleted, updated_by, deleted_by, are_write_errors, within_grammar, asks_query}
+use Rattle.mg_link.specs.Commands.{Asked, asks_insert, asks_watch, asks_more, asks_kill, Failure, Told, refuses, inserted, opened, gave, killed, garbled, as_integer, documents_in, failures_by, failures_at, inserted_by, Batch, batch_by, batch_of, opened_by, gave_by, success_by, told, told_by, asks_create, asks_indexes, done, asks_update, asks_delete, updated, deleted, updated_by, deleted_by, are_write_errors, within_grammar, asks_query, asks_drop}
 use Rattle.mg_link.specs.Rules.{Inserted, number_of, errors_field, inserted_reply, documents_of_items, cursor_fields, first_batch, next_batch, token_of, stamp_of, now_of, killed_reply, done_reply, updated_reply, words_of, refusal, query_cursor}
 use Rattle.mg_link.specs.Query.{Query}
 use Rattle.mg_link.proofs.Requests.{IsNamed}
@@ -163,6 +163,10 @@ created_tells space = refl
 pub indexed_tells : (space : Space) (indexes : List Index) → told_by (verdict_of done_reply) (asks_indexes space indexes) done_reply ≡ done
 unfolding verdict_of
 indexed_tells space indexes = refl
+
+pub dropped_tells : (space : Space) → told_by (verdict_of done_reply) (asks_drop space) done_reply ≡ done
+unfolding verdict_of
+dropped_tells space = refl
 
 -- ---- updates and deletes
 

@@ -15,7 +15,7 @@ use Rattle.mg_link.specs.Filter.{Condition, is_same, has_dot}
 use Rattle.mg_link.specs.State.{inserts, deletes, drops, invalidates, Change, Entry, Watch, Cursor, query, watching, State, Index, Start, nowhere, after, at_time, is_space, sees, seen_between, events_between, count_before, time_of, is_invalidate, collection_in, indexes_of}
 use Rattle.mg_link.specs.Query.{Query, Source, of_collection, of_database, of_indexes, id_alone, index_listed, read, through}
 use Rattle.mg_link.specs.Write.{Modification, sets, puts, modified, with_fields, change_of, chosen, changing, with_indexes}
-use Rattle.mg_link.specs.Commands.{as_integer, documents_in, flag_or, filter_stages, watch_stage, has_only, optional_count, batch_size, start_of, target_by, pipeline_fields, stages_in, create_fields, indexing_fields, indexes_in, find_fields, find_query, piped}
+use Rattle.mg_link.specs.Commands.{as_integer, documents_in, flag_or, filter_stages, watch_stage, has_only, optional_count, batch_size, start_of, target_by, pipeline_fields, stages_in, create_fields, indexing_fields, indexes_in, find_fields, find_query, piped, update_fields, one_at, update_by, delete_fields, delete_by, drop_fields, collections_fields, listing_of, indexes_fields, indexes_listed}
 use Rattle.mg_link.specs.Step.{documents_of}
 
 -- ---- limits
@@ -76,6 +76,9 @@ pub data Request : Type 0 where
   kill : (ids : List ℤ) → Request
   create_collection : (space : Space) → Request
   create_indexes : (space : Space) (indexes : List Index) → Request
+  update : (space : Space) (conditions : List Condition) (modification : Modification) (many : Bool) → Request
+  delete : (space : Space) (conditions : List Condition) (many : Bool) → Request
+  drop_collection : (space : Space) → Request
 
 -- a text that may name a database or a collection
 abbrev pub as_name : List ℕ → Option (List ℕ)
@@ -179,6 +182,22 @@ create_request fs = if has_only create_fields fs then (named_space (codes "creat
 unfoldable pub indexes_request : Fields → Option Request
 indexes_request fs = if has_only indexing_fields fs then (named_space (codes "createIndexes") fs >>= λ space. indexes_in fs >>= λ indexes. Some (create_indexes space indexes)) else None
 
+unfoldable pub update_request : Fields → Option Request
+update_request fs = if has_only update_fields fs then (named_space (codes "update") fs >>= λ space. one_at (codes "updates") fs >>= update_by (update space)) else None
+
+unfoldable pub delete_request : Fields → Option Request
+delete_request fs = if has_only delete_fields fs then (named_space (codes "delete") fs >>= λ space. one_at (codes "deletes") fs >>= delete_by (delete space)) else None
+
+unfoldable pub drop_request : Fields → Option Request
+drop_request fs = if has_only drop_fields fs then (named_space (codes "drop") fs >>= λ space. Some (drop_collection space)) else None
+
+-- a list of collections, or of indexes, is a find of another source
+unfoldable pub list_collections_request : Fields → Option Request
+list_collections_request fs = if has_only collections_fields fs then (named_database fs >>= listing_of fs >>= λ q. Some (find q)) else None
+
+unfoldable pub list_indexes_request : Fields → Option Request
+list_indexes_request fs = if has_only indexes_fields fs then (named_space (codes "listIndexes") fs >>= indexes_listed fs >>= λ q. Some (find q)) else None
+
 abbrev pub or_code : {A : Type 0} → ℤ → Option A → Result A ℤ
 or_code code (Some x) = Ok x
 or_code code None = Err code
@@ -192,7 +211,12 @@ request_of (field k t fs) = if bytes_eq k (codes "insert") then or_code bad_requ
     else (if bytes_eq k (codes "killCursors") then or_code bad_request (kill_request (field k t fs))
     else (if bytes_eq k (codes "find") then or_code bad_request (find_request (field k t fs))
     else (if bytes_eq k (codes "create") then or_code bad_request (create_request (field k t fs))
-    else (if bytes_eq k (codes "createIndexes") then or_code bad_request (indexes_request (field k t fs)) else Err unknown_command))))))
+    else (if bytes_eq k (codes "createIndexes") then or_code bad_request (indexes_request (field k t fs))
+    else (if bytes_eq k (codes "update") then or_code bad_request (update_request (field k t fs))
+    else (if bytes_eq k (codes "delete") then or_code bad_request (delete_request (field k t fs))
+    else (if bytes_eq k (codes "drop") then or_code bad_request (drop_request (field k t fs))
+    else (if bytes_eq k (codes "listCollections") then or_code bad_request (list_collections_request (field k t fs))
+    else (if bytes_eq k (codes "listIndexes") then or_code bad_request (list_indexes_request (field k t fs)) else Err unknown_command)))))))))))
 
 -- ---- tokens, times and events
 
@@ -587,6 +611,9 @@ answer s id (more cursor space size) = answer_more s cursor space (size_of size)
 answer s id (kill ids) = Ok (answer_with [] (killed_reply s ids))
 answer s id (create_collection space) = answer_create s space
 answer s id (create_indexes space indexes) = answer_indexes s space indexes
+answer s id (update space conditions m many) = answer_update s space conditions m many
+answer s id (delete space conditions many) = answer_delete s space conditions many
+answer s id (drop_collection space) = answer_drop s space
 
 -- the reply that refuses
 abbrev pub refusal : ℤ → List (List ℕ) → Fields

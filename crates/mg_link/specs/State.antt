@@ -85,10 +85,10 @@ abbrev pub put_collection : Collection → List Collection → List Collection
 put_collection c [] = c ∷ []
 put_collection c (d ∷ ds) = if is_space d.space c.space then c ∷ ds else (if comes_before c.space d.space then c ∷ d ∷ ds else d ∷ put_collection c ds)
 
--- the collections without the one of this name
+-- the collections without that of this name
 abbrev pub without_collection : Space → List Collection → List Collection
 without_collection space [] = []
-without_collection space (c ∷ cs) = if is_space space c.space then cs else c ∷ without_collection space cs
+without_collection space (c ∷ cs) = if is_space space c.space then without_collection space cs else c ∷ without_collection space cs
 
 -- the collections where the one of this name has other documents; one that is not there stays so
 abbrev pub change_documents : Space → (List Fields → List Fields) → List Collection → List Collection

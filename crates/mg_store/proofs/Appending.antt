@@ -1,15 +1,15 @@
 -- The documents of an insert, taken one after another.
 use Rattle.std.proofs.Common.{◌≡◌, ℕ, suc, ◌+◌, ℤ, Bool, true, false, List, [], ◌∷◌, ◌++◌, length, map, Result, Ok, Err, refl, sym, ap, ap₂, ◌∙◌, subst, arith, append_assoc, append-nil, length-append}
 use Rattle.std.specs.Prelude.{if◌then◌else◌}
+use Rattle.std.specs.BTreeSet.{contains}
 use Rattle.mg_bson.specs.Tree.{Tree, Fields, document, Items, no_items}
-use Rattle.mg_bson.specs.Raw.{fields}
 use Rattle.mg_bson.specs.Find.{with_item, items_joined}
 use Rattle.mg_bson.proofs.Joining.{items_joined_more, items_joined_all}
 use Rattle.mg_link.specs.Namespace.{Space}
 use Rattle.mg_link.specs.State.{Entry}
 use Rattle.mg_link.specs.Rules.{accept, choose, insert_entry, Inserted, inserting, no_more, with_document, with_error, write_error}
 use Rattle.mg_store.specs.Holding.{AreExact, entries_from, entry_at, change_told}
-use Rattle.mg_store.specs.Inserting.{Accepts, Appends, Fits, Lists, Refuses, Takes, new_documents, number_in, number_of_id}
+use Rattle.mg_store.specs.Inserting.{Accepts, Appends, AreNew, Fits, Lists, Refuses, Takes, document_of, holds_id, new_documents, vec_cmp}
 use Rattle.mg_store.specs.declared.change.ChangeEntry.{ChangeEntry}
 use Rattle.mg_store.specs.declared.insert.Appended.{Appended}
 use Rattle.mg_store.proofs.Entries.{entries-append}
@@ -83,10 +83,9 @@ insert_accepts s ordered entries index next before a b d ds i number got h =
 
 fits_same : (before : List Fields) (a b : Appended) (e : Fields) → Lists e a b → Fits before a → Fits before b
 fits_same before a b e l h =
-    let f = h.ids_are in
     record {
-      ids_are = λ k. ap (λ m. number_in m k.items) l.ids_same ∙ h.ids_are k ∙ ap (λ ds. number_of_id (length before) k.items (map fields ds.items)) (sym l.documents_same);
-      apart = λ k is. ap (λ ds. number_of_id (length before) k (map fields ds.items)) l.documents_same ∙ h.apart k is;
+      ids_are = λ k. ap (λ m. contains vec_cmp m k) l.ids_same ∙ h.ids_are k ∙ ap (λ ds. holds_id k.items (map document_of ds.items)) (sym l.documents_same);
+      new = subst (λ ds. AreNew before ds.items) (sym l.documents_same) h.new;
       exact = subst (λ es. AreExact es.items) (sym l.entries_same) h.exact;
     }
 
@@ -96,7 +95,7 @@ pub insert_refuses : (s : Space) (entries index next : ℕ) (before : List Field
 insert_refuses s entries index next before a b d ds i number got h =
     let l = got.lists in
     let later : suc index ≡ next = omega arith in
-    let docs : new_documents b ≡ new_documents a = ap (λ ds. map fields ds.items) l.documents_same in
+    let docs : new_documents b ≡ new_documents a = ap (λ ds. map document_of ds.items) l.documents_same in
     let es : b.entries.items ≡ a.entries.items = ap (λ es. es.items) l.entries_same in
     let rest : Inserted = inserting s false (suc index) (entries + length a.entries.items) (before ++ new_documents a) ds in
     let same : rest ≡ rest_of s false entries next before b ds =
@@ -123,7 +122,7 @@ pub insert_stops : (s : Space) (ordered : Bool) (entries index : ℕ) (before : 
 insert_stops s ordered entries index before a b d ds i is got h =
     let l = got.lists in
     let rest : Inserted = inserting s ordered (suc index) (entries + length a.entries.items) (before ++ new_documents a) ds in
-    let docs : new_documents b ≡ new_documents a = ap (λ ds. map fields ds.items) l.documents_same in
+    let docs : new_documents b ≡ new_documents a = ap (λ ds. map document_of ds.items) l.documents_same in
     let es : b.entries.items ≡ a.entries.items = ap (λ es. es.items) l.entries_same in
     let here : rest_of s ordered entries index before a (d ∷ ds) ≡ with_error index got.code no_more =
     inserting_err s ordered index (entries + length a.entries.items) (before ++ new_documents a) d ds got.code got.refused ∙ ap (λ (x : Bool). with_error index got.code (if x then no_more else rest)) is in

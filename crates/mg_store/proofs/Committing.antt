@@ -1,6 +1,7 @@
 -- What a command does to the content, and to the state that it is.
 use Rattle.std.proofs.Common.{◌≡◌, ℕ, ℤ, pos, ◌+◌, Bool, true, false, cond, List, [], ◌∷◌, ◌++◌, length, map, drop, get_or, ◌<◌, Option, Some, None, option_map, refl, sym, ap, ap₂, ◌∙◌, subst, arith, ◌-◌, ◌^◌, ◌≤◌, ◌⊎◌, inl, inr, zero, suc}
 use Rattle.std.specs.Prelude.{IsSome, if◌then◌else◌, ◌||◌, Vec, min}
+use Rattle.std.specs.Map.{lookup}
 use Rattle.std.specs.declared.alloc.Global.{Global}
 use Rattle.std.specs.BTreeMap.{get}
 use Rattle.std.specs.Ordering.{int_cmp, int_eq, is_eq}
@@ -13,21 +14,24 @@ use Rattle.mg_link.specs.Namespace.{Space, space}
 use Rattle.mg_link.specs.State.{Entry, Cursor, Index, State, documents_at, indexes_of, is_space, put_cursor, without_cursors, query}
 use Rattle.mg_link.specs.Step.{documents_of}
 use Rattle.mg_link.specs.Rules.{is_id_among}
-use Rattle.mg_store.specs.Contents.{GoesOn, IsCursor, IsCursorAt, Leads, Represents, collection_at}
+use Rattle.mg_store.specs.Contents.{GoesOn, IsCursor, IsCursorAt, Leads, Represents, collection_at, Becomes}
 use Rattle.mg_store.specs.Holding.{AreExact, entries_from}
 use Rattle.mg_store.specs.Inserting.{KeepsIds, indexed, new_documents, stored}
 use Rattle.mg_store.specs.Indexing.{index_held}
+use Rattle.mg_store.specs.declared.change.ChangeEntry.{ChangeEntry}
 use Rattle.mg_store.specs.declared.cursor.Cursor as code
 use Rattle.mg_store.specs.declared.index.Index as code_index
 use Rattle.mg_store.specs.declared.cursor.Source.{Source}
 use Rattle.mg_store.specs.declared.cursor.Source.TheVariants as sources
 use Rattle.mg_store.specs.declared.insert.Appended.{Appended}
-use Rattle.mg_store.specs.declared.insert.Collection.{Collection}
+use Rattle.mg_store.specs.declared.collection.Collection.{Collection}
 use Rattle.mg_store.specs.declared.perform.Content.{Content}
 use Rattle.mg_store.specs.declared.perform.Effect.TheVariants as effects
 use Rattle.mg_store.proofs.Entries.{entries-append, exact-append}
 use Rattle.mg_store.proofs.Holdings.{changes-length}
 use Rattle.mg_store.proofs.Maps.{int_test, same_space}
+use Rattle.mg_link.proofs.Collections.{changed_documents}
+use Rattle.mg_store.specs.declared.change.ChangeEntry.{ChangeEntry}
 
 -- ---- cursors
 
@@ -177,6 +181,34 @@ does_index c c' s s' given given' ns indexes w h leads cs docs held ids es curso
       given_are = number ∙ h.given_are ∙ ap pos (sym b.given_are);
     }
 
+gone_if : (b : Bool) (o : Option Collection) (p : Option (List Fields)) → p ≡ option_map stored o → (if b then None else p) ≡ option_map stored (if b then None else o)
+gone_if true o p e = refl
+gone_if false o p e = e
+
+unindexed_if : (b : Bool) (l : List Index) (o : Option Collection) → l ≡ indexed o → (if b then [] else l) ≡ indexed (if b then None else o)
+unindexed_if true l o e = refl
+unindexed_if false l o e = e
+
+left_if : (b : Bool) (col : Collection) (o : Option Collection) → (o ≡ Some col → KeepsIds col) → (if b then None else o) ≡ Some col → KeepsIds col
+left_if true col o f e = absurd cc
+left_if false col o f e = f e
+
+pub does_drop : (c c' : Content) (s s' : State) (given given' : ℕ) (ns : Namespace) (entries : Vec ChangeEntry Global) → Represents c s given → Leads (effects.Drop ns entries) s given s' given'
+    → ((sp : Space) → collection_at c'.collections sp ≡ (if is_space sp (space ns) then None else collection_at c.collections sp)) → c'.changes.items ≡ c.changes.items ++ entries.items → c'.cursors ≡ c.cursors → c'.given ≡ c.given → Represents c' s' given'
+does_drop c c' s s' given given' ns entries h leads cs es cursors number =
+    let does = leads.0 in
+    let b = does.1 in
+    let place : 0 + length c.changes.items ≡ length s.changes = omega (arith, changes-length c s given h) in
+    record {
+      documents_are = λ sp. b.documents_are sp ∙ gone_if (is_space sp (space ns)) (collection_at c.collections sp) (documents_at s sp) (h.documents_are sp) ∙ ap (option_map stored) (sym (cs sp));
+      indexes_are = λ sp. leads.1 sp ∙ unindexed_if (is_space sp (space ns)) (indexes_of s sp) (collection_at c.collections sp) (h.indexes_are sp) ∙ ap indexed (sym (cs sp));
+      ids_are = λ sp col e. left_if (is_space sp (space ns)) col (collection_at c.collections sp) (h.ids_are sp col) (sym (cs sp) ∙ e);
+      changes_are = b.changes_are ∙ ap₂ (λ (xs : List Entry) (n : ℕ). xs ++ entries_from n entries.items) h.changes_are (sym place) ∙ sym (entries-append 0 c.changes.items entries.items) ∙ ap (entries_from 0) (sym es);
+      exact = subst AreExact (sym es) (exact-append c.changes.items entries.items h.exact does.0);
+      cursors_are = λ id. subst (λ (x : Option Cursor). IsCursorAt (get int_cmp c'.cursors id) x) (sym (b.cursors_are id)) (subst (λ m. IsCursorAt (get int_cmp m id) (s.cursors id)) (sym cursors) (h.cursors_are id));
+      given_are = number ∙ h.given_are ∙ ap pos (sym b.given_are);
+    }
+
 undone : (b : Bool) (old w : Collection) (o : Option Collection) → stored w ≡ stored old → (b ≡ true → o ≡ Some old) → option_map stored o ≡ option_map stored (if b then Some w else o)
 undone true old w o same found = ap (option_map stored) (found refl) ∙ ap Some (sym same)
 undone false old w o same found = refl
@@ -196,6 +228,78 @@ insert_undone c c' s given ns old w h found cs same indexes ids es cursors numbe
       given_are = number ∙ h.given_are;
     }
 
+-- nothing came of a command
+pub nothing_done : (c c' : Content) (s : State) (given : ℕ) → Represents c s given → c'.collections.entries ≡ c.collections.entries → c'.changes.items ≡ c.changes.items → c'.cursors ≡ c.cursors → c'.given ≡ c.given → Represents c' s given
+nothing_done c c' s given h cs es cursors number =
+    record {
+      documents_are = λ sp. h.documents_are sp ∙ sym (ap (λ m. option_map stored (lookup (λ ns. is_space sp (space ns)) m)) cs);
+      indexes_are = λ sp. h.indexes_are sp ∙ sym (ap (λ m. indexed (lookup (λ ns. is_space sp (space ns)) m)) cs);
+      ids_are = λ sp col e. h.ids_are sp col (sym (ap (lookup (λ ns. is_space sp (space ns))) cs) ∙ e);
+      changes_are = h.changes_are ∙ ap (entries_from 0) (sym es);
+      exact = subst AreExact (sym es) h.exact;
+      cursors_are = λ id. subst (λ m. IsCursorAt (get int_cmp m id) (s.cursors id)) (sym cursors) (h.cursors_are id);
+      given_are = number ∙ h.given_are;
+    }
+
 pub some_of : {K : Type 0} (o : Option K) (x : K) → Some x ≡ o → IsSome o
 some_of None x e = absurd cc
 some_of (Some y) x e = refl
+
+-- ---- updates and deletes
+
+found_if : (b : Bool) (g : List Fields → List Fields) (old w : Collection) (o : Option Collection) (p : Option (List Fields)) → (b ≡ true → o ≡ Some old) → stored w ≡ g (stored old) → p ≡ option_map stored o → (if b then option_map g p else p) ≡ option_map stored (if b then Some w else o)
+found_if true g old w o p found is e = ap (option_map g) (e ∙ ap (option_map stored) (found refl)) ∙ ap Some (sym is)
+found_if false g old w o p found is e = e
+
+missing_if : (b : Bool) (g : List Fields → List Fields) (o : Option Collection) (p : Option (List Fields)) → (b ≡ true → o ≡ None) → p ≡ option_map stored o → (if b then option_map g p else p) ≡ option_map stored o
+missing_if true g o p missing e = ap (option_map g) (e ∙ ap (option_map stored) (missing refl)) ∙ sym (ap (option_map stored) (missing refl))
+missing_if false g o p missing e = e
+
+-- what is appended to the changes of the state
+entries_more : (c c' : Content) (s s' : State) (given : ℕ) (more : List ChangeEntry) → Represents c s given → s'.changes ≡ s.changes ++ entries_from (length s.changes) more → c'.changes.items ≡ c.changes.items ++ more → s'.changes ≡ entries_from 0 c'.changes.items
+entries_more c c' s s' given more h changes es =
+    let place : 0 + length c.changes.items ≡ length s.changes = omega (arith, changes-length c s given h) in
+    changes ∙ ap₂ (λ (xs : List Entry) (n : ℕ). xs ++ entries_from n more) h.changes_are (sym place) ∙ sym (entries-append 0 c.changes.items more) ∙ ap (entries_from 0) (sym es)
+
+-- the documents of a collection that is there have become others
+pub does_rewrite : (c c' : Content) (s s' : State) (given given' : ℕ) (ns : Namespace) (g : List Fields → List Fields) (more : List ChangeEntry) (old w : Collection) → Represents c s given → AreExact more
+    → Becomes s' given' (changed_documents (space ns) g (documents_at s)) (s.changes ++ entries_from (length s.changes) more) s.cursors given → ((sp : Space) → indexes_of s' sp ≡ indexes_of s sp) → collection_at c.collections (space ns) ≡ Some old
+    → ((sp : Space) → collection_at c'.collections sp ≡ (if is_space sp (space ns) then Some w else collection_at c.collections sp)) → stored w ≡ g (stored old) → w.indexes ≡ old.indexes → KeepsIds w
+    → c'.changes.items ≡ c.changes.items ++ more → c'.cursors ≡ c.cursors → c'.given ≡ c.given → Represents c' s' given'
+does_rewrite c c' s s' given given' ns g more old w h exact b leaves found cs docs indexes ids es cursors number =
+    record {
+      documents_are = λ sp. b.documents_are sp ∙ found_if (is_space sp (space ns)) g old w (collection_at c.collections sp) (documents_at s sp) (λ at. ap (collection_at c.collections) (same_space sp (space ns) at) ∙ found) docs (h.documents_are sp) ∙ ap (option_map stored) (sym (cs sp));
+      indexes_are = λ sp. leaves sp ∙ h.indexes_are sp ∙ indexes_if (is_space sp (space ns)) w (Some old) (collection_at c.collections sp) (λ at. ap (collection_at c.collections) (same_space sp (space ns) at) ∙ found) (ap (λ v. map index_held v.items) indexes) ∙ ap indexed (sym (cs sp));
+      ids_are = λ sp col e. keeps_if (is_space sp (space ns)) w col (collection_at c.collections sp) ids (h.ids_are sp col) (sym (cs sp) ∙ e);
+      changes_are = entries_more c c' s s' given more h b.changes_are es;
+      exact = subst AreExact (sym es) (exact-append c.changes.items more h.exact exact);
+      cursors_are = λ id. subst (λ (x : Option Cursor). IsCursorAt (get int_cmp c'.cursors id) x) (sym (b.cursors_are id)) (subst (λ m. IsCursorAt (get int_cmp m id) (s.cursors id)) (sym cursors) (h.cursors_are id));
+      given_are = number ∙ h.given_are ∙ ap pos (sym b.given_are);
+    }
+
+-- those of a collection that is not there have not
+pub does_nothing_to : (c c' : Content) (s s' : State) (given given' : ℕ) (ns : Namespace) (g : List Fields → List Fields) (more : List ChangeEntry) → Represents c s given → AreExact more
+    → Becomes s' given' (changed_documents (space ns) g (documents_at s)) (s.changes ++ entries_from (length s.changes) more) s.cursors given → ((sp : Space) → indexes_of s' sp ≡ indexes_of s sp) → collection_at c.collections (space ns) ≡ None
+    → c'.collections ≡ c.collections → c'.changes.items ≡ c.changes.items ++ more → c'.cursors ≡ c.cursors → c'.given ≡ c.given → Represents c' s' given'
+does_nothing_to c c' s s' given given' ns g more h exact b leaves missing cs es cursors number =
+    record {
+      documents_are = λ sp. b.documents_are sp ∙ missing_if (is_space sp (space ns)) g (collection_at c.collections sp) (documents_at s sp) (λ at. ap (collection_at c.collections) (same_space sp (space ns) at) ∙ missing) (h.documents_are sp) ∙ ap (λ m. option_map stored (collection_at m sp)) (sym cs);
+      indexes_are = λ sp. leaves sp ∙ h.indexes_are sp ∙ ap (λ m. indexed (collection_at m sp)) (sym cs);
+      ids_are = λ sp col e. h.ids_are sp col (ap (λ m. collection_at m sp) (sym cs) ∙ e);
+      changes_are = entries_more c c' s s' given more h b.changes_are es;
+      exact = subst AreExact (sym es) (exact-append c.changes.items more h.exact exact);
+      cursors_are = λ id. subst (λ (x : Option Cursor). IsCursorAt (get int_cmp c'.cursors id) x) (sym (b.cursors_are id)) (subst (λ m. IsCursorAt (get int_cmp m id) (s.cursors id)) (sym cursors) (h.cursors_are id));
+      given_are = number ∙ h.given_are ∙ ap pos (sym b.given_are);
+    }
+
+-- no more room changes nothing
+pub still_represents : (c c' : Content) (s : State) (given : ℕ) → Represents c s given → c'.collections ≡ c.collections → c'.changes.items ≡ c.changes.items → c'.cursors ≡ c.cursors → c'.given ≡ c.given → Represents c' s given
+still_represents c c' s given h cs es cursors number = record {
+  documents_are = λ sp. h.documents_are sp ∙ ap (λ m. option_map stored (collection_at m sp)) (sym cs);
+  indexes_are = λ sp. h.indexes_are sp ∙ ap (λ m. indexed (collection_at m sp)) (sym cs);
+  ids_are = λ sp col e. h.ids_are sp col (ap (λ m. collection_at m sp) (sym cs) ∙ e);
+  changes_are = h.changes_are ∙ ap (entries_from 0) (sym es);
+  exact = subst AreExact (sym es) h.exact;
+  cursors_are = λ id. subst (λ m. IsCursorAt (get int_cmp m id) (s.cursors id)) (sym cursors) (h.cursors_are id);
+  given_are = number ∙ h.given_are;
+}

@@ -4,10 +4,12 @@ use Rattle.std.specs.Prelude.{nat_lt, slice_get, ◌&&◌, if◌then◌else◌}
 use Rattle.std.proofs.lemmas.Option.{slice_get_past}
 use Rattle.std.proofs.lemmas.Bool.{lt-ltb, le-ltb}
 use Rattle.mg_bson.specs.Bytes.{bytes}
+use Rattle.mg_bson.specs.Tree.{Fields}
 use Rattle.mg_bson.specs.Raw.{fields}
-use Rattle.mg_link.specs.State.{Entry, Watch, count_before, is_invalidate, sees}
-use Rattle.mg_link.specs.Rules.{ended_before, ends_with, now_of}
-use Rattle.mg_store.specs.Holding.{entry_at, entries_from, AreExact}
+use Rattle.mg_link.specs.Namespace.{Space}
+use Rattle.mg_link.specs.State.{Change, Entry, Watch, count_before, drops, invalidates, is_invalidate, sees}
+use Rattle.mg_link.specs.Rules.{dropped_entries, dropped_event, ended_before, ends_with, entry_before, invalidate_event, now_of, token_of}
+use Rattle.mg_store.specs.Holding.{change_told, entry_at, entries_from, AreExact, IsEntryOf}
 use Rattle.mg_store.specs.declared.change.ChangeEntry.{ChangeEntry}
 
 pub length-entries : (p : ℕ) (es : List ChangeEntry) → length (entries_from p es) ≡ length es
@@ -92,3 +94,21 @@ none_before w (suc m) es e = absurd (omega arith)
 pub ended_none : (w : Watch) (place : ℕ) (es : List ChangeEntry) → (place ≡ 0) ⊎ (length es < place) → ended_before w (entries_from 0 es) place ≡ false
 ended_none w place es (inl e) = none_before w place es e
 ended_none w place es (inr past) = ended_past w place es past
+
+-- ---- the entries of a drop
+
+told_entry : (place : ℕ) (sp : Space) (change : Change) (event : Fields) (e : ChangeEntry) → IsEntryOf sp event e → change_told event ≡ change → entry_at place e ≡ entry_before (suc place) sp change event
+told_entry place sp change event e h told =
+    ap₂ (λ (x : Space) (v : Fields). record { token = token_of (suc place); time = now_of (suc place); space = x; change = change_told v; event = v }) h.at_is h.event_is
+    ∙ ap (λ (k : Change). record { token = token_of (suc place); time = now_of (suc place); space = sp; change = k; event = event }) told
+
+pub dropped_held : (place p q : ℕ) (sp : Space) (a b : ChangeEntry) (es : List ChangeEntry) → p ≡ place + 1 → q ≡ place + 2 → IsEntryOf sp (dropped_event p sp) a → IsEntryOf sp (invalidate_event q) b → es ≡ a ∷ b ∷ [] → entries_from place es ≡ dropped_entries place sp
+dropped_held place p q sp a b es first second x y these =
+    let one : p ≡ suc place = omega (arith, first) in
+    let two : q ≡ suc (suc place) = omega (arith, second) in
+    ap (entries_from place) these
+    ∙ ap₂ (λ (u v : Entry). u ∷ v ∷ []) (told_entry place sp drops (dropped_event (suc place) sp) a (subst (λ (n : ℕ). IsEntryOf sp (dropped_event n sp) a) one x) refl)
+    (told_entry (suc place) sp invalidates (invalidate_event (suc (suc place))) b (subst (λ (n : ℕ). IsEntryOf sp (invalidate_event n) b) two y) refl)
+
+pub dropped_exact : (sp tp : Space) (d e : Fields) (a b : ChangeEntry) (es : List ChangeEntry) → IsEntryOf sp d a → IsEntryOf tp e b → es ≡ a ∷ b ∷ [] → AreExact es
+dropped_exact sp tp d e a b es x y these = subst AreExact (sym these) (x.exact, (y.exact, tt))

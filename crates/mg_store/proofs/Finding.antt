@@ -7,16 +7,16 @@ use Rattle.mg_bson.specs.Find.{get}
 use Rattle.mg_bson.specs.Reading.{◌>>=◌}
 use Rattle.mg_link.specs.Namespace.{Space}
 use Rattle.mg_link.specs.Filter.{Condition, matches}
-use Rattle.mg_link.specs.Commands.{batch_size, documents_in, find_fields, find_stages, flag_or, has_only, optional_count, pipeline_fields, pipeline_of, query_by}
-use Rattle.mg_link.specs.Query.{Stage, selects, sorts, skips, limits, shows_id, hides_id, of_collection, result, staged, through}
+use Rattle.mg_link.specs.Commands.{batch_size, documents_in, find_fields, find_stages, flag_or, has_only, optional_count, pipeline_fields, pipeline_of, query_by, collections_fields, indexes_fields, optional_size, selecting, stages_by}
+use Rattle.mg_link.specs.Query.{Stage, selects, sorts, skips, limits, shows_id, hides_id, of_collection, of_database, of_indexes, read, result, staged, through}
 use Rattle.mg_link.specs.State.{State}
 use Rattle.mg_link.specs.Step.{documents_of}
 use Rattle.mg_link.specs.Rules as rules
-use Rattle.mg_link.specs.Rules.{array_at, find_request, named_space, or_request, pipeline_request, refused}
+use Rattle.mg_link.specs.Rules.{array_at, find_request, named_space, or_request, pipeline_request, refused, list_collections_request, list_indexes_request, named_database}
 use Rattle.mg_store.specs.Asking.{keyed, matches_keys}
 use Rattle.mg_store.specs.Contents.{Misses, Settles}
 use Rattle.mg_store.specs.Querying.{Doing, Results, all_done, doing, done, pipeline_doing}
-use Rattle.mg_store.specs.Wanted.{Plan, Wanted, code_of, find, found_of, piped_of, plan_of, wanted}
+use Rattle.mg_store.specs.Wanted.{Plan, Wanted, code_of, collections_listed, find, found_of, indexes_listed, piped_of, plan_of, wanted}
 use Rattle.mg_store.specs.declared.request.Refusal.{Refusal}
 use Rattle.mg_store.specs.declared.request.Stop.{Stop}
 use Rattle.mg_store.specs.declared.request.Stop.TheVariants as stops
@@ -69,15 +69,38 @@ pub piped_is : (fs : Fields) → piped_of fs ≡ option_map wanted (pipeline_req
 unfolding pipeline_request
 piped_is fs = piped_same (has_only pipeline_fields fs) (named_space (codes "aggregate") fs) (array_at (codes "pipeline") fs) (batch_size fs)
 
--- an aggregate that opens a watch
-pub watch_first : (a b : Option rules.Request) (w : Wanted) → Some w ≡ option_map wanted a → Some w ≡ option_map wanted (or_request a b)
-watch_first None b w e = absurd cc
-watch_first (Some r) b w e = e
+-- ---- lists
 
--- and one that is a query
-pub query_second : (a b : Option rules.Request) → None ≡ option_map wanted a → or_request a b ≡ b
-query_second None b e = refl
-query_second (Some r) b e = absurd cc
+abbrev sized_plan : List Doing → Option ℕ → Option Plan
+sized_plan stages size = Some (record { stages = stages; single = false; size = size })
+
+abbrev with_database : List ℕ → Plan → Option Wanted
+with_database db plan = Some (find (of_database db) plan.stages plan.single plan.size)
+
+listed_same : (b : Bool) (d : Option (List ℕ)) (st : Option (List Stage)) (sz : Option (Option ℕ))
+    → ((if b then d else None) >>= λ db. (option_map (map doing) st >>= λ stages. sz >>= sized_plan stages) >>= with_database db)
+    ≡ option_map wanted (if b then (d >>= (λ db. st >>= λ stages. sz >>= λ size. Some (query_by (of_database db) false stages size)) >>= λ q. Some (rules.find q)) else None)
+listed_same false d st sz = refl
+listed_same true None st sz = refl
+listed_same true (Some db) None sz = refl
+listed_same true (Some db) (Some stages) None = refl
+listed_same true (Some db) (Some stages) (Some size) = refl
+
+pub listed_is : (fs : Fields) → collections_listed fs ≡ option_map wanted (list_collections_request fs)
+unfolding list_collections_request
+listed_is fs = listed_same (has_only collections_fields fs) (named_database fs) (stages_by selecting (get (codes "filter") fs)) (optional_size fs)
+
+indexes_same : (b : Bool) (a : Option Space) (sz : Option (Option ℕ))
+    → (if b then (a >>= λ space. sz >>= λ size. Some (find (of_indexes space) [] false size)) else None)
+    ≡ option_map wanted (if b then (a >>= (λ space. sz >>= λ size. Some (query_by (of_indexes space) false [] size)) >>= λ q. Some (rules.find q)) else None)
+indexes_same false a sz = refl
+indexes_same true None sz = refl
+indexes_same true (Some space) None = refl
+indexes_same true (Some space) (Some size) = refl
+
+pub indexes_are_listed : (fs : Fields) → indexes_listed fs ≡ option_map wanted (list_indexes_request fs)
+unfolding indexes_listed list_indexes_request
+indexes_are_listed fs = indexes_same (has_only indexes_fields fs) (named_space (codes "listIndexes") fs) (optional_size fs)
 
 -- ---- stages
 

@@ -22,17 +22,6 @@ pub record Going (ds rest : List Fields) (size : ℕ) (given : Items) (room left
   pub documents_are : items_joined given (documents_of_items (take (held_now size room left rest) rest)) ≡ documents_of_items (take (batch_of_query size ds) ds)
   pub rest_is : drop (held_now size room left rest) rest ≡ drop (batch_of_query size ds) ds
 
-pub going_first : (ds : List Fields) (size : ℕ) → Going ds ds size no_items max_batch size
-going_first ds size =
-    let none : nat_lt size size ≡ false = le-ltb size size (omega arith) in
-    let same : held_now size max_batch size ds ≡ batch_of_query size ds = ap (λ (b : Bool). held_in size max_batch b ds) none in
-    record {
-      within = omega arith;
-      count_is = let e : (size - size) + held_now size max_batch size ds ≡ held_now size max_batch size ds = omega arith in e ∙ same;
-      documents_are = ap (λ (n : ℕ). documents_of_items (take n ds)) same;
-      rest_is = ap (λ (n : ℕ). drop n ds) same;
-    }
-
 -- ---- a document more
 
 held-more : (left k room : ℕ) (g : Bool) (d : Fields) (ds : List Fields) → left ≡ suc k → (g && nat_lt room (length (bytes d))) ≡ false → held_in left room g (d ∷ ds) ≡ suc (held_in k (room - length (bytes d)) true ds)

@@ -5,6 +5,7 @@ use Rattle.std.specs.List.{list_all}
 use denote.Ref.{Bor}
 use Rattle.std.specs.declared.alloc.Global.{Global}
 use Rattle.std.specs.BTreeMap.{get}
+use Rattle.std.specs.BTreeSet.{contains}
 use Rattle.std.specs.Option.{option_copied}
 use Rattle.std.specs.Ordering.{int_cmp, int_eq}
 use Rattle.std.proofs.lemmas.List.{length-map}
@@ -15,14 +16,15 @@ use Rattle.mg_link.specs.Namespace.{Space, Target, space, target}
 use Rattle.mg_link.specs.State.{Entry, Watch, Cursor, query, watching, State, Start, is_space, Index, collection_in, indexes_of}
 use Rattle.mg_link.specs.Step.{documents_of}
 use Rattle.mg_link.specs.Rules as rules
-use Rattle.mg_link.specs.Rules.{Inserted, answer_insert, bad_request, batch_id, batch_place, cursor_fields, fitting, id_unless, ids_if, is_watch_of, refused, watch_space, size_of, stamp_of, token_of, errors_field, inserted_reply, inserting, number_of, place_at, may_stay, and_then, answer_query, batch_of_query, documents_of_items, first_held, id_while, map_ok, no_such_collection, or_code, query_id, query_space}
-use Rattle.mg_link.specs.Query.{index_listed, Query, read, result, through}
-use Rattle.mg_link.specs.Write.{with_indexes}
+use Rattle.mg_link.specs.Rules.{Inserted, answer_insert, dropped_entries, bad_request, batch_id, batch_place, cursor_fields, fitting, id_unless, ids_if, is_watch_of, refused, watch_space, size_of, stamp_of, token_of, errors_field, inserted_reply, inserting, number_of, place_at, may_stay, and_then, answer_query, batch_of_query, documents_of_items, first_held, id_while, map_ok, no_such_collection, or_code, query_id, query_space}
+use Rattle.mg_link.specs.Query.{id_index, index_listed, of_indexes, Query, read, result, through}
+use Rattle.mg_link.specs.Commands.{query_by}
+use Rattle.mg_link.specs.Write.{with_indexes, Modification, chosen, changing}
 use Rattle.mg_link.specs.State as state
 use Rattle.mg_store.specs.Answering.{Answers}
 use Rattle.mg_store.specs.Contents.{IsCursorAt, Represents, Settles, collection_at, moving, opening, GoesOn, IsCursor, beginning, taking}
 use Rattle.mg_store.specs.Holding.{AreExact, GivesBatch, IsWatch, entries_from}
-use Rattle.mg_store.specs.Inserting.{Appends, Fits, KeepsIdsThere, indexed, indexes_there, new_documents, number_in, number_of_id, stored, there}
+use Rattle.mg_store.specs.Inserting.{Appends, AreNew, Fits, KeepsIdsThere, document_of, holds_id, indexed, indexes_there, new_documents, stored, there, vec_cmp}
 use Rattle.mg_store.specs.Indexing.{index_held}
 use Rattle.mg_store.specs.declared.index.Index as code_index
 use Rattle.mg_store.specs.Replies.{killed_with, found_with}
@@ -37,15 +39,27 @@ use Rattle.mg_store.specs.declared.cursor.Source.{Source}
 use Rattle.mg_store.specs.declared.cursor.Source.TheVariants as sources
 use Rattle.mg_store.specs.declared.cursor.Watch as held
 use Rattle.mg_store.specs.declared.insert.Appended.{Appended}
-use Rattle.mg_store.specs.declared.insert.Collection.{Collection}
+use Rattle.mg_store.specs.declared.collection.Collection.{Collection}
 use Rattle.mg_store.specs.declared.perform.Answer.{Answer}
 use Rattle.mg_store.specs.declared.perform.Content.{Content}
 use Rattle.mg_store.specs.declared.perform.Effect.{Effect}
 use Rattle.mg_store.specs.declared.perform.Effect.TheVariants as effects
 use Rattle.mg_store.specs.declared.request.Stop.{Stop}
+use Rattle.mg_store.specs.declared.request.Stop.TheVariants as stops
 use Rattle.mg_store.proofs.Entries.{length-entries}
 use Rattle.mg_store.proofs.Settling.{settles}
 use Rattle.mg_link.specs.declared.namespace.Namespace.{Namespace}
+use Rattle.mg_link.specs.Filter.{Condition}
+use Rattle.mg_link.proofs.Requests.{KeepsId}
+use Rattle.mg_link.proofs.Telling.{deleted_reply}
+use Rattle.mg_store.specs.Asking.{Keyed, keyed}
+use Rattle.mg_store.specs.Collecting.{AreDistinct}
+use Rattle.mg_store.specs.Rewriting.{Makes, Removes, all_fit, all_go, altering, chosen_by, lent, MakesAllOr, RemovesAllOr}
+use Rattle.mg_store.specs.declared.rewrite.Changes.{Changes}
+use Rattle.mg_store.specs.declared.rewrite.Removals.{Removals}
+use Rattle.mg_store.specs.declared.request.Refusal.{Refusal}
+use Rattle.mg_store.proofs.Changing.{distinct_ids}
+use Rattle.mg_store.proofs.Rewriting.{chosen_is, delete_is, made_keyed, made_length, update_is}
 
 pub changes-length : (c : Content) (s : State) (given : ℕ) → Represents c s given → length s.changes ≡ length c.changes.items
 changes-length c s given h = ap length h.changes_are ∙ length-entries 0 c.changes.items
@@ -62,10 +76,6 @@ there_is c s given sp o h e = there_by o ∙ ap (λ (x : Option Collection). unw
 pub keeps_there : (c : Content) (s : State) (given : ℕ) (sp : Space) (o : Option (Bor Collection)) → Represents c s given → option_copied o ≡ collection_at c.collections sp → KeepsIdsThere o
 keeps_there c s given sp None h e = tt
 keeps_there c s given sp (Some b) h e = h.ids_are sp b.now (sym e)
-
--- the documents of a collection that is held
-pub documents_held : (c : Content) (s : State) (given : ℕ) (sp : Space) (o : Option Collection) → Represents c s given → o ≡ collection_at c.collections sp → unwrap_or (option_map stored o) [] ≡ documents_of s sp
-documents_held c s given sp o h e = ap (λ (x : Option Collection). unwrap_or (option_map stored x) []) e ∙ sym (ap (λ (x : Option (List Fields)). unwrap_or x []) (h.documents_are sp))
 
 -- ---- cursors
 
@@ -92,13 +102,6 @@ pub record Watching (s : State) (id : ℤ) (held_watch : held.Watch) (place : �
   pub watches : IsWatch held_watch watch
   pub stood : s.cursors id ≡ Some (watching watch place)
 
-is_watching : (s : State) (id : ℤ) (w : held.Watch) (place : ℕ) (d : Cursor) → s.cursors id ≡ Some d → GoesOn (sources.Watch w) place d → Watching s id w place
-is_watching s id w place (watching v at) e h = record { watch = v; watches = h.0; stood = e ∙ ap (λ (p : ℕ). Some (watching v p)) h.1 }
-is_watching s id w place (query sp left) e h = absurd h
-
-pub watch_held : (s : State) (id : ℤ) (cursor : code.Cursor) (w : held.Watch) → Holds s id cursor → cursor.source ≡ sources.Watch w → Watching s id w cursor.place
-watch_held s id cursor w h e = is_watching s id w cursor.place h.cursor_at h.stood (subst (λ (x : Source). GoesOn x cursor.place h.cursor_at) e h.is)
-
 is_left : (s : State) (id : ℤ) (f : Found) (place : ℕ) (d : Cursor) → s.cursors id ≡ Some d → GoesOn (sources.Found f) place d → s.cursors id ≡ Some (query (space f.ns) (drop place (map fields f.documents.items)))
 is_left s id f place (watching v at) e h = absurd h
 is_left s id f place (query sp left) e h = e ∙ ap₂ (λ (x : Space) (l : List Fields). Some (query x l)) h.0 h.1
@@ -118,15 +121,15 @@ insert_settles c s given ns ds ordered o a b d result h found got docs ids es is
     let i : Inserted = inserting (space ns) ordered 0 (length s.changes) (documents_of s (space ns)) ds in
     let known = subst (λ (l : List Fields). Appends l (length s.changes) (inserting (space ns) ordered 0 (length s.changes) l ds) a) before
     (subst (λ (n : ℕ). Appends (there o) n (inserting (space ns) ordered 0 n (there o) ds) a) place got) in
-    let count : length a.documents.items ≡ length i.documents = sym (length-map a.documents.items fields) ∙ ap length known.documents_are in
+    let count : length a.documents.items ≡ length i.documents = sym (length-map a.documents.items document_of) ∙ ap length known.documents_are in
     let reply : d ≡ inserted_reply i = is ∙ ap₂ (λ (n : ℕ) (e : Items). "n" ⇒ number_of n ⨾ errors_field e ("ok" ⇒ int32 (pos 1) ⨾ empty)) count known.errors_are in
     let fits : Fits (documents_of s (space ns)) b = record {
-      ids_are = λ k. ap (λ m. number_in m k.items) ids ∙ known.fits.ids_are k ∙ ap (λ l. number_of_id (length (documents_of s (space ns))) k.items (map fields l.items)) (sym docs);
-      apart = λ k t. ap (λ l. number_of_id (length (documents_of s (space ns))) k (map fields l.items)) docs ∙ known.fits.apart k t;
+      ids_are = λ k. ap (λ m. contains vec_cmp m k) ids ∙ known.fits.ids_are k ∙ ap (λ l. holds_id k.items (map document_of l.items)) (sym docs);
+      new = subst (λ l. AreNew (documents_of s (space ns)) l.items) (sym docs) known.fits.new;
       exact = subst (λ l. AreExact l.items) (sym es) known.fits.exact;
     } in
     settles s given (rules.insert (space ns) ds ordered) (answer_insert s (space ns) ds ordered) d (effects.Insert ns b) result refl reply
-    (record { ns = ns; appended = b; is = refl; at = refl; documents_are = ap (λ l. map fields l.items) docs ∙ known.documents_are; entries_are = ap (λ l. entries_from (length s.changes) l.items) es ∙ known.entries_are; fits = fits }) answered
+    (record { ns = ns; appended = b; is = refl; at = refl; documents_are = ap (λ l. map document_of l.items) docs ∙ known.documents_are; entries_are = ap (λ l. entries_from (length s.changes) l.items) es ∙ known.entries_are; fits = fits }) answered
 
 -- ---- watches
 
@@ -152,10 +155,6 @@ watch_settles s given w start resumes size from batch cw id sp d e result at wat
       place_is = got.place_is;
     })
     answered
-
--- a start that is refused
-pub watch_refused : (s : State) (given : ℕ) (w : Watch) (start : Start) (resumes : Bool) (size : Option ℕ) (code : ℤ) → place_at s w start resumes ≡ Err code → fitting (rules.answer s (pos (suc given)) (rules.watch w start resumes size)) ≡ refused code
-watch_refused s given w start resumes size code at = ap (λ (x : Result ℕ ℤ). fitting (rules.map_ok (λ f. rules.answer_with [] (rules.watch_reply s (pos (suc given)) w f (size_of size))) x)) at
 
 -- ---- batches
 
@@ -196,11 +195,6 @@ query_more_settles s given id sp other size left batch d result stood same got i
     settles s given (rules.more id sp size) reply d (taking batch.is_last id batch.count) result answers
     (is ∙ ap₂ (λ (x : ℤ) (ts : Items). found_with x sp (codes "nextBatch") ts) (is_last-id id (drop n left) batch.is_last got.end_is) got.documents_are)
     (inr (record { space = other; left = left; stood = stood; is = ap₂ (λ (b : Bool) (k : ℕ). taking b id k) got.end_is got.count_is })) answered
-
--- a query of another namespace
-pub query_more_refused : (s : State) (given : ℕ) (id : ℤ) (sp other : Space) (size : Option ℕ) (left : List Fields) → s.cursors id ≡ Some (query other left) → is_space sp other ≡ false → fitting (rules.answer s (pos (suc given)) (rules.more id sp size)) ≡ refused bad_request
-query_more_refused s given id sp other size left stood differs =
-    ap fitting (ap (rules.answer_more s id sp (size_of size)) stood ∙ ap (λ (b : Bool). if b then Ok (rules.answer_with [] (rules.query_more_reply id sp left (size_of size))) else Err bad_request) differs)
 
 -- the answer of the rules to a query that found these
 found_answer : (s : State) (id : ℤ) (q : Query) (ds : List Fields) → result s q ≡ Some ds → answer_query s id q ≡ Ok (rules.answer_with [] (rules.query_reply id q ds))
@@ -277,7 +271,7 @@ some_mapped f None = refl
 some_mapped f (Some x) = refl
 
 -- a collection is there where the content has it
-is_there : (c : Content) (s : State) (given : ℕ) (sp : Space) → Represents c s given → is_some (collection_in s.collections sp) ≡ is_some (collection_at c.collections sp)
+pub is_there : (c : Content) (s : State) (given : ℕ) (sp : Space) → Represents c s given → is_some (collection_in s.collections sp) ≡ is_some (collection_at c.collections sp)
 is_there c s given sp h =
     sym (some_mapped (λ (x : state.Collection). x.documents) (collection_in s.collections sp)) ∙ ap is_some (h.documents_are sp) ∙ some_mapped stored (collection_at c.collections sp)
 
@@ -310,3 +304,131 @@ pub indexes_refused : (s : State) (given : ℕ) (sp : Space) (more held : List I
     → fitting (rules.answer s (pos (suc given)) (rules.create_indexes sp more)) ≡ refused bad_request
 indexes_refused s given sp more held these large =
     ap (λ (b : Bool). fitting (if b then Ok (rules.answer_with [] rules.done_reply) else Err bad_request)) (ap (list_all (λ (i : Index). may_stay (index_listed i))) (sym these) ∙ large)
+
+-- ---- drops
+
+pub drop_settles : (c : Content) (s : State) (given : ℕ) (ns : Namespace) (entries : Vec ChangeEntry Global) (d : Fields) (result : Result Answer Stop) → Represents c s given → is_some (collection_at c.collections (space ns)) ≡ true
+    → entries_from (length c.changes.items) entries.items ≡ dropped_entries (length c.changes.items) (space ns) → AreExact entries.items → d ≡ rules.done_reply → Answers result d (effects.Drop ns entries) → Settles s given (rules.drop_collection (space ns)) result
+drop_settles c s given ns entries d result h there these exact is answered =
+    let reply : rules.Answer = rules.answer_with (dropped_entries (length s.changes) (space ns)) rules.done_reply in
+    settles s given (rules.drop_collection (space ns)) reply d (effects.Drop ns entries) result
+    (ap (λ (b : Bool). if b then Ok reply else Err no_such_collection) (is_there c s given (space ns) h ∙ there)) is
+    (record { ns = ns; entries = entries; is = refl; at = refl; entries_are = subst (λ (n : ℕ). entries_from n entries.items ≡ dropped_entries n (space ns)) (sym (changes-length c s given h)) these; exact = exact }) answered
+
+pub drop_refused : (c : Content) (s : State) (given : ℕ) (sp : Space) → Represents c s given → is_some (collection_at c.collections sp) ≡ false → fitting (rules.answer s (pos (suc given)) (rules.drop_collection sp)) ≡ refused no_such_collection
+drop_refused c s given sp h none = ap (λ (b : Bool). fitting (if b then Ok (rules.answer_with (dropped_entries (length s.changes) sp) rules.done_reply) else Err no_such_collection)) (is_there c s given sp h ∙ none)
+
+-- ---- lists of indexes
+
+indexes_read : (o : Option state.Collection) (l : List Index) → is_some o ≡ true → unwrap_or (option_map (λ (c : state.Collection). c.indexes) o) [] ≡ l → option_map (λ (c : state.Collection). map index_listed (id_index ∷ c.indexes)) o ≡ Some (map index_listed (id_index ∷ l))
+indexes_read None l there e = absurd cc
+indexes_read (Some c) l there e = ap (λ (x : List Index). Some (map index_listed (id_index ∷ x))) e
+
+-- what a list of the indexes of a collection finds
+pub indexes_found : (c : Content) (s : State) (given : ℕ) (sp : Space) (size : Option ℕ) (col : Collection) (found : List Fields) → Represents c s given → collection_at c.collections sp ≡ Some col → found ≡ map index_listed (id_index ∷ map index_held col.indexes.items)
+    → result s (query_by (of_indexes sp) false [] size) ≡ Some found
+unfolding result
+indexes_found c s given sp size col found h there is =
+    let known : option_map (λ (c : state.Collection). map index_listed (id_index ∷ c.indexes)) (collection_in s.collections sp) ≡ Some found =
+    indexes_read (collection_in s.collections sp) (map index_held col.indexes.items) (is_there c s given sp h ∙ ap is_some there) (h.indexes_are sp ∙ ap indexed there) ∙ ap Some (sym is) in
+    ap (option_and_then (through [])) known
+
+none_is : {A : Type 0} (o : Option A) → is_some o ≡ false → o ≡ None
+none_is None e = refl
+none_is (Some x) e = absurd cc
+
+-- those of a collection that is not there
+pub indexes_missing : (c : Content) (s : State) (given : ℕ) (sp : Space) (size : Option ℕ) → Represents c s given → is_some (collection_at c.collections sp) ≡ false → fitting (rules.answer s (pos (suc given)) (rules.find (query_by (of_indexes sp) false [] size))) ≡ refused no_such_collection
+indexes_missing c s given sp size h none =
+    let id : ℤ = pos (suc given) in
+    let q : Query = query_by (of_indexes sp) false [] size in
+    let missing : collection_in s.collections sp ≡ None = none_is (collection_in s.collections sp) (is_there c s given sp h ∙ none) in
+    ap (λ (o : Option state.Collection). fitting (and_then (λ (ds : List Fields). map_ok (λ r. rules.answer_with [] (rules.query_reply id q r)) (or_code bad_request (through [] ds))) (or_code no_such_collection (option_map (λ (c : state.Collection). map index_listed (id_index ∷ c.indexes)) o)))) missing
+
+-- ---- updates and deletes
+
+-- no two documents that are there have the same id
+pub distinct_there : (o : Option (Bor Collection)) → KeepsIdsThere o → AreDistinct (there o)
+distinct_there None h = tt
+distinct_there (Some b) h = distinct_ids b.now h
+
+pub update_settles : (c : Content) (s : State) (given : ℕ) (ns : Namespace) (conditions : List Condition) (keys : List Keyed) (m : Modification) (many : Bool) (o : Option (Bor Collection)) (ds : List (Bor (List ℕ))) (made : Changes) (d : Fields) (result : Result Answer Stop)
+    → Represents c s given → option_copied o ≡ collection_at c.collections (space ns) → KeepsId m → keys ≡ map keyed conditions → lent ds ≡ chosen_by keys many (there o) → AreDistinct (there o) → Makes (length c.changes.items) (space ns) m (lent ds) made
+    → d ≡ rules.updated_reply (length ds) (length made.documents.items) → Answers result d (effects.Change ns made) → Settles s given (rules.update (space ns) conditions m many) result
+update_settles c s given ns conditions keys m many o ds made d result h found keeps same these distinct got is answered =
+    let before : there o ≡ documents_of s (space ns) = there_is c s given (space ns) o h found in
+    let place : length c.changes.items ≡ length s.changes = sym (changes-length c s given h) in
+    let chosen_are : lent ds ≡ chosen conditions many (documents_of s (space ns)) = these ∙ chosen_is conditions keys many (there o) same ∙ ap (chosen conditions many) before in
+    let known = subst (λ (l : List Fields). Makes (length s.changes) (space ns) m l made) chosen_are (subst (λ (n : ℕ). Makes n (space ns) m (lent ds) made) place got) in
+    let changed : List Fields = changing conditions many m (documents_of s (space ns)) in
+    let reply : rules.Answer = rules.answer_with (rules.modified_entries (length s.changes) (space ns) m changed) (rules.updated_reply (length (chosen conditions many (documents_of s (space ns)))) (length changed)) in
+    let count : length ds ≡ length (chosen conditions many (documents_of s (space ns))) = sym (length-map ds (λ (x : Bor (List ℕ)). fields x.now)) ∙ ap length chosen_are in
+    settles s given (rules.update (space ns) conditions m many) reply d (effects.Change ns made) result (ap (λ (b : Bool). if b then Ok reply else Err bad_request) known.fit)
+    (is ∙ ap₂ rules.updated_reply count (made_length m changed made.documents.items known.made))
+    (record {
+      ns = ns;
+      made = made;
+      is = refl;
+      at = refl;
+      keyed = made_keyed m changed made.documents.items keeps known.made;
+      exact = known.exact;
+      documents_are = update_is conditions many m (documents_of s (space ns)) made.documents.items keeps (subst AreDistinct before distinct) known.same known.made;
+      entries_are = known.entries_are;
+    })
+    answered
+
+pub update_refused : (c : Content) (s : State) (given : ℕ) (sp : Space) (conditions : List Condition) (keys : List Keyed) (m : Modification) (many : Bool) (o : Option (Bor Collection)) (ds : List (Bor (List ℕ))) → Represents c s given → option_copied o ≡ collection_at c.collections sp
+    → keys ≡ map keyed conditions → lent ds ≡ chosen_by keys many (there o) → all_fit (length c.changes.items) sp m (altering m (lent ds)) ≡ false → fitting (rules.answer s (pos (suc given)) (rules.update sp conditions m many)) ≡ refused bad_request
+update_refused c s given sp conditions keys m many o ds h found same these large =
+    let place : length c.changes.items ≡ length s.changes = sym (changes-length c s given h) in
+    let chosen_are : lent ds ≡ chosen conditions many (documents_of s sp) = these ∙ chosen_is conditions keys many (there o) same ∙ ap (chosen conditions many) (there_is c s given sp o h found) in
+    let never : all_fit (length s.changes) sp m (changing conditions many m (documents_of s sp)) ≡ false = ap₂ (λ (n : ℕ) (l : List Fields). all_fit n sp m (altering m l)) (sym place) (sym chosen_are) ∙ large in
+    ap (λ (b : Bool). fitting (if b then Ok (rules.answer_with (rules.modified_entries (length s.changes) sp m (changing conditions many m (documents_of s sp)))
+    (rules.updated_reply (length (chosen conditions many (documents_of s sp))) (length (changing conditions many m (documents_of s sp))))) else Err bad_request)) never
+
+pub delete_settles : (c : Content) (s : State) (given : ℕ) (ns : Namespace) (conditions : List Condition) (keys : List Keyed) (many : Bool) (o : Option (Bor Collection)) (ds : List (Bor (List ℕ))) (gone : Removals) (d : Fields) (result : Result Answer Stop)
+    → Represents c s given → option_copied o ≡ collection_at c.collections (space ns) → keys ≡ map keyed conditions → lent ds ≡ chosen_by keys many (there o) → AreDistinct (there o) → Removes (length c.changes.items) (space ns) (lent ds) gone
+    → d ≡ deleted_reply (length ds) → Answers result d (effects.Remove ns gone) → Settles s given (rules.delete (space ns) conditions many) result
+delete_settles c s given ns conditions keys many o ds gone d result h found same these distinct got is answered =
+    let before : there o ≡ documents_of s (space ns) = there_is c s given (space ns) o h found in
+    let place : length c.changes.items ≡ length s.changes = sym (changes-length c s given h) in
+    let all : List Fields = chosen conditions many (documents_of s (space ns)) in
+    let chosen_are : lent ds ≡ all = these ∙ chosen_is conditions keys many (there o) same ∙ ap (chosen conditions many) before in
+    let known = subst (λ (l : List Fields). Removes (length s.changes) (space ns) l gone) chosen_are (subst (λ (n : ℕ). Removes n (space ns) (lent ds) gone) place got) in
+    let reply : rules.Answer = rules.answer_with (rules.deleted_entries (length s.changes) (space ns) all) (deleted_reply (length all)) in
+    let count : length ds ≡ length all = sym (length-map ds (λ (x : Bor (List ℕ)). fields x.now)) ∙ ap length chosen_are in
+    settles s given (rules.delete (space ns) conditions many) reply d (effects.Remove ns gone) result (ap (λ (b : Bool). if b then Ok reply else Err bad_request) known.fit)
+    (is ∙ ap deleted_reply count)
+    (record {
+      ns = ns;
+      gone = gone;
+      is = refl;
+      at = refl;
+      exact = known.exact;
+      documents_are = delete_is conditions many (documents_of s (space ns)) gone.ids.items (subst AreDistinct before distinct) known.ids;
+      entries_are = known.entries_are;
+    })
+    answered
+
+pub delete_refused : (c : Content) (s : State) (given : ℕ) (sp : Space) (conditions : List Condition) (keys : List Keyed) (many : Bool) (o : Option (Bor Collection)) (ds : List (Bor (List ℕ))) → Represents c s given → option_copied o ≡ collection_at c.collections sp
+    → keys ≡ map keyed conditions → lent ds ≡ chosen_by keys many (there o) → all_go (length c.changes.items) sp (lent ds) ≡ false → fitting (rules.answer s (pos (suc given)) (rules.delete sp conditions many)) ≡ refused bad_request
+delete_refused c s given sp conditions keys many o ds h found same these large =
+    let place : length c.changes.items ≡ length s.changes = sym (changes-length c s given h) in
+    let chosen_are : lent ds ≡ chosen conditions many (documents_of s sp) = these ∙ chosen_is conditions keys many (there o) same ∙ ap (chosen conditions many) (there_is c s given sp o h found) in
+    let never : all_go (length s.changes) sp (chosen conditions many (documents_of s sp)) ≡ false = ap₂ (λ (n : ℕ) (l : List Fields). all_go n sp l) (sym place) (sym chosen_are) ∙ large in
+    ap (λ (b : Bool). fitting (if b then Ok (rules.answer_with (rules.deleted_entries (length s.changes) sp (chosen conditions many (documents_of s sp))) (deleted_reply (length (chosen conditions many (documents_of s sp))))) else Err bad_request)) never
+
+-- an update that stops is out of memory, or is refused by its limits
+pub update_stops : (c : Content) (s : State) (given : ℕ) (sp : Space) (conditions : List Condition) (keys : List Keyed) (m : Modification) (many : Bool) (o : Option (Bor Collection)) (ds slice : List (Bor (List ℕ))) (n : ℕ) (stop : Stop) → Represents c s given
+    → option_copied o ≡ collection_at c.collections sp → keys ≡ map keyed conditions → lent ds ≡ chosen_by keys many (there o) → slice ≡ ds → n ≡ length c.changes.items → MakesAllOr n sp m (lent slice) (Err stop) → Settles s given (rules.update sp conditions m many) (Err stop)
+update_stops c s given sp conditions keys m many o ds slice n stops.Memory h found same these all place got = tt
+update_stops c s given sp conditions keys m many o ds slice n (stops.Refused refusal) h found same these all place got =
+    let never = ap₂ (λ (k : ℕ) (l : List (Bor (List ℕ))). all_fit k sp m (altering m (lent l))) (sym place) (sym all) ∙ got.1 in
+    subst (λ (r : Refusal). Settles s given (rules.update sp conditions m many) (Err (stops.Refused r))) (sym got.0) (update_refused c s given sp conditions keys m many o ds h found same these never, tt)
+
+pub delete_stops : (c : Content) (s : State) (given : ℕ) (sp : Space) (conditions : List Condition) (keys : List Keyed) (many : Bool) (o : Option (Bor Collection)) (ds slice : List (Bor (List ℕ))) (n : ℕ) (stop : Stop) → Represents c s given
+    → option_copied o ≡ collection_at c.collections sp → keys ≡ map keyed conditions → lent ds ≡ chosen_by keys many (there o) → slice ≡ ds → n ≡ length c.changes.items → RemovesAllOr n sp (lent slice) (Err stop) → Settles s given (rules.delete sp conditions many) (Err stop)
+delete_stops c s given sp conditions keys many o ds slice n stops.Memory h found same these all place got = tt
+delete_stops c s given sp conditions keys many o ds slice n (stops.Refused refusal) h found same these all place got =
+    let never = ap₂ (λ (k : ℕ) (l : List (Bor (List ℕ))). all_go k sp (lent l)) (sym place) (sym all) ∙ got.1 in
+    subst (λ (r : Refusal). Settles s given (rules.delete sp conditions many) (Err (stops.Refused r))) (sym got.0) (delete_refused c s given sp conditions keys many o ds h found same these never, tt)

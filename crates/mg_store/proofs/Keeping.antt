@@ -28,7 +28,7 @@ use Rattle.mg_store.specs.Holding.{entries_from}
 use Rattle.mg_store.specs.Inserting.{stored}
 use Rattle.mg_store.specs.Stored.{AreOpen, Shown, shown, shown_of}
 use Rattle.mg_store.specs.declared.change.ChangeEntry.{ChangeEntry}
-use Rattle.mg_store.specs.declared.insert.Collection.{Collection}
+use Rattle.mg_store.specs.declared.collection.Collection.{Collection}
 use Rattle.mg_store.proofs.Holdings.{changes-length, held_is}
 use Rattle.mg_store.proofs.Maps.{int_test}
 

@@ -12,7 +12,8 @@ pub mod Ids
 pub mod Requesting
 pub mod Committing
 pub mod Keeping
-pub mod Keys
+pub mod Numbers
+pub mod Changing
 pub mod Holdings
 pub mod Killing
 pub mod Maps
@@ -25,3 +26,6 @@ pub mod Finding
 pub mod Appending
 pub mod Continued
 pub mod Indexes
+pub mod Lists
+pub mod Modifying
+pub mod Rewriting

@@ -1,5 +1,5 @@
 -- The maps of the store, read by names and by ids.
-use Rattle.std.proofs.Common.{Ordering, ◌≡◌, ℕ, ℤ, Bool, true, false, cond, List, [], ◌∷◌, Some, string_bytes, refl, sym, ap, ap₂, ◌∙◌, inl, inr}
+use Rattle.std.proofs.Common.{Ordering, ◌≡◌, ℕ, ℤ, Bool, true, false, cond, List, [], ◌∷◌, Some, None, string_bytes, refl, sym, ap, ap₂, ◌∙◌, inl, inr}
 use Rattle.std.specs.Prelude.{if◌then◌else◌, ◌&&◌}
 use Rattle.std.specs.declared.cmp.Ordering.TheVariants.{Less, Equal, Greater}
 use Rattle.std.specs.BTreeMap.{BTreeMap, UpdatesBy, get_by}
@@ -17,7 +17,7 @@ use Rattle.mg_link.specs.declared.namespace.Namespace.{Namespace}
 use Rattle.mg_link.specs.Namespace.{Space, space}
 use Rattle.mg_link.specs.State.{is_space}
 use Rattle.mg_store.specs.Contents.{collection_at}
-use Rattle.mg_store.specs.declared.insert.Collection.{Collection}
+use Rattle.mg_store.specs.declared.collection.Collection.{Collection}
 
 -- ---- ids
 
@@ -71,4 +71,13 @@ collections_update ns w m n updates s =
     elim (cases_Bool (is_space s (space ns))) [
       | inl same ↦ ap (collection_at n) (same_space s (space ns) same) ∙ sym (found_at ns n) ∙ updates.1 ∙ sym (ap (λ (b : Bool). if b then Some w else collection_at m s) same)
       | inr differ ↦ updates.3 (λ k. is_space s (space k)) (space_test s) (spaces_apart ns s differ) ∙ sym (ap (λ (b : Bool). if b then Some w else collection_at m s) differ)
+    ]
+
+-- and behind one that took a name out
+pub collections_without : (ns : Namespace) (m n : BTreeMap Namespace Collection) → UpdatesBy ns_cmp (ns_cmp ns) m n None → (s : Space) → collection_at n s ≡ (if is_space s (space ns) then None else collection_at m s)
+unfolding KeepsOthers
+collections_without ns m n updates s =
+    elim (cases_Bool (is_space s (space ns))) [
+      | inl same ↦ ap (collection_at n) (same_space s (space ns) same) ∙ sym (found_at ns n) ∙ updates.1 ∙ sym (ap (λ (b : Bool). if b then None else collection_at m s) same)
+      | inr differ ↦ updates.3 (λ k. is_space s (space k)) (space_test s) (spaces_apart ns s differ) ∙ sym (ap (λ (b : Bool). if b then None else collection_at m s) differ)
     ]

@@ -1,25 +1,27 @@
 -- From what the code reads of a command to the request of the rules.
-use Rattle.std.proofs.Common.{◌≡◌, ℕ, ℤ, pos, List, length, map, Option, Some, None, Bool, Result, Ok, Err, refl, ap, ◌∙◌, subst, arith}
+use Rattle.std.proofs.Common.{◌≡◌, ℕ, ℤ, pos, List, [], ◌∷◌, length, map, Option, Some, None, Bool, Result, Ok, Err, refl, ap, ◌∙◌, subst, arith}
 use Rattle.std.specs.Prelude.{◌&&◌, true, false, if◌then◌else◌}
 use Rattle.mg_bson.specs.Tree.{Fields}
 use Rattle.mg_bson.specs.Raw.{fields}
 use Rattle.mg_link.specs.Namespace.{Space, Target}
 use Rattle.mg_link.specs.State.{Entry, Watch, State, Start, nowhere, after, at_time, count_before, Index}
 use Rattle.mg_link.specs.Commands.{query_by}
-use Rattle.mg_link.specs.Query.{Query, Source, Stage, of_collection}
+use Rattle.mg_link.specs.Query.{Query, Source, Stage, of_collection, of_indexes}
 use Rattle.mg_link.specs.Rules as rules
 use Rattle.mg_link.specs.Rules.{ended_before, map_ok, no_such_token, place_after, place_at, request_of, token_place, or_code}
 use Rattle.mg_store.specs.Asking.{Keyed, keyed}
 use Rattle.mg_store.specs.Querying.{Doing, doing}
 use Rattle.mg_store.specs.Contents.{AnswersOr, Misses, OpensAt, Settles}
-use Rattle.mg_store.specs.Wanted.{Wanted, StopsBy, code_of, create_collection, create_indexes, insert, kill, more, wanted, watch, find}
+use Rattle.mg_store.specs.Wanted.{Wanted, StopsBy, code_of, create_collection, create_indexes, drop_collection, insert, kill, more, wanted, watch, find, update, delete}
 use Rattle.mg_store.specs.declared.perform.Answer.{Answer}
 use Rattle.mg_store.specs.declared.request.Refusal.{Refusal}
 use Rattle.mg_store.specs.declared.request.Refusal.TheVariants as refusals
 use Rattle.mg_store.specs.declared.request.Stop.{Stop}
 use Rattle.mg_store.specs.declared.request.Stop.TheVariants as stops
-use Rattle.mg_store.proofs.Holdings.{watch_refused}
 use Rattle.mg_store.proofs.Settling.{answers_or, answers_unread}
+use Rattle.mg_link.specs.Filter.{Condition}
+use Rattle.mg_link.specs.Write.{Modification}
+use Rattle.mg_link.proofs.Requests.{KeepsId, request_reads}
 
 -- a request that is wanted so
 pub record Read (x : Result rules.Request ℤ) (w : Wanted) : Type 0 where
@@ -39,6 +41,9 @@ insert_is (rules.more a b c) sp ds ordered e = cc
 insert_is (rules.kill a) sp ds ordered e = cc
 insert_is (rules.create_collection a) sp ds ordered e = cc
 insert_is (rules.create_indexes a b) sp ds ordered e = cc
+insert_is (rules.drop_collection a) sp ds ordered e = cc
+insert_is (rules.update a b c d) sp ds ordered e = cc
+insert_is (rules.delete a b c) sp ds ordered e = cc
 
 more_is : (r : rules.Request) (id : ℤ) (sp : Space) (size : Option ℕ) → wanted r ≡ more id sp size → r ≡ rules.more id sp size
 more_is (rules.insert a b c) id sp size e = cc
@@ -48,6 +53,9 @@ more_is (rules.more a b c) id sp size e = cc
 more_is (rules.kill a) id sp size e = cc
 more_is (rules.create_collection a) id sp size e = cc
 more_is (rules.create_indexes a b) id sp size e = cc
+more_is (rules.drop_collection a) id sp size e = cc
+more_is (rules.update a b c d) id sp size e = cc
+more_is (rules.delete a b c) id sp size e = cc
 
 kill_is : (r : rules.Request) (ids : List ℤ) → wanted r ≡ kill ids → r ≡ rules.kill ids
 kill_is (rules.insert a b c) ids e = cc
@@ -57,6 +65,9 @@ kill_is (rules.more a b c) ids e = cc
 kill_is (rules.kill a) ids e = cc
 kill_is (rules.create_collection a) ids e = cc
 kill_is (rules.create_indexes a b) ids e = cc
+kill_is (rules.drop_collection a) ids e = cc
+kill_is (rules.update a b c d) ids e = cc
+kill_is (rules.delete a b c) ids e = cc
 
 create_is : (r : rules.Request) (sp : Space) → wanted r ≡ create_collection sp → r ≡ rules.create_collection sp
 create_is (rules.insert a b c) sp e = cc
@@ -66,6 +77,9 @@ create_is (rules.more a b c) sp e = cc
 create_is (rules.kill a) sp e = cc
 create_is (rules.create_collection a) sp e = cc
 create_is (rules.create_indexes a b) sp e = cc
+create_is (rules.drop_collection a) sp e = cc
+create_is (rules.update a b c d) sp e = cc
+create_is (rules.delete a b c) sp e = cc
 
 indexes_is : (r : rules.Request) (sp : Space) (indexes : List Index) → wanted r ≡ create_indexes sp indexes → r ≡ rules.create_indexes sp indexes
 indexes_is (rules.insert a b c) sp indexes e = cc
@@ -75,6 +89,21 @@ indexes_is (rules.more a b c) sp indexes e = cc
 indexes_is (rules.kill a) sp indexes e = cc
 indexes_is (rules.create_collection a) sp indexes e = cc
 indexes_is (rules.create_indexes a b) sp indexes e = cc
+indexes_is (rules.drop_collection a) sp indexes e = cc
+indexes_is (rules.update a b c d) sp indexes e = cc
+indexes_is (rules.delete a b c) sp indexes e = cc
+
+drop_is : (r : rules.Request) (sp : Space) → wanted r ≡ drop_collection sp → r ≡ rules.drop_collection sp
+drop_is (rules.insert a b c) sp e = cc
+drop_is (rules.find q) sp e = cc
+drop_is (rules.watch a b c d) sp e = cc
+drop_is (rules.more a b c) sp e = cc
+drop_is (rules.kill a) sp e = cc
+drop_is (rules.create_collection a) sp e = cc
+drop_is (rules.create_indexes a b) sp e = cc
+drop_is (rules.drop_collection a) sp e = cc
+drop_is (rules.update a b c d) sp e = cc
+drop_is (rules.delete a b c) sp e = cc
 
 pub record IsWatched (r : rules.Request) (target : Target) (keys : List Keyed) (start : Start) (resumes : Bool) (size : Option ℕ) : Type 0 where
   pub watch : Watch
@@ -90,6 +119,9 @@ watch_is (rules.more a b c) target keys start resumes size e = absurd cc
 watch_is (rules.kill a) target keys start resumes size e = absurd cc
 watch_is (rules.create_collection a) target keys start resumes size e = absurd cc
 watch_is (rules.create_indexes a b) target keys start resumes size e = absurd cc
+watch_is (rules.drop_collection a) target keys start resumes size e = absurd cc
+watch_is (rules.update a b c d) target keys start resumes size e = absurd cc
+watch_is (rules.delete a b c) target keys start resumes size e = absurd cc
 
 pub found_by_stages : (q : Query) (source : Source) (single : Bool) (size : Option ℕ) → source ≡ q.source → single ≡ q.single → size ≡ q.size → rules.find q ≡ rules.find (query_by source single q.stages size)
 found_by_stages q source single size a b c = ap rules.find (rw (a, b, c) refl)
@@ -111,6 +143,43 @@ find_is (rules.more a b c) source steps single size e = absurd cc
 find_is (rules.kill a) source steps single size e = absurd cc
 find_is (rules.create_collection a) source steps single size e = absurd cc
 find_is (rules.create_indexes a b) source steps single size e = absurd cc
+find_is (rules.drop_collection a) source steps single size e = absurd cc
+find_is (rules.update a b c d) source steps single size e = absurd cc
+find_is (rules.delete a b c) source steps single size e = absurd cc
+
+pub record IsUpdated (r : rules.Request) (sp : Space) (keys : List Keyed) (m : Modification) (many : Bool) : Type 0 where
+  pub conditions : List Condition
+  pub is : r ≡ rules.update sp conditions m many
+  pub keys_are : keys ≡ map keyed conditions
+
+abbrev pub update_is : (r : rules.Request) (sp : Space) (keys : List Keyed) (m : Modification) (many : Bool) → wanted r ≡ update sp keys m many → IsUpdated r sp keys m many
+update_is (rules.update a cs c d) sp keys m many e = record { conditions = cs; is = cc; keys_are = cc }
+update_is (rules.insert a b c) sp keys m many e = absurd cc
+update_is (rules.find q) sp keys m many e = absurd cc
+update_is (rules.watch a b c d) sp keys m many e = absurd cc
+update_is (rules.more a b c) sp keys m many e = absurd cc
+update_is (rules.kill a) sp keys m many e = absurd cc
+update_is (rules.create_collection a) sp keys m many e = absurd cc
+update_is (rules.create_indexes a b) sp keys m many e = absurd cc
+update_is (rules.drop_collection a) sp keys m many e = absurd cc
+update_is (rules.delete a b c) sp keys m many e = absurd cc
+
+pub record IsDeleted (r : rules.Request) (sp : Space) (keys : List Keyed) (many : Bool) : Type 0 where
+  pub conditions : List Condition
+  pub is : r ≡ rules.delete sp conditions many
+  pub keys_are : keys ≡ map keyed conditions
+
+abbrev pub delete_is : (r : rules.Request) (sp : Space) (keys : List Keyed) (many : Bool) → wanted r ≡ delete sp keys many → IsDeleted r sp keys many
+delete_is (rules.delete a cs c) sp keys many e = record { conditions = cs; is = cc; keys_are = cc }
+delete_is (rules.insert a b c) sp keys many e = absurd cc
+delete_is (rules.find q) sp keys many e = absurd cc
+delete_is (rules.watch a b c d) sp keys many e = absurd cc
+delete_is (rules.more a b c) sp keys many e = absurd cc
+delete_is (rules.kill a) sp keys many e = absurd cc
+delete_is (rules.create_collection a) sp keys many e = absurd cc
+delete_is (rules.create_indexes a b) sp keys many e = absurd cc
+delete_is (rules.drop_collection a) sp keys many e = absurd cc
+delete_is (rules.update a b c d) sp keys many e = absurd cc
 
 -- ---- the answers
 
@@ -150,6 +219,29 @@ indexes_answer s given command sp at indexes result e same h =
     let r = read (request_of (fields command)) (create_indexes sp indexes) e in
     answers_or s given command (rules.create_indexes sp indexes) result (r.is ∙ ap (λ (x : rules.Request). Ok x) (indexes_is r.request sp indexes r.wants)) (subst (λ (x : Space). Settles s given (rules.create_indexes x indexes) result) same h)
 
+pub drop_answers : (s : State) (given : ℕ) (command : List ℕ) (sp at : Space) (result : Result Answer Stop) → map_ok wanted (request_of (fields command)) ≡ Ok (drop_collection sp) → at ≡ sp → Settles s given (rules.drop_collection at) result → AnswersOr s given command result
+drop_answers s given command sp at result e same h =
+    let r = read (request_of (fields command)) (drop_collection sp) e in
+    answers_or s given command (rules.drop_collection sp) result (r.is ∙ ap (λ (x : rules.Request). Ok x) (drop_is r.request sp r.wants)) (subst (λ (x : Space). Settles s given (rules.drop_collection x) result) same h)
+
+-- a list is a query of any source
+pub list_answers : (s : State) (given : ℕ) (command : List ℕ) (source : Source) (steps : List Doing) (single : Bool) (size : Option ℕ) (result : Result Answer Stop) → map_ok wanted (request_of (fields command)) ≡ Ok (find source steps single size)
+    → ((stages : List Stage) → steps ≡ map doing stages → Settles s given (rules.find (query_by source single stages size)) result) → AnswersOr s given command result
+list_answers s given command source steps single size result e h =
+    let r = read (request_of (fields command)) (find source steps single size) e in
+    let f = find_is r.request source steps single size r.wants in
+    answers_or s given command (rules.find (query_by source single f.stages size)) result (r.is ∙ ap (λ (x : rules.Request). Ok x) f.is) (h f.stages f.steps_are)
+
+no_stages : (stages : List Stage) → [] ≡ map doing stages → [] ≡ stages
+no_stages [] e = refl
+no_stages (x ∷ xs) e = absurd cc
+
+pub indexes_list_answers : (s : State) (given : ℕ) (command : List ℕ) (sp at : Space) (size : Option ℕ) (result : Result Answer Stop) → map_ok wanted (request_of (fields command)) ≡ Ok (find (of_indexes sp) [] false size) → at ≡ sp
+    → Settles s given (rules.find (query_by (of_indexes at) false [] size)) result → AnswersOr s given command result
+indexes_list_answers s given command sp at size result e same h =
+    list_answers s given command (of_indexes sp) [] false size result e
+    (λ stages none. subst (λ (l : List Stage). Settles s given (rules.find (query_by (of_indexes sp) false l size)) result) (no_stages stages none) (subst (λ (x : Space). Settles s given (rules.find (query_by (of_indexes x) false [] size)) result) same h))
+
 pub watch_answers : (s : State) (given : ℕ) (command : List ℕ) (target : Target) (keys : List Keyed) (start : Start) (resumes : Bool) (size : Option ℕ) (result : Result Answer Stop) → map_ok wanted (request_of (fields command)) ≡ Ok (watch target keys start resumes size)
     → ((w : Watch) → w.target ≡ target → keys ≡ map keyed w.filter → Settles s given (rules.watch w start resumes size) result) → AnswersOr s given command result
 watch_answers s given command target keys start resumes size result e h =
@@ -157,42 +249,24 @@ watch_answers s given command target keys start resumes size result e h =
     let w = watch_is r.request target keys start resumes size r.wants in
     answers_or s given command (rules.watch w.watch start resumes size) result (r.is ∙ ap (λ (x : rules.Request). Ok x) w.is) (h w.watch w.target_is w.keys_are)
 
+-- an update by the rules sets no `_id`
+pub update_answers : (s : State) (given : ℕ) (command : List ℕ) (sp at : Space) (keys : List Keyed) (m : Modification) (many : Bool) (result : Result Answer Stop) → map_ok wanted (request_of (fields command)) ≡ Ok (update sp keys m many) → at ≡ sp
+    → ((conditions : List Condition) → keys ≡ map keyed conditions → KeepsId m → Settles s given (rules.update at conditions m many) result) → AnswersOr s given command result
+update_answers s given command sp at keys m many result e same h =
+    let r = read (request_of (fields command)) (update sp keys m many) e in
+    let u = update_is r.request sp keys m many r.wants in
+    let asks : request_of (fields command) ≡ Ok (rules.update sp u.conditions m many) = r.is ∙ ap (λ (x : rules.Request). Ok x) u.is in
+    answers_or s given command (rules.update sp u.conditions m many) result asks
+    (subst (λ (x : Space). Settles s given (rules.update x u.conditions m many) result) same (h u.conditions u.keys_are (request_reads (fields command) (rules.update sp u.conditions m many) asks).named.1))
+
+pub delete_answers : (s : State) (given : ℕ) (command : List ℕ) (sp at : Space) (keys : List Keyed) (many : Bool) (result : Result Answer Stop) → map_ok wanted (request_of (fields command)) ≡ Ok (delete sp keys many) → at ≡ sp
+    → ((conditions : List Condition) → keys ≡ map keyed conditions → Settles s given (rules.delete at conditions many) result) → AnswersOr s given command result
+delete_answers s given command sp at keys many result e same h =
+    let r = read (request_of (fields command)) (delete sp keys many) e in
+    let d = delete_is r.request sp keys many r.wants in
+    answers_or s given command (rules.delete sp d.conditions many) result (r.is ∙ ap (λ (x : rules.Request). Ok x) d.is)
+    (subst (λ (x : Space). Settles s given (rules.delete x d.conditions many) result) same (h d.conditions d.keys_are))
+
 pub stops_answer : (s : State) (given : ℕ) (command : List ℕ) (stop : Stop) → StopsBy stop (request_of (fields command)) → AnswersOr s given command (Err stop)
 stops_answer s given command stops.Memory h = tt
 stops_answer s given command (stops.Refused refusal) h = answers_unread s given command refusal h
-
-err_inner : (x y : ℤ) → ◌≡◌ {A = Result ℕ ℤ} (Err x) (Err y) → x ≡ y
-err_inner x y e = cc
-
-pos_inner : (m n : ℕ) → pos m ≡ pos n → m ≡ n
-pos_inner m n e = cc
-
-ok_not_err : (p : ℕ) (y : ℤ) → ◌≡◌ {A = Result ℕ ℤ} (Ok p) (Err y) → ⊥
-ok_not_err p y e = absurd cc
-
-not_260 : pos 260 ≡ pos 43 → ⊥
-not_260 e = let f : 260 ≡ 43 = pos_inner 260 43 e in omega (arith, f)
-
-refused_260 : (b : Bool) (place : ℕ) → ◌≡◌ {A = Result ℕ ℤ} (if b then Err no_such_token else Ok place) (Err (pos 43)) → ⊥
-refused_260 true place e = not_260 (err_inner (pos 260) (pos 43) e)
-refused_260 false place e = ok_not_err place (pos 43) e
-
-after_not_43 : (w : Watch) (changes : List Entry) (resumes : Bool) (o : Option ℕ) → place_after w changes resumes o ≡ Err (pos 43) → ⊥
-after_not_43 w changes resumes None e = not_260 (err_inner (pos 260) (pos 43) e)
-after_not_43 w changes resumes (Some p) e = refused_260 (resumes && ended_before w changes p) p e
-
-place_not_43 : (s : State) (w : Watch) (start : Start) (resumes : Bool) → place_at s w start resumes ≡ Err (pos 43) → ⊥
-place_not_43 s w nowhere resumes e = ok_not_err (length s.changes) (pos 43) e
-place_not_43 s w (after token) resumes e = after_not_43 w s.changes resumes (token_place (length s.changes) token) e
-place_not_43 s w (at_time time) resumes e = ok_not_err (count_before time s.changes) (pos 43) e
-
-misses_none : (s : State) (w : Watch) (start : Start) (resumes : Bool) (size : Option ℕ) (refusal : Refusal) → place_at s w start resumes ≡ Err (code_of refusal) → Misses s refusal (rules.watch w start resumes size)
-misses_none s w start resumes size refusals.NoSuchCursor e = absurd (place_not_43 s w start resumes e)
-misses_none s w start resumes size refusals.UnknownCommand e = tt
-misses_none s w start resumes size refusals.BadRequest e = tt
-misses_none s w start resumes size refusals.NoSuchToken e = tt
-misses_none s w start resumes size refusals.CollectionExists e = tt
-
-pub start_stops : (s : State) (given : ℕ) (w : Watch) (start : Start) (resumes : Bool) (size : Option ℕ) (stop : Stop) → OpensAt (Err stop) (place_at s w start resumes) → Settles s given (rules.watch w start resumes size) (Err stop)
-start_stops s given w start resumes size stops.Memory h = tt
-start_stops s given w start resumes size (stops.Refused refusal) h = (watch_refused s given w start resumes size (code_of refusal) h, misses_none s w start resumes size refusal h)

@@ -28,18 +28,6 @@ pub matches_by_keys : (cs : List Condition) (d : Fields) → matches_keys (map k
 matches_by_keys [] d = refl
 matches_by_keys (c ∷ cs) d = ap₂ (λ (a b : Bool). a && b) (one_key c.values (get c.name d)) (matches_by_keys cs d)
 
-invalidate_if : (a b c d e : Bool) → is_invalidate (if a then invalidates else (if b then updates else (if c then replaces else (if d then deletes else (if e then drops else inserts))))) ≡ a
-invalidate_if true b c d e = refl
-invalidate_if false true c d e = refl
-invalidate_if false false true d e = refl
-invalidate_if false false false true e = refl
-invalidate_if false false false false true = refl
-invalidate_if false false false false false = refl
-
--- the name of a change tells whether it is an invalidate entry
-pub invalidate_named : (k : List ℕ) → is_invalidate (change_named k) ≡ bytes_eq k (codes "invalidate")
-invalidate_named k = invalidate_if (bytes_eq k (codes "invalidate")) (bytes_eq k (codes "update")) (bytes_eq k (codes "replace")) (bytes_eq k (codes "delete")) (bytes_eq k (codes "drop"))
-
 -- what the code finds is what the watch sees
 pub sees_is : (c : code.Watch) (w : Watch) (place : ℕ) (e : ChangeEntry) (b d : Bool) → IsWatch c w → b ≡ is_of (target c.target) (entry_at place e) → d ≡ (b && matches_keys (map held c.filter.items) (fields e.event)) → d ≡ sees w (entry_at place e)
 sees_is c w place e b d h of is =

@@ -1,6 +1,6 @@
 -- From the answer to a request to that of a command, and to the state behind its step.
 use Rattle.std.proofs.Common.{◌≡◌, ◌⊎◌, inl, inr, ℕ, ℤ, pos, suc, Bool, true, false, List, [], ◌++◌, ◌<◌, ◌^◌, length, Option, Some, None, Result, Ok, Err, codes, refl, sym, ap, ap₂, ◌∙◌, subst, append-nil, option_map, ◌∷◌}
-use Rattle.std.specs.Prelude.{IfOk, if◌then◌else◌, unwrap_or, map, drop}
+use Rattle.std.specs.Prelude.{IfOk, if◌then◌else◌, unwrap_or, map, drop, ◌&&◌}
 use Rattle.std.specs.List.{list_all}
 use Rattle.std.specs.Ordering.{int_eq}
 use Rattle.std.specs.Str.{bytes_eq}
@@ -13,19 +13,19 @@ use Rattle.mg_link.specs.State.{Entry, Watch, Cursor, watching, Collection, Inde
 use Rattle.mg_link.specs.Commands.{Asked, asks_more, asked}
 use Rattle.mg_link.specs.Step.{documents_of, ends_cursor}
 use Rattle.mg_link.specs.Query.{index_listed}
-use Rattle.mg_link.specs.Write.{with_indexes}
+use Rattle.mg_link.specs.Write.{with_indexes, after_delete, after_update, changing, chosen, modified}
 use Rattle.mg_link.specs.Rules as rules
-use Rattle.mg_link.specs.Rules.{Inserted, answer, answer_insert, answer_of, and_then, bad_request, batch_place, ends_watch, fitting, inserting, insert_request, kill_request, more_request, or_code, refusal, refused, request_of, size_of, unknown_command, watch_reply, may_stay, create_request, indexes_request, batch_of_query, find_request, first_held, query_id, query_space, aggregate_request, watch_request}
+use Rattle.mg_link.specs.Rules.{Inserted, answer, answer_insert, answer_of, and_then, bad_request, batch_place, ends_watch, fitting, inserting, insert_request, kill_request, more_request, or_code, refusal, refused, request_of, size_of, unknown_command, watch_reply, may_stay, create_request, indexes_request, drop_request, list_collections_request, list_indexes_request, dropped_entries, batch_of_query, find_request, first_held, query_id, query_space, aggregate_request, watch_request, update_request, delete_request, modified_entries, deleted_entries, events_may_be_given, updated_reply}
 use Rattle.mg_link.specs.Kept.{Kept, state_behind, given_after, IsStoreState}
 use Rattle.mg_link.proofs.Requests.{asked_is, asks_of}
-use Rattle.mg_link.proofs.Behind.{Parts, behind_insert, behind_kill, behind_more, behind_refusal, behind_watch, cursor_moved, cursors_opened, cursors_refused, given_opened, behind_create, behind_indexes, behind_find, behind_query_more, cursors_found, given_found, rest_of}
-use Rattle.mg_link.proofs.Allowed.{answered_if, create_ok, found_by, query_id-is}
-use Rattle.mg_link.proofs.Collections.{put_documents}
+use Rattle.mg_link.proofs.Behind.{Parts, behind_insert, behind_kill, behind_more, behind_refusal, behind_watch, cursor_moved, cursors_opened, cursors_refused, given_opened, behind_create, behind_indexes, behind_drop, behind_find, behind_query_more, cursors_found, given_found, rest_of, behind_update, behind_delete}
+use Rattle.mg_link.proofs.Allowed.{answered_if, create_ok, drop_ok, found_by, query_id-is}
+use Rattle.mg_link.proofs.Collections.{put_documents, changed_documents, same_space}
 use Rattle.mg_link.proofs.Cursoring.{same_int, not_zero}
-use Rattle.mg_link.proofs.Indexed.{HasIndexesOf, LeavesIndexes, indexes_created, indexes_refused, indexes_stay}
+use Rattle.mg_link.proofs.Indexed.{HasIndexesOf, LeavesIndexes, indexes_created, indexes_dropped, indexes_refused, indexes_stay}
 use Rattle.mg_store.specs.Answering.{Answers, Replies}
 use Rattle.mg_store.specs.Contents.{AnswersBy, AnswersOr, Becomes, Does, EffectOf, LosesNone, Misses, Settled, Settles, moving, opening, indexes_behind, beginning, taking, IsCursor}
-use Rattle.mg_store.specs.Holding.{entries_from}
+use Rattle.mg_store.specs.Holding.{AreExact, entries_from}
 use Rattle.mg_store.specs.Inserting.{Fits, new_documents}
 use Rattle.mg_store.specs.Querying.{is_none}
 use Rattle.mg_store.specs.Replies.{IsWritten, fits}
@@ -39,6 +39,8 @@ use Rattle.mg_store.specs.declared.request.Refusal.{Refusal}
 use Rattle.mg_store.specs.declared.request.Refusal.TheVariants as refusals
 use Rattle.mg_store.specs.declared.request.Stop.{Stop}
 use Rattle.mg_store.specs.declared.request.Stop.TheVariants as stops
+use Rattle.mg_link.proofs.Telling.{deleted_reply}
+use Rattle.mg_store.specs.Rewriting.{with_documents, without_documents}
 
 -- a reply that fits settles the request, and one that does not is refused
 pub settles : (s : State) (given : ℕ) (r : rules.Request) (a : rules.Answer) (d : Fields) (e : Effect) (result : Result Answer Stop) → answer s (pos (suc given)) r ≡ Ok a → d ≡ a.reply → EffectOf s given r e → Answers result d e → Settles s given r result
@@ -118,6 +120,23 @@ begins_does s s' given given' found id n sp at (inr next) h =
     subst (λ (x : ℤ). Does (beginning (int_eq x (pos 0)) (pos (suc given)) found n) s given s' given') (sym next)
     (subst (λ (b : Bool). Does (beginning b (pos (suc given)) found n) s given s' given') (sym (not_zero given)) (left, (at, refl), refl, put))
 
+-- ---- updates and deletes
+
+-- another function that makes the same of these documents
+rewritten_if : (b : Bool) (g f : List Fields → List Fields) (o p : Option (List Fields)) → (b ≡ true → o ≡ p) → g (unwrap_or p []) ≡ f (unwrap_or p []) → (if b then option_map f o else o) ≡ (if b then option_map g o else o)
+rewritten_if true g f o None at e = ap (option_map f) (at refl) ∙ sym (ap (option_map g) (at refl))
+rewritten_if true g f o (Some ds) at e = ap (option_map f) (at refl) ∙ ap Some (sym e) ∙ sym (ap (option_map g) (at refl))
+rewritten_if false g f o p at e = refl
+
+rewritten : (s' s : State) (given' given : ℕ) (sp : Space) (g f : List Fields → List Fields) (changes : List Entry) → g (documents_of s sp) ≡ f (documents_of s sp)
+    → Becomes s' given' (changed_documents sp f (documents_at s)) changes s.cursors given → Becomes s' given' (changed_documents sp g (documents_at s)) changes s.cursors given
+rewritten s' s given' given sp g f changes e h = record {
+  documents_are = λ other. h.documents_are other ∙ rewritten_if (is_space other sp) g f (documents_at s other) (documents_at s sp) (λ here. ap (documents_at s) (same_space other sp here)) e;
+  changes_are = h.changes_are;
+  cursors_are = h.cursors_are;
+  given_are = h.given_are;
+}
+
 module _ (s : State) (given : ℕ) (command : List ℕ) (a : Answer) (by_rules : rules.Answer) (answers_are : answer_of s (pos (suc given)) (fields command) ≡ by_rules) (written : fields a.reply ≡ by_rules.reply) where
   same_answer : (kept : Kept) → kept.command ≡ command → answer_of s (pos (suc given)) (fields kept.command) ≡ by_rules
   same_answer kept e = ap (λ (c : List ℕ). answer_of s (pos (suc given)) (fields c)) e ∙ answers_are
@@ -194,6 +213,32 @@ module _ (s : State) (given : ℕ) (command : List ℕ) (a : Answer) (by_rules :
       let parts = behind_indexes s given started kept sp indexes (same_request kept (rules.create_indexes sp indexes) is_command asks) (same_answer kept is_command ∙ sym known.1) (same_reply kept is_reply ∙ ap (λ (x : rules.Answer). x.reply) (sym known.1)) in
       subst (λ (e : Effect). Does e s given (state_behind s given started kept) (given_after given kept)) (sym effect.is)
       (subst (λ (x : Space). Becomes (state_behind s given started kept) (given_after given kept) (put_documents x (Some (documents_of s x)) (documents_at s)) s.changes s.cursors given) (sym effect.at) (becomes _ _ _ _ _ _ parts))
+  leads_by (rules.drop_collection sp) asks answers effect started kept is_command is_reply h lt =
+      let entries : List Entry = dropped_entries (length s.changes) sp in
+      let there = drop_ok (collection_in s.collections sp) (rules.answer_with entries rules.done_reply) by_rules answers in
+      let parts = behind_drop s given started kept sp (same_request kept (rules.drop_collection sp) is_command asks) (same_answer kept is_command ∙ sym there.2) (same_reply kept is_reply ∙ ap (λ (x : rules.Answer). x.reply) (sym there.2)) in
+      let all = subst (λ (l : List Entry). Becomes (state_behind s given started kept) (given_after given kept) (put_documents sp None (documents_at s)) (s.changes ++ l) s.cursors given) (sym effect.entries_are) (becomes _ _ _ _ _ _ parts) in
+      subst (λ (e : Effect). Does e s given (state_behind s given started kept) (given_after given kept)) (sym effect.is)
+      (subst (λ (x : Space). AreExact effect.entries.items × Becomes (state_behind s given started kept) (given_after given kept) (put_documents x None (documents_at s)) (s.changes ++ entries_from (length s.changes) effect.entries.items) s.cursors given) (sym effect.at) (effect.exact, all))
+  leads_by (rules.update sp conditions m many) asks answers effect started kept is_command is_reply h lt =
+      let ds : List Fields = documents_of s sp in
+      let changed : List Fields = changing conditions many m ds in
+      let entries : List Entry = modified_entries (length s.changes) sp m changed in
+      let known = answered_if (list_all may_stay (map (modified m) changed) && events_may_be_given entries) (rules.answer_with entries (updated_reply (length (chosen conditions many ds)) (length changed))) by_rules answers in
+      let parts = behind_update s given started kept sp conditions m many (length (chosen conditions many ds)) (length changed) entries (same_request kept (rules.update sp conditions m many) is_command asks) (same_answer kept is_command ∙ sym known.1) (same_reply kept is_reply ∙ ap (λ (x : rules.Answer). x.reply) (sym known.1)) in
+      let docs = rewritten (state_behind s given started kept) s (given_after given kept) given sp (with_documents effect.made.documents.items) (after_update conditions many m) (s.changes ++ entries) effect.documents_are (becomes _ _ _ _ _ _ parts) in
+      let all = subst (λ (l : List Entry). Becomes (state_behind s given started kept) (given_after given kept) (changed_documents sp (with_documents effect.made.documents.items) (documents_at s)) (s.changes ++ l) s.cursors given) (sym effect.entries_are) docs in
+      subst (λ (e : Effect). Does e s given (state_behind s given started kept) (given_after given kept)) (sym effect.is)
+      (effect.keyed, effect.exact, subst (λ (x : Space). Becomes (state_behind s given started kept) (given_after given kept) (changed_documents x (with_documents effect.made.documents.items) (documents_at s)) (s.changes ++ entries_from (length s.changes) effect.made.entries.items) s.cursors given) (sym effect.at) all)
+  leads_by (rules.delete sp conditions many) asks answers effect started kept is_command is_reply h lt =
+      let gone : List Fields = chosen conditions many (documents_of s sp) in
+      let entries : List Entry = deleted_entries (length s.changes) sp gone in
+      let known = answered_if (events_may_be_given entries) (rules.answer_with entries (deleted_reply (length gone))) by_rules answers in
+      let parts = behind_delete s given started kept sp conditions many (length gone) entries (same_request kept (rules.delete sp conditions many) is_command asks) (same_answer kept is_command ∙ sym known.1) (same_reply kept is_reply ∙ ap (λ (x : rules.Answer). x.reply) (sym known.1)) in
+      let docs = rewritten (state_behind s given started kept) s (given_after given kept) given sp (without_documents effect.gone.ids.items) (after_delete conditions many) (s.changes ++ entries) effect.documents_are (becomes _ _ _ _ _ _ parts) in
+      let all = subst (λ (l : List Entry). Becomes (state_behind s given started kept) (given_after given kept) (changed_documents sp (without_documents effect.gone.ids.items) (documents_at s)) (s.changes ++ l) s.cursors given) (sym effect.entries_are) docs in
+      subst (λ (e : Effect). Does e s given (state_behind s given started kept) (given_after given kept)) (sym effect.is)
+      (effect.exact, subst (λ (x : Space). Becomes (state_behind s given started kept) (given_after given kept) (changed_documents x (without_documents effect.gone.ids.items) (documents_at s)) (s.changes ++ entries_from (length s.changes) effect.gone.entries.items) s.cursors given) (sym effect.at) all)
 
   -- ---- the indexes behind a step
 
@@ -222,6 +267,12 @@ module _ (s : State) (given : ℕ) (command : List ℕ) (a : Answer) (by_rules :
       let known = answered_if (list_all (λ (i : Index). may_stay (index_listed i)) (with_indexes (indexes_of s at) indexes)) (rules.answer_with [] rules.done_reply) by_rules answers in
       let made = indexes_created s given started kept at indexes (ap asked is_command ∙ asked_is command (rules.create_indexes at indexes) asks) (same_reply kept is_reply ∙ ap (λ (x : rules.Answer). x.reply) (sym known.1)) sp in
       made ∙ ap₂ (λ (x : Space) (l : List Index). if is_space sp x then l else indexes_of s sp) (sym effect.at) (sym effect.these) ∙ sym (ap (λ (e : Effect). indexes_behind e s sp) effect.is)
+  indexes_by (rules.drop_collection at) asks answers effect started kept is_command is_reply sp =
+      let there = drop_ok (collection_in s.collections at) (rules.answer_with (dropped_entries (length s.changes) at) rules.done_reply) by_rules answers in
+      let gone = indexes_dropped s given started kept at (ap asked is_command ∙ asked_is command (rules.drop_collection at) asks) (same_reply kept is_reply ∙ ap (λ (x : rules.Answer). x.reply) (sym there.2)) sp in
+      gone ∙ ap (λ (x : Space). if is_space sp x then [] else indexes_of s sp) (sym effect.at) ∙ sym (ap (λ (e : Effect). indexes_behind e s sp) effect.is)
+  indexes_by (rules.update at conditions m many) asks answers effect started kept is_command is_reply sp = stay_by (rules.update at conditions m many) asks tt started kept is_command sp ∙ sym (ap (λ (e : Effect). indexes_behind e s sp) effect.is)
+  indexes_by (rules.delete at conditions many) asks answers effect started kept is_command is_reply sp = stay_by (rules.delete at conditions many) asks tt started kept is_command sp ∙ sym (ap (λ (e : Effect). indexes_behind e s sp) effect.is)
 
 -- ---- answers to commands
 
@@ -263,6 +314,7 @@ loses_none s command r refusals.UnknownCommand asks missing id = by_code (asked 
 loses_none s command r refusals.BadRequest asks missing id = by_code (asked command) (pos 9) s.cursors id refl
 loses_none s command r refusals.NoSuchToken asks missing id = by_code (asked command) (pos 260) s.cursors id refl
 loses_none s command r refusals.CollectionExists asks missing id = by_code (asked command) (pos 48) s.cursors id refl
+loses_none s command r refusals.NoSuchCollection asks missing id = by_code (asked command) (pos 26) s.cursors id refl
 
 -- what the rules read of no command is a bad one, or one that they do not know
 or_code_is : (o : Option rules.Request) (code : ℤ) → or_code bad_request o ≡ Err code → code ≡ bad_request
@@ -285,7 +337,12 @@ not_read (field k t fs) code e =
     (one_unread (bytes_eq k (codes "killCursors")) (kill_request (field k t fs)) _ code
     (one_unread (bytes_eq k (codes "find")) (find_request (field k t fs)) _ code
     (one_unread (bytes_eq k (codes "create")) (create_request (field k t fs)) _ code
-    (one_unread (bytes_eq k (codes "createIndexes")) (indexes_request (field k t fs)) _ code (unknown_is code))))))) e
+    (one_unread (bytes_eq k (codes "createIndexes")) (indexes_request (field k t fs)) _ code
+    (one_unread (bytes_eq k (codes "update")) (update_request (field k t fs)) _ code
+    (one_unread (bytes_eq k (codes "delete")) (delete_request (field k t fs)) _ code
+    (one_unread (bytes_eq k (codes "drop")) (drop_request (field k t fs)) _ code
+    (one_unread (bytes_eq k (codes "listCollections")) (list_collections_request (field k t fs)) _ code
+    (one_unread (bytes_eq k (codes "listIndexes")) (list_indexes_request (field k t fs)) _ code (unknown_is code)))))))))))) e
 
 pub loses_none_unread : (s : State) (command : List ℕ) (code : ℤ) → request_of (fields command) ≡ Err code → LosesNone s command code
 loses_none_unread s command code e id =

@@ -10,13 +10,14 @@ use Rattle.mg_link.specs.declared.namespace.Namespace.{Namespace}
 use Rattle.mg_link.specs.Namespace.{Space, space}
 use Rattle.mg_link.specs.State.{Entry, Watch, Cursor, query, watching, State, Start, documents_at, is_space, put_cursor, without_cursors, indexes_of, Index}
 use Rattle.mg_link.specs.Step.{documents_of}
-use Rattle.mg_link.specs.Write.{with_indexes}
+use Rattle.mg_link.specs.Filter.{Condition}
+use Rattle.mg_link.specs.Write.{Modification, after_delete, after_update, changing, chosen, with_indexes}
 use Rattle.mg_link.specs.Rules as rules
-use Rattle.mg_link.specs.Rules.{inserting, answer, answer_of, batch_place, ends_watch, fitting, place_at, refused, size_of, batch_of_query, first_held, query_id, query_space}
+use Rattle.mg_link.specs.Rules.{dropped_entries, inserting, answer, answer_of, batch_place, ends_watch, fitting, place_at, refused, size_of, batch_of_query, first_held, query_id, query_space, deleted_entries, modified_entries}
 use Rattle.mg_link.specs.Query.{Query, result}
 use Rattle.mg_link.specs.Commands.{asked}
 use Rattle.mg_link.proofs.Behind.{cursors_refused}
-use Rattle.mg_link.proofs.Collections.{put_documents}
+use Rattle.mg_link.proofs.Collections.{changed_documents, put_documents}
 use Rattle.mg_link.specs.Kept.{Kept, Follows, IsByRules, IsReply, IsStoreState, given_after, given_of, state_behind, state_of_kept}
 use Rattle.mg_store.specs.Holding.{AreExact, IsWatch, entries_from}
 use Rattle.mg_store.specs.Indexing.{index_held}
@@ -24,13 +25,17 @@ use Rattle.mg_store.specs.Inserting.{Fits, KeepsIds, indexed, new_documents, sto
 use Rattle.mg_store.specs.declared.index.Index as code_index
 use Rattle.mg_store.specs.Querying.{is_none}
 use Rattle.mg_store.specs.Replies.{IsWritten}
+use Rattle.mg_store.specs.Rewriting.{AreKeyed, with_documents, without_documents}
+use Rattle.mg_store.specs.declared.rewrite.Changes.{Changes}
+use Rattle.mg_store.specs.declared.rewrite.Removals.{Removals}
 use Rattle.mg_store.specs.Wanted.{code_of}
+use Rattle.mg_store.specs.declared.change.ChangeEntry.{ChangeEntry}
 use Rattle.mg_store.specs.declared.cursor.Cursor as code
 use Rattle.mg_store.specs.declared.cursor.Found.{Found}
 use Rattle.mg_store.specs.declared.cursor.Source.{Source}
 use Rattle.mg_store.specs.declared.cursor.Source.TheVariants as sources
 use Rattle.mg_store.specs.declared.insert.Appended.{Appended}
-use Rattle.mg_store.specs.declared.insert.Collection.{Collection}
+use Rattle.mg_store.specs.declared.collection.Collection.{Collection}
 use Rattle.mg_store.specs.declared.perform.Answer.{Answer}
 use Rattle.mg_store.specs.declared.perform.Content.{Content}
 use Rattle.mg_store.specs.declared.perform.Effect.{Effect}
@@ -93,6 +98,11 @@ Does (effects.Take id count) s given s' given' = (sp : Space) × (left : List Fi
 Does (effects.Kill ids) s given s' given' = Becomes s' given' (documents_at s) s.changes (without_cursors ids.items s.cursors) given
 Does (effects.Close id) s given s' given' = Becomes s' given' (documents_at s) s.changes (put_cursor id None s.cursors) given
 Does (effects.Indexes ns indexes) s given s' given' = Becomes s' given' (put_documents (space ns) (Some (documents_of s (space ns))) (documents_at s)) s.changes s.cursors given
+Does (effects.Drop ns entries) s given s' given' = AreExact entries.items × Becomes s' given' (put_documents (space ns) None (documents_at s)) (s.changes ++ entries_from (length s.changes) entries.items) s.cursors given
+Does (effects.Change ns changes) s given s' given' = AreKeyed changes.documents.items × AreExact changes.entries.items
+    × Becomes s' given' (changed_documents (space ns) (with_documents changes.documents.items) (documents_at s)) (s.changes ++ entries_from (length s.changes) changes.entries.items) s.cursors given
+Does (effects.Remove ns removals) s given s' given' = AreExact removals.entries.items
+    × Becomes s' given' (changed_documents (space ns) (without_documents removals.ids.items) (documents_at s)) (s.changes ++ entries_from (length s.changes) removals.entries.items) s.cursors given
 
 -- the indexes behind an effect
 abbrev pub indexes_behind : Effect → State → Space → List Index
@@ -104,6 +114,9 @@ indexes_behind (effects.Take id count) s sp = indexes_of s sp
 indexes_behind (effects.Kill ids) s sp = indexes_of s sp
 indexes_behind (effects.Close id) s sp = indexes_of s sp
 indexes_behind (effects.Indexes ns indexes) s sp = if is_space sp (space ns) then map index_held indexes.items else indexes_of s sp
+indexes_behind (effects.Drop ns entries) s sp = if is_space sp (space ns) then [] else indexes_of s sp
+indexes_behind (effects.Change ns changes) s sp = indexes_of s sp
+indexes_behind (effects.Remove ns removals) s sp = indexes_of s sp
 
 -- it leads there, with these indexes
 abbrev pub Leads : Effect → State → ℕ → State → ℕ → Type 0
@@ -188,6 +201,35 @@ pub record IndexesBy (s : State) (sp : Space) (more : List Index) (e : Effect) :
   pub at : space ns ≡ sp
   pub these : map index_held indexes.items ≡ with_indexes (indexes_of s sp) more
 
+pub record DropsBy (s : State) (sp : Space) (e : Effect) : Type 0 where
+  pub ns : Namespace
+  pub entries : Vec ChangeEntry Global
+  pub is : e ≡ effects.Drop ns entries
+  pub at : space ns ≡ sp
+  pub entries_are : entries_from (length s.changes) entries.items ≡ dropped_entries (length s.changes) sp
+  pub exact : AreExact entries.items
+
+-- what stands behind an update
+pub record UpdatesBy (s : State) (sp : Space) (conditions : List Condition) (m : Modification) (many : Bool) (e : Effect) : Type 0 where
+  pub ns : Namespace
+  pub made : Changes
+  pub is : e ≡ effects.Change ns made
+  pub at : space ns ≡ sp
+  pub keyed : AreKeyed made.documents.items
+  pub exact : AreExact made.entries.items
+  pub documents_are : with_documents made.documents.items (documents_of s sp) ≡ after_update conditions many m (documents_of s sp)
+  pub entries_are : entries_from (length s.changes) made.entries.items ≡ modified_entries (length s.changes) sp m (changing conditions many m (documents_of s sp))
+
+-- what stands behind a delete
+pub record DeletesBy (s : State) (sp : Space) (conditions : List Condition) (many : Bool) (e : Effect) : Type 0 where
+  pub ns : Namespace
+  pub gone : Removals
+  pub is : e ≡ effects.Remove ns gone
+  pub at : space ns ≡ sp
+  pub exact : AreExact gone.entries.items
+  pub documents_are : without_documents gone.ids.items (documents_of s sp) ≡ after_delete conditions many (documents_of s sp)
+  pub entries_are : entries_from (length s.changes) gone.entries.items ≡ deleted_entries (length s.changes) sp (chosen conditions many (documents_of s sp))
+
 abbrev pub EffectOf : State → ℕ → rules.Request → Effect → Type 0
 EffectOf s given (rules.insert sp ds ordered) e = InsertsBy s sp ds ordered e
 EffectOf s given (rules.find q) e = FindsBy s given q e
@@ -196,6 +238,9 @@ EffectOf s given (rules.more id sp size) e = MovesBy s id size e ⊎ TakesBy s i
 EffectOf s given (rules.kill ids) e = KillsBy ids e
 EffectOf s given (rules.create_collection sp) e = CreatesBy sp e
 EffectOf s given (rules.create_indexes sp indexes) e = IndexesBy s sp indexes e
+EffectOf s given (rules.drop_collection sp) e = DropsBy s sp e
+EffectOf s given (rules.update sp conditions m many) e = UpdatesBy s sp conditions m many e
+EffectOf s given (rules.delete sp conditions many) e = DeletesBy s sp conditions many e
 
 -- the answer of the rules to the request
 pub record Settled (s : State) (given : ℕ) (r : rules.Request) (a : Answer) : Type 0 where
@@ -211,6 +256,7 @@ Misses s refusals.UnknownCommand r = Unit {0}
 Misses s refusals.BadRequest r = Unit {0}
 Misses s refusals.NoSuchToken r = Unit {0}
 Misses s refusals.CollectionExists r = Unit {0}
+Misses s refusals.NoSuchCollection r = Unit {0}
 
 abbrev pub Settles : State → ℕ → rules.Request → Result Answer Stop → Type 0
 Settles s given r (Ok a) = Settled s given r a

@@ -4,7 +4,7 @@ use Rattle.std.specs.Str.{bytes_eq}
 use Rattle.mg_bson.specs.Tree.{Fields}
 use Rattle.mg_bson.specs.Bytes.{bytes}
 use Rattle.mg_bson.specs.Raw.{fields}
-use Rattle.mg_link.specs.Namespace.{space, target}
+use Rattle.mg_link.specs.Namespace.{Space, space, target}
 use Rattle.mg_link.specs.Commands.{text_of}
 use Rattle.mg_link.specs.State.{inserts, updates, replaces, deletes, drops, invalidates, Change, Entry, Watch, events_between}
 use Rattle.mg_link.specs.Rules.{token_of, now_of, batch_place, documents_of_items, ends_watch}
@@ -38,6 +38,12 @@ entries_from place (e ∷ es) = entry_at place e ∷ entries_from (suc place) es
 abbrev pub AreExact : List ChangeEntry → Type 0
 AreExact [] = Unit {0}
 AreExact (e ∷ es) = (e.event ≡ bytes (fields e.event)) × AreExact es
+
+-- the entry has this event, as its bytes
+pub record IsEntryOf (at : Space) (event : Fields) (e : ChangeEntry) : Type 0 where
+  pub at_is : space e.ns ≡ at
+  pub event_is : fields e.event ≡ event
+  pub exact : e.event ≡ bytes (fields e.event)
 
 -- the watch, held with the encodings of its values
 pub record IsWatch (c : code.Watch) (w : Watch) : Type 0 where

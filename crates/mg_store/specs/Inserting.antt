@@ -1,9 +1,12 @@
 -- What an insert makes of its documents.
 use Rattle.std.specs.declared.alloc.Global.{Global}
-use Rattle.std.specs.Prelude.{◌≡◌, ℕ, suc, ℤ, Bool, true, false, is_some, cond, List, [], ◌∷◌, ◌++◌, length, map, Option, Some, None, Result, Ok, Err, codes, if◌then◌else◌, Vec}
-use Rattle.std.specs.BTreeMap.{BTreeMap, get_by}
+use Rattle.std.specs.Prelude.{◌≡◌, ◌<◌, ◌≤◌, ℕ, ℤ, Bool, true, false, is_some, cond, List, [], ◌∷◌, ◌++◌, map, Option, Some, None, Result, Ok, Err, codes, Vec}
+use Rattle.std.specs.BTreeMap.{BTreeMap, IsOrdered, get_by, keys, values}
+use Rattle.std.specs.BTreeSet.{contains}
 use Rattle.std.specs.Cmp.Lexicographic.{slice_cmp}
-use Rattle.std.specs.Ordering.{nat_cmp}
+use Rattle.std.specs.List.{AllByRecursion, list_any}
+use Rattle.std.specs.declared.cmp.Ordering.{Ordering}
+use Rattle.std.specs.Ordering.{is_eq, nat_cmp}
 use Rattle.std.specs.Str.{bytes_eq}
 use denote.Ref.{Bor}
 use Rattle.mg_bson.specs.Tree.{Tree, Fields, document}
@@ -20,7 +23,8 @@ use Rattle.mg_store.specs.Holding.{AreExact, entries_from}
 use Rattle.mg_store.specs.Indexing.{index_held}
 use Rattle.mg_store.specs.declared.change.ChangeEntry.{ChangeEntry}
 use Rattle.mg_store.specs.declared.insert.Appended.{Appended}
-use Rattle.mg_store.specs.declared.insert.Collection.{Collection}
+use Rattle.mg_store.specs.declared.collection.Collection.{Collection}
+use Rattle.mg_store.specs.declared.collection.KeyedDocument.{KeyedDocument}
 use Rattle.mg_store.specs.declared.insert.Rejected.{Rejected}
 use Rattle.mg_store.specs.declared.insert.Rejected.TheVariants as rejected
 
@@ -44,38 +48,83 @@ Encodes (Err (rejected.Refused code)) d = (code ≡ bad_request) × (is_storable
 
 -- ---- ids
 
+-- the order of the encodings
+abbrev pub vec_cmp : Vec ℕ Global → Vec ℕ Global → Ordering
+vec_cmp x y = slice_cmp nat_cmp x.items y.items
+
 abbrev pub has_this : List ℕ → Option Tree → Bool
 has_this k None = false
 has_this k (Some id) = bytes_eq (key id) k
 
--- the number of the first document whose id has this encoding; they are numbered from n
-abbrev pub number_of_id : ℕ → List ℕ → List Fields → Option ℕ
-number_of_id n k [] = None
-number_of_id n k (d ∷ ds) = if has_this k (get (codes "_id") d) then Some n else number_of_id (suc n) k ds
+-- the document has the id with this encoding
+abbrev pub is_of_id : List ℕ → Fields → Bool
+is_of_id k d = has_this k (get (codes "_id") d)
+
+-- one of the documents has it
+abbrev pub holds_id : List ℕ → List Fields → Bool
+holds_id k ds = list_any (is_of_id k) ds
+
+-- this is the encoding of the document's id
+abbrev pub IsKeyed : List ℕ → Fields → Type 0
+IsKeyed k d = (id : Tree) × (get (codes "_id") d ≡ Some id) × (k ≡ key id)
 
 -- the number that a map of ids has for this encoding
 abbrev pub number_in : BTreeMap (Vec ℕ Global) ℕ → List ℕ → Option ℕ
 number_in ids k = get_by (λ (other : Vec ℕ Global). slice_cmp nat_cmp k other.items) ids
 
--- the map has just the ids of the documents
-abbrev pub HasIds : BTreeMap (Vec ℕ Global) ℕ → ℕ → List Fields → Type 0
-HasIds ids n ds = (k : Vec ℕ Global) → number_in ids k.items ≡ number_of_id n k.items ds
+-- the number that was found is this one
+abbrev pub is_number : Option ℕ → ℕ → Bool
+is_number None n = false
+is_number (Some m) n = is_eq (nat_cmp m n)
 
--- no id of the first documents is one of the others
-abbrev pub AreApart : List Fields → List Fields → Type 0
-AreApart before ds = (k : List ℕ) → is_some (number_of_id 0 k before) ≡ true → number_of_id (length before) k ds ≡ None
+-- of the documents, just that which has the number has the id
+abbrev pub IsNumbered : List ℕ → Option ℕ → List (ℕ × List ℕ) → Type 0
+IsNumbered k found es = AllByRecursion (λ (e : ℕ × List ℕ). is_of_id k (fields e.1) ≡ is_number found e.0) es
+
+-- ---- collections
 
 -- the documents of a collection
 abbrev pub stored : Collection → List Fields
-stored c = map fields c.documents.items
+stored c = map fields (values c.documents)
+
+-- the map of ids has the number of each document; the number to come is above those that were given
+pub record AreNumbered (documents : BTreeMap ℕ (List ℕ)) (ids : BTreeMap (Vec ℕ Global) ℕ) (next : ℕ) : Type 0 where
+  pub numbered : (k : Vec ℕ Global) → IsNumbered k.items (number_in ids k.items) documents.entries
+  pub held : (k : Vec ℕ Global) → is_some (number_in ids k.items) ≡ holds_id k.items (map fields (values documents))
+  pub below : AllByRecursion (λ (n : ℕ). n < next) (keys documents)
+  pub sorted : IsOrdered nat_cmp documents
+
+abbrev pub KeepsIds : Collection → Type 0
+KeepsIds c = AreNumbered c.documents c.ids c.next
+
+-- nothing changed
+pub record KeepsAll (old new : Collection) : Type 0 where
+  pub keeps : KeepsIds new
+  pub documents_same : new.documents.entries ≡ old.documents.entries
+  pub next_same : new.next ≡ old.next
+
+-- a document was put behind the others
+pub record Pushes (document : List ℕ) (old new : Collection) : Type 0 where
+  pub keeps : KeepsIds new
+  pub documents_are : new.documents.entries ≡ old.documents.entries ++ (old.next, document) ∷ []
+  pub next_is : old.next < new.next
+
+-- there are more documents, whose numbers had not been given
+pub record GrowsBySome (old new : Collection) : Type 0 where
+  pub keeps : KeepsIds new
+  pub more : List (ℕ × List ℕ)
+  pub documents_are : new.documents.entries ≡ old.documents.entries ++ more
+  pub numbers_are : AllByRecursion (λ (e : ℕ × List ℕ). old.next ≤ e.0) more
+  pub next_is : old.next ≤ new.next
+
+-- these are the documents more
+abbrev pub Grows : List Fields → Collection → Collection → Type 0
+Grows ds old new = GrowsBySome old new × (stored new ≡ stored old ++ ds)
 
 -- the indexes of a collection, none where there is no collection
 abbrev pub indexed : Option Collection → List Index
 indexed None = []
 indexed (Some c) = map index_held c.indexes.items
-
-abbrev pub KeepsIds : Collection → Type 0
-KeepsIds c = HasIds c.ids 0 (stored c)
 
 -- the indexes that are there before a command
 abbrev pub indexes_there : Option (Bor Collection) → List Index
@@ -93,13 +142,21 @@ KeepsIdsThere (Some c) = KeepsIds c.now
 
 -- ---- what is appended
 
-abbrev pub new_documents : Appended → List Fields
-new_documents a = map fields a.documents.items
+abbrev pub document_of : KeyedDocument → Fields
+document_of d = fields d.document
 
--- the ids are those of the new documents, numbered behind those that were there; none was there
+abbrev pub new_documents : Appended → List Fields
+new_documents a = map document_of a.documents.items
+
+-- each has an id, under its encoding, that is neither there nor in front of it
+abbrev pub AreNew : List Fields → List KeyedDocument → Type 0
+AreNew before [] = Unit {0}
+AreNew before (d ∷ ds) = IsKeyed d.key.items (document_of d) × (holds_id d.key.items before ≡ false) × AreNew (before ++ document_of d ∷ []) ds
+
+-- the ids are those of the new documents, none of which was there
 pub record Fits (before : List Fields) (a : Appended) : Type 0 where
-  pub ids_are : HasIds a.ids (length before) (new_documents a)
-  pub apart : AreApart before (new_documents a)
+  pub ids_are : (k : Vec ℕ Global) → contains vec_cmp a.ids k ≡ holds_id k.items (new_documents a)
+  pub new : AreNew before a.documents.items
   pub exact : AreExact a.entries.items
 
 -- the entry of an inserted document with this id
@@ -115,11 +172,11 @@ GivesEntry place s d (Err rejected.Memory) = Unit {0}
 GivesEntry place s d (Err (rejected.Refused code)) = (code ≡ bad_request) × (get (codes "_id") d ≡ None)
 
 -- a document, its id and its entry were added
-pub record Adds (number : ℕ) (k : Vec ℕ Global) (written : List ℕ) (entry : ChangeEntry) (old new : Appended) : Type 0 where
-  pub documents_are : new.documents.items ≡ old.documents.items ++ written ∷ []
+pub record Adds (k : Vec ℕ Global) (written : List ℕ) (entry : ChangeEntry) (old new : Appended) : Type 0 where
+  pub documents_are : new.documents.items ≡ old.documents.items ++ record { key = k; document = written } ∷ []
   pub entries_are : new.entries.items ≡ old.entries.items ++ entry ∷ []
   pub errors_same : new.errors ≡ old.errors
-  pub at : (other : List ℕ) → number_in new.ids other ≡ cond (bytes_eq k.items other) (Some number) (number_in old.ids other)
+  pub ids_are : (other : Vec ℕ Global) → contains vec_cmp new.ids other ≡ cond (bytes_eq k.items other.items) true (contains vec_cmp old.ids other)
 
 -- the document was appended, with its entry
 pub record Accepts (before : List Fields) (place : ℕ) (s : Space) (d : Fields) (old new : Appended) : Type 0 where

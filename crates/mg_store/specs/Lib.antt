@@ -3,7 +3,9 @@ pub mod Continued
 pub mod Holding
 pub mod Contents
 pub mod Inserting
+pub mod Collecting
 pub mod Indexing
+pub mod Modifying
 pub mod Asking
 pub mod Wanted
 pub mod Querying
@@ -11,3 +13,5 @@ pub mod Replies
 pub mod Answering
 pub mod InMemory
 pub mod Sending
+pub mod Listing
+pub mod Rewriting

@@ -1,6 +1,6 @@
 -- The request of a command, where filters are held by the encodings of their values.
-use Rattle.std.specs.Prelude.{◌≡◌, ℕ, ℤ, Bool, true, false, List, [], map, Option, Some, None, is_some, option_map, Result, Ok, Err, codes, if◌then◌else◌}
-use Rattle.mg_bson.specs.Tree.{Fields, Items, no_items, item}
+use Rattle.std.specs.Prelude.{◌≡◌, ℕ, ℤ, Bool, true, false, List, [], map, Option, Some, None, is_some, option_map, option_and_then, Result, Ok, Err, codes, if◌then◌else◌}
+use Rattle.mg_bson.specs.Tree.{Tree, Fields, Items, no_items, item}
 use Rattle.mg_bson.specs.Find.{as_document, get}
 use Rattle.mg_bson.specs.Raw.{fields, items}
 use Rattle.mg_bson.specs.RawView.{value}
@@ -9,13 +9,13 @@ use Rattle.mg_link.specs.Namespace.{Space, Target}
 use Rattle.mg_link.specs.Filter.{Condition, conditions_of}
 use Rattle.mg_link.specs.State.{Index, Start, nowhere, after, at_time, time_of}
 use Rattle.mg_link.specs.Rules as rules
-use Rattle.mg_link.specs.Commands.{batch_size, flag_or, has_only, pipeline_fields, start_of, indexing_fields, find_fields, find_stages, optional_count}
-use Rattle.mg_link.specs.Rules.{array_at, map_ok, option_names, target_at, named_space}
+use Rattle.mg_link.specs.Commands.{batch_size, flag_or, has_only, pipeline_fields, start_of, indexing_fields, find_fields, find_stages, optional_count, collections_fields, indexes_fields, optional_size, selecting, stages_by, update_parts, update_fields, delete_parts, delete_fields, modification_of, one_at, count_of, many_by}
+use Rattle.mg_link.specs.Rules.{array_at, map_ok, option_names, target_at, named_space, named_database}
 use Rattle.mg_store.specs.Asking.{Keyed, documents_among, held, ids_among, keyed, lent_space, lent_target, only_document}
 use Rattle.mg_store.specs.declared.request.LentStart.{LentStart}
 use Rattle.mg_store.specs.declared.request.LentStart.TheVariants as starts
 use Rattle.mg_store.specs.Indexing.{index_held}
-use Rattle.mg_link.specs.Query.{Source, of_collection}
+use Rattle.mg_link.specs.Query.{Source, of_collection, of_database, of_indexes}
 use Rattle.mg_store.specs.Querying.{Doing, doing, held_stage, pipeline_doing}
 use Rattle.mg_store.specs.declared.request.Plan as code_plan
 use Rattle.mg_store.specs.declared.request.Request.{Request}
@@ -27,6 +27,10 @@ use Rattle.mg_store.specs.declared.request.Stop.TheVariants as stops
 use Rattle.mg_store.specs.declared.request.Stages as code_stages
 use Rattle.mg_store.specs.declared.request.Opening as code_opening
 use Rattle.mg_store.specs.declared.request.Indexing as code_indexing
+use Rattle.mg_store.specs.declared.request.Updating as code_updating
+use Rattle.mg_store.specs.declared.request.Deleting as code_deleting
+use Rattle.mg_link.specs.Write.{Modification}
+use Rattle.mg_store.specs.Modifying.{lent_modification}
 
 pub data Wanted : Type 0 where
   insert : (space : Space) (documents : List Fields) (ordered : Bool) → Wanted
@@ -36,6 +40,9 @@ pub data Wanted : Type 0 where
   kill : (ids : List ℤ) → Wanted
   create_collection : (space : Space) → Wanted
   create_indexes : (space : Space) (indexes : List Index) → Wanted
+  drop_collection : (space : Space) → Wanted
+  update : (space : Space) (filter : List Keyed) (modification : Modification) (many : Bool) → Wanted
+  delete : (space : Space) (filter : List Keyed) (many : Bool) → Wanted
 
 abbrev pub wanted : rules.Request → Wanted
 wanted (rules.insert space documents ordered) = insert space documents ordered
@@ -45,6 +52,9 @@ wanted (rules.more id space size) = more id space size
 wanted (rules.kill ids) = kill ids
 wanted (rules.create_collection space) = create_collection space
 wanted (rules.create_indexes space indexes) = create_indexes space indexes
+wanted (rules.drop_collection space) = drop_collection space
+wanted (rules.update space conditions m many) = update space (map keyed conditions) m many
+wanted (rules.delete space conditions many) = delete space (map keyed conditions) many
 
 -- the start that the code holds
 abbrev pub lent_start : LentStart → Start
@@ -61,6 +71,11 @@ lent (requests.GetMore id space size) = more id (lent_space space) size
 lent (requests.KillCursors ids) = kill (ids_among (items ids))
 lent (requests.Create space) = create_collection (lent_space space)
 lent (requests.CreateIndexes space indexes) = create_indexes (lent_space space) (map index_held indexes.items)
+lent (requests.Drop space) = drop_collection (lent_space space)
+lent (requests.ListCollections db plan) = find (of_database db.now) (map held_stage plan.stages.items) plan.single plan.batch_size
+lent (requests.ListIndexes space size) = find (of_indexes (lent_space space)) [] false size
+lent (requests.Update space filter modification many) = update (lent_space space) (map held filter.items) (lent_modification modification) many
+lent (requests.Delete space filter many) = delete (lent_space space) (map held filter.items) many
 
 abbrev pub code_of : Refusal → ℤ
 code_of refusals.UnknownCommand = rules.unknown_command
@@ -68,6 +83,7 @@ code_of refusals.BadRequest = rules.bad_request
 code_of refusals.NoSuchCursor = rules.no_such_cursor
 code_of refusals.NoSuchToken = rules.no_such_token
 code_of refusals.CollectionExists = rules.collection_exists
+code_of refusals.NoSuchCollection = rules.no_such_collection
 
 -- why there is none: that is the rules' refusal, unless memory ran out
 abbrev pub StopsBy : {A : Type 0} → Stop → Result A ℤ → Type 0
@@ -121,6 +137,21 @@ pipeline_plan fs = array_at (codes "pipeline") fs >>= pipeline_doing >>= λ stag
 
 abbrev pub piped_of : Fields → Option Wanted
 piped_of fs = pipeline_space fs >>= λ space. pipeline_plan fs >>= λ plan. Some (find (of_collection space) plan.stages plan.single plan.size)
+
+-- ---- lists of collections and of indexes
+
+-- the database of a list of collections whose fields are all known
+abbrev pub listed_database : Fields → Option (List ℕ)
+listed_database fs = if has_only collections_fields fs then named_database fs else None
+
+abbrev pub listing_plan : Fields → Option Plan
+listing_plan fs = option_map (map doing) (stages_by selecting (get (codes "filter") fs)) >>= λ stages. optional_size fs >>= λ size. Some (record { stages = stages; single = false; size = size })
+
+abbrev pub collections_listed : Fields → Option Wanted
+collections_listed fs = listed_database fs >>= λ db. listing_plan fs >>= λ plan. Some (find (of_database db) plan.stages plan.single plan.size)
+
+unfoldable pub indexes_listed : Fields → Option Wanted
+indexes_listed fs = if has_only indexes_fields fs then (named_space (codes "listIndexes") fs >>= λ space. optional_size fs >>= λ size. Some (find (of_indexes space) [] false size)) else None
 
 -- ---- the aggregate that opens a watch
 
@@ -187,3 +218,44 @@ indexing_of fs = if has_only indexing_fields fs then (named_space (codes "create
 
 abbrev pub lent_indexing : code_indexing.Indexing → Indexing
 lent_indexing i = record { space = lent_space i.space; indexes = items i.indexes }
+
+-- ---- updates and deletes
+
+-- an update but its conditions
+pub record Updating : Type 0 where
+  pub space : Space
+  pub filter : Fields
+  pub modification : Modification
+  pub many : Bool
+
+unfoldable pub updating_by : Space → Fields → Option Updating
+updating_by space u = if has_only update_parts u
+    then (option_and_then as_document (get (codes "q") u) >>= λ filter. option_and_then as_document (get (codes "u") u) >>= modification_of >>= λ m. flag_or false (get (codes "multi") u) >>= λ many. Some (record { space = space; filter = filter; modification = m; many = many }))
+    else None
+
+unfoldable pub updating_of : Fields → Option Updating
+updating_of fs = if has_only update_fields fs then (named_space (codes "update") fs >>= λ space. one_at (codes "updates") fs >>= updating_by space) else None
+
+abbrev pub lent_updating : code_updating.Updating → Updating
+lent_updating u = record { space = lent_space u.space; filter = fields u.filter; modification = lent_modification u.modification; many = u.many }
+
+-- whether the limit of a delete is none
+abbrev pub limit_many : Option Tree → Option Bool
+limit_many found = option_and_then count_of found >>= many_by
+
+-- a delete but its conditions
+pub record Deleting : Type 0 where
+  pub space : Space
+  pub filter : Fields
+  pub many : Bool
+
+unfoldable pub deleting_by : Space → Fields → Option Deleting
+deleting_by space d = if has_only delete_parts d
+    then (option_and_then as_document (get (codes "q") d) >>= λ filter. limit_many (get (codes "limit") d) >>= λ many. Some (record { space = space; filter = filter; many = many }))
+    else None
+
+unfoldable pub deleting_of : Fields → Option Deleting
+deleting_of fs = if has_only delete_fields fs then (named_space (codes "delete") fs >>= λ space. one_at (codes "deletes") fs >>= deleting_by space) else None
+
+abbrev pub lent_deleting : code_deleting.Deleting → Deleting
+lent_deleting d = record { space = lent_space d.space; filter = fields d.filter; many = d.many }

@@ -1,15 +1,16 @@
 //! The list of changes.
-ghost use Rattle.std.specs.Prelude.{◌≡◌, ℕ, IfOk};
+ghost use Rattle.std.specs.Prelude.{◌≡◌, ◌<◌, ◌^◌, ℕ, IfOk, Some, codes};
 ghost use Rattle.mg_bson.specs.Bytes.{bytes};
+ghost use Rattle.mg_bson.specs.Find.{get};
 ghost use Rattle.mg_bson.specs.Raw.{fields};
-ghost use Rattle.mg_bson.specs.Literal.{◌⇒◌⨾◌, empty, word};
-ghost use Rattle.mg_bson.specs.Tree.{document, string};
+ghost use Rattle.mg_bson.specs.Literal.{◌⇒◌⨾◌, empty};
+ghost use Rattle.mg_bson.specs.Tree.{Fields, array, document, no_items, string};
 ghost use Rattle.mg_bson.specs.View.{tree};
 ghost use Rattle.mg_link.specs.Namespace.{space, target};
-ghost use Rattle.mg_link.specs.Rules.{ended_before, insert_event, stamp_of, token_of};
+ghost use Rattle.mg_link.specs.Rules.{dropped_entries, dropped_event, ended_before, insert_event, invalidate_event, stamp_of, token_of, deleted_event, document_event};
 ghost use Rattle.mg_link.specs.State as state;
 ghost use Rattle.mg_link.specs.State.{count_before, is_invalidate, is_of, time_of};
-ghost use Rattle.mg_store.specs.Holding.{AreExact, GivesBatch, IsWatch, change_told, entries_from, entry_at};
+ghost use Rattle.mg_store.specs.Holding.{AreExact, GivesBatch, IsEntryOf, IsWatch, change_told, entries_from, entry_at};
 
 use crate::cursor::Watch;
 use crate::filter::matches;
@@ -54,17 +55,37 @@ fn key_document(alloc: Global, id: Bson) -> Result<Document, OutOfMemory>
     with(Document::new(alloc), "_id", id)
 }
 
-/// What the event of an insert says before it comes to the document.
-fn begun_event(alloc: Global, place: u64, ns: &Namespace) -> Result<Document, OutOfMemory>
-    ensures { IfOk result (λ d. d ≡ ("_id" ⇒ token_of place ⨾ "operationType" ⇒ word "insert" ⨾ "clusterTime" ⇒ stamp_of place
+/// What the event of a change of this kind says before it comes to the document.
+fn begun_event(
+    alloc: Global,
+    place: u64,
+    kind: &str,
+    ns: &Namespace,
+) -> Result<Document, OutOfMemory>
+    ensures { IfOk result (λ d. d ≡ ("_id" ⇒ token_of place ⨾ "operationType" ⇒ string kind.now ⨾ "clusterTime" ⇒ stamp_of place
         ⨾ "ns" ⇒ document ("db" ⇒ string (space ns.now).db ⨾ "coll" ⇒ string (space ns.now).coll ⨾ empty) ⨾ empty)) }
 {
     let token = token(alloc, place)?;
     let event = with(Document::new(alloc), "_id", Bson::Document(token))?;
-    let event = with_text(alloc, event, "operationType", "insert")?;
+    let event = with_text(alloc, event, "operationType", kind)?;
     let event = with(event, "clusterTime", Bson::Timestamp(time(place)))?;
     let names = names_of(alloc, ns)?;
     with(event, "ns", Bson::Document(names))
+}
+
+/// What the event of a change of this kind to the document with this `_id` says before it comes to what changed.
+fn keyed_event(
+    alloc: Global,
+    place: u64,
+    kind: &str,
+    ns: &Namespace,
+    id: Bson,
+) -> Result<Document, OutOfMemory>
+    ensures { IfOk result (λ e. (d : Fields) → get (codes "_id") d ≡ Some (tree id) → e ≡ document_event place kind.now (space ns.now) d empty) }
+{
+    let key = key_document(alloc, id)?;
+    let event = begun_event(alloc, place, kind, ns)?;
+    with(event, "documentKey", Bson::Document(key))
 }
 
 /// The event of a document that was inserted, whose entry stands before this place.
@@ -78,9 +99,55 @@ pub(crate) fn insert_event(
     ensures { IfOk result (λ d. d ≡ insert_event place (space ns.now) (tree id) inserted) }
 {
     let key = key_document(alloc, id)?;
-    let event = begun_event(alloc, place, ns)?;
+    let event = begun_event(alloc, place, "insert", ns)?;
     let event = with(event, "documentKey", Bson::Document(key))?;
     with(event, "fullDocument", Bson::Document(inserted))
+}
+
+/// The event of a document in which these fields were set anew.
+pub(crate) fn updated_event(
+    alloc: Global,
+    place: u64,
+    ns: &Namespace,
+    id: Bson,
+    updated: Document,
+) -> Result<Document, OutOfMemory>
+    ensures { IfOk result (λ e. (d : Fields) → get (codes "_id") d ≡ Some (tree id) → e ≡ document_event place (codes "update") (space ns.now) d ("updateDescription" ⇒ document ("updatedFields" ⇒ document updated ⨾ "removedFields" ⇒ array no_items ⨾ empty) ⨾ empty)) }
+{
+    let told = with(
+        Document::new(alloc),
+        "updatedFields",
+        Bson::Document(updated),
+    )?;
+    let told = with(told, "removedFields", Bson::Array(Array::new(alloc)))?;
+    let event = keyed_event(alloc, place, "update", ns, id)?;
+    with(event, "updateDescription", Bson::Document(told))
+}
+
+/// The event of a document in whose place this one was put.
+pub(crate) fn replaced_event(
+    alloc: Global,
+    place: u64,
+    ns: &Namespace,
+    id: Bson,
+    put: Document,
+) -> Result<Document, OutOfMemory>
+    ensures { IfOk result (λ e. (d : Fields) → get (codes "_id") d ≡ Some (tree id) → e ≡ document_event place (codes "replace") (space ns.now) d ("fullDocument" ⇒ document put ⨾ empty)) }
+{
+    let event = keyed_event(alloc, place, "replace", ns, id)?;
+    with(event, "fullDocument", Bson::Document(put))
+}
+
+/// The event of a document that was deleted.
+pub(crate) fn deleted_event(
+    alloc: Global,
+    place: u64,
+    ns: &Namespace,
+    id: Bson,
+) -> Result<Document, OutOfMemory>
+    ensures { IfOk result (λ e. (d : Fields) → get (codes "_id") d ≡ Some (tree id) → e ≡ deleted_event place (space ns.now) d) }
+{
+    keyed_event(alloc, place, "delete", ns, id)
 }
 
 /// The events of a batch, the place behind it, and whether the watch ends with it.
@@ -239,4 +306,59 @@ pub(crate) fn event_bytes(alloc: Global, event: &Document) -> Result<RawDocument
         Ok(bytes) => Ok(bytes),
         Err(_) => Err(OutOfMemory),
     }
+}
+
+/// What each event says first.
+fn timed_event(alloc: Global, place: u64, kind: &str) -> Result<Document, OutOfMemory>
+    ensures { IfOk result (λ d. d ≡ ("_id" ⇒ token_of place ⨾ "operationType" ⇒ string kind.now ⨾ "clusterTime" ⇒ stamp_of place ⨾ empty)) }
+{
+    let token = token(alloc, place)?;
+    let event = with(Document::new(alloc), "_id", Bson::Document(token))?;
+    let event = with_text(alloc, event, "operationType", kind)?;
+    with(event, "clusterTime", Bson::Timestamp(time(place)))
+}
+
+/// The event of a collection that was dropped, whose entry stands before this place.
+fn dropped_event(alloc: Global, place: u64, ns: &Namespace) -> Result<Document, OutOfMemory>
+    ensures { IfOk result (λ d. d ≡ dropped_event place (space ns.now)) }
+{
+    let event = timed_event(alloc, place, "drop")?;
+    let names = names_of(alloc, ns)?;
+    with(event, "ns", Bson::Document(names))
+}
+
+/// The event by which watches of a collection end.
+fn invalidate_event(alloc: Global, place: u64) -> Result<Document, OutOfMemory>
+    ensures { IfOk result (λ d. d ≡ invalidate_event place) }
+{
+    timed_event(alloc, place, "invalidate")
+}
+
+/// The entry of an event.
+fn entry_of(alloc: Global, ns: &Namespace, event: &Document) -> Result<ChangeEntry, OutOfMemory>
+    ensures { IfOk result (IsEntryOf (space ns.now) event.now) }
+{
+    let ns = ns.clone()?;
+    let event = event_bytes(alloc, event)?;
+    Ok(ChangeEntry { ns, event })
+}
+
+/// The entries of a drop behind so many others: that the collection was dropped, and that watches of it end.
+pub(crate) fn dropped_entries(
+    alloc: Global,
+    place: u64,
+    ns: &Namespace,
+) -> Result<Vec<ChangeEntry>, OutOfMemory>
+    requires { place < 2 ^ 63 }
+    ensures these { IfOk result (λ es. entries_from place es.items ≡ dropped_entries place (space ns.now)) }
+    ensures exact { IfOk result (λ es. AreExact es.items) }
+{
+    let event = dropped_event(alloc, place + 1, ns)?;
+    let dropped = entry_of(alloc, ns, &event)?;
+    let event = invalidate_event(alloc, place + 2)?;
+    let ended = entry_of(alloc, ns, &event)?;
+    let mut entries = Vec::new(alloc);
+    entries.push(dropped)?;
+    entries.push(ended)?;
+    Ok(entries)
 }

@@ -73,7 +73,8 @@ fn keys_in(alloc: Global, array: &RawArray<'_>) -> Result<Vec<Vec<u8>>, OutOfMem
     Ok(keys)
 }
 
-fn begins_with_dollar(name: &str) -> bool
+/// Whether the name is that of an operator.
+pub(crate) fn begins_with_dollar(name: &str) -> bool
     ensures { result ≡ begins_with_dollar name.now }
 {
     match name.as_bytes() {

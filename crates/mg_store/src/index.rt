@@ -13,10 +13,11 @@ ghost use Rattle.mg_link.specs.Write.{with_index, with_indexes};
 ghost use Rattle.mg_store.specs.Indexing.{index_held, indexes_among};
 ghost use Rattle.mg_store.specs.Inserting.{indexes_there};
 
-use crate::insert::Collection;
+use crate::collection::Collection;
 use crate::limits::may_stay;
 use crate::reading::{document_at, has_only, text_at};
 use crate::reply::with;
+use crate::results::encoded;
 use crate::store::copy;
 use mg_bson::{Bson, Document, RawArray, RawDocument, RawDocumentBuf, RawValue, to_document};
 use mg_link::OutOfMemory;
@@ -131,6 +132,40 @@ fn listed(alloc: Global, index: &Index) -> Result<Document, OutOfMemory>
     let listed = with(Document::new(alloc), "v", Bson::Int32(2))?;
     let listed = with(listed, "key", Bson::Document(key))?;
     with(listed, "name", Bson::String(name))
+}
+
+/// The index that each collection has.
+fn id_index(alloc: Global) -> Result<Index, OutOfMemory>
+    ensures { IfOk result (λ i. index_held i ≡ id_index) }
+{
+    let name = String::from_str(alloc, ID_INDEX)?;
+    let key = with(Document::new(alloc), "_id", Bson::Int32(1))?;
+    let key = encoded(alloc, &key)?;
+    Ok(Index { name, key })
+}
+
+/// What a list says of an index that may stay, which can always be encoded.
+fn encoded_listed(alloc: Global, index: &Index) -> Result<RawDocumentBuf, OutOfMemory>
+    ensures { IfOk result (λ r. fields r ≡ index_listed (index_held index.now)) }
+{
+    let document = listed(alloc, index)?;
+    encoded(alloc, &document)
+}
+
+/// What a list says of the indexes of a collection, with that of `_id` in front.
+pub(crate) fn indexes_listed(
+    alloc: Global,
+    indexes: &[Index],
+) -> Result<Vec<RawDocumentBuf>, OutOfMemory>
+    ensures { IfOk result (λ ds. map fields ds.items ≡ map index_listed (id_index ∷ map index_held indexes.now)) }
+{
+    let first = id_index(alloc)?;
+    let mut documents = Vec::new(alloc);
+    documents.push(encoded_listed(alloc, &first)?)?;
+    for index in indexes {
+        documents.push(encoded_listed(alloc, index)?)?;
+    }
+    Ok(documents)
 }
 
 /// Copies of the indexes of a collection, none where it is not there.

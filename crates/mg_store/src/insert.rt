@@ -1,17 +1,17 @@
 //! What an insert appends.
 ghost use Rattle.mg_store.specs.declared.insert.Rejected.TheVariants.{Memory};
-ghost use Rattle.std.specs.Prelude.{◌≡◌, ◌<◌, ◌≤◌, ◌+◌, ◌^◌, ◌++◌, List, [], suc, length, is_some, map, vec_len, vec_capacity, IfOk, OnOk, OnErr, codes};
+ghost use Rattle.std.specs.Prelude.{◌≡◌, ◌<◌, ◌≤◌, ◌+◌, ◌^◌, ◌++◌, List, [], suc, length, map, vec_len, vec_capacity, IfOk, OnOk, OnErr, codes};
 ghost use Rattle.mg_bson.specs.Find.{get};
 ghost use Rattle.mg_bson.specs.Raw.{fields, items};
 ghost use Rattle.mg_bson.specs.Tree.{Fields, no_items};
 ghost use Rattle.mg_link.specs.Namespace.{space};
 ghost use Rattle.mg_link.specs.Rules.{inserting, write_error};
 ghost use Rattle.mg_store.specs.Asking.{documents_among};
-ghost use Rattle.mg_store.specs.Inserting.{AcceptsOr, Adds, Appends, AreApart, Encodes, Fits, GivesEntry, GivesId, GivesKey, HasIds, KeepsIds, KeepsIdsThere, Lists, Takes, new_documents, number_of_id, stored, there};
+ghost use Rattle.mg_store.specs.Inserting.{AcceptsOr, Adds, Appends, Encodes, Fits, GivesEntry, GivesId, GivesKey, KeepsIdsThere, Lists, Takes, holds_id, new_documents, there};
 
 use crate::change::{ChangeEntry, event_bytes, insert_event};
+use crate::collection::{Collection, KeyedDocument};
 use crate::filter::key_of;
-use crate::index::Index;
 use crate::limits::MAX_DOCUMENT;
 use crate::reply::{put_item, write_error};
 use mg_bson::{
@@ -19,7 +19,7 @@ use mg_bson::{
 };
 use mg_link::{Namespace, OutOfMemory};
 use std::alloc::{AllocError, AllocFailed, Global};
-use std::collections::BTreeMap;
+use std::collections::BTreeSet;
 
 /// The most levels of a stored document: as many as fit the event in a reply.
 const MAX_LEVELS: u32 = 96;
@@ -29,81 +29,6 @@ const BAD_DOCUMENT: i32 = 9;
 
 /// The code for an `_id` that is there already.
 const DUPLICATE_ID: i32 = 11000;
-
-/// The documents of a collection, in order, the number of each by the bytes of its `_id`, and the indexes beside that of
-/// `_id`.
-pub(crate) struct Collection {
-    pub(crate) documents: Vec<RawDocumentBuf>,
-    pub(crate) ids: BTreeMap<Vec<u8>, u64>,
-    pub(crate) indexes: Vec<Index>,
-}
-
-// By hand, so that letting one go is one call.
-impl Drop for Collection {
-    fn drop(self) {
-        let Collection {
-            documents: _,
-            ids: _,
-            indexes: _,
-        } = self;
-    }
-}
-
-impl Collection {
-    pub(crate) fn new(alloc: Global) -> Collection
-        ensures none { stored result ≡ [] }
-        ensures ids { KeepsIds result }
-    {
-        Collection {
-            documents: Vec::new(alloc),
-            ids: BTreeMap::new(alloc),
-            indexes: Vec::new(alloc),
-        }
-    }
-
-    /// Appends documents with the numbers of their ids. An error changes nothing.
-    pub(crate) fn append(
-        &mut self,
-        mut documents: Vec<RawDocumentBuf>,
-        ids: BTreeMap<Vec<u8>, u64>,
-    ) -> Result<(), OutOfMemory>
-        ensures ok { OnOk result (stored self.new ≡ stored self.old ++ map fields documents.items) }
-        ensures err { OnErr result (stored self.new ≡ stored self.old) }
-        ensures ids { KeepsIds self.old → HasIds ids (length (stored self.old)) (map fields documents.items) → AreApart (stored self.old) (map fields documents.items) → KeepsIds self.new }
-        ensures indexes { self.new.indexes ≡ self.old.indexes }
-    {
-        self.documents.reserve(documents.len())?;
-        let count = self.documents.len() as u64;
-        add_ids(&mut self.ids, ids, count)?;
-        append_reserved(&mut self.documents, &mut documents);
-        Ok(())
-    }
-
-    /// The collection has these indexes from now on.
-    pub(crate) fn put_indexes(&mut self, indexes: Vec<Index>)
-        ensures { self.new ≡ record self.old { indexes = indexes } }
-    {
-        let _old = std::mem::replace(&mut self.indexes, indexes);
-    }
-}
-
-/// Adds ids whose numbers begin at `count`. An error changes nothing.
-fn add_ids(
-    ids: &mut BTreeMap<Vec<u8>, u64>,
-    mut more: BTreeMap<Vec<u8>, u64>,
-    count: u64,
-) -> Result<(), OutOfMemory>
-    ensures ok { OnOk result ((before docs : List Fields) → count ≡ length before → HasIds ids.old 0 before → HasIds more (length before) docs → AreApart before docs → HasIds ids.new 0 (before ++ docs)) }
-    ensures err { OnErr result ((before docs : List Fields) → count ≡ length before → HasIds ids.old 0 before → HasIds more (length before) docs → AreApart before docs → HasIds ids.new 0 before) }
-{
-    match ids.append(&mut more) {
-        Ok(()) => Ok(()),
-        Err(_) => {
-            ids.retain(|_, number| *number < count);
-            Err(OutOfMemory)
-        }
-    }
-}
 
 /// Moves items to the end of a vector that has room for them.
 pub(crate) fn append_reserved<T: Drop>(items: &mut Vec<T>, more: &mut Vec<T>)
@@ -116,17 +41,10 @@ pub(crate) fn append_reserved<T: Drop>(items: &mut Vec<T>, more: &mut Vec<T>)
     }
 }
 
-/// Documents, their ids and their entries.
-type Parts = (
-    Vec<RawDocumentBuf>,
-    BTreeMap<Vec<u8>, u64>,
-    Vec<ChangeEntry>,
-);
-
-/// What an insert is to append, and what it answers.
+/// What an insert is to append, the ids of that, and what it answers.
 pub(crate) struct Appended {
-    pub(crate) documents: Vec<RawDocumentBuf>,
-    pub(crate) ids: BTreeMap<Vec<u8>, u64>,
+    pub(crate) documents: Vec<KeyedDocument>,
+    pub(crate) ids: BTreeSet<Vec<u8>>,
     pub(crate) entries: Vec<ChangeEntry>,
     pub(crate) errors: Array,
 }
@@ -236,25 +154,24 @@ impl Appended {
     {
         Appended {
             documents: Vec::new(alloc),
-            ids: BTreeMap::new(alloc),
+            ids: BTreeSet::new(alloc),
             entries: Vec::new(alloc),
             errors: Array::new(alloc),
         }
     }
 
-    /// What is to be appended: documents, their ids and their entries.
-    pub(crate) fn into_parts(self) -> Parts
+    /// What is to be appended: documents and their entries.
+    pub(crate) fn into_parts(self) -> (Vec<KeyedDocument>, Vec<ChangeEntry>)
         ensures documents { result.0 ≡ self.documents }
-        ensures ids { result.1 ≡ self.ids }
-        ensures entries { result.2 ≡ self.entries }
+        ensures entries { result.1 ≡ self.entries }
     {
         let Appended {
             documents,
-            ids,
+            ids: _,
             entries,
             errors: _,
         } = self;
-        (documents, ids, entries)
+        (documents, entries)
     }
 
     /// Appends a document behind what is there already. Its entry stands before the place.
@@ -270,26 +187,24 @@ impl Appended {
     {
         let bytes = storable(alloc, &document)?;
         let key = id_key(alloc, &document)?;
-        if holds(collection, &key) || self.ids.contains_key(&key) {
+        if holds(collection, &key) || self.ids.contains(&key) {
             return Err(Rejected::Refused(DUPLICATE_ID));
         }
-        let number = count_of(collection) + self.documents.len() as u64;
         let entry = entry_of(alloc, place, ns, document)?;
-        Ok(self.add(number, key, bytes, entry)?)
+        Ok(self.add(key, bytes, entry)?)
     }
 
-    /// Adds a document of this number, the encoding of its `_id`, and its entry.
+    /// Adds a document, the encoding of its `_id`, and its entry.
     fn add(
         &mut self,
-        number: u64,
         key: Vec<u8>,
-        bytes: RawDocumentBuf,
+        document: RawDocumentBuf,
         entry: ChangeEntry,
     ) -> Result<(), OutOfMemory>
-        ensures { OnOk result (Adds number key bytes entry self.old self.new) }
+        ensures { OnOk result (Adds key document entry self.old self.new) }
     {
-        self.ids.insert(key, number)?;
-        self.documents.push(bytes)?;
+        self.ids.insert(key.clone()?)?;
+        self.documents.push(KeyedDocument { key, document })?;
         self.entries.push(entry)?;
         Ok(())
     }
@@ -331,21 +246,11 @@ impl Appended {
 }
 
 fn holds(collection: Option<&Collection>, key: &Vec<u8>) -> bool
-    ensures { KeepsIdsThere collection.entry → result ≡ is_some (number_of_id 0 key.now.items (there collection.entry)) }
+    ensures { KeepsIdsThere collection.entry → result ≡ holds_id key.now.items (there collection.entry) }
 {
     match collection {
         Some(collection) => collection.ids.contains_key(key),
         None => false,
-    }
-}
-
-fn count_of(collection: Option<&Collection>) -> u64
-    ensures count { result ≡ length (there collection.entry) }
-    ensures small { result < 2 ^ 63 }
-{
-    match collection {
-        Some(collection) => collection.documents.len() as u64,
-        None => 0,
     }
 }
 
@@ -382,7 +287,7 @@ pub(crate) fn append_all(
 }
 
 /// The document as a tree.
-fn tree_of(alloc: Global, raw: RawDocument<'_>) -> Result<Document, OutOfMemory>
+pub(crate) fn tree_of(alloc: Global, raw: RawDocument<'_>) -> Result<Document, OutOfMemory>
     ensures { IfOk result (λ d. d ≡ fields raw.entry) }
 {
     match to_document(alloc, raw) {

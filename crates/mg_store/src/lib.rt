@@ -3,6 +3,7 @@
 
 mod batch;
 mod change;
+mod collection;
 mod cursor;
 mod fate;
 mod filter;
@@ -10,12 +11,15 @@ mod index;
 mod insert;
 mod limits;
 mod link;
+mod listing;
+mod modification;
 mod perform;
 mod reading;
 mod refusing;
 mod reply;
 mod request;
 mod results;
+mod rewrite;
 mod sort;
 mod stages;
 mod store;

@@ -1,8 +1,9 @@
 //! How large documents may be.
 ghost use Rattle.std.specs.Prelude.{◌≡◌, IfOk};
-ghost use Rattle.mg_link.specs.Rules.{may_stay};
+ghost use Rattle.mg_bson.specs.Bytes.{bytes};
+ghost use Rattle.mg_link.specs.Rules.{may_be_given, may_stay};
 
-use mg_bson::{BsonError, Document, to_bytes};
+use mg_bson::{BsonError, Document, RawDocumentBuf, to_bytes};
 use mg_link::OutOfMemory;
 use std::alloc::Global;
 
@@ -12,12 +13,26 @@ pub(crate) const MAX_DOCUMENT: usize = 16_777_216;
 /// The most levels of a document that a reply gives.
 const MAX_LEVELS: u32 = 97;
 
+/// Whether a reply may give the document.
+pub(crate) fn may_be_given(document: &Document) -> bool
+    ensures { result ≡ may_be_given document.now }
+{
+    document.is_within(MAX_LEVELS)
+}
+
+/// Whether the document, encoded so, may stand in a collection.
+pub(crate) fn encoded_may_stay(encoded: &RawDocumentBuf, document: &Document) -> bool
+    ensures { encoded.now ≡ bytes document.now → result ≡ may_stay document.now }
+{
+    encoded.as_bytes().len() <= MAX_DOCUMENT && may_be_given(document)
+}
+
 /// Whether the document may stand in a collection.
 pub(crate) fn may_stay(alloc: Global, document: &Document) -> Result<bool, OutOfMemory>
     ensures { IfOk result (λ b. b ≡ may_stay document.now) }
 {
     match to_bytes(alloc, document) {
-        Ok(bytes) => Ok(bytes.as_bytes().len() <= MAX_DOCUMENT && document.is_within(MAX_LEVELS)),
+        Ok(encoded) => Ok(encoded_may_stay(&encoded, document)),
         Err(BsonError::TooLarge) => Ok(false),
         Err(BsonError::TooDeep) => Ok(false),
         Err(_) => Err(OutOfMemory),

@@ -1,37 +1,45 @@
 //! What a command is answered, and what it does.
-ghost use Rattle.mg_store.specs.declared.perform.Effect.TheVariants.{Insert, Indexes};
-ghost use Rattle.std.specs.Prelude.{◌≡◌, ℕ, ℤ, None, [], IfOk, OnOk, OnErr, if◌then◌else◌, map, string_bytes, pos, drop, Some, List};
+ghost use Rattle.mg_store.specs.declared.perform.Effect.TheVariants.{Drop, Insert, Indexes, Change, Remove};
+ghost use Rattle.std.specs.Prelude.{◌≡◌, ℕ, ℤ, None, [], IfOk, OnOk, OnErr, false, if◌then◌else◌, map, string_bytes, pos, drop, Some, List};
 ghost use Rattle.std.specs.BTreeMap.{get, keys};
 ghost use Rattle.std.specs.Ordering.{int_cmp};
 ghost use Rattle.mg_bson.specs.Raw.{fields, items};
 ghost use Rattle.mg_bson.specs.Tree.{Fields};
 ghost use Rattle.mg_bson.specs.RawView.{value};
+ghost use Rattle.mg_link.proofs.Ordered.{AreInOrder};
+ghost use Rattle.mg_link.specs.Filter as filter;
 ghost use Rattle.mg_link.specs.Namespace.{space};
+ghost use Rattle.mg_link.proofs.Requests.{KeepsId};
 ghost use Rattle.mg_link.specs.Rules as rules;
 ghost use Rattle.mg_link.specs.Commands.{query_by};
 ghost use Rattle.mg_link.specs.Query as query;
-ghost use Rattle.mg_link.specs.Query.{Query, Stage, of_collection};
-ghost use Rattle.mg_link.specs.Step.{documents_of};
-ghost use Rattle.mg_link.specs.Rules.{create_collection, create_indexes, find, id_unless, insert, is_id_among, kill, more, place_at, query_space, refusal, size_of};
+ghost use Rattle.mg_link.specs.Query.{Query, Stage, of_collection, of_database, of_indexes};
+ghost use Rattle.mg_link.specs.Rules.{create_collection, create_indexes, find, id_unless, insert, is_id_among, kill, more, place_at, query_space, refusal, size_of, drop_collection, update, delete};
 ghost use Rattle.mg_link.specs.State as state;
 ghost use Rattle.mg_link.specs.State.{State, after, nothing, watching};
 ghost use Rattle.mg_store.specs.Answering.{Answers, Refuses};
-ghost use Rattle.mg_store.specs.Asking.{documents_among, ids_among};
+ghost use Rattle.mg_store.specs.Asking.{documents_among, held, ids_among, keyed};
 ghost use Rattle.mg_store.specs.Contents.{AnswersBy, AnswersOr, Leads, OpensAt, Represents, Settles, beginning, closing, moving, opening, taking};
 ghost use Rattle.mg_store.specs.Holding.{IsWatch, entries_from};
 ghost use Rattle.mg_store.specs.Indexing.{index_held};
+ghost use Rattle.mg_store.specs.Modifying.{lent_modification};
 ghost use Rattle.mg_store.specs.Querying.{doing, held_stage};
 ghost use Rattle.mg_store.specs.Wanted.{lent_start};
 
 use crate::batch::batch_from;
-use crate::change::{ChangeEntry, count_before, ended_before, events_from};
+use crate::change::{ChangeEntry, count_before, dropped_entries, ended_before, events_from};
+use crate::collection::Collection;
 use crate::cursor::{Cursor, Found, Source, Watch};
-use crate::index::{Index, all_may_stay, with_indexes};
-use crate::insert::{Appended, Collection, append_all, append_reserved};
+use crate::filter::Condition;
+use crate::index::{Index, all_may_stay, indexes_listed, with_indexes};
+use crate::insert::{Appended, append_all, append_reserved};
+use crate::listing::{collections_listed, listing_namespace};
+use crate::modification::Modification;
 use crate::reading::{id_of, is_same_space, namespace, target, watch_namespace};
 use crate::reply;
 use crate::request::{LentStart, Plan, Refusal, Request, Stop, request_of};
-use crate::results::through;
+use crate::results::{further, through};
+use crate::rewrite::{Changes, Removals, changes_of, chosen, removals_of};
 use crate::token::place_of;
 use mg_bson::{Array, Bson, Document, RawArray, RawDocument, RawDocumentBuf, RawValue};
 use mg_link::{Namespace, OutOfMemory};
@@ -65,14 +73,45 @@ impl Drop for Content {
 /// What a command does besides its reply.
 pub(crate) enum Effect {
     Nothing,
-    Insert { ns: Namespace, appended: Appended },
-    Open { id: i64, cursor: Cursor },
-    Move { id: i64, place: u64 },
+    Insert {
+        ns: Namespace,
+        appended: Appended,
+    },
+    Open {
+        id: i64,
+        cursor: Cursor,
+    },
+    Move {
+        id: i64,
+        place: u64,
+    },
     /// So many of the documents of a query are given.
-    Take { id: i64, count: u64 },
-    Kill { ids: Vec<i64> },
-    Close { id: i64 },
-    Indexes { ns: Namespace, indexes: Vec<Index> },
+    Take {
+        id: i64,
+        count: u64,
+    },
+    Kill {
+        ids: Vec<i64>,
+    },
+    Close {
+        id: i64,
+    },
+    Indexes {
+        ns: Namespace,
+        indexes: Vec<Index>,
+    },
+    Change {
+        ns: Namespace,
+        changes: Changes,
+    },
+    Remove {
+        ns: Namespace,
+        removals: Removals,
+    },
+    Drop {
+        ns: Namespace,
+        entries: Vec<ChangeEntry>,
+    },
 }
 
 // By hand, so that letting one go is one call.
@@ -87,6 +126,9 @@ impl Drop for Effect {
             Effect::Kill { ids: _ } => {}
             Effect::Close { id: _ } => {}
             Effect::Indexes { ns: _, indexes: _ } => {}
+            Effect::Drop { ns: _, entries: _ } => {}
+            Effect::Change { ns: _, changes: _ } => {}
+            Effect::Remove { ns: _, removals: _ } => {}
         }
     }
 }
@@ -359,16 +401,6 @@ impl Content {
         answered(alloc, document, moving(ended, id, place))
     }
 
-    /// The documents of a collection, none where it is not there.
-    fn documents_of(&self, ns: &Namespace) -> &[RawDocumentBuf]
-        ensures { (s : State) (given : ℕ) → Represents self.now s given → map fields result.now ≡ documents_of s (space ns.now) }
-    {
-        match self.collections.get(ns) {
-            Some(collection) => collection.documents.as_slice(),
-            None => &[],
-        }
-    }
-
     /// The first batch of what a query found.
     fn answer_found(
         &self,
@@ -394,7 +426,7 @@ impl Content {
     fn answer_find(&self, alloc: Global, ns: Namespace, plan: &Plan) -> Result<Answer, Stop>
         ensures { (s : State) (given : ℕ) (stages : List Stage) → Represents self.now s given → map held_stage plan.now.stages.items ≡ map doing stages → Settles s given (find (query_by (of_collection (space ns)) plan.now.single stages plan.now.batch_size)) result }
     {
-        let documents = through(alloc, plan.stages.as_slice(), self.documents_of(&ns))?;
+        let documents = through(alloc, plan.stages.as_slice(), self.collections.get(&ns))?;
         let found = Found { ns, documents };
         self.answer_found(alloc, found, plan.single, plan.batch_size)
     }
@@ -449,8 +481,81 @@ impl Content {
         answered(alloc, document, Effect::Indexes { ns, indexes })
     }
 
+    fn answer_drop(&self, alloc: Global, ns: Namespace) -> Result<Answer, Stop>
+        ensures { (s : State) (given : ℕ) → Represents self.now s given → Settles s given (drop_collection (space ns)) result }
+    {
+        if !self.collections.contains_key(&ns) {
+            return Err(Stop::Refused(Refusal::NoSuchCollection));
+        }
+        let entries = dropped_entries(alloc, self.changes.len() as u64, &ns)?;
+        let document = reply::done(alloc)?;
+        answered(alloc, document, Effect::Drop { ns, entries })
+    }
+
+    fn answer_list_collections(&self, alloc: Global, db: &str, plan: &Plan) -> Result<Answer, Stop>
+        ensures { (s : State) (given : ℕ) (stages : List Stage) → Represents self.now s given → AreInOrder s.collections → map held_stage plan.now.stages.items ≡ map doing stages → Settles s given (find (query_by (of_database db.now) plan.now.single stages plan.now.batch_size)) result }
+    {
+        let listed = collections_listed(alloc, &self.collections, db)?;
+        let documents = further(alloc, plan.stages.as_slice(), listed)?;
+        let ns = listing_namespace(alloc, db)?;
+        let found = Found { ns, documents };
+        self.answer_found(alloc, found, plan.single, plan.batch_size)
+    }
+
+    fn answer_list_indexes(
+        &self,
+        alloc: Global,
+        ns: Namespace,
+        batch_size: Option<u64>,
+    ) -> Result<Answer, Stop>
+        ensures { (s : State) (given : ℕ) → Represents self.now s given → Settles s given (find (query_by (of_indexes (space ns)) false [] batch_size)) result }
+    {
+        let Some(collection) = self.collections.get(&ns) else {
+            return Err(Stop::Refused(Refusal::NoSuchCollection));
+        };
+        let documents = indexes_listed(alloc, collection.indexes.as_slice())?;
+        let found = Found { ns, documents };
+        self.answer_found(alloc, found, false, batch_size)
+    }
+
+    fn answer_update(
+        &self,
+        alloc: Global,
+        ns: Namespace,
+        conditions: &Vec<Condition>,
+        modification: &Modification<'_>,
+        many: bool,
+    ) -> Result<Answer, Stop>
+        ensures { (s : State) (given : ℕ) (cs : List filter.Condition) → Represents self.now s given → map held conditions.now.items ≡ map keyed cs → KeepsId (lent_modification modification.now) → Settles s given (update (space ns) cs (lent_modification modification.now) many) result }
+    {
+        let entries = self.changes.len() as u64;
+        let these = chosen(alloc, conditions, many, self.collections.get(&ns))?;
+        let changes = changes_of(alloc, entries, &ns, modification, these.as_slice())?;
+        let n = these.len() as u64;
+        let changed = changes.documents.len() as u64;
+        let document = reply::updated(alloc, n, changed)?;
+        answered(alloc, document, Effect::Change { ns, changes })
+    }
+
+    fn answer_delete(
+        &self,
+        alloc: Global,
+        ns: Namespace,
+        conditions: &Vec<Condition>,
+        many: bool,
+    ) -> Result<Answer, Stop>
+        ensures { (s : State) (given : ℕ) (cs : List filter.Condition) → Represents self.now s given → map held conditions.now.items ≡ map keyed cs → Settles s given (delete (space ns) cs many) result }
+    {
+        let entries = self.changes.len() as u64;
+        let these = chosen(alloc, conditions, many, self.collections.get(&ns))?;
+        let removals = removals_of(alloc, entries, &ns, these.as_slice())?;
+        let n = these.len() as u64;
+        let document = reply::deleted(alloc, n)?;
+        answered(alloc, document, Effect::Remove { ns, removals })
+    }
+
     fn answer_request(&self, alloc: Global, command: &RawDocument<'_>) -> Result<Answer, Stop>
-        ensures { (s : State) (given : ℕ) → Represents self.now s given → AnswersOr s given command.now result }
+        ensures { (s : State) (given : ℕ) → Represents self.now s given → AreInOrder s.collections → AnswersOr s given command.now result }
     {
         match request_of(alloc, command)? {
             Request::Insert {
@@ -481,6 +586,27 @@ impl Content {
             Request::CreateIndexes { space, indexes } => {
                 self.answer_create_indexes(alloc, namespace(alloc, space)?, &indexes)
             }
+            Request::Drop { space } => self.answer_drop(alloc, namespace(alloc, space)?),
+            Request::ListCollections { db, plan } => {
+                self.answer_list_collections(alloc, db, &plan)
+            }
+            Request::ListIndexes { space, batch_size } => {
+                self.answer_list_indexes(alloc, namespace(alloc, space)?, batch_size)
+            }
+            Request::Update {
+                space,
+                filter,
+                modification,
+                many,
+            } => {
+                let ns = namespace(alloc, space)?;
+                self.answer_update(alloc, ns, &filter, &modification, many)
+            }
+            Request::Delete {
+                space,
+                filter,
+                many,
+            } => self.answer_delete(alloc, namespace(alloc, space)?, &filter, many),
         }
     }
 
@@ -490,7 +616,7 @@ impl Content {
         alloc: Global,
         command: &RawDocument<'_>,
     ) -> Result<Answer, OutOfMemory>
-        ensures { (s : State) (given : ℕ) → Represents self.now s given → IfOk result (AnswersBy s given command.now) }
+        ensures { (s : State) (given : ℕ) → Represents self.now s given → AreInOrder s.collections → IfOk result (AnswersBy s given command.now) }
     {
         match self.answer_request(alloc, command) {
             Ok(answer) => Ok(answer),
@@ -505,17 +631,13 @@ impl Content {
         ensures err { OnErr result ((s : State) (given : ℕ) (s' : State) (given' : ℕ) → Represents self.old s given → Leads (Insert ns appended) s given s' given' → Represents self.new s given) }
         ensures cursors { self.new.cursors ≡ self.old.cursors }
     {
-        let (documents, ids, mut entries) = appended.into_parts();
+        let (documents, mut entries) = appended.into_parts();
         self.changes.reserve(entries.len())?;
         match self.collections.get_mut(&ns) {
-            Some(collection) => collection.append(documents, ids)?,
+            Some(collection) => collection.append(documents)?,
             None => {
-                let indexes = Vec::new(*documents.allocator());
-                let collection = Collection {
-                    documents,
-                    ids,
-                    indexes,
-                };
+                let mut collection = Collection::new(*documents.allocator());
+                collection.append(documents)?;
                 self.collections.insert(ns, collection)?;
             }
         }
@@ -537,6 +659,50 @@ impl Content {
                 self.collections.insert(ns, collection)?;
             }
         }
+        Ok(())
+    }
+
+    /// Takes a collection out, and logs that with these entries.
+    fn take_out(&mut self, ns: Namespace, mut entries: Vec<ChangeEntry>) -> Result<(), OutOfMemory>
+        ensures ok { OnOk result ((s : State) (given : ℕ) (s' : State) (given' : ℕ) → Represents self.old s given → Leads (Drop ns entries) s given s' given' → Represents self.new s' given') }
+        ensures err { OnErr result ((s : State) (given : ℕ) (s' : State) (given' : ℕ) → Represents self.old s given → Leads (Drop ns entries) s given s' given' → Represents self.new s given) }
+        ensures cursors { self.new.cursors ≡ self.old.cursors }
+    {
+        self.changes.reserve(entries.len())?;
+        let _dropped = self.collections.remove(&ns);
+        append_reserved(&mut self.changes, &mut entries);
+        Ok(())
+    }
+
+    /// Changes the documents of an update, and appends their entries.
+    fn change(&mut self, ns: Namespace, changes: Changes) -> Result<(), OutOfMemory>
+        ensures ok { OnOk result ((s : State) (given : ℕ) (s' : State) (given' : ℕ) → Represents self.old s given → Leads (Change ns changes) s given s' given' → Represents self.new s' given') }
+        ensures err { OnErr result ((s : State) (given : ℕ) → Represents self.old s given → Represents self.new s given) }
+        ensures cursors { self.new.cursors ≡ self.old.cursors }
+    {
+        let (documents, mut entries) = changes.into_parts();
+        self.changes.reserve(entries.len())?;
+        match self.collections.get_mut(&ns) {
+            Some(collection) => collection.change_all(documents),
+            None => {}
+        }
+        append_reserved(&mut self.changes, &mut entries);
+        Ok(())
+    }
+
+    /// Removes the documents of a delete, and appends its entries.
+    fn remove(&mut self, ns: Namespace, removals: Removals) -> Result<(), OutOfMemory>
+        ensures ok { OnOk result ((s : State) (given : ℕ) (s' : State) (given' : ℕ) → Represents self.old s given → Leads (Remove ns removals) s given s' given' → Represents self.new s' given') }
+        ensures err { OnErr result ((s : State) (given : ℕ) → Represents self.old s given → Represents self.new s given) }
+        ensures cursors { self.new.cursors ≡ self.old.cursors }
+    {
+        let (ids, mut entries) = removals.into_parts();
+        self.changes.reserve(entries.len())?;
+        match self.collections.get_mut(&ns) {
+            Some(collection) => collection.remove_all(&ids),
+            None => {}
+        }
+        append_reserved(&mut self.changes, &mut entries);
         Ok(())
     }
 }
@@ -573,10 +739,13 @@ impl Effect {
                 Ok(())
             }
             Effect::Indexes { ns, indexes } => content.index(ns, indexes),
+            Effect::Drop { ns, entries } => content.take_out(ns, entries),
             Effect::Close { id } => {
                 let _cursor = content.cursors.remove(&id);
                 Ok(())
             }
+            Effect::Change { ns, changes } => content.change(ns, changes),
+            Effect::Remove { ns, removals } => content.remove(ns, removals),
         }
     }
 }

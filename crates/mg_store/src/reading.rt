@@ -1,16 +1,17 @@
 //! What the fields of a command hold.
 ghost use Rattle.std.specs.Prelude.{◌≡◌, None, codes, map, is_some, IfOk, option_and_then, option_map};
 ghost use Rattle.mg_bson.specs.Find.{as_document, get};
-ghost use Rattle.mg_bson.specs.Raw.{fields, items};
+ghost use Rattle.mg_bson.specs.Raw.{fields, items, items_left};
 ghost use Rattle.mg_bson.specs.RawView.{value};
-ghost use Rattle.mg_link.specs.Commands.{as_integer, count_of, documents_in, flag_or, has_only, ignored, is_name_among, optional_count, target_by, text_of, whole_target};
+ghost use Rattle.mg_link.specs.Commands.{as_integer, count_of, documents_in, flag_or, has_only, ignored, is_name_among, one_at, one_in, optional_count, target_by, text_of, whole_target};
 ghost use Rattle.mg_link.specs.Filter.{has_dot};
 ghost use Rattle.mg_link.specs.Namespace.{database, space, target};
 ghost use Rattle.mg_link.specs.State.{is_space};
 ghost use Rattle.mg_link.specs.Rules.{array_at, id_of, ids_in, name_at, named_database, named_space, target_at, watch_space};
 ghost use Rattle.mg_store.specs.Asking.{documents_among, ids_among, is_single, lent_space, lent_target, only_document};
+ghost use Rattle.mg_store.specs.Wanted.{IsEnd, limit_many};
 
-use mg_bson::{RawArray, RawDocument, RawValue};
+use mg_bson::{RawArray, RawDocument, RawItems, RawValue};
 use mg_link::{Namespace, OperationTarget, OutOfMemory};
 use std::alloc::Global;
 
@@ -196,7 +197,7 @@ pub(crate) fn space_at<'a>(command: &RawDocument<'a>, field: &str) -> Option<Len
 }
 
 /// The database of the command.
-fn database_at<'a>(command: &RawDocument<'a>) -> Option<&'a str>
+pub(crate) fn database_at<'a>(command: &RawDocument<'a>) -> Option<&'a str>
     ensures { option_map (λ s. s.now) result ≡ named_database (fields command.now) }
 {
     let db = name_at(command, "$db")?;
@@ -287,6 +288,44 @@ pub(crate) fn array_at<'a>(document: &RawDocument<'a>, field: &str) -> Option<Ra
 {
     let found = document.get(field)?;
     found.as_array()
+}
+
+/// Whether no item is left. One that is left is passed.
+pub(crate) fn is_end(items: &mut RawItems<'_>) -> bool
+    ensures { IsEnd result (items_left items.old) }
+{
+    items.next().is_none()
+}
+
+/// The one document of an array.
+fn one_in<'a>(array: &RawArray<'a>) -> Option<RawDocument<'a>>
+    ensures { option_map fields result ≡ one_in (items array.now) }
+{
+    let mut left = array.iter();
+    let first = left.next()?;
+    if !is_end(&mut left) {
+        return None;
+    }
+    first.as_document()
+}
+
+/// The one document of the array of the field.
+pub(crate) fn one_at<'a>(document: &RawDocument<'a>, field: &str) -> Option<RawDocument<'a>>
+    ensures { option_map fields result ≡ one_at field.now (fields document.now) }
+{
+    let array = array_at(document, field)?;
+    one_in(&array)
+}
+
+/// Whether a limit is for all documents, as 0 is. A limit of 1 is for the first.
+pub(crate) fn many_of(limit: Option<RawValue<'_>>) -> Option<bool>
+    ensures { result ≡ limit_many (option_map value limit.entry) }
+{
+    match count_of(&limit?)? {
+        0 => Some(true),
+        1 => Some(false),
+        _ => None,
+    }
 }
 
 /// The truth value, or the default where there is none.

@@ -5,7 +5,8 @@ ghost use Rattle.mg_bson.specs.Literal.{◌⇒◌⨾◌, empty, word};
 ghost use Rattle.mg_bson.specs.Tree.{array, document, field, int32, string, timestamp};
 ghost use Rattle.mg_bson.specs.View.{tree};
 ghost use Rattle.mg_link.specs.Namespace.{space};
-ghost use Rattle.mg_link.specs.Rules.{cursor_fields, done_reply, errors_field, number_of, refusal, stamp_of, token_fields, token_of, words_of};
+ghost use Rattle.mg_link.specs.Rules.{cursor_fields, done_reply, errors_field, number_of, refusal, stamp_of, token_fields, token_of, updated_reply, words_of};
+ghost use Rattle.mg_link.proofs.Telling.{deleted_reply};
 ghost use Rattle.mg_store.specs.Replies.{Written, killed_with, found_with};
 
 use mg_bson::{Array, Bson, BsonError, Document, RawDocumentBuf, Timestamp, to_bytes};
@@ -199,6 +200,23 @@ pub(crate) fn write_error(alloc: Global, index: i32, code: i32) -> Result<Docume
     let error = with(Document::new(alloc), "index", Bson::Int32(index))?;
     let error = with(error, "code", Bson::Int32(code))?;
     with_text(alloc, error, "errmsg", "refused")
+}
+
+/// The reply to an update: how many documents it was for, and how many it changed.
+pub(crate) fn updated(alloc: Global, n: u64, changed: u64) -> Result<Document, OutOfMemory>
+    ensures { n < 2 ^ 63 → changed < 2 ^ 63 → IfOk result (λ d. d ≡ updated_reply n changed) }
+{
+    let reply = with(Document::new(alloc), "n", count(n))?;
+    let reply = with(reply, "nModified", count(changed))?;
+    with(reply, "ok", Bson::Int32(1))
+}
+
+/// The reply to a delete.
+pub(crate) fn deleted(alloc: Global, n: u64) -> Result<Document, OutOfMemory>
+    ensures { n < 2 ^ 63 → IfOk result (λ d. d ≡ deleted_reply n) }
+{
+    let reply = with(Document::new(alloc), "n", count(n))?;
+    with(reply, "ok", Bson::Int32(1))
 }
 
 /// The reply that tells of success alone.

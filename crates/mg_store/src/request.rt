@@ -3,19 +3,21 @@ ghost use Rattle.mg_store.specs.declared.request.Stop.TheVariants.{Memory};
 ghost use Rattle.std.specs.Prelude.{◌≡◌, IfOk, None, Some, map, option_map, if◌then◌else◌};
 ghost use Rattle.mg_bson.specs.Raw.{fields, items, items_left};
 ghost use Rattle.mg_bson.specs.RawView.{value};
-ghost use Rattle.mg_link.specs.Commands.{as_time, batch_size, start_of};
-ghost use Rattle.mg_link.specs.Rules.{insert_request, kill_request, more_request, request_of, some_size, watch_request, create_request, indexes_request, find_request, aggregate_request, pipeline_request};
+ghost use Rattle.mg_link.specs.Commands.{as_time, batch_size, optional_size, start_of};
+ghost use Rattle.mg_link.specs.Rules.{insert_request, kill_request, more_request, request_of, some_size, watch_request, create_request, indexes_request, find_request, aggregate_request, pipeline_request, drop_request, list_collections_request, list_indexes_request, update_request, delete_request};
 ghost use Rattle.mg_link.specs.State.{after, at_time};
 ghost use Rattle.mg_store.specs.Asking.{held, keyed, lent_target, lent_space};
-ghost use Rattle.mg_store.specs.Wanted.{Asks, IsEnd, OrBadRequest, code_of, conditions_at, filter_behind, lent, lent_opening, lent_stages, lent_start, opening_of, opening_with, stages_at, stages_of, wanted, watch, indexing_of, lent_indexing, find_space, found_of, giving_of, lent_plan, plan_of, pipeline_plan, pipeline_space, piped_of};
+ghost use Rattle.mg_store.specs.Wanted.{Asks, OrBadRequest, code_of, conditions_at, filter_behind, lent, lent_opening, lent_stages, lent_start, opening_of, opening_with, stages_at, stages_of, wanted, watch, indexing_of, lent_indexing, find_space, found_of, giving_of, lent_plan, plan_of, pipeline_plan, pipeline_space, piped_of, collections_listed, indexes_listed, listed_database, listing_plan, update, updating_by, updating_of, lent_updating, deleting_by, deleting_of, lent_deleting};
+ghost use Rattle.mg_store.specs.Modifying.{lent_modification};
 
 use crate::filter::{Condition, conditions_of};
 use crate::index::{Index, indexes_in};
+use crate::modification::{Modification, modification_of};
 use crate::reading::{
-    LentSpace, LentTarget, array_at, count_at, document_at, documents_of, flag_or, has_only, id_at,
-    ids_of, only_document, space_at, target_at,
+    LentSpace, LentTarget, array_at, count_at, database_at, document_at, documents_of, flag_or,
+    has_only, id_at, ids_of, is_end, many_of, one_at, only_document, space_at, target_at,
 };
-use crate::stages::{Stage, find_stages, pipeline_stages};
+use crate::stages::{Stage, find_stages, listing_stages, pipeline_stages};
 use mg_bson::{RawArray, RawDocument, RawItems, RawValue, Timestamp};
 use mg_link::OutOfMemory;
 use std::alloc::{AllocError, AllocFailed, Global};
@@ -33,6 +35,8 @@ pub(crate) enum Refusal {
     NoSuchToken,
     /// The collection to be created is there.
     CollectionExists,
+    /// The collection is not there.
+    NoSuchCollection,
 }
 
 impl Refusal {
@@ -46,6 +50,7 @@ impl Refusal {
             Refusal::NoSuchCursor => 43,
             Refusal::NoSuchToken => 260,
             Refusal::CollectionExists => 48,
+            Refusal::NoSuchCollection => 26,
         }
     }
 }
@@ -151,6 +156,28 @@ pub(crate) enum Request<'a> {
     CreateIndexes {
         space: LentSpace<'a>,
         indexes: Vec<Index>,
+    },
+    Drop {
+        space: LentSpace<'a>,
+    },
+    ListCollections {
+        db: &'a str,
+        plan: Plan,
+    },
+    ListIndexes {
+        space: LentSpace<'a>,
+        batch_size: Option<u64>,
+    },
+    Update {
+        space: LentSpace<'a>,
+        filter: Vec<Condition>,
+        modification: Modification<'a>,
+        many: bool,
+    },
+    Delete {
+        space: LentSpace<'a>,
+        filter: Vec<Condition>,
+        many: bool,
     },
 }
 
@@ -323,13 +350,6 @@ impl Drop for Stages<'_> {
             filter: _,
         } = self;
     }
-}
-
-/// Whether no stage is left. One that is left is passed.
-fn is_end(stages: &mut RawItems<'_>) -> bool
-    ensures { IsEnd result (items_left stages.old) }
-{
-    stages.next().is_none()
 }
 
 /// The filter of the stages that are left: none, or one `$match`.
@@ -615,6 +635,238 @@ fn create_indexes_of<'a>(
     }
 }
 
+#[tactic(auto, unfolding(mg_link::specs::Rules::drop_request))]
+fn drop_of<'a>(command: &RawDocument<'a>) -> Option<Request<'a>>
+    ensures { option_map lent result ≡ option_map wanted (drop_request (fields command.now)) }
+{
+    if !has_only(command, &["drop"]) {
+        return None;
+    }
+    let space = space_at(command, "drop")?;
+    Some(Request::Drop { space })
+}
+
+/// The batch size that the field `cursor` asks for, where it is there.
+fn optional_size(command: &RawDocument<'_>) -> Option<Option<u64>>
+    ensures { result ≡ optional_size (fields command.now) }
+{
+    match command.get("cursor") {
+        Some(_) => batch_size(command),
+        None => Some(None),
+    }
+}
+
+/// The database of a list of collections whose fields are all known.
+fn listed_database<'a>(command: &RawDocument<'a>) -> Option<&'a str>
+    ensures { option_map (λ d. d.now) result ≡ listed_database (fields command.now) }
+{
+    if !has_only(command, &["listCollections", "filter", "cursor"]) {
+        return None;
+    }
+    database_at(command)
+}
+
+/// What a list of collections does.
+fn listing_plan(alloc: Global, command: &RawDocument<'_>) -> Result<Option<Plan>, OutOfMemory>
+    ensures { IfOk result (λ p. option_map lent_plan p ≡ listing_plan (fields command.now)) }
+{
+    let Some(stages) = listing_stages(alloc, command)? else {
+        return Ok(None);
+    };
+    match optional_size(command) {
+        Some(batch_size) => Ok(Some(Plan {
+            stages,
+            single: false,
+            batch_size,
+        })),
+        None => Ok(None),
+    }
+}
+
+fn list_collections_parts<'a>(
+    alloc: Global,
+    command: &RawDocument<'a>,
+) -> Result<Option<Request<'a>>, OutOfMemory>
+    ensures { IfOk result (λ r. option_map lent r ≡ collections_listed (fields command.now)) }
+{
+    let Some(db) = listed_database(command) else {
+        return Ok(None);
+    };
+    match listing_plan(alloc, command)? {
+        Some(plan) => Ok(Some(Request::ListCollections { db, plan })),
+        None => Ok(None),
+    }
+}
+
+fn list_collections_of<'a>(
+    alloc: Global,
+    command: &RawDocument<'a>,
+) -> Result<Option<Request<'a>>, OutOfMemory>
+    ensures { IfOk result (λ r. option_map lent r ≡ option_map wanted (list_collections_request (fields command.now))) }
+{
+    list_collections_parts(alloc, command)
+}
+
+#[tactic(auto, unfolding(crate::specs::Wanted::indexes_listed))]
+fn list_indexes_parts<'a>(command: &RawDocument<'a>) -> Option<Request<'a>>
+    ensures { option_map lent result ≡ indexes_listed (fields command.now) }
+{
+    if !has_only(command, &["listIndexes", "cursor"]) {
+        return None;
+    }
+    let space = space_at(command, "listIndexes")?;
+    let batch_size = optional_size(command)?;
+    Some(Request::ListIndexes { space, batch_size })
+}
+
+fn list_indexes_of<'a>(command: &RawDocument<'a>) -> Option<Request<'a>>
+    ensures { option_map lent result ≡ option_map wanted (list_indexes_request (fields command.now)) }
+{
+    list_indexes_parts(command)
+}
+
+/// What an update asks for but its conditions.
+struct Updating<'a> {
+    space: LentSpace<'a>,
+    filter: RawDocument<'a>,
+    modification: Modification<'a>,
+    many: bool,
+}
+
+// By hand, so that letting one go is one call.
+impl Drop for Updating<'_> {
+    fn drop(self) {
+        let Updating {
+            space: _,
+            filter: _,
+            modification: _,
+            many: _,
+        } = self;
+    }
+}
+
+impl<'a> Updating<'a> {
+    /// The request of the update whose filter has these conditions.
+    fn update_with(self, filter: Vec<Condition>) -> Request<'a>
+        ensures { lent result ≡ update (lent_space self.entry.space) (map held filter.items) (lent_modification self.entry.modification) self.entry.many }
+    {
+        let Updating {
+            space,
+            filter: _,
+            modification,
+            many,
+        } = self;
+        Request::Update {
+            space,
+            filter,
+            modification,
+            many,
+        }
+    }
+}
+
+/// The update of a collection that a document describes.
+#[tactic(auto, unfolding(crate::specs::Wanted::updating_by))]
+fn updating_by<'a>(space: LentSpace<'a>, update: &RawDocument<'a>) -> Option<Updating<'a>>
+    ensures { option_map lent_updating result ≡ updating_by (lent_space space.entry) (fields update.now) }
+{
+    if !has_only(update, &["q", "u", "multi"]) {
+        return None;
+    }
+    let filter = document_at(update, "q")?;
+    let modification = modification_of(document_at(update, "u")?)?;
+    let many = flag_or(false, update.get("multi"))?;
+    Some(Updating {
+        space,
+        filter,
+        modification,
+        many,
+    })
+}
+
+#[tactic(auto, unfolding(crate::specs::Wanted::updating_of))]
+fn updating_of<'a>(command: &RawDocument<'a>) -> Option<Updating<'a>>
+    ensures { option_map lent_updating result ≡ updating_of (fields command.now) }
+{
+    if !has_only(command, &["update", "updates", "ordered"]) {
+        return None;
+    }
+    let space = space_at(command, "update")?;
+    let update = one_at(command, "updates")?;
+    updating_by(space, &update)
+}
+
+fn update_of<'a>(
+    alloc: Global,
+    command: &RawDocument<'a>,
+) -> Result<Option<Request<'a>>, OutOfMemory>
+    ensures { IfOk result (λ r. option_map lent r ≡ option_map wanted (update_request (fields command.now))) }
+{
+    let Some(updating) = updating_of(command) else {
+        return Ok(None);
+    };
+    match conditions_of(alloc, &updating.filter)? {
+        Some(filter) => Ok(Some(updating.update_with(filter))),
+        None => Ok(None),
+    }
+}
+
+/// What a delete asks for but its conditions.
+#[derive(Drop)]
+struct Deleting<'a> {
+    space: LentSpace<'a>,
+    filter: RawDocument<'a>,
+    many: bool,
+}
+
+/// The delete from a collection that a document describes.
+#[tactic(auto, unfolding(crate::specs::Wanted::deleting_by))]
+fn deleting_by<'a>(space: LentSpace<'a>, delete: &RawDocument<'a>) -> Option<Deleting<'a>>
+    ensures { option_map lent_deleting result ≡ deleting_by (lent_space space.entry) (fields delete.now) }
+{
+    if !has_only(delete, &["q", "limit"]) {
+        return None;
+    }
+    let filter = document_at(delete, "q")?;
+    let many = many_of(delete.get("limit"))?;
+    Some(Deleting {
+        space,
+        filter,
+        many,
+    })
+}
+
+#[tactic(auto, unfolding(crate::specs::Wanted::deleting_of))]
+fn deleting_of<'a>(command: &RawDocument<'a>) -> Option<Deleting<'a>>
+    ensures { option_map lent_deleting result ≡ deleting_of (fields command.now) }
+{
+    if !has_only(command, &["delete", "deletes", "ordered"]) {
+        return None;
+    }
+    let space = space_at(command, "delete")?;
+    let delete = one_at(command, "deletes")?;
+    deleting_by(space, &delete)
+}
+
+fn delete_of<'a>(
+    alloc: Global,
+    command: &RawDocument<'a>,
+) -> Result<Option<Request<'a>>, OutOfMemory>
+    ensures { IfOk result (λ r. option_map lent r ≡ option_map wanted (delete_request (fields command.now))) }
+{
+    let Some(deleting) = deleting_of(command) else {
+        return Ok(None);
+    };
+    match conditions_of(alloc, &deleting.filter)? {
+        Some(filter) => Ok(Some(Request::Delete {
+            space: deleting.space,
+            filter,
+            many: deleting.many,
+        })),
+        None => Ok(None),
+    }
+}
+
 fn or_bad_request<'a>(request: Option<Request<'a>>) -> Result<Request<'a>, Stop>
     ensures { OrBadRequest result request.entry }
 {
@@ -646,6 +898,16 @@ pub(crate) fn request_of<'a>(alloc: Global, command: &RawDocument<'a>) -> Result
         or_bad_request(create_of(command))
     } else if name == "createIndexes" {
         or_bad_request(create_indexes_of(alloc, command)?)
+    } else if name == "drop" {
+        or_bad_request(drop_of(command))
+    } else if name == "listCollections" {
+        or_bad_request(list_collections_of(alloc, command)?)
+    } else if name == "listIndexes" {
+        or_bad_request(list_indexes_of(command))
+    } else if name == "update" {
+        or_bad_request(update_of(alloc, command)?)
+    } else if name == "delete" {
+        or_bad_request(delete_of(alloc, command)?)
     } else {
         Err(Stop::Refused(Refusal::UnknownCommand))
     }

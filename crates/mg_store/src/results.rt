@@ -6,8 +6,10 @@ ghost use Rattle.mg_bson.specs.Raw.{fields};
 ghost use Rattle.mg_bson.specs.RawView.{value};
 ghost use Rattle.mg_link.specs.Query.{id_alone};
 ghost use Rattle.mg_store.specs.Asking.{held, matches_keys};
+ghost use Rattle.mg_store.specs.Inserting.{stored, there};
 ghost use Rattle.mg_store.specs.Querying.{Results, all_done, done, held_key, held_stage, sorts};
 
+use crate::collection::Collection;
 use crate::filter::{Condition, matches};
 use crate::reply::with;
 use crate::request::{Refusal, Stop};
@@ -63,7 +65,7 @@ fn front(documents: &[RawDocumentBuf], n: u64) -> &[RawDocumentBuf]
 }
 
 /// The bytes of a part of a document, which can always be encoded.
-fn encoded(alloc: Global, document: &Document) -> Result<RawDocumentBuf, OutOfMemory>
+pub(crate) fn encoded(alloc: Global, document: &Document) -> Result<RawDocumentBuf, OutOfMemory>
     ensures { IfOk result (λ r. fields r ≡ document.now) }
 {
     match to_bytes(alloc, document) {
@@ -163,7 +165,7 @@ fn staged(
 }
 
 /// What the stages make of documents that were found so far.
-fn further(
+pub(crate) fn further(
     alloc: Global,
     stages: &[Stage],
     found: Vec<RawDocumentBuf>,
@@ -177,16 +179,58 @@ fn further(
     Ok(found)
 }
 
-/// What the stages make of the documents, one after another.
+/// Copies of the documents of a collection.
+fn all(alloc: Global, collection: &Collection) -> Result<Vec<RawDocumentBuf>, OutOfMemory>
+    ensures { IfOk result (λ r. map fields r.items ≡ stored collection.now) }
+{
+    let mut copies = Vec::new(alloc);
+    for document in collection.documents.values() {
+        copies.push(copy(alloc, &document.as_raw())?)?;
+    }
+    Ok(copies)
+}
+
+/// Copies of those documents of a collection that meet each condition.
+fn tried(
+    alloc: Global,
+    conditions: &Vec<Condition>,
+    collection: &Collection,
+) -> Result<Vec<RawDocumentBuf>, OutOfMemory>
+    ensures { IfOk result (λ r. map fields r.items ≡ filter (matches_keys (map held conditions.now.items)) (stored collection.now)) }
+{
+    let mut selected = Vec::new(alloc);
+    for document in collection.documents.values() {
+        let document = document.as_raw();
+        if matches(alloc, conditions, &document)? {
+            selected.push(copy(alloc, &document)?)?;
+        }
+    }
+    Ok(selected)
+}
+
+/// What the first stage makes of the documents of a collection. A selection copies no others.
+fn begun(alloc: Global, stage: &Stage, collection: &Collection) -> Result<Vec<RawDocumentBuf>, Stop>
+    ensures { Results result (done (held_stage stage.now) (stored collection.now)) }
+{
+    match stage {
+        Stage::Select(conditions) => Ok(tried(alloc, conditions, collection)?),
+        _ => staged(alloc, stage, all(alloc, collection)?.as_slice()),
+    }
+}
+
+/// What the stages make of the documents of a collection, one after another.
 pub(crate) fn through(
     alloc: Global,
     stages: &[Stage],
-    documents: &[RawDocumentBuf],
+    collection: Option<&Collection>,
 ) -> Result<Vec<RawDocumentBuf>, Stop>
-    ensures { Results result (all_done (map held_stage stages.now) (map fields documents.now)) }
+    ensures { Results result (all_done (map held_stage stages.now) (there collection.entry)) }
 {
+    let Some(collection) = collection else {
+        return further(alloc, stages, Vec::new(alloc));
+    };
     match stages {
-        [] => Ok(copies(alloc, documents)?),
-        [first, rest @ ..] => further(alloc, rest, staged(alloc, first, documents)?),
+        [] => Ok(all(alloc, collection)?),
+        [first, rest @ ..] => further(alloc, rest, begun(alloc, first, collection)?),
     }
 }

@@ -1,6 +1,6 @@
 //! What a query does with the documents of its source, as a command asks for it.
-ghost use Rattle.std.specs.Prelude.{◌≡◌, IfOk, map, option_and_then, option_map};
-ghost use Rattle.mg_bson.specs.Find.{as_document};
+ghost use Rattle.std.specs.Prelude.{◌≡◌, IfOk, codes, map, option_and_then, option_map};
+ghost use Rattle.mg_bson.specs.Find.{as_document, get};
 ghost use Rattle.mg_bson.specs.Raw.{fields, items};
 ghost use Rattle.mg_bson.specs.RawView.{value};
 ghost use Rattle.mg_link.specs.Commands.{find_stages, keys_of, limiting, projection_of, rising_by, selecting, showing, showing_by, skipping, sorting, stage_by, stage_of, stages_by};
@@ -289,4 +289,15 @@ pub(crate) fn find_stages(
     let stages = with_optional(alloc, stages, "$skip", command.get("skip"))?;
     let stages = with_optional(alloc, stages, "$limit", command.get("limit"))?;
     with_optional(alloc, stages, "$project", command.get("projection"))
+}
+
+/// What a list of collections does: its filter, where it has one.
+pub(crate) fn listing_stages(
+    alloc: Global,
+    command: &RawDocument<'_>,
+) -> Result<Option<Vec<Stage>>, OutOfMemory>
+    ensures { IfOk result (λ r. held_stages r ≡ option_map (map doing) (stages_by selecting (get (codes "filter") (fields command.now)))) }
+{
+    let stages = Some(Vec::new(alloc));
+    with_optional(alloc, stages, "$match", command.get("filter"))
 }

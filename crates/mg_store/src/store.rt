@@ -112,12 +112,12 @@ impl Store {
     }
 
     /// The documents of a collection, in the order of their inserts; none where the collection is not there.
-    pub fn documents(&self, ns: &Namespace) -> &[RawDocumentBuf]
-        ensures { map fields result.now ≡ documents_of (state_of_kept self.now.history) (space ns.now) }
+    pub fn documents(&self, ns: &Namespace) -> Result<Vec<&RawDocumentBuf>, OutOfMemory>
+        ensures { IfOk result (λ ds. map (λ d. fields d.now) ds.items ≡ documents_of (state_of_kept self.now.history) (space ns.now)) }
     {
         match self.content.collections.get(ns) {
-            Some(collection) => collection.documents.as_slice(),
-            None => &[],
+            Some(collection) => collection.lent(self.alloc),
+            None => Ok(Vec::new(self.alloc)),
         }
     }
 

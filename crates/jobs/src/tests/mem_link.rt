@@ -125,7 +125,7 @@ fn each_command_meets_its_fate(rt: HostRuntime) -> Result<(), Fail> {
     for (id, pends, came, position, documents) in COMMANDS {
         let found = sent(alloc, &mut link, id)?;
         assert_eq!(rt; found, Some((pends, came)));
-        let stands = (last_position(&link), link.store().documents(&ns).len());
+        let stands = (last_position(&link), link.store().documents(&ns)?.len());
         assert_eq!(rt; stands, (position, documents));
     }
     assert_eq!(rt; link.store().history().len(), 5);

@@ -107,12 +107,17 @@ fn answer_to(alloc: Global, store: &mut Store, command: Vec<u8>) -> Result<Strin
     Ok(hex::encode(alloc, receipt.reply.as_bytes())?)
 }
 
-fn has_open(store: &Store, ids: &[i64]) -> Result<bool, OutOfMemory> {
+pub(super) fn has_open(store: &Store, ids: &[i64]) -> Result<bool, OutOfMemory> {
     let open = store.open_cursors()?;
     Ok(open.as_slice() == ids)
 }
 
-fn answers(rt: &impl Abort, alloc: Global, store: &mut Store, steps: &str) -> Result<(), Fail> {
+pub(super) fn answers(
+    rt: &impl Abort,
+    alloc: Global,
+    store: &mut Store,
+    steps: &str,
+) -> Result<(), Fail> {
     for line in steps.lines() {
         let (about, bytes) = parted(line);
         let (command, reply) = parted(bytes);

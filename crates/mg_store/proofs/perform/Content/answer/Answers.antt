@@ -12,8 +12,8 @@ use Rattle.mg_store.proofs.Settling.{refused_ok}
 use Rattle.mg_store.proofs.perform.Content.answer.Goals as goal
 
 pub returns-in-Err-Refused : goal.returns-in-Err-Refused
-returns-in-Err-Refused c s given h =
-    let known = subst (λ (e : Stop). AnswersOr s given c.args.command.now (Err e)) c.in-Err-Refused.field-0-is (c.in-Err-Refused.ensures s given h) in
+returns-in-Err-Refused c s given h order =
+    let known = subst (λ (e : Stop). AnswersOr s given c.args.command.now (Err e)) c.in-Err-Refused.field-0-is (c.in-Err-Refused.ensures s given h order) in
     let fits : SFits w32 c.code.result = search rules in
     let back : to_z w32 (of_z w32 c.code.result) ≡ c.code.result = to_z-of_z w32 c.code.result fits in
     refused_ok s given c.args.command.now (code_of c.in-Err-Refused.refusal) c.refused.result known.0 known.1 (subst (λ code. IfOk c.refused.result (Replies (refusal code []) effects.Nothing)) (back ∙ c.code.ensures) c.refused.ensures)

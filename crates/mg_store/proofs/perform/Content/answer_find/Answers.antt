@@ -2,13 +2,15 @@ use Rattle.std.proofs.Common.{refl, map, ap, ◌∙◌}
 use Rattle.std.proofs.lemmas.Result.{err_from_is_err_and}
 use Rattle.mg_link.specs.Namespace.{space}
 use Rattle.mg_store.proofs.Finding.{collection_found, find_stops}
+use Rattle.mg_store.proofs.Holdings.{there_is}
+use Rattle.mg_store.proofs.Maps.{found_at}
 use Rattle.mg_store.proofs.perform.Content.answer_find.Goals as goal
 
 pub returns-in_err-documents : goal.returns-in_err-documents
 returns-in_err-documents c s given stages h same =
     let p = err_from_is_err_and c.from_residual.result c.from_residual.ensures.1 in
-    rw (p.1, p.2) (find_stops s given (space c.args.ns) stages c.args.plan.now.single c.args.plan.now.batch_size _ _ _ (ap (map _) c.as_slice.ensures.value ∙ same) (c.documents_of.ensures s given h) c.in_err-documents.ensures)
+    rw (p.1, p.2) (find_stops s given (space c.args.ns) stages c.args.plan.now.single c.args.plan.now.batch_size _ _ _ (ap (map _) c.as_slice.ensures.value ∙ same) (there_is c.args.self.now s given (space c.args.ns) c.get.result h (c.get.ensures.value ∙ found_at c.args.ns c.args.self.now.collections)) c.in_err-documents.ensures)
 
 pub returns : goal.returns
 returns c s given stages h same =
-    c.answer_found.ensures s given _ h refl (collection_found s (space c.args.ns) stages c.args.plan.now.single c.args.plan.now.batch_size _ _ _ (ap (map _) c.as_slice.ensures.value ∙ same) (c.documents_of.ensures s given h) c.in_ok-documents.ensures) refl refl
+    c.answer_found.ensures s given _ h refl (collection_found s (space c.args.ns) stages c.args.plan.now.single c.args.plan.now.batch_size _ _ _ (ap (map _) c.as_slice.ensures.value ∙ same) (there_is c.args.self.now s given (space c.args.ns) c.get.result h (c.get.ensures.value ∙ found_at c.args.ns c.args.self.now.collections)) c.in_ok-documents.ensures) refl refl

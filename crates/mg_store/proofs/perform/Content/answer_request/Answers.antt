@@ -5,51 +5,78 @@ use Rattle.std.proofs.lemmas.Result.{err_from_is_err_and}
 use Rattle.mg_bson.specs.Raw.{items}
 use Rattle.mg_link.specs.Namespace.{space}
 use Rattle.mg_store.specs.Asking.{documents_among, held, ids_among, lent_space, lent_target}
+use Rattle.mg_link.specs.Query.{of_database}
 use Rattle.mg_link.specs.Rules.{more}
 use Rattle.mg_store.specs.Indexing.{index_held}
 use Rattle.mg_store.specs.Contents.{Settles}
 use Rattle.mg_store.specs.Wanted.{lent, lent_start}
-use Rattle.mg_store.proofs.Requesting.{insert_answers, kill_answers, more_answers, stops_answer, watch_answers, create_answers, indexes_answer, find_answers}
+use Rattle.mg_store.proofs.Requesting.{insert_answers, kill_answers, more_answers, stops_answer, watch_answers, create_answers, indexes_answer, find_answers, drop_answers, list_answers, indexes_list_answers, update_answers, delete_answers}
 use Rattle.mg_store.specs.Querying.{held_stage}
+use Rattle.mg_store.specs.Modifying.{lent_modification}
 use Rattle.mg_store.proofs.perform.Content.answer_request.Goals as goal
 
 pub returns-in_err-space : goal.returns-in_err-space
-returns-in_err-space c s given h =
+returns-in_err-space c s given h order =
     let p = err_from_is_err_and c.from_residual.result c.from_residual.ensures.1 in
     rw (p.1, p.2) (stops_answer s given c.args.command.now _ c.in_err-space.ensures)
 
 pub returns-in_ok-namespace-in-Insert : goal.returns-in_ok-namespace-in-Insert
-returns-in_ok-namespace-in-Insert c s given h =
+returns-in_ok-namespace-in-Insert c s given h order =
     insert_answers s given c.args.command.now (lent_space c.in-Insert.space) (space c.in_ok-namespace-in-Insert.field-0) (documents_among (items c.in-Insert.documents)) c.in-Insert.ordered c.answer_insert.result
     (c.in_ok-space.ensures ∙ ap (λ r. Ok (lent r)) c.in-Insert.is) c.in_ok-namespace-in-Insert.ensures (c.answer_insert.ensures s given h)
 
 pub returns-in_ok-target-in-Watch : goal.returns-in_ok-target-in-Watch
-returns-in_ok-target-in-Watch c s given h =
+returns-in_ok-target-in-Watch c s given h order =
     watch_answers s given c.args.command.now (lent_target c.in-Watch.aimed) (map held c.in-Watch.filter.items) (lent_start c.in-Watch.start) c.in-Watch.resumes c.in-Watch.batch_size c.answer_watch.result
     (c.in_ok-space.ensures ∙ ap (λ r. Ok (lent r)) c.in-Watch.is) (λ w at keys. c.answer_watch.ensures s given w h (record { target_is = at ∙ sym c.in_ok-target-in-Watch.ensures; filter_is = keys }))
 
 pub returns-in_ok-namespace-in-GetMore : goal.returns-in_ok-namespace-in-GetMore
-returns-in_ok-namespace-in-GetMore c s given h =
+returns-in_ok-namespace-in-GetMore c s given h order =
     let fits : SFits w64 c.in-GetMore.id = search rules in
     let back : to_z w64 (of_z w64 c.in-GetMore.id) ≡ c.in-GetMore.id = to_z-of_z w64 c.in-GetMore.id fits in
     more_answers s given c.args.command.now c.in-GetMore.id (lent_space c.in-GetMore.space) (space c.in_ok-namespace-in-GetMore.field-0) c.in-GetMore.batch_size c.answer_get_more.result
     (c.in_ok-space.ensures ∙ ap (λ r. Ok (lent r)) c.in-GetMore.is) c.in_ok-namespace-in-GetMore.ensures (subst (λ (x : ℤ). Settles s given (more x (space c.in_ok-namespace-in-GetMore.field-0) c.in-GetMore.batch_size) c.answer_get_more.result) back (c.answer_get_more.ensures s given h))
 
 pub returns-in-KillCursors : goal.returns-in-KillCursors
-returns-in-KillCursors c s given h =
+returns-in-KillCursors c s given h order =
     kill_answers s given c.args.command.now (ids_among (items c.in-KillCursors.ids)) c.answer_kill.result (c.in_ok-space.ensures ∙ ap (λ r. Ok (lent r)) c.in-KillCursors.is) (c.answer_kill.ensures s given h)
 
 pub returns-in_ok-namespace-in-Find : goal.returns-in_ok-namespace-in-Find
-returns-in_ok-namespace-in-Find c s given h =
+returns-in_ok-namespace-in-Find c s given h order =
     find_answers s given c.args.command.now (lent_space c.in-Find.space) (space c.in_ok-namespace-in-Find.field-0) (map held_stage c.in-Find.plan.stages.items) c.in-Find.plan.single c.in-Find.plan.batch_size c.answer_find.result
     (c.in_ok-space.ensures ∙ ap (λ r. Ok (lent r)) c.in-Find.is) c.in_ok-namespace-in-Find.ensures (λ stages same. c.answer_find.ensures s given stages h same)
 
 pub returns-in_ok-namespace-in-Create : goal.returns-in_ok-namespace-in-Create
-returns-in_ok-namespace-in-Create c s given h =
+returns-in_ok-namespace-in-Create c s given h order =
     create_answers s given c.args.command.now (lent_space c.in-Create.space) (space c.in_ok-namespace-in-Create.field-0) c.answer_create.result
     (c.in_ok-space.ensures ∙ ap (λ r. Ok (lent r)) c.in-Create.is) c.in_ok-namespace-in-Create.ensures (c.answer_create.ensures s given h)
 
 pub returns-in_ok-namespace-in-CreateIndexes : goal.returns-in_ok-namespace-in-CreateIndexes
-returns-in_ok-namespace-in-CreateIndexes c s given h =
+returns-in_ok-namespace-in-CreateIndexes c s given h order =
     indexes_answer s given c.args.command.now (lent_space c.in-CreateIndexes.space) (space c.in_ok-namespace-in-CreateIndexes.field-0) (map index_held c.in-CreateIndexes.indexes.items) c.answer_create_indexes.result
     (c.in_ok-space.ensures ∙ ap (λ r. Ok (lent r)) c.in-CreateIndexes.is) c.in_ok-namespace-in-CreateIndexes.ensures (c.answer_create_indexes.ensures s given h)
+
+pub returns-in_ok-namespace-in-Drop : goal.returns-in_ok-namespace-in-Drop
+returns-in_ok-namespace-in-Drop c s given h order =
+    drop_answers s given c.args.command.now (lent_space c.in-Drop.space) (space c.in_ok-namespace-in-Drop.field-0) c.answer_drop.result
+    (c.in_ok-space.ensures ∙ ap (λ r. Ok (lent r)) c.in-Drop.is) c.in_ok-namespace-in-Drop.ensures (c.answer_drop.ensures s given h)
+
+pub returns-in-ListCollections : goal.returns-in-ListCollections
+returns-in-ListCollections c s given h order =
+    list_answers s given c.args.command.now (of_database c.in-ListCollections.db.now) (map held_stage c.in-ListCollections.plan.stages.items) c.in-ListCollections.plan.single c.in-ListCollections.plan.batch_size c.answer_list_collections.result
+    (c.in_ok-space.ensures ∙ ap (λ r. Ok (lent r)) c.in-ListCollections.is) (λ stages same. c.answer_list_collections.ensures s given stages h order same)
+
+pub returns-in_ok-namespace-in-ListIndexes : goal.returns-in_ok-namespace-in-ListIndexes
+returns-in_ok-namespace-in-ListIndexes c s given h order =
+    indexes_list_answers s given c.args.command.now (lent_space c.in-ListIndexes.space) (space c.in_ok-namespace-in-ListIndexes.field-0) c.in-ListIndexes.batch_size c.answer_list_indexes.result
+    (c.in_ok-space.ensures ∙ ap (λ r. Ok (lent r)) c.in-ListIndexes.is) c.in_ok-namespace-in-ListIndexes.ensures (c.answer_list_indexes.ensures s given h)
+
+pub returns-in_ok-ns-in-Update : goal.returns-in_ok-ns-in-Update
+returns-in_ok-ns-in-Update c s given h order =
+    update_answers s given c.args.command.now (lent_space c.in-Update.space) (space c.in_ok-ns-in-Update.ns) (map held c.in-Update.filter.items) (lent_modification c.in-Update.modification) c.in-Update.many c.answer_update.result
+    (c.in_ok-space.ensures ∙ ap (λ r. Ok (lent r)) c.in-Update.is) c.in_ok-ns-in-Update.ensures (λ cs keys keeps. c.answer_update.ensures s given cs h keys keeps)
+
+pub returns-in_ok-namespace-in-Delete : goal.returns-in_ok-namespace-in-Delete
+returns-in_ok-namespace-in-Delete c s given h order =
+    delete_answers s given c.args.command.now (lent_space c.in-Delete.space) (space c.in_ok-namespace-in-Delete.field-0) (map held c.in-Delete.filter.items) c.in-Delete.many c.answer_delete.result
+    (c.in_ok-space.ensures ∙ ap (λ r. Ok (lent r)) c.in-Delete.is) c.in_ok-namespace-in-Delete.ensures (λ cs keys. c.answer_delete.ensures s given cs h keys)

@@ -1,13 +1,14 @@
 use Rattle.std.proofs.Common.{◌≡◌, [], Option, Some, None, List, option_map, refl, sym, ap, ◌∙◌, subst}
 use Rattle.std.specs.Prelude.{if◌then◌else◌, unwrap_or}
+use Rattle.std.proofs.lemmas.Result.{err_from_is_err_and}
 use Rattle.mg_bson.specs.Tree.{Fields}
 use Rattle.mg_link.specs.Namespace.{space}
 use Rattle.mg_link.specs.State.{is_space}
 use Rattle.mg_link.specs.Step.{documents_of}
 use Rattle.mg_store.specs.Contents.{collection_at}
 use Rattle.mg_store.specs.Inserting.{KeepsIds, stored}
-use Rattle.mg_store.specs.declared.insert.Collection.{Collection}
-use Rattle.mg_store.proofs.Committing.{does_index, some_of}
+use Rattle.mg_store.specs.declared.collection.Collection.{Collection}
+use Rattle.mg_store.proofs.Committing.{does_index, nothing_done, some_of}
 use Rattle.mg_store.proofs.Maps.{collections_update, found_at}
 use Rattle.mg_store.proofs.perform.Content.index.Goals as goal
 
@@ -24,6 +25,11 @@ returns-in-Some-clause-ok c s given s' given' h leads =
     (collections_update c.args.ns w c.args.self.now.collections (c.get_mut.follows.lender w) updates)
     (ap stored is ∙ sym there) (ap (λ (x : Collection). x.indexes) is)
     (subst KeepsIds (sym is) (h.ids_are (space c.args.ns) old found)) refl refl refl
+
+pub returns-in_err-insert-in-None-clause-err : goal.returns-in_err-insert-in-None-clause-err
+returns-in_err-insert-in-None-clause-err c =
+    let p = err_from_is_err_and c.from_residual.result c.from_residual.ensures.1 in
+    rw p.1 (λ s given s' given' h leads. nothing_done c.args.self.now _ s given h (c.in_err-insert-in-None.ensures.err ∙ ap (λ m. m.entries) c.get_mut.follows.holds-at-none) refl refl refl)
 
 pub returns-in_ok-insert-in-None-clause-ok : goal.returns-in_ok-insert-in-None-clause-ok
 returns-in_ok-insert-in-None-clause-ok c s given s' given' h leads =

@@ -1,8 +1,10 @@
-use Rattle.std.proofs.Common.{refl, subst, rules, w64}
+use Rattle.std.proofs.Common.{ℕ, Result, Ok, Err, OnErr, refl, subst, rules, w64}
 use mir.Val.{SFits}
 use Rattle.std.proofs.lemmas.Int.{to_z-of_z}
-use Rattle.mg_store.specs.Contents.{Leads}
+use Rattle.mg_link.specs.State.{State}
+use Rattle.mg_store.specs.Contents.{Leads, Represents}
 use Rattle.mg_store.specs.declared.cursor.Cursor as code
+use Rattle.mg_store.specs.declared.perform.Content.{Content}
 use Rattle.mg_store.specs.declared.perform.Effect.{Effect}
 use Rattle.mg_store.proofs.Committing.{does_kill, does_take, some_of}
 use Rattle.mg_store.proofs.perform.Effect.commit.Goals as goal
@@ -33,3 +35,26 @@ returns-in-Indexes-clause-ok c = rw c.in-Indexes.is c.index.ensures.ok
 
 pub returns-in-Indexes-clause-err : goal.returns-in-Indexes-clause-err
 returns-in-Indexes-clause-err c = rw c.in-Indexes.is c.index.ensures.err
+
+pub returns-in-Drop-clause-ok : goal.returns-in-Drop-clause-ok
+returns-in-Drop-clause-ok c = rw c.in-Drop.is c.take_out.ensures.ok
+
+pub returns-in-Drop-clause-err : goal.returns-in-Drop-clause-err
+returns-in-Drop-clause-err c = rw c.in-Drop.is c.take_out.ensures.err
+
+pub returns-in-Change-clause-ok : goal.returns-in-Change-clause-ok
+returns-in-Change-clause-ok c = rw c.in-Change.is c.change.ensures.ok
+
+pub returns-in-Remove-clause-ok : goal.returns-in-Remove-clause-ok
+returns-in-Remove-clause-ok c = rw c.in-Remove.is c.remove.ensures.ok
+
+still : {A E : Type 0} (x : Result A E) (c c' : Content) (e : Effect) → OnErr x ((s : State) (given : ℕ) → Represents c s given → Represents c' s given)
+    → OnErr x ((s : State) (given : ℕ) (s' : State) (given' : ℕ) → Represents c s given → Leads e s given s' given' → Represents c' s given)
+still (Ok y) c c' e h = tt
+still (Err y) c c' e h = λ s given s' given' r l. h s given r
+
+pub returns-in-Change-clause-err : goal.returns-in-Change-clause-err
+returns-in-Change-clause-err c = still c.change.result c.args.content.now c.change.new.self c.args.self c.change.ensures.err
+
+pub returns-in-Remove-clause-err : goal.returns-in-Remove-clause-err
+returns-in-Remove-clause-err c = still c.remove.result c.args.content.now c.remove.new.self c.args.self c.remove.ensures.err

@@ -1,4 +1,5 @@
 use Rattle.std.proofs.Common.{None, Some, map, ap, ◌∙◌}
+use Rattle.std.proofs.lemmas.Result.{IfOk-weaker}
 use Rattle.mg_bson.specs.Raw.{fields}
 use Rattle.mg_link.specs.Namespace.{space}
 use Rattle.mg_link.specs.Step.{documents_of}
@@ -10,11 +11,14 @@ use Rattle.mg_store.proofs.store.Store.documents.Goals as goal
 
 pub returns-in-Some : goal.returns-in-Some
 returns-in-Some c =
-    ap (map fields) c.as_slice.ensures.value
+    IfOk-weaker c.lent.result _ _
+    (λ ds e. e
     ∙ documents_shown c.self.inside.content (steps_of c.self.inside.history.items) (space c.args.ns.now) (Some c.in-Some.collection.now) c.self.invariant (c.in-Some.ensures.value ∙ found_at c.args.ns.now c.self.inside.content.collections)
-    ∙ ap (λ (s : Stored). documents_of (state_of_kept s.history) (space c.args.ns.now)) c.self.view_is
+    ∙ ap (λ (s : Stored). documents_of (state_of_kept s.history) (space c.args.ns.now)) c.self.view_is)
+    c.lent.ensures
 
 pub returns-in-None : goal.returns-in-None
 returns-in-None c =
-    documents_shown c.self.inside.content (steps_of c.self.inside.history.items) (space c.args.ns.now) None c.self.invariant (c.in-None.ensures.value ∙ found_at c.args.ns.now c.self.inside.content.collections)
+    ap (map _) c.new.ensures.items
+    ∙ documents_shown c.self.inside.content (steps_of c.self.inside.history.items) (space c.args.ns.now) None c.self.invariant (c.in-None.ensures.value ∙ found_at c.args.ns.now c.self.inside.content.collections)
     ∙ ap (λ (s : Stored). documents_of (state_of_kept s.history) (space c.args.ns.now)) c.self.view_is

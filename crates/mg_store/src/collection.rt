@@ -1,0 +1,183 @@
+//! The documents of a collection, by their numbers and by their ids.
+ghost use Rattle.std.specs.Prelude.{◌≡◌, ◌++◌, [], false, map, nat_lt, IfOk, OnOk, OnErr};
+ghost use Rattle.std.specs.List.{filter};
+ghost use Rattle.mg_bson.specs.Raw.{fields};
+ghost use Rattle.mg_store.specs.Collecting.{with_document, without_document};
+ghost use Rattle.mg_store.specs.Inserting.{AreNew, Grows, GrowsBySome, IsKeyed, KeepsAll, KeepsIds, Pushes, document_of, holds_id, stored};
+
+use crate::index::Index;
+use mg_bson::RawDocumentBuf;
+use mg_link::OutOfMemory;
+use std::alloc::Global;
+use std::collections::BTreeMap;
+
+/// A document, and the encoding of its `_id`.
+pub(crate) struct KeyedDocument {
+    pub(crate) key: Vec<u8>,
+    pub(crate) document: RawDocumentBuf,
+}
+
+// By hand, so that letting one go is one call.
+impl Drop for KeyedDocument {
+    fn drop(self) {
+        let KeyedDocument {
+            key: _,
+            document: _,
+        } = self;
+    }
+}
+
+impl KeyedDocument {
+    pub(crate) fn into_parts(self) -> (Vec<u8>, RawDocumentBuf)
+        ensures key { result.0 ≡ self.key }
+        ensures document { result.1 ≡ self.document }
+    {
+        let KeyedDocument { key, document } = self;
+        (key, document)
+    }
+}
+
+/// The documents of a collection, and the indexes beside that of `_id`.
+pub(crate) struct Collection {
+    /// The documents by their numbers, in the order in which they came. No number is given twice.
+    pub(crate) documents: BTreeMap<u64, RawDocumentBuf>,
+    /// The number of each by the encoding of its `_id`.
+    pub(crate) ids: BTreeMap<Vec<u8>, u64>,
+    /// The number of the next document.
+    next: u64,
+    pub(crate) indexes: Vec<Index>,
+}
+
+// By hand, so that letting one go is one call.
+impl Drop for Collection {
+    fn drop(self) {
+        let Collection {
+            documents: _,
+            ids: _,
+            next: _,
+            indexes: _,
+        } = self;
+    }
+}
+
+impl Collection {
+    pub(crate) fn new(alloc: Global) -> Collection
+        ensures none { stored result ≡ [] }
+        ensures ids { KeepsIds result }
+        ensures no_indexes { result.indexes.items ≡ [] }
+    {
+        Collection {
+            documents: BTreeMap::new(alloc),
+            ids: BTreeMap::new(alloc),
+            next: 0,
+            indexes: Vec::new(alloc),
+        }
+    }
+
+    /// The documents, in the order in which they came.
+    pub(crate) fn lent(&self, alloc: Global) -> Result<Vec<&RawDocumentBuf>, OutOfMemory>
+        ensures { IfOk result (λ ds. map (λ d. fields d.now) ds.items ≡ stored self.now) }
+    {
+        let mut lent = Vec::new(alloc);
+        for document in self.documents.values() {
+            lent.push(document)?;
+        }
+        Ok(lent)
+    }
+
+    /// Puts a document behind the others, none of which has its `_id`. An error changes nothing. More than can be
+    /// numbered are want of memory.
+    fn push(&mut self, key: Vec<u8>, document: RawDocumentBuf) -> Result<(), OutOfMemory>
+        ensures ok { OnOk result (KeepsIds self.old → IsKeyed key.items (fields document) → holds_id key.items (stored self.old) ≡ false → Pushes document self.old self.new) }
+        ensures err { OnErr result (KeepsIds self.old → KeepsAll self.old self.new) }
+        ensures indexes { self.new.indexes ≡ self.old.indexes }
+    {
+        let number = self.next;
+        let Some(next) = number.checked_add(1) else {
+            return Err(OutOfMemory);
+        };
+        self.documents.insert(number, document)?;
+        match self.ids.insert(key, number) {
+            Ok(_) => {}
+            Err(_) => {
+                let _document = self.documents.remove(&number);
+                return Err(OutOfMemory);
+            }
+        }
+        self.next = next;
+        Ok(())
+    }
+
+    /// Puts documents behind the others, as far as memory is there.
+    fn push_all(&mut self, documents: Vec<KeyedDocument>) -> Result<(), OutOfMemory>
+        ensures ok { OnOk result (KeepsIds self.old → AreNew (stored self.old) documents.items → Grows (map document_of documents.items) self.old self.new) }
+        ensures err { OnErr result (KeepsIds self.old → AreNew (stored self.old) documents.items → GrowsBySome self.old self.new) }
+        ensures indexes { self.new.indexes ≡ self.old.indexes }
+    {
+        for keyed in documents {
+            let (key, document) = keyed.into_parts();
+            self.push(key, document)?;
+        }
+        Ok(())
+    }
+
+    /// Leaves the documents with numbers below this one.
+    fn truncate(&mut self, number: u64)
+        ensures ids { KeepsIds self.old → KeepsIds self.new }
+        ensures documents { self.new.documents.entries ≡ filter (λ e. nat_lt e.0 number) self.old.documents.entries }
+        ensures indexes { self.new.indexes ≡ self.old.indexes }
+    {
+        self.ids.retain(|_, given| *given < number);
+        self.documents.retain(|given, _| *given < number);
+    }
+
+    /// Appends documents, none of whose ids are there. An error changes nothing.
+    pub(crate) fn append(&mut self, documents: Vec<KeyedDocument>) -> Result<(), OutOfMemory>
+        ensures ok { OnOk result (KeepsIds self.old → AreNew (stored self.old) documents.items → stored self.new ≡ stored self.old ++ map document_of documents.items) }
+        ensures err { OnErr result (KeepsIds self.old → AreNew (stored self.old) documents.items → stored self.new ≡ stored self.old) }
+        ensures ids { KeepsIds self.old → AreNew (stored self.old) documents.items → KeepsIds self.new }
+        ensures indexes { self.new.indexes ≡ self.old.indexes }
+    {
+        let next = self.next;
+        match self.push_all(documents) {
+            Ok(()) => Ok(()),
+            Err(error) => {
+                self.truncate(next);
+                Err(error)
+            }
+        }
+    }
+
+    /// The collection has these indexes from now on.
+    pub(crate) fn put_indexes(&mut self, indexes: Vec<Index>)
+        ensures { self.new ≡ record self.old { indexes = indexes } }
+    {
+        let _old = std::mem::replace(&mut self.indexes, indexes);
+    }
+
+    /// Puts a document in the place of the one with the same `_id`. Where there is none nothing changes.
+    pub(crate) fn change(&mut self, key: &Vec<u8>, document: RawDocumentBuf)
+        ensures documents { KeepsIds self.old → stored self.new ≡ with_document key.now.items (fields document) (stored self.old) }
+        ensures ids { KeepsIds self.old → IsKeyed key.now.items (fields document) → KeepsIds self.new }
+        ensures indexes { self.new.indexes ≡ self.old.indexes }
+    {
+        let Some(number) = self.ids.get(key) else {
+            return;
+        };
+        if let Some(held) = self.documents.get_mut(number) {
+            let _old = std::mem::replace(held, document);
+        }
+    }
+
+    /// Removes the document with this `_id`. Where there is none nothing changes.
+    pub(crate) fn remove(&mut self, key: &Vec<u8>)
+        ensures documents { KeepsIds self.old → stored self.new ≡ without_document key.now.items (stored self.old) }
+        ensures ids { KeepsIds self.old → KeepsIds self.new }
+        ensures indexes { self.new.indexes ≡ self.old.indexes }
+    {
+        let Some(number) = self.ids.remove(key) else {
+            return;
+        };
+        let _document = self.documents.remove(&number);
+    }
+}
