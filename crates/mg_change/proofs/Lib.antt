@@ -20,6 +20,7 @@ pub mod OpeningCauses
 pub mod Placed
 pub mod SeekCauses
 pub mod ClosingCauses
+pub mod ClosingSends
 pub mod Growths
 pub mod Vain
 pub mod Awaiting

@@ -13,4 +13,5 @@ pub mod OpeningSends
 pub mod OpeningCauses
 pub mod SeekCauses
 pub mod ClosingCauses
+pub mod ClosingSends
 pub mod Growths

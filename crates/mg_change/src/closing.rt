@@ -10,6 +10,7 @@ ghost use Rattle.mg_change.specs.Closings.{Closes, FailLeaves, IsClosing, IsLand
 ghost use Rattle.mg_change.specs.Calls.{Stays};
 ghost use Rattle.mg_change.specs.Causes.{cursor_behind};
 ghost use Rattle.mg_change.specs.ClosingCauses.{ClosingCaused, KillCaused, LandCaused, LandRan, WantsMemory};
+ghost use Rattle.mg_change.specs.ClosingSends.{ClosingSent};
 ghost use Rattle.mg_link.specs.Link.{Awaited};
 ghost use Rattle.mg_link.specs.Errors.{plain};
 ghost use Rattle.mg_link.specs.declared.error.ErrorKind.TheVariants as kind;
@@ -372,6 +373,7 @@ impl Action for Closing {
         ensures later { Later (L.faults link.old) (L.faults link.new) (L.pends link.old) (L.pends link.new)
             (L.wire link.old) (L.wire link.new) (L.prompt link.old) (L.prompt link.new) }
         ensures sends { self.flight ≡ Flight.Landed → KillsAll (L.awaited link.old) (L.awaited link.new) (L.log link.old) (L.log link.new) (L.wire link.old) self.remains result }
+        ensures sent { IsQuiet self.flight → IsClosing (L.wire link.old) self.remains self.flight → ClosingSent (L.log link.old) (L.log link.new) self.remains self.flight }
         ensures quiet { IsQuiet self.flight → QuietAfter result }
         ensures grows { IsQuiet self.flight → Grows (L.log link.old) (L.log link.new) }
         ensures closes { IsClosing (L.wire link.old) self.remains self.flight → Closes (L.wire link.new) self.remains.aggregate result }

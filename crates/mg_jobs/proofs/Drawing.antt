@@ -156,6 +156,10 @@ any_turn k n before had =
       | inr not ↦ turn_there k n before not ∙ had
     ]
 
+pub turn_within : (i : ℕ) (before after : List ℕ) → has_turn i (before ++ i ∷ after) ≡ true
+turn_within i [] after = turn_here i i after (eq-eqb i i refl)
+turn_within i (n ∷ before) after = any_turn i n (before ++ i ∷ after) (turn_within i before after)
+
 either_turn : (k n : ℕ) (before order : List ℕ) → has_turn k (n ∷ order) ≡ true → (has_turn k (n ∷ before) ≡ true) ⊎ (has_turn k order ≡ true)
 either_turn k n before order had =
     elim (cases_Bool (nat_eq k n)) [

@@ -13,8 +13,9 @@ use Rattle.mg_bson.specs.Reading.{doc}
 use Rattle.mg_bson.specs.declared.object_id.ObjectId.{ObjectId}
 use Rattle.mg_link.specs.Exec.{FailsByReply, IsSuccess, Runs, Sending}
 use Rattle.mg_link.specs.Link.{Awaited, Told}
-use Rattle.mg_link.specs.Log.{reply, fault}
+use Rattle.mg_link.specs.Log.{reply, fault, Call}
 use Rattle.mg_link.specs.Namespace.{Space, space}
+use Rattle.mg_link.specs.declared.action.Step.{Step}
 use Rattle.mg_link.specs.declared.action.Step.TheVariants as step
 use Rattle.mg_link.specs.declared.error.Error.{Error}
 use Rattle.mg_ops.specs.Commands.{insert_command}
@@ -25,7 +26,8 @@ use Rattle.mg_change.specs.Calls.{Failed, Flies, Grows, HeardLast, Past, by_faul
 use Rattle.mg_change.proofs.Calls.{request_ran}
 use Rattle.mg_change.proofs.Growing.{flies_grows, last_grows}
 use Rattle.mg_change.proofs.Heeding.{success_ran}
-use Rattle.mg_jobs.specs.InsertCauses.{CannotEncode, CannotGoOn, FitTogether, HearsCaused, InsertCaused, InsertFails, InsertFlies, InsertsSoFar, IsBuilt, IsLength, IsNextPiece, IsPiece, LeadsCaused, NextCaused, cannot_encode, cannot_insert, listed, lost, max_batch, no_memory, refused, total}
+use Rattle.mg_jobs.specs.InsertCauses.{CannotEncode, CannotGoOn, FitTogether, HearsCaused, InsertCaused, InsertFails, InsertFlies, InsertsSoFar, IsBuilt, IsInsertOf, IsLength, IsNextPiece, IsPiece, IsSentFor, LeadsCaused, NextCaused, cannot_encode, cannot_insert, listed, lost, max_batch, no_memory, refused, total}
+use Rattle.mg_jobs.specs.Adds.{AddsOnly}
 use Rattle.mg_jobs.specs.Inserts.{held, insert_ticket}
 use Rattle.mg_jobs.specs.Underway.{IsBatch, IsSameList, IsStarted, sent_of, with_id}
 use Rattle.mg_jobs.specs.declared.insert.Batches.{Batches}
@@ -35,6 +37,7 @@ use Rattle.mg_jobs.specs.declared.insert.Heard.TheVariants as heard
 use Rattle.mg_jobs.specs.declared.insert.Inserting.{Inserting}
 use Rattle.mg_jobs.specs.declared.insert.Next.TheVariants as next
 use Rattle.mg_link.proofs.Places.{take_more}
+use Rattle.mg_jobs.proofs.Adding.{adds_on, adds_ran}
 use Rattle.mg_jobs.proofs.Appending.{same_sent, sent_at, sent_length}
 use Rattle.mg_jobs.proofs.Plainly.{same_command}
 
@@ -182,6 +185,10 @@ module _ (past : Past) (at : Space) (ds piece : List Fields) (e : Error) (part :
   unread_as bytes h success (inr lists) = listed piece bytes part h success lists
 
 module _ (old new : Awaited) (log log' : Told) (wire : ℤ) (c : Command) where
+  -- it adds its own command alone
+  command_adds : (awaited : Awaited) (past : Past) (at : Space) (ds : List Fields) (result : Step Sending (List ℕ)) → Runs old new log log' wire c.exec result → IsSentFor awaited past at ds c → (calls calls' : List Call) → log ≡ Some calls → log' ≡ Some calls' → AddsOnly (IsInsertOf at ds) calls calls'
+  command_adds awaited past at ds result runs s calls calls' told told' = adds_ran (IsInsertOf at ds) old new log log' wire c.exec result (record { piece = c.insert.documents.items; part = s.part; command_is = s.command_is }) runs calls calls' told told'
+
   pub pending_caused : (exec : Sending) → Runs old new log log' wire c.exec (step.Pending exec) → HearsCaused old new log log' wire c (heard.Pending (record { exec = exec; insert = c.insert }))
   pending_caused exec runs calls told places since room at ds s =
       let r = request_ran old new log log' wire c.exec (insert_command at c.insert.documents.items) false (step.Pending exec) s.command_is s.once runs calls told places since room s.flies in (
@@ -194,35 +201,36 @@ module _ (old new : Awaited) (log log' : Told) (wire : ℤ) (c : Command) where
           once = same_retries old new log log' wire c.exec exec runs ∙ s.once;
           flies = r.came;
         },
+        command_adds old (past_of places since calls wire) at ds (step.Pending exec) runs s calls r.calls' told r.told,
       )
 
   pub failed_caused : (e : Error) → Runs old new log log' wire c.exec (step.Failed e) → HearsCaused old new log log' wire c (heard.Failed e)
   failed_caused e runs calls told places since room at ds s =
       let piece : List Fields = c.insert.documents.items in
       let r = request_ran old new log log' wire c.exec (insert_command at piece) false (step.Failed e) s.command_is s.once runs calls told places since room s.flies in
-      (r.calls', r.told, r.room, failed_as (past_of places since r.calls' wire) at ds piece e s.part r.came)
+      (r.calls', r.told, r.room, failed_as (past_of places since r.calls' wire) at ds piece e s.part r.came, command_adds old (past_of places since calls wire) at ds (step.Failed e) runs s calls r.calls' told r.told)
 
   pub unread_caused : (bytes : List ℕ) (e : Error) → Runs old new log log' wire c.exec (step.Done bytes) → FailsBy (λ (x : Error). ListsAs (length c.insert.documents.items) (fields bytes) x.kind) e → HearsCaused old new log log' wire c (heard.Failed e)
   unread_caused bytes e runs by calls told places since room at ds s =
       let piece : List Fields = c.insert.documents.items in
       let r = request_ran old new log log' wire c.exec (insert_command at piece) false (step.Done bytes) s.command_is s.once runs calls told places since room s.flies in
-      (r.calls', r.told, r.room, unread_as (past_of places since r.calls' wire) at ds piece e s.part bytes r.came (success_ran old new log log' wire c.exec bytes runs) by)
+      (r.calls', r.told, r.room, unread_as (past_of places since r.calls' wire) at ds piece e s.part bytes r.came (success_ran old new log log' wire c.exec bytes runs) by, command_adds old (past_of places since calls wire) at ds (step.Done bytes) runs s calls r.calls' told r.told)
 
   pub inserted_caused : (bytes : List ℕ) → Runs old new log log' wire c.exec (step.Done bytes) → HearsCaused old new log log' wire c heard.Inserted
   inserted_caused bytes runs calls told places since room at ds s =
       let r = request_ran old new log log' wire c.exec (insert_command at c.insert.documents.items) false (step.Done bytes) s.command_is s.once runs calls told places since room s.flies in
-      (r.calls', r.told, r.room, tt)
+      (r.calls', r.told, r.room, tt, command_adds old (past_of places since calls wire) at ds (step.Done bytes) runs s calls r.calls' told r.told)
 
 -- ---- the commands of an insert, one after another
 
 module _ (old mid : Awaited) (log log' : Told) (wire : ℤ) (i : Inserting) (b b' : Batches) (w : Option Command) (lead : LeadsCaused old mid log log' wire i b w) where
   pub led_finished : (n : ℕ) → InsertCaused old mid log log' wire i (step.Done n)
-  led_finished n calls told places at ds h = let x = lead calls told places at ds h in (x.0, x.1, tt)
+  led_finished n calls told places at ds h = let x = lead calls told places at ds h in (x.0, x.1, tt, x.4)
 
   pub led_stopped : (e : Error) → NextCaused b b' w (next.Stopped e) → InsertCaused old mid log log' wire i (step.Failed e)
   led_stopped e goes calls told places at ds h =
       let x = lead calls told places at ds h in
-      (x.0, x.1, goes mid (past_of places (length calls) x.0 wire) at ds x.3)
+      (x.0, x.1, goes mid (past_of places (length calls) x.0 wire) at ds x.3, x.4)
 
   module _ (new : Awaited) (log'' : Told) (wire' : ℤ) (same : wire' ≡ wire) (c : Command) (goes : NextCaused b b' w (next.Send c)) where
     heard_at_wire : (h : Heard) → HearsCaused mid new log' log'' wire' c h → HearsCaused mid new log' log'' wire c h
@@ -233,21 +241,21 @@ module _ (old mid : Awaited) (log log' : Told) (wire : ℤ) (i : Inserting) (b b
         let x = lead calls told places at ds h in
         let s = goes mid (past_of places (length calls) x.0 wire) at ds x.3 in
         let y = heard_at_wire (heard.Pending c') hears x.0 x.1 places (length calls) x.2 at ds s.flies in
-        (y.0, y.1, record { at_is = s.at_is; sent_is = s.sent_is; flies = y.3 })
+        (y.0, y.1, record { at_is = s.at_is; sent_is = s.sent_is; flies = y.3 }, adds_on (IsInsertOf at ds) calls x.0 y.0 x.4 y.4)
 
     pub led_inserted : HearsCaused mid new log' log'' wire' c heard.Inserted → LeadsCaused old new log log'' wire i b' None
     led_inserted hears calls told places at ds h =
         let x = lead calls told places at ds h in
         let s = goes mid (past_of places (length calls) x.0 wire) at ds x.3 in
         let y = heard_at_wire heard.Inserted hears x.0 x.1 places (length calls) x.2 at ds s.flies in
-        (y.0, y.1, y.2, record { at_is = s.at_is; sent_is = s.sent_is; flies = tt })
+        (y.0, y.1, y.2, record { at_is = s.at_is; sent_is = s.sent_is; flies = tt }, adds_on (IsInsertOf at ds) calls x.0 y.0 x.4 y.4)
 
     pub led_failed : (e : Error) → HearsCaused mid new log' log'' wire' c (heard.Failed e) → InsertCaused old new log log'' wire i (step.Failed e)
     led_failed e hears calls told places at ds h =
         let x = lead calls told places at ds h in
         let s = goes mid (past_of places (length calls) x.0 wire) at ds x.3 in
         let y = heard_at_wire (heard.Failed e) hears x.0 x.1 places (length calls) x.2 at ds s.flies in
-        (y.0, y.1, y.3)
+        (y.0, y.1, y.3, adds_on (IsInsertOf at ds) calls x.0 y.0 x.4 y.4)
 
 -- ---- while others have their turns
 

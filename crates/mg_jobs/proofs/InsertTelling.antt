@@ -5,14 +5,16 @@ use Rattle.mg_link.specs.Errors.{plain}
 use Rattle.mg_link.specs.Link.{Awaited, Told}
 use Rattle.mg_link.specs.Log.{Call}
 use Rattle.mg_link.specs.Namespace.{Space}
+use Rattle.mg_link.specs.declared.action.Step.{Step}
 use Rattle.mg_link.specs.declared.action.Step.TheVariants as step
 use Rattle.mg_link.specs.declared.error.Error.{Error}
 use Rattle.mg_link.specs.declared.error.ErrorKind.TheVariants as kind
 use Rattle.mg_link.proofs.Owners.{same_some}
 use Rattle.mg_change.specs.Calls.{Grows, Past, past_of}
+use Rattle.mg_jobs.specs.Adds.{AddsOnly}
 use Rattle.mg_jobs.specs.Appended.{Appended}
 use Rattle.mg_jobs.specs.Causes.{EndsBy, sent_at}
-use Rattle.mg_jobs.specs.InsertCauses.{InsertCaused, InsertFails, InsertsSoFar, no_memory}
+use Rattle.mg_jobs.specs.InsertCauses.{InsertCaused, InsertFails, InsertsSoFar, IsInsertOf, no_memory}
 use Rattle.mg_jobs.specs.Playing.{end_of, inserts_ended, inserts_ticket}
 use Rattle.mg_jobs.specs.Progress.{InsertAt}
 use Rattle.mg_jobs.specs.Drawing.{with_ids}
@@ -23,6 +25,7 @@ use Rattle.mg_script.specs.declared.outcome.Ended.{Ended}
 use Rattle.mg_script.specs.declared.outcome.Ended.TheVariants as ended
 use Rattle.mg_jobs.specs.declared.player.InsertStage.{InsertStage}
 use Rattle.mg_jobs.specs.declared.player.InsertStage.TheVariants as inserts
+use Rattle.mg_jobs.proofs.Adding.{adds_none}
 use Rattle.mg_jobs.proofs.Appending.{appended_grown}
 use Rattle.mg_jobs.proofs.InsertCauses.{insert_fails_grow, inserts_begin, inserts_grow}
 use Rattle.mg_jobs.proofs.Sendings.{has_grown, started}
@@ -40,24 +43,33 @@ unbegun_tells awaited past at ds e room = no_memory (ap (λ (x : Error). x.kind)
 -- ---- its own turns
 
 pub stage_stays : (awaited : Awaited) (log : Told) (wire : ℤ) (at : Space) (ds : List Fields) (s : InsertStage) → InsertTurns awaited awaited log log wire at ds s s
-stage_stays awaited log wire at ds s calls calls' told told' places t = subst (λ (c : List Call). InsertTells awaited (past_of places (length calls) c wire) at ds s) (same_some calls calls' (sym told ∙ told')) t
+stage_stays awaited log wire at ds s calls calls' told told' places t = subst (λ (c : List Call). InsertTells awaited (past_of places (length calls) c wire) at ds s × AddsOnly (IsInsertOf at ds) calls c) (same_some calls calls' (sym told ∙ told')) (t, adds_none (IsInsertOf at ds) calls)
 
 module _ (old new : Awaited) (log log' : Told) (wire : ℤ) (at : Space) (ds : List Fields) (i : Inserting) where
+  -- what it sent inserts some of its documents
+  stage_adds : (result : Step Inserting ℕ) → InsertCaused old new log log' wire i result → (calls calls' : List Call) → log ≡ Some calls → log' ≡ Some calls' → (places : List ℕ) → InsertTells old (sent_at places calls wire) at ds (inserts.Goes i) → AddsOnly (IsInsertOf at ds) calls calls'
+  stage_adds result caused calls calls' told told' places t = let x = caused calls told places at ds t.0 in subst (λ (c : List Call). AddsOnly (IsInsertOf at ds) calls c) (same_some x.0 calls' (sym x.1 ∙ told')) x.3
+
   pub stage_waits : (i' : Inserting) → InsertCaused old new log log' wire i (step.Pending i') → Inserts old new log log' i (step.Pending i') → InsertTurns old new log log' wire at ds (inserts.Goes i) (inserts.Goes i')
   stage_waits i' caused sends calls calls' told told' places t = (
-    (let x = caused calls told places at ds t.0 in subst (λ (c : List Call). InsertsSoFar new (past_of places (length calls) c wire) at ds i'.batches i'.command) (same_some x.0 calls' (sym x.1 ∙ told')) x.2),
-    (λ named. let x = sends calls told places wire at ds named (t.1 named) in subst (λ (c : List Call). HasInserted new (past_of places (length calls) c wire) at ds i') (same_some x.0 calls' (sym x.1 ∙ told')) x.2),
+    (
+      (let x = caused calls told places at ds t.0 in subst (λ (c : List Call). InsertsSoFar new (past_of places (length calls) c wire) at ds i'.batches i'.command) (same_some x.0 calls' (sym x.1 ∙ told')) x.2),
+      (λ named. let x = sends calls told places wire at ds named (t.1 named) in subst (λ (c : List Call). HasInserted new (past_of places (length calls) c wire) at ds i') (same_some x.0 calls' (sym x.1 ∙ told')) x.2),
+    ),
+    stage_adds (step.Pending i') caused calls calls' told told' places t,
   )
 
-  pub stage_done : (n : ℕ) → Inserts old new log log' i (step.Done n) → InsertTurns old new log log' wire at ds (inserts.Goes i) (inserts.Ended (ended.Gave n))
-  stage_done n sends calls calls' told told' places t named =
-      let x = sends calls told places wire at ds named (t.1 named) in
-      subst (λ (c : List Call). Appended (past_of places (length calls) c wire) at ds n) (same_some x.0 calls' (sym x.1 ∙ told')) x.2
+  pub stage_done : (n : ℕ) → InsertCaused old new log log' wire i (step.Done n) → Inserts old new log log' i (step.Done n) → InsertTurns old new log log' wire at ds (inserts.Goes i) (inserts.Ended (ended.Gave n))
+  stage_done n caused sends calls calls' told told' places t = (
+    (λ named. let x = sends calls told places wire at ds named (t.1 named) in subst (λ (c : List Call). Appended (past_of places (length calls) c wire) at ds n) (same_some x.0 calls' (sym x.1 ∙ told')) x.2),
+    stage_adds (step.Done n) caused calls calls' told told' places t,
+  )
 
   pub stage_fails : (e : Error) → InsertCaused old new log log' wire i (step.Failed e) → InsertTurns old new log log' wire at ds (inserts.Goes i) (inserts.Ended (ended.Failed e))
-  stage_fails e caused calls calls' told told' places t =
-      let x = caused calls told places at ds t.0 in
-      subst (λ (c : List Call). InsertFails (past_of places (length calls) c wire) at ds e) (same_some x.0 calls' (sym x.1 ∙ told')) x.2
+  stage_fails e caused calls calls' told told' places t = (
+    (let x = caused calls told places at ds t.0 in subst (λ (c : List Call). InsertFails (past_of places (length calls) c wire) at ds e) (same_some x.0 calls' (sym x.1 ∙ told')) x.2),
+    stage_adds (step.Failed e) caused calls calls' told told' places t,
+  )
 
 -- an insert that found its ids, and then took its turn
 pub ready_turns : (ids : ℕ → List ℕ) (old new : Awaited) (log log' : Told) (wire : ℤ) (at : Space) (ds sent : List Fields) (s other s' : InsertStage) → TellsOn ids at ds s other → InsertTurns old new log log' wire at sent other s' → InsertTurns old new log log' wire at sent s s'

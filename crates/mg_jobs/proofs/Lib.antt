@@ -25,6 +25,8 @@ pub mod InsertTelling
 pub mod Drawing
 pub mod OwnTickets
 pub mod Newest
+pub mod Adding
+pub mod Sends
 pub mod Polling
 pub mod Showing
 mod Stepping

@@ -26,11 +26,11 @@ last_of (b ∷ before) x after (z ∷ xs) y e =
       | inr end ↦ inr (ap (λ w. w ∷ before) (sym first) ∙ ap (λ l. z ∷ l) end.0, end.1)
     ]
 
-abbrev started_in : List Turned → ℕ
+abbrev pub started_in : List Turned → ℕ
 started_in notes = sum_by (λ (t : Turned). t.started) notes
 
 -- what was sent stands within what the notes count
-sent_below : (c : Course) (i k place : ℕ) → SentIn c i k place → place < c.begun + started_in c.notes
+pub sent_below : (c : Course) (i k place : ℕ) → SentIn c i k place → place < c.begun + started_in c.notes
 sent_below c i k place s =
     let all = ap (λ ns. started_in ns) s.notes_are ∙ sum_by-append (λ (t : Turned). t.started) s.noted (s.note ∷ s.later) in
     let one = sum_by-cons (λ (t : Turned). t.started) s.note s.later in
@@ -53,7 +53,7 @@ module _ (begun : ℕ) (order : List ℕ) (notes : List Turned) (j : ℕ) (note 
   is = record { begun = begun; order = order ++ j ∷ []; notes = notes ++ note ∷ [] }
 
   -- a command was sent before this turn, or in it by its job
-  sent_before : (i k place : ℕ) → SentIn is i k place → SentIn was i k place ⊎ ((i ≡ j) × (begun + started_in notes ≤ place) × (place < begun + started_in notes + note.started))
+  pub sent_before : (i k place : ℕ) → SentIn is i k place → SentIn was i k place ⊎ ((i ≡ j) × (begun + started_in notes ≤ place) × (place < begun + started_in notes + note.started))
   sent_before i k place s =
       let wide = s.abreast in
       elim (last_of s.before i s.after order j s.order_is) [

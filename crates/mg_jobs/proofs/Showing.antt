@@ -45,15 +45,15 @@ module _ (old old' new new' : Awaited) (log log' : Told) where
     follow_agrees : (s : Stage) (k : Kept) (s' : Stage) (k' : Kept) (next : Placing) → Agree (stage_ticket s) old old' → Agree (stage_ticket s') new new' → FollowTells old' new log log' wire s k s' k' next → FollowTells old new' log log' wire s k s' k' next
     follow_agrees s k s' k' next before after tells calls calls' is is' q at told =
         let r = tells calls calls' is is' q at (tells_later old old' calls calls wire q s k at (keeps_same calls) before told) in
-        record { longer = r.longer; places = r.places; tells = tells_later new new' calls' calls' wire r.places s' k' (next at) (keeps_same calls') after r.tells; extends = r.extends }
+        record { longer = r.longer; places = r.places; tells = tells_later new new' calls' calls' wire r.places s' k' (next at) (keeps_same calls') after r.tells; extends = r.extends; adds = r.adds }
 
     insert_agrees : (at : Space) (sent : List Fields) (s s' : InsertStage) → Agree (inserts_ticket s) old old' → Agree (inserts_ticket s') new new' → InsertTurns old' new log log' wire at sent s s' → InsertTurns old new' log log' wire at sent s s'
     insert_agrees at sent s s' before after turns calls calls' is is' places told =
-        insert_tells_grow (past_of places _ calls' wire) _ (grows_same _) at sent new new' s' after
-        (turns calls calls' is is' places (insert_tells_grow (sent_at places calls wire) _ (grows_same _) at sent old old' s before told))
+        let r = turns calls calls' is is' places (insert_tells_grow (sent_at places calls wire) _ (grows_same _) at sent old old' s before told) in
+        (insert_tells_grow (past_of places _ calls' wire) _ (grows_same _) at sent new new' s' after r.0, r.1)
 
     tells_agree : (p p' : Player) (next : Placing) → Agree (job_ticket p) old old' → Agree (job_ticket p') new new' → JobTells old' new log log' wire p p' next → JobTells old new' log log' wire p p' next
-    tells_agree (player.Follow job) (player.Follow job') next before after told = follow_agrees job.stage _ job'.stage _ next before after told
+    tells_agree (player.Follow job) (player.Follow job') next before after told = (told.0, follow_agrees job.stage _ job'.stage _ next before after told.1)
     tells_agree (player.Follow job) (player.Insert job') next before after told = told
     tells_agree (player.Follow job) player.Put next before after told = told
     tells_agree (player.Follow job) player.Get next before after told = told

@@ -16,11 +16,14 @@ use Rattle.mg_ops.specs.declared.cursor_reply.CursorInformation.{CursorInformati
 use Rattle.mg_change.specs.Calls.{Grows, Keeps, Past, Stays, past_of}
 use Rattle.mg_change.specs.Causes.{CallCame, CallCaused, Called, SoFar, Standing, owes_in, standing_of}
 use Rattle.mg_change.specs.ClosingCauses.{ClosingCaused, KillCame, KillCaused, KillDone, KillFails, KillsSoFar}
+use Rattle.mg_change.specs.ClosingSends.{ClosingSent}
 use Rattle.mg_change.specs.Closings.{flight_in}
 use Rattle.mg_change.specs.Following.{token_of}
 use Rattle.mg_change.specs.OpeningCauses.{Opened, OpeningCaused, OpeningFails, OpensSoFar}
+use Rattle.mg_change.specs.OpeningSends.{OpeningSent}
 use Rattle.mg_change.specs.Openings.{IsOpening}
 use Rattle.mg_change.specs.Phases.{AtRest, IsResuming, without_token}
+use Rattle.mg_change.specs.Sent.{CallSent}
 use Rattle.mg_change.specs.declared.closing.Closing.{Closing}
 use Rattle.mg_change.specs.declared.closing.Flight.{Flight}
 use Rattle.mg_change.specs.declared.closing.Flight.TheVariants as flight
@@ -36,7 +39,9 @@ use Rattle.mg_change.proofs.Calls.{keeps_longer, same_keeps}
 use Rattle.mg_change.proofs.Causes.{begins}
 use Rattle.mg_change.proofs.ClosingCauses.{kill_done_grows, kill_fails_grows, kills_grows}
 use Rattle.mg_change.proofs.OpeningCauses.{opened_grows, opening_fails_grows, opens_grows}
+use Rattle.mg_jobs.specs.Adds.{AddsOnly}
 use Rattle.mg_jobs.specs.Causes.{Answered, ClosedBy, IsAlive, sent_at}
+use Rattle.mg_jobs.specs.Completing.{IsCommandOf}
 use Rattle.mg_jobs.specs.Follows.{HasGiven, Placing, poll_of, same_place}
 use Rattle.mg_jobs.specs.Playing.{stage_ticket}
 use Rattle.mg_jobs.specs.Telling.{Extends, FollowTells, IsNow, IsOpened, IsWatchArgs, Kept, Places, RestTells, Tell, Tells, TellsEnd, TellsFailed, TellsOpen, number}
@@ -47,6 +52,8 @@ use Rattle.mg_script.specs.declared.outcome.Ended.TheVariants as ended
 use Rattle.mg_jobs.specs.declared.player.Stage.{Stage}
 use Rattle.mg_jobs.specs.declared.player.Stage.TheVariants as stage
 use Rattle.mg_jobs.specs.declared.player.Watched.{Watched}
+use Rattle.mg_jobs.proofs.Adding.{adds_none, adds_on}
+use Rattle.mg_jobs.proofs.Sends.{call_adds, closing_adds, opening_adds}
 
 -- ---- places
 
@@ -218,13 +225,14 @@ extends_on q q' q'' n n'' from mid upto room room' a b =
     }
 
 -- the rest of a turn behind a part of it
-tell_on : (new : Awaited) (calls : List Call) (wire : ℤ) (q q' : Places) (n from mid : ℕ) (s : Stage) (k : Kept) (at : Option ℕ) → from ≤ mid → Extends q q' n n from mid → Tell new calls wire q' n mid s k at → Tell new calls wire q n from s k at
-tell_on new calls wire q q' n from mid s k at room extends t =
+tell_on : (new : Awaited) (begun mid calls : List Call) (wire : ℤ) (v : Watched) (q q' : Places) (n : ℕ) (s : Stage) (k : Kept) (at : Option ℕ) → length begun ≤ length mid → Extends q q' n n (length begun) (length mid) → AddsOnly (IsCommandOf (IsWatchArgs v)) begun mid → Tell new mid calls wire v q' n s k at → Tell new begun calls wire v q n s k at
+tell_on new begun mid calls wire v q q' n s k at room extends adds t =
     record {
       longer = let more = t.longer in omega (arith, more, room);
       places = t.places;
       tells = t.tells;
-      extends = extends_on q q' t.places n (number s k) from mid (length calls) room t.longer extends t.extends;
+      extends = extends_on q q' t.places n (number s k) (length begun) (length mid) (length calls) room t.longer extends t.extends;
+      adds = adds_on (IsCommandOf (IsWatchArgs v)) begun mid calls adds t.adds;
     }
 
 -- nothing was sent, and what goes on does so
@@ -279,12 +287,12 @@ keeps_to : (log log' : Told) (calls calls' : List Call) → log ≡ Some calls �
 keeps_to log log' calls calls' told told' stays = let s = stays calls told in subst (λ (c : List Call). Keeps calls c) (same_told log' s.0 calls' s.1 told') s.2
 
 -- nothing was sent
-tell_same : (awaited : Awaited) (log : Told) (wire : ℤ) (calls calls' : List Call) → log ≡ Some calls → log ≡ Some calls' → (q : Places) (n : ℕ) (s : Stage) (k : Kept) (at : Option ℕ) → Tells awaited calls wire q s k at → Extends q q n (number s k) (length calls) (length calls) → Tell awaited calls' wire q n (length calls) s k at
-tell_same awaited log wire calls calls' told told' q n s k at t extends =
-    subst (λ (c : List Call). Tell awaited c wire q n (length calls) s k at) (same_told log calls calls' told told') (record { longer = omega arith; places = q; tells = t; extends = extends })
+tell_same : (awaited : Awaited) (log : Told) (wire : ℤ) (calls calls' : List Call) → log ≡ Some calls → log ≡ Some calls' → (q : Places) (n : ℕ) (s : Stage) (k : Kept) (at : Option ℕ) (v : Watched) → Tells awaited calls wire q s k at → Extends q q n (number s k) (length calls) (length calls) → Tell awaited calls calls' wire v q n s k at
+tell_same awaited log wire calls calls' told told' q n s k at v t extends =
+    subst (λ (c : List Call). Tell awaited calls c wire v q n s k at) (same_told log calls calls' told told') (record { longer = omega arith; places = q; tells = t; extends = extends; adds = adds_none (IsCommandOf (IsWatchArgs v)) calls })
 
 pub tells_same : (awaited : Awaited) (log : Told) (wire : ℤ) (s : Stage) (k : Kept) → FollowTells awaited awaited log log wire s k s k same_place
-tells_same awaited log wire s k calls calls' told told' q at t = tell_same awaited log wire calls calls' told told' q (number s k) s k at t (extends_same q (number s k) (length calls))
+tells_same awaited log wire s k calls calls' told told' q at t = tell_same awaited log wire calls calls' told told' q (number s k) s k at k.watched t (extends_same q (number s k) (length calls))
 
 -- the same stage by another name
 pub tells_at : (old new : Awaited) (log log' : Told) (wire : ℤ) (s s0 : Stage) (k : Kept) (s' s1 : Stage) (k' : Kept) (next : Placing) → s ≡ s0 → s1 ≡ s' → FollowTells old new log log' wire s k s' k' next → FollowTells old new log log' wire s0 k s1 k' next
@@ -303,13 +311,13 @@ begin_tells old new log log' wire k opening s' k' next args opens unsent rest ca
 -- Memory ran out before it.
 pub begin_fails : (awaited : Awaited) (log : Told) (wire : ℤ) (k k' : Kept) (e : Error) → k'.opened ≡ ended.Failed e → e.kind ≡ kind.OutOfMemory → FollowTells awaited awaited log log wire stage.Unopened k stage.Ended k' same_place
 begin_fails awaited log wire k k' e failed room calls calls' told told' q at t =
-    tell_same awaited log wire calls calls' told told' q 0 stage.Ended k' at (subst (λ (o : Ended (Unit {0})). TellsEnd calls wire q k' at o) (sym failed) (inl room)) (extends_rest q 0 (length k'.said) (length calls) t.1)
+    tell_same awaited log wire calls calls' told told' q 0 stage.Ended k' at k.watched (subst (λ (o : Ended (Unit {0})). TellsEnd calls wire q k' at o) (sym failed) (inl room)) (extends_rest q 0 (length k'.said) (length calls) t.1)
 
 -- The reply to the opening pends.
 pub open_waits_tells : (old new : Awaited) (log log' : Told) (wire : ℤ) (k : Kept) (opening opening' : Opening) → opening'.aggregate.args ≡ opening.aggregate.args → (IsOpening opening.aggregate opening.exec → IsOpening opening'.aggregate opening'.exec)
-    → Stays log log' → (IsOpening opening.aggregate opening.exec → OpeningCaused old new log log' wire opening.aggregate.args opening.exec (step.Pending opening'))
+    → Stays log log' → (IsOpening opening.aggregate opening.exec → OpeningSent opening.aggregate.args log log' opening.exec (step.Pending opening')) → (IsOpening opening.aggregate opening.exec → OpeningCaused old new log log' wire opening.aggregate.args opening.exec (step.Pending opening'))
     → FollowTells old new log log' wire (stage.Opens opening) k (stage.Opens opening') k same_place
-open_waits_tells old new log log' wire k opening opening' args opens stays caused calls calls' told told' q at t =
+open_waits_tells old new log log' wire k opening opening' args opens stays sent caused calls calls' told told' q at t =
     let args_of = opening.aggregate.args in
     let keeps = keeps_to log log' calls calls' told told' stays in
     let room = keeps_longer calls calls' keeps in
@@ -327,13 +335,14 @@ open_waits_tells old new log log' wire k opening opening' args opens stays cause
             (opens_grows new new (past_of q.now (length calls) calls' wire) later args_of opening'.exec (grows_ended q.now (length calls) calls' wire) (λ m e. refl) came),
       );
       extends = extends_going q 0 0 (length calls) (length calls') refl room;
+      adds = opening_adds (IsWatchArgs k.watched) args_of t.1 log log' calls calls' told told' keeps opening.exec (step.Pending opening') (sent t.2);
     }
 
 -- It failed.
 pub open_fails_tells : (old new : Awaited) (log log' : Told) (wire : ℤ) (k k' : Kept) (opening : Opening) (e : Error) → k'.watched ≡ k.watched → k'.opened ≡ ended.Failed e
-    → Stays log log' → (IsOpening opening.aggregate opening.exec → OpeningCaused old new log log' wire opening.aggregate.args opening.exec (step.Failed e))
+    → Stays log log' → (IsOpening opening.aggregate opening.exec → OpeningSent opening.aggregate.args log log' opening.exec (step.Failed e)) → (IsOpening opening.aggregate opening.exec → OpeningCaused old new log log' wire opening.aggregate.args opening.exec (step.Failed e))
     → FollowTells old new log log' wire (stage.Opens opening) k stage.Ended k' same_place
-open_fails_tells old new log log' wire k k' opening e watched failed stays caused calls calls' told told' q at t =
+open_fails_tells old new log log' wire k k' opening e watched failed stays sent caused calls calls' told told' q at t =
     let args_of = opening.aggregate.args in
     let keeps = keeps_to log log' calls calls' told told' stays in
     let room = keeps_longer calls calls' keeps in
@@ -350,6 +359,7 @@ open_fails_tells old new log log' wire k k' opening e watched failed stays cause
       places = q';
       tells = subst (λ (o : Ended (Unit {0})). TellsEnd calls' wire q' k' at o) (sym failed) (inr so);
       extends = extends_opened q 0 (length k'.said) (length calls) (length calls') refl room;
+      adds = opening_adds (IsWatchArgs k.watched) args_of t.1 log log' calls calls' told told' keeps opening.exec (step.Failed e) (sent t.2);
     }
 
 resuming_owes : (p : Phase) → IsResuming p → owes_in p ≡ true
@@ -391,9 +401,9 @@ HeardAtPlace log log' old wire args exec first place = (calls : List Call) → l
 
 -- The stream is open; the rest of the turn follows.
 pub open_done_tells : (old mid new : Awaited) (log log_mid log' : Told) (wire wire_mid : ℤ) (k k1 : Kept) (opening : Opening) (stream : ChangeStream) (s' : Stage) (k' : Kept) → RestTells new log_mid log' wire_mid stream k1 s' k' → k1.watched ≡ k.watched → HasGiven k1.opened → k1.said ≡ k.said → SaysAlive k1.alive stream → wire_mid ≡ wire
-    → Stays log log_mid → (place : Option ℕ) → (IsOpening opening.aggregate opening.exec → HeardAtPlace log log_mid old wire opening.aggregate.args opening.exec (standing_of stream) place)
+    → Stays log log_mid → (IsOpening opening.aggregate opening.exec → OpeningSent opening.aggregate.args log log_mid opening.exec (step.Done stream)) → (place : Option ℕ) → (IsOpening opening.aggregate opening.exec → HeardAtPlace log log_mid old wire opening.aggregate.args opening.exec (standing_of stream) place)
     → FollowTells old new log log' wire (stage.Opens opening) k s' k' (λ at. place)
-open_done_tells old mid new log log_mid log' wire wire_mid k k1 opening stream s' k' rest watched given said alive same stays place caused calls calls' told told' q at t =
+open_done_tells old mid new log log_mid log' wire wire_mid k k1 opening stream s' k' rest watched given said alive same stays sent place caused calls calls' told told' q at t =
     let args_of = opening.aggregate.args in
     let r = caused t.2 calls told q.now t.3 in
     let keeps = keeps_to log log_mid calls r.0 told r.1 stays in
@@ -410,12 +420,14 @@ open_done_tells old mid new log log_mid log' wire wire_mid k k1 opening stream s
       answered = subst (λ (l : List Answer). Answered r.0 wire (standing_of stream) [] l (standing_of stream)) (sym none) refl;
       alive_is = alive_as k1.alive stream alive;
     } in
-    let ends : Tell new calls' wire q1 (length k1.said) (length r.0) s' k' place = subst (λ (w : ℤ). IsOpened r.0 w q1 k1 (standing_of stream) place → Tell new calls' w q1 (length k1.said) (length r.0) s' k' place) same (rest r.0 calls' r.1 told' q1 place refl) opened in
-    tell_on new calls' wire q q1 0 (length calls) (length r.0) s' k' place room (extends_opened q 0 0 (length calls) (length r.0) refl room) (subst (λ (n : ℕ). Tell new calls' wire q1 n (length r.0) s' k' place) (ap length none) ends)
+    let ends : Tell new r.0 calls' wire k1.watched q1 (length k1.said) s' k' place = subst (λ (w : ℤ). IsOpened r.0 w q1 k1 (standing_of stream) place → Tell new r.0 calls' w k1.watched q1 (length k1.said) s' k' place) same (rest r.0 calls' r.1 told' q1 place refl) opened in
+    tell_on new calls r.0 calls' wire k.watched q q1 0 s' k' place room (extends_opened q 0 0 (length calls) (length r.0) refl room)
+    (opening_adds (IsWatchArgs k.watched) args_of t.1 log log_mid calls r.0 told r.1 keeps opening.exec (step.Done stream) (sent t.2))
+    (subst (λ (v : Watched). Tell new r.0 calls' wire v q1 0 s' k' place) watched (subst (λ (n : ℕ). Tell new r.0 calls' wire k1.watched q1 n s' k' place) (ap length none) ends))
 
 -- A call of the stream pends.
-pub call_waits_tells : (old new : Awaited) (log log' : Told) (wire : ℤ) (k : Kept) (s s1 : ChangeStream) (r : EventPoll) → r ≡ polls.Pending → Stays log log' → CallCaused old new log log' wire s s1 r → FollowTells old new log log' wire (stage.Open s) k (stage.Open s1) k same_place
-call_waits_tells old new log log' wire k s s1 r pends stays caused calls calls' told told' q place t =
+pub call_waits_tells : (old new : Awaited) (log log' : Told) (wire : ℤ) (k : Kept) (s s1 : ChangeStream) (r : EventPoll) → r ≡ polls.Pending → Stays log log' → CallSent log log' wire s s1 r → CallCaused old new log log' wire s s1 r → FollowTells old new log log' wire (stage.Open s) k (stage.Open s1) k same_place
+call_waits_tells old new log log' wire k s s1 r pends stays sent caused calls calls' told told' q place t =
     let keeps = keeps_to log log' calls calls' told told' stays in
     let room = keeps_longer calls calls' keeps in
     let at = t.0 in
@@ -431,6 +443,7 @@ call_waits_tells old new log log' wire k s s1 r pends stays caused calls calls' 
         so_far_grows new new (past_of q.now (length calls) calls' wire) later at false s1.phase s1 (grows_ended q.now (length calls) calls' wire) (λ m e. refl) so_far,
       );
       extends = extends_going q (suc (length k.said)) (suc (length k.said)) (length calls) (length calls') refl room;
+      adds = call_adds (IsWatchArgs k.watched) t.1.args t.1.args_are log log' calls calls' told told' keeps old at t.1.first wire q.opened q.now q.owns k.said s s1 r t.1.opened t.1.answered t.2 sent;
     }
 
 came_called : (awaited : Awaited) (past : Past) (at : Standing) (s : ChangeStream) (answer : Answer) → CallCame awaited past at s (poll_of answer) → Called past at (standing_of s) (poll_of answer)
@@ -440,8 +453,8 @@ came_called awaited past at s (answers.Failed e) came = came
 
 -- A call of the stream answered; the rest of the turn follows.
 pub call_answers_tells : (old mid new : Awaited) (log log_mid log' : Told) (wire wire_mid : ℤ) (k k1 : Kept) (s s1 : ChangeStream) (r : EventPoll) (answer : Answer) (s' : Stage) (k' : Kept) → RestTells new log_mid log' wire_mid s1 k1 s' k' → k1.watched ≡ k.watched → k1.opened ≡ k.opened → k1.said ≡ k.said ++ answer ∷ [] → SaysAlive k1.alive s1 → wire_mid ≡ wire → r ≡ poll_of answer → Stays log log_mid
-    → CallCaused old mid log log_mid wire s s1 r → FollowTells old new log log' wire (stage.Open s) k s' k' same_place
-call_answers_tells old mid new log log_mid log' wire wire_mid k k1 s s1 r answer s' k' rest watched given said alive same is stays caused calls calls' told told' q place t =
+    → CallSent log log_mid wire s s1 r → CallCaused old mid log log_mid wire s s1 r → FollowTells old new log log' wire (stage.Open s) k s' k' same_place
+call_answers_tells old mid new log log_mid log' wire wire_mid k k1 s s1 r answer s' k' rest watched given said alive same is stays sent caused calls calls' told told' q place t =
     let at = t.0 in
     let c = subst (λ (x : EventPoll). CallCaused old mid log log_mid wire s s1 x) is caused calls told q.now at t.2 in
     let keeps = keeps_to log log_mid calls c.0 told c.1 stays in
@@ -462,15 +475,16 @@ call_answers_tells old mid new log log_mid log' wire wire_mid k k1 s s1 r answer
       alive_is = alive_as k1.alive s1 alive;
     } in
     let count : length k1.said ≡ suc (length k.said) = (let joined = length-append k.said (answer ∷ []) in omega (arith, ap length said, joined)) in
-    let ends : Tell new calls' wire q1 (length k1.said) (length c.0) s' k' place = subst (λ (w : ℤ). IsOpened c.0 w q1 k1 after place → Tell new calls' w q1 (length k1.said) (length c.0) s' k' place) same (rest c.0 calls' c.1 told' q1 place refl) opened in
-    tell_on new calls' wire q q1 (suc (length k.said)) (length calls) (length c.0) s' k' place room
+    let ends : Tell new c.0 calls' wire k1.watched q1 (length k1.said) s' k' place = subst (λ (w : ℤ). IsOpened c.0 w q1 k1 after place → Tell new c.0 calls' w k1.watched q1 (length k1.said) s' k' place) same (rest c.0 calls' c.1 told' q1 place refl) opened in
+    tell_on new calls c.0 calls' wire k.watched q q1 (suc (length k.said)) s' k' place room
     (extends_answered q (suc (length k.said)) (suc (length k.said)) (length calls) (length c.0) (ap suc (sym (answered_count calls wire q.owns k.said t.1.first at t.1.answered))) room)
-    (subst (λ (n : ℕ). Tell new calls' wire q1 n (length c.0) s' k' place) count ends)
+    (call_adds (IsWatchArgs k.watched) t.1.args t.1.args_are log log_mid calls c.0 told c.1 keeps old at t.1.first wire q.opened q.now q.owns k.said s s1 r t.1.opened t.1.answered t.2 sent)
+    (subst (λ (v : Watched). Tell new c.0 calls' wire v q1 (suc (length k.said)) s' k' place) watched (subst (λ (n : ℕ). Tell new c.0 calls' wire k1.watched q1 n s' k' place) count ends))
 
 -- The stream is kept for its next call.
 pub rest_stays_tells : (awaited : Awaited) (log : Told) (wire : ℤ) (stream : ChangeStream) (k : Kept) → AtRest stream.phase → RestTells awaited log log wire stream k (stage.Open stream) k
 rest_stays_tells awaited log wire stream k rest calls calls' told told' q at none t =
-    tell_same awaited log wire calls calls' told told' q (length k.said) (stage.Open stream) k at
+    tell_same awaited log wire calls calls' told told' q (length k.said) (stage.Open stream) k at k.watched
     (standing_of stream, t, begins awaited (sent_at q.now calls wire) stream rest)
     (extends_rest q (length k.said) (suc (length k.said)) (length calls) none)
 
@@ -521,9 +535,9 @@ kill_came old new log log' wire closing result k caused calls calls' told told' 
     subst (λ (c : List Call). KillCame new (past_of q.now (length calls) c wire) closing.remains result) (same_told log' r.0 calls' r.1 told') r.2
 
 -- The killing of its cursor pends.
-pub close_waits_tells : (old new : Awaited) (log log' : Told) (wire : ℤ) (k : Kept) (closing closing' : Closing) → Stays log log' → ClosingCaused {T = Unit {0}} old new log log' wire closing.remains closing.flight (step.Pending closing')
+pub close_waits_tells : (old new : Awaited) (log log' : Told) (wire : ℤ) (k : Kept) (closing closing' : Closing) → Stays log log' → ClosingSent log log' closing.remains closing.flight → ClosingCaused {T = Unit {0}} old new log log' wire closing.remains closing.flight (step.Pending closing')
     → FollowTells old new log log' wire (stage.Closes closing) k (stage.Closes closing') k same_place
-close_waits_tells old new log log' wire k closing closing' stays caused calls calls' told told' q at t =
+close_waits_tells old new log log' wire k closing closing' stays sent caused calls calls' told told' q at t =
     let keeps = keeps_to log log' calls calls' told told' stays in
     let room = keeps_longer calls calls' keeps in
     let came = kill_came {T = Unit {0}} old new log log' wire closing (step.Pending closing') k caused calls calls' told told' q at t in
@@ -541,6 +555,7 @@ close_waits_tells old new log log' wire k closing closing' stays caused calls ca
         kills_grows past later (grows_ended q.now (length calls) calls' wire) t.0.cursor (pos 0) new new closing'.flight (λ m e. refl) (kill_as new past closing'.flight closing.remains.cursor t.0.cursor closing.remains.opened (pos 0) t.3 t.4 came.1),
       );
       extends = extends_going q (length k.said) (length k.said) (length calls) (length calls') refl room;
+      adds = closing_adds (IsWatchArgs k.watched) log log' calls calls' closing.remains closing.flight told told' keeps sent;
     }
 
 given_end : {A : Type 0} (calls : List Call) (wire : ℤ) (q : Places) (k : Kept) (at : Option ℕ) (o : Ended A) → HasGiven o → (last : Standing) × IsOpened calls wire q k last at × (k.token ≡ token_of last.aggregate.resume) × ClosedBy (sent_at q.now calls wire) last k.closed → TellsEnd calls wire q k at o
@@ -549,10 +564,10 @@ given_end calls wire q k at (ended.Gave x) given t = t
 given_end calls wire q k at (ended.Failed e) given t = absurd given
 
 -- It ended so.
-close_ends_tells : (old new : Awaited) (log log' : Told) (wire : ℤ) (k : Kept) (closed : Ended (Unit {0})) (closing : Closing) (result : Step Closing (Unit {0})) → Stays log log' → ClosingCaused old new log log' wire closing.remains closing.flight result
+close_ends_tells : (old new : Awaited) (log log' : Told) (wire : ℤ) (k : Kept) (closed : Ended (Unit {0})) (closing : Closing) (result : Step Closing (Unit {0})) → Stays log log' → ClosingSent log log' closing.remains closing.flight → ClosingCaused old new log log' wire closing.remains closing.flight result
     → ((past : Past) (last : Standing) → closing.remains.cursor ≡ last.cursor → closing.remains.opened ≡ pos 0 → KillCame new past closing.remains result → ClosedBy past last closed)
     → FollowTells old new log log' wire (stage.Closes closing) k stage.Ended (record k { closed = closed }) same_place
-close_ends_tells old new log log' wire k closed closing result stays caused by calls calls' told told' q at t =
+close_ends_tells old new log log' wire k closed closing result stays sent caused by calls calls' told told' q at t =
     let keeps = keeps_to log log' calls calls' told told' stays in
     let room = keeps_longer calls calls' keeps in
     let past = past_of q.now (length calls) calls' wire in
@@ -564,18 +579,19 @@ close_ends_tells old new log log' wire k closed closing result stays caused by c
       places = q';
       tells = given_end calls' wire q' (record k { closed = closed }) at k.opened opened.given (t.0, opened, t.2, closed_by_later past (sent_at q'.now calls' wire) t.0 closed (grows_ended q.now (length calls) calls' wire) came);
       extends = extends_going q (length k.said) (length k.said) (length calls) (length calls') refl room;
+      adds = closing_adds (IsWatchArgs k.watched) log log' calls calls' closing.remains closing.flight told told' keeps sent;
     }
 
 -- The stream is closed.
-pub close_done_tells : (old new : Awaited) (log log' : Told) (wire : ℤ) (k : Kept) (closed : Ended (Unit {0})) (closing : Closing) → closed ≡ ended.Gave tt → Stays log log' → ClosingCaused {T = Unit {0}} old new log log' wire closing.remains closing.flight (step.Done tt)
+pub close_done_tells : (old new : Awaited) (log log' : Told) (wire : ℤ) (k : Kept) (closed : Ended (Unit {0})) (closing : Closing) → closed ≡ ended.Gave tt → Stays log log' → ClosingSent log log' closing.remains closing.flight → ClosingCaused {T = Unit {0}} old new log log' wire closing.remains closing.flight (step.Done tt)
     → FollowTells old new log log' wire (stage.Closes closing) k stage.Ended (record k { closed = closed }) same_place
-close_done_tells old new log log' wire k closed closing is stays caused =
-    close_ends_tells old new log log' wire k closed closing (step.Done tt) stays caused
+close_done_tells old new log log' wire k closed closing is stays sent caused =
+    close_ends_tells old new log log' wire k closed closing (step.Done tt) stays sent caused
     (λ past last cursor opened done. subst (λ (o : Ended (Unit {0})). ClosedBy past last o) (sym is) (subst (λ (x : ℤ). KillDone past last.cursor x) opened (subst (λ (c : CursorInformation). KillDone past c closing.remains.opened) cursor done)))
 
 -- The closing failed.
-pub close_fails_tells : (old new : Awaited) (log log' : Told) (wire : ℤ) (k : Kept) (closed : Ended (Unit {0})) (closing : Closing) (e : Error) → closed ≡ ended.Failed e → Stays log log' → ClosingCaused {T = Unit {0}} old new log log' wire closing.remains closing.flight (step.Failed e)
+pub close_fails_tells : (old new : Awaited) (log log' : Told) (wire : ℤ) (k : Kept) (closed : Ended (Unit {0})) (closing : Closing) (e : Error) → closed ≡ ended.Failed e → Stays log log' → ClosingSent log log' closing.remains closing.flight → ClosingCaused {T = Unit {0}} old new log log' wire closing.remains closing.flight (step.Failed e)
     → FollowTells old new log log' wire (stage.Closes closing) k stage.Ended (record k { closed = closed }) same_place
-close_fails_tells old new log log' wire k closed closing e is stays caused =
-    close_ends_tells old new log log' wire k closed closing (step.Failed e) stays caused
+close_fails_tells old new log log' wire k closed closing e is stays sent caused =
+    close_ends_tells old new log log' wire k closed closing (step.Failed e) stays sent caused
     (λ past last cursor opened fails. subst (λ (o : Ended (Unit {0})). ClosedBy past last o) (sym is) (subst (λ (x : ℤ). KillFails past last.cursor x e) opened (subst (λ (c : CursorInformation). KillFails past c closing.remains.opened e) cursor fails)))

@@ -5,6 +5,7 @@ use Rattle.std.specs.List.{sum_by}
 use Rattle.std.proofs.lemmas.List.{take_all}
 use Rattle.std.proofs.lemmas.List.Sums.{sum_by-append}
 use Rattle.mg_bson.specs.Tree.{Fields, Tree}
+use Rattle.mg_bson.specs.Raw.{fields}
 use Rattle.mg_link.specs.Link.{Awaited, Told}
 use Rattle.mg_link.specs.Log.{Call}
 use Rattle.mg_link.specs.Namespace.{Space, Target, space, target}
@@ -21,10 +22,13 @@ use Rattle.mg_change.specs.declared.stream.ChangeStream.{ChangeStream}
 use Rattle.mg_change.proofs.Awaiting.{call_awaits, kill_awaits, opening_awaits}
 use Rattle.mg_change.proofs.Calls.{awaited_by}
 use Rattle.mg_ops.specs.Commands.{insert_command}
-use Rattle.mg_jobs.specs.InsertCauses.{InsertFlies}
+use Rattle.mg_jobs.specs.Adds.{AddsOnly}
+use Rattle.mg_jobs.specs.InsertCauses.{InsertFlies, IsInsertOf}
 use Rattle.mg_jobs.specs.Inserts.{held}
 use Rattle.mg_jobs.specs.declared.insert.Command.{Command}
 use Rattle.mg_jobs.specs.Causes.{AllCaused, AllSentIn, ClosedBy, CloseCaused, Course, EndsBy, FollowCaused, OpenStands, InsertEnds, InsertWaits, InsertWaits, OpenCaused, OpenWaits, OutcomeCaused, SentIn, SentNoneBehind, at_rest, course, in_call, in_closing, sent_at}
+use Rattle.mg_jobs.specs.Completing.{IsCommandOf}
+use Rattle.mg_jobs.specs.Completing as completing
 use Rattle.mg_jobs.specs.Counts.{HoldsNewest, NewestAt, StartedBy}
 use Rattle.mg_jobs.specs.Drawing.{AreLater, HadTurn, HaveDrawn, JobHadTurn, JobHasIds, as_sent, drawn_in, first_id, has_turn, with_ids}
 use Rattle.mg_jobs.specs.Follows.{Followed, FollowedFrom, HasGiven, IsArgsFor, IsUnfinished, Placing, events_of, filter_in, same_place, token_at}
@@ -34,7 +38,8 @@ use Rattle.mg_script.specs.Plan.{Begin, Task, begin}
 use Rattle.mg_jobs.specs.Playing.{IsSameFollow, IsSameInsert, end_of, follow_ended, inserts_ended, job_ticket, stage_ticket}
 use Rattle.mg_jobs.specs.Progress.{AllAt, Came, FollowAt, HoldsIf, InsertAt, IsAt, IsOpen, calls_of, came, pends_last, turns_done}
 use Rattle.mg_jobs.specs.Runs.{AreApart, Goes, IsSameJob, has_ended}
-use Rattle.mg_jobs.specs.Telling.{AllSent, AllTell, Extends, FirstTells, FollowTells, FollowTold, InsertBegins, InsertTells, InsertTold, InsertTurns, IsNow, IsOpened, IsSameTeller, JobTells, JobTold, Kept, Places, TellsEnd, TellsNothing, TellsOn, kept, number}
+use Rattle.mg_jobs.specs.Sends.{AllSendOnly, MaySend, SendsOnly}
+use Rattle.mg_jobs.specs.Telling.{AllSent, AllTell, Extends, FirstTells, FollowTells, FollowTold, InsertBegins, InsertTells, InsertTold, InsertTurns, IsNow, IsOpened, IsSameTeller, IsWatchArgs, JobTells, JobTold, Kept, Places, TellsEnd, TellsNothing, TellsOn, kept, number}
 use Rattle.mg_script.specs.declared.outcome.Ended.{Ended}
 use Rattle.mg_script.specs.declared.outcome.Ended.TheVariants as ended
 use Rattle.mg_script.specs.declared.outcome.Outcome.{Outcome}
@@ -56,6 +61,7 @@ use Rattle.mg_jobs.proofs.Drawing.{id_had, id_next, id_own, ids_from, none_had, 
 use Rattle.mg_jobs.proofs.Identified.{calls_identified, honest_over, opened_well}
 use Rattle.mg_jobs.proofs.InsertTelling.{ends_of, insert_tells_grow, none_done, ready_begins, ready_turns, stage_stays}
 use Rattle.mg_jobs.proofs.Newest.{newest_other, newest_own, none_sent}
+use Rattle.mg_jobs.proofs.Sends.{sends_first, sends_other, sends_quiet, sends_turn, sent_had}
 use Rattle.mg_jobs.proofs.Telling.{grows_ended, grows_later, sent_since, since_is, tells_at, tells_later, tells_same}
 use Rattle.mg_jobs.proofs.Turning.{failed_not_unfinished, follow_followed, unfinished_not_given}
 use Rattle.mg_jobs.proofs.Vainly.{nothing_at, outcome_vain}
@@ -79,7 +85,7 @@ follow_teller ids f f' same = (same.stage_same, kept_same f f' same)
 -- a job that has ended
 pub stays_telling : (awaited : Awaited) (log : Told) (wire : ℤ) (p : Player) → JobTells awaited awaited log log wire p p same_place
 stays_telling awaited log wire (player.Insert job) = ((refl, refl, λ has. has), λ sent. stage_stays awaited log wire (space job.ns.now) sent job.stage)
-stays_telling awaited log wire (player.Follow job) = tells_same awaited log wire job.stage (kept job)
+stays_telling awaited log wire (player.Follow job) = (refl, tells_same awaited log wire job.stage (kept job))
 stays_telling awaited log wire player.Put = tt
 stays_telling awaited log wire player.Get = tt
 
@@ -87,8 +93,10 @@ stays_telling awaited log wire player.Get = tt
 pub same_tells : (awaited : Awaited) (log : Told) (wire : ℤ) (p q : Player) → IsSameJob p q → JobTells awaited awaited log log wire p q same_place
 same_tells awaited log wire (player.Insert job) q same = subst (λ (x : Player). JobTells awaited awaited log log wire (player.Insert job) x same_place) (sym same) (stays_telling awaited log wire (player.Insert job))
 same_tells awaited log wire (player.Follow job) q same =
-    subst (λ (x : Player). JobTells awaited awaited log log wire (player.Follow job) x same_place) (sym same.1)
-    (subst (λ (x : Kept). FollowTells awaited awaited log log wire job.stage (kept job) same.0.stage x same_place) (sym (kept_same job same.0 same.2)) (tells_at awaited awaited log log wire job.stage job.stage (kept job) job.stage same.0.stage (kept job) same_place refl same.2.stage_same (tells_same awaited log wire job.stage (kept job))))
+    subst (λ (x : Player). JobTells awaited awaited log log wire (player.Follow job) x same_place) (sym same.1) (
+      same.2.watched_same,
+      subst (λ (x : Kept). FollowTells awaited awaited log log wire job.stage (kept job) same.0.stage x same_place) (sym (kept_same job same.0 same.2)) (tells_at awaited awaited log log wire job.stage job.stage (kept job) job.stage same.0.stage (kept job) same_place refl same.2.stage_same (tells_same awaited log wire job.stage (kept job))),
+    )
 same_tells awaited log wire player.Put q same = subst (λ (x : Player). JobTells awaited awaited log log wire player.Put x same_place) (sym same) tt
 same_tells awaited log wire player.Get q same = subst (λ (x : Player). JobTells awaited awaited log log wire player.Get x same_place) (sym same) tt
 
@@ -112,8 +120,10 @@ ready_tells ids old new log log' wire (player.Insert job) player.Put p' next sam
 ready_tells ids old new log log' wire (player.Insert job) player.Get p' next same told = absurd same
 ready_tells ids old new log log' wire (player.Follow job) (player.Insert other) p' next same told = absurd same
 ready_tells ids old new log log' wire (player.Follow job) (player.Follow other) (player.Insert job') next same told = told
-ready_tells ids old new log log' wire (player.Follow job) (player.Follow other) (player.Follow job') next same told =
-    subst (λ (x : Kept). FollowTells old new log log' wire job.stage x job'.stage (kept job') next) same.1 (tells_at old new log log' wire other.stage job.stage (kept other) job'.stage job'.stage (kept job') next same.0 refl told)
+ready_tells ids old new log log' wire (player.Follow job) (player.Follow other) (player.Follow job') next same told = (
+  told.0 ∙ ap (λ (x : Kept). x.watched) same.1,
+  subst (λ (x : Kept). FollowTells old new log log' wire job.stage x job'.stage (kept job') next) same.1 (tells_at old new log log' wire other.stage job.stage (kept other) job'.stage job'.stage (kept job') next same.0 refl told.1),
+)
 ready_tells ids old new log log' wire (player.Follow job) (player.Follow other) player.Put next same told = told
 ready_tells ids old new log log' wire (player.Follow job) (player.Follow other) player.Get next same told = told
 ready_tells ids old new log log' wire (player.Follow job) player.Put p' next same told = absurd same
@@ -196,11 +206,27 @@ module _ (begun : ℕ) (order : List ℕ) (notes : List Turned) (j : ℕ) (note 
       }
 
   -- another job's turn
-  told_other : (old new : Awaited) (calls calls' : List Call) (wire : ℤ) (i : ℕ) (s : Stage) (k : Kept) (at : Option ℕ) → Keeps calls calls' → ((m : ℕ) → stage_ticket s ≡ Some m → new m ≡ old m) → FollowTold old calls wire now i s k at → FollowTold new calls' wire then i s k at
-  told_other old new calls calls' wire i s k at keeps same t = record { places = t.places; tells = tells_later old new calls calls' wire t.places s k at keeps same t.tells; sent = all_later i t.places (number s k) t.sent }
+  told_other : (old new : Awaited) (calls calls' : List Call) (wire : ℤ) (i : ℕ) (s : Stage) (k : Kept) (at : Option ℕ) → (i ≡ j → ⊥) → length order ≡ length notes → length calls ≡ begun + sum_by (λ (t : Turned). t.started) notes → Keeps calls calls' → ((m : ℕ) → stage_ticket s ≡ Some m → new m ≡ old m) → FollowTold old calls wire now i s k at → FollowTold new calls' wire then i s k at
+  told_other old new calls calls' wire i s k at ne abreast count keeps same t =
+      record {
+        places = t.places;
+        tells = tells_later old new calls calls' wire t.places s k at keeps same t.tells;
+        sent = all_later i t.places (number s k) t.sent;
+        sends = sends_other (IsCommandOf (IsWatchArgs k.watched)) begun order notes j note abreast calls calls' count i ne keeps t.sends;
+      }
 
-  job_other : (ids : ℕ → List ℕ) (ts : List Task) (old new : Awaited) (calls calls' : List Call) (wire : ℤ) (i : ℕ) (p : Player) (at : Option ℕ) → (i ≡ j → ⊥) → Keeps calls calls' → ((m : ℕ) → job_ticket p ≡ Some m → new m ≡ old m) → JobTold ids (first_id ts order i) old calls wire now i p at → JobTold ids (first_id ts (order ++ j ∷ []) i) new calls' wire then i p at
-  job_other ids ts old new calls calls' wire i (player.Insert job) at ne keeps same t =
+  -- what an insert sends is known once it had a turn
+  insert_other : (ids : ℕ → List ℕ) (ts : List Task) (calls calls' : List Call) (i : ℕ) (at : Space) (ds : List Fields) → (i ≡ j → ⊥) → length order ≡ length notes → length calls ≡ begun + sum_by (λ (t : Turned). t.started) notes → Keeps calls calls' → SendsOnly (IsInsertOf at (with_ids ids (first_id ts order i) ds)) now i calls → SendsOnly (IsInsertOf at (with_ids ids (first_id ts (order ++ j ∷ []) i) ds)) then i calls'
+  insert_other ids ts calls calls' i at ds ne abreast count keeps sends =
+      let on = sends_other (IsInsertOf at (with_ids ids (first_id ts order i) ds)) begun order notes j note abreast calls calls' count i ne keeps sends in
+      record {
+        each = λ k place call sent there.
+            let had : has_turn i order ≡ true = sym (turn_other i j order ne) ∙ sent_had then i k place sent in
+            subst (λ (n : ℕ). IsInsertOf at (with_ids ids n ds) (fields call.command)) (sym (id_had ts i j order had)) (on.each k place call sent there);
+      }
+
+  job_other : (ids : ℕ → List ℕ) (ts : List Task) (old new : Awaited) (calls calls' : List Call) (wire : ℤ) (i : ℕ) (p : Player) (at : Option ℕ) → (i ≡ j → ⊥) → length order ≡ length notes → length calls ≡ begun + sum_by (λ (t : Turned). t.started) notes → Keeps calls calls' → ((m : ℕ) → job_ticket p ≡ Some m → new m ≡ old m) → JobTold ids (first_id ts order i) old calls wire now i p at → JobTold ids (first_id ts (order ++ j ∷ []) i) new calls' wire then i p at
+  job_other ids ts old new calls calls' wire i (player.Insert job) at ne abreast count keeps same t =
       record {
         places = t.places;
         sent = λ place of. sent_later i 0 place (t.sent place of);
@@ -208,10 +234,11 @@ module _ (begun : ℕ) (order : List ℕ) (notes : List Turned) (j : ℕ) (note 
             let had_so : has_turn i order ≡ true = sym (turn_other i j order ne) ∙ had in
             subst (λ (n : ℕ). InsertTells new (sent_at t.places calls' wire) (space job.ns.now) (with_ids ids n job.documents.now) job.stage) (sym (id_had ts i j order had_so))
             (insert_tells_grow (sent_at t.places calls wire) (sent_at t.places calls' wire) (grows_later t.places calls calls' wire keeps) (space job.ns.now) (with_ids ids (first_id ts order i) job.documents.now) old new job.stage same (t.tells had_so));
+        sends = insert_other ids ts calls calls' i (space job.ns.now) job.documents.now ne abreast count keeps t.sends;
       }
-  job_other ids ts old new calls calls' wire i (player.Follow job) at ne keeps same t = told_other old new calls calls' wire i job.stage (kept job) at keeps same t
-  job_other ids ts old new calls calls' wire i player.Put at ne keeps same t = tt
-  job_other ids ts old new calls calls' wire i player.Get at ne keeps same t = tt
+  job_other ids ts old new calls calls' wire i (player.Follow job) at ne abreast count keeps same t = told_other old new calls calls' wire i job.stage (kept job) at ne abreast count keeps same t
+  job_other ids ts old new calls calls' wire i player.Put at ne abreast count keeps same t = sends_other (λ command. ⊥) begun order notes j note abreast calls calls' count i ne keeps t
+  job_other ids ts old new calls calls' wire i player.Get at ne abreast count keeps same t = sends_other (λ command. ⊥) begun order notes j note abreast calls calls' count i ne keeps t
 
   -- its own turn
   module _ (abreast : length notes ≡ length order) (from upto n : ℕ) (from_is : from ≡ begun + sum_by (λ (t : Turned). t.started) notes) (upto_is : upto ≡ from + note.started) (counts : (n ≡ turns_done j order notes) ⊎ (note.started ≡ 0)) where
@@ -252,16 +279,21 @@ module _ (begun : ℕ) (order : List ℕ) (notes : List Turned) (j : ℕ) (note 
         }
 
   told_turn : (old new : Awaited) (log log' : Told) (calls calls' : List Call) (wire : ℤ) (s : Stage) (k : Kept) (s' : Stage) (k' : Kept) (next : Placing) (at : Option ℕ) → log ≡ Some calls → log' ≡ Some calls' → length notes ≡ length order → length calls ≡ begun + sum_by (λ (t : Turned). t.started) notes → length calls' ≡ length calls + note.started
-      → (number s k ≡ turns_done j order notes) ⊎ (note.started ≡ 0) → FollowTells old new log log' wire s k s' k' next → FollowTold old calls wire now j s k at → FollowTold new calls' wire then j s' k' (next at)
-  told_turn old new log log' calls calls' wire s k s' k' next at is is' abreast count more counts tells t =
+      → (number s k ≡ turns_done j order notes) ⊎ (note.started ≡ 0) → k'.watched ≡ k.watched → FollowTells old new log log' wire s k s' k' next → FollowTold old calls wire now j s k at → FollowTold new calls' wire then j s' k' (next at)
+  told_turn old new log log' calls calls' wire s k s' k' next at is is' abreast count more counts same tells t =
       let r = tells calls calls' is is' t.places at t.tells in
-      record { places = r.places; tells = r.tells; sent = all_now abreast (length calls) (length calls') (number s k) count more counts t.places r.places (number s' k') t.sent r.extends }
+      record {
+        places = r.places;
+        tells = r.tells;
+        sent = all_now abreast (length calls) (length calls') (number s k) count more counts t.places r.places (number s' k') t.sent r.extends;
+        sends = subst (λ (v : Watched). SendsOnly (IsCommandOf (IsWatchArgs v)) then j calls') (sym same) (sends_turn (IsCommandOf (IsWatchArgs k.watched)) begun order notes j note (sym abreast) calls calls' count r.adds t.sends);
+      }
 
-  nothing_told : (ids : ℕ → List ℕ) (first : ℕ) (awaited : Awaited) (calls : List Call) (wire : ℤ) (c : Course) (i : ℕ) (p : Player) (at : Option ℕ) → TellsNothing p → JobTold ids first awaited calls wire c i p at
-  nothing_told ids first awaited calls wire c i (player.Insert job) at none = absurd none
-  nothing_told ids first awaited calls wire c i (player.Follow job) at none = absurd none
-  nothing_told ids first awaited calls wire c i player.Put at none = tt
-  nothing_told ids first awaited calls wire c i player.Get at none = tt
+  nothing_told : (ids : ℕ → List ℕ) (first : ℕ) (awaited : Awaited) (calls : List Call) (wire : ℤ) (c : Course) (i : ℕ) (p : Player) (at : Option ℕ) → TellsNothing p → SendsOnly (λ command. ⊥) c i calls → JobTold ids first awaited calls wire c i p at
+  nothing_told ids first awaited calls wire c i (player.Insert job) at none sends = absurd none
+  nothing_told ids first awaited calls wire c i (player.Follow job) at none sends = absurd none
+  nothing_told ids first awaited calls wire c i player.Put at none sends = sends
+  nothing_told ids first awaited calls wire c i player.Get at none sends = sends
 
   counts_at : (n : ℕ) (over : Bool) → (n ≡ turns_done j order notes) ⊎ (over ≡ true) → (over ≡ true → note.started ≡ 0) → (n ≡ turns_done j order notes) ⊎ (note.started ≡ 0)
   counts_at n over (inl is) quiet = inl is
@@ -270,11 +302,11 @@ module _ (begun : ℕ) (order : List ℕ) (notes : List Turned) (j : ℕ) (note 
   -- what an insert sends is told in its first turn, and stays so
   insert_told : (ids given : ℕ → List ℕ) (ts : List Task) (old new : Awaited) (log log' : Told) (calls calls' : List Call) (wire : ℤ) (job job' : InsertPlayer) → log ≡ Some calls → log' ≡ Some calls' → AreLater ids (drawn_in ts order) given → (b : Bool) → has_turn j order ≡ b → HadTurn b job.stage
       → ((sent : List Fields) → InsertTurns old new log log' wire (space job.ns.now) sent job.stage job'.stage) → (job.stage ≡ inserts.Unsent → InsertBegins new log log' wire (space job.ns.now) (with_ids given 0 job.documents.now) job'.stage)
-      → (t : InsertTold ids (first_id ts order j) old calls wire now j job) → InsertTells new (past_of t.places (length calls) calls' wire) (space job.ns.now) (with_ids ids (first_id ts order j) job.documents.now) job'.stage
+      → (t : InsertTold ids (first_id ts order j) old calls wire now j job) → InsertTells new (past_of t.places (length calls) calls' wire) (space job.ns.now) (with_ids ids (first_id ts order j) job.documents.now) job'.stage × AddsOnly (IsInsertOf (space job.ns.now) (with_ids ids (first_id ts order j) job.documents.now)) calls calls'
   insert_told ids given ts old new log log' calls calls' wire job job' is is' stands true had at turns first t =
       turns (with_ids ids (first_id ts order j) job.documents.now) calls calls' is is' t.places (t.tells had)
   insert_told ids given ts old new log log' calls calls' wire job job' is is' stands false none at turns first t =
-      subst (λ (ds : List Fields). InsertTells new (past_of t.places (length calls) calls' wire) (space job.ns.now) ds job'.stage) (ids_from ids given (drawn_in ts order) job.documents.now stands ∙ ap (λ n. with_ids ids n job.documents.now) (sym (id_next ts j order none)))
+      subst (λ (ds : List Fields). InsertTells new (past_of t.places (length calls) calls' wire) (space job.ns.now) ds job'.stage × AddsOnly (IsInsertOf (space job.ns.now) ds) calls calls') (ids_from ids given (drawn_in ts order) job.documents.now stands ∙ ap (λ n. with_ids ids n job.documents.now) (sym (id_next ts j order none)))
       (first (none_had job.stage at) calls calls' is is' t.places)
 
   insert_turn : (ids given : ℕ → List ℕ) (ts : List Task) (old new : Awaited) (log log' : Told) (calls calls' : List Call) (wire : ℤ) (job job' : InsertPlayer) → log ≡ Some calls → log' ≡ Some calls' → length notes ≡ length order → length calls ≡ begun + sum_by (λ (t : Turned). t.started) notes → length calls' ≡ length calls + note.started
@@ -285,31 +317,35 @@ module _ (begun : ℕ) (order : List ℕ) (notes : List Turned) (j : ℕ) (note 
       let upto : ℕ = length calls' in
       let places : List ℕ = sent_since t.places from upto in
       let sent : List Fields = with_ids ids (first_id ts order j) job.documents.now in
+      let r = insert_told ids given ts old new log log' calls calls' wire job job' is is' stands (has_turn j order) refl at turns first t in
       let told : InsertTells new (sent_at places calls' wire) (space job.ns.now) sent job'.stage =
-      insert_tells_grow (past_of t.places from calls' wire) (sent_at places calls' wire) (grows_ended t.places from calls' wire) (space job.ns.now) sent new new job'.stage (λ m e. refl)
-      (insert_told ids given ts old new log log' calls calls' wire job job' is is' stands (has_turn j order) refl at turns first t) in
+      insert_tells_grow (past_of t.places from calls' wire) (sent_at places calls' wire) (grows_ended t.places from calls' wire) (space job.ns.now) sent new new job'.stage (λ m e. refl) r.0 in
+      let sends : SendsOnly (IsInsertOf (space job.ns.now) sent) then j calls' = sends_turn (IsInsertOf (space job.ns.now) sent) begun order notes j note (sym abreast) calls calls' count r.1 t.sends in
       record {
         places = places;
         sent = λ place of. sent_now abreast from upto 0 count more counts (record { opened = []; owns = []; now = t.places }) place t.sent (since_is t.places from upto place (omega (arith, more)) of);
         tells = λ had.
             subst (λ (n : ℕ). InsertTells new (sent_at places calls' wire) (space job'.ns.now) (with_ids ids n job'.documents.now) job'.stage) (sym (id_own ts j order))
             (subst (λ d. InsertTells new (sent_at places calls' wire) (space job'.ns.now) (with_ids ids (first_id ts order j) d.now) job'.stage) (sym same.1) (subst (λ n. InsertTells new (sent_at places calls' wire) (space n.now) sent job'.stage) (sym same.0) told));
+        sends =
+            subst (λ (n : ℕ). SendsOnly (IsInsertOf (space job'.ns.now) (with_ids ids n job'.documents.now)) then j calls') (sym (id_own ts j order))
+            (subst (λ d. SendsOnly (IsInsertOf (space job'.ns.now) (with_ids ids (first_id ts order j) d.now)) then j calls') (sym same.1) (subst (λ n. SendsOnly (IsInsertOf (space n.now) sent) then j calls') (sym same.0) sends));
       }
 
-  job_turn : (ids given : ℕ → List ℕ) (ts : List Task) (old new : Awaited) (log log' : Told) (calls calls' : List Call) (wire : ℤ) (p p' : Player) (next : Placing) (at : Option ℕ) (n : ℕ) (last : Bool) → log ≡ Some calls → log' ≡ Some calls' → length notes ≡ length order → length calls ≡ begun + sum_by (λ (t : Turned). t.started) notes → length calls' ≡ length calls + note.started
+  job_turn : (ids given : ℕ → List ℕ) (ts : List Task) (old new : Awaited) (log log' : Told) (calls calls' : List Call) (wire : ℤ) (p p' : Player) (next : Placing) (at : Option ℕ) (n : ℕ) (last : Bool) → log ≡ Some calls → log' ≡ Some calls' → length notes ≡ length order → length calls ≡ begun + sum_by (λ (t : Turned). t.started) notes → length calls' ≡ length calls + note.started → Keeps calls calls'
       → IsAt n p (turns_done j order notes) last → (has_ended p ≡ true → note.started ≡ 0) → AreLater ids (drawn_in ts order) given → JobHadTurn (has_turn j order) p → JobTells old new log log' wire p p' next → FirstTells given new log log' wire p p' → JobTold ids (first_id ts order j) old calls wire now j p at → JobTold ids (first_id ts (order ++ j ∷ []) j) new calls' wire then j p' (next at)
-  job_turn ids given ts old new log log' calls calls' wire (player.Insert job) (player.Insert job') next at n last is is' abreast count more is_at quiet stands had tells first t =
+  job_turn ids given ts old new log log' calls calls' wire (player.Insert job) (player.Insert job') next at n last is is' abreast count more keeps is_at quiet stands had tells first t =
       insert_turn ids given ts old new log log' calls calls' wire job job' is is' abreast count more (counts_at 0 (has_ended (player.Insert job)) (none_done job.stage (turns_done j order notes) _ is_at) quiet) stands had tells.0 tells.1 (first job' refl) t
-  job_turn ids given ts old new log log' calls calls' wire (player.Insert job) (player.Follow job') next at n last is is' abreast count more is_at quiet stands had tells first t = absurd tells
-  job_turn ids given ts old new log log' calls calls' wire (player.Insert job) player.Put next at n last is is' abreast count more is_at quiet stands had tells first t = absurd tells
-  job_turn ids given ts old new log log' calls calls' wire (player.Insert job) player.Get next at n last is is' abreast count more is_at quiet stands had tells first t = absurd tells
-  job_turn ids given ts old new log log' calls calls' wire (player.Follow job) (player.Insert job') next at n last is is' abreast count more is_at quiet stands had tells first t = absurd tells
-  job_turn ids given ts old new log log' calls calls' wire (player.Follow job) (player.Follow job') next at n last is is' abreast count more is_at quiet stands had tells first t =
-      told_turn old new log log' calls calls' wire job.stage (kept job) job'.stage (kept job') next at is is' abreast count more (counts_at (number job.stage (kept job)) (follow_ended job.stage) (number_at n job.stage (kept job) (came job) (turns_done j order notes) last refl is_at) quiet) tells t
-  job_turn ids given ts old new log log' calls calls' wire (player.Follow job) player.Put next at n last is is' abreast count more is_at quiet stands had tells first t = absurd tells
-  job_turn ids given ts old new log log' calls calls' wire (player.Follow job) player.Get next at n last is is' abreast count more is_at quiet stands had tells first t = absurd tells
-  job_turn ids given ts old new log log' calls calls' wire player.Put p' next at n last is is' abreast count more is_at quiet stands had tells first t = nothing_told ids (first_id ts (order ++ j ∷ []) j) new calls' wire then j p' (next at) tells
-  job_turn ids given ts old new log log' calls calls' wire player.Get p' next at n last is is' abreast count more is_at quiet stands had tells first t = nothing_told ids (first_id ts (order ++ j ∷ []) j) new calls' wire then j p' (next at) tells
+  job_turn ids given ts old new log log' calls calls' wire (player.Insert job) (player.Follow job') next at n last is is' abreast count more keeps is_at quiet stands had tells first t = absurd tells
+  job_turn ids given ts old new log log' calls calls' wire (player.Insert job) player.Put next at n last is is' abreast count more keeps is_at quiet stands had tells first t = absurd tells
+  job_turn ids given ts old new log log' calls calls' wire (player.Insert job) player.Get next at n last is is' abreast count more keeps is_at quiet stands had tells first t = absurd tells
+  job_turn ids given ts old new log log' calls calls' wire (player.Follow job) (player.Insert job') next at n last is is' abreast count more keeps is_at quiet stands had tells first t = absurd tells
+  job_turn ids given ts old new log log' calls calls' wire (player.Follow job) (player.Follow job') next at n last is is' abreast count more keeps is_at quiet stands had tells first t =
+      told_turn old new log log' calls calls' wire job.stage (kept job) job'.stage (kept job') next at is is' abreast count more (counts_at (number job.stage (kept job)) (follow_ended job.stage) (number_at n job.stage (kept job) (came job) (turns_done j order notes) last refl is_at) quiet) tells.0 tells.1 t
+  job_turn ids given ts old new log log' calls calls' wire (player.Follow job) player.Put next at n last is is' abreast count more keeps is_at quiet stands had tells first t = absurd tells
+  job_turn ids given ts old new log log' calls calls' wire (player.Follow job) player.Get next at n last is is' abreast count more keeps is_at quiet stands had tells first t = absurd tells
+  job_turn ids given ts old new log log' calls calls' wire player.Put p' next at n last is is' abreast count more keeps is_at quiet stands had tells first t = nothing_told ids (first_id ts (order ++ j ∷ []) j) new calls' wire then j p' (next at) tells (sends_quiet (λ command. ⊥) begun order notes j note (sym abreast) calls calls' count (quiet refl) keeps t)
+  job_turn ids given ts old new log log' calls calls' wire player.Get p' next at n last is is' abreast count more keeps is_at quiet stands had tells first t = nothing_told ids (first_id ts (order ++ j ∷ []) j) new calls' wire then j p' (next at) tells (sends_quiet (λ command. ⊥) begun order notes j note (sym abreast) calls calls' count (quiet refl) keeps t)
 
 -- A run tells on behind the turn of one of its jobs.
 module _ (old new : Awaited) (log log' : Told) (wire : ℤ) (players : List Player) (k : ℕ) (p p' : Player) (at : slice_get players k ≡ Some p) (apart : AreApart old wire players) (goes : Goes old new log log' wire p p') (note : Turned) (started : StartedBy note.started log log') (keeps : Stays log log') (quiet : has_ended p ≡ true → note.started ≡ 0) (given : ℕ → List ℕ) (first : FirstTells given new log log' wire p p') (holds : HoldsNewest (job_ticket p) (job_ticket p') old new log log') where
@@ -338,10 +374,10 @@ module _ (old new : Awaited) (log log' : Told) (wire : ℤ) (players : List Play
                 subst (λ (x : Option ℕ). JobTold ids (first_id ts (order ++ k ∷ []) i) new s.0 wire (course calls (order ++ k ∷ []) (notes ++ note ∷ [])) i a x) (sym (place_here old new log log' wire players k p p' at apart goes before.2.places i mine.0))
                 (subst (λ (x : Player). JobTold ids (first_id ts (order ++ k ∷ []) i) new s.0 wire (course calls (order ++ k ∷ []) (notes ++ note ∷ [])) i x (goes.next (before.2.places k))) mine.1
                 (subst (λ (m : ℕ). JobTold ids (first_id ts (order ++ k ∷ []) m) new s.0 wire (course calls (order ++ k ∷ []) (notes ++ note ∷ [])) m p' (goes.next (before.2.places k))) (sym mine.0)
-                (job_turn (length calls) order notes k note ids given ts old new log log' before.0 s.0 wire p p' goes.next (before.2.places k) (calls_of t) _ before.1 s.1 (sym abreast) count more (all k t p here at) quiet drawn.stands (drawn.each k p at) goes.told first (before.3.each k t p here at))))
+                (job_turn (length calls) order notes k note ids given ts old new log log' before.0 s.0 wire p p' goes.next (before.2.places k) (calls_of t) _ before.1 s.1 (sym abreast) count more kept_calls (all k t p here at) quiet drawn.stands (drawn.each k p at) goes.told first (before.3.each k t p here at))))
             | inr other ↦
                 subst (λ (x : Option ℕ). JobTold ids (first_id ts (order ++ k ∷ []) i) new s.0 wire (course calls (order ++ k ∷ []) (notes ++ note ∷ [])) i a x) (sym (place_other old new log log' wire players k p p' at apart goes before.2.places i other.0))
-                (job_other (length calls) order notes k note ids ts old new before.0 s.0 wire i a (before.2.places i) other.0 kept_calls (stays old new log log' wire players k p p' at apart goes i a other.0 other.1) (before.3.each i t a ht other.1))
+                (job_other (length calls) order notes k note ids ts old new before.0 s.0 wire i a (before.2.places i) other.0 abreast count kept_calls (stays old new log log' wire players k p p' at apart goes i a other.0 other.1) (before.3.each i t a ht other.1))
           ];
           newest = λ i a m place ha e there. elim (which old new log log' wire players k p p' at apart goes i a ha) [
             | inl mine ↦
@@ -369,19 +405,20 @@ tell_whole ids awaited begun log wire ts order k notes players over tell = subst
 
 -- ---- at first
 
-first_follow : (awaited : Awaited) (calls : List Call) (wire : ℤ) (c : Course) (i : ℕ) (s : Stage) (k : Kept) → s ≡ stage.Unopened → k.said ≡ [] → FollowTold awaited calls wire c i s k None
-first_follow awaited calls wire c i s k is none =
+first_follow : (awaited : Awaited) (calls : List Call) (wire : ℤ) (c : Course) (i : ℕ) (s : Stage) (k : Kept) → s ≡ stage.Unopened → k.said ≡ [] → SendsOnly (IsCommandOf (IsWatchArgs k.watched)) c i calls → FollowTold awaited calls wire c i s k None
+first_follow awaited calls wire c i s k is none sends =
     subst (λ (x : Stage). FollowTold awaited calls wire c i x k None) (sym is) (record {
       places = record { opened = []; owns = []; now = [] };
       tells = ((refl, none), refl);
       sent = record { opened = λ place of. absurd of; owns = λ m own there. absurd cc; now = λ place of. absurd of };
+      sends = sends;
     })
 
 first_told : (ids : ℕ → List ℕ) (first : ℕ) (awaited : Awaited) (calls : List Call) (wire : ℤ) (begun : ℕ) (i : ℕ) (p : Player) → IsFirst p → JobTold ids first awaited calls wire (record { begun = begun; order = []; notes = [] }) i p None
-first_told ids first awaited calls wire begun i (player.Insert job) is = record { places = []; sent = λ place of. absurd of; tells = λ had. absurd cc }
-first_told ids first awaited calls wire begun i (player.Follow job) is = first_follow awaited calls wire (record { begun = begun; order = []; notes = [] }) i job.stage (kept job) is.0 is.2.no_answer
-first_told ids first awaited calls wire begun i player.Put is = tt
-first_told ids first awaited calls wire begun i player.Get is = tt
+first_told ids first awaited calls wire begun i (player.Insert job) is = record { places = []; sent = λ place of. absurd of; tells = λ had. absurd cc; sends = sends_first (IsInsertOf (space job.ns.now) (with_ids ids first job.documents.now)) begun i calls }
+first_told ids first awaited calls wire begun i (player.Follow job) is = first_follow awaited calls wire (record { begun = begun; order = []; notes = [] }) i job.stage (kept job) is.0 is.2.no_answer (sends_first (IsCommandOf (IsWatchArgs job.watched)) begun i calls)
+first_told ids first awaited calls wire begun i player.Put is = sends_first (λ command. ⊥) begun i calls
+first_told ids first awaited calls wire begun i player.Get is = sends_first (λ command. ⊥) begun i calls
 
 -- Jobs that have done nothing tell what they should, whatever was called before.
 pub tell_first : (ids : ℕ → List ℕ) (awaited : Awaited) (log : Told) (wire : ℤ) (ts : List Task) (players : List Player) → AreFirst players → AllTell ids awaited log log wire ts [] [] players
@@ -628,3 +665,63 @@ pub followed_so : (ids given : ℕ → List ℕ) (awaited : Awaited) (log log' :
     → HaveDrawn ids given ts order players → AllTell ids awaited log log' wire ts order notes players → AllAt ts order notes players → DoTasks ts players → Knowing awaited log log' players → IfOk result (λ p. AllFollowed log log' ts order p.turns.items p.outcomes.items)
 followed_so ids given awaited log log' wire ts order notes players (Ok p) count of turns drawn tell all does knowing = subst (λ (ns : List Turned). AllFollowed log log' ts order ns p.outcomes.items) (sym turns) (all_followed ids given awaited log log' wire ts order notes players p.outcomes.items count drawn tell all does of knowing)
 followed_so ids given awaited log log' wire ts order notes players (Err e) count of turns drawn tell all does knowing = tt
+
+-- ---- what was sent
+
+-- commands of a follow with such arguments are commands of one with others
+command_by : (are_its are : WatchArgs → Type 0) (command : Fields) → ((a : WatchArgs) → are_its a → are a) → IsCommandOf are_its command → IsCommandOf are command
+command_by are_its are command so (completing.opens args its is) = completing.opens args (so args its) is
+command_by are_its are command so (completing.resumes a wire its is) = completing.resumes a wire (so a.args its) is
+command_by are_its are command so (completing.asks args its id at is) = completing.asks args (so args its) id at is
+command_by are_its are command so (completing.kills at ids is) = completing.kills at ids is
+
+-- a job sends what its task may send
+task_sends : (ids : ℕ → List ℕ) (ts : List Task) (awaited : Awaited) (c : Course) (i : ℕ) (calls : List Call) (wire : ℤ) (t : Task) (p : Player) (at : Option ℕ) → Does t p → JobTold ids (first_id ts c.order i) awaited calls wire c i p at → SendsOnly (MaySend (as_sent ids ts c.order i t)) c i calls
+task_sends ids ts awaited c i calls wire (plan.insert ns docs) (player.Insert job) at does told =
+    let n : ℕ = first_id ts c.order i in
+    record {
+      each = λ k place call sent there.
+          subst (λ (d : List Fields). IsInsertOf ns (with_ids ids n d) (fields call.command)) does.1 (subst (λ (s : Space). IsInsertOf s (with_ids ids n job.documents.now) (fields call.command)) does.0 (told.sends.each k place call sent there));
+    }
+task_sends ids ts awaited c i calls wire (plan.insert ns docs) (player.Follow job) at does told = absurd does
+task_sends ids ts awaited c i calls wire (plan.insert ns docs) player.Put at does told = absurd does
+task_sends ids ts awaited c i calls wire (plan.insert ns docs) player.Get at does told = absurd does
+task_sends ids ts awaited c i calls wire (plan.follow on count start filter batch) (player.Follow job) at does told =
+    let v = job.watched in
+    record {
+      each = λ k place call sent there.
+          command_by (IsWatchArgs v) (IsArgsFor on start filter batch) (fields call.command)
+          (λ a its.
+          subst (λ (u : Target). IsArgsFor u start filter batch a) does.0
+          (subst (λ (b : Begin). IsArgsFor (target v.target.now) b filter batch a) does.1
+          (subst (λ (f : Option Fields). IsArgsFor (target v.target.now) (begin v.start.now) f batch a) does.2
+          (subst (λ (b : Option ℕ). IsArgsFor (target v.target.now) (begin v.start.now) (filter_in v) b a) does.3 its))))
+          (told.sends.each k place call sent there);
+    }
+task_sends ids ts awaited c i calls wire (plan.follow on count start filter batch) (player.Insert job) at does told = absurd does
+task_sends ids ts awaited c i calls wire (plan.follow on count start filter batch) player.Put at does told = absurd does
+task_sends ids ts awaited c i calls wire (plan.follow on count start filter batch) player.Get at does told = absurd does
+task_sends ids ts awaited c i calls wire (plan.put db bucket name id chunk pieces) player.Put at does told = record { each = λ k place call sent there. absurd (told.each k place call sent there) }
+task_sends ids ts awaited c i calls wire (plan.put db bucket name id chunk pieces) (player.Insert job) at does told = absurd does
+task_sends ids ts awaited c i calls wire (plan.put db bucket name id chunk pieces) (player.Follow job) at does told = absurd does
+task_sends ids ts awaited c i calls wire (plan.put db bucket name id chunk pieces) player.Get at does told = absurd does
+task_sends ids ts awaited c i calls wire (plan.get db bucket id read) player.Get at does told = record { each = λ k place call sent there. absurd (told.each k place call sent there) }
+task_sends ids ts awaited c i calls wire (plan.get db bucket id read) (player.Insert job) at does told = absurd does
+task_sends ids ts awaited c i calls wire (plan.get db bucket id read) (player.Follow job) at does told = absurd does
+task_sends ids ts awaited c i calls wire (plan.get db bucket id read) player.Put at does told = absurd does
+
+all_send : (ids given : ℕ → List ℕ) (awaited : Awaited) (log log' : Told) (wire : ℤ) (ts : List Task) (order : List ℕ) (notes : List Turned) (players : List Player) → HaveDrawn ids given ts order players → AllTell ids awaited log log' wire ts order notes players → DoTasks ts players → AllSendOnly ids log log' ts order notes
+all_send ids given awaited log log' wire ts order notes players drawn tell does calls told =
+    let at = tell calls told in (
+      at.0,
+      at.1,
+      (λ i t ht.
+          let p = get_length players ts (sym drawn.jobs) i t ht in
+          task_sends ids ts awaited (course calls order notes) i at.0 wire t p.0 (at.2.places i) (does i t p.0 ht p.1) (at.3.each i t p.0 ht p.1)),
+    )
+
+-- the same of a run, unless memory ran out
+pub sends_so : (ids given : ℕ → List ℕ) (awaited : Awaited) (log log' : Told) (wire : ℤ) (ts : List Task) (order : List ℕ) (notes : List Turned) (players : List Player) (result : Result Played Error) → IfOk result (λ p. p.turns.items ≡ notes)
+    → HaveDrawn ids given ts order players → AllTell ids awaited log log' wire ts order notes players → DoTasks ts players → IfOk result (λ p. AllSendOnly ids log log' ts order p.turns.items)
+sends_so ids given awaited log log' wire ts order notes players (Ok p) turns drawn tell does = subst (λ (ns : List Turned). AllSendOnly ids log log' ts order ns) (sym turns) (all_send ids given awaited log log' wire ts order notes players drawn tell does)
+sends_so ids given awaited log log' wire ts order notes players (Err e) turns drawn tell does = tt

@@ -1,7 +1,6 @@
 -- Whose call it is that waits for its reply.
 use Rattle.std.proofs.Common.{◌≡◌, ◌⊎◌, ◌+◌, ◌<◌, ◌≤◌, ℕ, ℤ, pos, Bool, true, List, [], ◌∷◌, ◌++◌, length, Option, Some, None, Result, Ok, Err, IfOk, sym, ap, ◌∙◌, subst, inl, inr, arith}
 use Rattle.std.specs.Prelude.{is_some, slice_get, slice_set}
-use Rattle.std.specs.List.{sum_by}
 use Rattle.std.proofs.lemmas.Bool.{cases_eq, cases_order}
 use Rattle.std.proofs.lemmas.List.Sums.{sum_by-cons}
 use Rattle.mg_bson.specs.Tree.{Fields}
@@ -35,6 +34,7 @@ use Rattle.mg_jobs.specs.declared.player.Stage.TheVariants as stage
 use Rattle.mg_jobs.specs.declared.run.Player.{Player}
 use Rattle.mg_jobs.specs.declared.run.Player.TheVariants as player
 use Rattle.mg_jobs.proofs.Knowing.{get_length}
+use Rattle.mg_jobs.proofs.Newest.{started_in}
 
 -- ---- the tickets that are out
 
@@ -55,9 +55,6 @@ held_turn before old new players k p p' at tickets holds m out =
     ]
 
 -- ---- one place, one turn
-
-abbrev started_in : List Turned → ℕ
-started_in notes = sum_by (λ (t : Turned). t.started) notes
 
 -- a turn comes behind all that an earlier one started
 starts_behind : (xs ys : List Turned) (x y : Turned) (more more' : List Turned) → xs ++ x ∷ more ≡ ys ++ y ∷ more' → length xs < length ys → started_in xs + x.started ≤ started_in ys

@@ -20,6 +20,7 @@ use Rattle.mg_ops.specs.Failing.{CannotBeInserted, CannotBeSent}
 use Rattle.mg_ops.specs.Limits.{max_documents}
 use Rattle.mg_ops.specs.Writes.{ListsAs}
 use Rattle.mg_change.specs.Calls.{Flies, HeardLast, Past, past_of}
+use Rattle.mg_jobs.specs.Adds.{AddsOnly}
 use Rattle.mg_jobs.specs.Underway.{IsBatch, sent_of}
 use Rattle.mg_jobs.specs.declared.insert.Batches.{Batches}
 use Rattle.mg_jobs.specs.declared.insert.Command.{Command}
@@ -49,6 +50,12 @@ pub record IsPiece (sent piece : List Fields) : Type 0 where
   pub some : 1 ≤ length piece
   pub few : length piece ≤ max_documents
   pub together : FitTogether piece
+
+-- the command inserts some of the documents
+pub record IsInsertOf (at : Space) (sent : List Fields) (command : Fields) : Type 0 where
+  pub piece : List Fields
+  pub part : IsPiece sent piece
+  pub command_is : command ≡ insert_command at piece
 
 -- why an insert that sends these documents fails
 pub data InsertFails (past : Past) (at : Space) (sent : List Fields) (e : Error) : Type 0 where
@@ -88,10 +95,10 @@ InsertCame awaited past at sent (step.Pending i) = InsertsSoFar awaited past at 
 InsertCame awaited past at sent (step.Done n) = Unit {0}
 InsertCame awaited past at sent (step.Failed e) = InsertFails past at sent e
 
--- A poll led an insert on that had sent at these places before.
+-- A poll led an insert on that had sent at these places before, and sent only some of its documents.
 abbrev pub InsertCaused : Awaited → Awaited → Told → Told → ℤ → Inserting → Step Inserting ℕ → Type 0
 InsertCaused old new log log' wire i result = (calls : List Call) → log ≡ Some calls → (places : List ℕ) (at : Space) (sent : List Fields) → InsertsSoFar old (past_of places (length calls) calls wire) at sent i.batches i.command
-    → (calls' : List Call) × (log' ≡ Some calls') × InsertCame new (past_of places (length calls) calls' wire) at sent result
+    → (calls' : List Call) × (log' ≡ Some calls') × InsertCame new (past_of places (length calls) calls' wire) at sent result × AddsOnly (IsInsertOf at sent) calls calls'
 
 -- ---- steps
 
@@ -141,9 +148,9 @@ HeardCame awaited past at sent (heard.Failed e) = InsertFails past at sent e
 -- where the log is told, a poll of a command comes to this
 abbrev pub HearsCaused : Awaited → Awaited → Told → Told → ℤ → Command → Heard → Type 0
 HearsCaused old new log log' wire c result = (calls : List Call) → log ≡ Some calls → (places : List ℕ) (since : ℕ) → since ≤ length calls → (at : Space) (sent : List Fields) → IsSentFor old (past_of places since calls wire) at sent c
-    → (calls' : List Call) × (log' ≡ Some calls') × (since ≤ length calls') × HeardCame new (past_of places since calls' wire) at sent result
+    → (calls' : List Call) × (log' ≡ Some calls') × (since ≤ length calls') × HeardCame new (past_of places since calls' wire) at sent result × AddsOnly (IsInsertOf at sent) calls calls'
 
 -- where the log is told, an insert has come from one state to these batches and this command
 abbrev pub LeadsCaused : Awaited → Awaited → Told → Told → ℤ → Inserting → Batches → Option Command → Type 0
 LeadsCaused old new log log' wire i b waiting = (calls : List Call) → log ≡ Some calls → (places : List ℕ) (at : Space) (sent : List Fields) → InsertsSoFar old (past_of places (length calls) calls wire) at sent i.batches i.command
-    → (calls' : List Call) × (log' ≡ Some calls') × (length calls ≤ length calls') × InsertsSoFar new (past_of places (length calls) calls' wire) at sent b waiting
+    → (calls' : List Call) × (log' ≡ Some calls') × (length calls ≤ length calls') × InsertsSoFar new (past_of places (length calls) calls' wire) at sent b waiting × AddsOnly (IsInsertOf at sent) calls calls'

@@ -22,3 +22,5 @@ pub mod Completing
 pub mod InsertCauses
 pub mod Drawing
 pub mod Fated
+pub mod Adds
+pub mod Sends

@@ -17,6 +17,7 @@ use Rattle.mg_jobs.specs.Counts.{AreNoted, turns_pended}
 use Rattle.mg_jobs.specs.Fated.{AreItsSteps}
 use Rattle.mg_jobs.specs.Drawing.{as_sent}
 use Rattle.mg_jobs.specs.Progress.{AllPlayed}
+use Rattle.mg_jobs.specs.Sends.{MaySend, SendsOnly}
 use Rattle.mg_jobs.specs.Headline.{OutcomeFollowed}
 use Rattle.mg_script.specs.Plan.{Plan, Task, plan, tasks}
 use Rattle.mg_script.specs.Plan as plans
@@ -81,7 +82,7 @@ script_ids script n = counted_id (script.ids ++ 0 ∷ []) n
 -- its own turns; each insert sends its documents with the script's next ids. There is one outcome for each job and one note for each turn, by which it
 -- follows how far each job came. Each note says rightly whether its turn pended: one poll pended in it, or none, and that of the newest command which its
 -- job sent up to then, by the notes; and each call pended as often as its fate says, or less while it waits. A call that waits was sent in a turn of a job
--- whose newest turn pended by its note, and which waits for no other.
+-- whose newest turn pended by its note, and which waits for no other. Each command that a turn sent, by the notes, is one that its job may send.
 pub record RunFollowed (run : Run) : Type 0 where
   pub calls : List Call
   pub log_is : run.logs.items ≡ calls ∷ []
@@ -106,6 +107,8 @@ pub record RunFollowed (run : Run) : Type 0 where
   pub pended_in_turns : pends_in pended ≡ turns_pended turns.items
   pub polled : AllPollOwn (Some []) run.script.order.items turns.items (polls_in []) (polls_in pended)
   pub waits_alone : AllWaitAlone (out_at []) (out_at calls) (Some []) run.script.order.items turns.items
+  pub sends : (i : ℕ) (t : Task) → slice_get (tasks run.script.jobs.items) i ≡ Some t
+      → SendsOnly (MaySend (as_sent (script_ids run.script) (tasks run.script.jobs.items) run.script.order.items i t)) (course [] run.script.order.items turns.items) i calls
 
 -- the run is of the script that was read, over one link
 pub record Ran (old new : Option (List ℕ)) (run : Run) : Type 0 where

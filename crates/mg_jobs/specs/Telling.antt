@@ -17,13 +17,16 @@ use Rattle.mg_change.specs.OpeningCauses.{Opened, OpeningFails, OpensSoFar}
 use Rattle.mg_change.specs.Following.{token_of}
 use Rattle.mg_change.specs.Openings.{IsOpening}
 use Rattle.mg_change.specs.declared.stream.ChangeStream.{ChangeStream}
+use Rattle.mg_jobs.specs.Adds.{AddsOnly}
 use Rattle.mg_jobs.specs.Causes.{Answered, ClosedBy, Course, EndsBy, IsAlive, AllSentIn, SentNoneBehind, course, sent_at}
+use Rattle.mg_jobs.specs.Completing.{IsCommandOf}
 use Rattle.mg_jobs.specs.Follows.{FollowTurns, HasGiven, IsArgsFor, Placing, filter_in}
 use Rattle.mg_jobs.specs.Headline.{AllKnow}
-use Rattle.mg_jobs.specs.InsertCauses.{InsertsSoFar}
+use Rattle.mg_jobs.specs.InsertCauses.{InsertsSoFar, IsInsertOf}
 use Rattle.mg_script.specs.Plan.{Task, begin}
 use Rattle.mg_jobs.specs.Drawing.{first_id, has_turn, with_ids}
 use Rattle.mg_jobs.specs.Playing.{IsSameInsert, job_ticket}
+use Rattle.mg_jobs.specs.Sends.{SendsOnly}
 use Rattle.mg_jobs.specs.Underway.{HasInserted}
 use Rattle.mg_script.specs.declared.outcome.Answer.{Answer}
 use Rattle.mg_script.specs.declared.outcome.Ended.{Ended}
@@ -118,20 +121,21 @@ pub record Extends (q q' : Places) (n n' : ℕ) (from upto : ℕ) : Type 0 where
   pub owns : (k : ℕ) (own : List ℕ) → slice_get q'.owns k ≡ Some own → (slice_get q.owns k ≡ Some own) ⊎ ((suc k ≡ n) × ((place : ℕ) → IsOf own place → IsNow q from upto place))
   pub now : (place : ℕ) → IsOf q'.now place → (n' ≡ n) × IsNow q from upto place
 
--- what a follow tells that told this before, and has sent from this place on
-pub record Tell (awaited : Awaited) (calls : List Call) (wire : ℤ) (q : Places) (n from : ℕ) (s : Stage) (k : Kept) (at : Option ℕ) : Type 0 where
-  pub longer : from ≤ length calls
+-- what a follow with such arguments tells behind a log, where it told of these places before
+pub record Tell (awaited : Awaited) (begun calls : List Call) (wire : ℤ) (v : Watched) (q : Places) (n : ℕ) (s : Stage) (k : Kept) (at : Option ℕ) : Type 0 where
+  pub longer : length begun ≤ length calls
   pub places : Places
   pub tells : Tells awaited calls wire places s k at
-  pub extends : Extends q places n (number s k) from (length calls)
+  pub extends : Extends q places n (number s k) (length begun) (length calls)
+  pub adds : AddsOnly (IsCommandOf (IsWatchArgs v)) begun calls
 
 -- A turn, or a part of one, led a follow from one stage to another: it goes on telling.
 abbrev pub FollowTells : Awaited → Awaited → Told → Told → ℤ → Stage → Kept → Stage → Kept → Placing → Type 0
-FollowTells old new log log' wire s k s' k' next = (calls calls' : List Call) → log ≡ Some calls → log' ≡ Some calls' → (q : Places) (at : Option ℕ) → Tells old calls wire q s k at → Tell new calls' wire q (number s k) (length calls) s' k' (next at)
+FollowTells old new log log' wire s k s' k' next = (calls calls' : List Call) → log ≡ Some calls → log' ≡ Some calls' → (q : Places) (at : Option ℕ) → Tells old calls wire q s k at → Tell new calls calls' wire k.watched q (number s k) s' k' (next at)
 
 -- The same of the rest of a turn, behind the opening or behind an answered call.
 abbrev pub RestTells : Awaited → Told → Told → ℤ → ChangeStream → Kept → Stage → Kept → Type 0
-RestTells new log log' wire stream k s' k' = (calls calls' : List Call) → log ≡ Some calls → log' ≡ Some calls' → (q : Places) (at : Option ℕ) → q.now ≡ [] → IsOpened calls wire q k (standing_of stream) at → Tell new calls' wire q (length k.said) (length calls) s' k' at
+RestTells new log log' wire stream k s' k' = (calls calls' : List Call) → log ≡ Some calls → log' ≡ Some calls' → (q : Places) (at : Option ℕ) → q.now ≡ [] → IsOpened calls wire q k (standing_of stream) at → Tell new calls calls' wire k.watched q (length k.said) s' k' at
 
 -- A follow took a turn: it knows and tells that the same call opened its stream.
 pub record FollowGoesOn (old new : Awaited) (log log' : Told) (wire : ℤ) (s : Stage) (p : FollowPlayer) (s' : Stage) (p' : FollowPlayer) : Type 0 where
@@ -149,12 +153,13 @@ InsertTells awaited past at sent (inserts.Ended end) = EndsBy past at sent end
 
 -- A turn led an insert of these documents to a stage: it tells what it should, at whatever places it had sent before.
 abbrev pub InsertBegins : Awaited → Told → Told → ℤ → Space → List Fields → InsertStage → Type 0
-InsertBegins new log log' wire at sent stage' = (calls calls' : List Call) → log ≡ Some calls → log' ≡ Some calls' → (places : List ℕ) → InsertTells new (past_of places (length calls) calls' wire) at sent stage'
+InsertBegins new log log' wire at sent stage' = (calls calls' : List Call) → log ≡ Some calls → log' ≡ Some calls' → (places : List ℕ)
+    → InsertTells new (past_of places (length calls) calls' wire) at sent stage' × AddsOnly (IsInsertOf at sent) calls calls'
 
 -- A turn led an insert of these documents, which had sent at some places before, from one stage to another: it goes on telling.
 abbrev pub InsertTurns : Awaited → Awaited → Told → Told → ℤ → Space → List Fields → InsertStage → InsertStage → Type 0
 InsertTurns old new log log' wire at sent stage stage' = (calls calls' : List Call) → log ≡ Some calls → log' ≡ Some calls' → (places : List ℕ)
-    → InsertTells old (sent_at places calls wire) at sent stage → InsertTells new (past_of places (length calls) calls' wire) at sent stage'
+    → InsertTells old (sent_at places calls wire) at sent stage → InsertTells new (past_of places (length calls) calls' wire) at sent stage' × AddsOnly (IsInsertOf at sent) calls calls'
 
 -- An insert that had no ids drew them from a source that gave these, and tells what it should; any other is as it was.
 abbrev pub TellsOn : (ℕ → List ℕ) → Space → List Fields → InsertStage → InsertStage → Type 0
@@ -179,7 +184,7 @@ TellsNothing player.Get = Unit {0}
 
 -- A turn led a job from one state to another: it goes on telling.
 abbrev pub JobTells : Awaited → Awaited → Told → Told → ℤ → Player → Player → Placing → Type 0
-JobTells old new log log' wire (player.Follow job) (player.Follow job') next = FollowTells old new log log' wire job.stage (kept job) job'.stage (kept job') next
+JobTells old new log log' wire (player.Follow job) (player.Follow job') next = (job'.watched ≡ job.watched) × FollowTells old new log log' wire job.stage (kept job) job'.stage (kept job') next
 JobTells old new log log' wire (player.Follow job) (player.Insert job') next = ⊥
 JobTells old new log log' wire (player.Follow job) player.Put next = ⊥
 JobTells old new log log' wire (player.Follow job) player.Get next = ⊥
@@ -210,23 +215,25 @@ IsSameTeller ids (player.Insert job) player.Get = ⊥
 IsSameTeller ids player.Put p' = TellsNothing p'
 IsSameTeller ids player.Get p' = TellsNothing p'
 
--- a follow tells what it should, and each of its commands stands in a turn of it
+-- a follow tells what it should, each of its commands stands in a turn of it, and its turns sent no others than it may send
 pub record FollowTold (awaited : Awaited) (calls : List Call) (wire : ℤ) (c : Course) (i : ℕ) (s : Stage) (k : Kept) (at : Option ℕ) : Type 0 where
   pub places : Places
   pub tells : Tells awaited calls wire places s k at
   pub sent : AllSent c i places (number s k)
+  pub sends : SendsOnly (IsCommandOf (IsWatchArgs k.watched)) c i calls
 
 -- so does an insert once it had a turn, which sends its documents with the ids from the one of this number on
 pub record InsertTold (ids : ℕ → List ℕ) (first : ℕ) (awaited : Awaited) (calls : List Call) (wire : ℤ) (c : Course) (i : ℕ) (job : InsertPlayer) : Type 0 where
   pub places : List ℕ
   pub sent : AllSentIn c i 0 places
   pub tells : has_turn i c.order ≡ true → InsertTells awaited (sent_at places calls wire) (space job.ns.now) (with_ids ids first job.documents.now) job.stage
+  pub sends : SendsOnly (IsInsertOf (space job.ns.now) (with_ids ids first job.documents.now)) c i calls
 
 abbrev pub JobTold : (ℕ → List ℕ) → ℕ → Awaited → List Call → ℤ → Course → ℕ → Player → Option ℕ → Type 0
 JobTold ids first awaited calls wire c i (player.Follow job) at = FollowTold awaited calls wire c i job.stage (kept job) at
 JobTold ids first awaited calls wire c i (player.Insert job) at = InsertTold ids first awaited calls wire c i job
-JobTold ids first awaited calls wire c i player.Put at = Unit {0}
-JobTold ids first awaited calls wire c i player.Get at = Unit {0}
+JobTold ids first awaited calls wire c i player.Put at = SendsOnly (λ command. ⊥) c i calls
+JobTold ids first awaited calls wire c i player.Get at = SendsOnly (λ command. ⊥) c i calls
 
 -- each job that has a task tells what it should, where these calls opened their streams, and the notes count what was sent; the ticket of a job is that of
 -- its newest command

@@ -14,6 +14,7 @@ ghost use Rattle.mg_script.specs.Plan.{Task, task, tasks};
 ghost use Rattle.mg_jobs.specs.Progress.{AllAt, AllPlayed, GoesBy, IsAt, IsReadyAt, JobGoes, TurnsBy, calls_of};
 ghost use Rattle.mg_jobs.specs.Causes.{AllCaused, AllPollOwn, AllWaitAlone, PollsOwn};
 ghost use Rattle.mg_jobs.specs.Completing.{AllWell};
+ghost use Rattle.mg_jobs.specs.Sends.{AllSendOnly};
 ghost use Rattle.mg_script.specs.Script.{first_missing};
 ghost use Rattle.mg_jobs.specs.Playing.{job_ticket};
 ghost use Rattle.mg_jobs.specs.Telling.{AllTell, IsSameTeller};
@@ -481,6 +482,8 @@ pub fn run_jobs<L: Link, I: IdSource>(
     // Over a link that tells its log each note says rightly whether its turn pended: one poll pended in it just where it says
     // so, and that of the newest command that its job sent up to then, by the notes.
     ensures polled { IfOk result (λ p. AllPollOwn (L.log link.old) order.now p.turns.items (L.polls link.old) (L.polls link.new)) }
+    // Over a link that tells its log, each command that a turn sent, by the notes, is one that its job may send.
+    ensures sends { IfOk result (λ p. AllSendOnly (I.ids ids.old) (L.log link.old) (L.log link.new) (tasks jobs.now) order.now p.turns.items) }
     // The notes count what was started, and over a prompt link no turn pends.
     ensures started { IfOk result (λ p. StartedBy (sum_by (λ t. t.started) p.turns.items) (L.log link.old) (L.log link.new)) }
     ensures prompt { L.prompt link.old → IfOk result (λ p. All (λ t. t.pended ≡ false) p.turns.items) }

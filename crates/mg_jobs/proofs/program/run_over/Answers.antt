@@ -17,6 +17,7 @@ use Rattle.mg_jobs.specs.Causes.{AllPollOwn, AllWaitAlone, OutcomeCaused, course
 use Rattle.mg_jobs.specs.Drawing.{as_sent}
 use Rattle.mg_jobs.specs.Headline.{OutcomeFollowed}
 use Rattle.mg_jobs.specs.Program.{script_ids}
+use Rattle.mg_jobs.specs.Sends.{MaySend, SendsOnly}
 use Rattle.mg_script.specs.Plan.{Task, tasks}
 use Rattle.mg_script.specs.declared.script.Job.{Job}
 use Rattle.mg_jobs.proofs.Drawing.{sent_same}
@@ -90,4 +91,11 @@ returns-clause-followed g c =
           subst (λ (l : List Call). AllWaitAlone (out_at l) (out_at f.0) (Some l) c.args.script.order.items notes) begun
           (subst (λ (l : List Call). AllWaitAlone (out_at c.new-link.result.calls) (out_at l) (Some c.new-link.result.calls) c.args.script.order.items notes) (same_some c.run_jobs.new.link.calls f.0 f.1)
           (subst (λ (o : List ℕ). AllWaitAlone (out_at c.new-link.result.calls) (out_at c.run_jobs.new.link.calls) (Some c.new-link.result.calls) o notes) c.as_slice-2.ensures.value c.in_ok-played.ensures.waits_alone));
+      sends = λ i t ht.
+          let script = c.args.script in
+          let sent = c.in_ok-played.ensures.sends [] begins in
+          subst (λ (s : Task). SendsOnly (MaySend s) (course [] script.order.items notes) i f.0) (sent_same (script_ids script) drawn (tasks script.jobs.items) script.order.items i t same_ids)
+          (subst (λ (l : List Call). SendsOnly (MaySend (as_sent drawn (tasks script.jobs.items) script.order.items i t)) (course [] script.order.items notes) i l) (same_some sent.0 f.0 (sym sent.1 ∙ f.1))
+          (subst (λ (js : List Job). SendsOnly (MaySend (as_sent drawn (tasks js) script.order.items i t)) (course [] script.order.items notes) i sent.0) jobs
+          (subst (λ (o : List ℕ). SendsOnly (MaySend (as_sent drawn (tasks c.as_slice.result.now) o i t)) (course [] o notes) i sent.0) c.as_slice-2.ensures.value (sent.2 i t (ap (λ l. slice_get (tasks l) i) jobs ∙ ht)))));
     }

@@ -11,7 +11,7 @@ use Rattle.mg_jobs.proofs.Drawing.{drawn_first, drawn_so}
 use Rattle.mg_jobs.proofs.Waiting.{wait_so}
 use Rattle.mg_jobs.proofs.Polling.{polls_so}
 use Rattle.mg_jobs.proofs.Tallies.{noted_so, pended_so}
-use Rattle.mg_jobs.proofs.Told.{caused_so, followed_so, tell_as, tell_first}
+use Rattle.mg_jobs.proofs.Told.{caused_so, followed_so, sends_so, tell_as, tell_first}
 use Rattle.mg_jobs.proofs.run.run_jobs.Goals as goal
 
 pub play-requires-clause-jobs : goal.play-requires-clause-jobs
@@ -93,3 +93,12 @@ returns-clause-polled g c =
     let first = drawn_first (g.I.IdSource.ids c.args.ids.now) (tasks c.args.jobs.now) c.in_ok-runner.runner.players.items jobs c.in_ok-runner.ensures.first in
     polls_so c.into_played.result _ c.args.order.now c.play.new.runner.turns.items _ _ c.into_played.ensures.turns
     (c.in_ok-play.ensures.polled _ (g.L.Link.log c.args.link.now) (tasks c.args.jobs.now) c.in_ok-runner.ensures.tasks c.in_ok-runner.ensures.at first (tell_first _ _ _ _ (tasks c.args.jobs.now) c.in_ok-runner.runner.players.items c.in_ok-runner.ensures.first))
+
+pub returns-clause-sends : goal.returns-clause-sends
+returns-clause-sends g c =
+    let jobs = c.in_ok-runner.ensures.jobs ∙ sym (length-map c.args.jobs.now task) in
+    let first = drawn_first (g.I.IdSource.ids c.args.ids.now) (tasks c.args.jobs.now) c.in_ok-runner.runner.players.items jobs c.in_ok-runner.ensures.first in
+    sends_so (g.I.IdSource.ids c.args.ids.now) (g.I.IdSource.ids c.play.new.ids) _ _ _ _ (tasks c.args.jobs.now) c.args.order.now c.play.new.runner.turns.items c.play.new.runner.players.items c.into_played.result c.into_played.ensures.turns
+    (c.in_ok-play.ensures.drawn _ (tasks c.args.jobs.now) c.in_ok-runner.ensures.tasks first)
+    (c.in_ok-play.ensures.told _ (g.L.Link.log c.args.link.now) (tasks c.args.jobs.now) c.in_ok-runner.ensures.tasks c.in_ok-runner.ensures.at first (tell_first _ _ _ _ (tasks c.args.jobs.now) c.in_ok-runner.runner.players.items c.in_ok-runner.ensures.first))
+    (c.play.ensures.tasks _ c.in_ok-runner.ensures.tasks)

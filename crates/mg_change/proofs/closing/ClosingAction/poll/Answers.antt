@@ -5,6 +5,7 @@ use Rattle.mg_link.specs.Follow.{Moved}
 use Rattle.mg_change.specs.Closings.{IsQuiet, KnewBy, closes_to, closing_in, left_of}
 use Rattle.mg_change.specs.declared.closing.Flight.{Flight}
 use Rattle.mg_change.specs.declared.closing.Flight.TheVariants as flight
+use Rattle.mg_change.proofs.ClosingSends.{landed_sends, last_sends, sends_as}
 use Rattle.mg_change.proofs.Growths.{grows_kills, grows_ran}
 use Rattle.mg_change.proofs.Closed.{closes_on, flies_as, tickets_through}
 use Rattle.mg_change.proofs.Staying.{stays_on}
@@ -201,3 +202,21 @@ returns-in-Older-clause-pended g c = c.go_on-in-Older.ensures.pended (g.L.Link.p
 
 pub returns-in-Older-clause-lost : goal.returns-in-Older-clause-lost
 returns-in-Older-clause-lost g c = c.go_on-in-Older.ensures.lost (g.L.Link.faults c.args.link.now) c.land_older-landing.ensures.later.faults c.land_older-landing.ensures.lost
+
+pub returns-in-Landed-clause-sent : goal.returns-in-Landed-clause-sent
+returns-in-Landed-clause-sent g c = λ q is. sends_as _ _ c.args.self.remains flight.Landed c.args.self.flight c.in-Landed.is (landed_sends _ _ _ _ _ c.args.self.remains c.kill_all.result c.kill_all.ensures.sends)
+
+pub returns-in-More-clause-sent : goal.returns-in-More-clause-sent
+returns-in-More-clause-sent g c = λ q is. absurd (subst (λ (x : Flight). IsQuiet x) c.in-More.is q)
+
+pub returns-in-Resumption-clause-sent : goal.returns-in-Resumption-clause-sent
+returns-in-Resumption-clause-sent g c = λ q is. absurd (subst (λ (x : Flight). IsQuiet x) c.in-Resumption.is q)
+
+pub returns-in-Older-clause-sent : goal.returns-in-Older-clause-sent
+returns-in-Older-clause-sent g c = λ q is. absurd (subst (λ (x : Flight). IsQuiet x) c.in-Older.is q)
+
+pub returns-in-Last-clause-sent : goal.returns-in-Last-clause-sent
+returns-in-Last-clause-sent g c = λ q is.
+    let p = flight.Last c.in-Last.exec in
+    sends_as _ _ c.args.self.remains p c.args.self.flight c.in-Last.is
+    (last_sends _ _ _ _ _ c.args.self.remains c.in-Last.exec c.wait.result (flies_as _ c.args.self.remains p c.args.self.flight c.in-Last.is is.flies) c.wait.ensures.sends)

@@ -1,9 +1,11 @@
 use Rattle.std.proofs.Common.{length, refl, sym, ◌∙◌, arith}
 use Rattle.mg_link.proofs.Onward.{later_on, later_same, tickets_on, tickets_same}
 use Rattle.mg_link.proofs.Killing.{plain_on, plain_stayed}
+use Rattle.mg_jobs.specs.InsertCauses.{IsInsertOf}
 use Rattle.mg_jobs.specs.Inserts.{held}
 use Rattle.mg_jobs.proofs.InsertCauses.{led_failed, led_finished, led_inserted, led_pending, led_stopped}
 use Rattle.mg_jobs.proofs.Plainly.{tickets_from}
+use Rattle.mg_jobs.proofs.Adding.{adds_none}
 use Rattle.mg_jobs.proofs.Sendings.{leads_failed, leads_finished, leads_inserted, leads_pending, leads_stopped}
 use Rattle.mg_jobs.proofs.insert.InsertingAction.poll.Goals as goal
 
@@ -13,7 +15,7 @@ commands-init g c = record {
   plain = λ plain. (plain_stayed _ _ refl, plain);
   pended = refl;
   inserts = λ calls told places wire at documents named has. (calls, told, omega arith, has);
-  caused = λ calls told places at documents has. (calls, told, omega arith, has);
+  caused = λ calls told places at documents has. (calls, told, omega arith, has, adds_none (IsInsertOf at documents) calls);
   later = later_same _ _ _ _;
 }
 

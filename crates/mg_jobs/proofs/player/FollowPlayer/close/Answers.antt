@@ -41,10 +41,10 @@ pub returns-in-Failed-clause-comes : goal.returns-in-Failed-clause-comes
 returns-in-Failed-clause-comes g c = close_done _ _ _ _ c.in-Failed.ensures.pended (subst (λ e. IsFinished e) (sym c.note-in-Failed.ensures) tt) refl refl
 
 pub returns-in-Pending-clause-told : goal.returns-in-Pending-clause-told
-returns-in-Pending-clause-told g c = close_waits_tells _ _ _ _ _ (kept c.args.self.now) c.args.closing c.in-Pending.closing c.in-Pending.ensures.stays (c.in-Pending.ensures.caused c.requires.holds.0)
+returns-in-Pending-clause-told g c = close_waits_tells _ _ _ _ _ (kept c.args.self.now) c.args.closing c.in-Pending.closing c.in-Pending.ensures.stays (c.in-Pending.ensures.sent c.requires.holds.1 c.requires.holds.0) (c.in-Pending.ensures.caused c.requires.holds.0)
 
 pub returns-in-Done-clause-told : goal.returns-in-Done-clause-told
-returns-in-Done-clause-told g c = close_done_tells _ _ _ _ _ (kept c.args.self.now) _ c.args.closing c.note.ensures c.in-Done.ensures.stays (c.in-Done.ensures.caused c.requires.holds.0)
+returns-in-Done-clause-told g c = close_done_tells _ _ _ _ _ (kept c.args.self.now) _ c.args.closing c.note.ensures c.in-Done.ensures.stays (c.in-Done.ensures.sent c.requires.holds.1 c.requires.holds.0) (c.in-Done.ensures.caused c.requires.holds.0)
 
 pub returns-in-Failed-clause-told : goal.returns-in-Failed-clause-told
-returns-in-Failed-clause-told g c = close_fails_tells _ _ _ _ _ (kept c.args.self.now) _ c.args.closing c.in-Failed.error c.note-in-Failed.ensures c.in-Failed.ensures.stays (c.in-Failed.ensures.caused c.requires.holds.0)
+returns-in-Failed-clause-told g c = close_fails_tells _ _ _ _ _ (kept c.args.self.now) _ c.args.closing c.in-Failed.error c.note-in-Failed.ensures c.in-Failed.ensures.stays (c.in-Failed.ensures.sent c.requires.holds.1 c.requires.holds.0) (c.in-Failed.ensures.caused c.requires.holds.0)

@@ -17,7 +17,7 @@ returns-in-Pending-clause-turned g c = record {
     watching = open_pends _ _ _ _ c.args.self.now c.args.opening c.in-Pending.opening c.in-Pending.ensures.keeps.1 c.in-Pending.ensures.keeps.0 c.in-Pending.ensures.moved;
     vainly = vain_open_pends _ _ _ _ c.args.self.now c.args.opening c.in-Pending.opening c.in-Pending.ensures.keeps.1 c.in-Pending.ensures.keeps.0 c.in-Pending.ensures.vain;
   };
-  told = open_waits_tells _ _ _ _ _ (kept c.args.self.now) c.args.opening c.in-Pending.opening c.in-Pending.ensures.keeps.1 c.in-Pending.ensures.keeps.0 c.in-Pending.ensures.stays c.in-Pending.ensures.caused;
+  told = open_waits_tells _ _ _ _ _ (kept c.args.self.now) c.args.opening c.in-Pending.opening c.in-Pending.ensures.keeps.1 c.in-Pending.ensures.keeps.0 c.in-Pending.ensures.stays c.in-Pending.ensures.sent c.in-Pending.ensures.caused;
 }
 
 pub go_on-requires-clause-held : goal.go_on-requires-clause-held
@@ -48,7 +48,7 @@ returns-in-Done-clause-turned g c =
       };
       told =
           open_done_tells _ (g.L.Link.awaited c.poll.new.link) _ _ _ _ _ _ (kept c.args.self.now) (record (kept c.args.self.now) { opened = c.note.new.slot; alive = c.is_alive-self.result }) c.args.opening c.in-Done.stream _ _ c.go_on.ensures.told refl (subst (λ o. HasGiven o) (sym c.note.ensures) tt) refl c.is_alive-self.ensures c.in-Done.ensures.later.wire
-          c.in-Done.ensures.stays c.in-Done.ensures.placed.place c.in-Done.ensures.placed.caused;
+          c.in-Done.ensures.stays c.in-Done.ensures.sent c.in-Done.ensures.placed.place c.in-Done.ensures.placed.caused;
     }
 
 pub returns-in-Failed-clause-turned : goal.returns-in-Failed-clause-turned
@@ -58,7 +58,7 @@ returns-in-Failed-clause-turned g c = record {
     watching = open_failed _ _ _ _ c.args.self.now _ c.args.opening (record { watched = refl; answers = refl; token = refl }) (subst (λ o. IsFailed o) (sym c.note-in-Failed.ensures) tt) c.in-Failed.ensures.moved;
     vainly = vain_open_failed _ _ _ _ c.args.self.now _ c.args.opening c.in-Failed.error (record { watched = refl; answers = refl; token = refl }) (subst (λ o. IsFailed o) (sym c.note-in-Failed.ensures) tt) c.in-Failed.ensures.vain;
   };
-  told = open_fails_tells _ _ _ _ _ (kept c.args.self.now) _ c.args.opening c.in-Failed.error refl c.note-in-Failed.ensures c.in-Failed.ensures.stays c.in-Failed.ensures.caused;
+  told = open_fails_tells _ _ _ _ _ (kept c.args.self.now) _ c.args.opening c.in-Failed.error refl c.note-in-Failed.ensures c.in-Failed.ensures.stays c.in-Failed.ensures.sent c.in-Failed.ensures.caused;
 }
 
 pub returns-in-Pending-clause-comes : goal.returns-in-Pending-clause-comes

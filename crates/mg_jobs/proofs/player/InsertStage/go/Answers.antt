@@ -22,7 +22,7 @@ pub returns-in-Pending-clause-told : goal.returns-in-Pending-clause-told
 returns-in-Pending-clause-told g c = rw c.in-Goes.is (λ at documents. stage_waits (g.L.Link.awaited c.args.link.now) (g.L.Link.awaited c.poll.new.link) (g.L.Link.log c.args.link.now) (g.L.Link.log c.poll.new.link) (g.L.Link.wire c.args.link.now) at documents c.in-Goes.inserting c.in-Pending.inserting c.in-Pending.ensures.caused c.in-Pending.ensures.inserts)
 
 pub returns-in-Done-clause-told : goal.returns-in-Done-clause-told
-returns-in-Done-clause-told g c = rw c.in-Goes.is (λ at documents. stage_done (g.L.Link.awaited c.args.link.now) (g.L.Link.awaited c.poll.new.link) (g.L.Link.log c.args.link.now) (g.L.Link.log c.poll.new.link) (g.L.Link.wire c.args.link.now) at documents c.in-Goes.inserting c.in-Done.count c.in-Done.ensures.inserts)
+returns-in-Done-clause-told g c = rw c.in-Goes.is (λ at documents. stage_done (g.L.Link.awaited c.args.link.now) (g.L.Link.awaited c.poll.new.link) (g.L.Link.log c.args.link.now) (g.L.Link.log c.poll.new.link) (g.L.Link.wire c.args.link.now) at documents c.in-Goes.inserting c.in-Done.count c.in-Done.ensures.caused c.in-Done.ensures.inserts)
 
 pub returns-in-Failed-clause-told : goal.returns-in-Failed-clause-told
 returns-in-Failed-clause-told g c = rw c.in-Goes.is (λ at documents. stage_fails (g.L.Link.awaited c.args.link.now) (g.L.Link.awaited c.poll.new.link) (g.L.Link.log c.args.link.now) (g.L.Link.log c.poll.new.link) (g.L.Link.wire c.args.link.now) at documents c.in-Goes.inserting c.in-Failed.error c.in-Failed.ensures.caused)

@@ -24,7 +24,7 @@ returns-in-Follow-clause-goes g c = rw c.in-Follow.is (record {
   tickets = c.go-in-Follow.ensures.tickets;
   holds = c.go-in-Follow.ensures.holds;
   next = c.go-in-Follow.ensures.turned.next;
-  told = tells_over _ _ _ _ _ _ c.in-Follow.follow.stage (kept c.in-Follow.follow) c.go-in-Follow.new.self.stage (kept c.go-in-Follow.new.self) c.go-in-Follow.ensures.turned.next c.go-in-Follow.ensures.later.wire c.go-in-Follow.ensures.turned.told;
+  told = (c.go-in-Follow.ensures.watched, tells_over _ _ _ _ _ _ c.in-Follow.follow.stage (kept c.in-Follow.follow) c.go-in-Follow.new.self.stage (kept c.go-in-Follow.new.self) c.go-in-Follow.ensures.turned.next c.go-in-Follow.ensures.later.wire c.go-in-Follow.ensures.turned.told);
   turned = turned_follow (g.L.Link.awaited c.args.link.now) (g.L.Link.awaited c.go-in-Follow.new.link) (g.L.Link.log c.args.link.now) (g.L.Link.log c.go-in-Follow.new.link) c.in-Follow.follow c.go-in-Follow.new.self c.go-in-Follow.ensures.turned.next c.go-in-Follow.ensures.turned.turned;
   task = same_watch c.in-Follow.follow c.go-in-Follow.new.self c.go-in-Follow.ensures.watched;
 })
