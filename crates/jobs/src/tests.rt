@@ -14,6 +14,7 @@ mod mem_link;
 mod operations;
 mod options;
 mod queries;
+mod read_raw;
 mod records;
 mod replies;
 mod runs;
