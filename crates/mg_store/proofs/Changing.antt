@@ -17,6 +17,7 @@ use Rattle.std.proofs.lemmas.Slice.Eq.{bytes_eq-Decides}
 use Rattle.mg_bson.specs.Tree.{Fields}
 use Rattle.mg_bson.specs.Raw.{fields}
 use Rattle.mg_store.specs.Collecting.{AreDistinct, with_document, without_document}
+use Rattle.mg_store.specs.Grouping.{AreGrouped}
 use Rattle.mg_store.specs.Inserting.{IsKeyed, IsNumbered, KeepsIds, holds_id, is_number, is_of_id, number_in, stored, vec_cmp}
 use Rattle.mg_store.specs.declared.collection.Collection.{Collection}
 use Rattle.mg_store.proofs.Ids.{of_id_then, of_key}
@@ -124,8 +125,8 @@ pub change_stored : (c w : Collection) (k : Vec ℕ Global) (n : ℕ) (v : List 
 change_stored c w k n v h at docs = ap fields_of docs ∙ changed_fields k.items n v c.documents.entries h.sorted (numbered_at c k n h at)
 
 pub change_keeps : (c w : Collection) (k : Vec ℕ Global) (n : ℕ) (v : List ℕ) → KeepsIds c → number_in c.ids k.items ≡ Some n → w.documents.entries ≡ set_value (is_at (nat_cmp n)) c.documents.entries v
-    → w.ids ≡ c.ids → w.next ≡ c.next → IsKeyed k.items (fields v) → IsOrdered nat_cmp w.documents → KeepsIds w
-change_keeps c w k n v h at docs ids next keyed sorted =
+    → w.ids ≡ c.ids → w.next ≡ c.next → IsKeyed k.items (fields v) → IsOrdered nat_cmp w.documents → AreGrouped w.groups w.documents.entries → KeepsIds w
+change_keeps c w k n v h at docs ids next keyed sorted grouped =
     record {
       numbered = λ l. subst (λ m. IsNumbered l.items (number_in m l.items) w.documents.entries) (sym ids)
           (subst (IsNumbered l.items (number_in c.ids l.items)) (sym docs) (changed_numbered k.items l.items n (number_in c.ids l.items) v c.documents.entries keyed (numbered_at c k n h at) (h.numbered l)));
@@ -133,6 +134,7 @@ change_keeps c w k n v h at docs ids next keyed sorted =
       below = subst (λ (m : ℕ). AllByRecursion (λ (x : ℕ). x < m) (keys w.documents)) (sym next)
           (subst (AllByRecursion (λ (x : ℕ). x < c.next)) (sym (ap keys_of docs ∙ keys-set_value (is_at (nat_cmp n)) c.documents.entries v)) h.below);
       sorted = sorted;
+      grouped = grouped;
     }
 
 -- ---- a document is removed
@@ -193,8 +195,8 @@ pub remove_stored : (c w : Collection) (k : Vec ℕ Global) (n : ℕ) → KeepsI
 remove_stored c w k n h at docs = ap fields_of docs ∙ removed_fields k.items n c.documents.entries h.sorted (numbered_at c k n h at)
 
 pub remove_keeps : (c w : Collection) (k : Vec ℕ Global) (n : ℕ) → KeepsIds c → number_in c.ids k.items ≡ Some n → w.documents.entries ≡ remove_entry (is_at (nat_cmp n)) c.documents.entries
-    → UpdatesBy vec_cmp (vec_cmp k) c.ids w.ids None → w.next ≡ c.next → IsOrdered nat_cmp w.documents → KeepsIds w
-remove_keeps c w k n h at docs updates next sorted =
+    → UpdatesBy vec_cmp (vec_cmp k) c.ids w.ids None → w.next ≡ c.next → IsOrdered nat_cmp w.documents → AreGrouped w.groups w.documents.entries → KeepsIds w
+remove_keeps c w k n h at docs updates next sorted grouped =
     let number : (l : Vec ℕ Global) → number_in w.ids l.items ≡ cond (bytes_eq k.items l.items) None (number_in c.ids l.items) = λ l. updates.0 l ∙ ap (λ (b : Bool). cond b None (number_in c.ids l.items)) (is_eq-slice_cmp k.items l.items) in
     record {
       numbered = λ l. subst (λ (o : Option ℕ). IsNumbered l.items o w.documents.entries) (sym (number l))
@@ -205,6 +207,7 @@ remove_keeps c w k n h at docs updates next sorted =
       below = subst (λ (m : ℕ). AllByRecursion (λ (x : ℕ). x < m) (keys w.documents)) (sym next)
           (subst (λ (es : List Entry). AllByRecursion (λ (x : ℕ). x < c.next) (keys_of es)) (sym docs) (keys_removed c.next n c.documents.entries h.below));
       sorted = sorted;
+      grouped = grouped;
     }
 
 -- ---- no two documents have the same id

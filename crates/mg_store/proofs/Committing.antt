@@ -25,8 +25,8 @@ use Rattle.mg_store.specs.declared.cursor.Source.{Source}
 use Rattle.mg_store.specs.declared.cursor.Source.TheVariants as sources
 use Rattle.mg_store.specs.declared.insert.Appended.{Appended}
 use Rattle.mg_store.specs.declared.collection.Collection.{Collection}
-use Rattle.mg_store.specs.declared.perform.Content.{Content}
-use Rattle.mg_store.specs.declared.perform.Effect.TheVariants as effects
+use Rattle.mg_store.specs.declared.content.Content.{Content}
+use Rattle.mg_store.specs.declared.content.Effect.TheVariants as effects
 use Rattle.mg_store.proofs.Entries.{entries-append, exact-append}
 use Rattle.mg_store.proofs.Holdings.{changes-length}
 use Rattle.mg_store.proofs.Maps.{int_test, same_space}
@@ -291,15 +291,3 @@ does_nothing_to c c' s s' given given' ns g more h exact b leaves missing cs es 
       cursors_are = λ id. subst (λ (x : Option Cursor). IsCursorAt (get int_cmp c'.cursors id) x) (sym (b.cursors_are id)) (subst (λ m. IsCursorAt (get int_cmp m id) (s.cursors id)) (sym cursors) (h.cursors_are id));
       given_are = number ∙ h.given_are ∙ ap pos (sym b.given_are);
     }
-
--- no more room changes nothing
-pub still_represents : (c c' : Content) (s : State) (given : ℕ) → Represents c s given → c'.collections ≡ c.collections → c'.changes.items ≡ c.changes.items → c'.cursors ≡ c.cursors → c'.given ≡ c.given → Represents c' s given
-still_represents c c' s given h cs es cursors number = record {
-  documents_are = λ sp. h.documents_are sp ∙ ap (λ m. option_map stored (collection_at m sp)) (sym cs);
-  indexes_are = λ sp. h.indexes_are sp ∙ ap (λ m. indexed (collection_at m sp)) (sym cs);
-  ids_are = λ sp col e. h.ids_are sp col (ap (λ m. collection_at m sp) (sym cs) ∙ e);
-  changes_are = h.changes_are ∙ ap (entries_from 0) (sym es);
-  exact = subst AreExact (sym es) h.exact;
-  cursors_are = λ id. subst (λ m. IsCursorAt (get int_cmp m id) (s.cursors id)) (sym cursors) (h.cursors_are id);
-  given_are = number ∙ h.given_are;
-}

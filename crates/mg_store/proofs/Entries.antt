@@ -97,7 +97,7 @@ ended_none w place es (inr past) = ended_past w place es past
 
 -- ---- the entries of a drop
 
-told_entry : (place : ℕ) (sp : Space) (change : Change) (event : Fields) (e : ChangeEntry) → IsEntryOf sp event e → change_told event ≡ change → entry_at place e ≡ entry_before (suc place) sp change event
+pub told_entry : (place : ℕ) (sp : Space) (change : Change) (event : Fields) (e : ChangeEntry) → IsEntryOf sp event e → change_told event ≡ change → entry_at place e ≡ entry_before (suc place) sp change event
 told_entry place sp change event e h told =
     ap₂ (λ (x : Space) (v : Fields). record { token = token_of (suc place); time = now_of (suc place); space = x; change = change_told v; event = v }) h.at_is h.event_is
     ∙ ap (λ (k : Change). record { token = token_of (suc place); time = now_of (suc place); space = sp; change = k; event = event }) told
@@ -109,6 +109,3 @@ dropped_held place p q sp a b es first second x y these =
     ap (entries_from place) these
     ∙ ap₂ (λ (u v : Entry). u ∷ v ∷ []) (told_entry place sp drops (dropped_event (suc place) sp) a (subst (λ (n : ℕ). IsEntryOf sp (dropped_event n sp) a) one x) refl)
     (told_entry (suc place) sp invalidates (invalidate_event (suc (suc place))) b (subst (λ (n : ℕ). IsEntryOf sp (invalidate_event n) b) two y) refl)
-
-pub dropped_exact : (sp tp : Space) (d e : Fields) (a b : ChangeEntry) (es : List ChangeEntry) → IsEntryOf sp d a → IsEntryOf tp e b → es ≡ a ∷ b ∷ [] → AreExact es
-dropped_exact sp tp d e a b es x y these = subst AreExact (sym these) (x.exact, (y.exact, tt))

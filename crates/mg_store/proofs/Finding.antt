@@ -16,10 +16,10 @@ use Rattle.mg_link.specs.Rules.{array_at, find_request, named_space, or_request,
 use Rattle.mg_store.specs.Asking.{keyed, matches_keys}
 use Rattle.mg_store.specs.Contents.{Misses, Settles}
 use Rattle.mg_store.specs.Querying.{Doing, Results, all_done, doing, done, pipeline_doing}
-use Rattle.mg_store.specs.Wanted.{Plan, Wanted, code_of, collections_listed, find, found_of, indexes_listed, piped_of, plan_of, wanted}
-use Rattle.mg_store.specs.declared.request.Refusal.{Refusal}
-use Rattle.mg_store.specs.declared.request.Stop.{Stop}
-use Rattle.mg_store.specs.declared.request.Stop.TheVariants as stops
+use Rattle.mg_store.specs.Wanted.{Plan, Wanted, code_of, collections_list_of, find, found_of, indexes_list_of, piped_of, plan_of, wanted}
+use Rattle.mg_store.specs.declared.refusal.Refusal.{Refusal}
+use Rattle.mg_store.specs.declared.refusal.Stop.{Stop}
+use Rattle.mg_store.specs.declared.refusal.Stop.TheVariants as stops
 use Rattle.mg_store.proofs.Holdings.{find_refused}
 use Rattle.mg_store.proofs.Seeing.{matches_by_keys}
 
@@ -86,7 +86,7 @@ listed_same true (Some db) None sz = refl
 listed_same true (Some db) (Some stages) None = refl
 listed_same true (Some db) (Some stages) (Some size) = refl
 
-pub listed_is : (fs : Fields) → collections_listed fs ≡ option_map wanted (list_collections_request fs)
+pub listed_is : (fs : Fields) → collections_list_of fs ≡ option_map wanted (list_collections_request fs)
 unfolding list_collections_request
 listed_is fs = listed_same (has_only collections_fields fs) (named_database fs) (stages_by selecting (get (codes "filter") fs)) (optional_size fs)
 
@@ -98,8 +98,8 @@ indexes_same true None sz = refl
 indexes_same true (Some space) None = refl
 indexes_same true (Some space) (Some size) = refl
 
-pub indexes_are_listed : (fs : Fields) → indexes_listed fs ≡ option_map wanted (list_indexes_request fs)
-unfolding indexes_listed list_indexes_request
+pub indexes_are_listed : (fs : Fields) → indexes_list_of fs ≡ option_map wanted (list_indexes_request fs)
+unfolding indexes_list_of list_indexes_request
 indexes_are_listed fs = indexes_same (has_only indexes_fields fs) (named_space (codes "listIndexes") fs) (optional_size fs)
 
 -- ---- stages

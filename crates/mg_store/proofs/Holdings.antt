@@ -41,11 +41,11 @@ use Rattle.mg_store.specs.declared.cursor.Watch as held
 use Rattle.mg_store.specs.declared.insert.Appended.{Appended}
 use Rattle.mg_store.specs.declared.collection.Collection.{Collection}
 use Rattle.mg_store.specs.declared.perform.Answer.{Answer}
-use Rattle.mg_store.specs.declared.perform.Content.{Content}
-use Rattle.mg_store.specs.declared.perform.Effect.{Effect}
-use Rattle.mg_store.specs.declared.perform.Effect.TheVariants as effects
-use Rattle.mg_store.specs.declared.request.Stop.{Stop}
-use Rattle.mg_store.specs.declared.request.Stop.TheVariants as stops
+use Rattle.mg_store.specs.declared.content.Content.{Content}
+use Rattle.mg_store.specs.declared.content.Effect.{Effect}
+use Rattle.mg_store.specs.declared.content.Effect.TheVariants as effects
+use Rattle.mg_store.specs.declared.refusal.Stop.{Stop}
+use Rattle.mg_store.specs.declared.refusal.Stop.TheVariants as stops
 use Rattle.mg_store.proofs.Entries.{length-entries}
 use Rattle.mg_store.proofs.Settling.{settles}
 use Rattle.mg_link.specs.declared.namespace.Namespace.{Namespace}
@@ -57,7 +57,7 @@ use Rattle.mg_store.specs.Collecting.{AreDistinct}
 use Rattle.mg_store.specs.Rewriting.{Makes, Removes, all_fit, all_go, altering, chosen_by, lent, MakesAllOr, RemovesAllOr}
 use Rattle.mg_store.specs.declared.rewrite.Changes.{Changes}
 use Rattle.mg_store.specs.declared.rewrite.Removals.{Removals}
-use Rattle.mg_store.specs.declared.request.Refusal.{Refusal}
+use Rattle.mg_store.specs.declared.refusal.Refusal.{Refusal}
 use Rattle.mg_store.proofs.Changing.{distinct_ids}
 use Rattle.mg_store.proofs.Rewriting.{chosen_is, delete_is, made_keyed, made_length, update_is}
 

@@ -22,8 +22,8 @@ use Rattle.mg_link.proofs.Legal.{by_rules_push, given_push, kept_is_legal, kept_
 use Rattle.mg_store.specs.Contents.{AnswersBy, Becomes, Does, Keeps, Leads, MayKeep, Represents, closing, collection_at, indexes_behind}
 use Rattle.mg_store.specs.Continued.{continued}
 use Rattle.mg_store.specs.declared.perform.Answer.{Answer}
-use Rattle.mg_store.specs.declared.perform.Content.{Content}
-use Rattle.mg_store.specs.declared.perform.Effect.{Effect}
+use Rattle.mg_store.specs.declared.content.Content.{Content}
+use Rattle.mg_store.specs.declared.content.Effect.{Effect}
 use Rattle.mg_store.specs.Holding.{entries_from}
 use Rattle.mg_store.specs.Inserting.{stored}
 use Rattle.mg_store.specs.Stored.{AreOpen, Shown, shown, shown_of}

@@ -14,6 +14,11 @@ pub mod Committing
 pub mod Keeping
 pub mod Numbers
 pub mod Changing
+pub mod Looking
+pub mod Sets
+pub mod Selecting
+pub mod Grouping
+pub mod Covering
 pub mod Holdings
 pub mod Killing
 pub mod Maps

@@ -24,10 +24,10 @@ use Rattle.mg_store.specs.Listing.{name_listed, names_listed}
 use Rattle.mg_store.specs.Querying.{Doing, Results, all_done, doing}
 use Rattle.mg_store.specs.Wanted.{code_of}
 use Rattle.mg_store.specs.declared.collection.Collection.{Collection}
-use Rattle.mg_store.specs.declared.perform.Content.{Content}
-use Rattle.mg_store.specs.declared.request.Refusal.{Refusal}
-use Rattle.mg_store.specs.declared.request.Stop.{Stop}
-use Rattle.mg_store.specs.declared.request.Stop.TheVariants as stops
+use Rattle.mg_store.specs.declared.content.Content.{Content}
+use Rattle.mg_store.specs.declared.refusal.Refusal.{Refusal}
+use Rattle.mg_store.specs.declared.refusal.Stop.{Stop}
+use Rattle.mg_store.specs.declared.refusal.Stop.TheVariants as stops
 use Rattle.mg_store.proofs.Finding.{stages_same}
 use Rattle.mg_store.proofs.Holdings.{find_refused, is_there}
 use Rattle.mg_store.proofs.Maps.{ns_cmp, same_space}

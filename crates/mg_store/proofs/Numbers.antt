@@ -21,6 +21,7 @@ use Rattle.std.proofs.lemmas.Map.Lookups.{exact_unsigned}
 use Rattle.std.proofs.lemmas.Map.Text.{is_eq-slice_cmp}
 use Rattle.mg_bson.specs.Tree.{Fields}
 use Rattle.mg_bson.specs.Raw.{fields}
+use Rattle.mg_store.specs.Grouping.{AreGrouped}
 use Rattle.mg_store.specs.Inserting.{GrowsBySome, IsKeyed, IsNumbered, KeepsIds, KeepsAll, Pushes, holds_id, is_number, is_of_id, number_in, stored, vec_cmp}
 use Rattle.mg_store.specs.declared.collection.Collection.{Collection}
 use Rattle.mg_store.proofs.Ids.{holds_push, of_key}
@@ -42,7 +43,7 @@ at_is m n h = exact_unsigned m n ((Equal-is (nat_cmp m n)).0 h)
 above : (m n : ℕ) → m < n → nat_cmp n m ≡ Greater
 above m n h = sym (nat_cmp_is n m Greater h)
 
-not_above : (m n : ℕ) → m < n → is_eq (nat_cmp n m) ≡ false
+pub not_above : (m n : ℕ) → m < n → is_eq (nat_cmp n m) ≡ false
 not_above m n h = ap is_eq (above m n h)
 
 -- a number that was found below a bound is not the bound
@@ -119,8 +120,8 @@ more_below n next (k ∷ ks) le h = (omega (arith, h.0), more_below n next ks le
 
 -- a document behind the others, under the number that comes
 pub push_keeps : (c w : Collection) (k : Vec ℕ Global) (v : List ℕ) → KeepsIds c → IsKeyed k.items (fields v) → holds_id k.items (stored c) ≡ false → w.documents.entries ≡ c.documents.entries ++ (c.next, v) ∷ []
-    → UpdatesBy vec_cmp (vec_cmp k) c.ids w.ids (Some c.next) → c.next < w.next → IsOrdered nat_cmp w.documents → KeepsIds w
-push_keeps c w k v h keyed new docs updates less sorted =
+    → UpdatesBy vec_cmp (vec_cmp k) c.ids w.ids (Some c.next) → c.next < w.next → IsOrdered nat_cmp w.documents → AreGrouped w.groups w.documents.entries → KeepsIds w
+push_keeps c w k v h keyed new docs updates less sorted grouped =
     let number : (l : Vec ℕ Global) → number_in w.ids l.items ≡ cond (bytes_eq k.items l.items) (Some c.next) (number_in c.ids l.items) = λ l. updates.0 l ∙ ap (λ (b : Bool). cond b (Some c.next) (number_in c.ids l.items)) (is_eq-slice_cmp k.items l.items) in
     let fresh : number_in c.ids k.items ≡ None = none_of (number_in c.ids k.items) (h.held k ∙ new) in
     let none : IsNumbered k.items None c.documents.entries = subst (λ (o : Option ℕ). IsNumbered k.items o c.documents.entries) fresh (h.numbered k) in
@@ -135,17 +136,19 @@ push_keeps c w k v h keyed new docs updates less sorted =
       below = subst (λ (ks : List ℕ). AllByRecursion (λ (m : ℕ). m < w.next) ks) (sym (ap keys_of docs ∙ keys_append c.documents.entries ((c.next, v) ∷ [])))
           (all_append (λ (m : ℕ). m < w.next) (keys_of c.documents.entries) (c.next ∷ []) (more_below c.next w.next (keys_of c.documents.entries) (omega (arith, less)) h.below) (less, tt));
       sorted = sorted;
+      grouped = grouped;
     }
 
 -- the same documents under the same ids
-pub same_keeps : (c w : Collection) → KeepsIds c → w.documents.entries ≡ c.documents.entries → w.ids.entries ≡ c.ids.entries → w.next ≡ c.next → KeepsIds w
-same_keeps c w h docs ids next =
+pub same_keeps : (c w : Collection) → KeepsIds c → w.documents.entries ≡ c.documents.entries → w.ids.entries ≡ c.ids.entries → w.next ≡ c.next → AreGrouped w.groups w.documents.entries → KeepsIds w
+same_keeps c w h docs ids next grouped =
     let number : (l : Vec ℕ Global) → number_in c.ids l.items ≡ number_in w.ids l.items = λ l. ap (lookup (λ (other : Vec ℕ Global). is_eq (vec_cmp l other))) (sym ids) in
     record {
       numbered = λ l. subst (λ (o : Option ℕ). IsNumbered l.items o w.documents.entries) (number l) (subst (IsNumbered l.items (number_in c.ids l.items)) (sym docs) (h.numbered l));
       held = λ l. ap is_some (sym (number l)) ∙ h.held l ∙ ap (λ (es : List Entry). holds_id l.items (fields_of es)) (sym docs);
       below = subst (λ (n : ℕ). AllByRecursion (λ (m : ℕ). m < n) (keys w.documents)) (sym next) (subst (λ (es : List Entry). AllByRecursion (λ (m : ℕ). m < c.next) (keys_of es)) (sym docs) h.below);
       sorted = subst (λ (es : List Entry). IsStrictlySortedBy nat_cmp (keys_of es)) (sym docs) h.sorted;
+      grouped = grouped;
     }
 
 -- nothing stands there
@@ -157,15 +160,17 @@ none_keeps c docs ids =
       held = λ k. ap (λ es. is_some (lookup (λ (other : Vec ℕ Global). is_eq (vec_cmp k other)) es)) ids ∙ sym (ap (λ (es : List Entry). holds_id k.items (fields_of es)) docs);
       below = subst (λ (es : List Entry). AllByRecursion (λ (m : ℕ). m < c.next) (keys_of es)) (sym docs) tt;
       sorted = subst (λ (es : List Entry). IsStrictlySortedBy nat_cmp (keys_of es)) (sym docs) tt;
+      grouped = subst (AreGrouped c.groups) (sym docs) (λ w. tt);
     }
 
-pub all_same : (c w : Collection) → KeepsIds c → w.documents.entries ≡ c.documents.entries → w.ids.entries ≡ c.ids.entries → w.next ≡ c.next → KeepsAll c w
-all_same c w h docs ids next = record { keeps = same_keeps c w h docs ids next; documents_same = docs; next_same = next }
+pub all_same : (c w : Collection) → KeepsIds c → w.documents.entries ≡ c.documents.entries → w.ids.entries ≡ c.ids.entries → w.next ≡ c.next → AreGrouped w.groups w.documents.entries → KeepsAll c w
+all_same c w h docs ids next grouped = record { keeps = same_keeps c w h docs ids next grouped; documents_same = docs; next_same = next }
 
 -- a document that was put there and taken out again
-pub undone : (c w : Collection) (m : BTreeMap ℕ (List ℕ)) (v : List ℕ) → KeepsIds c → m.entries ≡ insert_entry nat_cmp c.documents.entries c.next v → w.documents.entries ≡ remove_entry (is_at (nat_cmp c.next)) m.entries → w.ids.entries ≡ c.ids.entries → w.next ≡ c.next → KeepsAll c w
-undone c w m v h put out ids next =
-    all_same c w h (out ∙ ap (remove_entry (is_at (nat_cmp c.next))) (put ∙ insert_last c.documents.entries c.next v h.below) ∙ remove_last c.documents.entries c.next v h.below) ids next
+pub undone : (c w : Collection) (m : BTreeMap ℕ (List ℕ)) (v : List ℕ) → KeepsIds c → m.entries ≡ insert_entry nat_cmp c.documents.entries c.next v → w.documents.entries ≡ remove_entry (is_at (nat_cmp c.next)) m.entries → w.ids.entries ≡ c.ids.entries → w.next ≡ c.next → AreGrouped w.groups c.documents.entries → KeepsAll c w
+undone c w m v h put out ids next grouped =
+    let docs = out ∙ ap (remove_entry (is_at (nat_cmp c.next))) (put ∙ insert_last c.documents.entries c.next v h.below) ∙ remove_last c.documents.entries c.next v h.below in
+    all_same c w h docs ids next (subst (AreGrouped w.groups) (sym docs) grouped)
 
 -- ---- the last documents are taken out again
 
@@ -228,8 +233,8 @@ kept_below n next (e ∷ es) h =
 key_laws : IsEquivalence (eq_by_cmp vec_cmp)
 key_laws = eq_by_cmp_equiv (on_total (λ (x : Vec ℕ Global). x.items) nat_list_cmp_total)
 
-pub truncate_keeps : (c w : Collection) (n : ℕ) → KeepsIds c → IsOrdered vec_cmp c.ids → w.documents.entries ≡ filter (λ (e : Entry). nat_lt e.0 n) c.documents.entries → w.ids.entries ≡ filter (λ (e : Vec ℕ Global × ℕ). nat_lt e.1 n) c.ids.entries → w.next ≡ c.next → IsOrdered nat_cmp w.documents → KeepsIds w
-truncate_keeps c w n h ordered docs ids next sorted =
+pub truncate_keeps : (c w : Collection) (n : ℕ) → KeepsIds c → IsOrdered vec_cmp c.ids → w.documents.entries ≡ filter (λ (e : Entry). nat_lt e.0 n) c.documents.entries → w.ids.entries ≡ filter (λ (e : Vec ℕ Global × ℕ). nat_lt e.1 n) c.ids.entries → w.next ≡ c.next → IsOrdered nat_cmp w.documents → AreGrouped w.groups w.documents.entries → KeepsIds w
+truncate_keeps c w n h ordered docs ids next sorted grouped =
     let number : (l : Vec ℕ Global) → number_in w.ids l.items ≡ option_filter (λ (v : ℕ). nat_lt v n) (number_in c.ids l.items) =
     λ l. ap (lookup (λ (other : Vec ℕ Global). is_eq (vec_cmp l other))) ids ∙ lookup-filter-values key_laws (λ (v : ℕ). nat_lt v n) l c.ids.entries (IsDistinct-from_sorted vec_cmp (keys c.ids) ordered) in
     record {
@@ -238,6 +243,7 @@ truncate_keeps c w n h ordered docs ids next sorted =
       held = λ l. ap is_some (number l) ∙ kept_held l.items (number_in c.ids l.items) n c.documents.entries (h.numbered l) (h.held l) ∙ ap (λ (es : List Entry). holds_id l.items (fields_of es)) (sym docs);
       below = subst (λ (m : ℕ). AllByRecursion (λ (x : ℕ). x < m) (keys w.documents)) (sym next) (subst (λ (es : List Entry). AllByRecursion (λ (x : ℕ). x < c.next) (keys_of es)) (sym docs) (kept_below n c.next c.documents.entries h.below));
       sorted = sorted;
+      grouped = grouped;
     }
 
 -- the documents from this number on are the last

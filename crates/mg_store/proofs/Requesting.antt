@@ -14,10 +14,10 @@ use Rattle.mg_store.specs.Querying.{Doing, doing}
 use Rattle.mg_store.specs.Contents.{AnswersOr, Misses, OpensAt, Settles}
 use Rattle.mg_store.specs.Wanted.{Wanted, StopsBy, code_of, create_collection, create_indexes, drop_collection, insert, kill, more, wanted, watch, find, update, delete}
 use Rattle.mg_store.specs.declared.perform.Answer.{Answer}
-use Rattle.mg_store.specs.declared.request.Refusal.{Refusal}
-use Rattle.mg_store.specs.declared.request.Refusal.TheVariants as refusals
-use Rattle.mg_store.specs.declared.request.Stop.{Stop}
-use Rattle.mg_store.specs.declared.request.Stop.TheVariants as stops
+use Rattle.mg_store.specs.declared.refusal.Refusal.{Refusal}
+use Rattle.mg_store.specs.declared.refusal.Refusal.TheVariants as refusals
+use Rattle.mg_store.specs.declared.refusal.Stop.{Stop}
+use Rattle.mg_store.specs.declared.refusal.Stop.TheVariants as stops
 use Rattle.mg_store.proofs.Settling.{answers_or, answers_unread}
 use Rattle.mg_link.specs.Filter.{Condition}
 use Rattle.mg_link.specs.Write.{Modification}

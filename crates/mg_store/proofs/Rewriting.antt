@@ -25,17 +25,17 @@ use Rattle.mg_link.specs.Write.{Modification, sets, puts, after_delete, after_up
 use Rattle.mg_link.proofs.Requests.{KeepsId}
 use Rattle.mg_store.specs.Asking.{Keyed, keyed, matches_keys}
 use Rattle.mg_store.specs.Collecting.{AreDistinct, with_document, without_document}
-use Rattle.mg_store.specs.Holding.{AreExact, change_told, entries_from, entry_at}
+use Rattle.mg_store.specs.Holding.{AreExact, IsEntryOf, change_told, entries_from, entry_at}
 use Rattle.mg_store.specs.Inserting.{IsKeyed, document_of, holds_id, is_of_id}
-use Rattle.mg_store.specs.Rewriting.{AreIdsOf, AreKeyed, AreMade, ChangesBy, ChangesOr, GivesEvent, IsEntryOf, Makes, MakesAllOr, MakesOr, Removes, RemovesAllOr, RemovesOr, all_fit, all_go, altering, chosen_by, lent, one_fits, with_documents, without_documents}
+use Rattle.mg_store.specs.Rewriting.{AreIdsOf, AreKeyed, AreMade, ChangesBy, ChangesOr, GivesEvent, Makes, MakesAllOr, MakesOr, Removes, RemovesAllOr, RemovesOr, all_fit, all_go, altering, chosen_by, lent, one_fits, with_documents, without_documents}
 use Rattle.mg_store.specs.declared.change.ChangeEntry.{ChangeEntry}
 use Rattle.mg_store.specs.declared.collection.KeyedDocument.{KeyedDocument}
-use Rattle.mg_store.specs.declared.request.Stop.{Stop}
-use Rattle.mg_store.specs.declared.request.Stop.TheVariants as stops
+use Rattle.mg_store.specs.declared.refusal.Stop.{Stop}
+use Rattle.mg_store.specs.declared.refusal.Stop.TheVariants as stops
 use Rattle.mg_store.specs.declared.rewrite.Changes.{Changes}
 use Rattle.mg_store.specs.declared.rewrite.Removals.{Removals}
 use Rattle.mg_store.proofs.Changing.{none_changes, none_goes}
-use Rattle.mg_store.proofs.Entries.{entries-append, exact-append, length-entries}
+use Rattle.mg_store.proofs.Entries.{entries-append, exact-append, length-entries, told_entry}
 use Rattle.mg_store.proofs.Ids.{of_key, same_bytes}
 use Rattle.mg_store.proofs.Seeing.{matches_by_keys}
 
@@ -301,10 +301,6 @@ delete_is cs false ds ks distinct ids = delete_one cs ds ks distinct ids
 abbrev entry_with : ℕ → Space → Change → Fields → Entry
 entry_with place sp change event = entry_before (suc place) sp change event
 
-entry_is : (place : ℕ) (sp : Space) (event : Fields) (change : Change) (entry : ChangeEntry) → IsEntryOf sp event entry → change_told event ≡ change → entry_at place entry ≡ entry_with place sp change event
-entry_is place sp event change entry is told =
-    ap₂ (λ (s : Space) (e : Fields). entry_with place s (change_told e) e) is.at is.event_is ∙ ap (λ (x : Change). entry_with place sp x event) told
-
 told_modified : (place : ℕ) (sp : Space) (m : Modification) (d : Fields) → change_told (modified_event place sp m d) ≡ change_of m
 told_modified place sp (sets new) d = refl
 told_modified place sp (puts new) d = refl
@@ -402,15 +398,6 @@ altering_push m ds d b e = filter-append (λ x. differs x (modified m x)) ds (d 
 no_difference : (m : Modification) (d : Fields) → modified m d ≡ d → differs d (modified m d) ≡ false
 no_difference m d e = ap (differs d) e ∙ ap (λ (b : Bool). if b then false else true) (same_bytes (bytes d))
 
-pub makes_none : (entries : ℕ) (sp : Space) (m : Modification) (c : Changes) → c.documents.items ≡ [] → c.entries.items ≡ [] → Makes entries sp m [] c
-makes_none entries sp m c docs es = record {
-  made = subst (AreMade m []) (sym docs) tt;
-  entries_are = ap (entries_from entries) es;
-  exact = subst AreExact (sym es) tt;
-  fit = refl;
-  same = tt;
-}
-
 -- a document that is left equal
 pub makes_same : (entries : ℕ) (sp : Space) (m : Modification) (ds : List Fields) (d : Fields) (c : Changes) → modified m d ≡ d → Makes entries sp m ds c → Makes entries sp m (ds ++ d ∷ []) c
 makes_same entries sp m ds d c e h =
@@ -439,7 +426,7 @@ makes_more entries place sp m ds d old new at differ more h =
       entries_are = ap (entries_from entries) more.entries_are ∙ entries-append entries old.entries.items (more.entry ∷ [])
           ∙ ap₂ (λ (l : List Entry) (k : ℕ). l ++ entry_at (entries + k) more.entry ∷ []) h.entries_are count
           ∙ ap (λ (e : Entry). modified_entries entries sp m (altering m ds) ++ e ∷ [])
-          (entry_is (entries + length (altering m ds)) sp (modified_event (suc (entries + length (altering m ds))) sp m d) (change_of m) more.entry (subst (λ (k : ℕ). IsEntryOf sp (modified_event k sp m d) more.entry) n more.entry_is)
+          (told_entry (entries + length (altering m ds)) sp (change_of m) (modified_event (suc (entries + length (altering m ds))) sp m d) more.entry (subst (λ (k : ℕ). IsEntryOf sp (modified_event k sp m d) more.entry) n more.entry_is)
           (told_modified (suc (entries + length (altering m ds))) sp m d))
           ∙ sym (modified_append entries sp m (altering m ds) (d ∷ [])) ∙ ap (modified_entries entries sp m) more_are;
       exact = subst AreExact (sym more.entries_are) (exact-append old.entries.items (more.entry ∷ []) h.exact (more.entry_is.exact, tt));
@@ -453,9 +440,6 @@ makes_no_more entries place sp m ds d old at differ never h =
     let n : place ≡ suc (entries + length (altering m ds)) = at ∙ ap (λ (k : ℕ). suc (entries + k)) (count_made entries sp m ds old h) in
     ap (all_fit entries sp m) (altering_push m ds d true differ) ∙ fit_push entries sp m (altering m ds) d ∙ and_no (all_fit entries sp m (altering m ds)) _ (ap (λ (k : ℕ). one_fits k sp m d) (sym n) ∙ never)
 
-pub removes_none : (entries : ℕ) (sp : Space) (r : Removals) → r.ids.items ≡ [] → r.entries.items ≡ [] → Removes entries sp [] r
-removes_none entries sp r ids es = record { ids = subst (AreIdsOf []) (sym ids) tt; entries_are = ap (entries_from entries) es; exact = subst AreExact (sym es) tt; fit = refl }
-
 and_one : (b : Bool) → (b && true) ≡ b
 and_one true = refl
 and_one false = refl
@@ -463,20 +447,20 @@ and_one false = refl
 count_gone : (entries : ℕ) (sp : Space) (ds : List Fields) (r : Removals) → Removes entries sp ds r → length r.entries.items ≡ length ds
 count_gone entries sp ds r h = sym (length-entries entries r.entries.items) ∙ ap length h.entries_are ∙ length-deleted entries sp ds
 
-pub removes_more : (entries place : ℕ) (sp : Space) (ds : List Fields) (d : Fields) (k : Vec ℕ Global) (entry : ChangeEntry) (old new : Removals) → place ≡ suc (entries + length old.entries.items) → IsKeyed k.items d → IsEntryOf sp (deleted_event place sp d) entry
+pub removes_more : (entries place : ℕ) (sp : Space) (ds : List Fields) (d : Fields) (k : Vec ℕ Global) (entry : ChangeEntry) (old new : Removals) → place ≡ suc (entries + length old.entries.items) → IsKeyed k.items d → GivesEvent sp (deleted_event place sp d) (Ok entry)
     → new.ids.items ≡ old.ids.items ++ k ∷ [] → new.entries.items ≡ old.entries.items ++ entry ∷ [] → Removes entries sp ds old → Removes entries sp (ds ++ d ∷ []) new
 removes_more entries place sp ds d k entry old new at keyed is ids es h =
     let count = count_gone entries sp ds old h in
     let n : place ≡ suc (entries + length ds) = at ∙ ap (λ (k : ℕ). suc (entries + k)) count in
-    let here = subst (λ (k : ℕ). IsEntryOf sp (deleted_event k sp d) entry) n is in
+    let here = subst (λ (k : ℕ). GivesEvent sp (deleted_event k sp d) (Ok entry)) n is in
     record {
       ids = subst (AreIdsOf (ds ++ d ∷ [])) (sym ids) (ids_push ds old.ids.items d k h.ids keyed);
       entries_are = ap (entries_from entries) es ∙ entries-append entries old.entries.items (entry ∷ [])
           ∙ ap₂ (λ (l : List Entry) (k : ℕ). l ++ entry_at (entries + k) entry ∷ []) h.entries_are count
-          ∙ ap (λ (e : Entry). deleted_entries entries sp ds ++ e ∷ []) (entry_is (entries + length ds) sp (deleted_event (suc (entries + length ds)) sp d) deletes entry here refl)
+          ∙ ap (λ (e : Entry). deleted_entries entries sp ds ++ e ∷ []) (told_entry (entries + length ds) sp deletes (deleted_event (suc (entries + length ds)) sp d) entry here.0 refl)
           ∙ sym (deleted_append entries sp ds (d ∷ []));
-      exact = subst AreExact (sym es) (exact-append old.entries.items (entry ∷ []) h.exact (is.exact, tt));
-      fit = go_append entries sp ds (d ∷ []) ∙ both _ _ h.fit (and_one (may_be_given (deleted_event (suc (entries + length ds)) sp d)) ∙ here.given);
+      exact = subst AreExact (sym es) (exact-append old.entries.items (entry ∷ []) h.exact (is.0.exact, tt));
+      fit = go_append entries sp ds (d ∷ []) ∙ both _ _ h.fit (and_one (may_be_given (deleted_event (suc (entries + length ds)) sp d)) ∙ here.1);
     }
 
 pub removes_no_more : (entries place : ℕ) (sp : Space) (ds : List Fields) (d : Fields) (old : Removals) → place ≡ suc (entries + length old.entries.items) → may_be_given (deleted_event place sp d) ≡ false → Removes entries sp ds old → all_go entries sp (ds ++ d ∷ []) ≡ false

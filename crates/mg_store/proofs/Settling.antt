@@ -33,12 +33,12 @@ use Rattle.mg_store.specs.declared.cursor.Found.{Found}
 use Rattle.mg_store.specs.Wanted.{code_of}
 use Rattle.mg_store.specs.declared.cursor.Cursor as code
 use Rattle.mg_store.specs.declared.perform.Answer.{Answer}
-use Rattle.mg_store.specs.declared.perform.Effect.{Effect}
-use Rattle.mg_store.specs.declared.perform.Effect.TheVariants as effects
-use Rattle.mg_store.specs.declared.request.Refusal.{Refusal}
-use Rattle.mg_store.specs.declared.request.Refusal.TheVariants as refusals
-use Rattle.mg_store.specs.declared.request.Stop.{Stop}
-use Rattle.mg_store.specs.declared.request.Stop.TheVariants as stops
+use Rattle.mg_store.specs.declared.content.Effect.{Effect}
+use Rattle.mg_store.specs.declared.content.Effect.TheVariants as effects
+use Rattle.mg_store.specs.declared.refusal.Refusal.{Refusal}
+use Rattle.mg_store.specs.declared.refusal.Refusal.TheVariants as refusals
+use Rattle.mg_store.specs.declared.refusal.Stop.{Stop}
+use Rattle.mg_store.specs.declared.refusal.Stop.TheVariants as stops
 use Rattle.mg_link.proofs.Telling.{deleted_reply}
 use Rattle.mg_store.specs.Rewriting.{with_documents, without_documents}
 

@@ -1,9 +1,16 @@
--- The documents of a collection, where one is changed or removed by its id.
-use Rattle.std.specs.Prelude.{◌≡◌, ℕ, true, false, not, List, [], ◌∷◌, map, if◌then◌else◌, Vec}
+-- The documents of a collection, where they are changed, removed or looked up by their ids.
+use Rattle.std.specs.Prelude.{◌≡◌, ℕ, Bool, true, false, not, option_map, List, [], ◌∷◌, map, if◌then◌else◌, Vec}
 use Rattle.std.specs.declared.alloc.Global.{Global}
-use Rattle.std.specs.List.{filter}
+use Rattle.std.specs.BTreeMap.{is_at}
+use Rattle.std.specs.BTreeSet.{BTreeSet, IsOrdered}
+use Rattle.std.specs.List.{AllByRecursion, filter, list_any}
+use Rattle.std.specs.Map.{lookup}
+use Rattle.std.specs.Ordering.{nat_cmp}
 use Rattle.mg_bson.specs.Tree.{Fields}
+use Rattle.mg_bson.specs.Raw.{fields}
+use Rattle.mg_store.specs.Asking.{Keyed, ahead, matches_keys}
 use Rattle.mg_store.specs.Inserting.{holds_id, is_of_id}
+use Rattle.mg_store.specs.declared.collection.Collection.{Collection}
 
 -- the document in the place of that with this id
 abbrev pub with_document : List ℕ → Fields → List Fields → List Fields
@@ -17,3 +24,17 @@ without_document k ds = filter (λ d. not (is_of_id k d)) ds
 abbrev pub AreDistinct : List Fields → Type 0
 AreDistinct [] = Unit {0}
 AreDistinct (d ∷ ds) = ((k : Vec ℕ Global) → is_of_id k.items d ≡ true → holds_id k.items ds ≡ false) × AreDistinct ds
+
+-- the number is one of these
+abbrev pub is_in : List ℕ → ℕ → Bool
+is_in ns m = list_any (is_at (nat_cmp m)) ns
+
+-- the documents with these numbers, one after another
+abbrev pub looked_up : List ℕ → List (ℕ × List ℕ) → List Fields
+looked_up [] es = []
+looked_up (n ∷ ns) es = ahead (option_map fields (lookup (is_at (nat_cmp n)) es)) (looked_up ns es)
+
+-- the numbers ascend, and that of each document that meets the conditions is one of them
+pub record Covers (cs : List Keyed) (c : Collection) (ns : BTreeSet ℕ) : Type 0 where
+  pub ordered : IsOrdered nat_cmp ns
+  pub each : AllByRecursion (λ (e : ℕ × List ℕ). matches_keys cs (fields e.1) ≡ true → is_in ns.keys e.0 ≡ true) c.documents.entries

@@ -28,7 +28,7 @@ use Rattle.mg_store.specs.Replies.{IsWritten}
 use Rattle.mg_store.specs.Rewriting.{AreKeyed, with_documents, without_documents}
 use Rattle.mg_store.specs.declared.rewrite.Changes.{Changes}
 use Rattle.mg_store.specs.declared.rewrite.Removals.{Removals}
-use Rattle.mg_store.specs.Wanted.{code_of}
+use Rattle.mg_store.specs.Wanted.{Wanted, code_of, wanted}
 use Rattle.mg_store.specs.declared.change.ChangeEntry.{ChangeEntry}
 use Rattle.mg_store.specs.declared.cursor.Cursor as code
 use Rattle.mg_store.specs.declared.cursor.Found.{Found}
@@ -37,13 +37,13 @@ use Rattle.mg_store.specs.declared.cursor.Source.TheVariants as sources
 use Rattle.mg_store.specs.declared.insert.Appended.{Appended}
 use Rattle.mg_store.specs.declared.collection.Collection.{Collection}
 use Rattle.mg_store.specs.declared.perform.Answer.{Answer}
-use Rattle.mg_store.specs.declared.perform.Content.{Content}
-use Rattle.mg_store.specs.declared.perform.Effect.{Effect}
-use Rattle.mg_store.specs.declared.perform.Effect.TheVariants as effects
-use Rattle.mg_store.specs.declared.request.Refusal.{Refusal}
-use Rattle.mg_store.specs.declared.request.Refusal.TheVariants as refusals
-use Rattle.mg_store.specs.declared.request.Stop.{Stop}
-use Rattle.mg_store.specs.declared.request.Stop.TheVariants as stops
+use Rattle.mg_store.specs.declared.content.Content.{Content}
+use Rattle.mg_store.specs.declared.content.Effect.{Effect}
+use Rattle.mg_store.specs.declared.content.Effect.TheVariants as effects
+use Rattle.mg_store.specs.declared.refusal.Refusal.{Refusal}
+use Rattle.mg_store.specs.declared.refusal.Refusal.TheVariants as refusals
+use Rattle.mg_store.specs.declared.refusal.Stop.{Stop}
+use Rattle.mg_store.specs.declared.refusal.Stop.TheVariants as stops
 
 -- ---- what is held
 
@@ -289,6 +289,10 @@ abbrev pub AnswersOr : State → ℕ → List ℕ → Result Answer Stop → Typ
 AnswersOr s given command (Ok a) = AnswersBy s given command a
 AnswersOr s given command (Err stops.Memory) = Unit {0}
 AnswersOr s given command (Err (stops.Refused refusal)) = (answer_of s (pos (suc given)) (fields command) ≡ refused (code_of refusal)) × LosesNone s command (code_of refusal)
+
+-- the answer to whatever command asks for this
+abbrev pub AnswersAsked : State → ℕ → Wanted → Result Answer Stop → Type 0
+AnswersAsked s given w answer = (command : List ℕ) → rules.map_ok wanted (rules.request_of (fields command)) ≡ Ok w → AnswersOr s given command answer
 
 -- ---- the store
 

@@ -19,9 +19,11 @@ use Rattle.mg_link.specs.Namespace.{Space, space}
 use Rattle.mg_link.specs.Filter.{key}
 use Rattle.mg_link.specs.State.{Index}
 use Rattle.mg_link.specs.Rules.{accept, bad_request, insert_event, Inserted, is_storable, write_error}
-use Rattle.mg_store.specs.Holding.{AreExact, entries_from}
+use Rattle.mg_store.specs.Grouping.{AreGrouped}
+use Rattle.mg_store.specs.Holding.{AreExact, IsEntryOf, entries_from}
 use Rattle.mg_store.specs.Indexing.{index_held}
 use Rattle.mg_store.specs.declared.change.ChangeEntry.{ChangeEntry}
+use Rattle.mg_store.specs.declared.groups.Groups.{Groups}
 use Rattle.mg_store.specs.declared.insert.Appended.{Appended}
 use Rattle.mg_store.specs.declared.collection.Collection.{Collection}
 use Rattle.mg_store.specs.declared.collection.KeyedDocument.{KeyedDocument}
@@ -87,15 +89,16 @@ IsNumbered k found es = AllByRecursion (λ (e : ℕ × List ℕ). is_of_id k (fi
 abbrev pub stored : Collection → List Fields
 stored c = map fields (values c.documents)
 
--- the map of ids has the number of each document; the number to come is above those that were given
-pub record AreNumbered (documents : BTreeMap ℕ (List ℕ)) (ids : BTreeMap (Vec ℕ Global) ℕ) (next : ℕ) : Type 0 where
+-- the map of ids has the number of each document, and so have its groups; the number to come is above those that were given
+pub record AreNumbered (documents : BTreeMap ℕ (List ℕ)) (ids : BTreeMap (Vec ℕ Global) ℕ) (groups : Groups) (next : ℕ) : Type 0 where
   pub numbered : (k : Vec ℕ Global) → IsNumbered k.items (number_in ids k.items) documents.entries
   pub held : (k : Vec ℕ Global) → is_some (number_in ids k.items) ≡ holds_id k.items (map fields (values documents))
   pub below : AllByRecursion (λ (n : ℕ). n < next) (keys documents)
   pub sorted : IsOrdered nat_cmp documents
+  pub grouped : AreGrouped groups documents.entries
 
 abbrev pub KeepsIds : Collection → Type 0
-KeepsIds c = AreNumbered c.documents c.ids c.next
+KeepsIds c = AreNumbered c.documents c.ids c.groups c.next
 
 -- nothing changed
 pub record KeepsAll (old new : Collection) : Type 0 where
@@ -159,15 +162,9 @@ pub record Fits (before : List Fields) (a : Appended) : Type 0 where
   pub new : AreNew before a.documents.items
   pub exact : AreExact a.entries.items
 
--- the entry of an inserted document with this id
-pub record IsEntry (place : ℕ) (s : Space) (d : Fields) (id : Tree) (entry : ChangeEntry) : Type 0 where
-  pub at : space entry.ns ≡ s
-  pub event_is : fields entry.event ≡ insert_event place s id d
-  pub exact : entry.event ≡ bytes (fields entry.event)
-
 -- the entry of a document, or the refusal of one that has no id
 abbrev pub GivesEntry : ℕ → Space → Fields → Result ChangeEntry Rejected → Type 0
-GivesEntry place s d (Ok entry) = (id : Tree) → get (codes "_id") d ≡ Some id → IsEntry place s d id entry
+GivesEntry place s d (Ok entry) = (id : Tree) → get (codes "_id") d ≡ Some id → IsEntryOf s (insert_event place s id d) entry
 GivesEntry place s d (Err rejected.Memory) = Unit {0}
 GivesEntry place s d (Err (rejected.Refused code)) = (code ≡ bad_request) × (get (codes "_id") d ≡ None)
 

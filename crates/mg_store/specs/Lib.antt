@@ -15,3 +15,5 @@ pub mod InMemory
 pub mod Sending
 pub mod Listing
 pub mod Rewriting
+pub mod Selecting
+pub mod Grouping

@@ -13,9 +13,9 @@ use Rattle.mg_link.specs.Query.{Key, can_sort, comes_first, id_alone, order_by, 
 use Rattle.mg_link.specs.Rules.{batch_of_query, documents_of_items}
 use Rattle.mg_store.specs.Asking.{Keyed, held, keyed, matches_keys}
 use Rattle.mg_store.specs.declared.batch.Batch.{Batch}
-use Rattle.mg_store.specs.declared.request.Refusal.TheVariants as refusals
-use Rattle.mg_store.specs.declared.request.Stop.{Stop}
-use Rattle.mg_store.specs.declared.request.Stop.TheVariants as stops
+use Rattle.mg_store.specs.declared.refusal.Refusal.TheVariants as refusals
+use Rattle.mg_store.specs.declared.refusal.Stop.{Stop}
+use Rattle.mg_store.specs.declared.refusal.Stop.TheVariants as stops
 use Rattle.mg_store.specs.declared.stages.Key as code
 use Rattle.mg_store.specs.declared.stages.Read.{Read}
 use Rattle.mg_store.specs.declared.stages.Read.TheVariants as reads

@@ -11,13 +11,13 @@ use Rattle.mg_link.specs.Rules.{deleted_entries, deleted_event, events_may_be_gi
 use Rattle.mg_link.specs.Write.{Modification, differs, modified}
 use Rattle.mg_store.specs.Asking.{Keyed, matches_keys}
 use Rattle.mg_store.specs.Collecting.{with_document, without_document}
-use Rattle.mg_store.specs.Holding.{AreExact, entries_from}
+use Rattle.mg_store.specs.Holding.{AreExact, IsEntryOf, entries_from}
 use Rattle.mg_store.specs.Inserting.{IsKeyed, document_of}
 use Rattle.mg_store.specs.declared.change.ChangeEntry.{ChangeEntry}
 use Rattle.mg_store.specs.declared.collection.KeyedDocument.{KeyedDocument}
-use Rattle.mg_store.specs.declared.request.Refusal.TheVariants as refusals
-use Rattle.mg_store.specs.declared.request.Stop.{Stop}
-use Rattle.mg_store.specs.declared.request.Stop.TheVariants as stops
+use Rattle.mg_store.specs.declared.refusal.Refusal.TheVariants as refusals
+use Rattle.mg_store.specs.declared.refusal.Stop.{Stop}
+use Rattle.mg_store.specs.declared.refusal.Stop.TheVariants as stops
 use Rattle.mg_store.specs.declared.rewrite.Altered.{Altered}
 use Rattle.mg_store.specs.declared.rewrite.Changes.{Changes}
 use Rattle.mg_store.specs.declared.rewrite.Removals.{Removals}
@@ -30,15 +30,9 @@ lent ds = map (λ d. fields d.now) ds
 abbrev pub chosen_by : List Keyed → Bool → List Fields → List Fields
 chosen_by keys many ds = if many then filter (matches_keys keys) ds else take 1 (filter (matches_keys keys) ds)
 
--- the entry of an event that may be given
-pub record IsEntryOf (sp : Space) (event : Fields) (entry : ChangeEntry) : Type 0 where
-  pub at : space entry.ns ≡ sp
-  pub event_is : fields entry.event ≡ event
-  pub exact : entry.event ≡ bytes (fields entry.event)
-  pub given : may_be_given event ≡ true
-
+-- the entry of an event that may be given, or the refusal of another
 abbrev pub GivesEvent : Space → Fields → Result ChangeEntry Stop → Type 0
-GivesEvent sp event (Ok entry) = IsEntryOf sp event entry
+GivesEvent sp event (Ok entry) = IsEntryOf sp event entry × (may_be_given event ≡ true)
 GivesEvent sp event (Err stops.Memory) = Unit {0}
 GivesEvent sp event (Err (stops.Refused refusal)) = (refusal ≡ refusals.BadRequest) × (may_be_given event ≡ false)
 

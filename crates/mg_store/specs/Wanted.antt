@@ -12,23 +12,25 @@ use Rattle.mg_link.specs.Rules as rules
 use Rattle.mg_link.specs.Commands.{batch_size, flag_or, has_only, pipeline_fields, start_of, indexing_fields, find_fields, find_stages, optional_count, collections_fields, indexes_fields, optional_size, selecting, stages_by, update_parts, update_fields, delete_parts, delete_fields, modification_of, one_at, count_of, many_by}
 use Rattle.mg_link.specs.Rules.{array_at, map_ok, option_names, target_at, named_space, named_database}
 use Rattle.mg_store.specs.Asking.{Keyed, documents_among, held, ids_among, keyed, lent_space, lent_target, only_document}
-use Rattle.mg_store.specs.declared.request.LentStart.{LentStart}
-use Rattle.mg_store.specs.declared.request.LentStart.TheVariants as starts
+use Rattle.mg_store.specs.declared.watch.LentStart.{LentStart}
+use Rattle.mg_store.specs.declared.watch.LentStart.TheVariants as starts
 use Rattle.mg_store.specs.Indexing.{index_held}
 use Rattle.mg_link.specs.Query.{Source, of_collection, of_database, of_indexes}
 use Rattle.mg_store.specs.Querying.{Doing, doing, held_stage, pipeline_doing}
-use Rattle.mg_store.specs.declared.request.Plan as code_plan
+use Rattle.mg_store.specs.declared.query.Plan as code_plan
 use Rattle.mg_store.specs.declared.request.Request.{Request}
 use Rattle.mg_store.specs.declared.request.Request.TheVariants as requests
-use Rattle.mg_store.specs.declared.request.Refusal.{Refusal}
-use Rattle.mg_store.specs.declared.request.Refusal.TheVariants as refusals
-use Rattle.mg_store.specs.declared.request.Stop.{Stop}
-use Rattle.mg_store.specs.declared.request.Stop.TheVariants as stops
-use Rattle.mg_store.specs.declared.request.Stages as code_stages
-use Rattle.mg_store.specs.declared.request.Opening as code_opening
-use Rattle.mg_store.specs.declared.request.Indexing as code_indexing
-use Rattle.mg_store.specs.declared.request.Updating as code_updating
-use Rattle.mg_store.specs.declared.request.Deleting as code_deleting
+use Rattle.mg_store.specs.declared.refusal.Refusal.{Refusal}
+use Rattle.mg_store.specs.declared.refusal.Refusal.TheVariants as refusals
+use Rattle.mg_store.specs.declared.refusal.Stop.{Stop}
+use Rattle.mg_store.specs.declared.refusal.Stop.TheVariants as stops
+use Rattle.mg_store.specs.declared.watch.Stages as code_stages
+use Rattle.mg_store.specs.declared.watch.Opening as code_opening
+use Rattle.mg_store.specs.declared.catalog.Indexing as code_indexing
+use Rattle.mg_store.specs.declared.write.Updating as code_updating
+use Rattle.mg_store.specs.declared.write.Deleting as code_deleting
+use Rattle.mg_store.specs.declared.write.Write.{Write}
+use Rattle.mg_store.specs.declared.write.Write.TheVariants as writes
 use Rattle.mg_link.specs.Write.{Modification}
 use Rattle.mg_store.specs.Modifying.{lent_modification}
 
@@ -63,19 +65,22 @@ lent_start (starts.After token) = after (value token)
 lent_start (starts.AtTime t) = at_time (time_of t.time t.increment)
 
 -- the request that the code holds
-abbrev pub lent : Request → Wanted
-lent (requests.Insert space documents ordered) = insert (lent_space space) (documents_among (items documents)) ordered
-lent (requests.Find space plan) = find (of_collection (lent_space space)) (map held_stage plan.stages.items) plan.single plan.batch_size
-lent (requests.Watch target filter start resumes size) = watch (lent_target target) (map held filter.items) (lent_start start) resumes size
-lent (requests.GetMore id space size) = more id (lent_space space) size
-lent (requests.KillCursors ids) = kill (ids_among (items ids))
-lent (requests.Create space) = create_collection (lent_space space)
-lent (requests.CreateIndexes space indexes) = create_indexes (lent_space space) (map index_held indexes.items)
-lent (requests.Drop space) = drop_collection (lent_space space)
-lent (requests.ListCollections db plan) = find (of_database db.now) (map held_stage plan.stages.items) plan.single plan.batch_size
-lent (requests.ListIndexes space size) = find (of_indexes (lent_space space)) [] false size
-lent (requests.Update space filter modification many) = update (lent_space space) (map held filter.items) (lent_modification modification) many
-lent (requests.Delete space filter many) = delete (lent_space space) (map held filter.items) many
+abbrev pub lent_write : Write → Wanted
+lent_write (writes.Insert space documents ordered) = insert (lent_space space) (documents_among (items documents)) ordered
+lent_write (writes.Create space) = create_collection (lent_space space)
+lent_write (writes.CreateIndexes space indexes) = create_indexes (lent_space space) (map index_held indexes.items)
+lent_write (writes.Drop space) = drop_collection (lent_space space)
+lent_write (writes.Update space filter modification many) = update (lent_space space) (map held filter.items) (lent_modification modification) many
+lent_write (writes.Delete space filter many) = delete (lent_space space) (map held filter.items) many
+
+abbrev pub lent_request : Request → Wanted
+lent_request (requests.Find space plan) = find (of_collection (lent_space space)) (map held_stage plan.stages.items) plan.single plan.batch_size
+lent_request (requests.Watch target filter start resumes size) = watch (lent_target target) (map held filter.items) (lent_start start) resumes size
+lent_request (requests.GetMore id space size) = more id (lent_space space) size
+lent_request (requests.KillCursors ids) = kill (ids_among (items ids))
+lent_request (requests.ListCollections db plan) = find (of_database db.now) (map held_stage plan.stages.items) plan.single plan.batch_size
+lent_request (requests.ListIndexes space size) = find (of_indexes (lent_space space)) [] false size
+lent_request (requests.Write write) = lent_write write
 
 abbrev pub code_of : Refusal → ℤ
 code_of refusals.UnknownCommand = rules.unknown_command
@@ -92,7 +97,7 @@ StopsBy (stops.Refused refusal) asked = asked ≡ Err (code_of refusal)
 
 -- the request is the one that the rules give
 abbrev pub Asks : Result Request Stop → Result rules.Request ℤ → Type 0
-Asks (Ok request) asked = map_ok wanted asked ≡ Ok (lent request)
+Asks (Ok request) asked = map_ok wanted asked ≡ Ok (lent_request request)
 Asks (Err stop) asked = StopsBy stop asked
 
 -- the request, or else the refusal of a bad one
@@ -147,11 +152,11 @@ listed_database fs = if has_only collections_fields fs then named_database fs el
 abbrev pub listing_plan : Fields → Option Plan
 listing_plan fs = option_map (map doing) (stages_by selecting (get (codes "filter") fs)) >>= λ stages. optional_size fs >>= λ size. Some (record { stages = stages; single = false; size = size })
 
-abbrev pub collections_listed : Fields → Option Wanted
-collections_listed fs = listed_database fs >>= λ db. listing_plan fs >>= λ plan. Some (find (of_database db) plan.stages plan.single plan.size)
+abbrev pub collections_list_of : Fields → Option Wanted
+collections_list_of fs = listed_database fs >>= λ db. listing_plan fs >>= λ plan. Some (find (of_database db) plan.stages plan.single plan.size)
 
-unfoldable pub indexes_listed : Fields → Option Wanted
-indexes_listed fs = if has_only indexes_fields fs then (named_space (codes "listIndexes") fs >>= λ space. optional_size fs >>= λ size. Some (find (of_indexes space) [] false size)) else None
+unfoldable pub indexes_list_of : Fields → Option Wanted
+indexes_list_of fs = if has_only indexes_fields fs then (named_space (codes "listIndexes") fs >>= λ space. optional_size fs >>= λ size. Some (find (of_indexes space) [] false size)) else None
 
 -- ---- the aggregate that opens a watch
 

@@ -5,8 +5,9 @@ ghost use Rattle.mg_bson.specs.Raw.{fields};
 ghost use Rattle.mg_store.specs.Querying.{GivesDocuments};
 
 use crate::change::MAX_BATCH;
+use crate::copies::tree_of;
 use crate::reply::put_item;
-use mg_bson::{Array, Bson, Document, RawDocumentBuf, to_bytes, to_document};
+use mg_bson::{Array, Bson, Document, RawDocumentBuf, to_bytes};
 use mg_link::OutOfMemory;
 use std::alloc::Global;
 
@@ -16,15 +17,6 @@ pub(crate) struct Batch {
     pub(crate) documents: Array,
     pub(crate) count: u64,
     pub(crate) is_last: bool,
-}
-
-fn tree_of(alloc: Global, document: &RawDocumentBuf) -> Result<Document, OutOfMemory>
-    ensures { IfOk result (λ d. d ≡ fields document.now) }
-{
-    match to_document(alloc, document.as_raw()) {
-        Ok(tree) => Ok(tree),
-        Err(_) => Err(OutOfMemory),
-    }
 }
 
 /// The length of a document as a reply has it. What was found can always be encoded.
@@ -57,7 +49,7 @@ pub(crate) fn batch_from(
                 is_last: false,
             });
         }
-        let document = tree_of(alloc, &documents[place])?;
+        let document = tree_of(alloc, documents[place].as_raw())?;
         let len = length_of(alloc, &document)?;
         if left < size && room < len {
             return Ok(Batch {

@@ -1,6 +1,5 @@
 //! The list of changes.
 ghost use Rattle.std.specs.Prelude.{◌≡◌, ◌<◌, ◌^◌, ℕ, IfOk, Some, codes};
-ghost use Rattle.mg_bson.specs.Bytes.{bytes};
 ghost use Rattle.mg_bson.specs.Find.{get};
 ghost use Rattle.mg_bson.specs.Raw.{fields};
 ghost use Rattle.mg_bson.specs.Literal.{◌⇒◌⨾◌, empty};
@@ -12,11 +11,12 @@ ghost use Rattle.mg_link.specs.State as state;
 ghost use Rattle.mg_link.specs.State.{count_before, is_invalidate, is_of, time_of};
 ghost use Rattle.mg_store.specs.Holding.{AreExact, GivesBatch, IsEntryOf, IsWatch, change_told, entries_from, entry_at};
 
+use crate::copies::{encoded, tree_of};
 use crate::cursor::Watch;
 use crate::filter::matches;
 use crate::reading::{is_same_space, text_at};
 use crate::reply::{put_item, time, token, with, with_text};
-use mg_bson::{Array, Bson, Document, RawDocumentBuf, Timestamp, to_bytes, to_document};
+use mg_bson::{Array, Bson, Document, RawDocumentBuf, Timestamp};
 use mg_link::{Namespace, OperationTarget, OutOfMemory};
 use std::alloc::Global;
 
@@ -55,6 +55,16 @@ fn key_document(alloc: Global, id: Bson) -> Result<Document, OutOfMemory>
     with(Document::new(alloc), "_id", id)
 }
 
+/// What each event says first.
+fn timed_event(alloc: Global, place: u64, kind: &str) -> Result<Document, OutOfMemory>
+    ensures { IfOk result (λ d. d ≡ ("_id" ⇒ token_of place ⨾ "operationType" ⇒ string kind.now ⨾ "clusterTime" ⇒ stamp_of place ⨾ empty)) }
+{
+    let token = token(alloc, place)?;
+    let event = with(Document::new(alloc), "_id", Bson::Document(token))?;
+    let event = with_text(alloc, event, "operationType", kind)?;
+    with(event, "clusterTime", Bson::Timestamp(time(place)))
+}
+
 /// What the event of a change of this kind says before it comes to the document.
 fn begun_event(
     alloc: Global,
@@ -65,10 +75,7 @@ fn begun_event(
     ensures { IfOk result (λ d. d ≡ ("_id" ⇒ token_of place ⨾ "operationType" ⇒ string kind.now ⨾ "clusterTime" ⇒ stamp_of place
         ⨾ "ns" ⇒ document ("db" ⇒ string (space ns.now).db ⨾ "coll" ⇒ string (space ns.now).coll ⨾ empty) ⨾ empty)) }
 {
-    let token = token(alloc, place)?;
-    let event = with(Document::new(alloc), "_id", Bson::Document(token))?;
-    let event = with_text(alloc, event, "operationType", kind)?;
-    let event = with(event, "clusterTime", Bson::Timestamp(time(place)))?;
+    let event = timed_event(alloc, place, kind)?;
     let names = names_of(alloc, ns)?;
     with(event, "ns", Bson::Document(names))
 }
@@ -98,9 +105,7 @@ pub(crate) fn insert_event(
 ) -> Result<Document, OutOfMemory>
     ensures { IfOk result (λ d. d ≡ insert_event place (space ns.now) (tree id) inserted) }
 {
-    let key = key_document(alloc, id)?;
-    let event = begun_event(alloc, place, "insert", ns)?;
-    let event = with(event, "documentKey", Bson::Document(key))?;
+    let event = keyed_event(alloc, place, "insert", ns, id)?;
     with(event, "fullDocument", Bson::Document(inserted))
 }
 
@@ -249,10 +254,8 @@ pub(crate) fn ended_before(
 fn event_of(alloc: Global, entry: &ChangeEntry) -> Result<Bson, OutOfMemory>
     ensures { IfOk result (λ e. tree e ≡ document (fields entry.now.event)) }
 {
-    match to_document(alloc, entry.event.as_raw()) {
-        Ok(event) => Ok(Bson::Document(event)),
-        Err(_) => Err(OutOfMemory),
-    }
+    let event = tree_of(alloc, entry.event.as_raw())?;
+    Ok(Bson::Document(event))
 }
 
 /// The events that a watch sees from a place on: at most so many, and not more than fit a batch, and none behind an
@@ -297,34 +300,11 @@ pub(crate) fn events_from(
     Ok(Events::new(events, place, false))
 }
 
-/// The bytes of the event of a document that is stored. Such an event can always be encoded.
-pub(crate) fn event_bytes(alloc: Global, event: &Document) -> Result<RawDocumentBuf, OutOfMemory>
-    ensures bytes { IfOk result (λ r. r ≡ bytes event.now) }
-    ensures read_back { IfOk result (λ r. fields r ≡ event.now) }
-{
-    match to_bytes(alloc, event) {
-        Ok(bytes) => Ok(bytes),
-        Err(_) => Err(OutOfMemory),
-    }
-}
-
-/// What each event says first.
-fn timed_event(alloc: Global, place: u64, kind: &str) -> Result<Document, OutOfMemory>
-    ensures { IfOk result (λ d. d ≡ ("_id" ⇒ token_of place ⨾ "operationType" ⇒ string kind.now ⨾ "clusterTime" ⇒ stamp_of place ⨾ empty)) }
-{
-    let token = token(alloc, place)?;
-    let event = with(Document::new(alloc), "_id", Bson::Document(token))?;
-    let event = with_text(alloc, event, "operationType", kind)?;
-    with(event, "clusterTime", Bson::Timestamp(time(place)))
-}
-
 /// The event of a collection that was dropped, whose entry stands before this place.
 fn dropped_event(alloc: Global, place: u64, ns: &Namespace) -> Result<Document, OutOfMemory>
     ensures { IfOk result (λ d. d ≡ dropped_event place (space ns.now)) }
 {
-    let event = timed_event(alloc, place, "drop")?;
-    let names = names_of(alloc, ns)?;
-    with(event, "ns", Bson::Document(names))
+    begun_event(alloc, place, "drop", ns)
 }
 
 /// The event by which watches of a collection end.
@@ -334,12 +314,16 @@ fn invalidate_event(alloc: Global, place: u64) -> Result<Document, OutOfMemory>
     timed_event(alloc, place, "invalidate")
 }
 
-/// The entry of an event.
-fn entry_of(alloc: Global, ns: &Namespace, event: &Document) -> Result<ChangeEntry, OutOfMemory>
+/// The entry of an event that can be encoded.
+pub(crate) fn entry_of(
+    alloc: Global,
+    ns: &Namespace,
+    event: &Document,
+) -> Result<ChangeEntry, OutOfMemory>
     ensures { IfOk result (IsEntryOf (space ns.now) event.now) }
 {
     let ns = ns.clone()?;
-    let event = event_bytes(alloc, event)?;
+    let event = encoded(alloc, event)?;
     Ok(ChangeEntry { ns, event })
 }
 

@@ -1,15 +1,20 @@
 //! The documents of a collection, by their numbers and by their ids.
-ghost use Rattle.std.specs.Prelude.{◌≡◌, ◌++◌, [], false, map, nat_lt, IfOk, OnOk, OnErr};
-ghost use Rattle.std.specs.List.{filter};
+ghost use Rattle.std.specs.declared.alloc.Global.{Global};
+ghost use Rattle.std.specs.Prelude.{◌≡◌, ◌++◌, ◌<◌, ℕ, Vec, [], false, true, map, nat_lt, IfOk, IfSome, OnOk, OnErr};
+ghost use Rattle.std.specs.BTreeSet.{IsOrdered, contains};
+ghost use Rattle.std.specs.List.{filter, list_any};
+ghost use Rattle.std.specs.Ordering.{nat_cmp};
 ghost use Rattle.mg_bson.specs.Raw.{fields};
 ghost use Rattle.mg_store.specs.Collecting.{with_document, without_document};
-ghost use Rattle.mg_store.specs.Inserting.{AreNew, Grows, GrowsBySome, IsKeyed, KeepsAll, KeepsIds, Pushes, document_of, holds_id, stored};
+ghost use Rattle.mg_store.specs.Grouping.{stands};
+ghost use Rattle.mg_store.specs.Inserting.{AreNew, Grows, GrowsBySome, IsKeyed, KeepsAll, KeepsIds, Pushes, document_of, holds_id, is_number, number_in, stored};
 
+use crate::groups::Groups;
 use crate::index::Index;
 use mg_bson::RawDocumentBuf;
 use mg_link::OutOfMemory;
 use std::alloc::Global;
-use std::collections::BTreeMap;
+use std::collections::{BTreeMap, BTreeSet};
 
 /// A document, and the encoding of its `_id`.
 pub(crate) struct KeyedDocument {
@@ -43,6 +48,8 @@ pub(crate) struct Collection {
     pub(crate) documents: BTreeMap<u64, RawDocumentBuf>,
     /// The number of each by the encoding of its `_id`.
     pub(crate) ids: BTreeMap<Vec<u8>, u64>,
+    /// The numbers of chunks by their files.
+    groups: Groups,
     /// The number of the next document.
     next: u64,
     pub(crate) indexes: Vec<Index>,
@@ -54,6 +61,7 @@ impl Drop for Collection {
         let Collection {
             documents: _,
             ids: _,
+            groups: _,
             next: _,
             indexes: _,
         } = self;
@@ -69,6 +77,7 @@ impl Collection {
         Collection {
             documents: BTreeMap::new(alloc),
             ids: BTreeMap::new(alloc),
+            groups: Groups::new(alloc),
             next: 0,
             indexes: Vec::new(alloc),
         }
@@ -85,6 +94,39 @@ impl Collection {
         Ok(lent)
     }
 
+    /// The numbers of the documents with these ids.
+    pub(crate) fn numbers(
+        &self,
+        alloc: Global,
+        keys: &Vec<Vec<u8>>,
+    ) -> Result<BTreeSet<u64>, OutOfMemory>
+        ensures { IfOk result (λ ns. IsOrdered nat_cmp ns × ((m : ℕ) → contains nat_cmp ns m ≡ list_any (λ (k : Vec ℕ Global). is_number (number_in self.now.ids k.items) m) keys.now.items)) }
+    {
+        let mut numbers = BTreeSet::new(alloc);
+        for key in keys {
+            let Some(number) = self.ids.get(key) else {
+                continue;
+            };
+            numbers.insert(*number)?;
+        }
+        Ok(numbers)
+    }
+
+    /// The numbers of all documents that have one of these encodings for a group, and of others maybe, where each
+    /// document stands in its groups.
+    pub(crate) fn grouped(
+        &self,
+        alloc: Global,
+        keys: &Vec<Vec<u8>>,
+    ) -> Result<Option<BTreeSet<u64>>, OutOfMemory>
+        ensures { IfOk result (λ o. IfSome o (λ ns. IsOrdered nat_cmp ns × (self.now.groups.is_whole ≡ true) × ((m : ℕ) → m < self.now.next → list_any (λ (k : Vec ℕ Global). stands self.now.groups k.items m) keys.now.items ≡ true → contains nat_cmp ns m ≡ true))) }
+    {
+        if !self.groups.is_whole {
+            return Ok(None);
+        }
+        Ok(Some(self.groups.numbers(alloc, keys, self.next)?))
+    }
+
     /// Puts a document behind the others, none of which has its `_id`. An error changes nothing. More than can be
     /// numbered are want of memory.
     fn push(&mut self, key: Vec<u8>, document: RawDocumentBuf) -> Result<(), OutOfMemory>
@@ -96,6 +138,8 @@ impl Collection {
         let Some(next) = number.checked_add(1) else {
             return Err(OutOfMemory);
         };
+        let alloc = *key.allocator();
+        self.groups.put(alloc, &document.as_raw(), number)?;
         self.documents.insert(number, document)?;
         match self.ids.insert(key, number) {
             Ok(_) => {}
@@ -129,6 +173,7 @@ impl Collection {
     {
         self.ids.retain(|_, given| *given < number);
         self.documents.retain(|given, _| *given < number);
+        self.groups.truncate(number);
     }
 
     /// Appends documents, none of whose ids are there. An error changes nothing.
@@ -164,9 +209,13 @@ impl Collection {
         let Some(number) = self.ids.get(key) else {
             return;
         };
-        if let Some(held) = self.documents.get_mut(number) {
-            let _old = std::mem::replace(held, document);
-        }
+        let Some(held) = self.documents.get_mut(number) else {
+            return;
+        };
+        let alloc = *key.allocator();
+        self.groups
+            .change(alloc, &held.as_raw(), &document.as_raw(), *number);
+        let _old = std::mem::replace(held, document);
     }
 
     /// Removes the document with this `_id`. Where there is none nothing changes.
@@ -178,6 +227,10 @@ impl Collection {
         let Some(number) = self.ids.remove(key) else {
             return;
         };
-        let _document = self.documents.remove(&number);
+        let Some(document) = self.documents.remove(&number) else {
+            return;
+        };
+        self.groups
+            .take(*key.allocator(), &document.as_raw(), number);
     }
 }

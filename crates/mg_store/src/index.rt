@@ -14,12 +14,12 @@ ghost use Rattle.mg_store.specs.Indexing.{index_held, indexes_among};
 ghost use Rattle.mg_store.specs.Inserting.{indexes_there};
 
 use crate::collection::Collection;
+use crate::copies::{encoded, tree_of};
 use crate::limits::may_stay;
 use crate::reading::{document_at, has_only, text_at};
 use crate::reply::with;
-use crate::results::encoded;
 use crate::store::copy;
-use mg_bson::{Bson, Document, RawArray, RawDocument, RawDocumentBuf, RawValue, to_document};
+use mg_bson::{Bson, Document, RawArray, RawDocument, RawDocumentBuf, RawValue};
 use mg_link::OutOfMemory;
 use std::alloc::Global;
 
@@ -126,9 +126,7 @@ fn listed(alloc: Global, index: &Index) -> Result<Document, OutOfMemory>
     ensures { IfOk result (λ d. d ≡ index_listed (index_held index.now)) }
 {
     let name = index.name.clone()?;
-    let Ok(key) = to_document(alloc, index.key.as_raw()) else {
-        return Err(OutOfMemory);
-    };
+    let key = tree_of(alloc, index.key.as_raw())?;
     let listed = with(Document::new(alloc), "v", Bson::Int32(2))?;
     let listed = with(listed, "key", Bson::Document(key))?;
     with(listed, "name", Bson::String(name))

@@ -2,27 +2,26 @@
 ghost use Rattle.mg_store.specs.declared.insert.Rejected.TheVariants.{Memory};
 ghost use Rattle.std.specs.Prelude.{◌≡◌, ◌<◌, ◌≤◌, ◌+◌, ◌^◌, ◌++◌, List, [], suc, length, map, vec_len, vec_capacity, IfOk, OnOk, OnErr, codes};
 ghost use Rattle.mg_bson.specs.Find.{get};
-ghost use Rattle.mg_bson.specs.Raw.{fields, items};
+ghost use Rattle.mg_bson.specs.Raw.{items};
 ghost use Rattle.mg_bson.specs.Tree.{Fields, no_items};
 ghost use Rattle.mg_link.specs.Namespace.{space};
 ghost use Rattle.mg_link.specs.Rules.{inserting, write_error};
 ghost use Rattle.mg_store.specs.Asking.{documents_among};
 ghost use Rattle.mg_store.specs.Inserting.{AcceptsOr, Adds, Appends, Encodes, Fits, GivesEntry, GivesId, GivesKey, KeepsIdsThere, Lists, Takes, holds_id, new_documents, there};
 
-use crate::change::{ChangeEntry, event_bytes, insert_event};
+use crate::change::{ChangeEntry, entry_of, insert_event};
 use crate::collection::{Collection, KeyedDocument};
+use crate::copies::tree_of;
 use crate::filter::key_of;
 use crate::limits::MAX_DOCUMENT;
 use crate::reply::{put_item, write_error};
-use mg_bson::{
-    Array, Bson, BsonError, Document, RawArray, RawDocument, RawDocumentBuf, to_bytes, to_document,
-};
+use mg_bson::{Array, Bson, BsonError, Document, RawArray, RawDocumentBuf, to_bytes};
 use mg_link::{Namespace, OutOfMemory};
 use std::alloc::{AllocError, AllocFailed, Global};
 use std::collections::BTreeSet;
 
-/// The most levels of a stored document: as many as fit the event in a reply.
-const MAX_LEVELS: u32 = 96;
+/// The most levels of an inserted document: as many as fit the event in a reply.
+const MAX_INSERTED_LEVELS: u32 = 96;
 
 /// The code for a document that cannot be stored.
 const BAD_DOCUMENT: i32 = 9;
@@ -98,7 +97,7 @@ fn storable(alloc: Global, document: &Document) -> Result<RawDocumentBuf, Reject
 {
     match to_bytes(alloc, document) {
         Ok(bytes) => {
-            if bytes.as_bytes().len() > MAX_DOCUMENT || !document.is_within(MAX_LEVELS) {
+            if bytes.as_bytes().len() > MAX_DOCUMENT || !document.is_within(MAX_INSERTED_LEVELS) {
                 return Err(Rejected::Refused(BAD_DOCUMENT));
             }
             Ok(bytes)
@@ -110,7 +109,7 @@ fn storable(alloc: Global, document: &Document) -> Result<RawDocumentBuf, Reject
 }
 
 /// A copy of the `_id` of a document.
-fn id_of(document: &Document) -> Result<Bson, Rejected>
+fn given_id(document: &Document) -> Result<Bson, Rejected>
     ensures { GivesId result (get (codes "_id") document.now) }
 {
     match document.get("_id") {
@@ -120,16 +119,16 @@ fn id_of(document: &Document) -> Result<Bson, Rejected>
 }
 
 /// The encoding of the `_id` of a document.
-fn id_key(alloc: Global, document: &Document) -> Result<Vec<u8>, Rejected>
+fn given_key(alloc: Global, document: &Document) -> Result<Vec<u8>, Rejected>
     ensures { GivesKey result (get (codes "_id") document.now) }
 {
-    let id = id_of(document)?;
+    let id = given_id(document)?;
     let key = key_of(alloc, id)?;
     Ok(key)
 }
 
 /// The entry of a document, which stands before this place.
-fn entry_of(
+fn inserted_entry(
     alloc: Global,
     place: u64,
     ns: &Namespace,
@@ -137,11 +136,10 @@ fn entry_of(
 ) -> Result<ChangeEntry, Rejected>
     ensures { GivesEntry place (space ns.now) document result }
 {
-    let id = id_of(&document)?;
+    let id = given_id(&document)?;
     let event = insert_event(alloc, place, ns, id, document)?;
-    let event = event_bytes(alloc, &event)?;
-    let ns = ns.clone()?;
-    Ok(ChangeEntry { ns, event })
+    let entry = entry_of(alloc, ns, &event)?;
+    Ok(entry)
 }
 
 impl Appended {
@@ -186,11 +184,11 @@ impl Appended {
         ensures { KeepsIdsThere collection.entry → Fits (there collection.entry) self.old → AcceptsOr (there collection.entry) place (space ns.now) document self.old self.new result }
     {
         let bytes = storable(alloc, &document)?;
-        let key = id_key(alloc, &document)?;
+        let key = given_key(alloc, &document)?;
         if holds(collection, &key) || self.ids.contains(&key) {
             return Err(Rejected::Refused(DUPLICATE_ID));
         }
-        let entry = entry_of(alloc, place, ns, document)?;
+        let entry = inserted_entry(alloc, place, ns, document)?;
         Ok(self.add(key, bytes, entry)?)
     }
 
@@ -284,14 +282,4 @@ pub(crate) fn append_all(
         index = next;
     }
     Ok(appended)
-}
-
-/// The document as a tree.
-pub(crate) fn tree_of(alloc: Global, raw: RawDocument<'_>) -> Result<Document, OutOfMemory>
-    ensures { IfOk result (λ d. d ≡ fields raw.entry) }
-{
-    match to_document(alloc, raw) {
-        Ok(document) => Ok(document),
-        Err(_) => Err(OutOfMemory),
-    }
 }

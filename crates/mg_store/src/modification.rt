@@ -3,17 +3,16 @@ ghost use Rattle.std.specs.Prelude.{◌≡◌, Some, IfOk, codes, false, if◌th
 ghost use Rattle.std.specs.Str.{bytes_eq};
 ghost use Rattle.mg_bson.specs.Find as find;
 ghost use Rattle.mg_bson.specs.Raw.{fields};
-ghost use Rattle.mg_bson.specs.RawView.{value};
 ghost use Rattle.mg_bson.specs.View.{tree};
 ghost use Rattle.mg_link.specs.Commands.{begin_without_dollar, may_set, modification_of};
 ghost use Rattle.mg_link.specs.Write.{modified, with_fields, with_id};
 ghost use Rattle.mg_store.specs.Modifying.{lent_modification};
 
+use crate::copies::{owned, tree_of};
 use crate::filter::{begins_with_dollar, is_top_name};
-use crate::insert::tree_of;
 use crate::reading::only_document;
 use crate::reply::with;
-use mg_bson::{Bson, Document, RawDocument, RawDocumentBuf, RawValue};
+use mg_bson::{Bson, Document, RawDocument, RawDocumentBuf};
 use mg_link::OutOfMemory;
 use std::alloc::Global;
 
@@ -84,16 +83,6 @@ fn put(mut document: Document, name: &str, value: Bson) -> Result<Document, OutO
 {
     match document.insert(name, value) {
         Ok(_) => Ok(document),
-        Err(_) => Err(OutOfMemory),
-    }
-}
-
-/// A copy of a value that is lent.
-pub(crate) fn owned(alloc: Global, found: &RawValue<'_>) -> Result<Bson, OutOfMemory>
-    ensures { IfOk result (λ v. tree v ≡ value found.now) }
-{
-    match found.to_value(alloc) {
-        Ok(owned) => Ok(owned),
         Err(_) => Err(OutOfMemory),
     }
 }

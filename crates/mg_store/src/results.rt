@@ -6,19 +6,42 @@ ghost use Rattle.mg_bson.specs.Raw.{fields};
 ghost use Rattle.mg_bson.specs.RawView.{value};
 ghost use Rattle.mg_link.specs.Query.{id_alone};
 ghost use Rattle.mg_store.specs.Asking.{held, matches_keys};
-ghost use Rattle.mg_store.specs.Inserting.{stored, there};
+ghost use Rattle.mg_store.specs.Inserting.{KeepsIds, KeepsIdsThere, stored, there};
 ghost use Rattle.mg_store.specs.Querying.{Results, all_done, done, held_key, held_stage, sorts};
+ghost use Rattle.mg_store.specs.Rewriting.{lent};
+ghost use Rattle.mg_store.specs.Selecting.{selecting};
 
 use crate::collection::Collection;
-use crate::filter::{Condition, matches};
+use crate::copies::{encoded, owned, tree_of};
+use crate::filter::Condition;
+use crate::lookup::chosen_in;
+use crate::refusal::{Refusal, Stop};
 use crate::reply::with;
-use crate::request::{Refusal, Stop};
+use crate::selection::Selection;
 use crate::sort::{can_sort, sorted};
 use crate::stages::{Key, Stage};
 use crate::store::copy;
-use mg_bson::{Bson, Document, RawDocumentBuf, RawValue, to_bytes, to_document};
+use mg_bson::{Document, RawDocumentBuf, RawValue};
 use mg_link::OutOfMemory;
 use std::alloc::Global;
+
+/// Copies of the documents that are selected.
+fn admitted(
+    alloc: Global,
+    selection: &Selection<'_>,
+    documents: &[RawDocumentBuf],
+) -> Result<Vec<RawDocumentBuf>, OutOfMemory>
+    ensures { IfOk result (λ r. map fields r.items ≡ filter (matches_keys (selecting selection.now)) (map fields documents.now)) }
+{
+    let mut admitted = Vec::new(alloc);
+    for document in documents {
+        let document = document.as_raw();
+        if selection.admits(alloc, &document)? {
+            admitted.push(copy(alloc, &document)?)?;
+        }
+    }
+    Ok(admitted)
+}
 
 /// Copies of the documents that meet each condition.
 fn selected(
@@ -28,14 +51,8 @@ fn selected(
 ) -> Result<Vec<RawDocumentBuf>, OutOfMemory>
     ensures { IfOk result (λ r. map fields r.items ≡ filter (matches_keys (map held conditions.now.items)) (map fields documents.now)) }
 {
-    let mut selected = Vec::new(alloc);
-    for document in documents {
-        let document = document.as_raw();
-        if matches(alloc, conditions, &document)? {
-            selected.push(copy(alloc, &document)?)?;
-        }
-    }
-    Ok(selected)
+    let selection = Selection::new(alloc, conditions)?;
+    admitted(alloc, &selection, documents)
 }
 
 fn copies(alloc: Global, documents: &[RawDocumentBuf]) -> Result<Vec<RawDocumentBuf>, OutOfMemory>
@@ -64,23 +81,11 @@ fn front(documents: &[RawDocumentBuf], n: u64) -> &[RawDocumentBuf]
     &documents[..upto]
 }
 
-/// The bytes of a part of a document, which can always be encoded.
-pub(crate) fn encoded(alloc: Global, document: &Document) -> Result<RawDocumentBuf, OutOfMemory>
-    ensures { IfOk result (λ r. fields r ≡ document.now) }
-{
-    match to_bytes(alloc, document) {
-        Ok(bytes) => Ok(bytes),
-        Err(_) => Err(OutOfMemory),
-    }
-}
-
 fn id_document(alloc: Global, id: &RawValue<'_>) -> Result<Document, OutOfMemory>
     ensures { IfOk result (λ d. d ≡ id_alone (Some (value id.now))) }
 {
-    match id.to_value(alloc) {
-        Ok(id) => with(Document::new(alloc), "_id", id),
-        Err(_) => Err(OutOfMemory),
-    }
+    let id = owned(alloc, id)?;
+    with(Document::new(alloc), "_id", id)
 }
 
 /// The document with its `_id` alone.
@@ -98,13 +103,9 @@ fn with_id_alone(alloc: Global, document: &RawDocumentBuf) -> Result<RawDocument
 fn without_id(alloc: Global, document: &RawDocumentBuf) -> Result<RawDocumentBuf, OutOfMemory>
     ensures { IfOk result (λ r. fields r ≡ without (codes "_id") (fields document.now)) }
 {
-    match to_document(alloc, document.as_raw()) {
-        Ok(mut shown) => {
-            let _id = shown.remove("_id");
-            encoded(alloc, &shown)
-        }
-        Err(_) => Err(OutOfMemory),
-    }
+    let mut shown = tree_of(alloc, document.as_raw())?;
+    let _id = shown.remove("_id");
+    encoded(alloc, &shown)
 }
 
 fn with_ids_alone(
@@ -190,30 +191,35 @@ fn all(alloc: Global, collection: &Collection) -> Result<Vec<RawDocumentBuf>, Ou
     Ok(copies)
 }
 
+/// Copies of documents that are lent.
+fn copied(alloc: Global, documents: &[&RawDocumentBuf]) -> Result<Vec<RawDocumentBuf>, OutOfMemory>
+    ensures { IfOk result (λ r. map fields r.items ≡ lent documents.now) }
+{
+    let mut copies = Vec::new(alloc);
+    for document in documents {
+        copies.push(copy(alloc, &document.as_raw())?)?;
+    }
+    Ok(copies)
+}
+
 /// Copies of those documents of a collection that meet each condition.
-fn tried(
+fn met(
     alloc: Global,
     conditions: &Vec<Condition>,
     collection: &Collection,
 ) -> Result<Vec<RawDocumentBuf>, OutOfMemory>
-    ensures { IfOk result (λ r. map fields r.items ≡ filter (matches_keys (map held conditions.now.items)) (stored collection.now)) }
+    ensures { KeepsIds collection.now → IfOk result (λ r. map fields r.items ≡ filter (matches_keys (map held conditions.now.items)) (stored collection.now)) }
 {
-    let mut selected = Vec::new(alloc);
-    for document in collection.documents.values() {
-        let document = document.as_raw();
-        if matches(alloc, conditions, &document)? {
-            selected.push(copy(alloc, &document)?)?;
-        }
-    }
-    Ok(selected)
+    let chosen = chosen_in(alloc, conditions, true, collection)?;
+    copied(alloc, chosen.as_slice())
 }
 
 /// What the first stage makes of the documents of a collection. A selection copies no others.
 fn begun(alloc: Global, stage: &Stage, collection: &Collection) -> Result<Vec<RawDocumentBuf>, Stop>
-    ensures { Results result (done (held_stage stage.now) (stored collection.now)) }
+    ensures { KeepsIds collection.now → Results result (done (held_stage stage.now) (stored collection.now)) }
 {
     match stage {
-        Stage::Select(conditions) => Ok(tried(alloc, conditions, collection)?),
+        Stage::Select(conditions) => Ok(met(alloc, conditions, collection)?),
         _ => staged(alloc, stage, all(alloc, collection)?.as_slice()),
     }
 }
@@ -224,7 +230,7 @@ pub(crate) fn through(
     stages: &[Stage],
     collection: Option<&Collection>,
 ) -> Result<Vec<RawDocumentBuf>, Stop>
-    ensures { Results result (all_done (map held_stage stages.now) (there collection.entry)) }
+    ensures { KeepsIdsThere collection.entry → Results result (all_done (map held_stage stages.now) (there collection.entry)) }
 {
     let Some(collection) = collection else {
         return further(alloc, stages, Vec::new(alloc));

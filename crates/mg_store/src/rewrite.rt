@@ -8,18 +8,19 @@ ghost use Rattle.mg_link.specs.Namespace.{space};
 ghost use Rattle.mg_link.specs.Rules.{modified_event, same_id, set_anew};
 ghost use Rattle.mg_link.specs.Write.{modified};
 ghost use Rattle.mg_store.specs.Asking.{held};
-ghost use Rattle.mg_store.specs.Inserting.{IsKeyed, KeepsIds, stored, there};
+ghost use Rattle.mg_store.specs.Inserting.{IsKeyed, KeepsIds, KeepsIdsThere, stored, there};
 ghost use Rattle.mg_store.specs.Modifying.{lent_modification};
 ghost use Rattle.mg_store.specs.Rewriting.{Alters, AreKeyed, ChangesOr, GivesEvent, MakesAllOr, MakesOr, RemovesAllOr, RemovesOr, chosen_by, lent, with_documents, without_documents};
 
-use crate::change::{ChangeEntry, deleted_event, event_bytes, replaced_event, updated_event};
+use crate::change::{ChangeEntry, deleted_event, entry_of, replaced_event, updated_event};
 use crate::collection::{Collection, KeyedDocument};
-use crate::filter::{Condition, key_of, matches, raw_key};
-use crate::insert::tree_of;
+use crate::copies::{encoded, owned, tree_of};
+use crate::filter::{Condition, key_of, raw_key};
 use crate::limits::{encoded_may_stay, may_be_given};
-use crate::modification::{Modification, modified, owned, with_fields};
+use crate::lookup::chosen_in;
+use crate::modification::{Modification, modified, with_fields};
+use crate::refusal::{Refusal, Stop};
 use crate::reply::with;
-use crate::request::{Refusal, Stop};
 use mg_bson::{Bson, Document, RawDocument, RawDocumentBuf};
 use mg_link::{Namespace, OutOfMemory};
 use std::alloc::Global;
@@ -31,7 +32,7 @@ pub(crate) fn chosen<'a>(
     many: bool,
     collection: Option<&'a Collection>,
 ) -> Result<Vec<&'a RawDocumentBuf>, OutOfMemory>
-    ensures { IfOk result (λ ds. lent ds.items ≡ chosen_by (map held conditions.now.items) many (there collection.entry)) }
+    ensures { KeepsIdsThere collection.entry → IfOk result (λ ds. lent ds.items ≡ chosen_by (map held conditions.now.items) many (there collection.entry)) }
 {
     match collection {
         Some(collection) => chosen_in(alloc, conditions, many, collection),
@@ -39,28 +40,8 @@ pub(crate) fn chosen<'a>(
     }
 }
 
-fn chosen_in<'a>(
-    alloc: Global,
-    conditions: &Vec<Condition>,
-    many: bool,
-    collection: &'a Collection,
-) -> Result<Vec<&'a RawDocumentBuf>, OutOfMemory>
-    ensures { IfOk result (λ ds. lent ds.items ≡ chosen_by (map held conditions.now.items) many (stored collection.now)) }
-{
-    let mut chosen = Vec::new(alloc);
-    for document in collection.documents.values() {
-        if matches(alloc, conditions, &document.as_raw())? {
-            chosen.push(document)?;
-            if !many {
-                return Ok(chosen);
-            }
-        }
-    }
-    Ok(chosen)
-}
-
 /// A copy of the `_id` of a stored document. Each of those has one.
-fn id_of(alloc: Global, document: &RawDocumentBuf) -> Result<Bson, OutOfMemory>
+fn stored_id(alloc: Global, document: &RawDocumentBuf) -> Result<Bson, OutOfMemory>
     ensures { IfOk result (λ id. get (codes "_id") (fields document.now) ≡ Some (tree id)) }
 {
     match document.as_raw().get("_id") {
@@ -70,10 +51,10 @@ fn id_of(alloc: Global, document: &RawDocumentBuf) -> Result<Bson, OutOfMemory>
 }
 
 /// The encoding of the `_id` of a stored document.
-fn id_key(alloc: Global, document: &RawDocumentBuf) -> Result<Vec<u8>, OutOfMemory>
+fn stored_key(alloc: Global, document: &RawDocumentBuf) -> Result<Vec<u8>, OutOfMemory>
     ensures { IfOk result (λ k. IsKeyed k.items (fields document.now)) }
 {
-    let id = id_of(alloc, document)?;
+    let id = stored_id(alloc, document)?;
     key_of(alloc, id)
 }
 
@@ -137,7 +118,7 @@ fn modified_event(
 ) -> Result<Document, OutOfMemory>
     ensures { made ≡ modified (lent_modification modification.now) (fields document.now) → IfOk result (λ e. e ≡ modified_event place (space ns.now) (lent_modification modification.now) (fields document.now)) }
 {
-    let id = id_of(alloc, document)?;
+    let id = stored_id(alloc, document)?;
     match modification {
         Modification::Set(new) => {
             let sets = with_fields(alloc, new, Document::new(alloc))?;
@@ -149,15 +130,14 @@ fn modified_event(
 }
 
 /// The entry of an event, or the refusal of one that no reply may give.
-fn entry_of(alloc: Global, ns: &Namespace, event: &Document) -> Result<ChangeEntry, Stop>
+fn given_entry(alloc: Global, ns: &Namespace, event: &Document) -> Result<ChangeEntry, Stop>
     ensures { GivesEvent (space ns.now) event.now result }
 {
     if !may_be_given(event) {
         return Err(Stop::Refused(Refusal::BadRequest));
     }
-    let event = event_bytes(alloc, event)?;
-    let ns = ns.clone()?;
-    Ok(ChangeEntry { ns, event })
+    let entry = entry_of(alloc, ns, event)?;
+    Ok(entry)
 }
 
 /// A document as an update makes it, and its encoding.
@@ -195,9 +175,9 @@ fn alter(
 ) -> Result<Option<Altered>, OutOfMemory>
     ensures { IfOk result (Alters (lent_modification modification.now) (fields document.now)) }
 {
-    let before = event_bytes(alloc, &tree_of(alloc, document.as_raw())?)?;
+    let before = encoded(alloc, &tree_of(alloc, document.as_raw())?)?;
     let document = modified(alloc, modification, document)?;
-    let encoded = event_bytes(alloc, &document)?;
+    let encoded = encoded(alloc, &document)?;
     if before == encoded {
         return Ok(None);
     }
@@ -269,9 +249,9 @@ impl Changes {
         if !encoded_may_stay(&encoded, &made) {
             return Err(Stop::Refused(Refusal::BadRequest));
         }
-        let key = id_key(alloc, document)?;
+        let key = stored_key(alloc, document)?;
         let event = modified_event(alloc, place, ns, modification, document, made)?;
-        let entry = entry_of(alloc, ns, &event)?;
+        let entry = given_entry(alloc, ns, &event)?;
         Ok(self.add(key, encoded, entry)?)
     }
 
@@ -366,10 +346,10 @@ impl Removals {
         ensures { (olds : List Fields) → RemovesOr entries (space ns.now) olds (fields document.now) self.old self.new result }
     {
         let place = entries + self.entries.len() as u64 + 1;
-        let key = id_key(alloc, document)?;
-        let id = id_of(alloc, document)?;
+        let key = stored_key(alloc, document)?;
+        let id = stored_id(alloc, document)?;
         let event = deleted_event(alloc, place, ns, id)?;
-        let entry = entry_of(alloc, ns, &event)?;
+        let entry = given_entry(alloc, ns, &event)?;
         Ok(self.add(key, entry)?)
     }
 }

@@ -11,7 +11,8 @@ ghost use Rattle.mg_store.specs.Contents.{MayKeep};
 ghost use Rattle.mg_store.specs.Stored.{AreOpen, Performs, Stored, kept_of, shown, shown_of};
 
 use crate::change::ChangeEntry;
-use crate::perform::{Answer, Content, closing, refused};
+use crate::content::Content;
+use crate::perform::{Answer, closing, refused};
 use crate::refusing::{continued_cursor, ends_cursor};
 use mg_bson::{RawDocument, RawDocumentBuf};
 use mg_link::{HistoryStep, Namespace, OutOfMemory, Receipt, push_reserved};

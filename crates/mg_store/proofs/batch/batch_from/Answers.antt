@@ -15,13 +15,13 @@ returns-then-left-eq0 c =
 
 pub returns-then-room-len : goal.returns-then-room-len
 returns-then-room-len c =
-    let len : c.in_ok-len.len ≡ length (bytes (fields c.index-documents-place.result)) = c.in_ok-len.ensures ∙ ap (λ d. length (bytes d)) c.in_ok-document.ensures in
+    let len : c.in_ok-len.len ≡ length (bytes (fields c.index-documents-place.result)) = c.in_ok-len.ensures ∙ ap (λ d. length (bytes d)) (c.in_ok-document.ensures ∙ ap fields c.as_raw.ensures) in
     stops_full _ _ c.args.size c.loop-place.given c.loop-place.room c.loop-place.left (c.args.size - c.loop-place.left) (fields c.index-documents-place.result) _ (left_at c.args.documents.now c.loop-place.place c.index-documents-place.result c.loop-place-test.true c.index-documents-place.is)
     (and_from _ _ (lt-ltb c.loop-place.left c.args.size c.if-left-size.true) (ap (nat_lt c.loop-place.room) (sym len) ∙ lt-ltb c.loop-place.room c.in_ok-len.len c.if-room-len.true)) refl c.loop-place.invariant
 
 pub loop-place-preserved : goal.loop-place-preserved
 loop-place-preserved c =
-    let len : c.in_ok-len.len ≡ length (bytes (fields c.index-documents-place.result)) = c.in_ok-len.ensures ∙ ap (λ d. length (bytes d)) c.in_ok-document.ensures in
+    let len : c.in_ok-len.len ≡ length (bytes (fields c.index-documents-place.result)) = c.in_ok-len.ensures ∙ ap (λ d. length (bytes d)) (c.in_ok-document.ensures ∙ ap fields c.as_raw.ensures) in
     let fits : (nat_lt c.loop-place.left c.args.size && nat_lt c.loop-place.room (length (bytes (fields c.index-documents-place.result)))) ≡ false =
     elim c.else-left-size.branch [
       | else-left-size-via-then-left-size+else-room-len w ↦ and_right (nat_lt c.loop-place.left c.args.size) _ (ap (nat_lt c.loop-place.room) (sym len) ∙ le-ltb c.loop-place.room c.in_ok-len.len w.if-room-len.false)
@@ -29,7 +29,7 @@ loop-place-preserved c =
     ] in
     going_more _ _ c.args.size c.loop-place.given _ c.loop-place.room c.loop-place.left _ (c.loop-place.left - 1) (fields c.index-documents-place.result) _
     (left_at c.args.documents.now c.loop-place.place c.index-documents-place.result c.loop-place-test.true c.index-documents-place.is) (omega (arith, c.if-left-eq0.false)) fits
-    (c.in_ok-put_item.ensures ∙ ap (λ d. with_item c.loop-place.given (document d)) c.in_ok-document.ensures) (omega (arith, c.saturating_sub-room.ensures, len)) c.loop-place.invariant
+    (c.in_ok-put_item.ensures ∙ ap (λ d. with_item c.loop-place.given (document d)) (c.in_ok-document.ensures ∙ ap fields c.as_raw.ensures)) (omega (arith, c.saturating_sub-room.ensures, len)) c.loop-place.invariant
 
 pub returns : goal.returns
 returns c =

@@ -1,7 +1,9 @@
-use Rattle.std.proofs.Common.{refl, rules}
+use Rattle.std.proofs.Common.{refl, rules, subst, sym}
 use Rattle.std.specs.Prelude.{nat_lt}
 use Rattle.std.proofs.lemmas.Map.Made.{filter_same_pairs}
+use Rattle.mg_store.specs.Grouping.{AreGrouped}
 use Rattle.mg_store.specs.declared.collection.Collection.{Collection}
+use Rattle.mg_store.proofs.Grouping.{grouped_cut}
 use Rattle.mg_store.proofs.Numbers.{truncate_keeps}
 use Rattle.mg_store.proofs.collection.Collection.truncate.Goals as goal
 
@@ -12,5 +14,6 @@ pub returns-clause-ids : goal.returns-clause-ids
 returns-clause-ids c keeps =
     let docs = filter_same_pairs _ (λ e. nat_lt e.0 c.args.number) _ (λ k v b w f' t. search rules) c.args.self.now.documents.entries c.retain-2.new.self.entries c.retain-2.ensures.filtered in
     let ids = filter_same_pairs _ (λ e. nat_lt e.1 c.args.number) _ (λ k v b w f' t. search rules) c.args.self.now.ids.entries c.retain.new.self.entries c.retain.ensures.filtered in
-    let left : Collection = record c.args.self.now { documents = c.retain-2.new.self; ids = c.retain.new.self } in
+    let left : Collection = record c.args.self.now { documents = c.retain-2.new.self; ids = c.retain.new.self; groups = c.truncate.new.self } in
     truncate_keeps c.args.self.now left c.args.number keeps c.retain.ensures.was_ordered docs ids refl c.retain-2.ensures.ordered
+    (subst (AreGrouped left.groups) (sym docs) (grouped_cut c.args.number c.args.self.now.groups left.groups c.args.self.now.documents.entries c.truncate.ensures keeps.grouped))

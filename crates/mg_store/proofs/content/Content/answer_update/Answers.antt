@@ -1,0 +1,36 @@
+use Rattle.std.proofs.Common.{◌≡◌, ℕ, ◌<◌, ◌^◌, List, length, map, ap, ap₂, sym, ◌∙◌, subst, arith}
+use Rattle.std.proofs.lemmas.Result.{err_from_is_err_and}
+use Rattle.std.specs.Option.{option_copied}
+use denote.Ref.{Bor}
+use Rattle.mg_link.specs.Namespace.{space}
+use Rattle.mg_link.specs.Rules.{updated_reply}
+use Rattle.mg_store.specs.Asking.{held}
+use Rattle.mg_store.specs.Contents.{collection_at}
+use Rattle.mg_store.specs.Modifying.{lent_modification}
+use Rattle.mg_store.specs.Rewriting.{Makes, MakesAllOr, lent}
+use Rattle.mg_store.proofs.Holdings.{distinct_there, keeps_there, update_settles, update_stops}
+use Rattle.mg_store.proofs.Maps.{found_at}
+use Rattle.mg_store.proofs.content.Content.answer_update.Goals as goal
+
+pub returns-in_err-changes : goal.returns-in_err-changes
+returns-in_err-changes c s given cs h keys keeps =
+    let p = err_from_is_err_and c.from_residual-in_err-changes.result c.from_residual-in_err-changes.ensures.1 in
+    let found : option_copied c.get.result ≡ collection_at c.args.self.now.collections (space c.args.ns) = c.get.ensures.value ∙ found_at c.args.ns c.args.self.now.collections in
+    let there = keeps_there c.args.self.now s given (space c.args.ns) c.get.result h found in
+    let place : c.len-entries.result ≡ length c.args.self.now.changes.items = omega (arith, c.len-entries.ensures, c.args.self.now.changes.ok.0) in
+    rw (p.1, p.2) (update_stops c.args.self.now s given (space c.args.ns) cs (map held c.args.conditions.now.items) (lent_modification c.args.modification.now) c.args.many c.get.result c.in_ok-these.these.items c.as_slice.result.now c.len-entries.result c.in_err-changes.field-0.0 h found keys (c.in_ok-these.ensures there)
+    c.as_slice.ensures.value place c.in_err-changes.ensures)
+
+pub returns : goal.returns
+returns c s given cs h keys keeps =
+    let found : option_copied c.get.result ≡ collection_at c.args.self.now.collections (space c.args.ns) = c.get.ensures.value ∙ found_at c.args.ns c.args.self.now.collections in
+    let there = keeps_there c.args.self.now s given (space c.args.ns) c.get.result h found in
+    let place : c.len-entries.result ≡ length c.args.self.now.changes.items = omega (arith, c.len-entries.ensures, c.args.self.now.changes.ok.0) in
+    let got = subst (λ (n : ℕ). Makes n (space c.args.ns) (lent_modification c.args.modification.now) (lent c.in_ok-these.these.items) c.in_ok-changes.changes) place
+    (subst (λ (l : List (Bor (List ℕ))). Makes c.len-entries.result (space c.args.ns) (lent_modification c.args.modification.now) (lent l) c.in_ok-changes.changes) c.as_slice.ensures.value c.in_ok-changes.ensures) in
+    let count : c.len-n.result ≡ length c.in_ok-these.these.items = omega (arith, c.len-n.ensures, c.in_ok-these.these.ok.0) in
+    let many : c.len-changed.result ≡ length c.in_ok-changes.changes.documents.items = omega (arith, c.len-changed.ensures, c.in_ok-changes.changes.documents.ok.0) in
+    let small : c.len-n.result < 2 ^ 63 = omega (arith, c.len-n.ensures, c.in_ok-these.these.small) in
+    let little : c.len-changed.result < 2 ^ 63 = omega (arith, c.len-changed.ensures, c.in_ok-changes.changes.documents.small) in
+    update_settles c.args.self.now s given c.args.ns cs (map held c.args.conditions.now.items) (lent_modification c.args.modification.now) c.args.many c.get.result c.in_ok-these.these.items c.in_ok-changes.changes c.in_ok-document.document c.answered.result h found keeps keys
+    (c.in_ok-these.ensures there) (distinct_there c.get.result there) got (c.in_ok-document.ensures small little ∙ ap₂ updated_reply count many) c.answered.ensures
