@@ -1,5 +1,5 @@
 use super::records::is_shown;
-use super::{namespace, one_field, text, with};
+use super::{namespace, one_field, parted, text, with};
 use mg_bson::{Bson, Document};
 use mg_link::{
     Error, OperationTarget, ReadConcern, ReadConcernLevel, ReadPreference, SelectionCriteria,
@@ -16,6 +16,30 @@ use mg_options::{
 };
 use std::alloc::Global;
 use std::test::Fail;
+
+// Each line is an operation, how it is built, and what is built: the names of its fields in order, and its JSON text.
+const COMMANDS: &str =
+    r#"find awaited find singleBatch tailable awaitData batchSize comment limit filter $db readConcern $readPreference {"$db":"db","$readPreference":{"mode":"nearest"},"awaitData":true,"batchSize":5,"comment":"c","filter":{"x":1},"find":"coll","limit":{"$int64":"7"},"readConcern":{"level":"local"},"singleBatch":true,"tailable":true}
+find limited find tailable batchSize limit filter $db {"$db":"db","batchSize":6,"filter":{"x":1},"find":"coll","limit":{"$int64":"5"},"tailable":true}
+find empty find tailable batchSize limit filter $db {"$db":"db","batchSize":1,"filter":{"x":1},"find":"coll","limit":{"$int64":"0"},"tailable":true}
+find excessive invalid batch size
+aggregate collection aggregate pipeline cursor allowDiskUse maxTimeMS $db readConcern writeConcern {"$db":"db","aggregate":"coll","allowDiskUse":true,"cursor":{"batchSize":5},"maxTimeMS":6,"pipeline":[{"$skip":1}],"readConcern":{"level":"local"},"writeConcern":{"j":true}}
+aggregate merge aggregate pipeline cursor allowDiskUse maxTimeMS $db readConcern writeConcern {"$db":"db","aggregate":"coll","allowDiskUse":true,"cursor":{},"maxTimeMS":6,"pipeline":[{"$merge":1}],"readConcern":{"level":"local"},"writeConcern":{"j":true}}
+aggregate cluster aggregate pipeline cursor allowDiskUse maxTimeMS $db readConcern writeConcern {"$db":"admin","aggregate":1,"allowDiskUse":true,"cursor":{"batchSize":5},"maxTimeMS":6,"pipeline":[{"$skip":1}],"readConcern":{"level":"local"},"writeConcern":{"j":true}}
+list names listCollections nameOnly filter cursor $db {"$db":"db","cursor":{"batchSize":5},"filter":{"name":1},"listCollections":1,"nameOnly":true}
+list types listCollections nameOnly filter cursor $db {"$db":"db","cursor":{"batchSize":5},"filter":{"type":1},"listCollections":1,"nameOnly":false}
+list indexes listIndexes cursor maxTimeMS comment $db {"$db":"db","comment":"c","cursor":{"batchSize":5},"listIndexes":"coll","maxTimeMS":6}
+given command x $db $readPreference {"$db":"db","$readPreference":{"mode":"nearest"},"x":1}
+given cursor x $db {"$db":"db","x":1}
+given excessive invalid batch size
+given more getMore collection batchSize maxTimeMS comment $db {"$db":"db","batchSize":5,"collection":"coll","comment":"c","getMore":{"$int64":"9"},"maxTimeMS":2147483647}
+write delete delete deletes ordered let comment $db writeConcern {"$db":"db","comment":"c","delete":"coll","deletes":[{"hint":{"x":2},"limit":1,"q":{"x":1}}],"let":{"x":3},"ordered":true,"writeConcern":{"j":true}}
+write update update updates ordered $db writeConcern {"$db":"db","ordered":true,"update":"coll","updates":[{"multi":true,"q":{"x":1},"u":{"x":2}}],"writeConcern":{"j":true}}
+write one update updates ordered $db writeConcern {"$db":"db","ordered":true,"update":"coll","updates":[{"q":{"x":1},"u":{"x":2}}],"writeConcern":{"j":true}}
+space create create $db writeConcern {"$db":"db","create":"coll","writeConcern":{"j":true}}
+space drop drop $db {"$db":"db","drop":"coll"}
+space indexes createIndexes indexes maxTimeMS $db {"$db":"db","createIndexes":"coll","indexes":[{"key":{"filename":1,"uploadDate":{"$int64":"-1"}},"name":"filename_1_uploadDate_-1"}],"maxTimeMS":6}
+space nameless number out of range"#;
 
 // The document `{ x: n }`.
 fn x(alloc: Global, n: i32) -> Result<Document, Error> {
@@ -63,9 +87,6 @@ fn awaited(alloc: Global) -> Result<Document, Error> {
     find(alloc, options)
 }
 
-const AWAITED: &str =
-    r#"find singleBatch tailable awaitData batchSize comment limit filter $db readConcern $readPreference {"$db":"db","$readPreference":{"mode":"nearest"},"awaitData":true,"batchSize":5,"comment":"c","filter":{"x":1},"find":"coll","limit":{"$int64":"7"},"readConcern":{"level":"local"},"singleBatch":true,"tailable":true}"#;
-
 // A find whose limit is the size of its batches.
 fn limited(alloc: Global, n: u32) -> Result<Document, Error> {
     let options = FindOptions::builder()
@@ -75,32 +96,13 @@ fn limited(alloc: Global, n: u32) -> Result<Document, Error> {
     find(alloc, options)
 }
 
-#[test]
-fn finds(rt: HostRuntime) -> Result<(), Fail> {
-    let alloc = rt.alloc();
-    is_shown(&rt, alloc, "awaited", awaited(alloc), AWAITED)?;
-    is_shown(
-        &rt,
-        alloc,
-        "limited",
-        limited(alloc, 5),
-        r#"find tailable batchSize limit filter $db {"$db":"db","batchSize":6,"filter":{"x":1},"find":"coll","limit":{"$int64":"5"},"tailable":true}"#,
-    )?;
-    is_shown(
-        &rt,
-        alloc,
-        "none",
-        limited(alloc, 0),
-        r#"find tailable batchSize limit filter $db {"$db":"db","batchSize":1,"filter":{"x":1},"find":"coll","limit":{"$int64":"0"},"tailable":true}"#,
-    )?;
-    is_shown(
-        &rt,
-        alloc,
-        "too many",
-        limited(alloc, 2_147_483_647),
-        "invalid batch size",
-    )?;
-    Ok(())
+fn finds(alloc: Global, way: &str) -> Result<Document, Error> {
+    match way {
+        "awaited" => awaited(alloc),
+        "limited" => limited(alloc, 5),
+        "empty" => limited(alloc, 0),
+        _ => limited(alloc, 2_147_483_647),
+    }
 }
 
 // An aggregate of one stage, with the concerns that it may have.
@@ -125,31 +127,12 @@ fn on_collection(alloc: Global, stage: &str) -> Result<Document, Error> {
     aggregate(alloc, OperationTarget::Collection(ns), stage)
 }
 
-#[test]
-fn aggregates(rt: HostRuntime) -> Result<(), Fail> {
-    let alloc = rt.alloc();
-    is_shown(
-        &rt,
-        alloc,
-        "collection",
-        on_collection(alloc, "$skip"),
-        r#"aggregate pipeline cursor allowDiskUse maxTimeMS $db readConcern writeConcern {"$db":"db","aggregate":"coll","allowDiskUse":true,"cursor":{"batchSize":5},"maxTimeMS":6,"pipeline":[{"$skip":1}],"readConcern":{"level":"local"},"writeConcern":{"j":true}}"#,
-    )?;
-    is_shown(
-        &rt,
-        alloc,
-        "merge",
-        on_collection(alloc, "$merge"),
-        r#"aggregate pipeline cursor allowDiskUse maxTimeMS $db readConcern writeConcern {"$db":"db","aggregate":"coll","allowDiskUse":true,"cursor":{},"maxTimeMS":6,"pipeline":[{"$merge":1}],"readConcern":{"level":"local"},"writeConcern":{"j":true}}"#,
-    )?;
-    is_shown(
-        &rt,
-        alloc,
-        "cluster",
-        aggregate(alloc, OperationTarget::Cluster, "$skip"),
-        r#"aggregate pipeline cursor allowDiskUse maxTimeMS $db readConcern writeConcern {"$db":"admin","aggregate":1,"allowDiskUse":true,"cursor":{"batchSize":5},"maxTimeMS":6,"pipeline":[{"$skip":1}],"readConcern":{"level":"local"},"writeConcern":{"j":true}}"#,
-    )?;
-    Ok(())
+fn aggregates(alloc: Global, way: &str) -> Result<Document, Error> {
+    match way {
+        "collection" => on_collection(alloc, "$skip"),
+        "merge" => on_collection(alloc, "$merge"),
+        _ => aggregate(alloc, OperationTarget::Cluster, "$skip"),
+    }
 }
 
 // A list of the names of collections that a filter of this name selects.
@@ -179,31 +162,12 @@ fn list_indexes(alloc: Global) -> Result<Document, Error> {
     list.build(alloc, 21)
 }
 
-#[test]
-fn lists(rt: HostRuntime) -> Result<(), Fail> {
-    let alloc = rt.alloc();
-    is_shown(
-        &rt,
-        alloc,
-        "names",
-        list_collections(alloc, "name"),
-        r#"listCollections nameOnly filter cursor $db {"$db":"db","cursor":{"batchSize":5},"filter":{"name":1},"listCollections":1,"nameOnly":true}"#,
-    )?;
-    is_shown(
-        &rt,
-        alloc,
-        "types",
-        list_collections(alloc, "type"),
-        r#"listCollections nameOnly filter cursor $db {"$db":"db","cursor":{"batchSize":5},"filter":{"type":1},"listCollections":1,"nameOnly":false}"#,
-    )?;
-    is_shown(
-        &rt,
-        alloc,
-        "indexes",
-        list_indexes(alloc),
-        r#"listIndexes cursor maxTimeMS comment $db {"$db":"db","comment":"c","cursor":{"batchSize":5},"listIndexes":"coll","maxTimeMS":6}"#,
-    )?;
-    Ok(())
+fn lists(alloc: Global, way: &str) -> Result<Document, Error> {
+    match way {
+        "names" => list_collections(alloc, "name"),
+        "types" => list_collections(alloc, "type"),
+        _ => list_indexes(alloc),
+    }
 }
 
 fn run(alloc: Global) -> Result<Document, Error> {
@@ -239,38 +203,13 @@ fn get_more(alloc: Global, max_time: u64) -> Result<Document, Error> {
     get_more.build(alloc, 21)
 }
 
-#[test]
-fn given_commands(rt: HostRuntime) -> Result<(), Fail> {
-    let alloc = rt.alloc();
-    is_shown(
-        &rt,
-        alloc,
-        "run",
-        run(alloc),
-        r#"x $db $readPreference {"$db":"db","$readPreference":{"mode":"nearest"},"x":1}"#,
-    )?;
-    is_shown(
-        &rt,
-        alloc,
-        "cursor",
-        run_cursor(alloc, 5),
-        r#"x $db {"$db":"db","x":1}"#,
-    )?;
-    is_shown(
-        &rt,
-        alloc,
-        "size",
-        run_cursor(alloc, 2_147_483_648),
-        "invalid batch size",
-    )?;
-    is_shown(
-        &rt,
-        alloc,
-        "more",
-        get_more(alloc, 2_147_483_648),
-        r#"getMore collection batchSize maxTimeMS comment $db {"$db":"db","batchSize":5,"collection":"coll","comment":"c","getMore":{"$int64":"9"},"maxTimeMS":2147483647}"#,
-    )?;
-    Ok(())
+fn given(alloc: Global, way: &str) -> Result<Document, Error> {
+    match way {
+        "command" => run(alloc),
+        "cursor" => run_cursor(alloc, 5),
+        "excessive" => run_cursor(alloc, 2_147_483_648),
+        _ => get_more(alloc, 2_147_483_648),
+    }
 }
 
 fn delete(alloc: Global, many: bool) -> Result<Document, Error> {
@@ -306,31 +245,12 @@ fn update(alloc: Global, many: bool) -> Result<Document, Error> {
     update.build(alloc, 21)
 }
 
-#[test]
-fn writes(rt: HostRuntime) -> Result<(), Fail> {
-    let alloc = rt.alloc();
-    is_shown(
-        &rt,
-        alloc,
-        "delete",
-        delete(alloc, false),
-        r#"delete deletes ordered let comment $db writeConcern {"$db":"db","comment":"c","delete":"coll","deletes":[{"hint":{"x":2},"limit":1,"q":{"x":1}}],"let":{"x":3},"ordered":true,"writeConcern":{"j":true}}"#,
-    )?;
-    is_shown(
-        &rt,
-        alloc,
-        "update",
-        update(alloc, true),
-        r#"update updates ordered $db writeConcern {"$db":"db","ordered":true,"update":"coll","updates":[{"multi":true,"q":{"x":1},"u":{"x":2}}],"writeConcern":{"j":true}}"#,
-    )?;
-    is_shown(
-        &rt,
-        alloc,
-        "one",
-        update(alloc, false),
-        r#"update updates ordered $db writeConcern {"$db":"db","ordered":true,"update":"coll","updates":[{"q":{"x":1},"u":{"x":2}}],"writeConcern":{"j":true}}"#,
-    )?;
-    Ok(())
+fn writes(alloc: Global, way: &str) -> Result<Document, Error> {
+    match way {
+        "delete" => delete(alloc, false),
+        "update" => update(alloc, true),
+        _ => update(alloc, false),
+    }
 }
 
 fn create(alloc: Global) -> Result<Document, Error> {
@@ -362,36 +282,33 @@ fn create_indexes(alloc: Global, value: Bson) -> Result<Document, Error> {
     create.build(alloc, 21)
 }
 
+fn spaces(alloc: Global, way: &str) -> Result<Document, Error> {
+    match way {
+        "create" => create(alloc),
+        "drop" => drop_collection(alloc),
+        "indexes" => create_indexes(alloc, Bson::Int64(-1)),
+        _ => create_indexes(alloc, Bson::Null),
+    }
+}
+
+fn built(alloc: Global, operation: &str, way: &str) -> Result<Document, Error> {
+    match operation {
+        "find" => finds(alloc, way),
+        "aggregate" => aggregates(alloc, way),
+        "list" => lists(alloc, way),
+        "given" => given(alloc, way),
+        "write" => writes(alloc, way),
+        _ => spaces(alloc, way),
+    }
+}
+
 #[test]
-fn collections(rt: HostRuntime) -> Result<(), Fail> {
+fn commands_of_operations(rt: HostRuntime) -> Result<(), Fail> {
     let alloc = rt.alloc();
-    is_shown(
-        &rt,
-        alloc,
-        "create",
-        create(alloc),
-        r#"create $db writeConcern {"$db":"db","create":"coll","writeConcern":{"j":true}}"#,
-    )?;
-    is_shown(
-        &rt,
-        alloc,
-        "drop",
-        drop_collection(alloc),
-        r#"drop $db {"$db":"db","drop":"coll"}"#,
-    )?;
-    is_shown(
-        &rt,
-        alloc,
-        "indexes",
-        create_indexes(alloc, Bson::Int64(-1)),
-        r#"createIndexes indexes maxTimeMS $db {"$db":"db","createIndexes":"coll","indexes":[{"key":{"filename":1,"uploadDate":{"$int64":"-1"}},"name":"filename_1_uploadDate_-1"}],"maxTimeMS":6}"#,
-    )?;
-    is_shown(
-        &rt,
-        alloc,
-        "no name",
-        create_indexes(alloc, Bson::Null),
-        "number out of range",
-    )?;
+    for line in COMMANDS.lines() {
+        let (operation, rest) = parted(line);
+        let (way, wanted) = parted(rest);
+        is_shown(&rt, alloc, line, built(alloc, operation, way), wanted)?;
+    }
     Ok(())
 }

@@ -1,4 +1,4 @@
-use super::{expect, one_field, text};
+use super::{expect, one_field, parted, text};
 use mg_bson::{Bson, Document};
 use mg_jobs::json_text;
 use mg_link::{
@@ -15,18 +15,48 @@ use std::alloc::{AllocError, Global};
 use std::process::Abort;
 use std::test::Fail;
 
+// Each line is a record of options, how it is given, and what it puts into a body: the names in order, and the JSON text.
+const RECORDS: &str =
+    r#"find all allowDiskUse allowPartialResults batchSize comment hint limit max maxScan maxTimeMS min noCursorTimeout projection returnKey showRecordId skip sort let {"allowDiskUse":true,"allowPartialResults":false,"batchSize":5,"comment":"c","hint":"h","let":{"x":5},"limit":{"$int64":"7"},"max":{"x":1},"maxScan":{"$int64":"8"},"maxTimeMS":2147483647,"min":{"x":2},"noCursorTimeout":true,"projection":{"x":3},"returnKey":false,"showRecordId":true,"skip":{"$int64":"9"},"sort":{"x":4}}
+find one limit skip {"limit":{"$int64":"1"},"skip":{"$int64":"2"}}
+find files limit skip {"limit":{"$int64":"3"},"skip":{"$int64":"2"}}
+find least invalid limit
+find long maxTimeMS {"maxTimeMS":{"$int64":"2147483648"}}
+find longest number out of range
+find large invalid batch size
+write aggregate allowDiskUse cursor bypassDocumentValidation collation comment hint maxTimeMS let {"allowDiskUse":true,"bypassDocumentValidation":false,"collation":{"locale":"en"},"comment":"c","cursor":{"batchSize":5},"hint":{"x":1},"let":{"x":2},"maxTimeMS":6}
+write insert bypassDocumentValidation ordered comment {"bypassDocumentValidation":true,"comment":"c","ordered":false}
+write delete hint let comment {"comment":"c","hint":{"x":1},"let":{"x":2}}
+write collation collation {"collation":{"alternate":"non-ignorable","backwards":false,"caseFirst":"off","caseLevel":true,"locale":"en","maxVariable":"space","normalization":true,"numericOrdering":false,"strength":2}}
+index nodes commitQuorum maxTimeMS comment {"comment":"c","commitQuorum":3,"maxTimeMS":6}
+index word commitQuorum maxTimeMS comment {"comment":"c","commitQuorum":"votingMembers","maxTimeMS":6}
+index many number out of range
+index drop maxTimeMS comment {"comment":"c","maxTimeMS":6}
+index list maxTimeMS comment {"comment":"c","maxTimeMS":6}
+list collections filter cursor comment {"comment":"c","cursor":{"batchSize":5},"filter":{"x":1}}
+list estimate maxTimeMS comment {"comment":"c","maxTimeMS":6}
+list distinct maxTimeMS collation comment hint {"collation":{"locale":"en"},"comment":"c","hint":{"x":1},"maxTimeMS":6}
+concerns nothing {}
+concerns secondary readConcern writeConcern $readPreference {"$readPreference":{"mode":"secondaryPreferred"},"readConcern":{"level":"majority"},"writeConcern":{"j":true,"w":"majority","wtimeout":7}}
+concerns primary readConcern writeConcern {"readConcern":{"level":"own"},"writeConcern":{"j":true,"w":"dc1","wtimeout":7}}"#;
+
+// The names of a document, in order.
+fn names_of(alloc: Global, body: &Document) -> Result<String, AllocError> {
+    let mut names = String::new(alloc);
+    for (name, _) in body {
+        names.push_str(name)?;
+        names.push_str(" ")?;
+    }
+    Ok(names)
+}
+
 /// The names of a document, in order, and what it prints as.
 fn shown(alloc: Global, body: Document) -> Result<String, AllocError> {
-    let mut line = String::new(alloc);
-    for (name, _) in &body {
-        line.push_str(name)?;
-        line.push_str(" ")?;
-    }
+    let names = names_of(alloc, &body)?;
     match json_text(alloc, &Bson::Document(body)) {
-        Ok(json) => line.push_str(json.as_str())?,
-        Err(_) => return Err(AllocError),
+        Ok(json) => format!(in alloc; "{names}{json}"),
+        Err(_) => Err(AllocError),
     }
-    Ok(line)
 }
 
 /// Fails a test where a body is not shown as this.
@@ -69,19 +99,22 @@ fn collation(alloc: Global) -> Result<Collation, Error> {
     )
 }
 
-const COLLATION: &str =
-    r#"collation {"collation":{"alternate":"non-ignorable","backwards":false,"caseFirst":"off","caseLevel":true,"locale":"en","maxVariable":"space","normalization":true,"numericOrdering":false,"strength":2}}"#;
-
-fn delete_of_collation(alloc: Global) -> Result<Document, Error> {
-    let rules = collation(alloc)?;
-    let options = DeleteOptions::builder().collation(rules).build();
+fn put_delete(alloc: Global, options: DeleteOptions) -> Result<Document, Error> {
     let mut body = Document::new(alloc);
     options.append_fields(alloc, &mut body)?;
     Ok(body)
 }
 
-const FIND: &str =
-    r#"allowDiskUse allowPartialResults batchSize comment hint limit max maxScan maxTimeMS min noCursorTimeout projection returnKey showRecordId skip sort let {"allowDiskUse":true,"allowPartialResults":false,"batchSize":5,"comment":"c","hint":"h","let":{"x":5},"limit":{"$int64":"7"},"max":{"x":1},"maxScan":{"$int64":"8"},"maxTimeMS":2147483647,"min":{"x":2},"noCursorTimeout":true,"projection":{"x":3},"returnKey":false,"showRecordId":true,"skip":{"$int64":"9"},"sort":{"x":4}}"#;
+fn delete_of_collation(alloc: Global) -> Result<Document, Error> {
+    let rules = collation(alloc)?;
+    put_delete(alloc, DeleteOptions::builder().collation(rules).build())
+}
+
+fn put_find(alloc: Global, options: FindOptions) -> Result<Document, Error> {
+    let mut body = Document::new(alloc);
+    options.append_fields(alloc, &mut body)?;
+    Ok(body)
+}
 
 fn find_bounds(alloc: Global) -> Result<FindOptions, Error> {
     let max = keys(alloc, 1)?;
@@ -116,97 +149,21 @@ fn find(alloc: Global) -> Result<Document, Error> {
         .sort(sort)
         .let_vars(let_vars)
         .build();
-    let mut body = Document::new(alloc);
-    options.append_fields(alloc, &mut body)?;
-    Ok(body)
+    put_find(alloc, options)
 }
 
-fn find_limited(alloc: Global, limit: i64) -> Result<Document, Error> {
-    let mut body = Document::new(alloc);
-    let options = FindOptions::builder().limit(limit);
-    options.append_fields(alloc, &mut body)?;
-    Ok(body)
+fn finds(alloc: Global, way: &str) -> Result<Document, Error> {
+    let options = match way {
+        "all" => return find(alloc),
+        "one" => FindOptions::from(FindOneOptions::builder().skip(2)),
+        "files" => FindOptions::from(GridFsFindOptions::builder().skip(2).limit(3)),
+        "least" => FindOptions::builder().limit(i64::MIN),
+        "long" => FindOptions::builder().max_time(2_147_483_648),
+        "longest" => FindOptions::builder().max_time(u64::MAX),
+        _ => FindOptions::builder().batch_size(2_147_483_648),
+    };
+    put_find(alloc, options)
 }
-
-fn find_timed(alloc: Global, max_time: u64) -> Result<Document, Error> {
-    let mut body = Document::new(alloc);
-    let options = FindOptions::builder().max_time(max_time);
-    options.append_fields(alloc, &mut body)?;
-    Ok(body)
-}
-
-fn find_sized(alloc: Global, batch_size: u32) -> Result<Document, Error> {
-    let mut body = Document::new(alloc);
-    let options = FindOptions::builder().batch_size(batch_size);
-    options.append_fields(alloc, &mut body)?;
-    Ok(body)
-}
-
-fn find_one(alloc: Global) -> Result<Document, Error> {
-    let mut body = Document::new(alloc);
-    let options = FindOptions::from(FindOneOptions::builder().skip(2));
-    options.append_fields(alloc, &mut body)?;
-    Ok(body)
-}
-
-fn find_files(alloc: Global) -> Result<Document, Error> {
-    let mut body = Document::new(alloc);
-    let options = FindOptions::from(GridFsFindOptions::builder().skip(2).limit(3));
-    options.append_fields(alloc, &mut body)?;
-    Ok(body)
-}
-
-#[test]
-fn finds(rt: HostRuntime) -> Result<(), Fail> {
-    let alloc = rt.alloc();
-    is_shown(&rt, alloc, "all", find(alloc), FIND)?;
-    is_shown(
-        &rt,
-        alloc,
-        "one",
-        find_one(alloc),
-        r#"limit skip {"limit":{"$int64":"1"},"skip":{"$int64":"2"}}"#,
-    )?;
-    is_shown(
-        &rt,
-        alloc,
-        "files",
-        find_files(alloc),
-        r#"limit skip {"limit":{"$int64":"3"},"skip":{"$int64":"2"}}"#,
-    )?;
-    is_shown(
-        &rt,
-        alloc,
-        "least limit",
-        find_limited(alloc, i64::MIN),
-        "invalid limit",
-    )?;
-    is_shown(
-        &rt,
-        alloc,
-        "long time",
-        find_timed(alloc, 2_147_483_648),
-        r#"maxTimeMS {"maxTimeMS":{"$int64":"2147483648"}}"#,
-    )?;
-    is_shown(
-        &rt,
-        alloc,
-        "longest time",
-        find_timed(alloc, u64::MAX),
-        "number out of range",
-    )?;
-    is_shown(
-        &rt,
-        alloc,
-        "large batch",
-        find_sized(alloc, 2_147_483_648),
-        "invalid batch size",
-    )?;
-    Ok(())
-}
-
-const AGGREGATE: &str =
-    r#"allowDiskUse cursor bypassDocumentValidation collation comment hint maxTimeMS let {"allowDiskUse":true,"bypassDocumentValidation":false,"collation":{"locale":"en"},"comment":"c","cursor":{"batchSize":5},"hint":{"x":1},"let":{"x":2},"maxTimeMS":6}"#;
 
 fn aggregate(alloc: Global) -> Result<Document, Error> {
     let locale = String::from_str(alloc, "en")?;
@@ -247,37 +204,16 @@ fn delete(alloc: Global) -> Result<Document, Error> {
         .hint(Hint::Keys(hint))
         .let_vars(let_vars)
         .comment(comment);
-    let mut body = Document::new(alloc);
-    options.append_fields(alloc, &mut body)?;
-    Ok(body)
+    put_delete(alloc, options)
 }
 
-#[test]
-fn writes(rt: HostRuntime) -> Result<(), Fail> {
-    let alloc = rt.alloc();
-    is_shown(&rt, alloc, "aggregate", aggregate(alloc), AGGREGATE)?;
-    is_shown(
-        &rt,
-        alloc,
-        "insert",
-        insert(alloc),
-        r#"bypassDocumentValidation ordered comment {"bypassDocumentValidation":true,"comment":"c","ordered":false}"#,
-    )?;
-    is_shown(
-        &rt,
-        alloc,
-        "delete",
-        delete(alloc),
-        r#"hint let comment {"comment":"c","hint":{"x":1},"let":{"x":2}}"#,
-    )?;
-    is_shown(
-        &rt,
-        alloc,
-        "collation",
-        delete_of_collation(alloc),
-        COLLATION,
-    )?;
-    Ok(())
+fn writes(alloc: Global, way: &str) -> Result<Document, Error> {
+    match way {
+        "aggregate" => aggregate(alloc),
+        "insert" => insert(alloc),
+        "delete" => delete(alloc),
+        _ => delete_of_collation(alloc),
+    }
 }
 
 fn create_index(alloc: Global, quorum: CommitQuorum) -> Result<Document, Error> {
@@ -308,6 +244,16 @@ fn list_indexes(alloc: Global) -> Result<Document, Error> {
     let mut body = Document::new(alloc);
     options.append_fields(alloc, &mut body)?;
     Ok(body)
+}
+
+fn indexes(alloc: Global, way: &str) -> Result<Document, Error> {
+    match way {
+        "nodes" => create_index(alloc, CommitQuorum::Nodes(3)),
+        "word" => create_index(alloc, CommitQuorum::VotingMembers),
+        "many" => create_index(alloc, CommitQuorum::Nodes(2_147_483_648)),
+        "drop" => drop_index(alloc),
+        _ => list_indexes(alloc),
+    }
 }
 
 fn list_collections(alloc: Global) -> Result<Document, Error> {
@@ -346,66 +292,12 @@ fn distinct(alloc: Global) -> Result<Document, Error> {
     Ok(body)
 }
 
-#[test]
-fn indexes(rt: HostRuntime) -> Result<(), Fail> {
-    let alloc = rt.alloc();
-    is_shown(
-        &rt,
-        alloc,
-        "nodes",
-        create_index(alloc, CommitQuorum::Nodes(3)),
-        r#"commitQuorum maxTimeMS comment {"comment":"c","commitQuorum":3,"maxTimeMS":6}"#,
-    )?;
-    is_shown(
-        &rt,
-        alloc,
-        "word",
-        create_index(alloc, CommitQuorum::VotingMembers),
-        r#"commitQuorum maxTimeMS comment {"comment":"c","commitQuorum":"votingMembers","maxTimeMS":6}"#,
-    )?;
-    is_shown(
-        &rt,
-        alloc,
-        "many",
-        create_index(alloc, CommitQuorum::Nodes(2_147_483_648)),
-        "number out of range",
-    )?;
-    is_shown(
-        &rt,
-        alloc,
-        "drop",
-        drop_index(alloc),
-        r#"maxTimeMS comment {"comment":"c","maxTimeMS":6}"#,
-    )?;
-    is_shown(
-        &rt,
-        alloc,
-        "list",
-        list_indexes(alloc),
-        r#"maxTimeMS comment {"comment":"c","maxTimeMS":6}"#,
-    )?;
-    is_shown(
-        &rt,
-        alloc,
-        "collections",
-        list_collections(alloc),
-        r#"filter cursor comment {"comment":"c","cursor":{"batchSize":5},"filter":{"x":1}}"#,
-    )?;
-    is_shown(
-        &rt,
-        alloc,
-        "estimate",
-        estimate(alloc),
-        r#"maxTimeMS comment {"comment":"c","maxTimeMS":6}"#,
-    )?;
-    is_shown(
-        &rt,
-        alloc,
-        "distinct",
-        distinct(alloc),
-        r#"maxTimeMS collation comment hint {"collation":{"locale":"en"},"comment":"c","hint":{"x":1},"maxTimeMS":6}"#,
-    )?;
-    Ok(())
+fn lists(alloc: Global, way: &str) -> Result<Document, Error> {
+    match way {
+        "collections" => list_collections(alloc),
+        "estimate" => estimate(alloc),
+        _ => distinct(alloc),
+    }
 }
 
 // The concerns of a command, by their words.
@@ -431,28 +323,34 @@ fn no_concerns(alloc: Global) -> Result<Document, Error> {
     Ok(body)
 }
 
+fn all_concerns(alloc: Global, way: &str) -> Result<Document, Error> {
+    match way {
+        "nothing" => no_concerns(alloc),
+        "secondary" => {
+            let mode = ReadPreference::SecondaryPreferred;
+            concerns(alloc, "majority", "majority", mode)
+        }
+        _ => concerns(alloc, "own", "dc1", ReadPreference::Primary),
+    }
+}
+
+fn put(alloc: Global, record: &str, way: &str) -> Result<Document, Error> {
+    match record {
+        "find" => finds(alloc, way),
+        "write" => writes(alloc, way),
+        "index" => indexes(alloc, way),
+        "list" => lists(alloc, way),
+        _ => all_concerns(alloc, way),
+    }
+}
+
 #[test]
-fn concerns_of_commands(rt: HostRuntime) -> Result<(), Fail> {
+fn records_print_their_fields(rt: HostRuntime) -> Result<(), Fail> {
     let alloc = rt.alloc();
-    is_shown(&rt, alloc, "nothing", no_concerns(alloc), "{}")?;
-    is_shown(
-        &rt,
-        alloc,
-        "secondary",
-        concerns(
-            alloc,
-            "majority",
-            "majority",
-            ReadPreference::SecondaryPreferred,
-        ),
-        r#"readConcern writeConcern $readPreference {"$readPreference":{"mode":"secondaryPreferred"},"readConcern":{"level":"majority"},"writeConcern":{"j":true,"w":"majority","wtimeout":7}}"#,
-    )?;
-    is_shown(
-        &rt,
-        alloc,
-        "primary",
-        concerns(alloc, "own", "dc1", ReadPreference::Primary),
-        r#"readConcern writeConcern {"readConcern":{"level":"own"},"writeConcern":{"j":true,"w":"dc1","wtimeout":7}}"#,
-    )?;
+    for line in RECORDS.lines() {
+        let (record, rest) = parted(line);
+        let (way, wanted) = parted(rest);
+        is_shown(&rt, alloc, line, put(alloc, record, way), wanted)?;
+    }
     Ok(())
 }
