@@ -13,7 +13,7 @@ use Rattle.mg_link.specs.State.{Entry, Watch, Cursor, query, watching, State, St
 use Rattle.mg_link.specs.Commands.{Asked, asks_insert, asks_watch, asks_more, asks_kill, Failure, Told, refuses, inserted, opened, gave, killed, asked, told, asks_create, asks_indexes, done, asks_update, asks_delete, updated, deleted, asks_query, asks_drop}
 use Rattle.mg_link.specs.Step.{Made, grown, effect, next, documents_of, written, HaveNewIds, AreEventsOf, EndsAtInvalidate, MayGive, May, MayEnd}
 use Rattle.mg_link.specs.Events.{TellInserts, TellsWritten}
-use Rattle.mg_link.specs.Rules.{Request, insert, watch, more, kill, request_of, token_of, token_place, now_of, Inserted, inserting, inserted_reply, batch_place, Answer, answer_with, answer_insert, ended_before, place_after, place_at, watch_space, ends_watch, id_unless, batch_id, watch_reply, more_reply, is_watch_of, answer_more, killed_reply, size_of, answer, no_such_token, bad_request, max_reply, map_ok, and_then, refusal, refused, fitting, answer_of, create_collection, create_indexes, modified_entries, deleted_entries, collection_exists, done_reply, may_stay, find, batch_of_query, first_held, id_while, query_id, query_reply, query_more_reply, query_space, answer_query, no_such_collection, or_code, update, delete, updated_reply, events_may_be_given, drop_collection, dropped_entries}
+use Rattle.mg_link.specs.Rules.{Request, insert, watch, more, kill, request_of, token_of, token_place, now_of, Inserted, inserting, inserted_reply, batch_place, Answer, answer_with, answer_insert, ended_before, place_after, place_at, watch_space, ends_watch, id_unless, batch_id, watch_reply, more_reply, is_watch_of, answer_more, killed_reply, size_of, answer, no_such_token, bad_request, max_reply, map_ok, and_then, refusal, refused, fitting, answer_of, create_collection, create_indexes, modified_entries, deleted_entries, collection_exists, done_reply, may_stay, find, batch_of_query, first_held, id_while, query_id, query_reply, query_more_reply, query_space, answer_query, no_such_collection, or_code, update, delete, updated_reply, events_may_be_given, drop_collection, dropped_entries, deleted_reply}
 use Rattle.mg_link.specs.Kept.{made_by, made_none, made_these, given_by, IsStoreState, Kept, IsAllowed, made_of, given_after, rule_entries}
 use Rattle.mg_link.specs.Query.{index_listed, Source, of_collection, of_database, of_indexes, Query, read, through, result}
 use Rattle.mg_link.specs.Write.{Modification, chosen, changing, with_indexes, modified}
@@ -21,7 +21,7 @@ use Rattle.mg_link.proofs.Tokens.{place_named, place_within}
 use Rattle.mg_link.proofs.Requests.{IsNamed, asks_of, HasName, request_reads, asked_is}
 use Rattle.mg_link.proofs.Growing.{grows_these, state_these, grows_none, state_none}
 use Rattle.mg_link.proofs.Inserting.{failing, Inserts, inserting_is}
-use Rattle.mg_link.proofs.Telling.{told_reads, refusal_tells, insert_tells, opened_tells, gave_tells, killed_tells, created_tells, indexed_tells, found_tells, more_found_tells, updated_tells, deleted_tells, deleted_reply, dropped_tells}
+use Rattle.mg_link.proofs.Telling.{told_reads, refusal_tells, insert_tells, opened_tells, gave_tells, killed_tells, created_tells, indexed_tells, found_tells, more_found_tells, updated_tells, deleted_tells, dropped_tells}
 use Rattle.mg_link.proofs.Batching.{batch_within, batch_ends}
 use Rattle.mg_link.proofs.Cursoring.{collections_put, opened_unless, moved_is, killed_are, refused_is, next_unnamed, query_opened, queried_is}
 use Rattle.mg_link.proofs.Changing.{modified_are, modified_tell, deleted_are, deleted_tell, dropped_are, drop_tells, end_tells}

@@ -9,6 +9,9 @@ use Rattle.mg_link.specs.Rules.{IsFull, batch_of_query, bytes_of, held_in, max_b
 framed_some : (body : List ℕ) → 1 ≤ length (framed body)
 framed_some body = omega (arith, length-append (le32 (length body + 5)) (body ++ 0 ∷ []), length-append body (0 ∷ []))
 
+pub some_bytes : (d : Fields) → 1 ≤ length (bytes d)
+some_bytes d = framed_some (fields_bytes d)
+
 -- what a batch holds behind its first document
 record Goes (size room n : ℕ) (ds : List Fields) : Type 0 where
   within : (n ≤ size) × (n ≤ length ds)
@@ -36,7 +39,7 @@ goes_on (suc size) room (d ∷ ds) =
 none_held : (n : ℕ) (ds : List Fields) → n ≤ length ds → bytes_of (take n ds) ≤ 0 → n ≡ 0
 none_held zero ds le none = refl
 none_held (suc n) [] le none = absurd (omega arith)
-none_held (suc n) (d ∷ ds) le none = let some = framed_some (fields_bytes d) in absurd (omega arith)
+none_held (suc n) (d ∷ ds) le none = let some = some_bytes d in absurd (omega arith)
 
 first_fits : (room n : ℕ) (d : Fields) (ds : List Fields) → n ≤ length ds → bytes_of (take n ds) ≤ room - length (bytes d) → (bytes_of (take (suc n) (d ∷ ds)) ≤ room) ⊎ (suc n ≡ 1)
 first_fits room n d ds le fits =

@@ -47,7 +47,7 @@ batch_within w changes from size le = place_within changes from (full_behind w s
 -- ---- invalidate entries
 
 -- the entries up to the place behind which a batch ends
-abbrev taken : Option ℕ → List Entry → List Entry
+abbrev pub taken : Option ℕ → List Entry → List Entry
 taken None es = es
 taken (Some n) es = take n es
 
@@ -94,7 +94,7 @@ full_ends w (suc size) room given (e ∷ es) =
     (λ no_end. last_given w e es _ seen no_end (full_ends w size (room - length (bytes e.event)) true es))))
     (λ unseen. last_other w e es _ unseen (full_ends w (suc size) room given es))
 
-taken_between : (changes : List Entry) (from : ℕ) (o : Option ℕ) → from ≤ length changes → between changes from (place_behind changes from o) ≡ taken o (drop from changes)
+pub taken_between : (changes : List Entry) (from : ℕ) (o : Option ℕ) → from ≤ length changes → between changes from (place_behind changes from o) ≡ taken o (drop from changes)
 taken_between changes from None le = let d = length-drop from changes in take_all (length changes - from) (drop from changes) (omega arith)
 taken_between changes from (Some n) le = let e : from + n - from ≡ n = omega arith in ap (λ (k : ℕ). take k (drop from changes)) e
 

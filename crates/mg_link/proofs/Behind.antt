@@ -5,20 +5,20 @@ use Rattle.std.specs.Ordering.{int_eq}
 use Rattle.mg_bson.specs.Tree.{Fields}
 use Rattle.mg_bson.specs.Raw.{fields}
 use Rattle.mg_link.specs.Namespace.{Space}
-use Rattle.mg_link.specs.State.{Entry, Watch, Cursor, watching, Collection, State, Start, collection_in, documents_at, events_between, put_cursor, without_cursors, Index, indexes_of, query}
+use Rattle.mg_link.specs.State.{Entry, Watch, Cursor, watching, Collection, State, Start, collection_in, documents_at, events_between, put_cursor, without_cursors, Index, indexes_of, query, put_documents, changed_documents}
 use Rattle.mg_link.specs.Commands.{Asked, asks_insert, asks_watch, asks_more, asks_kill, Failure, Told, refuses, inserted, opened, gave, killed, asked, told, asks_create, asks_indexes, done, asks_query, asks_update, asks_delete, updated, deleted, asks_drop}
-use Rattle.mg_link.specs.Step.{grown, effect, next, documents_of, written, ends_cursor, watching_at, moved, queried_at}
-use Rattle.mg_link.specs.Rules.{insert, watch, more, kill, request_of, token_of, now_of, Inserted, inserting, inserted_reply, batch_place, Answer, answer_with, answer_insert, place_at, watch_space, ends_watch, id_unless, batch_id, watch_reply, more_reply, killed_reply, refusal, answer_of, create_collection, create_indexes, done_reply, find, batch_of_query, first_held, id_while, query_id, query_space, query_reply, query_more_reply, update, delete, updated_reply, drop_collection, dropped_entries}
+use Rattle.mg_link.specs.Step.{grown, effect, next, documents_of, written, ends_cursor, watching_at, moved, queried_at, cursors_refused}
+use Rattle.mg_link.specs.Rules.{insert, watch, more, kill, request_of, token_of, now_of, Inserted, inserting, inserted_reply, batch_place, Answer, answer_with, answer_insert, place_at, watch_space, ends_watch, id_unless, batch_id, watch_reply, more_reply, killed_reply, refusal, answer_of, create_collection, create_indexes, done_reply, find, batch_of_query, first_held, id_while, query_id, query_space, query_reply, query_more_reply, update, delete, updated_reply, drop_collection, dropped_entries, deleted_reply}
 use Rattle.mg_link.specs.Write.{with_indexes, Modification, after_update, after_delete}
 use Rattle.mg_link.specs.Query.{Query, result}
 use Rattle.mg_link.specs.Kept.{made_by, made_none, made_these, given_by, IsStoreState, Kept, made_of, given_after, rule_entries, state_behind}
 use Rattle.mg_link.proofs.Requests.{request_reads, asked_is}
 use Rattle.mg_link.proofs.Growing.{state_these}
 use Rattle.mg_link.proofs.Inserting.{failing, inserting_is}
-use Rattle.mg_link.proofs.Telling.{told_reads, refusal_tells, insert_tells, opened_tells, gave_tells, killed_tells, created_tells, indexed_tells, found_tells, more_found_tells, updated_tells, deleted_tells, deleted_reply, dropped_tells}
+use Rattle.mg_link.proofs.Telling.{told_reads, refusal_tells, insert_tells, opened_tells, gave_tells, killed_tells, created_tells, indexed_tells, found_tells, more_found_tells, updated_tells, deleted_tells, dropped_tells}
 use Rattle.mg_link.proofs.Batching.{batch_within}
 use Rattle.mg_link.proofs.Cursoring.{not_zero, is_zero_no}
-use Rattle.mg_link.proofs.Collections.{put_documents, documents_put, documents_of_put, changed_documents, documents_changed, documents_without}
+use Rattle.mg_link.proofs.Collections.{documents_put, documents_of_put, documents_changed, documents_without}
 use Rattle.mg_link.proofs.Allowed.{named_by, place_fits, grown_changes, result_grown}
 use Rattle.mg_link.specs.Filter.{Condition}
 
@@ -48,11 +48,6 @@ parts_by s given started kept command t entries documents changes cursors given'
     subst (λ (c : Asked). PartsBy s given started c (told c kept.reply) (rule_entries s given kept) documents changes cursors given') (sym asks) b
 
 -- ---- refusals
-
--- a refusal with code 43 or 237 ends the cursor that the command names
-abbrev pub cursors_refused : Asked → ℤ → (ℤ → Option Cursor) → ℤ → Option Cursor
-cursors_refused (asks_more id space) code cursors = if ends_cursor code then put_cursor id None cursors else cursors
-cursors_refused command code cursors = cursors
 
 more_refused : (b : Bool) (s : State) (given : ℕ) (id : ℤ) (documents : Space → Option (List Fields)) (changes : List Entry) → Parts s given documents changes s.cursors given
     → Parts (if b then record s { cursors = put_cursor id None s.cursors } else s) given documents changes (if b then put_cursor id None s.cursors else s.cursors) given

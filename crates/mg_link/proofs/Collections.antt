@@ -6,7 +6,7 @@ use Rattle.std.proofs.lemmas.Slice.Eq.{bytes_eq-Decides}
 use Rattle.std.specs.Str.{bytes_eq}
 use Rattle.mg_bson.specs.Tree.{Fields}
 use Rattle.mg_link.specs.Namespace.{Space}
-use Rattle.mg_link.specs.State.{Collection, State, is_space, comes_before, collection_in, put_collection, change_documents, documents_at, indexes_of, with_documents, without_collection}
+use Rattle.mg_link.specs.State.{Collection, State, is_space, comes_before, collection_in, put_collection, change_documents, documents_at, indexes_of, collections_with, without_collection, put_documents, changed_documents}
 
 -- a name of these bytes is that name
 pub same_space : (s t : Space) → is_space s t ≡ true → s ≡ t
@@ -92,10 +92,6 @@ without_is space (c ∷ cs) other =
 
 -- ---- documents
 
--- the documents of collections once this one has others
-abbrev pub put_documents : Space → Option (List Fields) → (Space → Option (List Fields)) → Space → Option (List Fields)
-put_documents space ds documents other = if is_space other space then ds else documents other
-
 -- those behind a collection that is put
 pub documents_of_put : (s : State) (c : Collection) (other : Space) → option_map (λ (c : Collection). c.documents) (collection_in (put_collection c s.collections) other) ≡ put_documents c.space (Some c.documents) (documents_at s) other
 documents_of_put s c other = ap (option_map (λ (c : Collection). c.documents)) (put_is c s.collections other) ∙ map_if (is_space other c.space) c (collection_in s.collections other)
@@ -104,7 +100,7 @@ documents_of_put s c other = ap (option_map (λ (c : Collection). c.documents)) 
     map_if true c o = refl
     map_if false c o = refl
 
-pub documents_put : (s : State) (space : Space) (ds : List Fields) (other : Space) → option_map (λ (c : Collection). c.documents) (collection_in (with_documents s space ds) other) ≡ put_documents space (Some ds) (documents_at s) other
+pub documents_put : (s : State) (space : Space) (ds : List Fields) (other : Space) → option_map (λ (c : Collection). c.documents) (collection_in (collections_with s space ds) other) ≡ put_documents space (Some ds) (documents_at s) other
 documents_put s space ds other = documents_of_put s (record { space = space; documents = ds; indexes = indexes_of s space }) other
 
 -- those behind a collection that is taken out
@@ -114,10 +110,6 @@ documents_without s space other = ap (option_map (λ (c : Collection). c.documen
     map_unless : (b : Bool) (o : Option Collection) → option_map (λ (c : Collection). c.documents) (if b then None else o) ≡ (if b then None else option_map (λ (c : Collection). c.documents) o)
     map_unless true o = refl
     map_unless false o = refl
-
--- the documents of collections once this one's are changed
-abbrev pub changed_documents : Space → (List Fields → List Fields) → (Space → Option (List Fields)) → Space → Option (List Fields)
-changed_documents space g documents other = if is_space other space then option_map g (documents other) else documents other
 
 abbrev documents_found : List Collection → Space → Option (List Fields)
 documents_found cs other = option_map (λ (c : Collection). c.documents) (collection_in cs other)
@@ -167,5 +159,5 @@ documents_changed space g (c ∷ cs) other =
     ]
 
 -- the documents stand where they were put
-pub documents_here : (s : State) (space : Space) (ds : List Fields) → option_map (λ (c : Collection). c.documents) (collection_in (with_documents s space ds) space) ≡ Some ds
+pub documents_here : (s : State) (space : Space) (ds : List Fields) → option_map (λ (c : Collection). c.documents) (collection_in (collections_with s space ds) space) ≡ Some ds
 documents_here s space ds = documents_put s space ds space ∙ ap (λ (b : Bool). if b then Some ds else documents_at s space) (is_space_self space)

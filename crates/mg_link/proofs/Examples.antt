@@ -1,25 +1,22 @@
 -- The first script, step by step.
-use Rattle.std.proofs.Common.{◌≡◌, ℕ, pos, suc, Bool, true, false, [], ◌∷◌, Some, None, refl, ap, ap₂, ◌∙◌, take}
-use Rattle.std.specs.Prelude.{unwrap_or}
+use Rattle.std.proofs.Common.{◌≡◌, ℕ, pos, suc, Bool, true, false, List, [], ◌∷◌, Some, None, refl, ap, ap₂, ◌∙◌, take, codes, arith}
+use Rattle.mg_bson.specs.Find.{get}
+use Rattle.mg_bson.specs.Raw.{fields}
 use Rattle.mg_bson.specs.Tree.{Fields}
 use Rattle.std.specs.Fmt.{digits}
 use Rattle.mg_bson.specs.Bytes.{le32, le64}
 use Rattle.hex.specs.Hex.{encode_with}
 use Rattle.mg_link.specs.State.{State, nothing, nowhere, documents_at, start_place, events_between, watching}
 use Rattle.mg_link.specs.Commands as commands
-use Rattle.mg_link.specs.Commands.{Asked, Told, asked, asked_by, asks_other, told, told_by}
+use Rattle.mg_link.specs.Commands.{asked, told}
+use Rattle.mg_link.specs.Prompt.{AnswersAtOnce, MeetsConcern}
 use Rattle.mg_link.specs.Reply.{verdict_of}
 use Rattle.mg_link.specs.Step.{next, effect, grown}
 use Rattle.mg_link.specs.History.{state_of, state_after}
-use Rattle.mg_link.specs.Kept.{Kept, made_of, made_by, given_after, given_by, state_behind, steps_from, steps_of}
+use Rattle.mg_link.specs.Kept.{Kept, made_of, made_by, given_after, given_by, state_behind, step_of, steps_from, steps_of}
 use Rattle.mg_link.specs.Rules.{answer_of, watch_request, insert_request, more_request, kill_request, named_space, full_behind, inserting}
 use Rattle.mg_link.specs.Example.{app_c, watch, x_1, x_2, opens, inserts_two, asks_more, kills, token_2, event_1, event_2, opened, inserted_two, gave_two, killed, IsStep, entry_1, entry_2, IsExample}
-
-abbrev asked_of : Fields → Asked
-asked_of command = unwrap_or (asked_by command) asks_other
-
-abbrev told_of : Fields → Fields → Told
-told_of command reply = told_by (verdict_of reply) (asked_of command) reply
+use Rattle.mg_link.proofs.Prompts.{AreAtOnce, IsAtOnce, asked_of, at_once_so, each_at_once, nonempty, nonzero, told_of, watch_or_query}
 
 -- the state behind a step, by what its command and reply are read as
 abbrev behind : State → ℕ → Bool → Fields → Fields → State
@@ -120,6 +117,40 @@ rules_4 : (answer_of state_3 (pos 2) kills).reply ≡ killed
 unfolding commands.watch_of commands.space_at commands.batch_of verdict_of answer_of watch_request named_space commands.batch_size effect grown full_behind le32 le64 encode_with digits commands.insert_of commands.inserted_by insert_request inserting commands.more_of more_request commands.kill_of kill_request
 rules_4 = refl
 
+-- ---- nothing is held back
+
+at_once_1 : AnswersAtOnce nothing state_1 (asked_of opens) (told_of opens opened)
+unfolding commands.watch_of commands.space_at commands.batch_of verdict_of answer_of watch_request named_space commands.batch_size effect grown full_behind le32 le64 encode_with digits
+at_once_1 = λ from at ended. absurd (nonzero 0 ended)
+
+at_once_2 : AnswersAtOnce state_1 state_2 (asked_of inserts_two) (told_of inserts_two inserted_two)
+unfolding commands.watch_of commands.space_at commands.batch_of verdict_of answer_of watch_request named_space commands.batch_size effect grown full_behind le32 le64 encode_with digits commands.insert_of commands.inserted_by insert_request inserting
+at_once_2 = λ f has. let none = has.1 in absurd (omega arith)
+
+at_once_3 : AnswersAtOnce state_2 state_3 (asked_of asks_more) (told_of asks_more gave_two)
+unfolding commands.watch_of commands.space_at commands.batch_of verdict_of answer_of watch_request named_space commands.batch_size effect grown full_behind le32 le64 encode_with digits commands.insert_of commands.inserted_by insert_request inserting commands.more_of more_request
+at_once_3 = (λ w from stood. (λ none. absurd (nonempty _ _ none), λ ended. absurd (nonzero 0 ended)), λ of left stood. absurd (watch_or_query watch 0 of _ stood))
+
+at_once_4 : AnswersAtOnce state_3 state_4 (asked_of kills) (told_of kills killed)
+unfolding commands.kill_of verdict_of
+at_once_4 = tt
+
+met_1 : (bytes : List ℕ) → fields bytes ≡ opened → MeetsConcern (asked_of opens) bytes
+unfolding commands.watch_of commands.space_at
+met_1 bytes is = tt
+
+met_2 : (bytes : List ℕ) → fields bytes ≡ inserted_two → MeetsConcern (asked_of inserts_two) bytes
+unfolding commands.insert_of commands.space_at
+met_2 bytes is = ap (get (codes "writeConcernError")) is
+
+met_3 : (bytes : List ℕ) → fields bytes ≡ gave_two → MeetsConcern (asked_of asks_more) bytes
+unfolding commands.more_of commands.space_at
+met_3 bytes is = tt
+
+met_4 : (bytes : List ℕ) → fields bytes ≡ killed → MeetsConcern (asked_of kills) bytes
+unfolding commands.kill_of
+met_4 bytes is = tt
+
 -- ---- the history
 
 -- the states behind the first one, two, three and four of the steps
@@ -144,6 +175,30 @@ are_behind a b c d ia ib ic id =
     let four = step_behind true kills killed d three given_c id in
     record { one = one; two = two; three = three; four = four }
 
+at_once_of : (s : State) (given : ℕ) (started : Bool) (command reply : Fields) (k : Kept) → IsStep command reply k → {t t' : State} → s ≡ t → state_behind s given started k ≡ t'
+    → AnswersAtOnce t t' (asked_of command) (told_of command reply) → ((bytes : List ℕ) → fields bytes ≡ reply → MeetsConcern (asked_of command) bytes) → IsAtOnce s (step_of s given started k)
+at_once_of s given started command reply k is before after at_once met = at_once_so (step_of s given started k) command reply is.command_is is.reply_is before after at_once met
+
+are_at_once : (a b c d : Kept) → IsStep opens opened a → IsStep inserts_two inserted_two b → IsStep asks_more gave_two c → IsStep kills killed d → AreAtOnce nothing (steps_of (a ∷ b ∷ c ∷ d ∷ []))
+unfolding steps_from state_after
+are_at_once a b c d ia ib ic id =
+    let are = are_behind a b c d ia ib ic id in
+    let behind_a : State = state_behind nothing 0 false a in
+    let count_a : ℕ = given_after 0 a in
+    let behind_b : State = state_behind behind_a count_a true b in
+    let count_b : ℕ = given_after count_a b in
+    let behind_c : State = state_behind behind_b count_b true c in
+    let count_c : ℕ = given_after count_b c in (
+      at_once_of nothing 0 false opens opened a ia refl are.one at_once_1 met_1,
+      (
+        at_once_of behind_a count_a true inserts_two inserted_two b ib are.one are.two at_once_2 met_2,
+        (
+          at_once_of behind_b count_b true asks_more gave_two c ic are.two are.three at_once_3 met_3,
+          (at_once_of behind_c count_c true kills killed d id are.three are.four at_once_4 met_4, tt),
+        ),
+      ),
+    )
+
 pub first_script : (a b c d : Kept) → IsStep opens opened a → IsStep inserts_two inserted_two b → IsStep asks_more gave_two c → IsStep kills killed d → IsExample (steps_of (a ∷ b ∷ c ∷ d ∷ []))
 unfolding state_after
 first_script a b c d ia ib ic id =
@@ -163,4 +218,5 @@ first_script a b c d ia ib ic id =
       inserted_by_rules = ap (λ (s : State). (answer_of s (pos 2) inserts_two).reply) are.one ∙ rules_2;
       gave_by_rules = ap (λ (s : State). (answer_of s (pos 2) asks_more).reply) are.two ∙ rules_3;
       killed_by_rules = ap (λ (s : State). (answer_of s (pos 2) kills).reply) are.three ∙ rules_4;
+      prompt = λ position step own at. each_at_once nothing (steps_of (a ∷ b ∷ c ∷ d ∷ [])) (are_at_once a b c d ia ib ic id) position step at;
     }

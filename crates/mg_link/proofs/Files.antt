@@ -175,35 +175,35 @@ delete_spares c conditions many (d ∷ ds) spares =
     ]
 
 -- documents of this collection stay where the new ones of another are put, and where new ones agree with them
-abbrev Stays : Condition → List Fields → List Fields → Type 0
-Stays c ds es = filter (meets c) ds ≡ filter (meets c) es
+abbrev MeetsSame : Condition → List Fields → List Fields → Type 0
+MeetsSame c ds es = filter (meets c) ds ≡ filter (meets c) es
 
-chosen_stays : (c : Condition) (b : Bool) (new old : List Fields) → (b ≡ true → Stays c new old) → Stays c (if b then new else old) old
+chosen_stays : (c : Condition) (b : Bool) (new old : List Fields) → (b ≡ true → MeetsSame c new old) → MeetsSame c (if b then new else old) old
 chosen_stays c true new old h = h refl
 chosen_stays c false new old h = refl
 
-put_stays : (c : Condition) (s : State) (col : Collection) (at : Space) → (is_space at col.space ≡ true → Stays c col.documents (documents_in s.collections at)) → Stays c (documents_in (put_collection col s.collections) at) (documents_in s.collections at)
+put_stays : (c : Condition) (s : State) (col : Collection) (at : Space) → (is_space at col.space ≡ true → MeetsSame c col.documents (documents_in s.collections at)) → MeetsSame c (documents_in (put_collection col s.collections) at) (documents_in s.collections at)
 put_stays c s col at same = ap (filter (meets c)) (put_documents col s.collections at) ∙ chosen_stays c (is_space at col.space) col.documents (documents_in s.collections at) same
 
-change_stays : (c : Condition) (s : State) (space at : Space) (g : List Fields → List Fields) → g [] ≡ [] → (is_space at space ≡ true → (ds : List Fields) → Stays c (g ds) ds)
-    → Stays c (documents_in (change_documents space g s.collections) at) (documents_in s.collections at)
+change_stays : (c : Condition) (s : State) (space at : Space) (g : List Fields → List Fields) → g [] ≡ [] → (is_space at space ≡ true → (ds : List Fields) → MeetsSame c (g ds) ds)
+    → MeetsSame c (documents_in (change_documents space g s.collections) at) (documents_in s.collections at)
 change_stays c s space at g none same =
     ap (filter (meets c)) (changed_documents space g s.collections at none)
     ∙ chosen_stays c (is_space at space) (g (documents_in s.collections at)) (documents_in s.collections at) (λ here. same here (documents_in s.collections at))
 
 insert_stays : (c : Condition) (s : State) (space : Space) (ds : List Fields) (ordered : Bool) (failures : List Failure) (at : Space) → (is_space at space ≡ true → NoneMeets c ds) → is_space at space ≡ true
-    → Stays c (documents_of s space ++ written ordered failures 0 ds) (documents_in s.collections at)
+    → MeetsSame c (documents_of s space ++ written ordered failures 0 ds) (documents_in s.collections at)
 insert_stays c s space ds ordered failures at spares here =
     filter-append (meets c) (documents_of s space) (written ordered failures 0 ds)
     ∙ ap (λ (l : List Fields). filter (meets c) (documents_of s space) ++ l) (written_none c ordered failures 0 ds (spares here))
     ∙ append-nil (filter (meets c) (documents_of s space))
     ∙ ap (λ (sp : Space). filter (meets c) (documents_of s sp)) (sym (same_space at space here))
 
-cursor_stays : (c : Condition) (b : Bool) (s t : State) (at : Space) → t.collections ≡ s.collections → Stays c (documents_in (if b then s else t).collections at) (documents_in s.collections at)
+cursor_stays : (c : Condition) (b : Bool) (s t : State) (at : Space) → t.collections ≡ s.collections → MeetsSame c (documents_in (if b then s else t).collections at) (documents_in s.collections at)
 cursor_stays c true s t at same = refl
 cursor_stays c false s t at same = ap (λ (cs : List Collection). filter (meets c) (documents_in cs at)) same
 
-closed_stays : (c : Condition) (b : Bool) (s t : State) (at : Space) → t.collections ≡ s.collections → Stays c (documents_in (if b then t else s).collections at) (documents_in s.collections at)
+closed_stays : (c : Condition) (b : Bool) (s t : State) (at : Space) → t.collections ≡ s.collections → MeetsSame c (documents_in (if b then t else s).collections at) (documents_in s.collections at)
 closed_stays c true s t at same = ap (λ (cs : List Collection). filter (meets c) (documents_in cs at)) same
 closed_stays c false s t at same = refl
 
@@ -213,7 +213,7 @@ none_created s space at none here =
 
 -- what a command spares stays behind it
 effect_spares : (c : Condition) (s s' : State) (command : Asked) (reply : Told) (made : Made) (at : Space) → s'.collections ≡ s.collections → MayTell s s' command reply made → Spares command at c
-    → Stays c (documents_in (effect s' command reply).collections at) (documents_in s'.collections at)
+    → MeetsSame c (documents_in (effect s' command reply).collections at) (documents_in s'.collections at)
 unfolding effect
 effect_spares c s s' (asks_insert space ds ordered) (inserted n failures) made at same may spares =
     put_stays c s' (record { space = space; documents = documents_of s' space ++ written ordered failures 0 ds; indexes = indexes_of s' space }) at (insert_stays c s' space ds ordered failures at spares)

@@ -4,7 +4,7 @@ use Rattle.std.specs.Prelude.{if◌then◌else◌}
 use Rattle.mg_bson.specs.Tree.{Tree}
 use Rattle.mg_link.specs.Filter.{is_same}
 use Rattle.mg_link.specs.State.{Entry, Cursor, query, watching, State, name}
-use Rattle.mg_link.specs.Step.{Made, name_entries, name_all, grown, entry_names, AreNew, AreWithin, MayGrow}
+use Rattle.mg_link.specs.Step.{Made, name_entries, name_all, grown, entry_names, AreNewNames, AreWithin, MayGrow}
 use Rattle.mg_link.specs.Rules.{token_of, token_place, now_of}
 use Rattle.mg_link.specs.Kept.{first_tokens, made_none, made_these, IsStoreEntry, AreStoreEntries, IsStoreCursor, IsStoreTime, IsStoreState}
 use Rattle.mg_link.proofs.Tokens.{token_places, token_places-all, token_places-none, token_places-more, above_unnamed, zero_unnamed, zero_named}
@@ -33,14 +33,14 @@ all_named false n tokens lt known t = ap (λ (o : Option ℕ). if is_same t (tok
 
 -- the first tokens are new behind the entries
 abbrev AreNewBehind : Bool → ℕ → ℕ → Type 0
-AreNewBehind started place end = (tokens : Tree → Option ℕ) → ((t : Tree) → tokens t ≡ token_places started place t) → AreNew end tokens (first_tokens started)
+AreNewBehind started place end = (tokens : Tree → Option ℕ) → ((t : Tree) → tokens t ≡ token_places started place t) → AreNewNames end tokens (first_tokens started)
 
 first_new : (started : Bool) (place end : ℕ) → place < 2 ^ 64 → AreNewBehind started place end
 first_new true place end lt tokens known = tt
 first_new false place end lt tokens known = (known (token_of 0) ∙ zero_unnamed place lt, omega arith, tt)
 
 entries_new : (started : Bool) (place end : ℕ) (es : List Entry) (tokens : Tree → Option ℕ) → AreStoreEntries place es → ((t : Tree) → tokens t ≡ token_places started place t) → place + length es ≤ end → end < 2 ^ 64
-    → AreNew end tokens (entry_names place es ++ first_tokens started)
+    → AreNewNames end tokens (entry_names place es ++ first_tokens started)
 entries_new started place end [] tokens h known le lt = first_new started place end (omega arith) tokens known
 entries_new started place end (e ∷ es) tokens h known le lt =
     let fresh : tokens e.token ≡ None = ap tokens h.0.token_is ∙ known (token_of (suc place)) ∙ above_unnamed started place (suc place) (omega arith) (omega arith) in

@@ -15,7 +15,7 @@ use Rattle.mg_link.proofs.Places.{get_within}
 use Rattle.mg_link.proofs.Owners.{see_here}
 
 -- the step of the call whose reply was heard
-pub record HeardAt (calls : List Call) (history : List Step) (k : ℕ) (bytes : List ℕ) (call : Call) : Type 0 where
+pub record HeardStep (calls : List Call) (history : List Step) (k : ℕ) (bytes : List ℕ) (call : Call) : Type 0 where
   pub position : ℕ
   pub step : Step
   pub placed : call.position ≡ Some position
@@ -24,7 +24,7 @@ pub record HeardAt (calls : List Call) (history : List Step) (k : ℕ) (bytes : 
   pub command : step.command ≡ call.command
   pub fits : bytes ≡ step.reply
 
-pub heard_at : (k : ℕ) (bytes : List ℕ) (calls : List Call) (call : Call) (history : List Step) → slice_get calls k ≡ Some call → Stands (see k (reply bytes) calls) history → HeardAt calls history k bytes call
+pub heard_at : (k : ℕ) (bytes : List ℕ) (calls : List Call) (call : Call) (history : List Step) → slice_get calls k ≡ Some call → Stands (see k (reply bytes) calls) history → HeardStep calls history k bytes call
 heard_at k bytes calls call history found stands =
     let found' = see_here k (reply bytes) calls call found in
     let p = stands.placed k (record call { seen = reply bytes }) bytes found' refl in
@@ -40,7 +40,7 @@ heard_at k bytes calls call history found stands =
     }
 
 -- a cursor that the step opened was seen given
-pub heard_given : (k : ℕ) (bytes : List ℕ) (calls : List Call) (call : Call) (history : List Step) (x : ℤ) → slice_get calls k ≡ Some call → (h : HeardAt calls history k bytes call) → OpensId (told_at h.step) x → SeenGiven (see k (reply bytes) calls) (length (see k (reply bytes) calls)) x
+pub heard_given : (k : ℕ) (bytes : List ℕ) (calls : List Call) (call : Call) (history : List Step) (x : ℤ) → slice_get calls k ≡ Some call → (h : HeardStep calls history k bytes call) → OpensId (told_at h.step) x → SeenGiven (see k (reply bytes) calls) (length (see k (reply bytes) calls)) x
 heard_given k bytes calls call history x found h opens =
     let found' = see_here k (reply bytes) calls call found in
     record {

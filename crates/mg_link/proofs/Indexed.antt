@@ -5,7 +5,7 @@ use Rattle.std.specs.Ordering.{int_eq}
 use Rattle.mg_bson.specs.Tree.{Fields}
 use Rattle.mg_bson.specs.Raw.{fields}
 use Rattle.mg_link.specs.Namespace.{Space}
-use Rattle.mg_link.specs.State.{Collection, Cursor, Index, State, is_space, collection_in, put_collection, change_documents, indexes_of, with_documents}
+use Rattle.mg_link.specs.State.{Collection, Cursor, Index, State, is_space, collection_in, put_collection, change_documents, indexes_of, collections_with}
 use Rattle.mg_link.specs.Commands.{Asked, asks_insert, asks_update, asks_delete, asks_query, asks_watch, asks_more, asks_kill, asks_create, asks_indexes, asks_drop, asks_other, asked, Told, refuses, inserted, updated, deleted, done, opened, gave, killed, told}
 use Rattle.mg_link.specs.Step.{Made, documents_of, grown, effect, ends_cursor}
 use Rattle.mg_link.specs.Write.{with_indexes}
@@ -32,7 +32,7 @@ same_here : (b : Bool) (xs ys : List Index) → (b ≡ true → xs ≡ ys) → (
 same_here true xs ys h = h refl
 same_here false xs ys h = refl
 
-documents_put : (s : State) (space : Space) (ds : List Fields) (sp : Space) → indexes_in (collection_in (with_documents s space ds) sp) ≡ indexes_of s sp
+documents_put : (s : State) (space : Space) (ds : List Fields) (sp : Space) → indexes_in (collection_in (collections_with s space ds) sp) ≡ indexes_of s sp
 documents_put s space ds sp =
     let c : Collection = record { space = space; documents = ds; indexes = indexes_of s space } in
     indexes_put c s.collections sp ∙ same_here (is_space sp space) (indexes_of s space) (indexes_of s sp) (λ here. ap (indexes_of s) (sym (same_space sp space here)))

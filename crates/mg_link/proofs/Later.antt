@@ -9,7 +9,7 @@ use Rattle.mg_bson.specs.Tree.{Tree}
 use Rattle.mg_link.specs.Filter.{key, is_same}
 use Rattle.mg_link.specs.State.{Entry, Cursor, State, nothing, put_cursor, without_cursors, give, name}
 use Rattle.mg_link.specs.Commands.{Asked, asks_insert, asks_watch, asks_more, asks_kill, Told, refuses, inserted, opened, gave, killed, garbled, asked, asks_query, asks_update, asks_delete, asks_create, asks_indexes, asks_drop, updated, deleted, done}
-use Rattle.mg_link.specs.Step.{Made, Named, grown, effect, name_entries, name_all, entry_names, watching_at, ends_cursor, AreNew, AreWithin, MayTell, May, opened_cursor, queried_at}
+use Rattle.mg_link.specs.Step.{Made, Named, grown, effect, name_entries, name_all, entry_names, watching_at, ends_cursor, AreNewNames, AreWithin, MayTell, May, opened_cursor, queried_at}
 use Rattle.mg_link.specs.History.{Step, step_after, state_after, IsLegalFrom, state_of, told_at}
 use Rattle.mg_link.specs.Standing.{Names, OpensId}
 use Rattle.mg_link.specs.Owner.{NoneNames}
@@ -40,7 +40,7 @@ name_keeps n q tokens r none u p h =
       | inr other ↦ ap (λ (b : Bool). if b then Some q else tokens u) other ∙ h
     ]
 
-pub all_keep : (end : ℕ) (ns : List Named) (tokens : Tree → Option ℕ) → Respects tokens → AreNew end tokens ns → (u : Tree) (p : ℕ) → tokens u ≡ Some p → name_all ns tokens u ≡ Some p
+pub all_keep : (end : ℕ) (ns : List Named) (tokens : Tree → Option ℕ) → Respects tokens → AreNewNames end tokens ns → (u : Tree) (p : ℕ) → tokens u ≡ Some p → name_all ns tokens u ≡ Some p
 all_keep end [] tokens r new u p h = h
 all_keep end (n ∷ ns) tokens r new u p h = all_keep end ns (name n.token n.place tokens) (name_respects n.token n.place tokens r) new.2 u p (name_keeps n.token n.place tokens r new.0 u p h)
 
@@ -108,24 +108,24 @@ later_trans s t u a b =
     }
 
 -- beside what a step adds it takes neither tokens nor ids, and no time passes
-pub record Keeps (s t : State) : Type 0 where
+pub record TakesNoMore (s t : State) : Type 0 where
   pub now : t.now ≡ s.now
   pub tokens : t.tokens ≡ s.tokens
   pub given : (x : ℤ) → s.given x ≡ true → t.given x ≡ true
 
-keeps_given : (s : State) (id : ℤ) (c : Cursor) → Keeps s (record s { cursors = put_cursor id (Some c) s.cursors; given = give id s.given })
+keeps_given : (s : State) (id : ℤ) (c : Cursor) → TakesNoMore s (record s { cursors = put_cursor id (Some c) s.cursors; given = give id s.given })
 keeps_given s id c = record { now = refl; tokens = refl; given = λ x h. elim (int_eq x id) as (λ (b : Bool). (if b then true else s.given x) ≡ true) [ true ↦ refl | false ↦ h ] }
 
-keeps_same : (s : State) → Keeps s s
+keeps_same : (s : State) → TakesNoMore s s
 keeps_same s = record { now = refl; tokens = refl; given = λ x h. h }
 
-keeps_cursors : (s : State) (cursors : ℤ → Option Cursor) → Keeps s (record s { cursors = cursors })
+keeps_cursors : (s : State) (cursors : ℤ → Option Cursor) → TakesNoMore s (record s { cursors = cursors })
 keeps_cursors s cursors = record { now = refl; tokens = refl; given = λ x h. h }
 
-keeps_opened : (s : State) (id : ℤ) (c : Cursor) → Keeps s (opened_cursor s id c)
-keeps_opened s id c = cond_both (int_eq id (pos 0)) s (record s { cursors = put_cursor id (Some c) s.cursors; given = give id s.given }) (Keeps s) (λ h. keeps_same s) (λ h. keeps_given s id c)
+keeps_opened : (s : State) (id : ℤ) (c : Cursor) → TakesNoMore s (opened_cursor s id c)
+keeps_opened s id c = cond_both (int_eq id (pos 0)) s (record s { cursors = put_cursor id (Some c) s.cursors; given = give id s.given }) (TakesNoMore s) (λ h. keeps_same s) (λ h. keeps_given s id c)
 
-pub effect_keeps : (s : State) (command : Asked) (reply : Told) → Keeps s (effect s command reply)
+pub effect_keeps : (s : State) (command : Asked) (reply : Told) → TakesNoMore s (effect s command reply)
 unfolding effect
 effect_keeps s (asks_insert space documents ordered) (inserted n failures) = record { now = refl; tokens = refl; given = λ x h. h }
 effect_keeps s (asks_update space conditions m many) (updated n changed []) = record { now = refl; tokens = refl; given = λ x h. h }
@@ -137,7 +137,7 @@ effect_keeps s (asks_query q) (opened id at documents token time) = keeps_opened
 effect_keeps s (asks_watch watch start) (opened id at events token time) = keeps_opened s id (watching_at s watch token)
 effect_keeps s (asks_more id space) (gave left at events token) = keeps_cursors s _
 effect_keeps s (asks_more id space) (refuses code labels) =
-    cond_both (ends_cursor code) (record s { cursors = put_cursor id None s.cursors }) s (Keeps s) (λ h. keeps_cursors s _) (λ h. keeps_same s)
+    cond_both (ends_cursor code) (record s { cursors = put_cursor id None s.cursors }) s (TakesNoMore s) (λ h. keeps_cursors s _) (λ h. keeps_same s)
 effect_keeps s (asks_kill ids) killed = keeps_cursors s _
 effect_keeps s command reply = keeps_same s
 

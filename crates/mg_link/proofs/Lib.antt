@@ -21,12 +21,16 @@ pub mod Batching
 pub mod Cursoring
 pub mod Allowed
 pub mod Legal
+pub mod Prompts
 pub mod Examples
 pub mod Behind
 pub mod Indexed
 pub mod Later
 pub mod Timed
 pub mod Owners
+pub mod Pasts
+pub mod Calls
+pub mod Staying
 pub mod SelfMade
 pub mod Apart
 pub mod Numbered
@@ -51,3 +55,5 @@ pub mod Resuming
 pub mod Workings
 pub mod Files
 pub mod Batched
+pub mod Filling
+pub mod Sorting

@@ -15,7 +15,7 @@ use Rattle.mg_link.specs.Follow.{resting, holding, asking, owing, Follow, waited
 use Rattle.mg_link.proofs.Owners.{same_some, BackTo}
 use Rattle.mg_link.proofs.Apart.{Sends, passes_same, seen_still, onward_seen, took_last, step_last}
 use Rattle.mg_link.proofs.Follows.{knows_kept}
-use Rattle.mg_link.proofs.Heard.{HeardAt, heard_at, giving_heard, nothing_heard}
+use Rattle.mg_link.proofs.Heard.{HeardStep, heard_at, giving_heard, nothing_heard}
 use Rattle.mg_link.proofs.Sent.{more_tells}
 use Rattle.mg_link.proofs.Moving.{known, known_as, hand_as, waits_last, moved_added, moved_seen, moved_quiet, moved_here, moved_on, same_opened, open_added, open_seen}
 use Rattle.mg_link.proofs.Openings.{IsNext}
@@ -132,7 +132,7 @@ abbrev pub given_with : Follow → Batch → Follow
 given_with f batch = record f { doing = holding; cursor = batch.id; old = pos 0; ahead = batch.events; upto = batch.token }
 
 module _ (calls : List Call) (k : ℕ) (call : Call) (f : Follow) (place : Option ℕ) (bytes : List ℕ) (batch : Batch) (is : f.doing ≡ asking place) (at : place ≡ Some k) (found : slice_get calls k ≡ Some call) (reads : Reads bytes batch) where
-  told_giving : (history : List Step) (position : ℕ) (facts : Facts calls history f position) → (h : HeardAt calls history k bytes call) → Brings (state_of history) f.watch facts.place f.cursor batch.events batch.token × ((batch.id ≡ f.cursor) ⊎ (batch.id ≡ pos 0))
+  told_giving : (history : List Step) (position : ℕ) (facts : Facts calls history f position) → (h : HeardStep calls history k bytes call) → Brings (state_of history) f.watch facts.place f.cursor batch.events batch.token × ((batch.id ≡ f.cursor) ⊎ (batch.id ≡ pos 0))
   told_giving history position facts h =
       let a = hand_as calls history f position (asking place) is facts h.position h.step (k, at, h.took) in
       subst (λ (t : Told). AfterMore (state_of history) f.watch f.cursor facts.place t) (giving_heard h.step f.cursor a.space bytes batch a.asks h.fits reads) a.tells

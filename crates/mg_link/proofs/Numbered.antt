@@ -6,7 +6,7 @@ use Rattle.mg_bson.specs.Find.{get}
 use Rattle.mg_link.specs.Namespace.{Space}
 use Rattle.mg_link.specs.State.{Entry, State, nothing, name, Change, inserts, deletes, drops, invalidates}
 use Rattle.mg_link.specs.Commands.{Asked, asks_insert, asks_watch, asks_more, asks_kill, Told, refuses, inserted, opened, gave, killed, asked, asks_query, asks_update, asks_delete, asks_create, asks_indexes, asks_drop, updated, deleted, done}
-use Rattle.mg_link.specs.Step.{Made, Named, name_all, entry_names, AreNew, AddsNoEntry, IsEventOf, AreEventsOf, MayTell, May}
+use Rattle.mg_link.specs.Step.{Made, Named, name_all, entry_names, AreNewNames, AddsNoEntry, IsEventOf, AreEventsOf, MayTell, May}
 use Rattle.mg_link.specs.History.{Step, step_after, state_after, IsLegal, IsLegalFrom, state_of, told_at}
 use Rattle.mg_link.proofs.Places.{get_joined}
 use Rattle.mg_link.proofs.Histories.{step_after-changes}
@@ -63,7 +63,7 @@ step_ids s s' (asks_more id space) (gave left at events token) made j e (inr may
 step_ids s s' (asks_kill ids) killed made j e may h = absurd (none_there made j e may h)
 step_ids s s' command reply made j e may h = absurd may
 
-step_names : (end place : ℕ) (es : List Entry) (ms : List Named) (tokens : Tree → Option ℕ) → Respects tokens → AreNew end tokens (entry_names place es ++ ms) → (j : ℕ) (e : Entry) → slice_get es j ≡ Some e
+step_names : (end place : ℕ) (es : List Entry) (ms : List Named) (tokens : Tree → Option ℕ) → Respects tokens → AreNewNames end tokens (entry_names place es ++ ms) → (j : ℕ) (e : Entry) → slice_get es j ≡ Some e
     → name_all (entry_names place es ++ ms) tokens e.token ≡ Some (suc (place + j))
 step_names end place [] ms tokens r new j e h = absurd cc
 step_names end place (x ∷ es) ms tokens r new zero e h =

@@ -15,7 +15,7 @@ use Rattle.mg_link.proofs.Places.{get_seam}
 use Rattle.mg_link.proofs.Views.{events_none}
 use Rattle.mg_link.proofs.Owners.{same_some, see_here, back_to, stands_unseen}
 use Rattle.mg_link.proofs.Apart.{took_last, step_last}
-use Rattle.mg_link.proofs.Heard.{HeardAt, heard_at, heard_given, IsOpening, opening_heard}
+use Rattle.mg_link.proofs.Heard.{HeardStep, heard_at, heard_given, IsOpening, opening_heard}
 use Rattle.mg_link.proofs.Sent.{start_tells}
 use Rattle.mg_link.proofs.Moving.{known_as, waits_last, moved_added, moved_seen, moved_quiet}
 
@@ -117,7 +117,7 @@ opened_with f place batch = record f { doing = holding; opened = place; cursor =
 
 module _ (calls : List Call) (k : ℕ) (call : Call) (f : Follow) (place : Option ℕ) (bytes : List ℕ) (batch : Batch) (is : f.doing ≡ starting place) (at : place ≡ Some k) (found : slice_get calls k ≡ Some call) (waits : call.seen ≡ waiting) (reads : Reads bytes batch) (kn : KnowsStarting calls f place) where
   -- what the step told, in a legal history
-  told_opening : (history : List Step) → IsLegal history → Stands calls history → (h : HeardAt calls history k bytes call) → IsOpening batch (told_at h.step) × AfterStart history f.watch f.start h.position (told_at h.step)
+  told_opening : (history : List Step) → IsLegal history → Stands calls history → (h : HeardStep calls history k bytes call) → IsOpening batch (told_at h.step) × AfterStart history f.watch f.start h.position (told_at h.step)
   told_opening history legal stands h =
       let tells = kn.coming history legal stands h.position h.step (k, at, h.took) in
       let asks : asked h.step.command ≡ asks_watch f.watch f.start = ap asked h.command ∙ kn.watches k call at found in

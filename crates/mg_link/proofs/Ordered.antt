@@ -1,5 +1,5 @@
 -- The collections of a server stand in the order of their names.
-use Rattle.std.proofs.Common.{Ordering, ◌≡◌, ℤ, pos, Bool, true, false, List, [], ◌∷◌, map, Option, refl, sym, ap, ap₂, ◌∙◌, subst}
+use Rattle.std.proofs.Common.{Ordering, ◌≡◌, ℤ, pos, Bool, true, false, List, [], ◌∷◌, Option, refl, sym, ap, ap₂, ◌∙◌, subst}
 use Rattle.std.specs.Prelude.{if◌then◌else◌, ◌&&◌}
 use Rattle.std.specs.declared.cmp.Ordering.TheVariants.{Less, Equal, Greater}
 use Rattle.std.specs.Cmp.{IsTotalOrder, on_total, then_total}
@@ -10,16 +10,13 @@ use Rattle.std.specs.Ordering.{int_eq, is_eq, is_lt, nat_cmp, ordering_reverse, 
 use Rattle.std.proofs.lemmas.Map.Text.{is_eq-slice_cmp}
 use Rattle.mg_bson.specs.Tree.{Fields}
 use Rattle.mg_link.specs.Namespace.{Space}
-use Rattle.mg_link.specs.State.{Collection, Cursor, State, nothing, is_space, comes_before, put_collection, without_collection, change_documents}
+use Rattle.mg_link.specs.State.{Collection, Cursor, State, nothing, is_space, comes_before, put_collection, without_collection, change_documents, space_cmp, names_of, AreInOrder}
 use Rattle.mg_link.specs.Commands.{Asked, asked, asks_insert, asks_update, asks_delete, asks_query, asks_watch, asks_more, asks_kill, asks_create, asks_indexes, asks_drop, Told, refuses, inserted, updated, deleted, done, opened, gave, killed}
 use Rattle.mg_link.specs.Step.{Made, grown, effect, ends_cursor}
 use Rattle.mg_link.specs.History.{Step, step_after, state_after, state_of, told_at}
 use Rattle.mg_link.proofs.Collections.{same_space}
 
 -- ---- the order of names
-
-abbrev pub space_cmp : Space → Space → Ordering
-space_cmp s t = ordering_then (slice_cmp nat_cmp s.db t.db) (slice_cmp nat_cmp s.coll t.coll)
 
 pub spaces_total : IsTotalOrder space_cmp
 spaces_total = then_total (on_total (λ (s : Space). s.db) nat_list_cmp_total) (on_total (λ (s : Space). s.coll) nat_list_cmp_total)
@@ -45,12 +42,6 @@ later_is Equal t e first apart = let bad : true ≡ false = sym (ap is_eq e) ∙
 later_is Greater t e first apart = e
 
 -- ---- collections
-
-abbrev pub names_of : List Collection → List Space
-names_of cs = map (λ (c : Collection). c.space) cs
-
-abbrev pub AreInOrder : List Collection → Type 0
-AreInOrder cs = IsStrictlySortedBy space_cmp (names_of cs)
 
 abbrev AreBehind : Space → List Collection → Type 0
 AreBehind s cs = AllByRecursion (λ (t : Space). space_cmp s t ≡ Less) (names_of cs)

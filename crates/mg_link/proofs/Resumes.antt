@@ -16,7 +16,7 @@ use Rattle.mg_link.proofs.Later.{Later}
 use Rattle.mg_link.proofs.Owners.{same_some}
 use Rattle.mg_link.proofs.Apart.{NamesNone, seen_still, onward_foreign}
 use Rattle.mg_link.proofs.Follows.{past_later, knows_kept}
-use Rattle.mg_link.proofs.Heard.{HeardAt, heard_at, heard_given, IsOpening, opening_heard}
+use Rattle.mg_link.proofs.Heard.{HeardStep, heard_at, heard_given, IsOpening, opening_heard}
 use Rattle.mg_link.proofs.Sent.{resume_tells, new_is_other}
 use Rattle.mg_link.proofs.Moving.{known_as, hand_as, quiet, waits_last, moved_added, moved_seen, moved_here, same_opened, open_added, open_seen}
 use Rattle.mg_link.proofs.Openings.{names_none, IsNext}
@@ -78,21 +78,21 @@ abbrev pub resumed_with : Follow → Batch → Follow
 resumed_with f batch = record f { doing = holding; cursor = batch.id; old = f.cursor; ahead = batch.events; upto = batch.token }
 
 module _ (calls : List Call) (k : ℕ) (call : Call) (f : Follow) (place : Option ℕ) (bytes : List ℕ) (batch : Batch) (is : f.doing ≡ resuming place) (at : place ≡ Some k) (reads : Reads bytes batch) where
-  told_resuming : (history : List Step) (position : ℕ) (facts : Facts calls history f position) → (h : HeardAt calls history k bytes call)
+  told_resuming : (history : List Step) (position : ℕ) (facts : Facts calls history f position) → (h : HeardStep calls history k bytes call)
       → IsOpening batch (told_at h.step) × Brings (state_of history) f.watch facts.place batch.id batch.events batch.token × (OpensId (told_at h.step) f.cursor → ⊥)
   told_resuming history position facts h =
       let a = hand_as calls history f position (resuming place) is facts h.position h.step (k, at, h.took) in
       let o = opening_heard h.step f.watch a.start bytes batch a.asks h.fits reads in
       (o, subst (λ (t : Told). AfterOpen (state_of history) f.watch facts.place t) o.said_is a.tells, a.other)
 
-  owns_resumed : (calls' : List Call) (history : List Step) (h : HeardAt calls history k bytes call) → IsOpening batch (told_at h.step) → (x : ℤ) → Owns calls' history (owner_of (resumed_with f batch)) x → Owns calls history (owner_of f) x
+  owns_resumed : (calls' : List Call) (history : List Step) (h : HeardStep calls history k bytes call) → IsOpening batch (told_at h.step) → (x : ℤ) → Owns calls' history (owner_of (resumed_with f batch)) x → Owns calls history (owner_of f) x
   owns_resumed calls' history h o x (by_id (inl e) ne) = by_reply k h.position h.step (inl (ap waited is ∙ at)) h.took (subst (λ (t : Told). OpensId t x) (sym o.said_is) (e, ne))
   owns_resumed calls' history h o x (by_id (inr (inl e)) ne) = by_id (inl e) ne
   owns_resumed calls' history h o x (by_id (inr (inr none)) ne) = absurd none
   owns_resumed calls' history h o x (by_reply n p step (inl e) took opens) = let bad : None ≡ Some n = e in absurd cc
   owns_resumed calls' history h o x (by_reply n p step (inr none) took opens) = absurd none
 
-saw_resumed : (k : ℕ) (bytes : List ℕ) (calls : List Call) (call : Call) (f : Follow) (batch : Batch) (history : List Step) (h : HeardAt calls history k bytes call) → slice_get calls k ≡ Some call → call.seen ≡ waiting → Holds calls (owner_of f) → IsLegal history → Stands calls history → IsOpening batch (told_at h.step)
+saw_resumed : (k : ℕ) (bytes : List ℕ) (calls : List Call) (call : Call) (f : Follow) (batch : Batch) (history : List Step) (h : HeardStep calls history k bytes call) → slice_get calls k ≡ Some call → call.seen ≡ waiting → Holds calls (owner_of f) → IsLegal history → Stands calls history → IsOpening batch (told_at h.step)
     → (x : ℤ) → IsOf (batch.id ∷ f.cursor ∷ []) x → x ≢ pos 0 → SeenGiven (see k (reply bytes) calls) (length (see k (reply bytes) calls)) x
 saw_resumed k bytes calls call f batch history h found waits holds legal stands o x (inl e) ne = heard_given k bytes calls call history x found h (subst (λ (t : Told). OpensId t x) (sym o.said_is) (e, ne))
 saw_resumed k bytes calls call f batch history h found waits holds legal stands o x (inr (inl e)) ne = seen_still k (reply bytes) calls call (owner_of f) found waits holds history legal stands x (inl e) ne

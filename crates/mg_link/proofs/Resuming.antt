@@ -7,7 +7,7 @@ use Rattle.mg_bson.specs.Tree.{Tree, Fields}
 use Rattle.mg_link.specs.Filter.{is_same}
 use Rattle.mg_link.specs.State.{Entry, State, Watch, Start, after, nothing, events_between, start_place, name}
 use Rattle.mg_link.specs.Commands.{Asked, asks_watch, Told, refuses, inserted, opened, gave, killed, garbled, asked, updated, deleted, done}
-use Rattle.mg_link.specs.Step.{Named, name_all, entry_names, grown, AreNew, May, MayTell}
+use Rattle.mg_link.specs.Step.{Named, name_all, entry_names, grown, AreNewNames, May, MayTell}
 use Rattle.mg_link.specs.History.{Step, IsLegal, IsLegalFrom, OpensAt, Reached, opening, state_after, state_of, step_after, told_at, view_of}
 use Rattle.mg_link.proofs.Histories.{state_of-grows, step_after-changes, state_after-append}
 use Rattle.mg_link.proofs.Views.{events_join, events_more, events_past}
@@ -45,7 +45,7 @@ view_later history more w from =
 abbrev AreBefore : ℕ → (Tree → Option ℕ) → Type 0
 AreBefore end tokens = (t : Tree) (p : ℕ) → tokens t ≡ Some p → p ≤ end
 
-named_before : (end : ℕ) (ns : List Named) (tokens : Tree → Option ℕ) → AreNew end tokens ns → AreBefore end tokens → AreBefore end (name_all ns tokens)
+named_before : (end : ℕ) (ns : List Named) (tokens : Tree → Option ℕ) → AreNewNames end tokens ns → AreBefore end tokens → AreBefore end (name_all ns tokens)
 named_before end [] tokens new before = before
 named_before end (n ∷ ns) tokens new before =
     named_before end ns (name n.token n.place tokens) new.2 (λ t p h.

@@ -10,18 +10,18 @@ use Rattle.mg_link.specs.Link.{Sees}
 use Rattle.mg_link.specs.Standing.{Stands}
 use Rattle.mg_link.specs.Owner.{IsOf}
 use Rattle.mg_link.specs.Follow.{holding, asking, owing, resuming, Follow, AfterOpen, AfterMore, Facts, KnowsOpen, Moved}
-use Rattle.mg_link.proofs.Heard.{HeardAt, heard_at, told_heard}
+use Rattle.mg_link.proofs.Heard.{HeardStep, heard_at, told_heard}
 use Rattle.mg_link.proofs.Moving.{known_as, hand_as, same_opened, moved_seen, moved_here, open_seen}
 use Rattle.mg_link.proofs.Moves.{facts_in, given_with}
 use Rattle.mg_link.proofs.Resumes.{resumed_with}
 
 -- no legal history has the step
-more_never : (calls : List Call) (k : ℕ) (call : Call) (f : Follow) (place : Option ℕ) (bytes : List ℕ) → f.doing ≡ asking place → place ≡ Some k → ((space : Space) → told (asks_more f.cursor space) bytes ≡ garbled) → (history : List Step) (position : ℕ) → Facts calls history f position → HeardAt calls history k bytes call → ⊥
+more_never : (calls : List Call) (k : ℕ) (call : Call) (f : Follow) (place : Option ℕ) (bytes : List ℕ) → f.doing ≡ asking place → place ≡ Some k → ((space : Space) → told (asks_more f.cursor space) bytes ≡ garbled) → (history : List Step) (position : ℕ) → Facts calls history f position → HeardStep calls history k bytes call → ⊥
 more_never calls k call f place bytes is at spoiled history position facts h =
     let a = hand_as calls history f position (asking place) is facts h.position h.step (k, at, h.took) in
     subst (λ (t : Told). AfterMore (state_of history) f.watch f.cursor facts.place t) (told_heard h.step bytes (asks_more f.cursor a.space) a.asks h.fits ∙ spoiled a.space) a.tells
 
-resume_never : (calls : List Call) (k : ℕ) (call : Call) (f : Follow) (place : Option ℕ) (bytes : List ℕ) → f.doing ≡ resuming place → place ≡ Some k → ((start : Start) → told (asks_watch f.watch start) bytes ≡ garbled) → (history : List Step) (position : ℕ) → Facts calls history f position → HeardAt calls history k bytes call → ⊥
+resume_never : (calls : List Call) (k : ℕ) (call : Call) (f : Follow) (place : Option ℕ) (bytes : List ℕ) → f.doing ≡ resuming place → place ≡ Some k → ((start : Start) → told (asks_watch f.watch start) bytes ≡ garbled) → (history : List Step) (position : ℕ) → Facts calls history f position → HeardStep calls history k bytes call → ⊥
 resume_never calls k call f place bytes is at spoiled history position facts h =
     let a = hand_as calls history f position (resuming place) is facts h.position h.step (k, at, h.took) in
     subst (λ (t : Told). AfterOpen (state_of history) f.watch facts.place t) (told_heard h.step bytes (asks_watch f.watch a.start) a.asks h.fits ∙ spoiled a.start) a.tells

@@ -15,7 +15,7 @@ use Rattle.mg_link.specs.Write.{Modification}
 use Rattle.mg_link.specs.State.{Index, Watch, Start, State}
 use Rattle.mg_link.specs.Reply.{verdict_of, code_of, labels_of, texts_of}
 use Rattle.mg_link.specs.Commands.{Asked, asks_insert, asks_watch, asks_more, asks_kill, Failure, Told, refuses, inserted, opened, gave, killed, garbled, as_integer, documents_in, failures_by, failures_at, inserted_by, Batch, batch_by, batch_of, opened_by, gave_by, success_by, told, told_by, asks_create, asks_indexes, done, asks_update, asks_delete, updated, deleted, updated_by, deleted_by, are_write_errors, within_grammar, asks_query, asks_drop}
-use Rattle.mg_link.specs.Rules.{Inserted, number_of, errors_field, inserted_reply, documents_of_items, cursor_fields, first_batch, next_batch, token_of, stamp_of, now_of, killed_reply, done_reply, updated_reply, words_of, refusal, query_cursor}
+use Rattle.mg_link.specs.Rules.{Inserted, number_of, errors_field, inserted_reply, documents_of_items, cursor_fields, first_batch, next_batch, token_of, stamp_of, now_of, killed_reply, done_reply, updated_reply, words_of, refusal, query_cursor, deleted_reply}
 use Rattle.mg_link.specs.Query.{Query}
 use Rattle.mg_link.proofs.Requests.{IsNamed}
 
@@ -169,9 +169,6 @@ unfolding verdict_of
 dropped_tells space = refl
 
 -- ---- updates and deletes
-
-abbrev pub deleted_reply : ℕ → Fields
-deleted_reply n = "n" ⇒ number_of n ⨾ done_reply
 
 delete_read : (space : Space) (conditions : List Condition) (many : Bool) (n : ℕ) → success_by (asks_delete space conditions many) (deleted_reply n) ≡ Some (deleted (pos n) [])
 unfolding deleted_by

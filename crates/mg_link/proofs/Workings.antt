@@ -1,25 +1,22 @@
 -- The second script, step by step.
-use Rattle.std.proofs.Common.{◌≡◌, pos, false, [], ◌∷◌, Some, None, refl, sym, ap, ap₂, ◌∙◌, subst, inl, inr, arith}
-use Rattle.std.specs.Prelude.{unwrap_or}
+use Rattle.std.proofs.Common.{◌≡◌, ℕ, pos, false, List, [], ◌∷◌, Some, None, refl, sym, ap, ap₂, ◌∙◌, subst, inl, inr, codes, arith}
 use Rattle.std.specs.Fmt.{digits}
+use Rattle.mg_bson.specs.Find.{get}
+use Rattle.mg_bson.specs.Raw.{fields}
 use Rattle.mg_bson.specs.Tree.{Tree, Fields}
 use Rattle.mg_bson.specs.Bytes.{le32, le64}
 use Rattle.mg_link.specs.Filter.{is_same}
-use Rattle.mg_link.specs.State.{State, nothing, documents_at, events_between, updates, deletes, drops, invalidates, query, watching}
+use Rattle.mg_link.specs.State.{State, Watch, nothing, documents_at, events_between, updates, deletes, drops, invalidates, query, watching}
 use Rattle.mg_link.specs.Commands as commands
-use Rattle.mg_link.specs.Commands.{Asked, Told, asked, asked_by, asks_other, told, told_by}
+use Rattle.mg_link.specs.Commands.{Asked, Told, asked, failures_at}
+use Rattle.mg_link.specs.Prompt.{AnswersAtOnce, EndsByInvalidate, MeetsConcern}
 use Rattle.mg_link.specs.Query as queries
 use Rattle.mg_link.specs.Reply.{verdict_of}
 use Rattle.mg_link.specs.Step.{Made, May, next, effect, grown}
 use Rattle.mg_link.specs.History.{Step, step_after, state_after, told_at, IsLegalFrom}
-use Rattle.mg_link.specs.Example.{app_c, watch, id_0, id_1, x_2}
+use Rattle.mg_link.specs.Example.{app_c, watch, id_0, id_1, x_1, x_2}
 use Rattle.mg_link.specs.Worked.{id_2, x_3, x_7, inserts_three, opens_watch, finds_all, updates_first, finds_more, deletes_second, drops_all, watches_more, t_4, t_5, t_6, t_7, event_of, entry_of, wrote_three, opened_watch, found_two, updated_one, found_last, deleted_one, dropped, gave_four, adds, three_inserts, two_drops, IsStepOf, IsWorked}
-
-abbrev asked_of : Fields → Asked
-asked_of command = unwrap_or (asked_by command) asks_other
-
-abbrev told_of : Fields → Fields → Told
-told_of command reply = told_by (verdict_of reply) (asked_of command) reply
+use Rattle.mg_link.proofs.Prompts.{AreAtOnce, IsAtOnce, asked_of, asked_so, at_once_so, each_at_once, nonempty, nonzero, told_of, told_so, watch_or_query}
 
 -- the state behind a step, by what its command and reply are read as
 abbrev behind : State → Fields → Fields → Made → State
@@ -171,27 +168,117 @@ may_8 = record {
   });
 }
 
+-- ---- nothing is held back
+
+third_left : (x y z : Fields) (left : List Fields) → Some (x ∷ y ∷ z ∷ []) ≡ Some (x ∷ y ∷ left) → left ≡ [] → ⊥
+third_left x y z left is none = cc
+
+-- the watch ends with the event of its invalidate entry
+ended_there : EndsByInvalidate state_8 watch 3 (pos 0) (Some t_7)
+unfolding commands.insert_of commands.watch_of commands.find_of commands.update_of commands.more_of commands.delete_of commands.drop_of commands.space_at commands.batch_of commands.inserted_by commands.updated_by commands.deleted_by verdict_of effect grown le32 le64 digits queries.result
+ended_there = λ ended. (7, refl, entry_of t_7 7 invalidates, (3, omega arith, refl), refl)
+
+ended_so : (w : Watch) (from : ℕ) → Some (watching watch 3) ≡ Some (watching w from) → EndsByInvalidate state_8 w from (pos 0) (Some t_7)
+ended_so w from is =
+    let same : watch ≡ w = cc in
+    let here : 3 ≡ from = cc in
+    subst (λ (v : Watch). EndsByInvalidate state_8 v from (pos 0) (Some t_7)) same (subst (λ (n : ℕ). EndsByInvalidate state_8 watch n (pos 0) (Some t_7)) here ended_there)
+
+at_once_1 : AnswersAtOnce nothing state_1 (asked_of inserts_three) (told_of inserts_three wrote_three)
+unfolding commands.insert_of commands.watch_of commands.find_of commands.update_of commands.more_of commands.delete_of commands.drop_of commands.space_at commands.batch_of commands.inserted_by commands.updated_by commands.deleted_by verdict_of effect grown le32 le64 digits queries.result
+at_once_1 = λ f has. let none = has.1 in absurd (omega arith)
+
+at_once_2 : AnswersAtOnce state_1 state_2 (asked_of opens_watch) (told_of opens_watch opened_watch)
+unfolding commands.insert_of commands.watch_of commands.find_of commands.update_of commands.more_of commands.delete_of commands.drop_of commands.space_at commands.batch_of commands.inserted_by commands.updated_by commands.deleted_by verdict_of effect grown le32 le64 digits queries.result
+at_once_2 = λ from at ended. absurd (nonzero 0 ended)
+
+at_once_3 : AnswersAtOnce state_2 state_3 (asked_of finds_all) (told_of finds_all found_two)
+unfolding commands.insert_of commands.watch_of commands.find_of commands.update_of commands.more_of commands.delete_of commands.drop_of commands.space_at commands.batch_of commands.inserted_by commands.updated_by commands.deleted_by verdict_of effect grown le32 le64 digits queries.result
+at_once_3 = λ left is. record {
+  some = λ size none. absurd (nonempty _ _ none);
+  ends = λ none. absurd (third_left x_1 x_2 x_3 left is none);
+}
+
+at_once_4 : AnswersAtOnce state_3 state_4 (asked_of updates_first) (told_of updates_first updated_one)
+unfolding commands.insert_of commands.watch_of commands.find_of commands.update_of commands.more_of commands.delete_of commands.drop_of commands.space_at commands.batch_of commands.inserted_by commands.updated_by commands.deleted_by verdict_of effect grown le32 le64 digits queries.result
+at_once_4 = refl
+
+at_once_5 : AnswersAtOnce state_4 state_5 (asked_of finds_more) (told_of finds_more found_last)
+unfolding commands.insert_of commands.watch_of commands.find_of commands.update_of commands.more_of commands.delete_of commands.drop_of commands.space_at commands.batch_of commands.inserted_by commands.updated_by commands.deleted_by verdict_of effect grown le32 le64 digits queries.result
+at_once_5 = (
+  λ w from stood. absurd (watch_or_query w from app_c (x_3 ∷ []) (sym stood)),
+  λ of left stood. record {
+    some = λ size none. absurd (nonempty _ _ none);
+    ends = λ none. refl;
+  },
+)
+
+at_once_6 : AnswersAtOnce state_5 state_6 (asked_of deletes_second) (told_of deletes_second deleted_one)
+unfolding commands.insert_of commands.watch_of commands.find_of commands.update_of commands.more_of commands.delete_of commands.drop_of commands.space_at commands.batch_of commands.inserted_by commands.updated_by commands.deleted_by verdict_of effect grown le32 le64 digits queries.result
+at_once_6 = refl
+
+at_once_7 : AnswersAtOnce state_6 state_7 (asked_of drops_all) (told_of drops_all dropped)
+unfolding commands.insert_of commands.watch_of commands.find_of commands.update_of commands.more_of commands.delete_of commands.drop_of commands.space_at commands.batch_of commands.inserted_by commands.updated_by commands.deleted_by verdict_of effect grown le32 le64 digits queries.result
+at_once_7 = tt
+
+at_once_8 : AnswersAtOnce state_7 state_8 (asked_of watches_more) (told_of watches_more gave_four)
+unfolding commands.insert_of commands.watch_of commands.find_of commands.update_of commands.more_of commands.delete_of commands.drop_of commands.space_at commands.batch_of commands.inserted_by commands.updated_by commands.deleted_by verdict_of effect grown le32 le64 digits queries.result
+at_once_8 = (λ w from stood. (λ none. absurd (nonempty _ _ none), ended_so w from stood), λ of left stood. absurd (watch_or_query watch 3 of _ stood))
+
+met_1 : (bytes : List ℕ) → fields bytes ≡ wrote_three → MeetsConcern (asked_of inserts_three) bytes
+unfolding commands.insert_of commands.space_at
+met_1 bytes is = ap (get (codes "writeConcernError")) is
+
+met_2 : (bytes : List ℕ) → fields bytes ≡ opened_watch → MeetsConcern (asked_of opens_watch) bytes
+unfolding commands.watch_of commands.space_at
+met_2 bytes is = tt
+
+met_3 : (bytes : List ℕ) → fields bytes ≡ found_two → MeetsConcern (asked_of finds_all) bytes
+unfolding commands.find_of commands.space_at
+met_3 bytes is = tt
+
+met_4 : (bytes : List ℕ) → fields bytes ≡ updated_one → MeetsConcern (asked_of updates_first) bytes
+unfolding commands.update_of commands.space_at
+met_4 bytes is = ap (get (codes "writeConcernError")) is
+
+met_5 : (bytes : List ℕ) → fields bytes ≡ found_last → MeetsConcern (asked_of finds_more) bytes
+unfolding commands.more_of commands.space_at
+met_5 bytes is = tt
+
+met_6 : (bytes : List ℕ) → fields bytes ≡ deleted_one → MeetsConcern (asked_of deletes_second) bytes
+unfolding commands.delete_of commands.space_at
+met_6 bytes is = ap (get (codes "writeConcernError")) is
+
+met_7 : (bytes : List ℕ) → fields bytes ≡ dropped → MeetsConcern (asked_of drops_all) bytes
+unfolding commands.drop_of commands.space_at
+met_7 bytes is = (ap (get (codes "writeConcernError")) is, ap (λ (fs : Fields). failures_at (get (codes "writeErrors") fs)) is)
+
+met_8 : (bytes : List ℕ) → fields bytes ≡ gave_four → MeetsConcern (asked_of watches_more) bytes
+unfolding commands.more_of commands.space_at
+met_8 bytes is = tt
+
 -- ---- the history
 
 module _ {command reply : Fields} {made : Made} {step : Step} (is : IsStepOf command reply made step) where
-  asked_so : asked step.command ≡ asked_of command
-  unfolding asked
-  asked_so = ap asked_of is.command_is
+  asks : asked step.command ≡ asked_of command
+  asks = asked_so step command is.command_is
 
-  told_so : told_at step ≡ told_of command reply
-  unfolding told asked
-  told_so = ap₂ told_of is.command_is is.reply_is
+  tells : told_at step ≡ told_of command reply
+  tells = told_so step command reply is.command_is is.reply_is
 
   behind_so : {s t : State} → s ≡ t → step_after s step ≡ behind t command reply made
   behind_so {s} {t} e =
-      ap (λ (u : State). step_after u step) e ∙ ap (λ (a : Asked). next t a (told_at step) step.made) asked_so
-      ∙ ap₂ (λ (r : Told) (m : Made). next t (asked_of command) r m) told_so is.made_is
+      ap (λ (u : State). step_after u step) e ∙ ap (λ (a : Asked). next t a (told_at step) step.made) asks
+      ∙ ap₂ (λ (r : Told) (m : Made). next t (asked_of command) r m) tells is.made_is
 
   may_so : {s t : State} → s ≡ t → May t (asked_of command) (told_of command reply) made → May s (asked step.command) (told_at step) step.made
   may_so {s} {t} e may =
       subst (λ (u : State). May u (asked step.command) (told_at step) step.made) (sym e)
-      (subst (λ (a : Asked). May t a (told_at step) step.made) (sym asked_so)
-      (subst (λ (r : Told). May t (asked_of command) r step.made) (sym told_so) (subst (λ (m : Made). May t (asked_of command) (told_of command reply) m) (sym is.made_is) may)))
+      (subst (λ (a : Asked). May t a (told_at step) step.made) (sym asks)
+      (subst (λ (r : Told). May t (asked_of command) r step.made) (sym tells) (subst (λ (m : Made). May t (asked_of command) (told_of command reply) m) (sym is.made_is) may)))
+
+  prompt_so : {s t t' : State} → s ≡ t → step_after s step ≡ t' → AnswersAtOnce t t' (asked_of command) (told_of command reply) → ((bytes : List ℕ) → fields bytes ≡ reply → MeetsConcern (asked_of command) bytes) → IsAtOnce s step
+  prompt_so before after at_once met = at_once_so step command reply is.command_is is.reply_is before after at_once met
 
 pub second_script : (a b c d e f g h : Step) → IsStepOf inserts_three wrote_three (adds three_inserts 3) a → IsStepOf opens_watch opened_watch (adds [] 3) b → IsStepOf finds_all found_two (adds [] 3) c
     → IsStepOf updates_first updated_one (adds (entry_of t_4 4 updates ∷ []) 4) d → IsStepOf finds_more found_last (adds [] 4) e → IsStepOf deletes_second deleted_one (adds (entry_of t_5 5 deletes ∷ []) 5) f
@@ -206,6 +293,19 @@ second_script a b c d e f g h ia ib ic id ie if_ ig ih =
     let six : step_after (step_after (step_after (step_after (step_after (step_after nothing a) b) c) d) e) f ≡ state_6 = behind_so if_ five in
     let seven : step_after (step_after (step_after (step_after (step_after (step_after (step_after nothing a) b) c) d) e) f) g ≡ state_7 = behind_so ig six in
     let eight : step_after (step_after (step_after (step_after (step_after (step_after (step_after (step_after nothing a) b) c) d) e) f) g) h ≡ state_8 = behind_so ih seven in
+    let all : AreAtOnce nothing (a ∷ b ∷ c ∷ d ∷ e ∷ f ∷ g ∷ h ∷ []) = (
+      prompt_so ia refl one at_once_1 met_1,
+      (
+        prompt_so ib one two at_once_2 met_2,
+        (
+          prompt_so ic two three at_once_3 met_3,
+          (
+            prompt_so id three four at_once_4 met_4,
+            (prompt_so ie four five at_once_5 met_5, (prompt_so if_ five six at_once_6 met_6, (prompt_so ig six seven at_once_7 met_7, (prompt_so ih seven eight at_once_8 met_8, tt)))),
+          ),
+        ),
+      ),
+    ) in
     record {
       legal = (may_so ia refl may_1, (may_so ib one may_2, (may_so ic two may_3, (may_so id three may_4, (may_so ie four may_5, (may_so if_ five may_6, (may_so ig six may_7, (may_so ih seven may_8, tt))))))));
       find_left = ap (λ (s : State). s.cursors (pos 2)) three ∙ left_3;
@@ -216,4 +316,5 @@ second_script a b c d e f g h ia ib ic id ie if_ ig ih =
       watch_stood = ap (λ (s : State). s.cursors (pos 1)) seven ∙ stood_7;
       watch_ended = ap (λ (s : State). s.cursors (pos 1)) eight ∙ ended_8;
       view_is = ap (λ (s : State). events_between watch s.changes 3 7) eight ∙ view_8;
+      prompt = λ position step own at. each_at_once nothing (a ∷ b ∷ c ∷ d ∷ e ∷ f ∷ g ∷ h ∷ []) all position step at;
     }

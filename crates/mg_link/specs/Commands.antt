@@ -1,5 +1,5 @@
 -- What commands ask for, and what replies tell (CRUD, change streams, find/getMore/killCursors, enumerating collections and indexes specifications).
-use Rattle.std.specs.Prelude.{ℕ, ℤ, pos, Bool, true, false, Option, Some, None, option_map, option_and_then, unwrap_or, List, [], ◌∷◌, codes, if◌then◌else◌, zero, suc, negsuc, length, is_some, nat_lt, nat_le, ◌&&◌, ◌||◌, ◌++◌}
+use Rattle.std.specs.Prelude.{◌≡◌, ℕ, ℤ, pos, Bool, true, false, Option, Some, None, option_map, option_and_then, unwrap_or, List, [], ◌∷◌, codes, if◌then◌else◌, zero, suc, negsuc, length, is_some, nat_lt, nat_le, ◌&&◌, ◌||◌, ◌++◌}
 use Rattle.std.specs.Ordering.{int_eq}
 use Rattle.std.specs.Str.{bytes_eq}
 use Rattle.mg_bson.specs.Tree.{Tree, document, array, int32, int64, timestamp, Fields, no_fields, field, Items, no_items, item}
@@ -99,6 +99,7 @@ abbrev pub as_time : Tree → Option ℕ
 as_time (timestamp seconds increment) = Some (time_of seconds increment)
 as_time _ = None
 
+-- change streams: a server reports an error where more than one start is given
 abbrev pub start_by : Option Tree → Option Tree → Option Tree → Option Start
 start_by None None None = Some nowhere
 start_by (Some token) None None = Some (after token)
@@ -195,7 +196,7 @@ sorting t = option_and_then as_keys (option_and_then keys_of (as_document t))
 abbrev pub skipping : Tree → Option (List Stage)
 skipping t = option_map (λ n. only (skips n)) (count_of t)
 
--- a limit of 0 is none
+-- a limit of 0 is none (find command: a limit of 0 sets none)
 abbrev pub limit_by : ℕ → List Stage
 limit_by zero = []
 limit_by (suc n) = only (limits (suc n))
@@ -299,6 +300,11 @@ abbrev pub may_set : Fields → Bool
 may_set no_fields = true
 may_set (field k t fs) = unless (bytes_eq k (codes "_id")) (is_top_name k) && may_set fs
 
+-- the modification leaves the `_id` of a document as it is
+abbrev pub KeepsId : Modification → Type 0
+KeepsId (sets fs) = may_set fs ≡ true
+KeepsId (puts d) = Unit {0}
+
 abbrev pub begin_without_dollar : Fields → Bool
 begin_without_dollar no_fields = true
 begin_without_dollar (field k t fs) = unless (begins_with_dollar k) (begin_without_dollar fs)
@@ -342,7 +348,7 @@ update_fields = codes "update" ∷ codes "updates" ∷ codes "ordered" ∷ []
 unfoldable pub update_of : Fields → Option Asked
 update_of fs = if has_only update_fields fs then (space_at (codes "update") fs >>= λ space. one_at (codes "updates") fs >>= update_by (asks_update space)) else None
 
--- a limit of 1 is the first document, and of 0 all
+-- a limit of 1 is the first document, and of 0 all (delete command: `limit` is 0 for all documents that match, or 1 for a single one)
 abbrev pub many_by : ℕ → Option Bool
 many_by zero = Some true
 many_by (suc zero) = Some false

@@ -7,6 +7,7 @@ use Rattle.mg_link.specs.Namespace.{Space, collection}
 use Rattle.mg_link.specs.State.{inserts, Entry, Watch, watching, nowhere, documents_at, events_between, time_of}
 use Rattle.mg_link.specs.History.{Step, state_of, opening}
 use Rattle.mg_link.specs.Kept.{Kept}
+use Rattle.mg_link.specs.Prompt.{IsPrompt}
 use Rattle.mg_link.specs.Rules.{answer_of}
 
 abbrev pub app_c : Space
@@ -112,3 +113,5 @@ pub record IsExample (history : List Step) : Type 0 where
   pub inserted_by_rules : RulesAnswer history 1 2 inserts_two inserted_two
   pub gave_by_rules : RulesAnswer history 2 2 asks_more gave_two
   pub killed_by_rules : RulesAnswer history 3 2 kills killed
+  -- which hold nothing back
+  pub prompt : IsPrompt (0 ∷ 1 ∷ 2 ∷ 3 ∷ []) history

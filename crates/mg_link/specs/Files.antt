@@ -24,7 +24,7 @@ unfoldable pub chunks_behind : (size : ℕ) → (begun bytes : List ℕ) → Lis
 chunks_behind size begun [] = last_chunk begun
 chunks_behind size begun (b ∷ bs) = if length begun + 1 == size then (begun ++ b ∷ []) ∷ chunks_behind size [] bs else chunks_behind size (begun ++ b ∷ []) bs
 
--- the bytes in consecutive chunks of this size, the rest last where there is one; of no bytes none
+-- the bytes in consecutive chunks of this size, the rest last where there is one; of no bytes none (GridFS: chunks are numbered from 0, each has `chunkSize` bytes but the last, which has the rest)
 abbrev pub chunked : ℕ → List ℕ → List (List ℕ)
 chunked size bytes = chunks_behind size [] bytes
 
@@ -85,7 +85,7 @@ AreChunks n (c ∷ cs) (d ∷ ds) = IsChunk n c d × AreChunks (suc n) cs ds
 AreChunks n [] (d ∷ ds) = ⊥
 AreChunks n (c ∷ cs) [] = ⊥
 
--- there is one record with the length of the bytes and the size of the chunks, and the chunks are those of the bytes
+-- there is one record with the length of the bytes and the size of the chunks, and the chunks are those of the bytes (GridFS: `length` is the size of the file in bytes, `chunkSize` that of its chunks)
 pub record IsWhole (s : State) (b : Bucket) (id : Tree) (bytes : List ℕ) (size : ℕ) : Type 0 where
   pub record_of : Fields
   pub alone : (file_of s b id).records ≡ record_of ∷ []

@@ -31,7 +31,7 @@ one_of values (Some t) = is_among values t
 abbrev pub meets : Condition → Fields → Bool
 meets c d = one_of c.values (get c.name d)
 
--- a document matches a filter where it meets each condition
+-- a document matches a filter where it meets each condition (query predicates: `$eq` selects documents where the field equals the value, `$in` those where it equals any of the values)
 abbrev pub matches : List Condition → Fields → Bool
 matches [] d = true
 matches (c ∷ cs) d = meets c d && matches cs d

@@ -23,6 +23,7 @@ pub mod Scripted
 pub mod Filter
 pub mod State
 pub mod Query
+pub mod Sorting
 pub mod Write
 pub mod Commands
 pub mod Step
@@ -31,8 +32,10 @@ pub mod Events
 pub mod Standing
 pub mod Prompt
 pub mod Owner
+pub mod Calls
 pub mod Follow
 pub mod Rules
+pub mod Batches
 pub mod Kept
 pub mod Files
 pub mod NineBytes
@@ -41,3 +44,5 @@ pub mod RuleRows
 pub mod Worked
 pub mod Words
 pub mod Concerns
+pub mod Session
+pub mod Pinned

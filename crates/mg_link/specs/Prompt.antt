@@ -24,7 +24,7 @@ abbrev pub GivesSome : State → Watch → ℕ → List Fields → Type 0
 GivesSome s w from events = events ≡ [] → events_between w s.changes from (length s.changes) ≡ []
 
 -- a batch of a query holds a document where one is left, and ends the cursor as soon as nothing is left
-pub record HoldsBack (size : Option ℕ) (id : ℤ) (given left : List Fields) : Type 0 where
+pub record HoldsNothingBack (size : Option ℕ) (id : ℤ) (given left : List Fields) : Type 0 where
   pub some : size ≢ Some 0 → given ≡ [] → left ≡ []
   pub ends : left ≡ [] → id ≡ pos 0
 
@@ -36,21 +36,25 @@ AnswersAtOnce s s' command (refuses code labels) = ⊥
 AnswersAtOnce s s' (asks_insert space documents ordered) (inserted n failures) = (f : Failure) → Contains failures f → Contains (rule_failures s space documents ordered) f
 AnswersAtOnce s s' (asks_update space conditions modification many) (updated n changed failures) = failures ≡ []
 AnswersAtOnce s s' (asks_delete space conditions many) (deleted n failures) = failures ≡ []
-AnswersAtOnce s s' (asks_query q) (opened id space documents token time) = (left : List Fields) → result s' q ≡ Some (documents ++ left) → HoldsBack q.size id documents left
-AnswersAtOnce s s' (asks_watch watch start) (opened id space events token time) = (from : ℕ) → start_place s start ≡ Some from → EndsByInvalidate s' watch from id token
+AnswersAtOnce s s' (asks_query q) (opened id space documents token time) = (left : List Fields) → result s' q ≡ Some (documents ++ left) → HoldsNothingBack q.size id documents left
+AnswersAtOnce s s' (asks_watch watch start) (opened id space events token time) = (from : ℕ) → start_place s' start ≡ Some from → EndsByInvalidate s' watch from id token
 AnswersAtOnce s s' (asks_more id space) (gave next other events token) = ((watch : Watch) (from : ℕ) → s.cursors id ≡ Some (watching watch from) → GivesSome s watch from events × EndsByInvalidate s' watch from next token)
-    × ((of : Space) (left : List Fields) → s.cursors id ≡ Some (query of (events ++ left)) → HoldsBack None next events left)
+    × ((of : Space) (left : List Fields) → s.cursors id ≡ Some (query of (events ++ left)) → HoldsNothingBack None next events left)
 AnswersAtOnce s s' (asks_kill ids) killed = Unit {0}
 AnswersAtOnce s s' command reply = Unit {0}
 
--- the reply to a write tells of no write concern that was not met
+-- no write error is listed
+abbrev pub ListsNone : List ℕ → Type 0
+ListsNone bytes = failures_at (get (codes "writeErrors") (fields bytes)) ≡ Some []
+
+-- the reply to a write tells of no write concern that was not met; one that tells nothing of write errors lists none
 abbrev pub MeetsConcern : Asked → List ℕ → Type 0
 MeetsConcern (asks_insert space documents ordered) bytes = get (codes "writeConcernError") (fields bytes) ≡ None
 MeetsConcern (asks_update space conditions modification many) bytes = get (codes "writeConcernError") (fields bytes) ≡ None
 MeetsConcern (asks_delete space conditions many) bytes = get (codes "writeConcernError") (fields bytes) ≡ None
-MeetsConcern (asks_create space) bytes = get (codes "writeConcernError") (fields bytes) ≡ None
-MeetsConcern (asks_indexes space indexes) bytes = get (codes "writeConcernError") (fields bytes) ≡ None
-MeetsConcern (asks_drop space) bytes = get (codes "writeConcernError") (fields bytes) ≡ None
+MeetsConcern (asks_create space) bytes = (get (codes "writeConcernError") (fields bytes) ≡ None) × ListsNone bytes
+MeetsConcern (asks_indexes space indexes) bytes = (get (codes "writeConcernError") (fields bytes) ≡ None) × ListsNone bytes
+MeetsConcern (asks_drop space) bytes = (get (codes "writeConcernError") (fields bytes) ≡ None) × ListsNone bytes
 MeetsConcern command bytes = Unit {0}
 
 -- the steps at these positions, which are a caller's own, were answered so

@@ -48,7 +48,7 @@ collection_listed c = "name" ⇒ string c.space.coll ⨾ "type" ⇒ word "collec
 abbrev pub index_listed : Index → Fields
 index_listed i = "v" ⇒ int32 (pos 2) ⨾ "key" ⇒ document i.key ⨾ "name" ⇒ string i.name ⨾ empty
 
--- the index that each collection has
+-- the index that each collection has (indexes: each collection is made with an index on `_id`)
 abbrev pub id_index : Index
 id_index = record { name = codes "_id_"; key = "_id" ⇒ int32 (pos 1) ⨾ empty }
 
@@ -92,7 +92,7 @@ abbrev pub sorted_in : List Key → Fields → List Fields → List Fields
 sorted_in keys d [] = d ∷ []
 sorted_in keys d (e ∷ es) = if comes_first (order_by keys e d) then e ∷ sorted_in keys d es else d ∷ e ∷ es
 
--- equal ones keep their order
+-- equal ones keep their order (sort: documents with equal values may come in any order; here they keep theirs)
 abbrev pub sorted : List Key → List Fields → List Fields
 sorted keys [] = []
 sorted keys (d ∷ ds) = sorted_in keys d (sorted keys ds)

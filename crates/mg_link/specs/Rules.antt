@@ -493,7 +493,7 @@ abbrev pub ended_before : Watch → List Entry → ℕ → Bool
 ended_before w changes zero = false
 ended_before w changes (suc n) = ends_with w (slice_get changes n)
 
--- the place of a token; a watch that ended there is not resumed
+-- the place of a token; a watch that ended there is not resumed (change streams: `resumeAfter` cannot go on behind an invalidate event, `startAfter` can)
 abbrev pub place_after : Watch → List Entry → Bool → Option ℕ → Result ℕ ℤ
 place_after w changes resumes None = Err no_such_token
 place_after w changes resumes (Some place) = if resumes && ended_before w changes place then Err no_such_token else Ok place
@@ -574,6 +574,9 @@ events_may_be_given es = list_all (λ (e : Entry). may_be_given e.event) es
 abbrev pub updated_reply : (n changed : ℕ) → Fields
 updated_reply n changed = "n" ⇒ number_of n ⨾ "nModified" ⇒ number_of changed ⨾ done_reply
 
+abbrev pub deleted_reply : ℕ → Fields
+deleted_reply n = "n" ⇒ number_of n ⨾ done_reply
+
 -- an update whose documents or entries would pass a limit is refused
 abbrev pub answer_update : State → Space → List Condition → Modification → Bool → Result Answer ℤ
 answer_update s space conditions m many =
@@ -587,8 +590,9 @@ abbrev pub answer_delete : State → Space → List Condition → Bool → Resul
 answer_delete s space conditions many =
     let gone = chosen conditions many (documents_of s space) in
     let entries = deleted_entries (length s.changes) space gone in
-    if events_may_be_given entries then Ok (answer_with entries ("n" ⇒ number_of (length gone) ⨾ done_reply)) else Err bad_request
+    if events_may_be_given entries then Ok (answer_with entries (deleted_reply (length gone))) else Err bad_request
 
+-- create command: NamespaceExists where the collection is there
 abbrev pub answer_create : State → Space → Result Answer ℤ
 answer_create s space = if is_some (collection_in s.collections space) then Err collection_exists else Ok (answer_with [] done_reply)
 
@@ -596,6 +600,7 @@ answer_create s space = if is_some (collection_in s.collections space) then Err 
 abbrev pub answer_indexes : State → Space → List Index → Result Answer ℤ
 answer_indexes s space indexes = if list_all (λ (i : Index). may_stay (index_listed i)) (with_indexes (indexes_of s space) indexes) then Ok (answer_with [] done_reply) else Err bad_request
 
+-- drop command: NamespaceNotFound where the collection is not there
 abbrev pub answer_drop : State → Space → Result Answer ℤ
 answer_drop s space = if is_some (collection_in s.collections space) then Ok (answer_with (dropped_entries (length s.changes) space) done_reply) else Err no_such_collection
 

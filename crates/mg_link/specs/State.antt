@@ -1,6 +1,8 @@
 -- What a server holds (change streams, find, getMore and killCursors specifications).
 use Rattle.std.specs.Prelude.{ℕ, suc, ◌+◌, ◌-◌, ◌*◌, ◌^◌, ◌&&◌, ℤ, Bool, true, false, Option, Some, None, option_map, unwrap_or, List, [], ◌∷◌, length, take, drop, map, nat_lt, if◌then◌else◌}
+use Rattle.std.specs.declared.cmp.Ordering.{Ordering}
 use Rattle.std.specs.List.{filter}
+use Rattle.std.specs.List.Sorted.{IsStrictlySortedBy}
 use Rattle.std.specs.Cmp.Lexicographic.{slice_cmp}
 use Rattle.std.specs.Ordering.{int_eq, is_lt, nat_cmp, ordering_then}
 use Rattle.std.specs.Str.{bytes_eq}
@@ -72,8 +74,17 @@ is_space s t = bytes_eq s.db t.db && bytes_eq s.coll t.coll
 -- ---- collections
 
 -- the order of names: by the database, then by the collection, each by its bytes
+abbrev pub space_cmp : Space → Space → Ordering
+space_cmp s t = ordering_then (slice_cmp nat_cmp s.db t.db) (slice_cmp nat_cmp s.coll t.coll)
+
 abbrev pub comes_before : Space → Space → Bool
-comes_before s t = is_lt (ordering_then (slice_cmp nat_cmp s.db t.db) (slice_cmp nat_cmp s.coll t.coll))
+comes_before s t = is_lt (space_cmp s t)
+
+abbrev pub names_of : List Collection → List Space
+names_of cs = map (λ (c : Collection). c.space) cs
+
+abbrev pub AreInOrder : List Collection → Type 0
+AreInOrder cs = IsStrictlySortedBy space_cmp (names_of cs)
 
 -- the collection of this name, where it is there
 abbrev pub collection_in : List Collection → Space → Option Collection
@@ -103,11 +114,20 @@ abbrev pub indexes_of : State → Space → List Index
 indexes_of s space = unwrap_or (option_map (λ (c : Collection). c.indexes) (collection_in s.collections space)) []
 
 -- the collections once this one has these documents
-abbrev pub with_documents : State → Space → List Fields → List Collection
-with_documents s space ds = put_collection (record { space = space; documents = ds; indexes = indexes_of s space }) s.collections
+abbrev pub collections_with : State → Space → List Fields → List Collection
+collections_with s space ds = put_collection (record { space = space; documents = ds; indexes = indexes_of s space }) s.collections
+
+-- the documents of collections once this one has others
+abbrev pub put_documents : Space → Option (List Fields) → (Space → Option (List Fields)) → Space → Option (List Fields)
+put_documents space ds documents other = if is_space other space then ds else documents other
+
+-- the documents of collections once this one's are changed
+abbrev pub changed_documents : Space → (List Fields → List Fields) → (Space → Option (List Fields)) → Space → Option (List Fields)
+changed_documents space g documents other = if is_space other space then option_map g (documents other) else documents other
 
 -- ---- what a watch sees
 
+-- invalidate event: it comes where an operation makes a stream invalid, as the drop of the collection that it is opened on
 abbrev pub is_invalidate : Change → Bool
 is_invalidate inserts = false
 is_invalidate updates = false
@@ -119,13 +139,13 @@ is_invalidate invalidates = true
 abbrev pub unless : Bool → Bool → Bool
 unless b c = if b then false else c
 
--- an entry belongs to a collection, to a database or to the cluster; only a collection has its invalidate entries
+-- an entry belongs to a collection, to a database or to the cluster; only a collection has its invalidate entries (change streams: a stream is opened on a collection, on a database or on a whole deployment)
 abbrev pub is_of : Target → Entry → Bool
 is_of (collection space) e = is_space space e.space
 is_of (database db) e = unless (is_invalidate e.change) (bytes_eq db e.space.db)
 is_of cluster e = unless (is_invalidate e.change) true
 
--- the watch is to see the entry
+-- the watch is to see the entry (change streams: a stream gives the changes of its target that its pipeline lets through)
 abbrev pub sees : Watch → Entry → Bool
 sees w e = is_of w.target e && matches w.filter e.event
 
@@ -152,7 +172,7 @@ abbrev pub count_before : ℕ → List Entry → ℕ
 count_before time [] = 0
 count_before time (e ∷ es) = if nat_lt e.time time then suc (count_before time es) else count_before time es
 
--- the place that a watch opens at
+-- the place that a watch opens at (change streams: `startAfter` and `resumeAfter` give the first change behind the token, `startAtOperationTime` those at or after the time)
 abbrev pub start_place : State → Start → Option ℕ
 start_place s nowhere = Some (length s.changes)
 start_place s (after token) = s.tokens token

@@ -5,7 +5,7 @@ use Rattle.mg_bson.specs.Tree.{Tree, Fields}
 use Rattle.mg_bson.specs.Find.{get}
 use Rattle.mg_link.specs.Namespace.{Space}
 use Rattle.mg_link.specs.Filter.{is_same, Condition}
-use Rattle.mg_link.specs.State.{inserts, Entry, Watch, Cursor, watching, State, Start, seen_between, events_between, start_place, is_invalidate, documents_at, with_documents, put_cursor, without_cursors, give, name, Change, deletes, drops, invalidates, Collection, query, collection_in, put_collection, without_collection, change_documents, indexes_of}
+use Rattle.mg_link.specs.State.{inserts, Entry, Watch, Cursor, watching, State, Start, seen_between, events_between, start_place, is_invalidate, documents_at, collections_with, put_cursor, without_cursors, give, name, Change, deletes, drops, invalidates, Collection, query, collection_in, put_collection, without_collection, change_documents, indexes_of}
 use Rattle.mg_link.specs.Commands.{Asked, asks_insert, asks_watch, asks_more, asks_kill, Failure, Told, refuses, inserted, opened, gave, killed, asks_update, asks_delete, asks_query, asks_create, asks_indexes, asks_drop, updated, deleted, done}
 use Rattle.mg_link.specs.Query.{Query, result}
 use Rattle.mg_link.specs.Write.{Modification, change_of, chosen, changing, after_update, after_delete, with_indexes}
@@ -76,16 +76,21 @@ moved s given token (Some (query space left)) = Some (query space (drop (length 
 abbrev pub moved_cursor : State → ℤ → ℤ → List Fields → Option Tree → State
 moved_cursor s id left given token = record s { cursors = put_cursor id (if int_eq left (pos 0) then None else moved s given token (s.cursors id)) s.cursors }
 
--- the codes with which a server refuses a cursor that it does not hold, or that was killed
+-- the codes with which a server refuses a cursor that it does not hold, or that was killed (CursorNotFound, CursorKilled)
 abbrev pub ends_cursor : ℤ → Bool
 ends_cursor code = if int_eq code (pos 43) then true else int_eq code (pos 237)
 
+-- the cursors behind a refusal
+abbrev pub cursors_refused : Asked → ℤ → (ℤ → Option Cursor) → ℤ → Option Cursor
+cursors_refused (asks_more id space) code cursors = if ends_cursor code then put_cursor id None cursors else cursors
+cursors_refused command code cursors = cursors
+
 -- what the command does beside what the step adds
 unfoldable pub effect : State → Asked → Told → State
-effect s (asks_insert space documents ordered) (inserted n failures) = record s { collections = with_documents s space (documents_of s space ++ written ordered failures 0 documents) }
+effect s (asks_insert space documents ordered) (inserted n failures) = record s { collections = collections_with s space (documents_of s space ++ written ordered failures 0 documents) }
 effect s (asks_update space conditions modification many) (updated n changed []) = record s { collections = change_documents space (after_update conditions many modification) s.collections }
 effect s (asks_delete space conditions many) (deleted n []) = record s { collections = change_documents space (after_delete conditions many) s.collections }
-effect s (asks_create space) done = record s { collections = with_documents s space [] }
+effect s (asks_create space) done = record s { collections = collections_with s space [] }
 effect s (asks_indexes space indexes) done = record s { collections = put_collection (record { space = space; documents = documents_of s space; indexes = with_indexes (indexes_of s space) indexes }) s.collections }
 effect s (asks_drop space) done = record s { collections = without_collection space s.collections }
 effect s (asks_query q) (opened id space documents token time) = opened_cursor s id (queried_at s q space documents)
@@ -107,9 +112,9 @@ entry_names place [] = []
 entry_names place (e ∷ es) = record { token = e.token; place = suc place } ∷ entry_names (suc place) es
 
 -- each token is new, and names a place that is there
-abbrev pub AreNew : ℕ → (Tree → Option ℕ) → List Named → Type 0
-AreNew end tokens [] = Unit {0}
-AreNew end tokens (n ∷ ns) = (tokens n.token ≡ None) × (n.place ≤ end) × AreNew end (name n.token n.place tokens) ns
+abbrev pub AreNewNames : ℕ → (Tree → Option ℕ) → List Named → Type 0
+AreNewNames end tokens [] = Unit {0}
+AreNewNames end tokens (n ∷ ns) = (tokens n.token ≡ None) × (n.place ≤ end) × AreNewNames end (name n.token n.place tokens) ns
 
 abbrev pub AreWithin : ℕ → ℕ → List Entry → Type 0
 AreWithin from upto [] = Unit {0}
@@ -119,7 +124,7 @@ AreWithin from upto (e ∷ es) = (from ≤ e.time) × (e.time ≤ upto) × AreWi
 pub record MayGrow (s : State) (made : Made) : Type 0 where
   pub later : s.now ≤ made.now
   pub times : AreWithin s.now made.now made.entries
-  pub names : AreNew (length s.changes + length made.entries) s.tokens (entry_names (length s.changes) made.entries ++ made.tokens)
+  pub names : AreNewNames (length s.changes + length made.entries) s.tokens (entry_names (length s.changes) made.entries ++ made.tokens)
 
 -- a command that reads adds no entry
 abbrev pub AddsNoEntry : Made → Type 0
@@ -153,6 +158,7 @@ AreEventsOf space change (d ∷ ds) (e ∷ es) = IsEventOf space change e × Are
 AreEventsOf space change [] (e ∷ es) = ⊥
 AreEventsOf space change (d ∷ ds) [] = ⊥
 
+-- insert command: where `ordered` is true the first failure ends it, and otherwise the other documents are inserted all the same
 pub record MayInsert (s : State) (space : Space) (documents : List Fields) (ordered : Bool) (n : ℤ) (failures : List Failure) (made : Made) : Type 0 where
   pub count : n ≡ pos (length (written ordered failures 0 documents))
   pub ids : HaveNewIds (documents_of s space) (written ordered failures 0 documents)
@@ -178,7 +184,7 @@ pub record MayCreate (s : State) (space : Space) (made : Made) : Type 0 where
   pub no_entry : AddsNoEntry made
   pub is_new : collection_in s.collections space ≡ None
 
--- a drop of a collection that is there logs that it was dropped, and then that watches of it end
+-- a drop of a collection that is there logs that it was dropped, and then that watches of it end (drop event: it leads to an invalidate event for streams on its own collection)
 pub record MayDrop (s : State) (space : Space) (made : Made) : Type 0 where
   pub collection : Collection
   pub there : collection_in s.collections space ≡ Some collection
@@ -205,7 +211,7 @@ pub record MayFind (s s' : State) (q : Query) (id : ℤ) (given : List Fields) (
   pub fresh : id ≢ pos 0 → s.given id ≡ false
   pub ends : id ≡ pos 0 → MayEnd q given left
 
--- a query goes on: what was left begins with the batch, and the cursor ends only where nothing is left
+-- a query goes on: what was left begins with the batch, and the cursor ends only where nothing is left (getMore command: it gives the batches of a cursor that follow)
 pub record MayGoThrough (s : State) (id next : ℤ) (given : List Fields) (made : Made) : Type 0 where
   pub no_entry : AddsNoEntry made
   pub space : Space
@@ -213,13 +219,13 @@ pub record MayGoThrough (s : State) (id next : ℤ) (given : List Fields) (made 
   pub stood : s.cursors id ≡ Some (query space (given ++ left))
   pub same : (next ≡ id) ⊎ ((next ≡ pos 0) × (left ≡ []))
 
--- an invalidate entry is the last that a batch holds
+-- an invalidate entry is the last that a batch holds (change streams: behind an invalidate event the cursor is closed)
 abbrev pub EndsAtInvalidate : List Entry → ℤ → Type 0
 EndsAtInvalidate [] id = Unit {0}
 EndsAtInvalidate (e ∷ []) id = is_invalidate e.change ≡ true → id ≡ pos 0
 EndsAtInvalidate (e ∷ f ∷ es) id = (is_invalidate e.change ≡ false) × EndsAtInvalidate (f ∷ es) id
 
--- a batch of a watch from one place: the server chooses where it ends, and the token names that place
+-- a batch of a watch from one place: the server chooses where it ends, and the token names that place (change streams specification, `postBatchResumeToken`: the token to go on with behind the last document of the batch)
 pub record MayGive (s : State) (w : Watch) (from : ℕ) (id : ℤ) (events : List Fields) (token : Option Tree) : Type 0 where
   pub upto : ℕ
   pub forward : from ≤ upto

@@ -6,6 +6,7 @@ use Rattle.mg_bson.specs.Literal.{◌⇒◌⨾◌, empty, word, ◌⨟◌}
 use Rattle.mg_link.specs.State.{Change, inserts, drops, invalidates, Entry, query, watching, documents_at, events_between}
 use Rattle.mg_link.specs.Step.{Made}
 use Rattle.mg_link.specs.History.{Step, IsLegal, state_of}
+use Rattle.mg_link.specs.Prompt.{IsPrompt}
 use Rattle.mg_link.specs.Example.{app_c, watch, id_0, id_1, x_1, x_2}
 
 abbrev pub id_2 : Tree
@@ -133,3 +134,5 @@ pub record IsWorked (history : List Step) : Type 0 where
   pub watch_stood : (state_of (take 7 history)).cursors (pos 1) ≡ Some (watching watch 3)
   pub watch_ended : (state_of history).cursors (pos 1) ≡ None
   pub view_is : events_between watch (state_of history).changes 3 7 ≡ event_of t_4 ∷ event_of t_5 ∷ event_of t_6 ∷ event_of t_7 ∷ []
+  -- and no step holds anything back
+  pub prompt : IsPrompt (0 ∷ 1 ∷ 2 ∷ 3 ∷ 4 ∷ 5 ∷ 6 ∷ 7 ∷ []) history

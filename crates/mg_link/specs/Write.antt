@@ -14,12 +14,12 @@ pub data Modification : Type 0 where
   sets : (fields : Fields) → Modification
   puts : (document : Fields) → Modification
 
--- each field in place of that of its name, or behind the others
+-- each field in place of that of its name, or behind the others (`$set`: the value of a field is replaced, and a field that is not there is added)
 abbrev pub with_fields : Fields → Fields → Fields
 with_fields no_fields d = d
 with_fields (field k t fs) d = with_fields fs (put k t d)
 
--- the `_id` stays, in front
+-- the `_id` stays, in front (replacements: the `_id` of a document does not change)
 abbrev pub with_id : Option Tree → Fields → Fields
 with_id None d = without (codes "_id") d
 with_id (Some id) d = field (codes "_id") id (without (codes "_id") d)
@@ -33,7 +33,7 @@ abbrev pub change_of : Modification → Change
 change_of (sets new) = updates
 change_of (puts document) = replaces
 
--- those that a write is for: all that match, or the first
+-- those that a write is for: all that match, or the first (update command: `multi` updates all documents that match, and otherwise one; delete command: `limit`)
 abbrev pub chosen : List Condition → Bool → List Fields → List Fields
 chosen conditions many ds = if many then filter (matches conditions) ds else take 1 (filter (matches conditions) ds)
 
@@ -54,7 +54,7 @@ abbrev pub after_delete : List Condition → Bool → List Fields → List Field
 after_delete conditions many [] = []
 after_delete conditions many (d ∷ ds) = if matches conditions d then (if many then after_delete conditions many ds else ds) else d ∷ after_delete conditions many ds
 
--- an index whose name is there is passed over
+-- an index whose name is there is passed over (createIndexes command: an index that exists is not made again)
 abbrev pub with_index : List Index → Index → List Index
 with_index there i = if list_any (λ (j : Index). bytes_eq j.name i.name) (id_index ∷ there) then there else there ++ i ∷ []
 

@@ -16,6 +16,7 @@ use std::alloc::{AllocError, AllocFailed};
 pub struct OutOfMemory;
 
 /// A failure, with what the server said beside it.
+#[cycle(error)]
 pub struct Error {
     /// What failed.
     pub kind: ErrorKind,
@@ -27,6 +28,7 @@ pub struct Error {
 
 // By hand, so that letting one go is one call.
 impl Drop for Error {
+    #[cycle(drops)]
     fn drop(self) {
         let Error {
             kind: _,
@@ -37,6 +39,7 @@ impl Drop for Error {
 }
 
 /// What failed.
+#[cycle(error)]
 #[derive(Drop)]
 pub enum ErrorKind {
     /// Memory ran out.
@@ -170,6 +173,7 @@ pub enum GridFsFileIdentifier {
 }
 
 /// Why a file of a bucket could not be read or written.
+#[cycle(error)]
 #[derive(Drop)]
 pub enum GridFsErrorKind {
     /// The bucket has no such file.
@@ -191,6 +195,13 @@ pub enum GridFsErrorKind {
     UploadStreamClosed,
     /// The upload was closed while a write was going on.
     WriteInProgress,
+    /// The chunks of an upload that failed or was aborted could not be removed.
+    AbortError {
+        /// What the upload failed with, and nothing where it was aborted.
+        original: Option<Box<Error>>,
+        /// Why its chunks could not be removed.
+        delete: Box<Error>,
+    },
 }
 
 /// The first receipt of a worker that differs from the server's history.

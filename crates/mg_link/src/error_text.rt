@@ -88,6 +88,7 @@ impl fmt::Display for GridFsFileIdentifier {
 }
 
 impl fmt::Display for GridFsErrorKind {
+    #[cycle(texts)]
     fn fmt<W: fmt::Write>(&self, f: &mut fmt::Formatter<W>) -> fmt::Result {
         match self {
             GridFsErrorKind::FileNotFound(file) => write!(f, "no {file}"),
@@ -100,6 +101,20 @@ impl fmt::Display for GridFsErrorKind {
             } => write!(f, "chunk {n} has {actual} bytes and not {expected}"),
             GridFsErrorKind::UploadStreamClosed => f.write_str("the upload is closed"),
             GridFsErrorKind::WriteInProgress => f.write_str("a write is going on"),
+            GridFsErrorKind::AbortError {
+                original: Some(original),
+                delete,
+            } => write!(
+                f,
+                "the upload failed ({original}), and its chunks could not be removed ({delete})"
+            ),
+            GridFsErrorKind::AbortError {
+                original: None,
+                delete,
+            } => write!(
+                f,
+                "the upload was aborted, and its chunks could not be removed ({delete})"
+            ),
         }
     }
 }
@@ -117,6 +132,7 @@ impl fmt::Display for Mismatch {
 impl fmt::Display for Error {
     ghost output = { error_text };
 
+    #[cycle(texts)]
     fn fmt<W: fmt::Write>(&self, f: &mut fmt::Formatter<W>) -> fmt::Result {
         f.write_str(match &self.kind {
             ErrorKind::Command(refusal) => return refusal.fmt(f),

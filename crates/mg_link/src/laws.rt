@@ -3,6 +3,7 @@ ghost use Rattle.std.specs.Prelude.{◌≡◌, ◌+◌, ◌<◌, ◌≤◌, ◌^
 ghost use Rattle.std.specs.List.{concat};
 ghost use Rattle.mg_bson.specs.Raw.{fields};
 ghost use Rattle.mg_bson.specs.Tree.{Fields, Tree};
+ghost use Rattle.mg_link.specs.Batches.{IsFullBatch};
 ghost use Rattle.mg_link.specs.Concerns.{level_word, levels, preference_word, preferences};
 ghost use Rattle.mg_link.specs.Commands.{Batch, asked, asks_watch};
 ghost use Rattle.mg_link.specs.Events.{AsksForEvents, HaveIds, TellsItsInserts, events_in};
@@ -17,8 +18,10 @@ ghost use Rattle.mg_link.specs.Log.{Call, see, waiting};
 ghost use Rattle.mg_link.specs.Namespace.{Space};
 ghost use Rattle.mg_link.specs.NineBytes.{bucket, holds_file, nine_bytes, seven};
 ghost use Rattle.mg_link.specs.Owner.{AreApart, NamesItsOwn, Onward, Owner, Passes};
-ghost use Rattle.mg_link.specs.Rules.{IsFull, answer_of, batch_of_query, refusal};
+ghost use Rattle.mg_link.specs.Query.{Key, sorted};
+ghost use Rattle.mg_link.specs.Rules.{IsFull, answer_of, batch_of_query, batch_place, refusal};
 ghost use Rattle.mg_link.specs.RuleRows.{AreCollections, AreQueries, AreWrites};
+ghost use Rattle.mg_link.specs.Sorting.{SortsTo};
 ghost use Rattle.mg_link.specs.Standing.{IsSelfMade, Stands, history_before};
 ghost use Rattle.mg_link.specs.State.{Entry, Start, State, Watch, after, deletes, events_between, updates};
 ghost use Rattle.mg_link.specs.Step.{May};
@@ -163,6 +166,18 @@ pub fn jobs_stay_apart()
 /// not 0, and one more would pass its size or its bytes.
 pub fn batches_are_full()
     ensures { (size : ℕ) (ds : List Fields) → IsFull size ds (batch_of_query size ds) }
+{}
+
+/// So does a batch of a watch, of what the watch is to see. Where its size is not 0, it ends at the end of the list of
+/// changes, or right behind an entry that it gives; there it has as many as its size, or the next would pass its bytes, or
+/// that entry ends the watch.
+pub fn watch_batches_are_full()
+    ensures { (w : Watch) (changes : List Entry) (from size : ℕ) → from ≤ length changes → IsFullBatch w changes from size (batch_place w changes from size) }
+{}
+
+/// Sorted documents are the same documents, in the order of the keys, and those that are equal by the keys keep their order.
+pub fn sorted_by_keys()
+    ensures { (keys : List Key) (ds : List Fields) → SortsTo keys ds (sorted keys ds) }
 {}
 
 /// What the store's rules answer to updates, deletes, creates, indexes, drops and queries over two documents, as written out.

@@ -18,11 +18,13 @@ mod link;
 mod log;
 mod memory;
 mod namespace;
+mod pinned;
 mod read_preference;
 mod reading;
 mod reply;
 mod reserved;
 mod script_link;
+mod session;
 mod std_ends;
 mod writing;
 
@@ -41,10 +43,15 @@ pub use link::{Link, LinkError, Polled, Ticket};
 pub use log::{Log, LoggedCall, Seen};
 pub use memory::{MemSink, MemSource};
 pub use namespace::{Namespace, OperationTarget};
+pub use pinned::PinnedConnection;
 pub use read_preference::{ReadPreference, SelectionCriteria};
 pub use reading::{InputError, read_all};
 pub use reply::{Verdict, code_of, refusal, verdict_of};
 pub use reserved::push_reserved;
 pub use script_link::{ScriptLink, Scripted, ScriptedSeen};
+pub use session::{
+    ClientSession, ClientSessionHandle, ExplicitClientSessionHandle, ImplicitClientSessionHandle,
+    TransactionState,
+};
 pub use std_ends::{StdSink, StdSource};
 pub use writing::write_all;
