@@ -1,2 +1,5 @@
 pub mod Appending
 pub mod Fielding
+pub mod Copying
+pub mod Levels
+pub mod Hints

@@ -10,3 +10,4 @@ pub mod Shown
 pub mod Values
 pub mod Records
 pub mod Conversions
+pub mod Copies

@@ -5,12 +5,13 @@ ghost use Rattle.mg_options.specs.Fields.{FailsBy, fields_in, first_unfit};
 ghost use Rattle.mg_options.specs.Records.{aggregate_lines};
 
 use crate::collation::Collation;
+use crate::copy::copy_given;
 use crate::field::append_given;
 use crate::printing::Value;
 use crate::write_words::Hint;
 use mg_bson::{Bson, Document};
 use mg_link::{Error, ReadConcern, SelectionCriteria, WriteConcern};
-use std::alloc::Global;
+use std::alloc::{AllocError, Global};
 
 /// How an aggregate runs.
 #[derive(Default)]
@@ -225,5 +226,35 @@ impl AggregateOptions {
                 ("let", Value::Document(&self.let_vars)),
             ],
         )
+    }
+}
+
+impl Clone for AggregateOptions {
+    ghost use Rattle.mg_options.specs.Copies.{SameAggregateOptions};
+
+    ghost is_clone = { SameAggregateOptions };
+
+    fn clone(&self) -> Result<AggregateOptions, AllocError> {
+        let mut copy = AggregateOptions {
+            allow_disk_use: self.allow_disk_use,
+            batch_size: self.batch_size,
+            bypass_document_validation: self.bypass_document_validation,
+            collation: None,
+            comment: None,
+            hint: None,
+            max_time: self.max_time,
+            let_vars: None,
+            max_await_time: self.max_await_time,
+            read_concern: None,
+            selection_criteria: self.selection_criteria,
+            write_concern: None,
+        };
+        copy_given(&self.collation, &mut copy.collation)?;
+        copy_given(&self.comment, &mut copy.comment)?;
+        copy_given(&self.hint, &mut copy.hint)?;
+        copy_given(&self.let_vars, &mut copy.let_vars)?;
+        copy_given(&self.read_concern, &mut copy.read_concern)?;
+        copy_given(&self.write_concern, &mut copy.write_concern)?;
+        Ok(copy)
     }
 }

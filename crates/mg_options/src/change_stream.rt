@@ -1,5 +1,5 @@
 //! The options of change streams.
-ghost use Rattle.std.specs.Prelude.{◌≡◌, OnOk, OnErr, IfErr, IfOk};
+ghost use Rattle.std.specs.Prelude.{◌≡◌, Some, None, OnOk, OnErr, IfErr, IfOk};
 ghost use Rattle.mg_bson.specs.Find.{joined};
 ghost use Rattle.mg_link.specs.Errors.{plain};
 ghost use Rattle.mg_link.specs.declared.error.ErrorKind.TheVariants as kinds;
@@ -58,6 +58,66 @@ impl ChangeStreamOptions {
             all_changes_for_cluster: None,
             batch_size: None,
         }
+    }
+
+    /// Nothing is given.
+    pub fn builder() -> ChangeStreamOptions
+        ensures { result ≡ record {
+          resume_after = None;
+          start_at_operation_time = None;
+          start_after = None;
+          all_changes_for_cluster = None;
+          batch_size = None;
+        } }
+    {
+        ChangeStreamOptions::default()
+    }
+
+    /// Gives `resume_after`.
+    pub fn resume_after(mut self, value: ResumeToken) -> ChangeStreamOptions
+        ensures { result ≡ record self { resume_after = Some value } }
+    {
+        self.resume_after = Some(value);
+        self
+    }
+
+    /// Gives `start_at_operation_time`.
+    pub fn start_at_operation_time(mut self, value: Timestamp) -> ChangeStreamOptions
+        ensures { result ≡ record self { start_at_operation_time = Some value } }
+    {
+        self.start_at_operation_time = Some(value);
+        self
+    }
+
+    /// Gives `start_after`.
+    pub fn start_after(mut self, value: ResumeToken) -> ChangeStreamOptions
+        ensures { result ≡ record self { start_after = Some value } }
+    {
+        self.start_after = Some(value);
+        self
+    }
+
+    /// Gives `all_changes_for_cluster`.
+    pub fn all_changes_for_cluster(mut self, value: bool) -> ChangeStreamOptions
+        ensures { result ≡ record self { all_changes_for_cluster = Some value } }
+    {
+        self.all_changes_for_cluster = Some(value);
+        self
+    }
+
+    /// Gives `batch_size`.
+    pub fn batch_size(mut self, value: u32) -> ChangeStreamOptions
+        ensures { result ≡ record self { batch_size = Some value } }
+    {
+        self.batch_size = Some(value);
+        self
+    }
+
+    /// The record as it was given.
+    pub fn build(self) -> ChangeStreamOptions
+        ensures { result ≡ self }
+    {
+        self
     }
 
     // The body with the fields that are given at its end.

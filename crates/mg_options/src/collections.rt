@@ -4,12 +4,13 @@ ghost use Rattle.mg_bson.specs.Find.{joined};
 ghost use Rattle.mg_options.specs.Fields.{FailsBy, fields_in, first_unfit};
 ghost use Rattle.mg_options.specs.Records.{create_index_lines, list_collections_lines, list_indexes_lines};
 
+use crate::copy::copy_given;
 use crate::field::append_given;
 use crate::printing::Value;
 use crate::write_words::CommitQuorum;
 use mg_bson::{Bson, Document};
 use mg_link::{Error, ReadConcern, SelectionCriteria, WriteConcern};
-use std::alloc::Global;
+use std::alloc::{AllocError, Global};
 
 /// How a collection is read and written where a call says nothing else.
 #[derive(Default)]
@@ -74,6 +75,23 @@ impl CollectionOptions {
         ensures { result ≡ self }
     {
         self
+    }
+}
+
+impl Clone for CollectionOptions {
+    ghost use Rattle.mg_options.specs.Copies.{SameCollectionOptions};
+
+    ghost is_clone = { SameCollectionOptions };
+
+    fn clone(&self) -> Result<CollectionOptions, AllocError> {
+        let mut copy = CollectionOptions {
+            selection_criteria: self.selection_criteria,
+            read_concern: None,
+            write_concern: None,
+        };
+        copy_given(&self.read_concern, &mut copy.read_concern)?;
+        copy_given(&self.write_concern, &mut copy.write_concern)?;
+        Ok(copy)
     }
 }
 
@@ -174,6 +192,25 @@ impl CreateIndexOptions {
     }
 }
 
+impl Clone for CreateIndexOptions {
+    ghost use Rattle.mg_options.specs.Copies.{SameCreateIndexOptions};
+
+    ghost is_clone = { SameCreateIndexOptions };
+
+    fn clone(&self) -> Result<CreateIndexOptions, AllocError> {
+        let mut copy = CreateIndexOptions {
+            commit_quorum: None,
+            max_time: self.max_time,
+            comment: None,
+            write_concern: None,
+        };
+        copy_given(&self.commit_quorum, &mut copy.commit_quorum)?;
+        copy_given(&self.comment, &mut copy.comment)?;
+        copy_given(&self.write_concern, &mut copy.write_concern)?;
+        Ok(copy)
+    }
+}
+
 /// How a collection is dropped.
 #[derive(Default)]
 pub struct DropCollectionOptions {
@@ -211,6 +248,20 @@ impl DropCollectionOptions {
         ensures { result ≡ self }
     {
         self
+    }
+}
+
+impl Clone for DropCollectionOptions {
+    ghost use Rattle.mg_options.specs.Copies.{SameDropCollectionOptions};
+
+    ghost is_clone = { SameDropCollectionOptions };
+
+    fn clone(&self) -> Result<DropCollectionOptions, AllocError> {
+        let mut copy = DropCollectionOptions {
+            write_concern: None,
+        };
+        copy_given(&self.write_concern, &mut copy.write_concern)?;
+        Ok(copy)
     }
 }
 
@@ -298,6 +349,22 @@ impl ListIndexesOptions {
     }
 }
 
+impl Clone for ListIndexesOptions {
+    ghost use Rattle.mg_options.specs.Copies.{SameListIndexesOptions};
+
+    ghost is_clone = { SameListIndexesOptions };
+
+    fn clone(&self) -> Result<ListIndexesOptions, AllocError> {
+        let mut copy = ListIndexesOptions {
+            max_time: self.max_time,
+            comment: None,
+            batch_size: self.batch_size,
+        };
+        copy_given(&self.comment, &mut copy.comment)?;
+        Ok(copy)
+    }
+}
+
 /// How collections are listed.
 #[derive(Default)]
 pub struct ListCollectionsOptions {
@@ -380,5 +447,22 @@ impl ListCollectionsOptions {
                 ("comment", Value::Any(&self.comment)),
             ],
         )
+    }
+}
+
+impl Clone for ListCollectionsOptions {
+    ghost use Rattle.mg_options.specs.Copies.{SameListCollectionsOptions};
+
+    ghost is_clone = { SameListCollectionsOptions };
+
+    fn clone(&self) -> Result<ListCollectionsOptions, AllocError> {
+        let mut copy = ListCollectionsOptions {
+            filter: None,
+            batch_size: self.batch_size,
+            comment: None,
+        };
+        copy_given(&self.filter, &mut copy.filter)?;
+        copy_given(&self.comment, &mut copy.comment)?;
+        Ok(copy)
     }
 }

@@ -1,9 +1,11 @@
 //! The options of commands that are given as documents.
 ghost use Rattle.std.specs.Prelude.{◌≡◌, Some, None};
 
+use crate::copy::copy_given;
 use crate::write_words::CursorType;
 use mg_bson::Bson;
 use mg_link::SelectionCriteria;
+use std::alloc::AllocError;
 
 /// How a command runs.
 #[derive(Default)]
@@ -44,6 +46,18 @@ impl RunCommandOptions {
         ensures { result ≡ self }
     {
         self
+    }
+}
+
+impl Clone for RunCommandOptions {
+    ghost use Rattle.mg_options.specs.Copies.{SameRunCommandOptions};
+
+    ghost is_clone = { SameRunCommandOptions };
+
+    fn clone(&self) -> Result<RunCommandOptions, AllocError> {
+        Ok(RunCommandOptions {
+            selection_criteria: self.selection_criteria,
+        })
     }
 }
 
@@ -134,5 +148,23 @@ impl RunCursorCommandOptions {
         ensures { result ≡ self }
     {
         self
+    }
+}
+
+impl Clone for RunCursorCommandOptions {
+    ghost use Rattle.mg_options.specs.Copies.{SameRunCursorCommandOptions};
+
+    ghost is_clone = { SameRunCursorCommandOptions };
+
+    fn clone(&self) -> Result<RunCursorCommandOptions, AllocError> {
+        let mut copy = RunCursorCommandOptions {
+            selection_criteria: self.selection_criteria,
+            cursor_type: self.cursor_type,
+            batch_size: self.batch_size,
+            max_time: self.max_time,
+            comment: None,
+        };
+        copy_given(&self.comment, &mut copy.comment)?;
+        Ok(copy)
     }
 }

@@ -31,8 +31,9 @@ fn put<V: Print>(alloc: Global, body: &mut Document, name: &str, value: &V) -> R
     }
 }
 
-// Puts the fields at the end, in their order.
-pub(crate) fn put_all<V: Print>(
+/// Puts the fields that are given at the end, in their order, without a copy of what stands there. It fails where memory runs
+/// out, or an argument is outside its range; after an error the document may hold some of them.
+pub fn put_given<V: Print>(
     alloc: Global,
     body: &mut Document,
     list: &[(&str, V)],
@@ -60,7 +61,7 @@ pub fn append_given<V: Print>(
     ensures err { IfErr result (λ e. FailsBy (first_unfit (lines V.shown list.now)) e) }
 {
     let mut whole = body.clone()?;
-    put_all(alloc, &mut whole, list)?;
+    put_given(alloc, &mut whole, list)?;
     *body = whole;
     Ok(())
 }

@@ -6,12 +6,13 @@ ghost use Rattle.mg_options.specs.Fields.{FailsBy, fields_in, first_unfit};
 ghost use Rattle.mg_options.specs.Records.{find_lines};
 
 use crate::collation::Collation;
+use crate::copy::copy_given;
 use crate::field::append_given;
 use crate::printing::Value;
 use crate::write_words::{CursorType, Hint};
 use mg_bson::{Bson, Document};
 use mg_link::{Error, ReadConcern, SelectionCriteria};
-use std::alloc::Global;
+use std::alloc::{AllocError, Global};
 
 /// How a find runs.
 #[derive(Default)]
@@ -359,6 +360,49 @@ impl FindOptions {
     }
 }
 
+impl Clone for FindOptions {
+    ghost use Rattle.mg_options.specs.Copies.{SameFindOptions};
+
+    ghost is_clone = { SameFindOptions };
+
+    fn clone(&self) -> Result<FindOptions, AllocError> {
+        let mut copy = FindOptions {
+            allow_disk_use: self.allow_disk_use,
+            allow_partial_results: self.allow_partial_results,
+            batch_size: self.batch_size,
+            comment: None,
+            hint: None,
+            limit: self.limit,
+            max: None,
+            max_scan: self.max_scan,
+            max_time: self.max_time,
+            min: None,
+            no_cursor_timeout: self.no_cursor_timeout,
+            projection: None,
+            return_key: self.return_key,
+            show_record_id: self.show_record_id,
+            skip: self.skip,
+            sort: None,
+            collation: None,
+            let_vars: None,
+            cursor_type: self.cursor_type,
+            max_await_time: self.max_await_time,
+            read_concern: None,
+            selection_criteria: self.selection_criteria,
+        };
+        copy_given(&self.comment, &mut copy.comment)?;
+        copy_given(&self.hint, &mut copy.hint)?;
+        copy_given(&self.max, &mut copy.max)?;
+        copy_given(&self.min, &mut copy.min)?;
+        copy_given(&self.projection, &mut copy.projection)?;
+        copy_given(&self.sort, &mut copy.sort)?;
+        copy_given(&self.collation, &mut copy.collation)?;
+        copy_given(&self.let_vars, &mut copy.let_vars)?;
+        copy_given(&self.read_concern, &mut copy.read_concern)?;
+        Ok(copy)
+    }
+}
+
 /// How a find of one document runs.
 #[derive(Default)]
 pub struct FindOneOptions {
@@ -628,6 +672,43 @@ impl FindOneOptions {
             read_concern,
             selection_criteria,
         }
+    }
+}
+
+impl Clone for FindOneOptions {
+    ghost use Rattle.mg_options.specs.Copies.{SameFindOneOptions};
+
+    ghost is_clone = { SameFindOneOptions };
+
+    fn clone(&self) -> Result<FindOneOptions, AllocError> {
+        let mut copy = FindOneOptions {
+            allow_partial_results: self.allow_partial_results,
+            collation: None,
+            comment: None,
+            hint: None,
+            max: None,
+            max_scan: self.max_scan,
+            max_time: self.max_time,
+            min: None,
+            projection: None,
+            read_concern: None,
+            return_key: self.return_key,
+            selection_criteria: self.selection_criteria,
+            show_record_id: self.show_record_id,
+            skip: self.skip,
+            sort: None,
+            let_vars: None,
+        };
+        copy_given(&self.collation, &mut copy.collation)?;
+        copy_given(&self.comment, &mut copy.comment)?;
+        copy_given(&self.hint, &mut copy.hint)?;
+        copy_given(&self.max, &mut copy.max)?;
+        copy_given(&self.min, &mut copy.min)?;
+        copy_given(&self.projection, &mut copy.projection)?;
+        copy_given(&self.read_concern, &mut copy.read_concern)?;
+        copy_given(&self.sort, &mut copy.sort)?;
+        copy_given(&self.let_vars, &mut copy.let_vars)?;
+        Ok(copy)
     }
 }
 

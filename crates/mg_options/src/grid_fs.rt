@@ -2,9 +2,11 @@
 ghost use Rattle.std.specs.Prelude.{◌≡◌, Some, None};
 ghost use Rattle.mg_options.specs.Conversions.{find_of_files, find_one_of_files};
 
+use crate::copy::copy_given;
 use crate::find::{FindOneOptions, FindOptions};
 use mg_bson::Document;
 use mg_link::{ReadConcern, SelectionCriteria, WriteConcern};
+use std::alloc::AllocError;
 
 /// What a bucket is called, and how it is read and written.
 #[derive(Default)]
@@ -96,6 +98,26 @@ impl GridFsBucketOptions {
     }
 }
 
+impl Clone for GridFsBucketOptions {
+    ghost use Rattle.mg_options.specs.Copies.{SameGridFsBucketOptions};
+
+    ghost is_clone = { SameGridFsBucketOptions };
+
+    fn clone(&self) -> Result<GridFsBucketOptions, AllocError> {
+        let mut copy = GridFsBucketOptions {
+            bucket_name: None,
+            chunk_size_bytes: self.chunk_size_bytes,
+            write_concern: None,
+            read_concern: None,
+            selection_criteria: self.selection_criteria,
+        };
+        copy_given(&self.bucket_name, &mut copy.bucket_name)?;
+        copy_given(&self.write_concern, &mut copy.write_concern)?;
+        copy_given(&self.read_concern, &mut copy.read_concern)?;
+        Ok(copy)
+    }
+}
+
 /// How a file is uploaded.
 #[derive(Default)]
 pub struct GridFsUploadOptions {
@@ -150,6 +172,21 @@ impl GridFsUploadOptions {
     }
 }
 
+impl Clone for GridFsUploadOptions {
+    ghost use Rattle.mg_options.specs.Copies.{SameGridFsUploadOptions};
+
+    ghost is_clone = { SameGridFsUploadOptions };
+
+    fn clone(&self) -> Result<GridFsUploadOptions, AllocError> {
+        let mut copy = GridFsUploadOptions {
+            chunk_size_bytes: self.chunk_size_bytes,
+            metadata: None,
+        };
+        copy_given(&self.metadata, &mut copy.metadata)?;
+        Ok(copy)
+    }
+}
+
 /// Which file of a name is downloaded; the newest where nothing is given.
 #[derive(Default)]
 pub struct GridFsDownloadByNameOptions {
@@ -187,6 +224,18 @@ impl GridFsDownloadByNameOptions {
         ensures { result ≡ self }
     {
         self
+    }
+}
+
+impl Clone for GridFsDownloadByNameOptions {
+    ghost use Rattle.mg_options.specs.Copies.{SameGridFsDownloadByNameOptions};
+
+    ghost is_clone = { SameGridFsDownloadByNameOptions };
+
+    fn clone(&self) -> Result<GridFsDownloadByNameOptions, AllocError> {
+        Ok(GridFsDownloadByNameOptions {
+            revision: self.revision,
+        })
     }
 }
 
@@ -398,6 +447,25 @@ impl GridFsFindOptions {
     }
 }
 
+impl Clone for GridFsFindOptions {
+    ghost use Rattle.mg_options.specs.Copies.{SameGridFsFindOptions};
+
+    ghost is_clone = { SameGridFsFindOptions };
+
+    fn clone(&self) -> Result<GridFsFindOptions, AllocError> {
+        let mut copy = GridFsFindOptions {
+            allow_disk_use: self.allow_disk_use,
+            batch_size: self.batch_size,
+            limit: self.limit,
+            max_time: self.max_time,
+            skip: self.skip,
+            sort: None,
+        };
+        copy_given(&self.sort, &mut copy.sort)?;
+        Ok(copy)
+    }
+}
+
 impl From<GridFsFindOptions> for FindOptions {
     ghost from_gives = { λ o p. p ≡ find_of_files o };
 
@@ -434,6 +502,22 @@ impl GridFsFindOneOptions {
             sort,
             let_vars: None,
         }
+    }
+}
+
+impl Clone for GridFsFindOneOptions {
+    ghost use Rattle.mg_options.specs.Copies.{SameGridFsFindOneOptions};
+
+    ghost is_clone = { SameGridFsFindOneOptions };
+
+    fn clone(&self) -> Result<GridFsFindOneOptions, AllocError> {
+        let mut copy = GridFsFindOneOptions {
+            max_time: self.max_time,
+            skip: self.skip,
+            sort: None,
+        };
+        copy_given(&self.sort, &mut copy.sort)?;
+        Ok(copy)
     }
 }
 

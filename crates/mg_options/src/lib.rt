@@ -7,6 +7,7 @@ mod collation;
 mod collections;
 mod commands;
 mod concerns;
+mod copy;
 mod field;
 mod find;
 mod full_document;
@@ -29,7 +30,8 @@ pub use collections::{
 };
 pub use commands::{RunCommandOptions, RunCursorCommandOptions};
 pub use concerns::append_concerns;
-pub use field::{Print, append_given};
+pub use copy::copy_given;
+pub use field::{Print, append_given, put_given};
 pub use find::{FindOneOptions, FindOptions};
 pub use full_document::{FullDocumentBeforeChangeType, FullDocumentType};
 pub use grid_fs::{

@@ -15,7 +15,7 @@ ghost use Rattle.mg_options.specs.Values.{part};
 use crate::collation::{
     Collation, CollationAlternate, CollationCaseFirst, CollationMaxVariable, CollationStrength,
 };
-use crate::field::{Print, put_all};
+use crate::field::{Print, put_given};
 use crate::full_document::{FullDocumentBeforeChangeType, FullDocumentType};
 use crate::token::ResumeToken;
 use crate::write_words::{CommitQuorum, Hint};
@@ -297,7 +297,7 @@ fn print_parts(alloc: Global, list: &[(&str, Part<'_>)]) -> Result<Option<Bson>,
     ensures err { IfErr result (λ e. FailsBy (unfit_of (nested (lines part list.now))) e) }
 {
     let mut inside = Document::new(alloc);
-    put_all(alloc, &mut inside, list)?;
+    put_given(alloc, &mut inside, list)?;
     Ok(Some(Bson::Document(inside)))
 }
 

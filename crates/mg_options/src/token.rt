@@ -1,5 +1,7 @@
 //! Resume tokens.
-ghost use Rattle.std.specs.Prelude.{◌≡◌, IfOk, IfErr};
+ghost use Rattle.std.specs.Prelude.{◌≡◌, ◌↔◌, IfOk, IfErr, IsTrue};
+ghost use Rattle.std.specs.Cmp.{decided, partial_equiv_from_equiv};
+ghost use Rattle.mg_bson.specs.Same.{tree_eq, tree_eq-decides};
 ghost use Rattle.mg_bson.specs.View.{tree};
 ghost use Rattle.mg_bson.specs.RawView.{value as raw_value};
 ghost use Rattle.mg_link.specs.Errors.{plain};
@@ -134,4 +136,21 @@ impl Clone for ResumeToken {
         let value = self.value.clone()?;
         Ok(ResumeToken { value })
     }
+}
+
+impl PartialEq for ResumeToken {
+    ghost eq = { tree_eq };
+
+    ghost laws = { partial_equiv_from_equiv (decided tree_eq tree_eq-decides) };
+
+    fn eq(&self, other: &ResumeToken) -> bool
+        ensures value { result ≡ tree_eq self.now other.now }
+        ensures same { IsTrue result ↔ (self.now ≡ other.now) }
+    {
+        self.value == other.value
+    }
+}
+
+impl Eq for ResumeToken {
+    ghost laws = { decided tree_eq tree_eq-decides };
 }

@@ -1,6 +1,8 @@
 //! Words and values of the options of writes and cursors.
 ghost use Rattle.std.specs.Prelude.{◌≡◌, ◌⊎◌, Some, None, IfOk, IfErr, IsTrue, ◌↔◌};
+ghost use Rattle.std.specs.Cmp.{decided, on_equiv, on_per, partial_equiv_from_equiv};
 ghost use Rattle.std.specs.Str.{str_to_ascii_lowercase};
+ghost use Rattle.mg_bson.specs.Same.{tree_eq, tree_eq-decides};
 ghost use Rattle.mg_bson.specs.Tree.{array, document};
 ghost use Rattle.mg_bson.specs.View.{tree};
 ghost use Rattle.mg_link.specs.Errors.{plain};
@@ -151,6 +153,33 @@ impl Clone for Hint {
     }
 }
 
+fn is_same(hint: &Hint, other: &Hint) -> bool
+    ensures { IsTrue result ↔ (hint_value hint.now ≡ hint_value other.now) }
+{
+    match (hint, other) {
+        (Hint::Keys(keys), Hint::Keys(other)) => keys == other,
+        (Hint::Name(name), Hint::Name(other)) => name == other,
+        _ => false,
+    }
+}
+
+impl PartialEq for Hint {
+    ghost eq = { λ a b. tree_eq (hint_value a) (hint_value b) };
+
+    ghost laws = { on_per hint_value (partial_equiv_from_equiv (decided tree_eq tree_eq-decides)) };
+
+    fn eq(&self, other: &Hint) -> bool
+        ensures value { result ≡ tree_eq (hint_value self.now) (hint_value other.now) }
+        ensures same { IsTrue result ↔ (hint_value self.now ≡ hint_value other.now) }
+    {
+        is_same(self, other)
+    }
+}
+
+impl Eq for Hint {
+    ghost laws = { on_equiv hint_value (decided tree_eq tree_eq-decides) };
+}
+
 impl Clone for CommitQuorum {
     ghost is_clone = { λ a b. quorum_members b ≡ quorum_members a };
 
@@ -160,6 +189,22 @@ impl Clone for CommitQuorum {
             CommitQuorum::VotingMembers => CommitQuorum::VotingMembers,
             CommitQuorum::Majority => CommitQuorum::Majority,
             CommitQuorum::Custom(word) => CommitQuorum::Custom(word.clone()?),
+        })
+    }
+}
+
+impl Clone for UpdateModifications {
+    ghost is_clone = { λ a b. modifications_value b ≡ modifications_value a };
+
+    #[tactic(auto, using(crate::proofs::Copying::all_same))]
+    fn clone(&self) -> Result<UpdateModifications, AllocError> {
+        Ok(match self {
+            UpdateModifications::Document(document) => {
+                UpdateModifications::Document(document.clone()?)
+            }
+            UpdateModifications::Pipeline(stages) => {
+                UpdateModifications::Pipeline(stages.clone()?)
+            }
         })
     }
 }

@@ -6,12 +6,13 @@ ghost use Rattle.mg_options.specs.Fields.{FailsBy, fields_in, first_unfit};
 ghost use Rattle.mg_options.specs.Records.{delete_lines, insert_many_lines};
 
 use crate::collation::Collation;
+use crate::copy::copy_given;
 use crate::field::append_given;
 use crate::printing::Value;
 use crate::write_words::Hint;
 use mg_bson::{Bson, Document};
 use mg_link::{Error, WriteConcern};
-use std::alloc::Global;
+use std::alloc::{AllocError, Global};
 
 /// How one document is inserted.
 #[derive(Default)]
@@ -289,6 +290,28 @@ impl DeleteOptions {
     }
 }
 
+impl Clone for DeleteOptions {
+    ghost use Rattle.mg_options.specs.Copies.{SameDeleteOptions};
+
+    ghost is_clone = { SameDeleteOptions };
+
+    fn clone(&self) -> Result<DeleteOptions, AllocError> {
+        let mut copy = DeleteOptions {
+            collation: None,
+            hint: None,
+            let_vars: None,
+            comment: None,
+            write_concern: None,
+        };
+        copy_given(&self.collation, &mut copy.collation)?;
+        copy_given(&self.hint, &mut copy.hint)?;
+        copy_given(&self.let_vars, &mut copy.let_vars)?;
+        copy_given(&self.comment, &mut copy.comment)?;
+        copy_given(&self.write_concern, &mut copy.write_concern)?;
+        Ok(copy)
+    }
+}
+
 impl InsertOneOptions {
     // As the options of an insert of many.
     fn into_many(self) -> InsertManyOptions
@@ -308,11 +331,46 @@ impl InsertOneOptions {
     }
 }
 
+impl Clone for InsertOneOptions {
+    ghost use Rattle.mg_options.specs.Copies.{SameInsertOneOptions};
+
+    ghost is_clone = { SameInsertOneOptions };
+
+    fn clone(&self) -> Result<InsertOneOptions, AllocError> {
+        let mut copy = InsertOneOptions {
+            bypass_document_validation: self.bypass_document_validation,
+            write_concern: None,
+            comment: None,
+        };
+        copy_given(&self.write_concern, &mut copy.write_concern)?;
+        copy_given(&self.comment, &mut copy.comment)?;
+        Ok(copy)
+    }
+}
+
 impl InsertManyOptions {
     /// The options of an insert of one document, for an insert of many.
     pub fn from_insert_one_options(options: InsertOneOptions) -> InsertManyOptions
         ensures { result ≡ insert_of_one options }
     {
         options.into_many()
+    }
+}
+
+impl Clone for InsertManyOptions {
+    ghost use Rattle.mg_options.specs.Copies.{SameInsertManyOptions};
+
+    ghost is_clone = { SameInsertManyOptions };
+
+    fn clone(&self) -> Result<InsertManyOptions, AllocError> {
+        let mut copy = InsertManyOptions {
+            bypass_document_validation: self.bypass_document_validation,
+            ordered: self.ordered,
+            comment: None,
+            write_concern: None,
+        };
+        copy_given(&self.comment, &mut copy.comment)?;
+        copy_given(&self.write_concern, &mut copy.write_concern)?;
+        Ok(copy)
     }
 }

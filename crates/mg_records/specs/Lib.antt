@@ -5,3 +5,4 @@ pub mod Readings
 pub mod Specifications
 pub mod FileRecords
 pub mod ChangeEvents
+pub mod Copies

@@ -33,6 +33,7 @@ impl Drop for ChangeNamespace {
 }
 
 /// An event of a change stream (change streams specification, "Response Format").
+#[derive(PartialEq, Eq)]
 pub struct ChangeStreamEvent<T> {
     /// The token of its place.
     pub id: ResumeToken,

@@ -6,8 +6,8 @@ ghost use Rattle.mg_records.specs.Records.{distinct_lines, estimated_document_co
 
 use mg_bson::{Bson, Document};
 use mg_link::{Error, ReadConcern, SelectionCriteria};
-use mg_options::{Collation, Hint, Value, append_given};
-use std::alloc::Global;
+use mg_options::{Collation, Hint, Value, append_given, copy_given};
+use std::alloc::{AllocError, Global};
 
 /// How documents are counted.
 #[derive(Default)]
@@ -135,6 +135,30 @@ impl CountOptions {
     }
 }
 
+impl Clone for CountOptions {
+    ghost use Rattle.mg_records.specs.Copies.{SameCountOptions};
+
+    ghost is_clone = { SameCountOptions };
+
+    fn clone(&self) -> Result<CountOptions, AllocError> {
+        let mut copy = CountOptions {
+            hint: None,
+            limit: self.limit,
+            max_time: self.max_time,
+            skip: self.skip,
+            collation: None,
+            selection_criteria: self.selection_criteria,
+            read_concern: None,
+            comment: None,
+        };
+        copy_given(&self.hint, &mut copy.hint)?;
+        copy_given(&self.collation, &mut copy.collation)?;
+        copy_given(&self.read_concern, &mut copy.read_concern)?;
+        copy_given(&self.comment, &mut copy.comment)?;
+        Ok(copy)
+    }
+}
+
 /// How the number of documents is estimated.
 #[derive(Default)]
 pub struct EstimatedDocumentCountOptions {
@@ -228,6 +252,24 @@ impl EstimatedDocumentCountOptions {
                 ("comment", Value::Any(&self.comment)),
             ],
         )
+    }
+}
+
+impl Clone for EstimatedDocumentCountOptions {
+    ghost use Rattle.mg_records.specs.Copies.{SameEstimatedDocumentCountOptions};
+
+    ghost is_clone = { SameEstimatedDocumentCountOptions };
+
+    fn clone(&self) -> Result<EstimatedDocumentCountOptions, AllocError> {
+        let mut copy = EstimatedDocumentCountOptions {
+            max_time: self.max_time,
+            comment: None,
+            selection_criteria: self.selection_criteria,
+            read_concern: None,
+        };
+        copy_given(&self.comment, &mut copy.comment)?;
+        copy_given(&self.read_concern, &mut copy.read_concern)?;
+        Ok(copy)
     }
 }
 
@@ -350,5 +392,27 @@ impl DistinctOptions {
                 ("hint", Value::Hint(&self.hint)),
             ],
         )
+    }
+}
+
+impl Clone for DistinctOptions {
+    ghost use Rattle.mg_records.specs.Copies.{SameDistinctOptions};
+
+    ghost is_clone = { SameDistinctOptions };
+
+    fn clone(&self) -> Result<DistinctOptions, AllocError> {
+        let mut copy = DistinctOptions {
+            max_time: self.max_time,
+            collation: None,
+            comment: None,
+            hint: None,
+            selection_criteria: self.selection_criteria,
+            read_concern: None,
+        };
+        copy_given(&self.collation, &mut copy.collation)?;
+        copy_given(&self.comment, &mut copy.comment)?;
+        copy_given(&self.hint, &mut copy.hint)?;
+        copy_given(&self.read_concern, &mut copy.read_concern)?;
+        Ok(copy)
     }
 }

@@ -6,8 +6,8 @@ ghost use Rattle.mg_records.specs.Records.{drop_index_lines};
 
 use mg_bson::{Bson, Document};
 use mg_link::{Error, WriteConcern};
-use mg_options::{Value, append_given};
-use std::alloc::Global;
+use mg_options::{Value, append_given, copy_given};
+use std::alloc::{AllocError, Global};
 
 /// How an index is dropped.
 #[derive(Default)]
@@ -90,5 +90,22 @@ impl DropIndexOptions {
                 ("comment", Value::Any(&self.comment)),
             ],
         )
+    }
+}
+
+impl Clone for DropIndexOptions {
+    ghost use Rattle.mg_records.specs.Copies.{SameDropIndexOptions};
+
+    ghost is_clone = { SameDropIndexOptions };
+
+    fn clone(&self) -> Result<DropIndexOptions, AllocError> {
+        let mut copy = DropIndexOptions {
+            max_time: self.max_time,
+            comment: None,
+            write_concern: None,
+        };
+        copy_given(&self.comment, &mut copy.comment)?;
+        copy_given(&self.write_concern, &mut copy.write_concern)?;
+        Ok(copy)
     }
 }

@@ -1,9 +1,11 @@
 //! The options of changes that give the document back.
 ghost use Rattle.std.specs.Prelude.{◌≡◌, Some, None};
 
+use crate::copy::copy_documents;
 use mg_bson::{Bson, Document};
 use mg_link::WriteConcern;
-use mg_options::{Collation, Hint, ReturnDocument};
+use mg_options::{Collation, Hint, ReturnDocument, copy_given};
+use std::alloc::AllocError;
 
 /// How a document is deleted and given back.
 #[derive(Default)]
@@ -128,6 +130,33 @@ impl FindOneAndDeleteOptions {
         ensures { result ≡ self }
     {
         self
+    }
+}
+
+impl Clone for FindOneAndDeleteOptions {
+    ghost use Rattle.mg_records.specs.Copies.{SameFindOneAndDeleteOptions};
+
+    ghost is_clone = { SameFindOneAndDeleteOptions };
+
+    fn clone(&self) -> Result<FindOneAndDeleteOptions, AllocError> {
+        let mut copy = FindOneAndDeleteOptions {
+            max_time: self.max_time,
+            projection: None,
+            sort: None,
+            write_concern: None,
+            collation: None,
+            hint: None,
+            let_vars: None,
+            comment: None,
+        };
+        copy_given(&self.projection, &mut copy.projection)?;
+        copy_given(&self.sort, &mut copy.sort)?;
+        copy_given(&self.write_concern, &mut copy.write_concern)?;
+        copy_given(&self.collation, &mut copy.collation)?;
+        copy_given(&self.hint, &mut copy.hint)?;
+        copy_given(&self.let_vars, &mut copy.let_vars)?;
+        copy_given(&self.comment, &mut copy.comment)?;
+        Ok(copy)
     }
 }
 
@@ -290,6 +319,36 @@ impl FindOneAndReplaceOptions {
         ensures { result ≡ self }
     {
         self
+    }
+}
+
+impl Clone for FindOneAndReplaceOptions {
+    ghost use Rattle.mg_records.specs.Copies.{SameFindOneAndReplaceOptions};
+
+    ghost is_clone = { SameFindOneAndReplaceOptions };
+
+    fn clone(&self) -> Result<FindOneAndReplaceOptions, AllocError> {
+        let mut copy = FindOneAndReplaceOptions {
+            bypass_document_validation: self.bypass_document_validation,
+            max_time: self.max_time,
+            projection: None,
+            return_document: self.return_document,
+            sort: None,
+            upsert: self.upsert,
+            write_concern: None,
+            collation: None,
+            hint: None,
+            let_vars: None,
+            comment: None,
+        };
+        copy_given(&self.projection, &mut copy.projection)?;
+        copy_given(&self.sort, &mut copy.sort)?;
+        copy_given(&self.write_concern, &mut copy.write_concern)?;
+        copy_given(&self.collation, &mut copy.collation)?;
+        copy_given(&self.hint, &mut copy.hint)?;
+        copy_given(&self.let_vars, &mut copy.let_vars)?;
+        copy_given(&self.comment, &mut copy.comment)?;
+        Ok(copy)
     }
 }
 
@@ -464,5 +523,37 @@ impl FindOneAndUpdateOptions {
         ensures { result ≡ self }
     {
         self
+    }
+}
+
+impl Clone for FindOneAndUpdateOptions {
+    ghost use Rattle.mg_records.specs.Copies.{SameFindOneAndUpdateOptions};
+
+    ghost is_clone = { SameFindOneAndUpdateOptions };
+
+    fn clone(&self) -> Result<FindOneAndUpdateOptions, AllocError> {
+        let mut copy = FindOneAndUpdateOptions {
+            array_filters: None,
+            bypass_document_validation: self.bypass_document_validation,
+            max_time: self.max_time,
+            projection: None,
+            return_document: self.return_document,
+            sort: None,
+            upsert: self.upsert,
+            write_concern: None,
+            collation: None,
+            hint: None,
+            let_vars: None,
+            comment: None,
+        };
+        copy_documents(&self.array_filters, &mut copy.array_filters)?;
+        copy_given(&self.projection, &mut copy.projection)?;
+        copy_given(&self.sort, &mut copy.sort)?;
+        copy_given(&self.write_concern, &mut copy.write_concern)?;
+        copy_given(&self.collation, &mut copy.collation)?;
+        copy_given(&self.hint, &mut copy.hint)?;
+        copy_given(&self.let_vars, &mut copy.let_vars)?;
+        copy_given(&self.comment, &mut copy.comment)?;
+        Ok(copy)
     }
 }

@@ -20,7 +20,7 @@ pub use change_event::{ChangeNamespace, ChangeStreamEvent};
 pub use count::{CountOptions, DistinctOptions, EstimatedDocumentCountOptions};
 pub use drop_index::DropIndexOptions;
 pub use event_words::{ChangeNamespaceType, OperationType};
-pub use file_record::FilesCollectionDocument;
+pub use file_record::{FilesCollectionDocument, last_number};
 pub use find_and_modify::{
     FindOneAndDeleteOptions, FindOneAndReplaceOptions, FindOneAndUpdateOptions,
 };

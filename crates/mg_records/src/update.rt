@@ -2,9 +2,11 @@
 ghost use Rattle.std.specs.Prelude.{◌≡◌, Some, None};
 ghost use Rattle.mg_records.specs.Conversions.{update_of_replace};
 
+use crate::copy::copy_documents;
 use mg_bson::{Bson, Document};
 use mg_link::WriteConcern;
-use mg_options::{Collation, Hint};
+use mg_options::{Collation, Hint, copy_given};
+use std::alloc::AllocError;
 
 /// How documents are updated.
 #[derive(Default)]
@@ -299,11 +301,65 @@ impl ReplaceOptions {
     }
 }
 
+impl Clone for ReplaceOptions {
+    ghost use Rattle.mg_records.specs.Copies.{SameReplaceOptions};
+
+    ghost is_clone = { SameReplaceOptions };
+
+    fn clone(&self) -> Result<ReplaceOptions, AllocError> {
+        let mut copy = ReplaceOptions {
+            bypass_document_validation: self.bypass_document_validation,
+            upsert: self.upsert,
+            collation: None,
+            hint: None,
+            write_concern: None,
+            let_vars: None,
+            comment: None,
+            sort: None,
+        };
+        copy_given(&self.collation, &mut copy.collation)?;
+        copy_given(&self.hint, &mut copy.hint)?;
+        copy_given(&self.write_concern, &mut copy.write_concern)?;
+        copy_given(&self.let_vars, &mut copy.let_vars)?;
+        copy_given(&self.comment, &mut copy.comment)?;
+        copy_given(&self.sort, &mut copy.sort)?;
+        Ok(copy)
+    }
+}
+
 impl UpdateOptions {
     /// The options of a replacement, for an update.
     pub fn from_replace_options(options: ReplaceOptions) -> UpdateOptions
         ensures { result ≡ update_of_replace options }
     {
         options.into_update()
+    }
+}
+
+impl Clone for UpdateOptions {
+    ghost use Rattle.mg_records.specs.Copies.{SameUpdateOptions};
+
+    ghost is_clone = { SameUpdateOptions };
+
+    fn clone(&self) -> Result<UpdateOptions, AllocError> {
+        let mut copy = UpdateOptions {
+            array_filters: None,
+            bypass_document_validation: self.bypass_document_validation,
+            upsert: self.upsert,
+            collation: None,
+            hint: None,
+            write_concern: None,
+            let_vars: None,
+            comment: None,
+            sort: None,
+        };
+        copy_documents(&self.array_filters, &mut copy.array_filters)?;
+        copy_given(&self.collation, &mut copy.collation)?;
+        copy_given(&self.hint, &mut copy.hint)?;
+        copy_given(&self.write_concern, &mut copy.write_concern)?;
+        copy_given(&self.let_vars, &mut copy.let_vars)?;
+        copy_given(&self.comment, &mut copy.comment)?;
+        copy_given(&self.sort, &mut copy.sort)?;
+        Ok(copy)
     }
 }

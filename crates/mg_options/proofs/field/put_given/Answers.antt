@@ -1,7 +1,7 @@
 use Rattle.mg_bson.specs.Find.{joined}
 use Rattle.mg_options.specs.Fields.{fields_in, first_unfit, lines}
 use Rattle.mg_options.proofs.Fielding.{field_on, field_end}
-use Rattle.mg_options.proofs.field.put_all.Goals as goal
+use Rattle.mg_options.proofs.field.put_given.Goals as goal
 
 pub loop-field-preserved : goal.loop-field-preserved
 loop-field-preserved g c =

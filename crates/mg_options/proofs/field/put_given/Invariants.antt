@@ -1,7 +1,7 @@
 use Rattle.std.proofs.Common.{◌≡◌, drop}
 use Rattle.mg_bson.specs.Find.{joined}
 use Rattle.mg_options.specs.Fields.{fields_in, first_unfit, lines}
-use Rattle.mg_options.proofs.field.put_all.Given as goal
+use Rattle.mg_options.proofs.field.put_given.Given as goal
 
 abbrev pub invariant-loop-field : goal.invariant-loop-field
 invariant-loop-field g l =
