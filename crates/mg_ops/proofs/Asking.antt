@@ -1,22 +1,31 @@
 -- What built commands ask for.
-use Rattle.std.proofs.Common.{◌≡◌, ℕ, ℤ, Bool, true, false, List, [], ◌∷◌, Option, Some, None, refl, ap, ◌∙◌, option_map}
+use Rattle.std.proofs.Common.{◌≡◌, ◌++◌, ℕ, ℤ, Bool, true, false, List, [], ◌∷◌, Option, Some, None, refl, ap, sym, ◌∙◌, option_map}
 use Rattle.std.specs.Prelude.{codes, option_and_then, unwrap_or, if◌then◌else◌}
 use Rattle.std.specs.Str.{bytes_eq}
-use Rattle.mg_bson.specs.Tree.{Tree, string, document, int64, boolean, Fields}
-use Rattle.mg_bson.specs.Find.{as_boolean, get, as_array}
+use Rattle.mg_bson.specs.Tree.{Tree, string, document, array, int64, boolean, Fields, item}
+use Rattle.mg_bson.specs.Find.{as_boolean, get, as_array, joined}
 use Rattle.mg_bson.specs.Literal.{◌⇒◌⨾◌, empty}
 use Rattle.mg_bson.specs.Raw.{fields}
+use Rattle.mg_bson.specs.View.{tree}
+use Rattle.mg_bson.proofs.Joining.{joined_all}
 use Rattle.mg_link.specs.Namespace.{Space, Target, database, collection, cluster}
 use Rattle.mg_link.specs.Filter.{Condition}
 use Rattle.mg_link.specs.Query.{Query}
+use Rattle.mg_link.specs.Session.{Session}
 use Rattle.mg_link.specs.State.{Start}
 use Rattle.mg_link.specs.Commands.{Asked, asked, asked_by, asks_insert, asks_kill, asks_more, asks_other, asks_watch, documents_in, filter_stages, insert_of, integers_in, is_cluster, kill_of, more_of, space_at, start_of, watch_of, or_asks, pipeline_query, piped, stages_in, asks_query, has_only, pipeline_fields}
+use Rattle.mg_options.specs.Fields.{Line, shown, given, fields_in, ◌⟼◌⨾◌, nothing}
 use Rattle.mg_options.specs.Given.{before, ◌⇢◌⨾◌}
 use Rattle.mg_options.specs.Options.{change_stream_fields, time_value}
+use Rattle.mg_options.specs.Shown.{write_concern}
 use Rattle.mg_options.specs.declared.change_stream.ChangeStreamOptions.{ChangeStreamOptions}
-use Rattle.mg_ops.specs.Commands.{asked_size, get_more_command, insert_command, kill_command, listed, more_command, wait_value, watch_command}
+use Rattle.mg_options.specs.declared.writes.InsertManyOptions.{InsertManyOptions}
+use Rattle.mg_ops.specs.Commands.{aggregate_on, asked_size, cursor_fields, database_of, get_more_command, insert_command, kill_command, listed, more_command, wait_value, watch_command, watch_stage}
 use Rattle.mg_ops.specs.Aims.{Aim, aim, aim_of, asked_for}
+use Rattle.mg_ops.specs.Bodies.{always, insert_body, is_ordered, text}
 use Rattle.mg_ops.specs.Naming.{IsNamed, start_in, watches_all}
+use Rattle.mg_ops.specs.Plain.{plain_insert}
+use Rattle.mg_ops.specs.Sessions.{in_session, session_lines}
 use Rattle.mg_bson.specs.Reading.{◌>>=◌}
 
 -- ---- lists in arrays
@@ -79,27 +88,37 @@ flag_of (Some b) = refl
 cluster_is : (o : ChangeStreamOptions) → is_cluster (change_stream_fields o) ≡ watches_all o
 cluster_is o = ap (λ t. unwrap_or (option_and_then as_boolean t) false) (all_changes_in o) ∙ flag_of o.all_changes_for_cluster
 
--- ---- commands
+-- ---- commands, with whatever stands behind their database
 
-insert_by : (space : Space) (ds : List Fields) → IsNamed space → asked_by (insert_command space ds) ≡ Some (asks_insert space ds true)
+-- an insert, with what may be left out
+abbrev inserting : Space → List Fields → Bool → Option Tree → Option Tree → List Line → List Line
+inserting space ds ordered t u ls = "insert" ⟼ text space.coll ⨾ "documents" ⟼ shown (array (listed document ds)) ⨾ "ordered" ⟼ always ordered ⨾ "bypassDocumentValidation" ⟼ given t ⨾ "comment" ⟼ given u ⨾ "$db" ⟼ text space.db ⨾ ls
+
+insert_by : (space : Space) (ds : List Fields) (ordered : Bool) (t u : Option Tree) (ls : List Line) → IsNamed space → asked_by (fields_in (inserting space ds ordered t u ls)) ≡ Some (asks_insert space ds ordered)
 unfolding insert_of space_at
-insert_by space ds named = rw (named.db, named.coll, documents_listed ds) refl
+insert_by space ds ordered None None ls named = rw (named.db, named.coll, documents_listed ds) refl
+insert_by space ds ordered None (Some u) ls named = rw (named.db, named.coll, documents_listed ds) refl
+insert_by space ds ordered (Some t) None ls named = rw (named.db, named.coll, documents_listed ds) refl
+insert_by space ds ordered (Some t) (Some u) ls named = rw (named.db, named.coll, documents_listed ds) refl
 
-next_by : (id : ℤ) (space : Space) (t u v : Option Tree) → IsNamed space
-    → asked_by ("getMore" ⇒ int64 id ⨾ "collection" ⇒ string space.coll ⨾ "batchSize" ⇢ t ⨾ "maxTimeMS" ⇢ u ⨾ "comment" ⇢ v ⨾ "$db" ⇒ string space.db ⨾ empty) ≡ Some (asks_more id space)
+-- a getMore, with what may be left out
+abbrev asking : ℤ → Space → Option Tree → Option Tree → Option Tree → Fields
+asking id space t u v = "getMore" ⇒ int64 id ⨾ "collection" ⇒ string space.coll ⨾ "batchSize" ⇢ t ⨾ "maxTimeMS" ⇢ u ⨾ "comment" ⇢ v ⨾ "$db" ⇒ string space.db ⨾ empty
+
+next_by : (id : ℤ) (space : Space) (t u v : Option Tree) (rest : Fields) → IsNamed space → asked_by (joined (asking id space t u v) rest) ≡ Some (asks_more id space)
 unfolding more_of space_at
-next_by id space None None None named = rw (named.db, named.coll) refl
-next_by id space None None (Some v) named = rw (named.db, named.coll) refl
-next_by id space None (Some u) None named = rw (named.db, named.coll) refl
-next_by id space None (Some u) (Some v) named = rw (named.db, named.coll) refl
-next_by id space (Some t) None None named = rw (named.db, named.coll) refl
-next_by id space (Some t) None (Some v) named = rw (named.db, named.coll) refl
-next_by id space (Some t) (Some u) None named = rw (named.db, named.coll) refl
-next_by id space (Some t) (Some u) (Some v) named = rw (named.db, named.coll) refl
+next_by id space None None None rest named = rw (named.db, named.coll) refl
+next_by id space None None (Some v) rest named = rw (named.db, named.coll) refl
+next_by id space None (Some u) None rest named = rw (named.db, named.coll) refl
+next_by id space None (Some u) (Some v) rest named = rw (named.db, named.coll) refl
+next_by id space (Some t) None None rest named = rw (named.db, named.coll) refl
+next_by id space (Some t) None (Some v) rest named = rw (named.db, named.coll) refl
+next_by id space (Some t) (Some u) None rest named = rw (named.db, named.coll) refl
+next_by id space (Some t) (Some u) (Some v) rest named = rw (named.db, named.coll) refl
 
-kill_by : (space : Space) (ids : List ℤ) → asked_by (kill_command space ids) ≡ Some (asks_kill ids)
+kill_by : (space : Space) (ids : List ℤ) (rest : Fields) → asked_by ("killCursors" ⇒ string space.coll ⨾ "cursors" ⇒ array (listed int64 ids) ⨾ "$db" ⇒ string space.db ⨾ rest) ≡ Some (asks_kill ids)
 unfolding kill_of
-kill_by space ids = rw (integers_listed ids) refl
+kill_by space ids rest = rw (integers_listed ids) refl
 
 -- what is found in turn: a filter, a start and a target
 watched_of : (f : Option (List Condition)) (s : Option Start) (t : Option Target)
@@ -110,12 +129,17 @@ watched_of (Some f) None t = refl
 watched_of (Some f) (Some s) None = refl
 watched_of (Some f) (Some s) (Some t) = refl
 
-watch_found : (target : Target) (stages : List Fields) (o : ChangeStreamOptions)
-    → watch_of (watch_command target stages o) ≡ option_map (λ (a : Aim). asks_watch a.watch a.start) (aim_of target stages o)
+-- the aggregate of a watch
+abbrev watching : Target → List Fields → ChangeStreamOptions → Fields → Fields
+watching target stages o rest =
+    "aggregate" ⇒ aggregate_on target ⨾ "pipeline" ⇒ array (item (document (watch_stage o)) (listed document stages)) ⨾ "cursor" ⇒ document (cursor_fields o.batch_size) ⨾ "$db" ⇒ string (database_of target) ⨾ rest
+
+watch_found : (target : Target) (stages : List Fields) (o : ChangeStreamOptions) (rest : Fields)
+    → watch_of (watching target stages o rest) ≡ option_map (λ (a : Aim). asks_watch a.watch a.start) (aim_of target stages o)
 unfolding watch_of
-watch_found (collection space) stages o = rw (documents_listed stages, start_is o) (watched_of (filter_stages stages) (start_in o) (aim o (collection space)))
-watch_found (database db) stages o = rw (documents_listed stages, start_is o, cluster_is o) (watched_of (filter_stages stages) (start_in o) (aim o (database db)))
-watch_found cluster stages o = rw (documents_listed stages, start_is o, cluster_is o) (watched_of (filter_stages stages) (start_in o) (aim o cluster))
+watch_found (collection space) stages o rest = rw (documents_listed stages, start_is o) (watched_of (filter_stages stages) (start_in o) (aim o (collection space)))
+watch_found (database db) stages o rest = rw (documents_listed stages, start_is o, cluster_is o) (watched_of (filter_stages stages) (start_in o) (aim o (database db)))
+watch_found cluster stages o rest = rw (documents_listed stages, start_is o, cluster_is o) (watched_of (filter_stages stages) (start_in o) (aim o cluster))
 
 never_by : (b : Bool) (s : Option Space) (f : Space → Option Query) → ((space : Space) → f space ≡ None) → (if b then option_map asks_query (s >>= f) else None) ≡ None
 never_by true None f h = refl
@@ -126,52 +150,87 @@ not_piped : (fs : Fields) (o : ChangeStreamOptions) (stages : List Fields) (at :
 not_piped fs o stages at = rw (documents_listed stages) refl
 
 -- the stage that opens a watch is none of a query
-no_query : (target : Target) (stages : List Fields) (o : ChangeStreamOptions) → pipeline_query (watch_command target stages o) ≡ None
+no_query : (target : Target) (stages : List Fields) (o : ChangeStreamOptions) (rest : Fields) → pipeline_query (watching target stages o rest) ≡ None
 unfolding pipeline_query
-no_query (collection space) stages o =
-    let fs : Fields = watch_command (collection space) stages o in
+no_query (collection space) stages o rest =
+    let fs : Fields = watching (collection space) stages o rest in
     never_by (has_only pipeline_fields fs) (space_at (codes "aggregate") fs) (piped fs (stages_in fs)) (not_piped fs o stages)
-no_query (database db) stages o =
-    let fs : Fields = watch_command (database db) stages o in
+no_query (database db) stages o rest =
+    let fs : Fields = watching (database db) stages o rest in
     never_by (has_only pipeline_fields fs) (space_at (codes "aggregate") fs) (piped fs (stages_in fs)) (not_piped fs o stages)
-no_query cluster stages o =
-    let fs : Fields = watch_command cluster stages o in
+no_query cluster stages o rest =
+    let fs : Fields = watching cluster stages o rest in
     never_by (has_only pipeline_fields fs) (space_at (codes "aggregate") fs) (piped fs (stages_in fs)) (not_piped fs o stages)
 
 or_none : (o : Option Asked) → or_asks o None ≡ o
 or_none None = refl
 or_none (Some a) = refl
 
-asked_aggregate : (target : Target) (stages : List Fields) (o : ChangeStreamOptions) → asked_by (watch_command target stages o) ≡ or_asks (watch_of (watch_command target stages o)) (pipeline_query (watch_command target stages o))
-asked_aggregate (collection space) stages o = refl
-asked_aggregate (database db) stages o = refl
-asked_aggregate cluster stages o = refl
+asked_aggregate : (target : Target) (stages : List Fields) (o : ChangeStreamOptions) (rest : Fields)
+    → asked_by (watching target stages o rest) ≡ or_asks (watch_of (watching target stages o rest)) (pipeline_query (watching target stages o rest))
+asked_aggregate (collection space) stages o rest = refl
+asked_aggregate (database db) stages o rest = refl
+asked_aggregate cluster stages o rest = refl
 
-watch_by : (target : Target) (stages : List Fields) (o : ChangeStreamOptions)
-    → asked_by (watch_command target stages o) ≡ option_map (λ (a : Aim). asks_watch a.watch a.start) (aim_of target stages o)
-watch_by target stages o =
-    asked_aggregate target stages o ∙ ap (or_asks (watch_of (watch_command target stages o))) (no_query target stages o) ∙ or_none (watch_of (watch_command target stages o)) ∙ watch_found target stages o
+watch_by : (target : Target) (stages : List Fields) (o : ChangeStreamOptions) (rest : Fields)
+    → asked_by (watching target stages o rest) ≡ option_map (λ (a : Aim). asks_watch a.watch a.start) (aim_of target stages o)
+watch_by target stages o rest =
+    asked_aggregate target stages o rest ∙ ap (or_asks (watch_of (watching target stages o rest))) (no_query target stages o rest) ∙ or_none (watch_of (watching target stages o rest)) ∙ watch_found target stages o rest
 
 pub as_asked : (command : List ℕ) (fs : Fields) (a : Asked) → fields command ≡ fs → asked_by fs ≡ Some a → asked command ≡ a
 unfolding asked
 as_asked command fs a e by = ap (λ gs. unwrap_or (asked_by gs) asks_other) e ∙ ap (λ b. unwrap_or b asks_other) by
 
-pub asks_to_insert : (command : List ℕ) (space : Space) (ds : List Fields) → IsNamed space → fields command ≡ insert_command space ds → asked command ≡ asks_insert space ds true
-asks_to_insert command space ds named e = as_asked command (insert_command space ds) (asks_insert space ds true) e (insert_by space ds named)
-
-pub asks_for_next : (command : List ℕ) (id : ℤ) (space : Space) (size time : Option ℕ) (comment : Option Tree) → IsNamed space → fields command ≡ more_command id space size time comment → asked command ≡ asks_more id space
-asks_for_next command id space size time comment named e = as_asked command (more_command id space size time comment) (asks_more id space) e (next_by id space (asked_size size) (option_map wait_value time) comment named)
-
-pub asks_for_more : (command : List ℕ) (id : ℤ) (space : Space) (size : Option ℕ) → IsNamed space → fields command ≡ get_more_command id space size → asked command ≡ asks_more id space
-asks_for_more command id space size named e = asks_for_next command id space size None None named e
-
-pub asks_to_kill : (command : List ℕ) (space : Space) (ids : List ℤ) → fields command ≡ kill_command space ids → asked command ≡ asks_kill ids
-asks_to_kill command space ids e = as_asked command (kill_command space ids) (asks_kill ids) e (kill_by space ids)
-
 unwrapped : (a : Option Aim) → unwrap_or (option_map (λ (a : Aim). asks_watch a.watch a.start) a) asks_other ≡ asked_for a
 unwrapped None = refl
 unwrapped (Some a) = refl
 
-pub asks_as_aimed : (command : List ℕ) (target : Target) (stages : List Fields) (o : ChangeStreamOptions) → fields command ≡ watch_command target stages o → asked command ≡ asked_for (aim_of target stages o)
+as_aimed : (command : List ℕ) (fs : Fields) (a : Option Aim) → fields command ≡ fs → asked_by fs ≡ option_map (λ (a : Aim). asks_watch a.watch a.start) a → asked command ≡ asked_for a
 unfolding asked
-asks_as_aimed command target stages o e = ap (λ gs. unwrap_or (asked_by gs) asks_other) e ∙ ap (λ b. unwrap_or b asks_other) (watch_by target stages o) ∙ unwrapped (aim_of target stages o)
+as_aimed command fs a e by = ap (λ gs. unwrap_or (asked_by gs) asks_other) e ∙ ap (λ b. unwrap_or b asks_other) by ∙ unwrapped a
+
+-- ---- in any session
+
+-- the fields of a session
+abbrev session_fields : Session → Fields
+session_fields s = fields_in (session_lines (Some s))
+
+pub asks_to_insert_in : (command : List ℕ) (space : Space) (ds : List Fields) (o : InsertManyOptions) (session : Option Session) → IsNamed space
+    → fields command ≡ fields_in (insert_body space ds o session) → asked command ≡ asks_insert space ds (is_ordered o.ordered)
+asks_to_insert_in command space ds o session named e =
+    as_asked command (fields_in (insert_body space ds o session)) (asks_insert space ds (is_ordered o.ordered)) e
+    (insert_by space ds (is_ordered o.ordered) (option_map boolean o.bypass_document_validation) (option_map tree o.comment) (session_lines session ++ ("writeConcern" ⟼ write_concern o.write_concern ⨾ nothing)) named)
+
+pub asks_for_next_in : (command : List ℕ) (id : ℤ) (space : Space) (size time : Option ℕ) (comment : Option Tree) (session : Option Session) → IsNamed space
+    → fields command ≡ in_session session (more_command id space size time comment) → asked command ≡ asks_more id space
+asks_for_next_in command id space size time comment None named e =
+    let fs : Fields = asking id space (asked_size size) (option_map wait_value time) comment in
+    as_asked command fs (asks_more id space) e (ap asked_by (sym (joined_all fs)) ∙ next_by id space (asked_size size) (option_map wait_value time) comment empty named)
+asks_for_next_in command id space size time comment (Some s) named e =
+    as_asked command (in_session (Some s) (more_command id space size time comment)) (asks_more id space) e (next_by id space (asked_size size) (option_map wait_value time) comment (session_fields s) named)
+
+pub asks_for_more_in : (command : List ℕ) (id : ℤ) (space : Space) (size : Option ℕ) (session : Option Session) → IsNamed space → fields command ≡ in_session session (get_more_command id space size) → asked command ≡ asks_more id space
+asks_for_more_in command id space size session named e = asks_for_next_in command id space size None None session named e
+
+pub asks_to_kill_in : (command : List ℕ) (space : Space) (ids : List ℤ) (session : Option Session) → fields command ≡ in_session session (kill_command space ids) → asked command ≡ asks_kill ids
+asks_to_kill_in command space ids None e = as_asked command (kill_command space ids) (asks_kill ids) e (kill_by space ids empty)
+asks_to_kill_in command space ids (Some s) e = as_asked command (in_session (Some s) (kill_command space ids)) (asks_kill ids) e (kill_by space ids (session_fields s))
+
+pub asks_as_aimed_in : (command : List ℕ) (target : Target) (stages : List Fields) (o : ChangeStreamOptions) (session : Option Session) → fields command ≡ in_session session (watch_command target stages o)
+    → asked command ≡ asked_for (aim_of target stages o)
+asks_as_aimed_in command target stages o None e = as_aimed command (watch_command target stages o) (aim_of target stages o) e (watch_by target stages o empty)
+asks_as_aimed_in command target stages o (Some s) e = as_aimed command (in_session (Some s) (watch_command target stages o)) (aim_of target stages o) e (watch_by target stages o (session_fields s))
+
+-- ---- without a session
+
+pub asks_to_insert : (command : List ℕ) (space : Space) (ds : List Fields) → IsNamed space → fields command ≡ insert_command space ds → asked command ≡ asks_insert space ds true
+asks_to_insert command space ds named e = asks_to_insert_in command space ds plain_insert None named e
+
+pub asks_for_more : (command : List ℕ) (id : ℤ) (space : Space) (size : Option ℕ) → IsNamed space → fields command ≡ get_more_command id space size → asked command ≡ asks_more id space
+asks_for_more command id space size named e = asks_for_more_in command id space size None named e
+
+pub asks_to_kill : (command : List ℕ) (space : Space) (ids : List ℤ) → fields command ≡ kill_command space ids → asked command ≡ asks_kill ids
+asks_to_kill command space ids e = asks_to_kill_in command space ids None e
+
+pub asks_as_aimed : (command : List ℕ) (target : Target) (stages : List Fields) (o : ChangeStreamOptions) → fields command ≡ watch_command target stages o → asked command ≡ asked_for (aim_of target stages o)
+asks_as_aimed command target stages o e = asks_as_aimed_in command target stages o None e

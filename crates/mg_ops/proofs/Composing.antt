@@ -35,6 +35,9 @@ fails_first (line k absent ∷ ls) ms e fails = fails_first ls ms e fails
 fails_first (line k (shown t) ∷ ls) ms e fails = fails_first ls ms e fails
 fails_first (line k (unfit a) ∷ ls) ms e fails = fails
 
+pub nothing_put : (d : Fields) → d ≡ joined d no_fields
+nothing_put d = sym (joined_all d)
+
 -- ---- an array of one document
 
 one_fits : (ls : List Line) → first_unfit ls ≡ None → one_of ls ≡ shown (array (item (document (fields_in ls)) no_items))

@@ -3,4 +3,7 @@ pub mod Asking
 pub mod Replying
 pub mod AskingMore
 pub mod Composing
+pub mod Sessions
 pub mod Failed
+pub mod Inserting
+pub mod Unread

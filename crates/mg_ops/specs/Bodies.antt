@@ -5,6 +5,7 @@ use Rattle.std.specs.Str.{bytes_eq}
 use Rattle.mg_bson.specs.Tree.{string, document, array, int32, Fields, no_fields, field}
 use Rattle.mg_bson.specs.Find.{names}
 use Rattle.mg_link.specs.Namespace.{Space, Target}
+use Rattle.mg_link.specs.Session.{Session}
 use Rattle.mg_link.specs.declared.concern.ReadConcern.{ReadConcern}
 use Rattle.mg_link.specs.declared.concern.WriteConcern.{WriteConcern}
 use Rattle.mg_link.specs.declared.read_preference.SelectionCriteria.{SelectionCriteria}
@@ -22,8 +23,10 @@ use Rattle.mg_options.specs.declared.write_words.CursorType.{CursorType}
 use Rattle.mg_options.specs.declared.write_words.CursorType.TheVariants as cursors
 use Rattle.mg_options.specs.declared.write_words.UpdateModifications.{UpdateModifications}
 use Rattle.mg_options.specs.declared.writes.DeleteOptions.{DeleteOptions}
+use Rattle.mg_options.specs.declared.writes.InsertManyOptions.{InsertManyOptions}
 use Rattle.mg_ops.specs.Commands.{aggregate_on, database_of, listed}
-use Rattle.mg_ops.specs.Pieces.{cursor_of_size, index_name, one_of}
+use Rattle.mg_ops.specs.Pieces.{cursor_of_size, index_name, one_of, only_true}
+use Rattle.mg_ops.specs.Sessions.{end_of}
 
 -- values that are always there: a text, a number, a document and a flag
 abbrev pub text : List ℕ → Shown
@@ -35,21 +38,16 @@ number z = shown (int32 z)
 abbrev pub whole : Fields → Shown
 whole d = shown (document d)
 
--- a flag that is left out where it does not hold
-abbrev pub only_true : Bool → Option Bool
-only_true true = Some true
-only_true false = None
-
 abbrev pub always : Bool → Shown
 always b = flag (Some b)
 
--- what stands behind the body of a read: its database, what is read, and who may be asked
-abbrev pub behind_read : List ℕ → Option ReadConcern → Option SelectionCriteria → List Line
-behind_read db reads asks = "$db" ⟼ text db ⨾ "readConcern" ⟼ read_concern reads ⨾ "$readPreference" ⟼ selection asks ⨾ nothing
+-- what stands behind the body of a read: its database and its session, what is read, and who may be asked
+abbrev pub behind_read : List ℕ → Option Session → Option ReadConcern → Option SelectionCriteria → List Line
+behind_read db session reads asks = end_of (text db) session ("readConcern" ⟼ read_concern reads ⨾ "$readPreference" ⟼ selection asks ⨾ nothing)
 
--- what stands behind the body of a write: its database, and how far the write is to come
-abbrev pub behind_write : List ℕ → Option WriteConcern → List Line
-behind_write db writes = "$db" ⟼ text db ⨾ "writeConcern" ⟼ write_concern writes ⨾ nothing
+-- what stands behind the body of a write: its database and its session, and how far the write is to come
+abbrev pub behind_write : List ℕ → Option Session → Option WriteConcern → List Line
+behind_write db session writes = end_of (text db) session ("writeConcern" ⟼ write_concern writes ⨾ nothing)
 
 -- ---- finds
 
@@ -82,15 +80,15 @@ abbrev pub find_size : FindOptions → Option ℕ
 find_size o = option_map (raised o.limit) o.batch_size
 
 -- finds documents; who asks for a single batch or a cursor that stays open says so first
-abbrev pub find_body : Space → Fields → FindOptions → List Line
-find_body space filter o =
+abbrev pub find_body : Space → Fields → FindOptions → Option Session → List Line
+find_body space filter o session =
     ("find" ⟼ text space.coll
     ⨾ "singleBatch" ⟼ flag (only_true (is_single o.limit))
     ⨾ "tailable" ⟼ flag (only_true (is_tailable o.cursor_type))
     ⨾ "awaitData" ⟼ flag (only_true (awaits_data o.cursor_type))
     ⨾ nothing)
     ++ (find_lines (record o { batch_size = find_size o })
-    ++ ("filter" ⟼ whole filter ⨾ behind_read space.db o.read_concern o.selection_criteria))
+    ++ ("filter" ⟼ whole filter ⨾ behind_read space.db session o.read_concern o.selection_criteria))
 
 -- ---- aggregates
 
@@ -109,14 +107,14 @@ abbrev pub writes_out : List Fields → Bool
 writes_out stages = writes_by false stages
 
 -- runs documents through a pipeline; the size of its batches stands in the field `cursor`, which is always there
-abbrev pub aggregate_body : Target → List Fields → AggregateOptions → List Line
-aggregate_body target pipeline o =
+abbrev pub aggregate_body : Target → List Fields → AggregateOptions → Option Session → List Line
+aggregate_body target pipeline o session =
     ("aggregate" ⟼ shown (aggregate_on target)
     ⨾ "pipeline" ⟼ shown (array (listed document pipeline))
     ⨾ "cursor" ⟼ cursor_of_size (writes_out pipeline) o.batch_size
     ⨾ nothing)
     ++ (aggregate_lines (record o { batch_size = None })
-    ++ ("$db" ⟼ text (database_of target) ⨾ concern_lines o.read_concern o.write_concern o.selection_criteria))
+    ++ end_of (text (database_of target)) session (concern_lines o.read_concern o.write_concern o.selection_criteria))
 
 -- ---- lists of collections and indexes
 
@@ -135,26 +133,41 @@ selects_by_name None = true
 selects_by_name (Some filter) = names_alone filter
 
 -- lists collections; names alone are listed only where nothing else is needed to select them
-abbrev pub list_collections_body : List ℕ → Bool → ListCollectionsOptions → List Line
-list_collections_body db name_only o =
+abbrev pub list_collections_body : List ℕ → Bool → ListCollectionsOptions → Option Session → List Line
+list_collections_body db name_only o session =
     ("listCollections" ⟼ number (pos 1)
     ⨾ "nameOnly" ⟼ always (name_only && selects_by_name o.filter)
     ⨾ nothing)
-    ++ (list_collections_lines o ++ ("$db" ⟼ text db ⨾ nothing))
+    ++ (list_collections_lines o ++ end_of (text db) session nothing)
 
 -- lists indexes
-abbrev pub list_indexes_body : Space → ListIndexesOptions → List Line
-list_indexes_body space o =
+abbrev pub list_indexes_body : Space → ListIndexesOptions → Option Session → List Line
+list_indexes_body space o session =
     ("listIndexes" ⟼ text space.coll ⨾ "cursor" ⟼ cursor o.batch_size ⨾ nothing)
-    ++ (list_indexes_lines o ++ ("$db" ⟼ text space.db ⨾ nothing))
+    ++ (list_indexes_lines o ++ end_of (text space.db) session nothing)
 
 -- ---- commands that are given as documents
 
 -- what stands behind such a command
-abbrev pub run_lines : List ℕ → Option SelectionCriteria → List Line
-run_lines db asks = "$db" ⟼ text db ⨾ "$readPreference" ⟼ selection asks ⨾ nothing
+abbrev pub run_lines : List ℕ → Option SelectionCriteria → Option Session → List Line
+run_lines db asks session = end_of (text db) session ("$readPreference" ⟼ selection asks ⨾ nothing)
 
 -- ---- writes
+
+-- a write that fails ends an insert, unless it is said otherwise
+abbrev pub is_ordered : Option Bool → Bool
+is_ordered None = true
+is_ordered (Some asked) = asked
+
+-- inserts documents
+abbrev pub insert_body : Space → List Fields → InsertManyOptions → Option Session → List Line
+insert_body space documents o session =
+    "insert" ⟼ text space.coll
+    ⨾ "documents" ⟼ shown (array (listed document documents))
+    ⨾ "ordered" ⟼ always (is_ordered o.ordered)
+    ⨾ "bypassDocumentValidation" ⟼ flag o.bypass_document_validation
+    ⨾ "comment" ⟼ value o.comment
+    ⨾ behind_write space.db session o.write_concern
 
 -- how many documents a deletion may take: all of them where it says 0
 abbrev pub delete_limit : Bool → ℤ
@@ -171,14 +184,14 @@ deletion filter many o =
     ⨾ nothing
 
 -- removes documents
-abbrev pub delete_body : Space → Fields → Bool → DeleteOptions → List Line
-delete_body space filter many o =
+abbrev pub delete_body : Space → Fields → Bool → DeleteOptions → Option Session → List Line
+delete_body space filter many o session =
     "delete" ⟼ text space.coll
     ⨾ "deletes" ⟼ one_of (deletion filter many o)
     ⨾ "ordered" ⟼ always true
     ⨾ "let" ⟼ inner o.let_vars
     ⨾ "comment" ⟼ value o.comment
-    ⨾ behind_write space.db o.write_concern
+    ⨾ behind_write space.db session o.write_concern
 
 -- what one update changes, and how
 abbrev pub change : Fields → UpdateModifications → Bool → List Line
@@ -189,30 +202,30 @@ change filter modifications many =
     ⨾ nothing
 
 -- changes documents
-abbrev pub update_body : Space → Fields → UpdateModifications → Bool → Option WriteConcern → List Line
-update_body space filter modifications many writes =
+abbrev pub update_body : Space → Fields → UpdateModifications → Bool → Option WriteConcern → Option Session → List Line
+update_body space filter modifications many writes session =
     "update" ⟼ text space.coll
     ⨾ "updates" ⟼ one_of (change filter modifications many)
     ⨾ "ordered" ⟼ always true
-    ⨾ behind_write space.db writes
+    ⨾ behind_write space.db session writes
 
 -- ---- collections and indexes
 
 -- creates a collection
-abbrev pub create_body : Space → Option WriteConcern → List Line
-create_body space writes = "create" ⟼ text space.coll ⨾ behind_write space.db writes
+abbrev pub create_body : Space → Option WriteConcern → Option Session → List Line
+create_body space writes session = "create" ⟼ text space.coll ⨾ behind_write space.db session writes
 
 -- drops a collection
-abbrev pub drop_body : Space → Option WriteConcern → List Line
-drop_body space writes = "drop" ⟼ text space.coll ⨾ behind_write space.db writes
+abbrev pub drop_body : Space → Option WriteConcern → Option Session → List Line
+drop_body space writes session = "drop" ⟼ text space.coll ⨾ behind_write space.db session writes
 
 -- an index, which is named by its keys
 abbrev pub index : Fields → List Line
 index keys = "key" ⟼ whole keys ⨾ "name" ⟼ index_name keys ⨾ nothing
 
 -- creates an index
-abbrev pub create_indexes_body : Space → Fields → CreateIndexOptions → List Line
-create_indexes_body space keys o =
+abbrev pub create_indexes_body : Space → Fields → CreateIndexOptions → Option Session → List Line
+create_indexes_body space keys o session =
     "createIndexes" ⟼ text space.coll
     ⨾ "indexes" ⟼ one_of (index keys)
-    ⨾ (create_index_lines o ++ behind_write space.db o.write_concern)
+    ⨾ (create_index_lines o ++ behind_write space.db session o.write_concern)

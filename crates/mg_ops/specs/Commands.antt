@@ -22,7 +22,7 @@ asked_size None = None
 asked_size (Some zero) = None
 asked_size (Some (suc n)) = Some (size_value (suc n))
 
--- inserts documents into a collection, up to the first that fails
+-- inserts documents into a collection, up to the first that fails, without options
 abbrev pub insert_command : Space → List Fields → Fields
 insert_command space documents = "insert" ⇒ string space.coll ⨾ "documents" ⇒ array (listed document documents) ⨾ "ordered" ⇒ boolean true ⨾ "$db" ⇒ string space.db ⨾ empty
 

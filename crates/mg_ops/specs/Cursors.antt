@@ -86,7 +86,9 @@ pub record OpensWith (size time : Option ℕ) (comment : Option Bson) (reply : L
 abbrev pub time_parts : Timestamp → ℕ × ℕ
 time_parts t = (t.time, t.increment)
 
--- and its time
+-- and its time; its getMores have no time to wait, and no comment
 pub record OpensAt (size : Option ℕ) (reply : List ℕ) (out : CursorSpecification × Option Timestamp) : Type 0 where
   pub opens : Opens size reply out.0
+  pub no_wait : out.0.info.max_time ≡ None
+  pub no_comment : out.0.info.comment ≡ None
   pub time : option_map time_parts out.1 ≡ operation_time (fields reply)

@@ -6,9 +6,10 @@ use Rattle.mg_options.specs.Fields.{Shown, shown}
 use Rattle.mg_options.specs.Printing.{flag}
 use Rattle.mg_options.specs.Tables.{modifications_value}
 use Rattle.mg_options.specs.Values.{value_shown}
-use Rattle.mg_ops.specs.Bodies.{awaits_data, delete_limit, is_single, is_tailable, number, only_true, selects_by_name, text, whole, writes_out}
+use Rattle.mg_ops.specs.Bodies.{always, awaits_data, delete_limit, is_ordered, is_single, is_tailable, number, selects_by_name, text, whole, writes_out}
 use Rattle.mg_ops.specs.Commands.{aggregate_on, database_of, listed}
-use Rattle.mg_ops.specs.Pieces.{cursor_of_size, index_name}
+use Rattle.mg_ops.specs.Pieces.{cursor_of_size, index_name, only_true}
+use Rattle.mg_ops.specs.Sessions.{autocommit, start_transaction, numbered}
 use Rattle.mg_ops.specs.declared.entry.Entry.{Entry}
 use Rattle.mg_ops.specs.declared.entry.Entry.TheVariants as entries
 
@@ -29,4 +30,9 @@ entry (entries.Cursor size stages) = cursor_of_size (writes_out stages.now.items
 entry (entries.NameOnly asked filter) = shown (boolean (asked && selects_by_name filter.now))
 entry (entries.Limit many) = number (delete_limit many)
 entry (entries.Multi many) = flag (only_true many)
+entry (entries.Ordered asked) = always (is_ordered asked)
+entry (entries.SessionId s) = whole s.now.id
+entry (entries.TransactionNumber s) = numbered s.now
+entry (entries.StartTransaction s) = start_transaction s.now
+entry (entries.Autocommit s) = autocommit s.now
 entry (entries.Option v) = value_shown v

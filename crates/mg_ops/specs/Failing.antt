@@ -1,10 +1,11 @@
 -- Why an operation fails.
-use Rattle.std.specs.Prelude.{◌≡◌, ◌⊎◌, ◌<◌, ℕ, List, [], length, Option, Result, Ok, Err}
+use Rattle.std.specs.Prelude.{◌≡◌, ◌⊎◌, ◌<◌, ℕ, List, [], length, Option, Some, None, Result, Ok, Err}
 use Rattle.mg_bson.specs.Tree.{Fields}
 use Rattle.mg_bson.specs.Writable.{max_len}
 use Rattle.mg_link.specs.Errors.{plain}
 use Rattle.mg_link.specs.declared.error.Error.{Error}
 use Rattle.mg_link.specs.declared.error.ErrorKind.TheVariants as kind
+use Rattle.mg_link.specs.declared.error.BadArgument.{BadArgument}
 use Rattle.mg_link.specs.declared.error.BadArgument.TheVariants as argument
 use Rattle.mg_link.specs.declared.error.Malformed.{Malformed}
 use Rattle.mg_ops.specs.Limits.{PassesLimit, SizePasses, SomePassLimit, max_documents}
@@ -27,6 +28,11 @@ HasBadSize size e = (e ≡ plain (kind.InvalidArgument argument.BatchSize)) × S
 abbrev pub CannotBeInserted : List Fields → Error → Type 0
 CannotBeInserted ds e = ((e ≡ plain (kind.InvalidArgument argument.NoDocuments)) × (ds ≡ []))
     ⊎ ((e ≡ plain kind.BsonSerialization) × ((max_documents < length ds) ⊎ SomePassLimit ds))
+
+-- why documents are not inserted: one command cannot, or this argument of its options is outside its range
+abbrev pub CannotInsert : Option BadArgument → List Fields → Error → Type 0
+CannotInsert None ds e = CannotBeInserted ds e
+CannotInsert (Some a) ds e = CannotBeInserted ds e ⊎ (e ≡ plain (kind.InvalidArgument a))
 
 abbrev pub fault_error : Fault → Error
 fault_error fault.Memory = plain kind.OutOfMemory

@@ -7,6 +7,7 @@ pub mod Writes
 pub mod Naming
 pub mod Aims
 pub mod Pieces
+pub mod Sessions
 pub mod Bodies
 pub mod Entries
 pub mod Plain

@@ -57,3 +57,8 @@ one_by (Some a) fs = unfit a
 -- the one document of an array, as its fields
 abbrev pub one_of : List Line → Shown
 one_of ls = one_by (first_unfit ls) (fields_in ls)
+
+-- a flag that is left out where it does not hold
+abbrev pub only_true : Bool → Option Bool
+only_true true = Some true
+only_true false = None

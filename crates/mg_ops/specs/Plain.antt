@@ -7,6 +7,7 @@ use Rattle.mg_options.specs.declared.collections.ListCollectionsOptions.{ListCol
 use Rattle.mg_options.specs.declared.collections.ListIndexesOptions.{ListIndexesOptions}
 use Rattle.mg_options.specs.declared.find.FindOptions.{FindOptions}
 use Rattle.mg_options.specs.declared.writes.DeleteOptions.{DeleteOptions}
+use Rattle.mg_options.specs.declared.writes.InsertManyOptions.{InsertManyOptions}
 
 -- those of a find
 abbrev pub plain_find : FindOptions
@@ -15,6 +16,10 @@ plain_find = record { allow_disk_use = None; allow_partial_results = None; batch
 -- those of an aggregate
 abbrev pub plain_aggregate : AggregateOptions
 plain_aggregate = record { allow_disk_use = None; batch_size = None; bypass_document_validation = None; collation = None; comment = None; hint = None; max_time = None; let_vars = None; max_await_time = None; read_concern = None; selection_criteria = None; write_concern = None }
+
+-- those of an insert
+abbrev pub plain_insert : InsertManyOptions
+plain_insert = record { bypass_document_validation = None; ordered = None; comment = None; write_concern = None }
 
 -- those of a delete
 abbrev pub plain_delete : Option WriteConcern → DeleteOptions

@@ -104,6 +104,10 @@ ListsAs count reply (kind.InsertMany failures) = (n : ℕ) × (count_of reply �
 ListsAs count reply (kind.InvalidResponse m) = (count_of reply ≡ Err m) ⊎ ((n : ℕ) × (count_of reply ≡ Ok n) × (failures_of (last_index count) reply ≡ Err m))
 ListsAs count reply _ = ⊥
 
+-- why the reply to an insert of so many documents is an error, which tells no more than that
+abbrev pub NotInserted : ℕ → Fields → Error → Type 0
+NotInserted count reply e = (e ≡ plain e.kind) × ListsAs count reply e.kind
+
 -- ---- writes that are no inserts
 
 -- the reply has these values, and lists no failure

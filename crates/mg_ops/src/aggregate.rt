@@ -10,14 +10,16 @@ ghost use Rattle.mg_ops.specs.Commands.{aggregate_on, cursor_fields, database_of
 ghost use Rattle.mg_ops.specs.Cursors.{operation_time, time_parts};
 ghost use Rattle.mg_ops.specs.Failing.{FailsBy, HasBadSize};
 ghost use Rattle.mg_ops.specs.Limits.{SizeFits};
+ghost use Rattle.mg_ops.specs.Resuming.{options_for};
 
 use crate::change_stream::{ChangeStreamData, WatchArgs};
 use crate::cursor_reply::{CursorSpecification, read_opening};
 use crate::operation::Operation;
 use crate::parts::{put_documents, size, text};
 use crate::resuming::resume_options;
+use crate::session::{in_session, read_retry};
 use mg_bson::{Array, Bson, Document, RawDocument, RawDocumentBuf, Timestamp};
-use mg_link::{Error, OperationTarget, Retry};
+use mg_link::{ClientSession, Error, OperationTarget, Retry};
 use mg_options::ChangeStreamOptions;
 use std::alloc::Global;
 
@@ -131,30 +133,13 @@ fn operation_time(reply: &RawDocument<'_>) -> Option<Timestamp>
     }
 }
 
-impl Operation for ChangeStreamAggregate {
-    type Output = (CursorSpecification, Option<Timestamp>);
-
-    ghost use Rattle.mg_link.specs.Namespace.{target};
-    ghost use Rattle.mg_link.specs.declared.exec.Retry.TheVariants as retries;
-    ghost use Rattle.mg_ops.specs.Commands.{watch_command};
-    ghost use Rattle.mg_ops.specs.Cursors.{BreaksIn, OpensAt};
-    ghost use Rattle.mg_ops.specs.Failing.{HasBadSize};
-    ghost use Rattle.mg_ops.specs.Limits.{SizeFits};
-    ghost use Rattle.mg_ops.specs.Resuming.{options_for};
-
-    ghost command = { λ o wire. watch_command (target o.args.target) o.args.pipeline.items (options_for o.args.options o.resume wire) };
-
-    ghost sound = { λ o. SizeFits o.args.options.batch_size };
-
-    ghost unfit = { λ o. HasBadSize o.args.options.batch_size };
-
-    ghost retried = { λ o. retries.Read };
-
-    ghost gives = { λ o. OpensAt o.args.options.batch_size };
-
-    ghost fails = { λ o. BreaksIn };
-
-    fn build(&self, alloc: Global, wire: i32) -> Result<Document, Error> {
+impl ChangeStreamAggregate {
+    // The command over a link of this wire version, without a session.
+    fn command_at(&self, alloc: Global, wire: i32) -> Result<Document, Error>
+        ensures ok { IfOk result (λ d. d ≡ watch_command (target self.now.args.target) self.now.args.pipeline.items (options_for self.now.args.options self.now.resume wire)) }
+        ensures fits { OnOk result (SizeFits self.now.args.options.batch_size) }
+        ensures err { IfErr result (λ e. FailsBy (HasBadSize self.now.args.options.batch_size) e) }
+    {
         match &self.resume {
             None => command(alloc, &self.args, &self.args.options),
             Some(state) => {
@@ -163,9 +148,43 @@ impl Operation for ChangeStreamAggregate {
             }
         }
     }
+}
 
-    fn retry(&self) -> Retry {
-        Retry::Read
+impl Operation for ChangeStreamAggregate {
+    type Output = (CursorSpecification, Option<Timestamp>);
+
+    ghost use Rattle.mg_link.specs.Namespace.{target};
+    ghost use Rattle.mg_ops.specs.Commands.{watch_command};
+    ghost use Rattle.mg_ops.specs.Cursors.{BreaksIn, OpensAt};
+    ghost use Rattle.mg_ops.specs.Failing.{HasBadSize};
+    ghost use Rattle.mg_ops.specs.Limits.{SizeFits};
+    ghost use Rattle.mg_ops.specs.Resuming.{options_for};
+    ghost use Rattle.mg_ops.specs.Sessions.{in_session, read_retry};
+
+    ghost command = { λ o wire session. in_session session (watch_command (target o.args.target) o.args.pipeline.items (options_for o.args.options o.resume wire)) };
+
+    ghost sound = { λ o. SizeFits o.args.options.batch_size };
+
+    ghost unfit = { λ o. HasBadSize o.args.options.batch_size };
+
+    ghost retried = { λ o. read_retry };
+
+    ghost gives = { λ o. OpensAt o.args.options.batch_size };
+
+    ghost fails = { λ o. BreaksIn };
+
+    fn build(
+        &self,
+        alloc: Global,
+        wire: i32,
+        session: Option<&ClientSession>,
+    ) -> Result<Document, Error> {
+        let command = self.command_at(alloc, wire)?;
+        in_session(alloc, command, session)
+    }
+
+    fn retry(&self, session: Option<&ClientSession>) -> Retry {
+        read_retry(session)
     }
 
     fn read(

@@ -5,14 +5,14 @@ ghost use Rattle.mg_ops.specs.Failing.{FailsBy, Gives};
 ghost use Rattle.mg_ops.specs.Updates.{counted};
 ghost use Rattle.mg_ops.specs.Writes.{FailedAs, Wrote, count_of, counts_of};
 
-use crate::body::{Listed, One, Then, body};
+use crate::body::{InOrder, Listed, One, Then, body};
 use crate::entry::Entry;
 use crate::fault::{Fault, error_of};
 use crate::insert_reply::{changed_of, count_of};
 use crate::operation::Operation;
 use crate::write_reply::check_written;
 use mg_bson::{Document, RawDocument, RawDocumentBuf};
-use mg_link::{Error, Namespace, Retry, WriteConcern};
+use mg_link::{ClientSession, Error, Namespace, Retry, WriteConcern};
 use mg_options::{DeleteOptions, UpdateModifications, Value};
 use std::alloc::Global;
 
@@ -122,19 +122,24 @@ impl Operation for Delete {
     ghost use Rattle.mg_ops.specs.Bodies.{delete_body};
     ghost use Rattle.mg_ops.specs.Writes.{FailedAs, Wrote, count_of};
 
-    ghost command = { λ o wire. fields_in (delete_body (space o.ns) o.filter o.many o.options) };
+    ghost command = { λ o wire session. fields_in (delete_body (space o.ns) o.filter o.many o.options session) };
 
-    ghost sound = { λ o. first_unfit (delete_body (space o.ns) o.filter o.many o.options) ≡ None };
+    ghost sound = { λ o. first_unfit (delete_body (space o.ns) o.filter o.many o.options None) ≡ None };
 
-    ghost unfit = { λ o. Refuses (first_unfit (delete_body (space o.ns) o.filter o.many o.options)) };
+    ghost unfit = { λ o. Refuses (first_unfit (delete_body (space o.ns) o.filter o.many o.options None)) };
 
-    ghost retried = { λ o. retries.None };
+    ghost retried = { λ o session. retries.None };
 
     ghost gives = { λ o reply n. Wrote (count_of (fields reply)) (fields reply) n };
 
     ghost fails = { λ o reply e. FailedAs (count_of reply) reply e };
 
-    fn build(&self, alloc: Global, _wire: i32) -> Result<Document, Error> {
+    fn build(
+        &self,
+        alloc: Global,
+        _wire: i32,
+        session: Option<&ClientSession>,
+    ) -> Result<Document, Error> {
         let o = &self.options;
         let front = Listed {
             list: &[("delete", Entry::Text(&self.ns.coll))],
@@ -150,14 +155,9 @@ impl Operation for Delete {
         };
         let back = Listed {
             list: &[
-                ("ordered", Entry::Option(Value::Flag(Some(true)))),
+                ("ordered", Entry::Ordered(None)),
                 ("let", Entry::Option(Value::Document(&o.let_vars))),
                 ("comment", Entry::Option(Value::Any(&o.comment))),
-                ("$db", Entry::Text(&self.ns.db)),
-                (
-                    "writeConcern",
-                    Entry::Option(Value::WriteConcern(&o.write_concern)),
-                ),
             ],
         };
         let rest = Then {
@@ -170,10 +170,16 @@ impl Operation for Delete {
                 first: &front,
                 rest: &rest,
             },
+            Entry::Text(&self.ns.db),
+            session,
+            &[(
+                "writeConcern",
+                Entry::Option(Value::WriteConcern(&o.write_concern)),
+            )],
         )
     }
 
-    fn retry(&self) -> Retry {
+    fn retry(&self, _session: Option<&ClientSession>) -> Retry {
         Retry::None
     }
 
@@ -194,19 +200,24 @@ impl Operation for Update {
     ghost use Rattle.mg_ops.specs.Updates.{counted};
     ghost use Rattle.mg_ops.specs.Writes.{FailedAs, Wrote, counts_of};
 
-    ghost command = { λ o wire. fields_in (update_body (space o.ns) o.filter o.modifications o.many o.write_concern) };
+    ghost command = { λ o wire session. fields_in (update_body (space o.ns) o.filter o.modifications o.many o.write_concern session) };
 
-    ghost sound = { λ o. first_unfit (update_body (space o.ns) o.filter o.modifications o.many o.write_concern) ≡ None };
+    ghost sound = { λ o. first_unfit (update_body (space o.ns) o.filter o.modifications o.many o.write_concern None) ≡ None };
 
-    ghost unfit = { λ o. Refuses (first_unfit (update_body (space o.ns) o.filter o.modifications o.many o.write_concern)) };
+    ghost unfit = { λ o. Refuses (first_unfit (update_body (space o.ns) o.filter o.modifications o.many o.write_concern None)) };
 
-    ghost retried = { λ o. retries.None };
+    ghost retried = { λ o session. retries.None };
 
     ghost gives = { λ o reply u. Wrote (counts_of (fields reply)) (fields reply) (counted u) };
 
     ghost fails = { λ o reply e. FailedAs (counts_of reply) reply e };
 
-    fn build(&self, alloc: Global, _wire: i32) -> Result<Document, Error> {
+    fn build(
+        &self,
+        alloc: Global,
+        _wire: i32,
+        session: Option<&ClientSession>,
+    ) -> Result<Document, Error> {
         let front = Listed {
             list: &[("update", Entry::Text(&self.ns.coll))],
         };
@@ -218,19 +229,9 @@ impl Operation for Update {
                 ("multi", Entry::Multi(self.many)),
             ],
         };
-        let back = Listed {
-            list: &[
-                ("ordered", Entry::Option(Value::Flag(Some(true)))),
-                ("$db", Entry::Text(&self.ns.db)),
-                (
-                    "writeConcern",
-                    Entry::Option(Value::WriteConcern(&self.write_concern)),
-                ),
-            ],
-        };
         let rest = Then {
             first: &one,
-            rest: &back,
+            rest: &InOrder,
         };
         body(
             alloc,
@@ -238,10 +239,16 @@ impl Operation for Update {
                 first: &front,
                 rest: &rest,
             },
+            Entry::Text(&self.ns.db),
+            session,
+            &[(
+                "writeConcern",
+                Entry::Option(Value::WriteConcern(&self.write_concern)),
+            )],
         )
     }
 
-    fn retry(&self) -> Retry {
+    fn retry(&self, _session: Option<&ClientSession>) -> Retry {
         Retry::None
     }
 

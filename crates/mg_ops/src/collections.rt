@@ -4,7 +4,7 @@ use crate::entry::Entry;
 use crate::operation::Operation;
 use crate::write_reply::check_written;
 use mg_bson::{Document, RawDocumentBuf};
-use mg_link::{Error, Namespace, Retry, WriteConcern};
+use mg_link::{ClientSession, Error, Namespace, Retry, WriteConcern};
 use mg_options::{CreateIndexOptions, DropCollectionOptions, Value};
 use std::alloc::Global;
 
@@ -83,35 +83,39 @@ impl Operation for Create {
     ghost use Rattle.mg_ops.specs.Bodies.{create_body};
     ghost use Rattle.mg_ops.specs.Writes.{WriteFails, failures_of};
 
-    ghost command = { λ o wire. fields_in (create_body (space o.ns) o.write_concern) };
+    ghost command = { λ o wire session. fields_in (create_body (space o.ns) o.write_concern session) };
 
-    ghost sound = { λ o. first_unfit (create_body (space o.ns) o.write_concern) ≡ None };
+    ghost sound = { λ o. first_unfit (create_body (space o.ns) o.write_concern None) ≡ None };
 
-    ghost unfit = { λ o. Refuses (first_unfit (create_body (space o.ns) o.write_concern)) };
+    ghost unfit = { λ o. Refuses (first_unfit (create_body (space o.ns) o.write_concern None)) };
 
-    ghost retried = { λ o. retries.None };
+    ghost retried = { λ o session. retries.None };
 
     ghost gives = { λ o reply out. failures_of 0 (fields reply) ≡ Ok [] };
 
     ghost fails = { λ o. WriteFails };
 
-    fn build(&self, alloc: Global, _wire: i32) -> Result<Document, Error> {
+    fn build(
+        &self,
+        alloc: Global,
+        _wire: i32,
+        session: Option<&ClientSession>,
+    ) -> Result<Document, Error> {
         body(
             alloc,
             &Listed {
-                list: &[
-                    ("create", Entry::Text(&self.ns.coll)),
-                    ("$db", Entry::Text(&self.ns.db)),
-                    (
-                        "writeConcern",
-                        Entry::Option(Value::WriteConcern(&self.write_concern)),
-                    ),
-                ],
+                list: &[("create", Entry::Text(&self.ns.coll))],
             },
+            Entry::Text(&self.ns.db),
+            session,
+            &[(
+                "writeConcern",
+                Entry::Option(Value::WriteConcern(&self.write_concern)),
+            )],
         )
     }
 
-    fn retry(&self) -> Retry {
+    fn retry(&self, _session: Option<&ClientSession>) -> Retry {
         Retry::None
     }
 
@@ -131,33 +135,37 @@ impl Operation for DropCollection {
     ghost use Rattle.mg_ops.specs.Bodies.{drop_body};
     ghost use Rattle.mg_ops.specs.Writes.{WriteFails, failures_of};
 
-    ghost command = { λ o wire. fields_in (drop_body (space o.ns) o.options.write_concern) };
+    ghost command = { λ o wire session. fields_in (drop_body (space o.ns) o.options.write_concern session) };
 
-    ghost sound = { λ o. first_unfit (drop_body (space o.ns) o.options.write_concern) ≡ None };
+    ghost sound = { λ o. first_unfit (drop_body (space o.ns) o.options.write_concern None) ≡ None };
 
-    ghost unfit = { λ o. Refuses (first_unfit (drop_body (space o.ns) o.options.write_concern)) };
+    ghost unfit = { λ o. Refuses (first_unfit (drop_body (space o.ns) o.options.write_concern None)) };
 
-    ghost retried = { λ o. retries.None };
+    ghost retried = { λ o session. retries.None };
 
     ghost gives = { λ o reply out. failures_of 0 (fields reply) ≡ Ok [] };
 
     ghost fails = { λ o. WriteFails };
 
-    fn build(&self, alloc: Global, _wire: i32) -> Result<Document, Error> {
+    fn build(
+        &self,
+        alloc: Global,
+        _wire: i32,
+        session: Option<&ClientSession>,
+    ) -> Result<Document, Error> {
         let concern = &self.options.write_concern;
         body(
             alloc,
             &Listed {
-                list: &[
-                    ("drop", Entry::Text(&self.ns.coll)),
-                    ("$db", Entry::Text(&self.ns.db)),
-                    ("writeConcern", Entry::Option(Value::WriteConcern(concern))),
-                ],
+                list: &[("drop", Entry::Text(&self.ns.coll))],
             },
+            Entry::Text(&self.ns.db),
+            session,
+            &[("writeConcern", Entry::Option(Value::WriteConcern(concern)))],
         )
     }
 
-    fn retry(&self) -> Retry {
+    fn retry(&self, _session: Option<&ClientSession>) -> Retry {
         Retry::None
     }
 
@@ -177,19 +185,24 @@ impl Operation for CreateIndexes {
     ghost use Rattle.mg_ops.specs.Bodies.{create_indexes_body};
     ghost use Rattle.mg_ops.specs.Writes.{WriteFails, failures_of};
 
-    ghost command = { λ o wire. fields_in (create_indexes_body (space o.ns) o.keys o.options) };
+    ghost command = { λ o wire session. fields_in (create_indexes_body (space o.ns) o.keys o.options session) };
 
-    ghost sound = { λ o. first_unfit (create_indexes_body (space o.ns) o.keys o.options) ≡ None };
+    ghost sound = { λ o. first_unfit (create_indexes_body (space o.ns) o.keys o.options None) ≡ None };
 
-    ghost unfit = { λ o. Refuses (first_unfit (create_indexes_body (space o.ns) o.keys o.options)) };
+    ghost unfit = { λ o. Refuses (first_unfit (create_indexes_body (space o.ns) o.keys o.options None)) };
 
-    ghost retried = { λ o. retries.None };
+    ghost retried = { λ o session. retries.None };
 
     ghost gives = { λ o reply out. failures_of 0 (fields reply) ≡ Ok [] };
 
     ghost fails = { λ o. WriteFails };
 
-    fn build(&self, alloc: Global, _wire: i32) -> Result<Document, Error> {
+    fn build(
+        &self,
+        alloc: Global,
+        _wire: i32,
+        session: Option<&ClientSession>,
+    ) -> Result<Document, Error> {
         let o = &self.options;
         let front = Listed {
             list: &[("createIndexes", Entry::Text(&self.ns.coll))],
@@ -201,22 +214,9 @@ impl Operation for CreateIndexes {
                 ("name", Entry::IndexName(&self.keys)),
             ],
         };
-        let back = Listed {
-            list: &[
-                ("$db", Entry::Text(&self.ns.db)),
-                (
-                    "writeConcern",
-                    Entry::Option(Value::WriteConcern(&o.write_concern)),
-                ),
-            ],
-        };
-        let behind = Then {
-            first: o,
-            rest: &back,
-        };
         let rest = Then {
             first: &one,
-            rest: &behind,
+            rest: o,
         };
         body(
             alloc,
@@ -224,10 +224,16 @@ impl Operation for CreateIndexes {
                 first: &front,
                 rest: &rest,
             },
+            Entry::Text(&self.ns.db),
+            session,
+            &[(
+                "writeConcern",
+                Entry::Option(Value::WriteConcern(&o.write_concern)),
+            )],
         )
     }
 
-    fn retry(&self) -> Retry {
+    fn retry(&self, _session: Option<&ClientSession>) -> Retry {
         Retry::None
     }
 

@@ -1,5 +1,5 @@
 //! Replies with a cursor.
-ghost use Rattle.std.specs.Prelude.{◌≡◌, Ok, Err, IfOk, IfErr, MatchResult, option_map, option_and_then, codes};
+ghost use Rattle.std.specs.Prelude.{◌≡◌, None, Ok, Err, IfOk, IfErr, MatchResult, option_map, option_and_then, codes};
 ghost use Rattle.mg_bson.specs.Find.{as_int64, get};
 ghost use Rattle.mg_bson.specs.Raw.{fields, items};
 ghost use Rattle.mg_bson.specs.RawView.{value};
@@ -190,6 +190,7 @@ pub(crate) fn read_opening(
     reply: RawDocumentBuf,
 ) -> Result<CursorSpecification, Error>
     ensures ok { IfOk result (λ out. Opens batch_size reply out) }
+    ensures bare { IfOk result (λ out. (out.info.max_time ≡ None) × (out.info.comment ≡ None)) }
     ensures err { IfErr result (λ e. FailsBy (BreaksIn (fields reply)) e) }
 {
     let raw = reply.as_raw();

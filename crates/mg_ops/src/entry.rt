@@ -8,14 +8,15 @@ ghost use Rattle.mg_options.specs.Fields.{FailsBy, given, shown, unfit_of};
 ghost use Rattle.mg_options.specs.Tables.{modifications_value};
 ghost use Rattle.mg_link.specs.Namespace.{target};
 ghost use Rattle.mg_options.specs.Printing.{flag};
-ghost use Rattle.mg_ops.specs.Bodies.{awaits_data, delete_limit, is_single, is_tailable, only_true, selects_by_name, writes_out};
+ghost use Rattle.mg_ops.specs.Bodies.{awaits_data, delete_limit, is_ordered, is_single, is_tailable, selects_by_name, writes_out};
 ghost use Rattle.mg_ops.specs.Commands.{aggregate_on, database_of, listed};
-ghost use Rattle.mg_ops.specs.Pieces.{cursor_of_size, index_name, key_onto, key_text, keys_onto, underscored};
+ghost use Rattle.mg_ops.specs.Pieces.{cursor_of_size, index_name, key_onto, key_text, keys_onto, only_true, underscored};
+ghost use Rattle.mg_ops.specs.Sessions.{autocommit, numbered};
 
 use crate::looking::{selects_by_name, writes_out};
 use crate::parts::{put_documents, text};
 use mg_bson::{Array, Bson, Document};
-use mg_link::{BadArgument, Error, ErrorKind, OperationTarget, plain};
+use mg_link::{BadArgument, ClientSession, Error, ErrorKind, OperationTarget, plain};
 use mg_options::{CursorType, Print, UpdateModifications, Value};
 use std::alloc::{AllocError, Global};
 
@@ -47,6 +48,16 @@ pub(crate) enum Entry<'a> {
     Limit(bool),
     /// Whether all are changed.
     Multi(bool),
+    /// Whether an insert ends at the first document that fails, where that is said.
+    Ordered(Option<bool>),
+    /// The id of a session.
+    SessionId(&'a ClientSession),
+    /// The number of its transaction, while one goes on.
+    TransactionNumber(&'a ClientSession),
+    /// Whether a transaction starts.
+    StartTransaction(&'a ClientSession),
+    /// False while a transaction goes on: its commands do not commit it.
+    Autocommit(&'a ClientSession),
     Option(Value<'a>),
 }
 
@@ -176,6 +187,13 @@ fn delete_limit(many: bool) -> i32
     if many { 0 } else { 1 }
 }
 
+// Whether an insert ends at the first document that fails: it does, unless it is said otherwise.
+fn is_ordered(asked: Option<bool>) -> bool
+    ensures { result ≡ is_ordered asked }
+{
+    asked.unwrap_or(true)
+}
+
 // The text with a word behind it. It takes the text whole, so that its caller holds none where this fails.
 fn with_word(text: String, word: &str) -> Result<String, AllocError>
     ensures { IfOk result (λ s. string_bytes s ≡ string_bytes text ++ word.now) }
@@ -242,6 +260,28 @@ fn print_index_name(alloc: Global, keys: &Document) -> Result<Option<Bson>, Erro
     }
 }
 
+// The number of the transaction that goes on.
+fn numbered(session: &ClientSession) -> Option<Bson>
+    ensures { numbered session.now ≡ given (option_map tree result) }
+{
+    if session.in_transaction() {
+        Some(Bson::Int64(session.transaction_number()))
+    } else {
+        None
+    }
+}
+
+// False where a transaction goes on.
+fn autocommit(session: &ClientSession) -> Option<Bson>
+    ensures { autocommit session.now ≡ given (option_map tree result) }
+{
+    if session.in_transaction() {
+        Some(Bson::Boolean(false))
+    } else {
+        None
+    }
+}
+
 fn print_text(alloc: Global, word: &str) -> Result<Option<Bson>, Error>
     ensures ok { IfOk result (λ v. shown (string word.now) ≡ given (option_map tree v)) }
     ensures err { IfErr result (λ e. e ≡ plain kinds.OutOfMemory) }
@@ -271,6 +311,11 @@ impl Print for Entry<'_> {
             Entry::NameOnly(asked, filter) => Ok(Some(Bson::Boolean(name_only(*asked, filter)))),
             Entry::Limit(many) => Ok(Some(Bson::Int32(delete_limit(*many)))),
             Entry::Multi(many) => Ok(only_true(*many)),
+            Entry::Ordered(asked) => Ok(Some(Bson::Boolean(is_ordered(*asked)))),
+            Entry::SessionId(session) => Ok(print_document(session.id())?),
+            Entry::TransactionNumber(session) => Ok(numbered(session)),
+            Entry::StartTransaction(session) => Ok(only_true(session.starts_transaction())),
+            Entry::Autocommit(session) => Ok(autocommit(session)),
             Entry::Option(value) => value.print(alloc),
         }
     }

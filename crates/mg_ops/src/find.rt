@@ -6,8 +6,9 @@ use crate::body::{Listed, Part, Then, body};
 use crate::cursor_reply::{CursorSpecification, read_cursor};
 use crate::entry::Entry;
 use crate::operation::Operation;
+use crate::session::read_retry;
 use mg_bson::{Document, RawDocumentBuf};
-use mg_link::{Error, Namespace, Retry};
+use mg_link::{ClientSession, Error, Namespace, Retry};
 use mg_options::{FindOptions, Value};
 use std::alloc::Global;
 
@@ -81,26 +82,31 @@ impl Operation for Find {
 
     ghost use Rattle.std.specs.Prelude.{◌≡◌, None};
     ghost use Rattle.mg_link.specs.Namespace.{space};
-    ghost use Rattle.mg_link.specs.declared.exec.Retry.TheVariants as retries;
     ghost use Rattle.mg_options.specs.Fields.{Refuses, fields_in, first_unfit};
     ghost use Rattle.mg_ops.specs.Bodies.{find_body, find_size};
     ghost use Rattle.mg_ops.specs.Cursors.{BreaksIn, OpensWith};
+    ghost use Rattle.mg_ops.specs.Sessions.{read_retry};
 
-    ghost command = { λ o wire. fields_in (find_body (space o.ns) o.filter o.options) };
+    ghost command = { λ o wire session. fields_in (find_body (space o.ns) o.filter o.options session) };
 
-    ghost sound = { λ o. first_unfit (find_body (space o.ns) o.filter o.options) ≡ None };
+    ghost sound = { λ o. first_unfit (find_body (space o.ns) o.filter o.options None) ≡ None };
 
-    ghost unfit = { λ o. Refuses (first_unfit (find_body (space o.ns) o.filter o.options)) };
+    ghost unfit = { λ o. Refuses (first_unfit (find_body (space o.ns) o.filter o.options None)) };
 
-    ghost retried = { λ o. retries.Read };
+    ghost retried = { λ o. read_retry };
 
     ghost gives = { λ o. OpensWith (find_size o.options) o.options.max_await_time o.options.comment };
 
     ghost fails = { λ o. BreaksIn };
 
-    fn build(&self, alloc: Global, _wire: i32) -> Result<Document, Error> {
+    fn build(
+        &self,
+        alloc: Global,
+        _wire: i32,
+        session: Option<&ClientSession>,
+    ) -> Result<Document, Error> {
         let o = &self.options;
-        let front = Listed {
+        let flags = Listed {
             list: &[
                 ("find", Entry::Text(&self.ns.coll)),
                 ("singleBatch", Entry::Single(o.limit)),
@@ -108,11 +114,23 @@ impl Operation for Find {
                 ("awaitData", Entry::AwaitData(o.cursor_type)),
             ],
         };
-        let middle = SizedFind { options: o };
-        let back = Listed {
-            list: &[
-                ("filter", Entry::Document(&self.filter)),
-                ("$db", Entry::Text(&self.ns.db)),
+        let options = SizedFind { options: o };
+        let filter = Listed {
+            list: &[("filter", Entry::Document(&self.filter))],
+        };
+        let rest = Then {
+            first: &options,
+            rest: &filter,
+        };
+        body(
+            alloc,
+            &Then {
+                first: &flags,
+                rest: &rest,
+            },
+            Entry::Text(&self.ns.db),
+            session,
+            &[
                 (
                     "readConcern",
                     Entry::Option(Value::ReadConcern(&o.read_concern)),
@@ -122,22 +140,11 @@ impl Operation for Find {
                     Entry::Option(Value::Selection(o.selection_criteria)),
                 ),
             ],
-        };
-        let rest = Then {
-            first: &middle,
-            rest: &back,
-        };
-        body(
-            alloc,
-            &Then {
-                first: &front,
-                rest: &rest,
-            },
         )
     }
 
-    fn retry(&self) -> Retry {
-        Retry::Read
+    fn retry(&self, session: Option<&ClientSession>) -> Retry {
+        read_retry(session)
     }
 
     fn read(&self, alloc: Global, reply: RawDocumentBuf) -> Result<CursorSpecification, Error> {

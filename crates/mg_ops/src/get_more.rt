@@ -1,9 +1,10 @@
 //! The next batch of a cursor.
-ghost use Rattle.std.specs.Prelude.{◌≡◌, OnOk, IfErr, codes, option_map};
+ghost use Rattle.std.specs.Prelude.{◌≡◌, OnOk, IfOk, IfErr, codes, option_map};
 ghost use Rattle.mg_bson.specs.View.{tree};
 ghost use Rattle.mg_link.specs.Errors.{plain};
+ghost use Rattle.mg_link.specs.Namespace.{space};
 ghost use Rattle.mg_link.specs.declared.error.ErrorKind.TheVariants as kinds;
-ghost use Rattle.mg_ops.specs.Commands.{asked_size, wait_value};
+ghost use Rattle.mg_ops.specs.Commands.{asked_size, more_command, wait_value};
 ghost use Rattle.mg_ops.specs.Failing.{FailsBy, HasBadSize};
 ghost use Rattle.mg_ops.specs.Limits.{SizeFits};
 ghost use Rattle.mg_options.specs.Given.{behind};
@@ -11,8 +12,9 @@ ghost use Rattle.mg_options.specs.Given.{behind};
 use crate::cursor_reply::{GetMoreResult, read_more};
 use crate::operation::Operation;
 use crate::parts::{size, text};
+use crate::session::in_session;
 use mg_bson::{Bson, Document, RawDocumentBuf};
-use mg_link::{Error, Namespace, Retry};
+use mg_link::{ClientSession, Error, Namespace, Retry};
 use std::alloc::Global;
 
 /// Asks for the next batch of a cursor.
@@ -79,6 +81,24 @@ fn append_comment(command: &mut Document, comment: &Option<Bson>) -> Result<(), 
     }
 }
 
+impl GetMore {
+    // The command without a session.
+    fn command(&self, alloc: Global) -> Result<Document, Error>
+        ensures ok { IfOk result (λ d. d ≡ more_command self.now.id (space self.now.ns) self.now.batch_size self.now.max_time (option_map tree self.now.comment)) }
+        ensures fits { OnOk result (SizeFits self.now.batch_size) }
+        ensures err { IfErr result (λ e. FailsBy (HasBadSize self.now.batch_size) e) }
+    {
+        let mut command = Document::new(alloc);
+        command.append("getMore", Bson::Int64(self.id))?;
+        command.append("collection", text(alloc, self.ns.coll.as_str())?)?;
+        append_size(&mut command, self.batch_size)?;
+        append_time(&mut command, self.max_time)?;
+        append_comment(&mut command, &self.comment)?;
+        command.append("$db", text(alloc, self.ns.db.as_str())?)?;
+        Ok(command)
+    }
+}
+
 impl Operation for GetMore {
     type Output = GetMoreResult;
 
@@ -90,31 +110,31 @@ impl Operation for GetMore {
     ghost use Rattle.mg_ops.specs.Cursors.{BreaksIn, Gave};
     ghost use Rattle.mg_ops.specs.Failing.{HasBadSize};
     ghost use Rattle.mg_ops.specs.Limits.{SizeFits};
+    ghost use Rattle.mg_ops.specs.Sessions.{in_session};
 
-    ghost command = { λ o wire. more_command o.id (space o.ns) o.batch_size o.max_time (option_map tree o.comment) };
+    ghost command = { λ o wire session. in_session session (more_command o.id (space o.ns) o.batch_size o.max_time (option_map tree o.comment)) };
 
     ghost sound = { λ o. SizeFits o.batch_size };
 
     ghost unfit = { λ o. HasBadSize o.batch_size };
 
-    ghost retried = { λ o. retries.None };
+    ghost retried = { λ o session. retries.None };
 
     ghost gives = { λ o. Gave };
 
     ghost fails = { λ o. BreaksIn };
 
-    fn build(&self, alloc: Global, _wire: i32) -> Result<Document, Error> {
-        let mut command = Document::new(alloc);
-        command.append("getMore", Bson::Int64(self.id))?;
-        command.append("collection", text(alloc, self.ns.coll.as_str())?)?;
-        append_size(&mut command, self.batch_size)?;
-        append_time(&mut command, self.max_time)?;
-        append_comment(&mut command, &self.comment)?;
-        command.append("$db", text(alloc, self.ns.db.as_str())?)?;
-        Ok(command)
+    fn build(
+        &self,
+        alloc: Global,
+        _wire: i32,
+        session: Option<&ClientSession>,
+    ) -> Result<Document, Error> {
+        let command = self.command(alloc)?;
+        in_session(alloc, command, session)
     }
 
-    fn retry(&self) -> Retry {
+    fn retry(&self, _session: Option<&ClientSession>) -> Retry {
         Retry::None
     }
 

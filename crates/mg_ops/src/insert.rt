@@ -1,19 +1,18 @@
 //! Inserts.
-ghost use Rattle.std.specs.Prelude.{◌≡◌, ◌≤◌, OnOk, IfOk, IfErr, length};
+ghost use Rattle.std.specs.Prelude.{◌≡◌, OnOk, IfErr, length};
 ghost use Rattle.mg_bson.specs.Bytes.{bytes};
-ghost use Rattle.mg_bson.specs.Tree.{document};
 ghost use Rattle.mg_link.specs.Errors.{plain};
-ghost use Rattle.mg_link.specs.Namespace.{space};
 ghost use Rattle.mg_link.specs.declared.error.ErrorKind.TheVariants as kinds;
-ghost use Rattle.mg_ops.specs.Commands.{insert_command, listed};
 ghost use Rattle.mg_ops.specs.Failing.{CannotBeInserted, FailsBy};
 ghost use Rattle.mg_ops.specs.Limits.{AreStorable, IsStorable, MayInsert, PassesLimit, SomePassLimit, max_stored};
 
+use crate::body::{Listed, body};
+use crate::entry::Entry;
 use crate::insert_reply::read_reply;
 use crate::operation::Operation;
-use crate::parts::{put_documents, text};
-use mg_bson::{Array, Bson, Document, RawDocumentBuf, to_bytes};
-use mg_link::{BadArgument, Error, ErrorKind, Namespace, Retry, plain};
+use mg_bson::{Document, RawDocumentBuf, to_bytes};
+use mg_link::{BadArgument, ClientSession, Error, ErrorKind, Namespace, Retry, plain};
+use mg_options::{InsertManyOptions, Value};
 use std::alloc::Global;
 
 /// The most documents of one command.
@@ -22,12 +21,14 @@ const MAX_DOCUMENTS: usize = 100_000;
 /// The most bytes of a stored document.
 const MAX_STORED: usize = 16_777_216;
 
-/// Inserts documents into a collection, in their order, up to the first that fails.
+/// Inserts documents into a collection, in their order: up to the first that fails, or, where `ordered` is false, all that can be.
 pub struct Insert {
     /// The collection.
     pub ns: Namespace,
     /// The documents: at least one, and at most 100,000. Each has an `_id`.
     pub documents: Vec<Document>,
+    /// How they are inserted.
+    pub options: InsertManyOptions,
 }
 
 // By hand, so that letting one go is one call.
@@ -36,6 +37,7 @@ impl Drop for Insert {
         let Insert {
             ns: _,
             documents: _,
+            options: _,
         } = self;
     }
 }
@@ -79,51 +81,64 @@ fn check(alloc: Global, documents: &[Document]) -> Result<(), Error>
     check_documents(alloc, documents)
 }
 
-// The command, whose documents were checked.
-fn command(alloc: Global, ns: &Namespace, documents: &[Document]) -> Result<Document, Error>
-    ensures ok { IfOk result (λ d. d ≡ insert_command (space ns.now) documents.now) }
-    ensures err { IfErr result (λ e. e ≡ plain kinds.OutOfMemory) }
-{
-    let mut array = Array::new(alloc);
-    put_documents(&mut array, documents)?;
-    let mut command = Document::new(alloc);
-    command.append("insert", text(alloc, ns.coll.as_str())?)?;
-    command.append("documents", Bson::Array(array))?;
-    command.append("ordered", Bson::Boolean(true))?;
-    command.append("$db", text(alloc, ns.db.as_str())?)?;
-    Ok(command)
-}
-
 impl Operation for Insert {
     type Output = u64;
 
-    ghost use Rattle.std.specs.Prelude.{length};
+    ghost use Rattle.std.specs.Prelude.{◌≡◌, None, length};
     ghost use Rattle.mg_bson.specs.Raw.{fields};
     ghost use Rattle.mg_link.specs.Namespace.{space};
     ghost use Rattle.mg_link.specs.declared.exec.Retry.TheVariants as retries;
-    ghost use Rattle.mg_ops.specs.Commands.{insert_command};
-    ghost use Rattle.mg_ops.specs.Failing.{CannotBeInserted};
+    ghost use Rattle.mg_options.specs.Fields.{fields_in, first_unfit};
+    ghost use Rattle.mg_ops.specs.Bodies.{insert_body};
+    ghost use Rattle.mg_ops.specs.Failing.{CannotInsert};
     ghost use Rattle.mg_ops.specs.Limits.{MayInsert};
-    ghost use Rattle.mg_ops.specs.Writes.{Inserted, ListsAs};
+    ghost use Rattle.mg_ops.specs.Writes.{Inserted, NotInserted};
 
-    ghost command = { λ o wire. insert_command (space o.ns) o.documents.items };
+    ghost command = { λ o wire session. fields_in (insert_body (space o.ns) o.documents.items o.options session) };
 
-    ghost sound = { λ o. MayInsert o.documents.items };
+    ghost sound = { λ o. MayInsert o.documents.items × (first_unfit (insert_body (space o.ns) o.documents.items o.options None) ≡ None) };
 
-    ghost unfit = { λ o. CannotBeInserted o.documents.items };
+    ghost unfit = { λ o. CannotInsert (first_unfit (insert_body (space o.ns) o.documents.items o.options None)) o.documents.items };
 
-    ghost retried = { λ o. retries.None };
+    ghost retried = { λ o session. retries.None };
 
     ghost gives = { λ o reply n. Inserted (length o.documents.items) (fields reply) n };
 
-    ghost fails = { λ o reply e. ListsAs (length o.documents.items) reply e.kind };
+    ghost fails = { λ o reply e. NotInserted (length o.documents.items) reply e };
 
-    fn build(&self, alloc: Global, _wire: i32) -> Result<Document, Error> {
+    #[tactic(auto, using(crate::proofs::Inserting::cannot_at_all, crate::proofs::Inserting::not_by_option))]
+    fn build(
+        &self,
+        alloc: Global,
+        _wire: i32,
+        session: Option<&ClientSession>,
+    ) -> Result<Document, Error> {
         check(alloc, &self.documents)?;
-        command(alloc, &self.ns, &self.documents)
+        let o = &self.options;
+        body(
+            alloc,
+            &Listed {
+                list: &[
+                    ("insert", Entry::Text(&self.ns.coll)),
+                    ("documents", Entry::Documents(&self.documents)),
+                    ("ordered", Entry::Ordered(o.ordered)),
+                    (
+                        "bypassDocumentValidation",
+                        Entry::Option(Value::Flag(o.bypass_document_validation)),
+                    ),
+                    ("comment", Entry::Option(Value::Any(&o.comment))),
+                ],
+            },
+            Entry::Text(&self.ns.db),
+            session,
+            &[(
+                "writeConcern",
+                Entry::Option(Value::WriteConcern(&o.write_concern)),
+            )],
+        )
     }
 
-    fn retry(&self) -> Retry {
+    fn retry(&self, _session: Option<&ClientSession>) -> Retry {
         Retry::None
     }
 

@@ -4,7 +4,7 @@ ghost use Rattle.mg_bson.specs.Find.{get};
 ghost use Rattle.mg_bson.specs.Raw.{fields, items};
 ghost use Rattle.mg_bson.specs.RawView.{value};
 ghost use Rattle.mg_ops.specs.Failing.{FailsBy, Gives};
-ghost use Rattle.mg_ops.specs.Writes.{Inserted, ListsAs, changed_of, code_of, count_by, count_of, failure, failure_at, failures_of, index_of, item_error, message_of, with_concern, write_errors_at, write_errors_in};
+ghost use Rattle.mg_ops.specs.Writes.{Inserted, NotInserted, changed_of, code_of, count_by, count_of, failure, failure_at, failures_of, index_of, item_error, message_of, with_concern, write_errors_at, write_errors_in};
 
 use crate::fault::{Fault, error_of};
 use mg_bson::{RawArray, RawDocument, RawValue};
@@ -169,7 +169,7 @@ pub(crate) fn failures_of(
 // Reads the reply to an insert of so many documents: how many were written, or what failed.
 pub(crate) fn read_reply(alloc: Global, reply: &RawDocument<'_>, count: usize) -> Result<u64, Error>
     ensures ok { IfOk result (λ n. Inserted count (fields reply.now) n) }
-    ensures err { IfErr result (λ e. FailsBy (λ e. ListsAs count (fields reply.now) e.kind) e) }
+    ensures err { IfErr result (λ e. FailsBy (NotInserted count (fields reply.now)) e) }
 {
     let written = match count_of(reply) {
         Ok(written) => written,

@@ -1,4 +1,5 @@
-//! What the commands of operations ask a server for, and what it tells by their replies, for the proofs of callers.
+//! What the commands of operations ask a server for, whatever their session, and what it tells by their replies, for the
+//! proofs of callers.
 ghost use Rattle.std.specs.Prelude.{◌≡◌, ℕ, ℤ, pos, true, false, Bool, List, [], ◌∷◌, Option, Some, None, Ok};
 ghost use Rattle.mg_bson.specs.Tree.{Tree, Fields};
 ghost use Rattle.mg_bson.specs.Raw.{fields};
@@ -7,6 +8,7 @@ ghost use Rattle.mg_link.specs.Filter.{Condition, conditions_of};
 ghost use Rattle.mg_link.specs.Namespace.{Space, Target, collection};
 ghost use Rattle.mg_link.specs.Query.{Query, Stage, of_collection, of_database, of_indexes, selects};
 ghost use Rattle.mg_link.specs.Reply.{verdict_of};
+ghost use Rattle.mg_link.specs.Session.{Session};
 ghost use Rattle.mg_link.specs.State.{Index};
 ghost use Rattle.mg_link.specs.Write.{Modification};
 ghost use Rattle.mg_link.specs.declared.concern.WriteConcern.{WriteConcern};
@@ -14,102 +16,104 @@ ghost use Rattle.mg_link.specs.declared.reply.Verdict.TheVariants as verdict;
 ghost use Rattle.mg_options.specs.declared.change_stream.ChangeStreamOptions.{ChangeStreamOptions};
 ghost use Rattle.mg_options.specs.Fields.{fields_in};
 ghost use Rattle.mg_options.specs.declared.write_words.UpdateModifications.TheVariants as modifications;
+ghost use Rattle.mg_options.specs.declared.writes.InsertManyOptions.{InsertManyOptions};
 ghost use Rattle.mg_ops.specs.Aims.{aim_of, asked_for};
-ghost use Rattle.mg_ops.specs.Bodies.{aggregate_body, create_body, create_indexes_body, delete_body, drop_body, find_body, list_collections_body, list_indexes_body, update_body};
-ghost use Rattle.mg_ops.specs.Commands.{get_more_command, insert_command, kill_command, more_command, watch_command};
+ghost use Rattle.mg_ops.specs.Bodies.{aggregate_body, create_body, create_indexes_body, delete_body, drop_body, find_body, insert_body, is_ordered, list_collections_body, list_indexes_body, update_body};
+ghost use Rattle.mg_ops.specs.Commands.{get_more_command, kill_command, more_command, watch_command};
 ghost use Rattle.mg_ops.specs.Cursors.{Cursor, cursor_of};
 ghost use Rattle.mg_ops.specs.Naming.{IsNamed};
 ghost use Rattle.mg_ops.specs.Pieces.{keys_onto};
 ghost use Rattle.mg_ops.specs.Plain.{plain_aggregate, plain_collections, plain_delete, plain_find, plain_index, plain_indexes};
+ghost use Rattle.mg_ops.specs.Sessions.{in_session};
 ghost use Rattle.mg_ops.specs.Writes.{Inserted, Wrote, count_of, counts_of, failures_of};
 
-/// An insert asks for its documents to be inserted, in order.
+/// An insert asks for its documents to be inserted, in order up to the first that fails unless it is said otherwise.
 pub fn asks_to_insert()
-    ensures { (command : List ℕ) (space : Space) (documents : List Fields) → IsNamed space
-        → fields command ≡ insert_command space documents → asked command ≡ asks_insert space documents true }
+    ensures { (command : List ℕ) (space : Space) (documents : List Fields) (o : InsertManyOptions) (session : Option Session) → IsNamed space
+        → fields command ≡ fields_in (insert_body space documents o session) → asked command ≡ asks_insert space documents (is_ordered o.ordered) }
 {}
 
 /// The aggregate of a watch asks for that watch, from its start on, or for nothing where its names, filter or starts may not be.
 pub fn asks_as_aimed()
-    ensures { (command : List ℕ) (target : Target) (pipeline : List Fields) (o : ChangeStreamOptions)
-        → fields command ≡ watch_command target pipeline o → asked command ≡ asked_for (aim_of target pipeline o) }
+    ensures { (command : List ℕ) (target : Target) (pipeline : List Fields) (o : ChangeStreamOptions) (session : Option Session)
+        → fields command ≡ in_session session (watch_command target pipeline o) → asked command ≡ asked_for (aim_of target pipeline o) }
 {}
 
 /// A getMore asks for more of its cursor.
 pub fn asks_for_more()
-    ensures { (command : List ℕ) (id : ℤ) (space : Space) (size : Option ℕ) → IsNamed space
-        → fields command ≡ get_more_command id space size → asked command ≡ asks_more id space }
+    ensures { (command : List ℕ) (id : ℤ) (space : Space) (size : Option ℕ) (session : Option Session) → IsNamed space
+        → fields command ≡ in_session session (get_more_command id space size) → asked command ≡ asks_more id space }
 {}
 
 /// The same where it has a time to wait and a comment.
 pub fn asks_for_next()
-    ensures { (command : List ℕ) (id : ℤ) (space : Space) (size time : Option ℕ) (comment : Option Tree) → IsNamed space
-        → fields command ≡ more_command id space size time comment → asked command ≡ asks_more id space }
+    ensures { (command : List ℕ) (id : ℤ) (space : Space) (size time : Option ℕ) (comment : Option Tree) (session : Option Session) → IsNamed space
+        → fields command ≡ in_session session (more_command id space size time comment) → asked command ≡ asks_more id space }
 {}
 
 /// A killCursors asks for its cursors to be removed.
 pub fn asks_to_kill()
-    ensures { (command : List ℕ) (space : Space) (ids : List ℤ)
-        → fields command ≡ kill_command space ids → asked command ≡ asks_kill ids }
+    ensures { (command : List ℕ) (space : Space) (ids : List ℤ) (session : Option Session)
+        → fields command ≡ in_session session (kill_command space ids) → asked command ≡ asks_kill ids }
 {}
 
 /// A create asks for its collection to be made.
 pub fn asks_to_create()
-    ensures { (command : List ℕ) (space : Space) (writes : Option WriteConcern) → IsNamed space
-        → fields command ≡ fields_in (create_body space writes) → asked command ≡ asks_create space }
+    ensures { (command : List ℕ) (space : Space) (writes : Option WriteConcern) (session : Option Session) → IsNamed space
+        → fields command ≡ fields_in (create_body space writes session) → asked command ≡ asks_create space }
 {}
 
 /// A drop asks for its collection to be removed.
 pub fn asks_to_drop()
-    ensures { (command : List ℕ) (space : Space) (writes : Option WriteConcern) → IsNamed space
-        → fields command ≡ fields_in (drop_body space writes) → asked command ≡ asks_drop space }
+    ensures { (command : List ℕ) (space : Space) (writes : Option WriteConcern) (session : Option Session) → IsNamed space
+        → fields command ≡ fields_in (drop_body space writes session) → asked command ≡ asks_drop space }
 {}
 
 /// A delete asks for the documents that meet its conditions to be removed: all, or the first.
 pub fn asks_to_delete()
-    ensures { (command : List ℕ) (space : Space) (filter : Fields) (conditions : List Condition) (many : Bool) (writes : Option WriteConcern)
+    ensures { (command : List ℕ) (space : Space) (filter : Fields) (conditions : List Condition) (many : Bool) (writes : Option WriteConcern) (session : Option Session)
         → IsNamed space → conditions_of filter ≡ Some conditions
-        → fields command ≡ fields_in (delete_body space filter many (plain_delete writes)) → asked command ≡ asks_delete space conditions many }
+        → fields command ≡ fields_in (delete_body space filter many (plain_delete writes) session) → asked command ≡ asks_delete space conditions many }
 {}
 
 /// An update by a document asks for the documents that meet its conditions to be changed so: all, or the first.
 pub fn asks_to_update()
-    ensures { (command : List ℕ) (space : Space) (filter d : Fields) (conditions : List Condition) (m : Modification) (many : Bool) (writes : Option WriteConcern)
+    ensures { (command : List ℕ) (space : Space) (filter d : Fields) (conditions : List Condition) (m : Modification) (many : Bool) (writes : Option WriteConcern) (session : Option Session)
         → IsNamed space → conditions_of filter ≡ Some conditions → modification_of d ≡ Some m
-        → fields command ≡ fields_in (update_body space filter (modifications.Document d) many writes) → asked command ≡ asks_update space conditions m many }
+        → fields command ≡ fields_in (update_body space filter (modifications.Document d) many writes session) → asked command ≡ asks_update space conditions m many }
 {}
 
 /// A createIndexes asks for one index, which has its name of its keys.
 pub fn asks_to_index()
-    ensures { (command : List ℕ) (space : Space) (keys : Fields) (name : List ℕ) (writes : Option WriteConcern)
+    ensures { (command : List ℕ) (space : Space) (keys : Fields) (name : List ℕ) (writes : Option WriteConcern) (session : Option Session)
         → IsNamed space → keys_onto [] keys ≡ Some name
-        → fields command ≡ fields_in (create_indexes_body space keys (plain_index writes)) → asked command ≡ asks_indexes space (record { name = name; key = keys } ∷ []) }
+        → fields command ≡ fields_in (create_indexes_body space keys (plain_index writes) session) → asked command ≡ asks_indexes space (record { name = name; key = keys } ∷ []) }
 {}
 
 /// A find asks for the documents that meet its conditions.
 pub fn asks_to_find()
-    ensures { (command : List ℕ) (space : Space) (filter : Fields) (conditions : List Condition)
+    ensures { (command : List ℕ) (space : Space) (filter : Fields) (conditions : List Condition) (session : Option Session)
         → IsNamed space → conditions_of filter ≡ Some conditions
-        → fields command ≡ fields_in (find_body space filter plain_find) → asked command ≡ asks_query (record { source = of_collection space; stages = selects conditions ∷ []; single = false; size = None }) }
+        → fields command ≡ fields_in (find_body space filter plain_find session) → asked command ≡ asks_query (record { source = of_collection space; stages = selects conditions ∷ []; single = false; size = None }) }
 {}
 
 /// An aggregate whose stages a store takes asks for what they make of the documents of its collection.
 pub fn asks_to_aggregate()
-    ensures { (command : List ℕ) (space : Space) (pipeline : List Fields) (stages : List Stage)
+    ensures { (command : List ℕ) (space : Space) (pipeline : List Fields) (stages : List Stage) (session : Option Session)
         → IsNamed space → pipeline_of pipeline ≡ Some stages
-        → fields command ≡ fields_in (aggregate_body (collection space) pipeline plain_aggregate) → asked command ≡ asks_query (record { source = of_collection space; stages = stages; single = false; size = None }) }
+        → fields command ≡ fields_in (aggregate_body (collection space) pipeline plain_aggregate session) → asked command ≡ asks_query (record { source = of_collection space; stages = stages; single = false; size = None }) }
 {}
 
 /// A listCollections asks for the collections of its database.
 pub fn asks_for_collections()
-    ensures { (command db : List ℕ) (name_only : Bool) → as_database db ≡ Some db
-        → fields command ≡ fields_in (list_collections_body db name_only plain_collections) → asked command ≡ asks_query (record { source = of_database db; stages = []; single = false; size = None }) }
+    ensures { (command db : List ℕ) (name_only : Bool) (session : Option Session) → as_database db ≡ Some db
+        → fields command ≡ fields_in (list_collections_body db name_only plain_collections session) → asked command ≡ asks_query (record { source = of_database db; stages = []; single = false; size = None }) }
 {}
 
 /// A listIndexes asks for the indexes of its collection.
 pub fn asks_for_indexes()
-    ensures { (command : List ℕ) (space : Space) → IsNamed space
-        → fields command ≡ fields_in (list_indexes_body space plain_indexes) → asked command ≡ asks_query (record { source = of_indexes space; stages = []; single = false; size = None }) }
+    ensures { (command : List ℕ) (space : Space) (session : Option Session) → IsNamed space
+        → fields command ≡ fields_in (list_indexes_body space plain_indexes session) → asked command ≡ asks_query (record { source = of_indexes space; stages = []; single = false; size = None }) }
 {}
 
 /// What a reply to a getMore tells: the cursor, the documents of its batch, and the token.

@@ -25,6 +25,7 @@ mod pipelines;
 mod raw_output;
 mod resuming;
 mod run_commands;
+mod session;
 mod write_reply;
 
 pub use aggregate::ChangeStreamAggregate;

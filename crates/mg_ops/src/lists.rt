@@ -3,8 +3,9 @@ use crate::body::{Listed, Part, Then, body};
 use crate::cursor_reply::{CursorSpecification, read_cursor};
 use crate::entry::Entry;
 use crate::operation::Operation;
+use crate::session::read_retry;
 use mg_bson::{Document, RawDocumentBuf};
-use mg_link::{Error, Namespace, Retry};
+use mg_link::{ClientSession, Error, Namespace, Retry};
 use mg_options::{ListCollectionsOptions, ListIndexesOptions, Value};
 use std::alloc::Global;
 
@@ -68,24 +69,29 @@ impl Operation for ListCollections {
     type Output = CursorSpecification;
 
     ghost use Rattle.std.specs.Prelude.{◌≡◌, None, string_bytes};
-    ghost use Rattle.mg_link.specs.declared.exec.Retry.TheVariants as retries;
     ghost use Rattle.mg_options.specs.Fields.{Refuses, fields_in, first_unfit};
     ghost use Rattle.mg_ops.specs.Bodies.{list_collections_body};
     ghost use Rattle.mg_ops.specs.Cursors.{BreaksIn, OpensWith};
+    ghost use Rattle.mg_ops.specs.Sessions.{read_retry};
 
-    ghost command = { λ o wire. fields_in (list_collections_body (string_bytes o.db) o.name_only o.options) };
+    ghost command = { λ o wire session. fields_in (list_collections_body (string_bytes o.db) o.name_only o.options session) };
 
-    ghost sound = { λ o. first_unfit (list_collections_body (string_bytes o.db) o.name_only o.options) ≡ None };
+    ghost sound = { λ o. first_unfit (list_collections_body (string_bytes o.db) o.name_only o.options None) ≡ None };
 
-    ghost unfit = { λ o. Refuses (first_unfit (list_collections_body (string_bytes o.db) o.name_only o.options)) };
+    ghost unfit = { λ o. Refuses (first_unfit (list_collections_body (string_bytes o.db) o.name_only o.options None)) };
 
-    ghost retried = { λ o. retries.Read };
+    ghost retried = { λ o. read_retry };
 
     ghost gives = { λ o. OpensWith o.options.batch_size None None };
 
     ghost fails = { λ o. BreaksIn };
 
-    fn build(&self, alloc: Global, _wire: i32) -> Result<Document, Error> {
+    fn build(
+        &self,
+        alloc: Global,
+        _wire: i32,
+        session: Option<&ClientSession>,
+    ) -> Result<Document, Error> {
         let front = Listed {
             list: &[
                 ("listCollections", Entry::Number(1)),
@@ -95,24 +101,20 @@ impl Operation for ListCollections {
                 ),
             ],
         };
-        let back = Listed {
-            list: &[("$db", Entry::Text(&self.db))],
-        };
-        let rest = Then {
-            first: &self.options,
-            rest: &back,
-        };
         body(
             alloc,
             &Then {
                 first: &front,
-                rest: &rest,
+                rest: &self.options,
             },
+            Entry::Text(&self.db),
+            session,
+            &[],
         )
     }
 
-    fn retry(&self) -> Retry {
-        Retry::Read
+    fn retry(&self, session: Option<&ClientSession>) -> Retry {
+        read_retry(session)
     }
 
     fn read(&self, alloc: Global, reply: RawDocumentBuf) -> Result<CursorSpecification, Error> {
@@ -125,24 +127,29 @@ impl Operation for ListIndexes {
 
     ghost use Rattle.std.specs.Prelude.{◌≡◌, None};
     ghost use Rattle.mg_link.specs.Namespace.{space};
-    ghost use Rattle.mg_link.specs.declared.exec.Retry.TheVariants as retries;
     ghost use Rattle.mg_options.specs.Fields.{Refuses, fields_in, first_unfit};
     ghost use Rattle.mg_ops.specs.Bodies.{list_indexes_body};
     ghost use Rattle.mg_ops.specs.Cursors.{BreaksIn, OpensWith};
+    ghost use Rattle.mg_ops.specs.Sessions.{read_retry};
 
-    ghost command = { λ o wire. fields_in (list_indexes_body (space o.ns) o.options) };
+    ghost command = { λ o wire session. fields_in (list_indexes_body (space o.ns) o.options session) };
 
-    ghost sound = { λ o. first_unfit (list_indexes_body (space o.ns) o.options) ≡ None };
+    ghost sound = { λ o. first_unfit (list_indexes_body (space o.ns) o.options None) ≡ None };
 
-    ghost unfit = { λ o. Refuses (first_unfit (list_indexes_body (space o.ns) o.options)) };
+    ghost unfit = { λ o. Refuses (first_unfit (list_indexes_body (space o.ns) o.options None)) };
 
-    ghost retried = { λ o. retries.Read };
+    ghost retried = { λ o. read_retry };
 
     ghost gives = { λ o. OpensWith o.options.batch_size o.options.max_time None };
 
     ghost fails = { λ o. BreaksIn };
 
-    fn build(&self, alloc: Global, _wire: i32) -> Result<Document, Error> {
+    fn build(
+        &self,
+        alloc: Global,
+        _wire: i32,
+        session: Option<&ClientSession>,
+    ) -> Result<Document, Error> {
         let front = Listed {
             list: &[
                 ("listIndexes", Entry::Text(&self.ns.coll)),
@@ -152,24 +159,20 @@ impl Operation for ListIndexes {
                 ),
             ],
         };
-        let back = Listed {
-            list: &[("$db", Entry::Text(&self.ns.db))],
-        };
-        let rest = Then {
-            first: &self.options,
-            rest: &back,
-        };
         body(
             alloc,
             &Then {
                 first: &front,
-                rest: &rest,
+                rest: &self.options,
             },
+            Entry::Text(&self.ns.db),
+            session,
+            &[],
         )
     }
 
-    fn retry(&self) -> Retry {
-        Retry::Read
+    fn retry(&self, session: Option<&ClientSession>) -> Retry {
+        read_retry(session)
     }
 
     fn read(&self, alloc: Global, reply: RawDocumentBuf) -> Result<CursorSpecification, Error> {

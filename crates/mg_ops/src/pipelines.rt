@@ -4,9 +4,10 @@ use crate::cursor_reply::{CursorSpecification, read_cursor};
 use crate::entry::Entry;
 use crate::looking::writes_out;
 use crate::operation::Operation;
+use crate::session::read_retry;
 use crate::write_reply::check_written;
 use mg_bson::{Document, RawDocumentBuf};
-use mg_link::{Error, OperationTarget, Retry};
+use mg_link::{ClientSession, Error, OperationTarget, Retry};
 use mg_options::{AggregateOptions, Value};
 use std::alloc::Global;
 
@@ -56,21 +57,27 @@ impl Operation for Aggregate {
     ghost use Rattle.mg_link.specs.declared.exec.Retry.TheVariants as retries;
     ghost use Rattle.mg_options.specs.Fields.{Refuses, fields_in, first_unfit};
     ghost use Rattle.mg_ops.specs.Bodies.{aggregate_body, writes_out};
+    ghost use Rattle.mg_ops.specs.Sessions.{read_retry};
     ghost use Rattle.mg_ops.specs.Writes.{AggregateFails, AggregateOpens};
 
-    ghost command = { λ o wire. fields_in (aggregate_body (target o.target) o.pipeline.items o.options) };
+    ghost command = { λ o wire session. fields_in (aggregate_body (target o.target) o.pipeline.items o.options session) };
 
-    ghost sound = { λ o. first_unfit (aggregate_body (target o.target) o.pipeline.items o.options) ≡ None };
+    ghost sound = { λ o. first_unfit (aggregate_body (target o.target) o.pipeline.items o.options None) ≡ None };
 
-    ghost unfit = { λ o. Refuses (first_unfit (aggregate_body (target o.target) o.pipeline.items o.options)) };
+    ghost unfit = { λ o. Refuses (first_unfit (aggregate_body (target o.target) o.pipeline.items o.options None)) };
 
-    ghost retried = { λ o. if writes_out o.pipeline.items then retries.None else retries.Read };
+    ghost retried = { λ o session. if writes_out o.pipeline.items then retries.None else read_retry session };
 
     ghost gives = { λ o. AggregateOpens (writes_out o.pipeline.items) o.options };
 
     ghost fails = { λ o. AggregateFails (writes_out o.pipeline.items) };
 
-    fn build(&self, alloc: Global, _wire: i32) -> Result<Document, Error> {
+    fn build(
+        &self,
+        alloc: Global,
+        _wire: i32,
+        session: Option<&ClientSession>,
+    ) -> Result<Document, Error> {
         let o = &self.options;
         let front = Listed {
             list: &[
@@ -79,10 +86,16 @@ impl Operation for Aggregate {
                 ("cursor", Entry::Cursor(o.batch_size, &self.pipeline)),
             ],
         };
-        let middle = SizelessAggregate { options: o };
-        let back = Listed {
-            list: &[
-                ("$db", Entry::DatabaseOf(&self.target)),
+        let options = SizelessAggregate { options: o };
+        body(
+            alloc,
+            &Then {
+                first: &front,
+                rest: &options,
+            },
+            Entry::DatabaseOf(&self.target),
+            session,
+            &[
                 (
                     "readConcern",
                     Entry::Option(Value::ReadConcern(&o.read_concern)),
@@ -96,25 +109,14 @@ impl Operation for Aggregate {
                     Entry::Option(Value::Selection(o.selection_criteria)),
                 ),
             ],
-        };
-        let rest = Then {
-            first: &middle,
-            rest: &back,
-        };
-        body(
-            alloc,
-            &Then {
-                first: &front,
-                rest: &rest,
-            },
         )
     }
 
-    fn retry(&self) -> Retry {
+    fn retry(&self, session: Option<&ClientSession>) -> Retry {
         if writes_out(&self.pipeline) {
             Retry::None
         } else {
-            Retry::Read
+            read_retry(session)
         }
     }
 

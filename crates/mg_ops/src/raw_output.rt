@@ -1,7 +1,7 @@
 //! Replies that are not read.
 use crate::operation::Operation;
 use mg_bson::{Document, RawDocumentBuf};
-use mg_link::{Error, Retry};
+use mg_link::{ClientSession, Error, Retry};
 use std::alloc::Global;
 
 /// An operation whose reply is handed on unread.
@@ -25,12 +25,17 @@ impl<Op: Operation> Operation for RawOutput<Op> {
 
     ghost fails = { λ o reply e. ⊥ };
 
-    fn build(&self, alloc: Global, wire: i32) -> Result<Document, Error> {
-        self.0.build(alloc, wire)
+    fn build(
+        &self,
+        alloc: Global,
+        wire: i32,
+        session: Option<&ClientSession>,
+    ) -> Result<Document, Error> {
+        self.0.build(alloc, wire, session)
     }
 
-    fn retry(&self) -> Retry {
-        self.0.retry()
+    fn retry(&self, session: Option<&ClientSession>) -> Retry {
+        self.0.retry(session)
     }
 
     fn read(&self, _alloc: Global, reply: RawDocumentBuf) -> Result<RawDocumentBuf, Error> {

@@ -1,18 +1,19 @@
 //! Commands that are given as documents.
-ghost use Rattle.std.specs.Prelude.{◌≡◌, None, OnOk, IfOk, IfErr, string_bytes};
+ghost use Rattle.std.specs.Prelude.{◌≡◌, None, OnOk, IfOk, IfErr, option_copied, string_bytes};
 ghost use Rattle.mg_bson.specs.Find.{joined};
 ghost use Rattle.mg_options.specs.Fields.{FailsBy, fields_in, first_unfit};
 ghost use Rattle.mg_ops.specs.Bodies.{run_lines};
 ghost use Rattle.mg_ops.specs.Failing.{HasBadSize};
 ghost use Rattle.mg_ops.specs.Limits.{SizeFits};
 
+use crate::body::{Listed, append_all};
 use crate::cursor_reply::{CursorSpecification, read_cursor};
 use crate::entry::Entry;
 use crate::operation::Operation;
 use crate::parts::size;
 use mg_bson::{Document, RawDocumentBuf, to_document};
-use mg_link::{Error, Retry, SelectionCriteria};
-use mg_options::{RunCommandOptions, RunCursorCommandOptions, Value, append_given};
+use mg_link::{ClientSession, Error, Retry, SelectionCriteria};
+use mg_options::{RunCommandOptions, RunCursorCommandOptions, Value};
 use std::alloc::Global;
 
 /// Runs a command on a database.
@@ -57,25 +58,26 @@ impl Drop for RunCursorCommand {
     }
 }
 
-// The command with its database behind it.
+// The command with its database and its session behind it.
 fn command(
     alloc: Global,
     given: &Document,
     db: &String,
     asks: Option<SelectionCriteria>,
+    session: Option<&ClientSession>,
 ) -> Result<Document, Error>
-    ensures ok { IfOk result (λ d. d ≡ joined given.now (fields_in (run_lines (string_bytes db.now) asks))) }
-    ensures fits { OnOk result (first_unfit (run_lines (string_bytes db.now) asks) ≡ None) }
-    ensures err { IfErr result (λ e. FailsBy (first_unfit (run_lines (string_bytes db.now) asks)) e) }
+    ensures ok { IfOk result (λ d. d ≡ joined given.now (fields_in (run_lines (string_bytes db.now) asks (option_copied session.entry)))) }
+    ensures fits { OnOk result (first_unfit (run_lines (string_bytes db.now) asks None) ≡ None) }
+    ensures err { IfErr result (λ e. FailsBy (first_unfit (run_lines (string_bytes db.now) asks None)) e) }
 {
     let mut command = given.clone()?;
-    append_given(
+    append_all(
         alloc,
         &mut command,
-        &[
-            ("$db", Entry::Text(db)),
-            ("$readPreference", Entry::Option(Value::Selection(asks))),
-        ],
+        &Listed { list: &[] },
+        Entry::Text(db),
+        session,
+        &[("$readPreference", Entry::Option(Value::Selection(asks)))],
     )?;
     Ok(command)
 }
@@ -90,28 +92,34 @@ impl Operation for RunCommand {
     ghost use Rattle.mg_options.specs.Fields.{Refuses, fields_in, first_unfit};
     ghost use Rattle.mg_ops.specs.Bodies.{run_lines};
 
-    ghost command = { λ o wire. joined o.command (fields_in (run_lines (string_bytes o.db) o.options.selection_criteria)) };
+    ghost command = { λ o wire session. joined o.command (fields_in (run_lines (string_bytes o.db) o.options.selection_criteria session)) };
 
-    ghost sound = { λ o. first_unfit (run_lines (string_bytes o.db) o.options.selection_criteria) ≡ None };
+    ghost sound = { λ o. first_unfit (run_lines (string_bytes o.db) o.options.selection_criteria None) ≡ None };
 
-    ghost unfit = { λ o. Refuses (first_unfit (run_lines (string_bytes o.db) o.options.selection_criteria)) };
+    ghost unfit = { λ o. Refuses (first_unfit (run_lines (string_bytes o.db) o.options.selection_criteria None)) };
 
-    ghost retried = { λ o. retries.None };
+    ghost retried = { λ o session. retries.None };
 
     ghost gives = { λ o reply out. out ≡ fields reply };
 
     ghost fails = { λ o reply e. ⊥ };
 
-    fn build(&self, alloc: Global, _wire: i32) -> Result<Document, Error> {
+    fn build(
+        &self,
+        alloc: Global,
+        _wire: i32,
+        session: Option<&ClientSession>,
+    ) -> Result<Document, Error> {
         command(
             alloc,
             &self.command,
             &self.db,
             self.options.selection_criteria,
+            session,
         )
     }
 
-    fn retry(&self) -> Retry {
+    fn retry(&self, _session: Option<&ClientSession>) -> Retry {
         Retry::None
     }
 
@@ -146,29 +154,35 @@ impl Operation for RunCursorCommand {
     ghost use Rattle.mg_ops.specs.Failing.{HasBadSize};
     ghost use Rattle.mg_ops.specs.Limits.{SizeFits};
 
-    ghost command = { λ o wire. joined o.command (fields_in (run_lines (string_bytes o.db) o.options.selection_criteria)) };
+    ghost command = { λ o wire session. joined o.command (fields_in (run_lines (string_bytes o.db) o.options.selection_criteria session)) };
 
-    ghost sound = { λ o. SizeFits o.options.batch_size × (first_unfit (run_lines (string_bytes o.db) o.options.selection_criteria) ≡ None) };
+    ghost sound = { λ o. SizeFits o.options.batch_size × (first_unfit (run_lines (string_bytes o.db) o.options.selection_criteria None) ≡ None) };
 
-    ghost unfit = { λ o e. HasBadSize o.options.batch_size e ⊎ Refuses (first_unfit (run_lines (string_bytes o.db) o.options.selection_criteria)) e };
+    ghost unfit = { λ o e. HasBadSize o.options.batch_size e ⊎ Refuses (first_unfit (run_lines (string_bytes o.db) o.options.selection_criteria None)) e };
 
-    ghost retried = { λ o. retries.None };
+    ghost retried = { λ o session. retries.None };
 
     ghost gives = { λ o. OpensWith o.options.batch_size o.options.max_time o.options.comment };
 
     ghost fails = { λ o. BreaksIn };
 
-    fn build(&self, alloc: Global, _wire: i32) -> Result<Document, Error> {
+    fn build(
+        &self,
+        alloc: Global,
+        _wire: i32,
+        session: Option<&ClientSession>,
+    ) -> Result<Document, Error> {
         check_size(self.options.batch_size)?;
         command(
             alloc,
             &self.command,
             &self.db,
             self.options.selection_criteria,
+            session,
         )
     }
 
-    fn retry(&self) -> Retry {
+    fn retry(&self, _session: Option<&ClientSession>) -> Retry {
         Retry::None
     }
 

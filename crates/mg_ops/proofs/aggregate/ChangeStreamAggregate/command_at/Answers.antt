@@ -1,10 +1,10 @@
 use Rattle.std.proofs.Common.{ℕ, Option, OnOk, IfErr, subst}
 use Rattle.mg_ops.specs.Failing.{FailsBy, HasBadSize}
 use Rattle.mg_ops.specs.Limits.{SizeFits}
-use Rattle.mg_ops.proofs.aggregate.ChangeStreamAggregateOperation.build.Goals as goal
+use Rattle.mg_ops.proofs.aggregate.ChangeStreamAggregate.command_at.Goals as goal
 
-pub returns-in_ok-options-in-Some-clause-sound : goal.returns-in_ok-options-in-Some-clause-sound
-returns-in_ok-options-in-Some-clause-sound c =
+pub returns-in_ok-options-in-Some-clause-fits : goal.returns-in_ok-options-in-Some-clause-fits
+returns-in_ok-options-in-Some-clause-fits c =
     subst (λ (size : Option ℕ). OnOk c.command-in-Some.result (SizeFits size)) c.in_ok-options-in-Some.ensures.size c.command-in-Some.ensures.fits
 
 pub returns-in_ok-options-in-Some-clause-err : goal.returns-in_ok-options-in-Some-clause-err
