@@ -9,7 +9,7 @@ use Rattle.mg_link.specs.Namespace.{Space}
 use Rattle.mg_link.specs.State.{Entry}
 use Rattle.mg_link.specs.Rules.{accept, choose, insert_entry, Inserted, inserting, no_more, with_document, with_error, write_error}
 use Rattle.mg_store.specs.Holding.{AreExact, entries_from, entry_at, change_told}
-use Rattle.mg_store.specs.Inserting.{Accepts, Appends, AreNew, Fits, Lists, Refuses, Takes, document_of, holds_id, new_documents, vec_cmp}
+use Rattle.mg_store.specs.Inserting.{Accepts, Appends, HaveNewIds, Fits, Lists, Refuses, Takes, document_of, holds_id, new_documents, vec_cmp}
 use Rattle.mg_store.specs.declared.change.ChangeEntry.{ChangeEntry}
 use Rattle.mg_store.specs.declared.insert.Appended.{Appended}
 use Rattle.mg_store.proofs.Entries.{entries-append}
@@ -85,7 +85,7 @@ fits_same : (before : List Fields) (a b : Appended) (e : Fields) → Lists e a b
 fits_same before a b e l h =
     record {
       ids_are = λ k. ap (λ m. contains vec_cmp m k) l.ids_same ∙ h.ids_are k ∙ ap (λ ds. holds_id k.items (map document_of ds.items)) (sym l.documents_same);
-      new = subst (λ ds. AreNew before ds.items) (sym l.documents_same) h.new;
+      new = subst (λ ds. HaveNewIds before ds.items) (sym l.documents_same) h.new;
       exact = subst (λ es. AreExact es.items) (sym l.entries_same) h.exact;
     }
 

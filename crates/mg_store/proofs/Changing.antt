@@ -1,10 +1,10 @@
 -- A document of a collection is changed or removed by its number.
-use Rattle.std.proofs.Common.{◌≡◌, ℕ, ◌<◌, Bool, true, false, cond, List, [], ◌∷◌, map, Option, Some, None, is_some, refl, sym, ap, ap₂, ◌∙◌, inl, inr, arith, Vec, subst}
+use Rattle.std.proofs.Common.{◌≡◌, ℕ, ◌<◌, Bool, true, false, cond, List, [], ◌∷◌, Option, Some, None, is_some, refl, sym, ap, ap₂, ◌∙◌, inl, inr, Vec, subst}
 use Rattle.std.specs.Prelude.{if◌then◌else◌, not, ◌||◌}
 use Rattle.std.specs.declared.alloc.Global.{Global}
 use Rattle.std.specs.declared.cmp.Ordering.TheVariants.{Less}
 use Rattle.std.specs.BTreeMap.{BTreeMap, UpdatesBy, IsOrdered, is_at, keys}
-use Rattle.std.specs.List.{AllByRecursion, filter}
+use Rattle.std.specs.List.{AllByRecursion}
 use Rattle.std.specs.List.Sorted.{IsStrictlySortedBy}
 use Rattle.std.specs.Map.{keys_of, lookup, remove_entry, set_value}
 use Rattle.std.specs.Ordering.{is_eq, nat_cmp}
@@ -16,7 +16,7 @@ use Rattle.std.proofs.lemmas.Map.Text.{is_eq-slice_cmp}
 use Rattle.std.proofs.lemmas.Slice.Eq.{bytes_eq-Decides}
 use Rattle.mg_bson.specs.Tree.{Fields}
 use Rattle.mg_bson.specs.Raw.{fields}
-use Rattle.mg_store.specs.Collecting.{AreDistinct, with_document, without_document}
+use Rattle.mg_store.specs.Collecting.{AreDistinct, exchange_document, without_document}
 use Rattle.mg_store.specs.Grouping.{AreGrouped}
 use Rattle.mg_store.specs.Inserting.{IsKeyed, IsNumbered, KeepsIds, holds_id, is_number, is_of_id, number_in, stored, vec_cmp}
 use Rattle.mg_store.specs.declared.collection.Collection.{Collection}
@@ -29,11 +29,11 @@ neither : (a b : Bool) → (a || b) ≡ false → (a ≡ false) × (b ≡ false)
 neither true b h = cc
 neither false b h = (refl, h)
 
-pub none_changes : (k : List ℕ) (d : Fields) (ds : List Fields) → holds_id k ds ≡ false → with_document k d ds ≡ ds
+pub none_changes : (k : List ℕ) (d : Fields) (ds : List Fields) → holds_id k ds ≡ false → exchange_document k d ds ≡ ds
 none_changes k d [] h = refl
 none_changes k d (x ∷ ds) h =
     let parts = neither (is_of_id k x) (holds_id k ds) h in
-    ap (λ (b : Bool). (if b then d else x) ∷ with_document k d ds) parts.0 ∙ ap (λ (l : List Fields). x ∷ l) (none_changes k d ds parts.1)
+    ap (λ (b : Bool). (if b then d else x) ∷ exchange_document k d ds) parts.0 ∙ ap (λ (l : List Fields). x ∷ l) (none_changes k d ds parts.1)
 
 pub none_goes : (k : List ℕ) (ds : List Fields) → holds_id k ds ≡ false → without_document k ds ≡ ds
 none_goes k [] h = refl
@@ -41,7 +41,7 @@ none_goes k (x ∷ ds) h =
     let parts = neither (is_of_id k x) (holds_id k ds) h in
     ap (λ (b : Bool). cond (not b) (x ∷ without_document k ds) (without_document k ds)) parts.0 ∙ ap (λ (l : List Fields). x ∷ l) (none_goes k ds parts.1)
 
-holds_with : (k l : List ℕ) (d : Fields) (ds : List Fields) → IsKeyed k d → holds_id l (with_document k d ds) ≡ holds_id l ds
+holds_with : (k l : List ℕ) (d : Fields) (ds : List Fields) → IsKeyed k d → holds_id l (exchange_document k d ds) ≡ holds_id l ds
 holds_with k l d [] keyed = refl
 holds_with k l d (x ∷ ds) keyed =
     ap₂ (λ (a b : Bool). a || b)
@@ -96,18 +96,18 @@ not_there k n es none h = none_holds k es (none_numbered k n es (none_passes_fro
 
 -- ---- a document is changed
 
-pub changed_fields : (k : List ℕ) (n : ℕ) (w : List ℕ) (es : List Entry) → IsStrictlySortedBy nat_cmp (keys_of es) → IsNumbered k (Some n) es → fields_of (set_value (is_at (nat_cmp n)) es w) ≡ with_document k (fields w) (fields_of es)
+pub changed_fields : (k : List ℕ) (n : ℕ) (w : List ℕ) (es : List Entry) → IsStrictlySortedBy nat_cmp (keys_of es) → IsNumbered k (Some n) es → fields_of (set_value (is_at (nat_cmp n)) es w) ≡ exchange_document k (fields w) (fields_of es)
 changed_fields k n w [] sorted h = refl
 changed_fields k n w (e ∷ es) sorted h =
     elim (cases_Bool (is_eq (nat_cmp n e.0))) [
       | inl at ↦
           ap (λ (b : Bool). fields_of (cond b ((e.0, w) ∷ es) (e ∷ set_value (is_at (nat_cmp n)) es w))) at
-          ∙ sym (ap (λ (b : Bool). (if b then fields w else fields e.1) ∷ with_document k (fields w) (fields_of es)) (h.0 ∙ at)
+          ∙ sym (ap (λ (b : Bool). (if b then fields w else fields e.1) ∷ exchange_document k (fields w) (fields_of es)) (h.0 ∙ at)
           ∙ ap (λ (l : List Fields). fields w ∷ l) (none_changes k (fields w) (fields_of es) (none_holds k es (behind_head k n e es sorted at h.1))))
       | inr other ↦
           ap (λ (b : Bool). fields_of (cond b ((e.0, w) ∷ es) (e ∷ set_value (is_at (nat_cmp n)) es w))) other
           ∙ ap (λ (l : List Fields). fields e.1 ∷ l) (changed_fields k n w es (sorted_tail nat_cmp e.0 (keys_of es) sorted) h.1)
-          ∙ sym (ap (λ (b : Bool). (if b then fields w else fields e.1) ∷ with_document k (fields w) (fields_of es)) (h.0 ∙ other))
+          ∙ sym (ap (λ (b : Bool). (if b then fields w else fields e.1) ∷ exchange_document k (fields w) (fields_of es)) (h.0 ∙ other))
     ]
 
 changed_numbered : (k l : List ℕ) (n : ℕ) (o : Option ℕ) (w : List ℕ) (es : List Entry) → IsKeyed k (fields w) → IsNumbered k (Some n) es → IsNumbered l o es → IsNumbered l o (set_value (is_at (nat_cmp n)) es w)
@@ -121,7 +121,7 @@ changed_numbered k l n o w (e ∷ es) keyed h g =
 pub numbered_at : (c : Collection) (k : Vec ℕ Global) (n : ℕ) → KeepsIds c → number_in c.ids k.items ≡ Some n → IsNumbered k.items (Some n) c.documents.entries
 numbered_at c k n h e = subst (λ (o : Option ℕ). IsNumbered k.items o c.documents.entries) e (h.numbered k)
 
-pub change_stored : (c w : Collection) (k : Vec ℕ Global) (n : ℕ) (v : List ℕ) → KeepsIds c → number_in c.ids k.items ≡ Some n → w.documents.entries ≡ set_value (is_at (nat_cmp n)) c.documents.entries v → stored w ≡ with_document k.items (fields v) (stored c)
+pub change_stored : (c w : Collection) (k : Vec ℕ Global) (n : ℕ) (v : List ℕ) → KeepsIds c → number_in c.ids k.items ≡ Some n → w.documents.entries ≡ set_value (is_at (nat_cmp n)) c.documents.entries v → stored w ≡ exchange_document k.items (fields v) (stored c)
 change_stored c w k n v h at docs = ap fields_of docs ∙ changed_fields k.items n v c.documents.entries h.sorted (numbered_at c k n h at)
 
 pub change_keeps : (c w : Collection) (k : Vec ℕ Global) (n : ℕ) (v : List ℕ) → KeepsIds c → number_in c.ids k.items ≡ Some n → w.documents.entries ≡ set_value (is_at (nat_cmp n)) c.documents.entries v

@@ -11,7 +11,7 @@ use Rattle.mg_bson.specs.Raw.{fields}
 use Rattle.mg_bson.specs.Tree.{Fields}
 use Rattle.mg_link.specs.declared.namespace.Namespace.{Namespace}
 use Rattle.mg_link.specs.Namespace.{Space, space}
-use Rattle.mg_link.specs.State.{Entry, Cursor, Index, State, documents_at, indexes_of, is_space, put_cursor, without_cursors, query}
+use Rattle.mg_link.specs.State.{Entry, Cursor, Index, State, documents_at, indexes_of, is_space, put_cursor, without_cursors, query, changed_documents}
 use Rattle.mg_link.specs.Step.{documents_of}
 use Rattle.mg_link.specs.Rules.{is_id_among}
 use Rattle.mg_store.specs.Contents.{GoesOn, IsCursor, IsCursorAt, Leads, Represents, collection_at, Becomes}
@@ -30,7 +30,6 @@ use Rattle.mg_store.specs.declared.content.Effect.TheVariants as effects
 use Rattle.mg_store.proofs.Entries.{entries-append, exact-append}
 use Rattle.mg_store.proofs.Holdings.{changes-length}
 use Rattle.mg_store.proofs.Maps.{int_test, same_space}
-use Rattle.mg_link.proofs.Collections.{changed_documents}
 use Rattle.mg_store.specs.declared.change.ChangeEntry.{ChangeEntry}
 
 -- ---- cursors

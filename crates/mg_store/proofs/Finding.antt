@@ -8,7 +8,7 @@ use Rattle.mg_bson.specs.Reading.{◌>>=◌}
 use Rattle.mg_link.specs.Namespace.{Space}
 use Rattle.mg_link.specs.Filter.{Condition, matches}
 use Rattle.mg_link.specs.Commands.{batch_size, documents_in, find_fields, find_stages, flag_or, has_only, optional_count, pipeline_fields, pipeline_of, query_by, collections_fields, indexes_fields, optional_size, selecting, stages_by}
-use Rattle.mg_link.specs.Query.{Stage, selects, sorts, skips, limits, shows_id, hides_id, of_collection, of_database, of_indexes, read, result, staged, through}
+use Rattle.mg_link.specs.Query.{Stage, selects, sorts, skips, limits, shows_id, hides_id, of_collection, of_database, of_indexes, result, staged, through}
 use Rattle.mg_link.specs.State.{State}
 use Rattle.mg_link.specs.Step.{documents_of}
 use Rattle.mg_link.specs.Rules as rules

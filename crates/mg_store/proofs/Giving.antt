@@ -1,14 +1,14 @@
 -- The documents of a batch, taken one after another.
 use Rattle.std.proofs.Common.{◌≡◌, ℕ, zero, suc, ◌+◌, ◌-◌, ◌<◌, ◌≤◌, Bool, true, false, List, [], ◌∷◌, length, take, drop, map, get_or, refl, sym, ap, ap₂, ◌∙◌, arith}
 use Rattle.std.specs.Prelude.{if◌then◌else◌, ◌&&◌, nat_lt}
-use Rattle.std.proofs.lemmas.Bool.{lt-ltb, le-ltb}
+use Rattle.std.proofs.lemmas.Bool.{lt-ltb}
 use Rattle.std.proofs.lemmas.List.{drop-map, drop_all, drop_more, length-map}
-use Rattle.mg_bson.specs.Tree.{document, Fields, Items, no_items}
+use Rattle.mg_bson.specs.Tree.{document, Fields, Items}
 use Rattle.mg_bson.specs.Bytes.{bytes}
 use Rattle.mg_bson.specs.Raw.{fields}
 use Rattle.mg_bson.specs.Find.{with_item, items_joined}
 use Rattle.mg_bson.proofs.Joining.{items_joined_more, items_joined_all}
-use Rattle.mg_link.specs.Rules.{batch_of_query, documents_of_items, held_in, max_batch}
+use Rattle.mg_link.specs.Rules.{batch_of_query, documents_of_items, held_in}
 use Rattle.mg_store.specs.Querying.{GivesDocuments, is_none}
 
 -- how many of the rest a batch holds that may have so many more

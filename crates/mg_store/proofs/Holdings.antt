@@ -16,15 +16,15 @@ use Rattle.mg_link.specs.Namespace.{Space, Target, space, target}
 use Rattle.mg_link.specs.State.{Entry, Watch, Cursor, query, watching, State, Start, is_space, Index, collection_in, indexes_of}
 use Rattle.mg_link.specs.Step.{documents_of}
 use Rattle.mg_link.specs.Rules as rules
-use Rattle.mg_link.specs.Rules.{Inserted, answer_insert, dropped_entries, bad_request, batch_id, batch_place, cursor_fields, fitting, id_unless, ids_if, is_watch_of, refused, watch_space, size_of, stamp_of, token_of, errors_field, inserted_reply, inserting, number_of, place_at, may_stay, and_then, answer_query, batch_of_query, documents_of_items, first_held, id_while, map_ok, no_such_collection, or_code, query_id, query_space}
+use Rattle.mg_link.specs.Rules.{Inserted, answer_insert, dropped_entries, bad_request, batch_id, batch_place, cursor_fields, fitting, id_unless, ids_if, is_watch_of, refused, watch_space, size_of, stamp_of, token_of, errors_field, inserted_reply, inserting, number_of, place_at, may_stay, and_then, answer_query, batch_of_query, documents_of_items, first_held, id_while, map_ok, no_such_collection, or_code, query_id, query_space, deleted_reply}
 use Rattle.mg_link.specs.Query.{id_index, index_listed, of_indexes, Query, read, result, through}
-use Rattle.mg_link.specs.Commands.{query_by}
+use Rattle.mg_link.specs.Commands.{query_by, KeepsId}
 use Rattle.mg_link.specs.Write.{with_indexes, Modification, chosen, changing}
 use Rattle.mg_link.specs.State as state
 use Rattle.mg_store.specs.Answering.{Answers}
 use Rattle.mg_store.specs.Contents.{IsCursorAt, Represents, Settles, collection_at, moving, opening, GoesOn, IsCursor, beginning, taking}
 use Rattle.mg_store.specs.Holding.{AreExact, GivesBatch, IsWatch, entries_from}
-use Rattle.mg_store.specs.Inserting.{Appends, AreNew, Fits, KeepsIdsThere, document_of, holds_id, indexed, indexes_there, new_documents, stored, there, vec_cmp}
+use Rattle.mg_store.specs.Inserting.{Appends, HaveNewIds, Fits, KeepsIdsThere, document_of, holds_id, indexed, indexes_there, new_documents, stored, there, vec_cmp}
 use Rattle.mg_store.specs.Indexing.{index_held}
 use Rattle.mg_store.specs.declared.index.Index as code_index
 use Rattle.mg_store.specs.Replies.{killed_with, found_with}
@@ -50,8 +50,6 @@ use Rattle.mg_store.proofs.Entries.{length-entries}
 use Rattle.mg_store.proofs.Settling.{settles}
 use Rattle.mg_link.specs.declared.namespace.Namespace.{Namespace}
 use Rattle.mg_link.specs.Filter.{Condition}
-use Rattle.mg_link.proofs.Requests.{KeepsId}
-use Rattle.mg_link.proofs.Telling.{deleted_reply}
 use Rattle.mg_store.specs.Asking.{Keyed, keyed}
 use Rattle.mg_store.specs.Collecting.{AreDistinct}
 use Rattle.mg_store.specs.Rewriting.{Makes, Removes, all_fit, all_go, altering, chosen_by, lent, MakesAllOr, RemovesAllOr}
@@ -125,7 +123,7 @@ insert_settles c s given ns ds ordered o a b d result h found got docs ids es is
     let reply : d ≡ inserted_reply i = is ∙ ap₂ (λ (n : ℕ) (e : Items). "n" ⇒ number_of n ⨾ errors_field e ("ok" ⇒ int32 (pos 1) ⨾ empty)) count known.errors_are in
     let fits : Fits (documents_of s (space ns)) b = record {
       ids_are = λ k. ap (λ m. contains vec_cmp m k) ids ∙ known.fits.ids_are k ∙ ap (λ l. holds_id k.items (map document_of l.items)) (sym docs);
-      new = subst (λ l. AreNew (documents_of s (space ns)) l.items) (sym docs) known.fits.new;
+      new = subst (λ l. HaveNewIds (documents_of s (space ns)) l.items) (sym docs) known.fits.new;
       exact = subst (λ l. AreExact l.items) (sym es) known.fits.exact;
     } in
     settles s given (rules.insert (space ns) ds ordered) (answer_insert s (space ns) ds ordered) d (effects.Insert ns b) result refl reply

@@ -12,11 +12,11 @@ use Rattle.mg_bson.specs.Raw.{fields}
 use Rattle.mg_link.specs.Namespace.{Space}
 use Rattle.mg_link.specs.State.{Cursor, State, nothing, documents_at, indexes_of, put_cursor}
 use Rattle.mg_link.specs.Commands.{Asked, asks_more, asked}
-use Rattle.mg_link.specs.Step.{documents_of, ends_cursor}
+use Rattle.mg_link.specs.Step.{documents_of, ends_cursor, cursors_refused}
 use Rattle.mg_link.specs.Rules.{is_id_among, refusal}
 use Rattle.mg_link.specs.Kept.{AreByRulesFrom, Kept, IsReply, by_choice, by_rules, given_after, given_of, given_from, is_started, state_behind, state_of_kept, steps_from, steps_of}
 use Rattle.mg_link.specs.History.{IsLegal, state_after}
-use Rattle.mg_link.proofs.Behind.{behind_refusal, cursors_refused}
+use Rattle.mg_link.proofs.Behind.{behind_refusal}
 use Rattle.mg_link.proofs.Indexed.{indexes_refused}
 use Rattle.mg_link.proofs.Legal.{by_rules_push, given_push, kept_is_legal, kept_state, state_push}
 use Rattle.mg_store.specs.Contents.{AnswersBy, Becomes, Does, Keeps, Leads, MayKeep, Represents, closing, collection_at, indexes_behind}
@@ -24,7 +24,7 @@ use Rattle.mg_store.specs.Continued.{continued}
 use Rattle.mg_store.specs.declared.perform.Answer.{Answer}
 use Rattle.mg_store.specs.declared.content.Content.{Content}
 use Rattle.mg_store.specs.declared.content.Effect.{Effect}
-use Rattle.mg_store.specs.Holding.{entries_from}
+use Rattle.mg_store.specs.Holding.{AreExact, entries_from}
 use Rattle.mg_store.specs.Inserting.{stored}
 use Rattle.mg_store.specs.Stored.{AreOpen, Shown, shown, shown_of}
 use Rattle.mg_store.specs.declared.change.ChangeEntry.{ChangeEntry}
@@ -108,6 +108,9 @@ shown_entries p (e ∷ es) = ap (λ (l : List Shown). shown_of e ∷ l) (shown_e
 
 pub changes_shown : (c : Content) (history : List Kept) → Keeps c history → map shown_of c.changes.items ≡ map shown (state_of_kept history).changes
 changes_shown c history h = shown_entries 0 c.changes.items ∙ ap (map shown) (sym h.content_is.changes_are)
+
+pub changes_exact : (c : Content) (history : List Kept) → Keeps c history → AreExact c.changes.items
+changes_exact c history h = h.content_is.exact
 
 int_turned : (a b : ℤ) → int_eq a b ≡ int_eq b a
 int_turned a b = both_ways (int_eq a b) (int_eq b a) (λ h. (Decides-int_eq b a).1 (sym ((Decides-int_eq a b).0 h))) (λ h. (Decides-int_eq a b).1 (sym ((Decides-int_eq b a).0 h)))

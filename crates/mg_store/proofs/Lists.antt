@@ -1,8 +1,8 @@
 -- What lists of collections find.
-use Rattle.std.proofs.Common.{Ordering, ◌≡◌, ℕ, Bool, true, false, List, [], ◌∷◌, map, Option, Some, None, is_some, Err, refl, sym, ap, ap₂, ◌∙◌, subst}
+use Rattle.std.proofs.Common.{◌≡◌, ℕ, Bool, true, false, List, [], ◌∷◌, map, Option, Some, is_some, Err, refl, sym, ap, ap₂, ◌∙◌, subst}
 use Rattle.std.specs.Prelude.{cond, if◌then◌else◌, ◌||◌}
 use Rattle.std.specs.declared.cmp.Ordering.TheVariants.{Less}
-use Rattle.std.specs.BTreeMap.{BTreeMap, keys}
+use Rattle.std.specs.BTreeMap.{keys}
 use Rattle.std.specs.List.{AllByRecursion, filter, list_any}
 use Rattle.std.specs.List.Sorted.{IsStrictlySortedBy}
 use Rattle.std.specs.Map.{keys_of, lookup}
@@ -17,9 +17,9 @@ use Rattle.mg_link.specs.Query.{Stage, collection_listed, of_database, result}
 use Rattle.mg_link.specs.Rules as rules
 use Rattle.mg_link.specs.Rules.{refused}
 use Rattle.mg_link.specs.State as state
-use Rattle.mg_link.specs.State.{State, collection_in, is_space}
-use Rattle.mg_link.proofs.Ordered.{AreInOrder, names_of, space_cmp, spaces_total, tied_is}
-use Rattle.mg_store.specs.Contents.{Misses, Represents, Settles, collection_at}
+use Rattle.mg_link.specs.State.{State, collection_in, is_space, space_cmp, names_of, AreInOrder}
+use Rattle.mg_link.proofs.Ordered.{spaces_total, tied_is}
+use Rattle.mg_store.specs.Contents.{Misses, Represents, Settles}
 use Rattle.mg_store.specs.Listing.{name_listed, names_listed}
 use Rattle.mg_store.specs.Querying.{Doing, Results, all_done, doing}
 use Rattle.mg_store.specs.Wanted.{code_of}

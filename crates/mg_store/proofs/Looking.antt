@@ -18,7 +18,7 @@ use Rattle.mg_bson.specs.Tree.{Tree, Fields}
 use Rattle.mg_bson.specs.Raw.{fields}
 use Rattle.mg_bson.specs.Find.{get}
 use Rattle.mg_link.specs.Filter.{key}
-use Rattle.mg_store.specs.Asking.{Keyed, ahead, has_key, held, is_key_among, matches_keys, meets_keys}
+use Rattle.mg_store.specs.Asking.{Keyed, ahead, has_key, held, matches_keys, meets_keys}
 use Rattle.mg_store.specs.Collecting.{Covers, is_in, looked_up}
 use Rattle.mg_store.specs.Inserting.{IsNumbered, KeepsIds, has_this, is_number, is_of_id, number_in, stored}
 use Rattle.mg_store.specs.Rewriting.{chosen_by}

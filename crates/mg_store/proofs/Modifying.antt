@@ -1,18 +1,18 @@
 -- What an update makes of a document.
 use Rattle.std.proofs.Common.{◌≡◌, ℕ, Bool, true, false, List, map, Option, Some, None, option_map, codes, refl, sym, ap, ◌∙◌, inl, inr}
-use Rattle.std.specs.Prelude.{if◌then◌else◌, option_and_then, ◌&&◌}
+use Rattle.std.specs.Prelude.{if◌then◌else◌, option_and_then}
 use Rattle.std.specs.Str.{bytes_eq}
 use Rattle.std.proofs.lemmas.Bool.{cases_Bool}
 use Rattle.std.proofs.lemmas.Slice.Eq.{bytes_eq-Decides}
 use Rattle.mg_bson.specs.Tree.{Tree, Fields, no_fields, field, document}
-use Rattle.mg_bson.specs.Find.{as_document, get, put, without, joined, with_field}
+use Rattle.mg_bson.specs.Find.{as_document, get, without, joined, with_field}
 use Rattle.mg_bson.proofs.Joining.{joined_more, joined_all}
 use Rattle.mg_bson.specs.Reading.{◌>>=◌}
 use Rattle.mg_link.specs.Namespace.{Space}
-use Rattle.mg_link.specs.Filter.{Condition, conditions_of, begins_with_dollar}
-use Rattle.mg_link.specs.Commands.{begin_without_dollar, count_of, delete_by, delete_fields, delete_parts, filter_at, flag_or, has_only, many_by, may_set, modification_of, one_at, setting, update_by, update_fields, update_parts}
+use Rattle.mg_link.specs.Filter.{Condition, conditions_of}
+use Rattle.mg_link.specs.Commands.{begin_without_dollar, count_of, delete_by, delete_fields, delete_parts, flag_or, has_only, many_by, may_set, modification_of, one_at, setting, update_by, update_fields, update_parts}
 use Rattle.mg_link.specs.Rules.{Request, delete, delete_request, named_space, update, update_request}
-use Rattle.mg_link.specs.Write.{Modification, sets, puts, with_fields}
+use Rattle.mg_link.specs.Write.{Modification, sets, puts}
 use Rattle.mg_store.specs.Asking.{Keyed, keyed, only_document}
 use Rattle.mg_store.specs.Wanted as wants
 use Rattle.mg_store.specs.Wanted.{Deleting, Updating, deleting_by, deleting_of, updating_by, updating_of, wanted}

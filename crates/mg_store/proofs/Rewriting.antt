@@ -1,11 +1,11 @@
 -- What updates and deletes make of the documents of a collection.
-use Rattle.std.proofs.Common.{◌≡◌, ℕ, suc, ◌+◌, ◌<◌, Bool, true, false, cond, List, [], ◌∷◌, ◌++◌, length, map, take, drop, get_or, Result, Ok, Err, Option, Some, None, codes, refl, sym, ap, ap₂, ◌∙◌, subst, inl, inr, arith, append-nil, append_assoc, Vec}
-use Rattle.std.specs.Prelude.{if◌then◌else◌, not, ◌&&◌, ◌||◌}
+use Rattle.std.proofs.Common.{◌≡◌, ℕ, suc, ◌+◌, ◌<◌, ◌≤◌, Bool, true, false, cond, List, [], ◌∷◌, ◌++◌, length, map, take, drop, get_or, Result, Ok, Err, Option, Some, None, codes, refl, sym, ap, ap₂, ◌∙◌, subst, inl, inr, arith, append-nil, Vec}
+use Rattle.std.specs.Prelude.{if◌then◌else◌, nat_le, not, ◌&&◌, ◌||◌}
 use Rattle.std.specs.declared.alloc.Global.{Global}
 use Rattle.std.specs.List.{AllByRecursion, filter, list_all}
 use Rattle.std.specs.Str.{bytes_eq}
-use Rattle.std.proofs.lemmas.Bool.{cases_Bool, and_parts}
-use Rattle.std.proofs.lemmas.List.{map-append, take-append-drop, take_all}
+use Rattle.std.proofs.lemmas.Bool.{cases_Bool, and_parts, leb-true}
+use Rattle.std.proofs.lemmas.List.{map-append, take-append-drop}
 use Rattle.std.proofs.lemmas.List.Elements.{filter-append}
 use Rattle.std.proofs.lemmas.List.Folds.{list_all-append}
 use Rattle.std.proofs.Math.Seq.{take-suc}
@@ -16,18 +16,18 @@ use Rattle.mg_bson.specs.Bytes.{bytes}
 use Rattle.mg_bson.specs.Find.{get, joined, put, with_field}
 use Rattle.mg_bson.proofs.Joining.{joined_all, joined_more}
 use Rattle.mg_bson.specs.Raw.{fields}
-use Rattle.mg_link.specs.Namespace.{Space, space}
-use Rattle.mg_link.specs.Filter.{Condition, key, matches}
+use Rattle.mg_bson.specs.Writable.{max_len}
+use Rattle.mg_link.specs.Namespace.{Space}
+use Rattle.mg_link.specs.Filter.{Condition, matches}
 use Rattle.mg_link.specs.State.{Change, Entry, deletes}
-use Rattle.mg_link.specs.Commands.{may_set}
-use Rattle.mg_link.specs.Rules.{deleted_entries, deleted_event, entry_before, events_may_be_given, may_be_given, may_stay, modified_entries, modified_event, same_id, set_anew}
+use Rattle.mg_link.specs.Commands.{may_set, KeepsId}
+use Rattle.mg_link.specs.Rules.{deleted_entries, deleted_event, entry_before, events_may_be_given, may_be_given, may_stay, modified_entries, modified_event, same_id, set_anew, max_document}
 use Rattle.mg_link.specs.Write.{Modification, sets, puts, after_delete, after_update, change_of, changing, chosen, differs, modified, with_fields, with_id}
-use Rattle.mg_link.proofs.Requests.{KeepsId}
 use Rattle.mg_store.specs.Asking.{Keyed, keyed, matches_keys}
-use Rattle.mg_store.specs.Collecting.{AreDistinct, with_document, without_document}
+use Rattle.mg_store.specs.Collecting.{AreDistinct, exchange_document, without_document}
 use Rattle.mg_store.specs.Holding.{AreExact, IsEntryOf, change_told, entries_from, entry_at}
 use Rattle.mg_store.specs.Inserting.{IsKeyed, document_of, holds_id, is_of_id}
-use Rattle.mg_store.specs.Rewriting.{AreIdsOf, AreKeyed, AreMade, ChangesBy, ChangesOr, GivesEvent, Makes, MakesAllOr, MakesOr, Removes, RemovesAllOr, RemovesOr, all_fit, all_go, altering, chosen_by, lent, one_fits, with_documents, without_documents}
+use Rattle.mg_store.specs.Rewriting.{AreIdsOf, AreKeyed, AreMade, ChangesBy, ChangesOr, GivesEvent, Makes, MakesAllOr, MakesOr, Removes, RemovesAllOr, RemovesOr, all_fit, all_go, altering, chosen_by, lent, one_fits, exchange_documents, without_documents, AltersOr, EncodesOr}
 use Rattle.mg_store.specs.declared.change.ChangeEntry.{ChangeEntry}
 use Rattle.mg_store.specs.declared.collection.KeyedDocument.{KeyedDocument}
 use Rattle.mg_store.specs.declared.refusal.Stop.{Stop}
@@ -159,24 +159,24 @@ abbrev one_with : List KeyedDocument → Fields → Fields
 one_with [] d = d
 one_with (k ∷ ks) d = one_with ks (if is_of_id k.key.items d then document_of k else d)
 
-with_cons : (ks : List KeyedDocument) (d : Fields) (ds : List Fields) → with_documents ks (d ∷ ds) ≡ one_with ks d ∷ with_documents ks ds
+with_cons : (ks : List KeyedDocument) (d : Fields) (ds : List Fields) → exchange_documents ks (d ∷ ds) ≡ one_with ks d ∷ exchange_documents ks ds
 with_cons [] d ds = refl
-with_cons (k ∷ ks) d ds = with_cons ks (if is_of_id k.key.items d then document_of k else d) (with_document k.key.items (document_of k) ds)
+with_cons (k ∷ ks) d ds = with_cons ks (if is_of_id k.key.items d then document_of k else d) (exchange_document k.key.items (document_of k) ds)
 
 one_kept : (ks : List KeyedDocument) (d : Fields) → NoneIsOf ks d → one_with ks d ≡ d
 one_kept [] d h = refl
 one_kept (k ∷ ks) d h = ap (λ (b : Bool). one_with ks (if b then document_of k else d)) h.0 ∙ one_kept ks d h.1
 
-passed_over : (ks : List KeyedDocument) (d : Fields) (ds after : List Fields) → NoneIsOf ks d → with_documents ks ds ≡ after → with_documents ks (d ∷ ds) ≡ d ∷ after
+passed_over : (ks : List KeyedDocument) (d : Fields) (ds after : List Fields) → NoneIsOf ks d → exchange_documents ks ds ≡ after → exchange_documents ks (d ∷ ds) ≡ d ∷ after
 passed_over ks d ds after none rest = with_cons ks d ds ∙ ap₂ (λ (x : Fields) (l : List Fields). x ∷ l) (one_kept ks d none) rest
 
 -- the first document is changed, and the others of the list stand behind it
-changed_first : (m : Modification) (k : KeyedDocument) (ks : List KeyedDocument) (d : Fields) (ds after : List Fields) → KeepsId m → IsKeyed k.key.items d → document_of k ≡ modified m d → IsApart d ds → NoneIsOf ks d → with_documents ks ds ≡ after
-    → with_documents (k ∷ ks) (d ∷ ds) ≡ modified m d ∷ after
+changed_first : (m : Modification) (k : KeyedDocument) (ks : List KeyedDocument) (d : Fields) (ds after : List Fields) → KeepsId m → IsKeyed k.key.items d → document_of k ≡ modified m d → IsApart d ds → NoneIsOf ks d → exchange_documents ks ds ≡ after
+    → exchange_documents (k ∷ ks) (d ∷ ds) ≡ modified m d ∷ after
 changed_first m k ks d ds after keeps keyed made apart none rest =
     let is = of_its_id k.key.items d keyed in
     let new = keyed_modified m d (document_of k) k.key.items keeps keyed made in
-    ap₂ (λ (b : Bool) (l : List Fields). with_documents ks ((if b then document_of k else d) ∷ l)) is (none_changes k.key.items (document_of k) ds (apart k.key is))
+    ap₂ (λ (b : Bool) (l : List Fields). exchange_documents ks ((if b then document_of k else d) ∷ l)) is (none_changes k.key.items (document_of k) ds (apart k.key is))
     ∙ passed_over ks (document_of k) ds after (none_is_same k.key.items d (document_of k) ks keyed new none) rest
     ∙ ap (λ (x : Fields). x ∷ after) made
 
@@ -185,42 +185,42 @@ abbrev LeavesEqual : Modification → List Fields → Type 0
 LeavesEqual m ds = AllByRecursion (λ (d : Fields). differs d (modified m d) ≡ false → modified m d ≡ d) ds
 
 by_difference : (e : Bool) (m : Modification) (d : Fields) (ds after gs : List Fields) (ks : List KeyedDocument) → KeepsId m → IsApart d ds → AreAmong gs ds → (e ≡ false → modified m d ≡ d)
-    → ((more : List KeyedDocument) → AreMade m gs more → with_documents more ds ≡ after) → AreMade m (cond e (d ∷ gs) gs) ks → with_documents ks (d ∷ ds) ≡ modified m d ∷ after
+    → ((more : List KeyedDocument) → AreMade m gs more → exchange_documents more ds ≡ after) → AreMade m (cond e (d ∷ gs) gs) ks → exchange_documents ks (d ∷ ds) ≡ modified m d ∷ after
 by_difference false m d ds after gs ks keeps apart among same rest made = passed_over ks d ds after (none_is_of m d ds gs ks apart among made) (rest ks made) ∙ ap (λ (x : Fields). x ∷ after) (sym (same refl))
 by_difference true m d ds after gs [] keeps apart among same rest made = absurd made
 by_difference true m d ds after gs (k ∷ ks) keeps apart among same rest made =
     changed_first m k ks d ds after keeps made.0 made.1 apart (none_is_of m d ds gs ks apart among made.2) (rest ks made.2)
 
 by_match : (b : Bool) (m : Modification) (d : Fields) (ds after fs : List Fields) (ks : List KeyedDocument) → KeepsId m → IsApart d ds → AreAmong fs ds
-    → ((more : List KeyedDocument) → LeavesEqual m fs → AreMade m (altering m fs) more → with_documents more ds ≡ after)
-    → LeavesEqual m (cond b (d ∷ fs) fs) → AreMade m (altering m (cond b (d ∷ fs) fs)) ks → with_documents ks (d ∷ ds) ≡ (if b then modified m d ∷ after else d ∷ after)
+    → ((more : List KeyedDocument) → LeavesEqual m fs → AreMade m (altering m fs) more → exchange_documents more ds ≡ after)
+    → LeavesEqual m (cond b (d ∷ fs) fs) → AreMade m (altering m (cond b (d ∷ fs) fs)) ks → exchange_documents ks (d ∷ ds) ≡ (if b then modified m d ∷ after else d ∷ after)
 by_match true m d ds after fs ks keeps apart among rest same made =
     by_difference (differs d (modified m d)) m d ds after (altering m fs) ks keeps apart (among_further (λ x. differs x (modified m x)) fs ds among) same.0 (λ more these. rest more same.1 these) made
 by_match false m d ds after fs ks keeps apart among rest same made =
     passed_over ks d ds after (none_is_of m d ds (altering m fs) ks apart (among_further (λ x. differs x (modified m x)) fs ds among) made) (rest ks same made)
 
 update_all : (cs : List Condition) (m : Modification) (ds : List Fields) (ks : List KeyedDocument) → KeepsId m → AreDistinct ds → LeavesEqual m (filter (matches cs) ds) → AreMade m (altering m (filter (matches cs) ds)) ks
-    → with_documents ks ds ≡ after_update cs true m ds
+    → exchange_documents ks ds ≡ after_update cs true m ds
 update_all cs m [] [] keeps distinct same made = refl
 update_all cs m [] (k ∷ ks) keeps distinct same made = absurd made
 update_all cs m (d ∷ ds) ks keeps distinct same made =
     by_match (matches cs d) m d ds (after_update cs true m ds) (filter (matches cs) ds) ks keeps distinct.0 (among_filter (matches cs) ds) (λ more equal these. update_all cs m ds more keeps distinct.1 equal these) same made
 
 -- only the first is changed
-none_made : (m : Modification) (ks : List KeyedDocument) (ds : List Fields) → AreMade m [] ks → with_documents ks ds ≡ ds
+none_made : (m : Modification) (ks : List KeyedDocument) (ds : List Fields) → AreMade m [] ks → exchange_documents ks ds ≡ ds
 none_made m [] ds made = refl
 none_made m (k ∷ ks) ds made = absurd made
 
 by_first : (b : Bool) (m : Modification) (d : Fields) (ds after fs : List Fields) (ks : List KeyedDocument) → KeepsId m → IsApart d ds → AreAmong fs ds
-    → ((more : List KeyedDocument) → LeavesEqual m (take 1 fs) → AreMade m (altering m (take 1 fs)) more → with_documents more ds ≡ after)
-    → LeavesEqual m (take 1 (cond b (d ∷ fs) fs)) → AreMade m (altering m (take 1 (cond b (d ∷ fs) fs))) ks → with_documents ks (d ∷ ds) ≡ (if b then modified m d ∷ ds else d ∷ after)
+    → ((more : List KeyedDocument) → LeavesEqual m (take 1 fs) → AreMade m (altering m (take 1 fs)) more → exchange_documents more ds ≡ after)
+    → LeavesEqual m (take 1 (cond b (d ∷ fs) fs)) → AreMade m (altering m (take 1 (cond b (d ∷ fs) fs))) ks → exchange_documents ks (d ∷ ds) ≡ (if b then modified m d ∷ ds else d ∷ after)
 by_first true m d ds after fs ks keeps apart among rest same made =
     by_difference (differs d (modified m d)) m d ds ds [] ks keeps apart tt same.0 (λ more these. none_made m more ds these) made
 by_first false m d ds after fs ks keeps apart among rest same made =
     passed_over ks d ds after (none_is_of m d ds (altering m (take 1 fs)) ks apart (among_further (λ x. differs x (modified m x)) (take 1 fs) ds (among_first fs ds among)) made) (rest ks same made)
 
 update_one : (cs : List Condition) (m : Modification) (ds : List Fields) (ks : List KeyedDocument) → KeepsId m → AreDistinct ds → LeavesEqual m (take 1 (filter (matches cs) ds)) → AreMade m (altering m (take 1 (filter (matches cs) ds))) ks
-    → with_documents ks ds ≡ after_update cs false m ds
+    → exchange_documents ks ds ≡ after_update cs false m ds
 update_one cs m [] [] keeps distinct same made = refl
 update_one cs m [] (k ∷ ks) keeps distinct same made = absurd made
 update_one cs m (d ∷ ds) ks keeps distinct same made =
@@ -228,7 +228,7 @@ update_one cs m (d ∷ ds) ks keeps distinct same made =
 
 -- the new documents in their places are what stands behind the update
 pub update_is : (cs : List Condition) (many : Bool) (m : Modification) (ds : List Fields) (ks : List KeyedDocument) → KeepsId m → AreDistinct ds
-    → AllByRecursion (λ (d : Fields). differs d (modified m d) ≡ false → modified m d ≡ d) (chosen cs many ds) → AreMade m (changing cs many m ds) ks → with_documents ks ds ≡ after_update cs many m ds
+    → AllByRecursion (λ (d : Fields). differs d (modified m d) ≡ false → modified m d ≡ d) (chosen cs many ds) → AreMade m (changing cs many m ds) ks → exchange_documents ks ds ≡ after_update cs many m ds
 update_is cs true m ds ks keeps distinct same made = update_all cs m ds ks keeps distinct same made
 update_is cs false m ds ks keeps distinct same made = update_one cs m ds ks keeps distinct same made
 
@@ -520,3 +520,26 @@ pub makes_by : (entries place : ℕ) (sp : Space) (m : Modification) (ds : List 
 makes_by entries place sp m ds d old new (Ok done) at differ got = λ h. makes_more entries place sp m ds d old new at differ got h
 makes_by entries place sp m ds d old new (Err stops.Memory) at differ got = tt
 makes_by entries place sp m ds d old new (Err (stops.Refused refusal)) at differ got = λ h. (got.0, makes_no_more entries place sp m ds d old at differ got.1 h)
+
+-- of two documents one is shorter
+differs_by_length : (d e : Fields) (b : Bool) → bytes_eq (bytes d) (bytes e) ≡ b → length (bytes d) < length (bytes e) → (if b then false else true) ≡ true
+differs_by_length d e true same less = let l : length (bytes d) ≡ length (bytes e) = ap length ((bytes_eq-Decides (bytes d) (bytes e)).0 same) in let never : ⊥ = omega (arith, l, less) in absurd never
+differs_by_length d e false same less = refl
+
+-- what is too large to be encoded may not stay
+too_large : (d : Fields) (b : Bool) → nat_le (length (bytes d)) max_document ≡ b → max_len < length (bytes d) → (b && may_be_given d) ≡ false
+too_large d true small large = let s : length (bytes d) ≤ max_document = leb-true (length (bytes d)) max_document small in let never : ⊥ = omega (arith, s, large) in absurd never
+too_large d false small large = refl
+
+pub not_altered : (entries : ℕ) (sp : Space) (m : Modification) (ds : List Fields) (d : Fields) (old new : Changes) (stop : Stop) → AltersOr m d (Err stop) → MakesOr entries sp m ds d old new (Err stop)
+not_altered entries sp m ds d old new stops.Memory got = tt
+not_altered entries sp m ds d old new (stops.Refused refusal) got =
+    let larger : length (bytes d) < length (bytes (modified m d)) = omega (arith, got.1, got.2) in
+    let differ : differs d (modified m d) ≡ true = differs_by_length d (modified m d) (bytes_eq (bytes d) (bytes (modified m d))) refl larger in
+    let place : ℕ = suc (entries + length old.entries.items) in
+    let stays : may_stay (modified m d) ≡ false = too_large (modified m d) (nat_le (length (bytes (modified m d))) max_document) refl got.1 in
+    λ h. (got.0, makes_no_more entries place sp m ds d old refl differ (ap (λ (b : Bool). b && may_be_given (modified_event place sp m d)) stays) h)
+
+pub not_encoded : (m : Modification) (d held made : Fields) (stop : Stop) → held ≡ d → made ≡ modified m d → length (bytes held) ≤ max_len → EncodesOr made (Err stop) → AltersOr m d (Err stop)
+not_encoded m d held made stops.Memory same is short got = tt
+not_encoded m d held made (stops.Refused refusal) same is short got = (got.0, subst (λ (e : Fields). max_len < length (bytes e)) is got.1, subst (λ (e : Fields). length (bytes e) ≤ max_len) same short)

@@ -9,18 +9,18 @@ use Rattle.mg_bson.specs.Tree.{Fields, no_fields, field}
 use Rattle.mg_bson.specs.Bytes.{bytes}
 use Rattle.mg_bson.specs.Raw.{fields}
 use Rattle.mg_link.specs.Namespace.{Space, space}
-use Rattle.mg_link.specs.State.{Entry, Watch, Cursor, watching, Collection, Index, State, collection_in, indexes_of, is_space, documents_at, put_cursor, without_cursors, query}
+use Rattle.mg_link.specs.State.{Entry, Watch, Cursor, watching, Collection, Index, State, collection_in, indexes_of, is_space, documents_at, put_cursor, without_cursors, query, put_documents, changed_documents}
 use Rattle.mg_link.specs.Commands.{Asked, asks_more, asked}
-use Rattle.mg_link.specs.Step.{documents_of, ends_cursor}
+use Rattle.mg_link.specs.Step.{documents_of, ends_cursor, cursors_refused}
 use Rattle.mg_link.specs.Query.{index_listed}
 use Rattle.mg_link.specs.Write.{with_indexes, after_delete, after_update, changing, chosen, modified}
 use Rattle.mg_link.specs.Rules as rules
-use Rattle.mg_link.specs.Rules.{Inserted, answer, answer_insert, answer_of, and_then, bad_request, batch_place, ends_watch, fitting, inserting, insert_request, kill_request, more_request, or_code, refusal, refused, request_of, size_of, unknown_command, watch_reply, may_stay, create_request, indexes_request, drop_request, list_collections_request, list_indexes_request, dropped_entries, batch_of_query, find_request, first_held, query_id, query_space, aggregate_request, watch_request, update_request, delete_request, modified_entries, deleted_entries, events_may_be_given, updated_reply}
+use Rattle.mg_link.specs.Rules.{Inserted, answer, answer_insert, answer_of, and_then, bad_request, batch_place, ends_watch, fitting, inserting, insert_request, kill_request, more_request, or_code, refusal, refused, request_of, size_of, unknown_command, watch_reply, may_stay, create_request, indexes_request, drop_request, list_collections_request, list_indexes_request, dropped_entries, batch_of_query, find_request, first_held, query_id, query_space, aggregate_request, watch_request, update_request, delete_request, modified_entries, deleted_entries, events_may_be_given, updated_reply, deleted_reply}
 use Rattle.mg_link.specs.Kept.{Kept, state_behind, given_after, IsStoreState}
 use Rattle.mg_link.proofs.Requests.{asked_is, asks_of}
-use Rattle.mg_link.proofs.Behind.{Parts, behind_insert, behind_kill, behind_more, behind_refusal, behind_watch, cursor_moved, cursors_opened, cursors_refused, given_opened, behind_create, behind_indexes, behind_drop, behind_find, behind_query_more, cursors_found, given_found, rest_of, behind_update, behind_delete}
+use Rattle.mg_link.proofs.Behind.{Parts, behind_insert, behind_kill, behind_more, behind_refusal, behind_watch, cursor_moved, cursors_opened, given_opened, behind_create, behind_indexes, behind_drop, behind_find, behind_query_more, cursors_found, given_found, rest_of, behind_update, behind_delete}
 use Rattle.mg_link.proofs.Allowed.{answered_if, create_ok, drop_ok, found_by, query_id-is}
-use Rattle.mg_link.proofs.Collections.{put_documents, changed_documents, same_space}
+use Rattle.mg_link.proofs.Collections.{same_space}
 use Rattle.mg_link.proofs.Cursoring.{same_int, not_zero}
 use Rattle.mg_link.proofs.Indexed.{HasIndexesOf, LeavesIndexes, indexes_created, indexes_dropped, indexes_refused, indexes_stay}
 use Rattle.mg_store.specs.Answering.{Answers, Replies}
@@ -39,8 +39,7 @@ use Rattle.mg_store.specs.declared.refusal.Refusal.{Refusal}
 use Rattle.mg_store.specs.declared.refusal.Refusal.TheVariants as refusals
 use Rattle.mg_store.specs.declared.refusal.Stop.{Stop}
 use Rattle.mg_store.specs.declared.refusal.Stop.TheVariants as stops
-use Rattle.mg_link.proofs.Telling.{deleted_reply}
-use Rattle.mg_store.specs.Rewriting.{with_documents, without_documents}
+use Rattle.mg_store.specs.Rewriting.{exchange_documents, without_documents}
 
 -- a reply that fits settles the request, and one that does not is refused
 pub settles : (s : State) (given : ℕ) (r : rules.Request) (a : rules.Answer) (d : Fields) (e : Effect) (result : Result Answer Stop) → answer s (pos (suc given)) r ≡ Ok a → d ≡ a.reply → EffectOf s given r e → Answers result d e → Settles s given r result
@@ -226,10 +225,10 @@ module _ (s : State) (given : ℕ) (command : List ℕ) (a : Answer) (by_rules :
       let entries : List Entry = modified_entries (length s.changes) sp m changed in
       let known = answered_if (list_all may_stay (map (modified m) changed) && events_may_be_given entries) (rules.answer_with entries (updated_reply (length (chosen conditions many ds)) (length changed))) by_rules answers in
       let parts = behind_update s given started kept sp conditions m many (length (chosen conditions many ds)) (length changed) entries (same_request kept (rules.update sp conditions m many) is_command asks) (same_answer kept is_command ∙ sym known.1) (same_reply kept is_reply ∙ ap (λ (x : rules.Answer). x.reply) (sym known.1)) in
-      let docs = rewritten (state_behind s given started kept) s (given_after given kept) given sp (with_documents effect.made.documents.items) (after_update conditions many m) (s.changes ++ entries) effect.documents_are (becomes _ _ _ _ _ _ parts) in
-      let all = subst (λ (l : List Entry). Becomes (state_behind s given started kept) (given_after given kept) (changed_documents sp (with_documents effect.made.documents.items) (documents_at s)) (s.changes ++ l) s.cursors given) (sym effect.entries_are) docs in
+      let docs = rewritten (state_behind s given started kept) s (given_after given kept) given sp (exchange_documents effect.made.documents.items) (after_update conditions many m) (s.changes ++ entries) effect.documents_are (becomes _ _ _ _ _ _ parts) in
+      let all = subst (λ (l : List Entry). Becomes (state_behind s given started kept) (given_after given kept) (changed_documents sp (exchange_documents effect.made.documents.items) (documents_at s)) (s.changes ++ l) s.cursors given) (sym effect.entries_are) docs in
       subst (λ (e : Effect). Does e s given (state_behind s given started kept) (given_after given kept)) (sym effect.is)
-      (effect.keyed, effect.exact, subst (λ (x : Space). Becomes (state_behind s given started kept) (given_after given kept) (changed_documents x (with_documents effect.made.documents.items) (documents_at s)) (s.changes ++ entries_from (length s.changes) effect.made.entries.items) s.cursors given) (sym effect.at) all)
+      (effect.keyed, effect.exact, subst (λ (x : Space). Becomes (state_behind s given started kept) (given_after given kept) (changed_documents x (exchange_documents effect.made.documents.items) (documents_at s)) (s.changes ++ entries_from (length s.changes) effect.made.entries.items) s.cursors given) (sym effect.at) all)
   leads_by (rules.delete sp conditions many) asks answers effect started kept is_command is_reply h lt =
       let gone : List Fields = chosen conditions many (documents_of s sp) in
       let entries : List Entry = deleted_entries (length s.changes) sp gone in

@@ -13,8 +13,8 @@ use Rattle.mg_store.specs.Inserting.{holds_id, is_of_id}
 use Rattle.mg_store.specs.declared.collection.Collection.{Collection}
 
 -- the document in the place of that with this id
-abbrev pub with_document : List ℕ → Fields → List Fields → List Fields
-with_document k d ds = map (λ e. if is_of_id k e then d else e) ds
+abbrev pub exchange_document : List ℕ → Fields → List Fields → List Fields
+exchange_document k d ds = map (λ e. if is_of_id k e then d else e) ds
 
 -- without the document with this id
 abbrev pub without_document : List ℕ → List Fields → List Fields

@@ -8,16 +8,14 @@ use Rattle.mg_bson.specs.Tree.{Fields}
 use Rattle.mg_bson.specs.Raw.{fields}
 use Rattle.mg_link.specs.declared.namespace.Namespace.{Namespace}
 use Rattle.mg_link.specs.Namespace.{Space, space}
-use Rattle.mg_link.specs.State.{Entry, Watch, Cursor, query, watching, State, Start, documents_at, is_space, put_cursor, without_cursors, indexes_of, Index}
-use Rattle.mg_link.specs.Step.{documents_of}
+use Rattle.mg_link.specs.State.{Entry, Watch, Cursor, query, watching, State, Start, documents_at, is_space, put_cursor, without_cursors, indexes_of, Index, put_documents, changed_documents}
+use Rattle.mg_link.specs.Step.{documents_of, cursors_refused}
 use Rattle.mg_link.specs.Filter.{Condition}
 use Rattle.mg_link.specs.Write.{Modification, after_delete, after_update, changing, chosen, with_indexes}
 use Rattle.mg_link.specs.Rules as rules
 use Rattle.mg_link.specs.Rules.{dropped_entries, inserting, answer, answer_of, batch_place, ends_watch, fitting, place_at, refused, size_of, batch_of_query, first_held, query_id, query_space, deleted_entries, modified_entries}
 use Rattle.mg_link.specs.Query.{Query, result}
 use Rattle.mg_link.specs.Commands.{asked}
-use Rattle.mg_link.proofs.Behind.{cursors_refused}
-use Rattle.mg_link.proofs.Collections.{changed_documents, put_documents}
 use Rattle.mg_link.specs.Kept.{Kept, Follows, IsByRules, IsReply, IsStoreState, given_after, given_of, state_behind, state_of_kept}
 use Rattle.mg_store.specs.Holding.{AreExact, IsWatch, entries_from}
 use Rattle.mg_store.specs.Indexing.{index_held}
@@ -25,7 +23,7 @@ use Rattle.mg_store.specs.Inserting.{Fits, KeepsIds, indexed, new_documents, sto
 use Rattle.mg_store.specs.declared.index.Index as code_index
 use Rattle.mg_store.specs.Querying.{is_none}
 use Rattle.mg_store.specs.Replies.{IsWritten}
-use Rattle.mg_store.specs.Rewriting.{AreKeyed, with_documents, without_documents}
+use Rattle.mg_store.specs.Rewriting.{AreKeyed, exchange_documents, without_documents}
 use Rattle.mg_store.specs.declared.rewrite.Changes.{Changes}
 use Rattle.mg_store.specs.declared.rewrite.Removals.{Removals}
 use Rattle.mg_store.specs.Wanted.{Wanted, code_of, wanted}
@@ -100,7 +98,7 @@ Does (effects.Close id) s given s' given' = Becomes s' given' (documents_at s) s
 Does (effects.Indexes ns indexes) s given s' given' = Becomes s' given' (put_documents (space ns) (Some (documents_of s (space ns))) (documents_at s)) s.changes s.cursors given
 Does (effects.Drop ns entries) s given s' given' = AreExact entries.items × Becomes s' given' (put_documents (space ns) None (documents_at s)) (s.changes ++ entries_from (length s.changes) entries.items) s.cursors given
 Does (effects.Change ns changes) s given s' given' = AreKeyed changes.documents.items × AreExact changes.entries.items
-    × Becomes s' given' (changed_documents (space ns) (with_documents changes.documents.items) (documents_at s)) (s.changes ++ entries_from (length s.changes) changes.entries.items) s.cursors given
+    × Becomes s' given' (changed_documents (space ns) (exchange_documents changes.documents.items) (documents_at s)) (s.changes ++ entries_from (length s.changes) changes.entries.items) s.cursors given
 Does (effects.Remove ns removals) s given s' given' = AreExact removals.entries.items
     × Becomes s' given' (changed_documents (space ns) (without_documents removals.ids.items) (documents_at s)) (s.changes ++ entries_from (length s.changes) removals.entries.items) s.cursors given
 
@@ -217,7 +215,7 @@ pub record UpdatesBy (s : State) (sp : Space) (conditions : List Condition) (m :
   pub at : space ns ≡ sp
   pub keyed : AreKeyed made.documents.items
   pub exact : AreExact made.entries.items
-  pub documents_are : with_documents made.documents.items (documents_of s sp) ≡ after_update conditions many m (documents_of s sp)
+  pub documents_are : exchange_documents made.documents.items (documents_of s sp) ≡ after_update conditions many m (documents_of s sp)
   pub entries_are : entries_from (length s.changes) made.entries.items ≡ modified_entries (length s.changes) sp m (changing conditions many m (documents_of s sp))
 
 -- what stands behind a delete

@@ -4,11 +4,11 @@ use Rattle.std.specs.Str.{bytes_eq}
 use Rattle.mg_bson.specs.Tree.{Fields}
 use Rattle.mg_bson.specs.Bytes.{bytes}
 use Rattle.mg_bson.specs.Raw.{fields}
-use Rattle.mg_link.specs.Namespace.{Space, space, target}
+use Rattle.mg_link.specs.Namespace.{Space, Target, space, target}
 use Rattle.mg_link.specs.Commands.{text_of}
 use Rattle.mg_link.specs.State.{inserts, updates, replaces, deletes, drops, invalidates, Change, Entry, Watch, events_between}
 use Rattle.mg_link.specs.Rules.{token_of, now_of, batch_place, documents_of_items, ends_watch}
-use Rattle.mg_store.specs.Asking.{held, keyed}
+use Rattle.mg_store.specs.Asking.{Keyed, held, keyed, matches_keys}
 use Rattle.mg_store.specs.declared.change.ChangeEntry.{ChangeEntry}
 use Rattle.mg_store.specs.declared.change.Events.{Events}
 use Rattle.mg_store.specs.declared.cursor.Watch as code
@@ -49,6 +49,11 @@ pub record IsEntryOf (at : Space) (event : Fields) (e : ChangeEntry) : Type 0 wh
 pub record IsWatch (c : code.Watch) (w : Watch) : Type 0 where
   pub target_is : w.target ≡ target c.target
   pub filter_is : map held c.filter.items ≡ map keyed w.filter
+
+-- the watch is of this target, and of what meets these conditions
+pub record IsWatchOf (t : Target) (keys : List Keyed) (w : Watch) : Type 0 where
+  pub target_is : w.target ≡ t
+  pub selects : (d : Fields) → matches_keys keys d ≡ matches_keys (map keyed w.filter) d
 
 -- the batch of the rules from a place on
 pub record GivesBatch (w : Watch) (es : List Entry) (from size : ℕ) (batch : Events) : Type 0 where

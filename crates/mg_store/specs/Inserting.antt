@@ -152,14 +152,14 @@ abbrev pub new_documents : Appended → List Fields
 new_documents a = map document_of a.documents.items
 
 -- each has an id, under its encoding, that is neither there nor in front of it
-abbrev pub AreNew : List Fields → List KeyedDocument → Type 0
-AreNew before [] = Unit {0}
-AreNew before (d ∷ ds) = IsKeyed d.key.items (document_of d) × (holds_id d.key.items before ≡ false) × AreNew (before ++ document_of d ∷ []) ds
+abbrev pub HaveNewIds : List Fields → List KeyedDocument → Type 0
+HaveNewIds before [] = Unit {0}
+HaveNewIds before (d ∷ ds) = IsKeyed d.key.items (document_of d) × (holds_id d.key.items before ≡ false) × HaveNewIds (before ++ document_of d ∷ []) ds
 
 -- the ids are those of the new documents, none of which was there
 pub record Fits (before : List Fields) (a : Appended) : Type 0 where
   pub ids_are : (k : Vec ℕ Global) → contains vec_cmp a.ids k ≡ holds_id k.items (new_documents a)
-  pub new : AreNew before a.documents.items
+  pub new : HaveNewIds before a.documents.items
   pub exact : AreExact a.entries.items
 
 -- the entry of a document, or the refusal of one that has no id

@@ -1,16 +1,17 @@
 -- What updates and deletes make of the documents of a collection.
 use Rattle.std.specs.declared.alloc.Global.{Global}
-use Rattle.std.specs.Prelude.{◌≡◌, ℕ, suc, Bool, true, false, ◌&&◌, List, [], ◌∷◌, ◌++◌, map, take, Option, Some, None, Result, Ok, Err, codes, if◌then◌else◌, Vec}
+use Rattle.std.specs.Prelude.{◌≡◌, ◌<◌, ◌≤◌, ℕ, length, Bool, true, false, ◌&&◌, List, [], ◌∷◌, ◌++◌, map, take, Option, Some, None, Result, Ok, Err, if◌then◌else◌, Vec}
 use Rattle.std.specs.List.{AllByRecursion, filter, list_all}
 use denote.Ref.{Bor}
 use Rattle.mg_bson.specs.Tree.{Fields}
 use Rattle.mg_bson.specs.Bytes.{bytes}
 use Rattle.mg_bson.specs.Raw.{fields}
-use Rattle.mg_link.specs.Namespace.{Space, space}
-use Rattle.mg_link.specs.Rules.{deleted_entries, deleted_event, events_may_be_given, may_be_given, may_stay, modified_entries, modified_event}
+use Rattle.mg_bson.specs.Writable.{max_len}
+use Rattle.mg_link.specs.Namespace.{Space}
+use Rattle.mg_link.specs.Rules.{deleted_entries, events_may_be_given, may_be_given, may_stay, modified_entries, modified_event}
 use Rattle.mg_link.specs.Write.{Modification, differs, modified}
 use Rattle.mg_store.specs.Asking.{Keyed, matches_keys}
-use Rattle.mg_store.specs.Collecting.{with_document, without_document}
+use Rattle.mg_store.specs.Collecting.{exchange_document, without_document}
 use Rattle.mg_store.specs.Holding.{AreExact, IsEntryOf, entries_from}
 use Rattle.mg_store.specs.Inserting.{IsKeyed, document_of}
 use Rattle.mg_store.specs.declared.change.ChangeEntry.{ChangeEntry}
@@ -47,6 +48,18 @@ pub record IsAltered (m : Modification) (d : Fields) (a : Altered) : Type 0 wher
 abbrev pub Alters : Modification → Fields → Option Altered → Type 0
 Alters m d None = modified m d ≡ d
 Alters m d (Some a) = IsAltered m d a
+
+-- a document is encoded, or refused as too large for that
+abbrev pub EncodesOr : Fields → Result (List ℕ) Stop → Type 0
+EncodesOr d (Ok encoded) = (encoded ≡ bytes d) × (fields encoded ≡ d)
+EncodesOr d (Err stops.Memory) = Unit {0}
+EncodesOr d (Err (stops.Refused refusal)) = (refusal ≡ refusals.BadRequest) × (max_len < length (bytes d))
+
+-- a document is altered or left equal, or it would be too large to be encoded, which the old one is not
+abbrev pub AltersOr : Modification → Fields → Result (Option Altered) Stop → Type 0
+AltersOr m d (Ok altered) = Alters m d altered
+AltersOr m d (Err stops.Memory) = Unit {0}
+AltersOr m d (Err (stops.Refused refusal)) = (refusal ≡ refusals.BadRequest) × (max_len < length (bytes (modified m d))) × (length (bytes d) ≤ max_len)
 
 -- the altered document and its entry may stay
 abbrev pub one_fits : ℕ → Space → Modification → Fields → Bool
@@ -137,9 +150,9 @@ RemovesAllOr entries sp ds (Err (stops.Refused refusal)) = (refusal ≡ refusals
 -- ---- collections
 
 -- the documents once each of these stands in the place of that with its id
-abbrev pub with_documents : List KeyedDocument → List Fields → List Fields
-with_documents [] ds = ds
-with_documents (k ∷ ks) ds = with_documents ks (with_document k.key.items (document_of k) ds)
+abbrev pub exchange_documents : List KeyedDocument → List Fields → List Fields
+exchange_documents [] ds = ds
+exchange_documents (k ∷ ks) ds = exchange_documents ks (exchange_document k.key.items (document_of k) ds)
 
 -- each has its id under its encoding
 abbrev pub AreKeyed : List KeyedDocument → Type 0

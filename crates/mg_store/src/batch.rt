@@ -4,8 +4,8 @@ ghost use Rattle.mg_bson.specs.Bytes.{bytes};
 ghost use Rattle.mg_bson.specs.Raw.{fields};
 ghost use Rattle.mg_store.specs.Querying.{GivesDocuments};
 
-use crate::change::MAX_BATCH;
 use crate::copies::tree_of;
+use crate::limits::MAX_BATCH;
 use crate::reply::put_item;
 use mg_bson::{Array, Bson, Document, RawDocumentBuf, to_bytes};
 use mg_link::OutOfMemory;

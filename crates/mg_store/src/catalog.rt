@@ -6,8 +6,8 @@ ghost use Rattle.mg_link.specs.Rules.{create_request, indexes_request, drop_requ
 ghost use Rattle.mg_store.specs.Wanted.{lent_request, wanted, indexing_of, lent_indexing, lent_plan, collections_list_of, indexes_list_of, listed_database, listing_plan};
 
 use crate::index::indexes_in;
-use crate::query::{Plan, batch_size};
-use crate::reading::{LentSpace, array_at, database_at, has_only, space_at};
+use crate::query::Plan;
+use crate::reading::{LentSpace, array_at, batch_size, database_at, has_only, space_at};
 use crate::request::Request;
 use crate::stages::listing_stages;
 use crate::write::Write;

@@ -9,19 +9,18 @@ ghost use Rattle.mg_link.specs.Namespace.{space, target};
 ghost use Rattle.mg_link.specs.Rules.{dropped_entries, dropped_event, ended_before, insert_event, invalidate_event, stamp_of, token_of, deleted_event, document_event};
 ghost use Rattle.mg_link.specs.State as state;
 ghost use Rattle.mg_link.specs.State.{count_before, is_invalidate, is_of, time_of};
-ghost use Rattle.mg_store.specs.Holding.{AreExact, GivesBatch, IsEntryOf, IsWatch, change_told, entries_from, entry_at};
+ghost use Rattle.mg_store.specs.Selecting.{selecting};
+ghost use Rattle.mg_store.specs.Holding.{AreExact, GivesBatch, IsEntryOf, IsWatch, IsWatchOf, change_told, entries_from, entry_at};
 
 use crate::copies::{encoded, tree_of};
 use crate::cursor::Watch;
-use crate::filter::matches;
+use crate::limits::MAX_BATCH;
 use crate::reading::{is_same_space, text_at};
 use crate::reply::{put_item, time, token, with, with_text};
+use crate::selection::Selection;
 use mg_bson::{Array, Bson, Document, RawDocumentBuf, Timestamp};
 use mg_link::{Namespace, OperationTarget, OutOfMemory};
 use std::alloc::Global;
-
-/// The most bytes of the documents of a batch together.
-pub(crate) const MAX_BATCH: usize = 16_777_216;
 
 /// One change, as watches see it. Its token, its time and its kind stand in its event.
 pub struct ChangeEntry {
@@ -198,12 +197,17 @@ fn is_of(aimed: &OperationTarget, entry: &ChangeEntry) -> bool
     }
 }
 
-/// Whether the watch is to see the entry.
-fn sees(alloc: Global, watch: &Watch, entry: &ChangeEntry) -> Result<bool, OutOfMemory>
-    ensures { IfOk result (λ b. (w : state.Watch) (place : ℕ) → IsWatch watch.now w → b ≡ state.sees w (entry_at place entry.now)) }
+/// Whether a watch of this target and of what is selected is to see the entry.
+fn sees(
+    alloc: Global,
+    aimed: &OperationTarget,
+    selection: &Selection<'_>,
+    entry: &ChangeEntry,
+) -> Result<bool, OutOfMemory>
+    ensures { IfOk result (λ b. (w : state.Watch) (place : ℕ) → IsWatchOf (target aimed.now) (selecting selection.now) w → b ≡ state.sees w (entry_at place entry.now)) }
 {
-    if is_of(&watch.target, entry) {
-        matches(alloc, &watch.filter, &entry.event.as_raw())
+    if is_of(aimed, entry) {
+        selection.admits(alloc, &entry.event.as_raw())
     } else {
         Ok(false)
     }
@@ -244,7 +248,8 @@ pub(crate) fn ended_before(
     }
     let entry = &changes[place as usize - 1];
     if is_invalidate(entry) {
-        sees(alloc, watch, entry)
+        let selection = Selection::new(alloc, &watch.filter)?;
+        sees(alloc, &watch.target, &selection, entry)
     } else {
         Ok(false)
     }
@@ -269,6 +274,7 @@ pub(crate) fn events_from(
 ) -> Result<Events, OutOfMemory>
     ensures { IfOk result (λ r. (w : state.Watch) → IsWatch watch.now w → AreExact changes.now → GivesBatch w (entries_from 0 changes.now) from size r) }
 {
+    let selection = Selection::new(alloc, &watch.filter)?;
     let mut events = Array::new(alloc);
     let mut behind = from as u64;
     let mut room = MAX_BATCH;
@@ -278,7 +284,7 @@ pub(crate) fn events_from(
             return Ok(Events::new(events, behind, false));
         }
         let entry = &changes[place];
-        if sees(alloc, watch, entry)? {
+        if sees(alloc, &watch.target, &selection, entry)? {
             let len = entry.event.as_bytes().len();
             if left < size && room < len {
                 return Ok(Events::new(events, behind, false));

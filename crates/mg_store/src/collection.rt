@@ -5,9 +5,9 @@ ghost use Rattle.std.specs.BTreeSet.{IsOrdered, contains};
 ghost use Rattle.std.specs.List.{filter, list_any};
 ghost use Rattle.std.specs.Ordering.{nat_cmp};
 ghost use Rattle.mg_bson.specs.Raw.{fields};
-ghost use Rattle.mg_store.specs.Collecting.{with_document, without_document};
+ghost use Rattle.mg_store.specs.Collecting.{exchange_document, without_document};
 ghost use Rattle.mg_store.specs.Grouping.{stands};
-ghost use Rattle.mg_store.specs.Inserting.{AreNew, Grows, GrowsBySome, IsKeyed, KeepsAll, KeepsIds, Pushes, document_of, holds_id, is_number, number_in, stored};
+ghost use Rattle.mg_store.specs.Inserting.{HaveNewIds, Grows, GrowsBySome, IsKeyed, KeepsAll, KeepsIds, Pushes, document_of, holds_id, is_number, number_in, stored};
 
 use crate::groups::Groups;
 use crate::index::Index;
@@ -154,8 +154,8 @@ impl Collection {
 
     /// Puts documents behind the others, as far as memory is there.
     fn push_all(&mut self, documents: Vec<KeyedDocument>) -> Result<(), OutOfMemory>
-        ensures ok { OnOk result (KeepsIds self.old → AreNew (stored self.old) documents.items → Grows (map document_of documents.items) self.old self.new) }
-        ensures err { OnErr result (KeepsIds self.old → AreNew (stored self.old) documents.items → GrowsBySome self.old self.new) }
+        ensures ok { OnOk result (KeepsIds self.old → HaveNewIds (stored self.old) documents.items → Grows (map document_of documents.items) self.old self.new) }
+        ensures err { OnErr result (KeepsIds self.old → HaveNewIds (stored self.old) documents.items → GrowsBySome self.old self.new) }
         ensures indexes { self.new.indexes ≡ self.old.indexes }
     {
         for keyed in documents {
@@ -178,9 +178,9 @@ impl Collection {
 
     /// Appends documents, none of whose ids are there. An error changes nothing.
     pub(crate) fn append(&mut self, documents: Vec<KeyedDocument>) -> Result<(), OutOfMemory>
-        ensures ok { OnOk result (KeepsIds self.old → AreNew (stored self.old) documents.items → stored self.new ≡ stored self.old ++ map document_of documents.items) }
-        ensures err { OnErr result (KeepsIds self.old → AreNew (stored self.old) documents.items → stored self.new ≡ stored self.old) }
-        ensures ids { KeepsIds self.old → AreNew (stored self.old) documents.items → KeepsIds self.new }
+        ensures ok { OnOk result (KeepsIds self.old → HaveNewIds (stored self.old) documents.items → stored self.new ≡ stored self.old ++ map document_of documents.items) }
+        ensures err { OnErr result (KeepsIds self.old → HaveNewIds (stored self.old) documents.items → stored self.new ≡ stored self.old) }
+        ensures ids { KeepsIds self.old → HaveNewIds (stored self.old) documents.items → KeepsIds self.new }
         ensures indexes { self.new.indexes ≡ self.old.indexes }
     {
         let next = self.next;
@@ -202,7 +202,7 @@ impl Collection {
 
     /// Puts a document in the place of the one with the same `_id`. Where there is none nothing changes.
     pub(crate) fn change(&mut self, key: &Vec<u8>, document: RawDocumentBuf)
-        ensures documents { KeepsIds self.old → stored self.new ≡ with_document key.now.items (fields document) (stored self.old) }
+        ensures documents { KeepsIds self.old → stored self.new ≡ exchange_document key.now.items (fields document) (stored self.old) }
         ensures ids { KeepsIds self.old → IsKeyed key.now.items (fields document) → KeepsIds self.new }
         ensures indexes { self.new.indexes ≡ self.old.indexes }
     {

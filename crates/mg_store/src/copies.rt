@@ -1,9 +1,10 @@
 //! Copies that own their parts, and encodings.
-ghost use Rattle.std.specs.Prelude.{◌≡◌, IfOk};
+ghost use Rattle.std.specs.Prelude.{◌≡◌, ◌≤◌, length, IfOk, OnOk};
 ghost use Rattle.mg_bson.specs.Bytes.{bytes};
 ghost use Rattle.mg_bson.specs.Raw.{fields};
 ghost use Rattle.mg_bson.specs.RawView.{value};
 ghost use Rattle.mg_bson.specs.View.{tree};
+ghost use Rattle.mg_bson.specs.Writable.{max_len};
 
 use mg_bson::{Bson, Document, RawDocument, RawDocumentBuf, RawValue, to_bytes, to_document};
 use mg_link::OutOfMemory;
@@ -13,9 +14,20 @@ use std::alloc::Global;
 pub(crate) fn encoded(alloc: Global, document: &Document) -> Result<RawDocumentBuf, OutOfMemory>
     ensures bytes { IfOk result (λ r. r ≡ bytes document.now) }
     ensures read_back { IfOk result (λ r. fields r ≡ document.now) }
+    ensures short { OnOk result (length (bytes document.now) ≤ max_len) }
 {
     match to_bytes(alloc, document) {
         Ok(bytes) => Ok(bytes),
+        Err(_) => Err(OutOfMemory),
+    }
+}
+
+/// A copy that owns its bytes.
+pub(crate) fn copy(alloc: Global, raw: &RawDocument<'_>) -> Result<RawDocumentBuf, OutOfMemory>
+    ensures { IfOk result (λ r. r ≡ raw.now) }
+{
+    match raw.to_buf(alloc) {
+        Ok(owned) => Ok(owned),
         Err(_) => Err(OutOfMemory),
     }
 }

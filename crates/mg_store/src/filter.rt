@@ -7,7 +7,7 @@ ghost use Rattle.mg_bson.specs.Tree.{document, field, no_fields};
 ghost use Rattle.mg_bson.specs.View.{tree};
 ghost use Rattle.mg_bson.specs.Writable.{IsWritable};
 ghost use Rattle.mg_link.specs.Filter.{begins_with_dollar, condition_of, conditions_of, document_values, is_top_name, key, operator_values, values_of};
-ghost use Rattle.mg_store.specs.Asking.{begins_operator, held, is_key_among, keyed, keys_of, matches_keys, meets_keys};
+ghost use Rattle.mg_store.specs.Asking.{begins_operator, held, keyed, keys_of};
 
 use crate::reading::{has_dot, is_single};
 use crate::reply::with;
@@ -185,47 +185,4 @@ pub(crate) fn conditions_of(
         conditions.push(condition)?;
     }
     Ok(Some(conditions))
-}
-
-fn is_key_among(key: &Vec<u8>, keys: &Vec<Vec<u8>>) -> bool
-    ensures { result ≡ is_key_among key.now.items (map (λ k. k.items) keys.now.items) }
-{
-    for other in keys {
-        if other == key {
-            return true;
-        }
-    }
-    false
-}
-
-fn meets(
-    alloc: Global,
-    condition: &Condition,
-    document: &RawDocument<'_>,
-) -> Result<bool, OutOfMemory>
-    ensures { IfOk result (λ b. b ≡ meets_keys (held condition.now) (fields document.now)) }
-{
-    match document.get(condition.name.as_str()) {
-        Some(found) => {
-            let key = raw_key(alloc, &found)?;
-            Ok(is_key_among(&key, &condition.keys))
-        }
-        None => Ok(false),
-    }
-}
-
-/// Whether the document meets each condition.
-pub(crate) fn matches(
-    alloc: Global,
-    conditions: &Vec<Condition>,
-    document: &RawDocument<'_>,
-) -> Result<bool, OutOfMemory>
-    ensures { IfOk result (λ b. b ≡ matches_keys (map held conditions.now.items) (fields document.now)) }
-{
-    for condition in conditions {
-        if !meets(alloc, condition, document)? {
-            return Ok(false);
-        }
-    }
-    Ok(true)
 }

@@ -14,11 +14,10 @@ ghost use Rattle.mg_store.specs.Indexing.{index_held, indexes_among};
 ghost use Rattle.mg_store.specs.Inserting.{indexes_there};
 
 use crate::collection::Collection;
-use crate::copies::{encoded, tree_of};
+use crate::copies::{copy, encoded, tree_of};
 use crate::limits::may_stay;
 use crate::reading::{document_at, has_only, text_at};
 use crate::reply::with;
-use crate::store::copy;
 use mg_bson::{Bson, Document, RawArray, RawDocument, RawDocumentBuf, RawValue};
 use mg_link::OutOfMemory;
 use std::alloc::Global;

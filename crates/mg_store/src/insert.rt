@@ -13,15 +13,12 @@ use crate::change::{ChangeEntry, entry_of, insert_event};
 use crate::collection::{Collection, KeyedDocument};
 use crate::copies::tree_of;
 use crate::filter::key_of;
-use crate::limits::MAX_DOCUMENT;
+use crate::limits::{MAX_DOCUMENT, MAX_INSERTED_LEVELS};
 use crate::reply::{put_item, write_error};
 use mg_bson::{Array, Bson, BsonError, Document, RawArray, RawDocumentBuf, to_bytes};
 use mg_link::{Namespace, OutOfMemory};
 use std::alloc::{AllocError, AllocFailed, Global};
 use std::collections::BTreeSet;
-
-/// The most levels of an inserted document: as many as fit the event in a reply.
-const MAX_INSERTED_LEVELS: u32 = 96;
 
 /// The code for a document that cannot be stored.
 const BAD_DOCUMENT: i32 = 9;

@@ -1,8 +1,7 @@
 //! What a command is answered.
 ghost use Rattle.std.specs.Prelude.{◌≡◌, ℕ, IfOk, map, string_bytes};
-ghost use Rattle.mg_link.proofs.Ordered.{AreInOrder};
 ghost use Rattle.mg_link.specs.Rules.{refusal};
-ghost use Rattle.mg_link.specs.State.{State};
+ghost use Rattle.mg_link.specs.State.{State, AreInOrder};
 ghost use Rattle.mg_store.specs.Answering.{Answers, Refuses};
 ghost use Rattle.mg_store.specs.Contents.{AnswersAsked, AnswersBy, AnswersOr, Represents, closing};
 ghost use Rattle.mg_store.specs.Wanted.{lent_write};

@@ -1,12 +1,11 @@
 //! What finds and aggregates ask for.
 ghost use Rattle.std.specs.Prelude.{◌≡◌, IfOk, option_map};
 ghost use Rattle.mg_bson.specs.Raw.{fields};
-ghost use Rattle.mg_link.specs.Commands.{batch_size};
 ghost use Rattle.mg_link.specs.Rules.{find_request, aggregate_request, pipeline_request};
 ghost use Rattle.mg_store.specs.Asking.{lent_space};
 ghost use Rattle.mg_store.specs.Wanted.{lent_request, wanted, find_space, found_of, giving_of, lent_plan, plan_of, pipeline_plan, pipeline_space, piped_of};
 
-use crate::reading::{LentSpace, array_at, count_at, document_at, flag_or, has_only, space_at};
+use crate::reading::{LentSpace, array_at, batch_size, count_at, flag_or, has_only, space_at};
 use crate::request::Request;
 use crate::stages::{Stage, find_stages, pipeline_stages};
 use crate::watch::watch_of;
@@ -172,16 +171,4 @@ pub(crate) fn aggregate_of<'a>(
         Some(request) => Ok(Some(request)),
         None => pipeline_of(alloc, command),
     }
-}
-
-/// The batch size that the field `cursor` of a command asks for.
-#[tactic(auto, unfolding(mg_link::specs::Commands::batch_size))]
-pub(crate) fn batch_size(command: &RawDocument<'_>) -> Option<Option<u64>>
-    ensures { result ≡ batch_size (fields command.now) }
-{
-    let cursor = document_at(command, "cursor")?;
-    if !has_only(&cursor, &["batchSize"]) {
-        return None;
-    }
-    count_at(&cursor, "batchSize")
 }

@@ -3,7 +3,7 @@ ghost use Rattle.std.specs.Prelude.{◌≡◌, None, codes, map, is_some, IfOk, 
 ghost use Rattle.mg_bson.specs.Find.{as_document, get};
 ghost use Rattle.mg_bson.specs.Raw.{fields, items, items_left};
 ghost use Rattle.mg_bson.specs.RawView.{value};
-ghost use Rattle.mg_link.specs.Commands.{as_integer, count_of, documents_in, flag_or, has_only, ignored, is_name_among, one_at, one_in, optional_count, target_by, text_of, whole_target};
+ghost use Rattle.mg_link.specs.Commands.{as_integer, batch_size, count_of, documents_in, flag_or, has_only, ignored, is_name_among, one_at, one_in, optional_count, target_by, text_of, whole_target};
 ghost use Rattle.mg_link.specs.Filter.{has_dot};
 ghost use Rattle.mg_link.specs.Namespace.{database, space, target};
 ghost use Rattle.mg_link.specs.State.{is_space};
@@ -11,12 +11,10 @@ ghost use Rattle.mg_link.specs.Rules.{array_at, id_of, ids_in, name_at, named_da
 ghost use Rattle.mg_store.specs.Asking.{documents_among, ids_among, is_single, lent_space, lent_target, only_document};
 ghost use Rattle.mg_store.specs.Wanted.{IsEnd, limit_many};
 
+use crate::limits::MAX_NAME;
 use mg_bson::{RawArray, RawDocument, RawItems, RawValue};
 use mg_link::{Namespace, OperationTarget, OutOfMemory};
 use std::alloc::Global;
-
-/// The most bytes of the name of a database or a collection.
-const MAX_NAME: usize = 65_536;
 
 /// A namespace, lent from the command that names it.
 #[derive(Clone, Copy)]
@@ -280,6 +278,18 @@ pub(crate) fn count_at(document: &RawDocument<'_>, field: &str) -> Option<Option
             Some(n) => Some(Some(n)),
         },
     }
+}
+
+/// The batch size that the field `cursor` of a command asks for.
+#[tactic(auto, unfolding(mg_link::specs::Commands::batch_size))]
+pub(crate) fn batch_size(command: &RawDocument<'_>) -> Option<Option<u64>>
+    ensures { result ≡ batch_size (fields command.now) }
+{
+    let cursor = document_at(command, "cursor")?;
+    if !has_only(&cursor, &["batchSize"]) {
+        return None;
+    }
+    count_at(&cursor, "batchSize")
 }
 
 /// The array of the field.

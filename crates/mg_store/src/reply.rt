@@ -5,16 +5,13 @@ ghost use Rattle.mg_bson.specs.Literal.{◌⇒◌⨾◌, empty, word};
 ghost use Rattle.mg_bson.specs.Tree.{array, document, field, int32, string, timestamp};
 ghost use Rattle.mg_bson.specs.View.{tree};
 ghost use Rattle.mg_link.specs.Namespace.{space};
-ghost use Rattle.mg_link.specs.Rules.{cursor_fields, done_reply, errors_field, number_of, refusal, stamp_of, token_fields, token_of, updated_reply, words_of};
-ghost use Rattle.mg_link.proofs.Telling.{deleted_reply};
+ghost use Rattle.mg_link.specs.Rules.{cursor_fields, done_reply, errors_field, number_of, refusal, stamp_of, token_fields, token_of, updated_reply, words_of, deleted_reply};
 ghost use Rattle.mg_store.specs.Replies.{Written, killed_with, found_with};
 
+use crate::limits::MAX_REPLY;
 use mg_bson::{Array, Bson, BsonError, Document, RawDocumentBuf, Timestamp, to_bytes};
 use mg_link::{Namespace, OutOfMemory};
 use std::alloc::Global;
-
-/// The most bytes of a reply.
-pub(crate) const MAX_REPLY: usize = 47_000_000;
 
 /// The document with a field more at its end.
 pub(crate) fn with(mut document: Document, name: &str, value: Bson) -> Result<Document, OutOfMemory>

@@ -12,7 +12,7 @@ ghost use Rattle.mg_store.specs.Rewriting.{lent};
 ghost use Rattle.mg_store.specs.Selecting.{selecting};
 
 use crate::collection::Collection;
-use crate::copies::{encoded, owned, tree_of};
+use crate::copies::{copy, encoded, owned, tree_of};
 use crate::filter::Condition;
 use crate::lookup::chosen_in;
 use crate::refusal::{Refusal, Stop};
@@ -20,7 +20,6 @@ use crate::reply::with;
 use crate::selection::Selection;
 use crate::sort::{can_sort, sorted};
 use crate::stages::{Key, Stage};
-use crate::store::copy;
 use mg_bson::{Document, RawDocumentBuf, RawValue};
 use mg_link::OutOfMemory;
 use std::alloc::Global;
@@ -55,30 +54,23 @@ fn selected(
     admitted(alloc, &selection, documents)
 }
 
-fn copies(alloc: Global, documents: &[RawDocumentBuf]) -> Result<Vec<RawDocumentBuf>, OutOfMemory>
-    ensures { IfOk result (λ r. map fields r.items ≡ map fields documents.now) }
-{
-    let mut copies = Vec::new(alloc);
-    for document in documents {
-        copies.push(copy(alloc, &document.as_raw())?)?;
-    }
-    Ok(copies)
-}
-
 /// The documents behind the first so many.
-fn behind(documents: &[RawDocumentBuf], n: u64) -> &[RawDocumentBuf]
-    ensures { result.now ≡ drop n documents.now }
+fn behind(documents: Vec<RawDocumentBuf>, n: u64) -> Result<Vec<RawDocumentBuf>, OutOfMemory>
+    ensures { IfOk result (λ r. r.items ≡ drop n documents.items) }
 {
+    let mut documents = documents;
     let from = n.min(documents.len() as u64) as usize;
-    &documents[from..]
+    Ok(documents.split_off(from)?)
 }
 
 /// The first so many documents.
-fn front(documents: &[RawDocumentBuf], n: u64) -> &[RawDocumentBuf]
-    ensures { result.now ≡ take n documents.now }
+fn front(documents: Vec<RawDocumentBuf>, n: u64) -> Vec<RawDocumentBuf>
+    ensures { result.items ≡ take n documents.items }
 {
+    let mut documents = documents;
     let upto = n.min(documents.len() as u64) as usize;
-    &documents[..upto]
+    documents.truncate(upto);
+    documents
 }
 
 fn id_document(alloc: Global, id: &RawValue<'_>) -> Result<Document, OutOfMemory>
@@ -151,17 +143,17 @@ fn ordered(
 fn staged(
     alloc: Global,
     stage: &Stage,
-    documents: &[RawDocumentBuf],
+    documents: Vec<RawDocumentBuf>,
 ) -> Result<Vec<RawDocumentBuf>, Stop>
-    ensures { Results result (done (held_stage stage.now) (map fields documents.now)) }
+    ensures { Results result (done (held_stage stage.now) (map fields documents.items)) }
 {
     match stage {
-        Stage::Select(conditions) => Ok(selected(alloc, conditions, documents)?),
-        Stage::Sort(keys) => ordered(alloc, keys, documents),
-        Stage::Skip(n) => Ok(copies(alloc, behind(documents, *n))?),
-        Stage::Limit(n) => Ok(copies(alloc, front(documents, *n))?),
-        Stage::ShowId => Ok(with_ids_alone(alloc, documents)?),
-        Stage::HideId => Ok(without_ids(alloc, documents)?),
+        Stage::Select(conditions) => Ok(selected(alloc, conditions, documents.as_slice())?),
+        Stage::Sort(keys) => ordered(alloc, keys, documents.as_slice()),
+        Stage::Skip(n) => Ok(behind(documents, *n)?),
+        Stage::Limit(n) => Ok(front(documents, *n)),
+        Stage::ShowId => Ok(with_ids_alone(alloc, documents.as_slice())?),
+        Stage::HideId => Ok(without_ids(alloc, documents.as_slice())?),
     }
 }
 
@@ -175,24 +167,13 @@ pub(crate) fn further(
 {
     let mut found = found;
     for stage in stages {
-        found = staged(alloc, stage, found.as_slice())?;
+        found = staged(alloc, stage, found)?;
     }
     Ok(found)
 }
 
-/// Copies of the documents of a collection.
-fn all(alloc: Global, collection: &Collection) -> Result<Vec<RawDocumentBuf>, OutOfMemory>
-    ensures { IfOk result (λ r. map fields r.items ≡ stored collection.now) }
-{
-    let mut copies = Vec::new(alloc);
-    for document in collection.documents.values() {
-        copies.push(copy(alloc, &document.as_raw())?)?;
-    }
-    Ok(copies)
-}
-
 /// Copies of documents that are lent.
-fn copied(alloc: Global, documents: &[&RawDocumentBuf]) -> Result<Vec<RawDocumentBuf>, OutOfMemory>
+fn copies(alloc: Global, documents: &[&RawDocumentBuf]) -> Result<Vec<RawDocumentBuf>, OutOfMemory>
     ensures { IfOk result (λ r. map fields r.items ≡ lent documents.now) }
 {
     let mut copies = Vec::new(alloc);
@@ -200,6 +181,14 @@ fn copied(alloc: Global, documents: &[&RawDocumentBuf]) -> Result<Vec<RawDocumen
         copies.push(copy(alloc, &document.as_raw())?)?;
     }
     Ok(copies)
+}
+
+/// Copies of the documents of a collection.
+fn all(alloc: Global, collection: &Collection) -> Result<Vec<RawDocumentBuf>, OutOfMemory>
+    ensures { IfOk result (λ r. map fields r.items ≡ stored collection.now) }
+{
+    let lent = collection.lent(alloc)?;
+    copies(alloc, lent.as_slice())
 }
 
 /// Copies of those documents of a collection that meet each condition.
@@ -211,7 +200,7 @@ fn met(
     ensures { KeepsIds collection.now → IfOk result (λ r. map fields r.items ≡ filter (matches_keys (map held conditions.now.items)) (stored collection.now)) }
 {
     let chosen = chosen_in(alloc, conditions, true, collection)?;
-    copied(alloc, chosen.as_slice())
+    copies(alloc, chosen.as_slice())
 }
 
 /// What the first stage makes of the documents of a collection. A selection copies no others.
@@ -220,7 +209,7 @@ fn begun(alloc: Global, stage: &Stage, collection: &Collection) -> Result<Vec<Ra
 {
     match stage {
         Stage::Select(conditions) => Ok(met(alloc, conditions, collection)?),
-        _ => staged(alloc, stage, all(alloc, collection)?.as_slice()),
+        _ => staged(alloc, stage, all(alloc, collection)?),
     }
 }
 

@@ -10,7 +10,7 @@ ghost use Rattle.mg_link.specs.Write.{modified};
 ghost use Rattle.mg_store.specs.Asking.{held};
 ghost use Rattle.mg_store.specs.Inserting.{IsKeyed, KeepsIds, KeepsIdsThere, stored, there};
 ghost use Rattle.mg_store.specs.Modifying.{lent_modification};
-ghost use Rattle.mg_store.specs.Rewriting.{Alters, AreKeyed, ChangesOr, GivesEvent, MakesAllOr, MakesOr, RemovesAllOr, RemovesOr, chosen_by, lent, with_documents, without_documents};
+ghost use Rattle.mg_store.specs.Rewriting.{Alters, AreKeyed, ChangesOr, GivesEvent, MakesAllOr, MakesOr, RemovesAllOr, RemovesOr, chosen_by, lent, exchange_documents, without_documents, AltersOr, EncodesOr};
 
 use crate::change::{ChangeEntry, deleted_event, entry_of, replaced_event, updated_event};
 use crate::collection::{Collection, KeyedDocument};
@@ -21,7 +21,7 @@ use crate::lookup::chosen_in;
 use crate::modification::{Modification, modified, with_fields};
 use crate::refusal::{Refusal, Stop};
 use crate::reply::with;
-use mg_bson::{Bson, Document, RawDocument, RawDocumentBuf};
+use mg_bson::{Bson, BsonError, Document, RawDocument, RawDocumentBuf, to_bytes};
 use mg_link::{Namespace, OutOfMemory};
 use std::alloc::Global;
 
@@ -166,18 +166,28 @@ impl Altered {
     }
 }
 
-/// What the modification makes of a document, none where it leaves that equal. What is too large to be encoded is want
-/// of memory.
+/// The encoding of a document, or the refusal of one that is too large for that.
+fn encoded_anew(alloc: Global, document: &Document) -> Result<RawDocumentBuf, Stop>
+    ensures { EncodesOr document.now result }
+{
+    match to_bytes(alloc, document) {
+        Ok(encoded) => Ok(encoded),
+        Err(BsonError::TooLarge) => Err(Stop::Refused(Refusal::BadRequest)),
+        Err(_) => Err(Stop::Memory),
+    }
+}
+
+/// What the modification makes of a document, none where it leaves that equal.
 fn alter(
     alloc: Global,
     modification: &Modification<'_>,
     document: &RawDocumentBuf,
-) -> Result<Option<Altered>, OutOfMemory>
-    ensures { IfOk result (Alters (lent_modification modification.now) (fields document.now)) }
+) -> Result<Option<Altered>, Stop>
+    ensures { AltersOr (lent_modification modification.now) (fields document.now) result }
 {
     let before = encoded(alloc, &tree_of(alloc, document.as_raw())?)?;
     let document = modified(alloc, modification, document)?;
-    let encoded = encoded(alloc, &document)?;
+    let encoded = encoded_anew(alloc, &document)?;
     if before == encoded {
         return Ok(None);
     }
@@ -374,7 +384,7 @@ pub(crate) fn removals_of(
 impl Collection {
     /// Puts documents in the places of those with the same ids.
     pub(crate) fn change_all(&mut self, documents: Vec<KeyedDocument>)
-        ensures documents { KeepsIds self.old → AreKeyed documents.items → stored self.new ≡ with_documents documents.items (stored self.old) }
+        ensures documents { KeepsIds self.old → AreKeyed documents.items → stored self.new ≡ exchange_documents documents.items (stored self.old) }
         ensures ids { KeepsIds self.old → AreKeyed documents.items → KeepsIds self.new }
         ensures indexes { self.new.indexes ≡ self.old.indexes }
     {

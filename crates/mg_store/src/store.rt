@@ -8,12 +8,14 @@ ghost use Rattle.mg_link.specs.Namespace.{space};
 ghost use Rattle.mg_link.specs.Rules.{answer_of, refusal};
 ghost use Rattle.mg_link.specs.Step.{documents_of};
 ghost use Rattle.mg_store.specs.Contents.{MayKeep};
+ghost use Rattle.mg_store.specs.Holding.{AreExact};
 ghost use Rattle.mg_store.specs.Stored.{AreOpen, Performs, Stored, kept_of, shown, shown_of};
 
 use crate::change::ChangeEntry;
 use crate::content::Content;
+use crate::continuing::{continued_cursor, ends_cursor};
+use crate::copies::copy;
 use crate::perform::{Answer, closing, refused};
-use crate::refusing::{continued_cursor, ends_cursor};
 use mg_bson::{RawDocument, RawDocumentBuf};
 use mg_link::{HistoryStep, Namespace, OutOfMemory, Receipt, push_reserved};
 use std::alloc::Global;
@@ -94,8 +96,8 @@ impl Store {
     }
 
     /// Refuses a command with this code and these labels, and keeps the step. The reply has at most 47,000,000 bytes. A
-    /// getMore that is refused with code 43 or 237 leaves the store without the cursor that it names, and nothing else
-    /// changes but the history. Where memory runs out nothing changes.
+    /// getMore that names a cursor and its collection, and is refused with code 43 or 237, leaves the store without that
+    /// cursor, and nothing else changes but the history. Where memory runs out nothing changes.
     pub fn refuse(
         &mut self,
         command: RawDocument<'_>,
@@ -122,9 +124,10 @@ impl Store {
         }
     }
 
-    /// The list of changes, in order.
+    /// The list of changes, in order. The event of each has the bytes of its document.
     pub fn changes(&self) -> &[ChangeEntry]
-        ensures { map shown_of result.now ≡ map shown (state_of_kept self.now.history).changes }
+        ensures shown { map shown_of result.now ≡ map shown (state_of_kept self.now.history).changes }
+        ensures exact { AreExact result.now }
     {
         self.content.changes.as_slice()
     }
@@ -158,14 +161,4 @@ fn step_of(
     let command = copy(alloc, command)?;
     let reply = copy(alloc, &reply.as_raw())?;
     Ok(HistoryStep { command, reply })
-}
-
-/// A copy that owns its bytes.
-pub(crate) fn copy(alloc: Global, raw: &RawDocument<'_>) -> Result<RawDocumentBuf, OutOfMemory>
-    ensures { IfOk result (λ r. r ≡ raw.now) }
-{
-    match raw.to_buf(alloc) {
-        Ok(owned) => Ok(owned),
-        Err(_) => Err(OutOfMemory),
-    }
 }

@@ -3,7 +3,7 @@ ghost use Rattle.std.specs.Prelude.{◌≡◌, ℕ, map, List};
 ghost use Rattle.mg_bson.specs.Raw.{items};
 ghost use Rattle.mg_link.specs.Filter as filter;
 ghost use Rattle.mg_link.specs.Namespace.{space};
-ghost use Rattle.mg_link.proofs.Requests.{KeepsId};
+ghost use Rattle.mg_link.specs.Commands.{KeepsId};
 ghost use Rattle.mg_link.specs.Rules.{create_collection, create_indexes, insert, drop_collection, update, delete};
 ghost use Rattle.mg_link.specs.State.{State};
 ghost use Rattle.mg_store.specs.Asking.{documents_among, held, keyed};

@@ -9,8 +9,9 @@ ghost use Rattle.mg_store.specs.Asking.{held, keyed, lent_target};
 ghost use Rattle.mg_store.specs.Wanted.{conditions_at, filter_behind, lent_request, lent_opening, lent_stages, lent_start, opening_of, opening_with, stages_at, stages_of, wanted, watch};
 
 use crate::filter::{Condition, conditions_of};
-use crate::query::batch_size;
-use crate::reading::{LentTarget, array_at, flag_or, has_only, is_end, only_document, target_at};
+use crate::reading::{
+    LentTarget, array_at, batch_size, flag_or, has_only, is_end, only_document, target_at,
+};
 use crate::request::Request;
 use mg_bson::{RawArray, RawDocument, RawItems, RawValue, Timestamp};
 use mg_link::OutOfMemory;

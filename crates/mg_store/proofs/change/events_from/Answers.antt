@@ -7,6 +7,8 @@ use Rattle.mg_bson.specs.Find.{with_item}
 use Rattle.mg_link.specs.State as state
 use Rattle.mg_link.specs.State.{Entry, sees}
 use Rattle.mg_store.specs.Holding.{AreExact, IsWatch, entries_from, entry_at}
+use Rattle.mg_store.specs.Selecting.{selecting}
+use Rattle.mg_store.proofs.Seeing.{selected_watch}
 use Rattle.mg_store.proofs.Entries.{length-entries, drop_entry, exact_at}
 use Rattle.mg_store.proofs.Batches.{Stands, batch_passes, batch_takes, batch_counted, batch_filled, batch_ended, batch_at_end}
 use Rattle.mg_store.proofs.change.events_from.Goals as goal
@@ -16,7 +18,7 @@ pub returns-then-left-eq0 : goal.returns-then-left-eq0
 returns-then-left-eq0 c w is exact =
     let h = c.loop-place.invariant.1 w is exact in
     let e = batch_counted w (entries_from 0 c.args.changes.now) c.args.from c.args.size c.loop-place.events c.loop-place.behind c.loop-place.room c.loop-place.left c.loop-place.place c.if-left-eq0.true h in
-    record { place_is = c.new.ensures.place ∙ e.place_is; events_are = c.new.ensures.events ∙ e.events_are; ended_is = c.new.ensures.ended ∙ e.ended_is }
+    record { place_is = c.new-then-left-eq0.ensures.place ∙ e.place_is; events_are = c.new-then-left-eq0.ensures.events ∙ e.events_are; ended_is = c.new-then-left-eq0.ensures.ended ∙ e.ended_is }
 
 pub returns : goal.returns
 returns c w is exact =
@@ -47,7 +49,7 @@ module _ (c : In_ok-sees) where
   here = drop_entry c.loop-place.place c.args.changes.now c.index-changes-place.result at c.index-changes-place.is
 
   seen : (w : state.Watch) → IsWatch c.args.watch.now w → c.in_ok-sees.field-0 ≡ sees w e
-  seen w is = c.in_ok-sees.ensures w c.loop-place.place is
+  seen w is = c.in_ok-sees.ensures w c.loop-place.place (selected_watch c.args.watch.now (selecting c.in_ok-selection.selection) w c.in_ok-selection.ensures is)
 
   raw : AreExact c.args.changes.now → length c.index-changes-place.result.event ≡ length (bytes e.event)
   raw exact = ap length (exact_at c.loop-place.place c.args.changes.now c.index-changes-place.result at c.index-changes-place.is exact)

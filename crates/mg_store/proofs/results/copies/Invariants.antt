@@ -1,6 +1,7 @@
 use Rattle.std.proofs.Common.{◌≡◌, ◌++◌, map, drop}
 use Rattle.mg_bson.specs.Raw.{fields}
+use Rattle.mg_store.specs.Rewriting.{lent}
 use Rattle.mg_store.proofs.results.copies.Given as goal
 
 abbrev pub invariant-loop-document : goal.invariant-loop-document
-invariant-loop-document l = map fields l.copies.items ++ map fields (drop l.document-index l.documents) ≡ map fields l.documents
+invariant-loop-document l = map fields l.copies.items ++ lent (drop l.document-index l.documents) ≡ lent l.documents

@@ -1,4 +1,4 @@
-use Rattle.std.proofs.Common.{◌≡◌, Err, take, subst}
+use Rattle.std.proofs.Common.{Err, take, subst}
 use Rattle.std.proofs.lemmas.Result.{err_from_is_err_and}
 use Rattle.mg_bson.specs.Raw.{fields}
 use Rattle.mg_link.specs.Namespace.{space}

@@ -4,7 +4,7 @@ use Rattle.mg_link.specs.Namespace.{space}
 use Rattle.mg_store.specs.Rewriting.{RemovesOr, lent}
 use Rattle.mg_store.proofs.Rewriting.{removes_all_stop}
 use Rattle.mg_store.proofs.rewrite.removals_of.Goals as goal
-use Rattle.std.proofs.Common.{◌≡◌, Err, take, subst}
+use Rattle.std.proofs.Common.{Err, take, subst}
 
 pub returns-in_err-take : goal.returns-in_err-take
 returns-in_err-take c =

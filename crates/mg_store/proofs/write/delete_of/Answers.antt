@@ -1,4 +1,4 @@
-use Rattle.std.proofs.Common.{Option, List, Some, map, option_map, sym, ap, ◌∙◌}
+use Rattle.std.proofs.Common.{Option, map, option_map, sym, ap, ◌∙◌}
 use Rattle.mg_bson.specs.Raw.{fields}
 use Rattle.mg_store.specs.Asking.{held}
 use Rattle.mg_store.specs.Wanted.{Deleting, lent_deleting, wanted}

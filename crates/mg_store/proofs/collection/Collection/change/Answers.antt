@@ -1,9 +1,9 @@
-use Rattle.std.proofs.Common.{◌≡◌, ℕ, List, Some, is_some, map, refl, subst, sym, ap, ◌∙◌}
+use Rattle.std.proofs.Common.{is_some, map, refl, subst, sym, ap, ◌∙◌}
 use Rattle.std.specs.Map.{values_of}
 use Rattle.mg_bson.specs.Raw.{fields}
-use Rattle.mg_store.specs.Collecting.{with_document}
+use Rattle.mg_store.specs.Collecting.{exchange_document}
 use Rattle.mg_store.specs.Grouping.{AreGrouped, IsGrouped}
-use Rattle.mg_store.specs.Inserting.{number_in, stored}
+use Rattle.mg_store.specs.Inserting.{stored}
 use Rattle.mg_store.specs.declared.collection.Collection.{Collection}
 use Rattle.mg_store.proofs.Changing.{change_keeps, change_stored, none_changes, not_there, numbered_at}
 use Rattle.mg_store.proofs.Grouping.{grouped_changed}
@@ -18,7 +18,7 @@ returns-clause-documents c keeps =
     let new = c.replace-old.new.dest in
     let changed : Collection = record c.args.self.now { documents = c.get_mut.follows.lender new; groups = c.change.new.self } in
     change_stored c.args.self.now changed c.args.key.now c.in-Some.number.now new keeps (sym c.in-Some.ensures.value) (c.get_mut.follows.holds new).0
-    ∙ ap (λ d. with_document c.args.key.now.items (fields d) (stored c.args.self.now)) c.replace-old.ensures.after
+    ∙ ap (λ d. exchange_document c.args.key.now.items (fields d) (stored c.args.self.now)) c.replace-old.ensures.after
 
 pub returns-clause-ids : goal.returns-clause-ids
 returns-clause-ids c keeps keyed =

@@ -1,12 +1,12 @@
-use Rattle.std.proofs.Common.{◌≡◌, ℕ, ◌<◌, ◌^◌, List, length, map, ap, ap₂, sym, ◌∙◌, subst, arith}
+use Rattle.std.proofs.Common.{◌≡◌, ℕ, ◌<◌, ◌^◌, List, length, map, ap, ◌∙◌, subst, arith}
 use Rattle.std.proofs.lemmas.Result.{err_from_is_err_and}
 use Rattle.std.specs.Option.{option_copied}
 use denote.Ref.{Bor}
 use Rattle.mg_link.specs.Namespace.{space}
-use Rattle.mg_link.proofs.Telling.{deleted_reply}
+use Rattle.mg_link.specs.Rules.{deleted_reply}
 use Rattle.mg_store.specs.Asking.{held}
 use Rattle.mg_store.specs.Contents.{collection_at}
-use Rattle.mg_store.specs.Rewriting.{Removes, RemovesAllOr, lent}
+use Rattle.mg_store.specs.Rewriting.{Removes, lent}
 use Rattle.mg_store.proofs.Holdings.{distinct_there, delete_settles, delete_stops, keeps_there}
 use Rattle.mg_store.proofs.Maps.{found_at}
 use Rattle.mg_store.proofs.content.Content.answer_delete.Goals as goal

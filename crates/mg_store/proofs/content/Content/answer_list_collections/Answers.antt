@@ -1,6 +1,5 @@
 use Rattle.std.proofs.Common.{refl, map, sym, ap, ◌∙◌}
 use Rattle.std.proofs.lemmas.Result.{err_from_is_err_and}
-use Rattle.mg_bson.specs.Raw.{fields}
 use Rattle.mg_store.proofs.Lists.{collections_found, collections_stop}
 use Rattle.mg_store.proofs.content.Content.answer_list_collections.Goals as goal
 

@@ -1,4 +1,4 @@
-use Rattle.std.proofs.Common.{◌≡◌, Some, None, false, is_some, map, ◌∷◌, refl, sym, ap, ◌∙◌}
+use Rattle.std.proofs.Common.{◌≡◌, Some, false, is_some, map, ◌∷◌, refl, sym, ap, ◌∙◌}
 use Rattle.mg_link.specs.Namespace.{space}
 use Rattle.mg_link.specs.Query.{id_index, index_listed}
 use Rattle.mg_store.specs.Contents.{collection_at}

@@ -1,4 +1,4 @@
-use Rattle.std.proofs.Common.{◌≡◌, ℕ, ◌<◌, ◌^◌, List, length, map, ap, ap₂, sym, ◌∙◌, subst, arith}
+use Rattle.std.proofs.Common.{◌≡◌, ℕ, ◌<◌, ◌^◌, List, length, map, ap₂, ◌∙◌, subst, arith}
 use Rattle.std.proofs.lemmas.Result.{err_from_is_err_and}
 use Rattle.std.specs.Option.{option_copied}
 use denote.Ref.{Bor}
@@ -7,7 +7,7 @@ use Rattle.mg_link.specs.Rules.{updated_reply}
 use Rattle.mg_store.specs.Asking.{held}
 use Rattle.mg_store.specs.Contents.{collection_at}
 use Rattle.mg_store.specs.Modifying.{lent_modification}
-use Rattle.mg_store.specs.Rewriting.{Makes, MakesAllOr, lent}
+use Rattle.mg_store.specs.Rewriting.{Makes, lent}
 use Rattle.mg_store.proofs.Holdings.{distinct_there, keeps_there, update_settles, update_stops}
 use Rattle.mg_store.proofs.Maps.{found_at}
 use Rattle.mg_store.proofs.content.Content.answer_update.Goals as goal

@@ -1,17 +1,10 @@
-use Rattle.std.proofs.Common.{◌≡◌, ℤ, map, Ok, sym, ap, ◌∙◌, subst, rules, to_z, of_z, w64}
-use mir.Val.{SFits}
-use Rattle.std.proofs.lemmas.Int.{to_z-of_z}
-use Rattle.std.proofs.lemmas.Result.{err_from_is_err_and}
+use Rattle.std.proofs.Common.{map, Ok, ap, ◌∙◌}
 use Rattle.mg_bson.specs.Raw.{items}
 use Rattle.mg_link.specs.Namespace.{space}
-use Rattle.mg_store.specs.Asking.{documents_among, held, ids_among, lent_space, lent_target}
-use Rattle.mg_link.specs.Query.{of_database}
-use Rattle.mg_link.specs.Rules.{more}
+use Rattle.mg_store.specs.Asking.{documents_among, held, lent_space}
 use Rattle.mg_store.specs.Indexing.{index_held}
-use Rattle.mg_store.specs.Contents.{Settles}
 use Rattle.mg_store.specs.Wanted.{lent_write}
-use Rattle.mg_store.proofs.Requesting.{insert_answers, kill_answers, more_answers, stops_answer, watch_answers, create_answers, indexes_answer, find_answers, drop_answers, list_answers, indexes_list_answers, update_answers, delete_answers}
-use Rattle.mg_store.specs.Querying.{held_stage}
+use Rattle.mg_store.proofs.Requesting.{insert_answers, create_answers, indexes_answer, drop_answers, update_answers, delete_answers}
 use Rattle.mg_store.specs.Modifying.{lent_modification}
 use Rattle.mg_store.proofs.content.Content.answer_write.Goals as goal
 

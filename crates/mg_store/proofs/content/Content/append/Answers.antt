@@ -7,7 +7,7 @@ use Rattle.mg_link.specs.Namespace.{space}
 use Rattle.mg_link.specs.State.{is_space}
 use Rattle.mg_link.specs.Step.{documents_of}
 use Rattle.mg_store.specs.Contents.{Leads, collection_at}
-use Rattle.mg_store.specs.Inserting.{AreNew, indexed, new_documents, stored}
+use Rattle.mg_store.specs.Inserting.{HaveNewIds, indexed, new_documents, stored}
 use Rattle.mg_store.specs.Indexing.{index_held}
 use Rattle.mg_store.specs.declared.change.ChangeEntry.{ChangeEntry}
 use Rattle.mg_store.specs.declared.collection.Collection.{Collection}
@@ -34,7 +34,7 @@ returns-in_err-append-in-Some-clause-err c =
     let found : collection_at c.args.self.now.collections (space c.args.ns) ≡ Some old = sym (found_at c.args.ns c.args.self.now.collections) ∙ sym c.in-Some.ensures.value in
     let there : documents_of s (space c.args.ns) ≡ stored old = ap (λ (x : Option (List Fields)). unwrap_or x []) (h.documents_are (space c.args.ns) ∙ ap (option_map stored) found) in
     let keeps = h.ids_are (space c.args.ns) old found in
-    let new = subst (λ (l : List Fields). AreNew l a.documents.items) there d.0.0.new in
+    let new = subst (λ (l : List Fields). HaveNewIds l a.documents.items) there d.0.0.new in
     let w : Collection = c.append.new.self in
     let writes = c.get_mut.follows.holds w in
     let updates = writes.3 (some_of _ old c.in-Some.ensures.value) in
@@ -62,7 +62,7 @@ returns-clause-ok c s given s' given' h does =
           let found : collection_at c.args.self.now.collections (space c.args.ns) ≡ Some old = sym (found_at c.args.ns c.args.self.now.collections) ∙ sym w.in-Some.ensures.value in
           let there : documents_of s (space c.args.ns) ≡ stored old = ap (λ (x : Option (List Fields)). unwrap_or x []) (h.documents_are (space c.args.ns) ∙ ap (option_map stored) found) in
           let keeps = h.ids_are (space c.args.ns) old found in
-          let new = subst (λ (l : List Fields). AreNew l a.documents.items) there d.0.0.new in
+          let new = subst (λ (l : List Fields). HaveNewIds l a.documents.items) there d.0.0.new in
           let made : Collection = w.append.new.self in
           let writes = c.get_mut.follows.holds made in
           let updates = writes.3 (some_of _ old w.in-Some.ensures.value) in
@@ -77,7 +77,7 @@ returns-clause-ok c s given s' given' h does =
           let none : collection_at c.args.self.now.collections (space c.args.ns) ≡ None = sym (found_at c.args.ns c.args.self.now.collections) ∙ sym w.in-None.ensures.value in
           let there : documents_of s (space c.args.ns) ≡ [] = ap (λ (x : Option (List Fields)). unwrap_or x []) (h.documents_are (space c.args.ns) ∙ ap (option_map stored) none) in
           let empty = w.new-collection.ensures in
-          let new = subst (λ (l : List Fields). AreNew l a.documents.items) (there ∙ sym empty.none) d.0.0.new in
+          let new = subst (λ (l : List Fields). HaveNewIds l a.documents.items) (there ∙ sym empty.none) d.0.0.new in
           let made : Collection = w.append-in-None.new.self in
           does_insert c.args.self.now _ s s' given given' c.args.ns a made h d
           (λ sp. ap (λ (x : Content). collection_at x.collections sp) w.self-is ∙ collections_update c.args.ns made c.get_mut.follows.lender-at-none w.insert.new.self w.in_ok-insert-in-None.ensures.updates sp

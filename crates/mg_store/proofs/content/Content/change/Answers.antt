@@ -1,8 +1,8 @@
-use Rattle.std.proofs.Common.{◌≡◌, List, ◌++◌, None, Option, Some, refl, sym, ap, ◌∙◌, subst}
+use Rattle.std.proofs.Common.{◌≡◌, List, ◌++◌, None, Some, sym, ap, ◌∙◌, subst}
 use Rattle.mg_link.specs.Namespace.{space}
 use Rattle.mg_store.specs.Contents.{collection_at}
 use Rattle.mg_store.specs.Inserting.{stored}
-use Rattle.mg_store.specs.Rewriting.{AreKeyed, with_documents}
+use Rattle.mg_store.specs.Rewriting.{AreKeyed, exchange_documents}
 use Rattle.mg_store.specs.declared.change.ChangeEntry.{ChangeEntry}
 use Rattle.mg_store.specs.declared.collection.Collection.{Collection}
 use Rattle.mg_store.specs.declared.content.Content.{Content}
@@ -23,14 +23,14 @@ returns-clause-ok c s given s' given' h leads =
           let made : Collection = w.change_all.new.self in
           let writes = c.get_mut.follows.holds made in
           let updates = writes.3 (some_of _ old w.in-Some.ensures.value) in
-          does_rewrite c.args.self.now _ s s' given given' c.args.ns (with_documents c.args.changes.documents.items) more old made h leads.0.1 leads.0.2 leads.1 found
+          does_rewrite c.args.self.now _ s s' given given' c.args.ns (exchange_documents c.args.changes.documents.items) more old made h leads.0.1 leads.0.2 leads.1 found
           (λ sp. ap (λ (x : Content). collection_at x.collections sp) w.self-is ∙ collections_update c.args.ns made c.args.self.now.collections (c.get_mut.follows.lender made) updates sp)
-          (w.change_all.ensures.documents keeps keyed ∙ ap (λ v. with_documents v.items (stored old)) c.into_parts-documents.ensures.documents) w.change_all.ensures.indexes (w.change_all.ensures.ids keeps keyed)
+          (w.change_all.ensures.documents keeps keyed ∙ ap (λ v. exchange_documents v.items (stored old)) c.into_parts-documents.ensures.documents) w.change_all.ensures.indexes (w.change_all.ensures.ids keeps keyed)
           (c.append_reserved.ensures ∙ ap (λ (l : List ChangeEntry). l ++ c.into_parts-documents.result.1.items) (ap (λ (x : Content). x.changes.items) w.self-is ∙ c.in_ok-reserve.ensures.items) ∙ ap (λ v. c.args.self.now.changes.items ++ v.items) c.into_parts-documents.ensures.entries)
           (ap (λ (x : Content). x.cursors) w.self-is) (ap (λ (x : Content). x.given) w.self-is)
       | in-None w ↦
           let none : collection_at c.args.self.now.collections (space c.args.ns) ≡ None = sym (found_at c.args.ns c.args.self.now.collections) ∙ sym w.in-None.ensures.value in
-          does_nothing_to c.args.self.now _ s s' given given' c.args.ns (with_documents c.args.changes.documents.items) more h leads.0.1 leads.0.2 leads.1 none
+          does_nothing_to c.args.self.now _ s s' given given' c.args.ns (exchange_documents c.args.changes.documents.items) more h leads.0.1 leads.0.2 leads.1 none
           (ap (λ (x : Content). x.collections) w.self-is ∙ c.get_mut.follows.holds-at-none)
           (c.append_reserved.ensures ∙ ap (λ (l : List ChangeEntry). l ++ c.into_parts-documents.result.1.items) (ap (λ (x : Content). x.changes.items) w.self-is ∙ c.in_ok-reserve.ensures.items) ∙ ap (λ v. c.args.self.now.changes.items ++ v.items) c.into_parts-documents.ensures.entries)
           (ap (λ (x : Content). x.cursors) w.self-is) (ap (λ (x : Content). x.given) w.self-is)

@@ -1,4 +1,4 @@
-use Rattle.std.proofs.Common.{◌≡◌, List, ◌++◌, None, Option, Some, refl, sym, ap, ◌∙◌, subst}
+use Rattle.std.proofs.Common.{◌≡◌, List, ◌++◌, None, Some, sym, ap, ◌∙◌}
 use Rattle.mg_link.specs.Namespace.{space}
 use Rattle.mg_store.specs.Contents.{collection_at}
 use Rattle.mg_store.specs.Inserting.{stored}

@@ -9,7 +9,7 @@ use Rattle.mg_bson.specs.Tree.{Tree, Fields}
 use Rattle.mg_bson.specs.Find.{get}
 use Rattle.mg_link.specs.Filter.{key}
 use Rattle.mg_store.specs.Holding.{AreExact}
-use Rattle.mg_store.specs.Inserting.{AreNew, Fits, IsKeyed, KeepsIdsThere, document_of, holds_id, is_of_id, new_documents, there, vec_cmp}
+use Rattle.mg_store.specs.Inserting.{HaveNewIds, Fits, IsKeyed, KeepsIdsThere, document_of, holds_id, is_of_id, new_documents, there, vec_cmp}
 use Rattle.mg_store.specs.declared.collection.KeyedDocument.{KeyedDocument}
 use Rattle.mg_store.specs.declared.change.ChangeEntry.{ChangeEntry}
 use Rattle.mg_store.proofs.Entries.{exact-append}
@@ -76,7 +76,7 @@ returns c keeps fits =
       errors_same = adds.errors_same;
       fits = record {
         ids_are = λ k. adds.ids_are k ∙ ap (cond (bytes_eq keyed.key.items k.items) true) (fits.ids_are k) ∙ sym (ap (holds_id k.items) all ∙ holds_push keyed.key.items k.items (docs d) (document_of keyed) is);
-        new = subst (AreNew (before d)) (sym adds.documents_are) (new_push (before d) c.args.self.now.documents.items keyed fits.new is (ap (λ (k : List ℕ). holds_id k (before d ++ docs d)) (key_is d) ∙ fresh));
+        new = subst (HaveNewIds (before d)) (sym adds.documents_are) (new_push (before d) c.args.self.now.documents.items keyed fits.new is (ap (λ (k : List ℕ). holds_id k (before d ++ docs d)) (key_is d) ∙ fresh));
         exact = subst AreExact (sym adds.entries_are) (exact-append c.args.self.now.entries.items (entry ∷ []) fits.exact (made.exact, tt));
       };
     }

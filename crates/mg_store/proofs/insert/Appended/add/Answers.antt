@@ -1,4 +1,4 @@
-use Rattle.std.proofs.Common.{◌≡◌, refl, sym, ap, ◌∙◌, cond, true}
+use Rattle.std.proofs.Common.{refl, ap, ◌∙◌, cond, true}
 use Rattle.std.specs.BTreeSet.{contains}
 use Rattle.std.specs.List.{each_same}
 use Rattle.std.specs.Str.{bytes_eq}

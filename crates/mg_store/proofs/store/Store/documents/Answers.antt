@@ -1,6 +1,5 @@
 use Rattle.std.proofs.Common.{None, Some, map, ap, ◌∙◌}
 use Rattle.std.proofs.lemmas.Result.{IfOk-weaker}
-use Rattle.mg_bson.specs.Raw.{fields}
 use Rattle.mg_link.specs.Namespace.{space}
 use Rattle.mg_link.specs.Step.{documents_of}
 use Rattle.mg_link.specs.Kept.{state_of_kept}

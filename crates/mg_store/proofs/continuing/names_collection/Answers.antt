@@ -1,7 +1,7 @@
 use Rattle.std.proofs.Common.{sym, ◌∙◌}
 use Rattle.mg_bson.specs.Raw.{fields}
 use Rattle.mg_store.proofs.Continued.{both_there, dotted_database, empty_database, no_collection, no_database}
-use Rattle.mg_store.proofs.refusing.names_collection.Goals as goal
+use Rattle.mg_store.proofs.continuing.names_collection.Goals as goal
 
 pub returns-in_default : goal.returns-in_default
 returns-in_default c = no_database (fields c.args.command.now) c.in_default.ensures

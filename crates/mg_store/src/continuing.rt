@@ -1,4 +1,4 @@
-//! What a refusal ends.
+//! The cursor that a command goes on with, and which refusals end one.
 ghost use Rattle.std.specs.Prelude.{◌≡◌, codes, is_some};
 ghost use Rattle.mg_bson.specs.Raw.{fields};
 ghost use Rattle.mg_link.specs.Commands.{asked, space_at};
