@@ -5,6 +5,7 @@ use crate::follow::POLLS;
 use mg_bson::{Bson, Document};
 use mg_link::{Action, Error, ErrorKind, Exec, Link, Namespace, Step, plain};
 use mg_ops::{Insert, Operation, encode};
+use mg_options::InsertManyOptions;
 use std::alloc::Global;
 
 /// The insert of one document, which has this `_id` alone.
@@ -15,7 +16,11 @@ fn insert_of(alloc: Global, ns: &Namespace, id: &str) -> Result<Insert, Error> {
     let mut documents = Vec::new(alloc);
     documents.push(document)?;
     let ns = ns.clone()?;
-    Ok(Insert { ns, documents })
+    Ok(Insert {
+        ns,
+        documents,
+        options: InsertManyOptions::builder(),
+    })
 }
 
 /// Inserts a document with this `_id`, and gives how many were inserted.
@@ -23,8 +28,8 @@ pub fn insert<L: Link>(alloc: Global, link: &mut L, ns: &Namespace, id: &str) ->
     ensures { L.wire link.new ≡ L.wire link.old }
 {
     let insert = insert_of(alloc, ns, id)?;
-    let command = encode(alloc, &insert, link.wire_version())?;
-    match Exec::start(command, insert.retry()).run(link, POLLS) {
+    let command = encode(alloc, &insert, link.wire_version(), None)?;
+    match Exec::start(command, insert.retry(None)).run(link, POLLS) {
         Step::Pending(_) => Err(plain(ErrorKind::Io)),
         Step::Done(reply) => insert.read(alloc, reply),
         Step::Failed(error) => Err(error),

@@ -1,11 +1,12 @@
 -- What a call, an opening or a closing that holds a ticket waits for.
 use Rattle.std.proofs.Common.{◌≡◌, ℕ, ℤ, false, Option, None, Some, refl}
 use Rattle.std.specs.Prelude.{IsSome}
+use Rattle.mg_link.specs.Calls.{IsAwaited, Past}
 use Rattle.mg_link.specs.Exec.{Sending}
 use Rattle.mg_link.specs.Link.{Awaited}
+use Rattle.mg_link.proofs.Calls.{HoldsOwn, awaited_by, none_held, own_by}
 use Rattle.mg_ops.specs.declared.change_stream.WatchArgs.{WatchArgs}
 use Rattle.mg_ops.specs.declared.cursor_reply.CursorInformation.{CursorInformation}
-use Rattle.mg_change.specs.Calls.{IsAwaited, Past}
 use Rattle.mg_change.specs.Causes.{CallWaits, SoFar, Standing}
 use Rattle.mg_change.specs.Causes as causes
 use Rattle.mg_change.specs.Closings.{flight_ticket}
@@ -18,7 +19,6 @@ use Rattle.mg_change.specs.declared.closing.Flight.TheVariants as flight
 use Rattle.mg_change.specs.declared.stream.ChangeStream.{ChangeStream}
 use Rattle.mg_change.specs.declared.stream.Phase.{Phase}
 use Rattle.mg_change.specs.declared.stream.Phase.TheVariants as phase
-use Rattle.mg_change.proofs.Calls.{HoldsOwn, awaited_by, none_held, own_by}
 
 -- a call that holds a ticket
 pub call_awaits : (awaited : Awaited) (past : Past) (at : Standing) (p : Phase) (s : ChangeStream) → SoFar awaited past at false p s → IsSome (ticket_in p) → CallWaits awaited past at

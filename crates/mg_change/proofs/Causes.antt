@@ -3,6 +3,7 @@ use Rattle.std.proofs.Common.{◌≡◌, ℕ, ◌≤◌, ℤ, pos, Bool, true, f
 use Rattle.std.specs.Prelude.{◌≢◌}
 use Rattle.mg_bson.specs.Tree.{Tree, Fields, Items}
 use Rattle.mg_bson.specs.Raw.{fields}
+use Rattle.mg_link.specs.Calls.{Flies, HeardLast, NoneBroken, Past, RequestFails, out_of_memory, past_of, was_broken, was_lost, was_refused}
 use Rattle.mg_link.specs.Errors.{plain, command_code}
 use Rattle.mg_link.specs.Exec.{IsSuccess, Runs, Sending, Stage, unsent}
 use Rattle.mg_link.specs.Link.{Awaited, Told}
@@ -15,6 +16,8 @@ use Rattle.mg_link.specs.declared.error.Error.{Error}
 use Rattle.mg_link.specs.declared.error.ErrorKind.{ErrorKind}
 use Rattle.mg_link.specs.declared.error.ErrorKind.TheVariants as kind
 use Rattle.mg_link.specs.declared.error.Malformed.TheVariants as malformed
+use Rattle.mg_link.proofs.Calls.{RequestRan, request_ran}
+use Rattle.mg_link.proofs.Pasts.{fails_anyhow, heard_by, heard_last}
 use Rattle.mg_ops.specs.Commands.{get_more_command}
 use Rattle.mg_ops.specs.Cursors.{BreaksIn, Gave, Opens, batch_at}
 use Rattle.mg_ops.specs.Failing.{CannotBeSent, FailsBy}
@@ -23,9 +26,9 @@ use Rattle.mg_ops.specs.declared.cursor_reply.CursorInformation.{CursorInformati
 use Rattle.mg_ops.specs.declared.cursor_reply.CursorSpecification.{CursorSpecification}
 use Rattle.mg_ops.specs.declared.cursor_reply.GetMoreResult.{GetMoreResult}
 use Rattle.mg_ops.specs.declared.get_more.GetMore.{GetMore}
+use Rattle.mg_ops.proofs.Unread.{unread_fails}
 use Rattle.mg_change.specs.Batches.{HoldsBatch}
-use Rattle.mg_change.specs.Calls.{Failed, Flies, HeardBy, HeardLast, Past, by_fault, by_memory, by_reply, past_of}
-use Rattle.mg_change.specs.Causes.{BreaksBatch, ByPhase, CallCame, CallCaused, CallEmpty, CallFailed, CallFails, CannotBuild, FailCause, FailLeads, HasBadItem, HeardMore, IsOwing, IsSettled, IsStart, KillCause, Killed, MayAsk, MayLose, MoreFails, MoreLeads, Next, OweLeads, Replied, Resumed, ResumeLeads, Resumes, SoFar, Standing, Stays, StepCalled, StepCame, StepCaused, StepLeads, TakeCause, TellsCursor, Unkept, Unpopped, again, as_it_was, asking, bad_item, broken, came, came_empty, cannot_ask, cannot_resume, cursor_behind, first_broken, first_in, in_hand, keeping, killing, left, lost, may_lose, more, more_command, more_failed, no_batch, no_id, no_memory, none, none_left, old_command, opening, owed, owes_in, refused, refused_more, remembered_by, remembered_empty, resume_command, resuming, standing_of, token_behind, tried, unanswered_in, unbuilt, unheld, unread}
+use Rattle.mg_change.specs.Causes.{BreaksBatch, ByPhase, CallCame, CallCaused, CallEmpty, CallFailed, CallFails, CannotBuild, FailCause, FailLeads, HasBadItem, HeardMore, IsOwing, IsSettled, IsStart, KillCause, Killed, MayAsk, MayLose, MoreFails, MoreLeads, Next, OweLeads, Replied, Resumed, ResumeLeads, Resumes, SoFar, Standing, Stays, StepCalled, StepCame, StepCaused, StepLeads, TakeCause, TellsCursor, TellsNoCursor, Unkept, Unpopped, again, as_it_was, asking, bad_item, broken, came, came_empty, cannot_ask, cannot_resume, cursor_behind, first_broken, first_in, in_hand, keeping, killing, left, may_lose, more, more_command, more_failed, no_batch, no_id, no_memory, none, none_left, not_resumed, old_command, opening, owed, owes_in, refused_more, remembered_by, remembered_empty, resume_command, resuming, standing_of, token_behind, tried, unanswered_in, unbuilt, unheld, unread, untold}
 use Rattle.mg_change.specs.Following.{buffered}
 use Rattle.mg_change.specs.Phases.{AtRest, Carries, IsAsking, IsKilling, left_with, remembering, resuming_command}
 use Rattle.mg_change.specs.Polls.{ends_cursor}
@@ -38,7 +41,6 @@ use Rattle.mg_change.specs.declared.stream.ChangeStream.{ChangeStream}
 use Rattle.mg_change.specs.declared.stream.Phase.{Phase}
 use Rattle.mg_change.specs.declared.stream.Phase.TheVariants as phase
 use Rattle.mg_change.proofs.Heeding.{success_ran}
-use Rattle.mg_change.proofs.Calls.{Ran, request_ran}
 use Rattle.mg_change.proofs.Growing.{resumed_grows, resumes_grows}
 
 -- ---- errors
@@ -89,14 +91,12 @@ cannot_by cause e (inr by) not = by
 
 -- ---- requests
 
-heard_by : (past : Past) (command : Fields) (retries : Bool) (seen : Sight) → HeardLast past command retries seen → HeardBy past command seen
-heard_by past command retries seen h = record { place = h.place; heard = h.heard }
-
 -- a killCursors that failed was tried, or memory ran out
-kill_tried : (past : Past) (old : CursorInformation) (e : Error) → old.id ≢ pos 0 → Failed past (old_command old) false e → (e.kind ≡ kind.OutOfMemory → ⊥) → Killed past old
-kill_tried past old e held (by_memory is) not = absurd (not (kind_of_plain e kind.OutOfMemory is))
-kill_tried past old e held (by_fault is heard) not = tried held fault (λ waits. cc) (heard_by past (old_command old) false fault heard)
-kill_tried past old e held (by_reply bytes heard by) not = tried held (reply bytes) (λ waits. cc) (heard_by past (old_command old) false (reply bytes) heard)
+kill_tried : (past : Past) (old : CursorInformation) (e : Error) → old.id ≢ pos 0 → RequestFails past (old_command old) false NoneBroken e → (e.kind ≡ kind.OutOfMemory → ⊥) → Killed past old
+kill_tried past old e held (out_of_memory is) not = absurd (not is)
+kill_tried past old e held (was_lost is heard) not = tried held fault (λ waits. cc) (heard_by past (old_command old) false fault heard)
+kill_tried past old e held (was_refused bytes heard by) not = tried held (reply bytes) (λ waits. cc) (heard_by past (old_command old) false (reply bytes) heard)
+kill_tried past old e held (was_broken bytes heard success never) not = absurd never
 
 -- ---- events
 
@@ -108,9 +108,7 @@ next_by past at es es' c c' upto upto' events cursor token next =
 
 -- where a batch comes nothing that was received is left
 fails_none : (past : Past) (at : Standing) (e : Error) (c : CursorInformation) → MoreFails past at e c → at.events ≡ []
-fails_none past at e c (lost io heard is) = heard.asked.none_left
-fails_none past at e c (refused bytes heard by is) = heard.asked.none_left
-fails_none past at e c (unread bytes heard success by is) = heard.asked.none_left
+fails_none past at e c (untold asked fails is) = asked.none_left
 fails_none past at e c (broken bytes upto heard success tells by) = heard.asked.none_left
 
 resumes_none : (past : Past) (at : Standing) (c : CursorInformation) → Resumes past at c → at.events ≡ []
@@ -317,7 +315,7 @@ module _ (awaited : Awaited) (past : Past) (at : Standing) where
   unkept_loses : (s t : ChangeStream) (bytes : List ℕ) (e : Error) (r : Stepped) → t.aggregate ≡ at.aggregate → Unkept s t bytes e → s.cursor ≡ at.cursor → HeardMore past at (reply bytes) → IsSuccess bytes → FailCause e r → StepCame awaited past at false (record t { phase = phase.Owing }) r
   unkept_loses s t bytes e r kept (unread stays by) cursor heard success h =
       broken_loses (BreaksIn (fields bytes)) t e r kept (asking heard.asked (stays ∙ cursor))
-      (λ breaks. let so = cursor_resumes (fields bytes) e breaks in (so, more_failed e (unread bytes heard success breaks (stays ∙ cursor)) so)) by h
+      (λ breaks. let so = cursor_resumes (fields bytes) e breaks in (so, more_failed e (untold heard.asked (was_broken bytes (heard_last past (more_command at) (reply bytes) heard.heard) success breaks) (stays ∙ cursor ∙ sym (ap (λ (y : Error). cursor_behind y at.cursor) breaks.error))) so)) by h
   unkept_loses s t bytes e r kept (unheld upto tells by) cursor heard success h =
       let says = subst (λ (c : CursorInformation). TellsCursor bytes c.batch_size t.cursor upto) cursor tells in
       broken_loses (BreaksBatch (fields bytes)) t e r kept (keeping false bytes upto (more refl heard success says))
@@ -335,29 +333,25 @@ module _ (awaited : Awaited) (past : Past) (at : Standing) where
   heard_more : (seen : Sight) → MayAsk at → HeardLast past (more_command at) false seen → HeardMore past at seen
   heard_more seen may heard = record { asked = may; heard = heard_by past (more_command at) false seen heard }
 
-  more_fails : (s : ChangeStream) (e : Error) → s.cursor ≡ at.cursor → MayAsk at → Failed past (more_command at) false e → resumes e ≡ true → MoreFails past at e (left_with s (ends_cursor (command_code e.kind))).cursor
-  more_fails s e cursor may (by_memory is) so = absurd (not_both (resumes e) so (memory_stays e (kind_of_plain e kind.OutOfMemory is)))
-  more_fails s e cursor may (by_fault is heard) so = lost is (heard_more fault may heard) (not_ended s e kind.Io cursor (kind_of_plain e kind.Io is) refl)
-  more_fails s e cursor may (by_reply bytes heard by) so = refused bytes (heard_more (reply bytes) may heard) by (ap (cursor_behind e) cursor)
+  more_fails : (s : ChangeStream) (e : Error) → s.cursor ≡ at.cursor → MayAsk at → RequestFails past (more_command at) false NoneBroken e → MoreFails past at e (left_with s (ends_cursor (command_code e.kind))).cursor
+  more_fails s e cursor may failed = untold may (fails_anyhow past (more_command at) false TellsNoCursor e failed) (ap (cursor_behind e) cursor)
 
   pub failed_lost : (s t s' : ChangeStream) (e : Error) (r : Stepped) → t ≡ left_with s (ends_cursor (command_code e.kind)) → s' ≡ record t { phase = phase.Owing } → (resumes e ≡ false → e.kind ≡ kind.OutOfMemory) → FailCause e r
-      → s.aggregate ≡ at.aggregate → IsStart at s → MayAsk at → Failed past (more_command at) false e → StepCame awaited past at false s' r
+      → s.aggregate ≡ at.aggregate → IsStart at s → MayAsk at → RequestFails past (more_command at) false NoneBroken e → StepCame awaited past at false s' r
   failed_lost s t s' e r notes is room h kept start may failed =
       subst (λ (x : ChangeStream). StepCame awaited past at false x r) (sym (is ∙ ap (λ (x : ChangeStream). record x { phase = phase.Owing }) notes))
-      (loses (left_with s (ends_cursor (command_code e.kind))) e r kept (λ so. more_failed e (more_fails s e start.cursor may failed so) so)
+      (loses (left_with s (ends_cursor (command_code e.kind))) e r kept (λ so. more_failed e (more_fails s e start.cursor may failed) so)
       (λ not. let full = room not in (full, asking may (not_ended s e kind.OutOfMemory start.cursor full refl))) h)
 
   -- for good
-  more_refused : (s : ChangeStream) (e : Error) → s.aggregate ≡ at.aggregate → IsStart at s → MayAsk at → resumes e ≡ false → (e.kind ≡ kind.OutOfMemory → ⊥) → Failed past (more_command at) false e → CallFails past at (standing_of (record (left_with s (ends_cursor (command_code e.kind))) { phase = phase.Rest })) e
-  more_refused s e kept start may not room (by_memory is) = absurd (room (kind_of_plain e kind.OutOfMemory is))
-  more_refused s e kept start may not room (by_fault is heard) = absurd (not_both (resumes e) (plain_resumes e kind.Io is refl) not)
-  more_refused s e kept start may not room (by_reply bytes heard by) =
-      refused_more bytes (heard_more (reply bytes) may heard) by (record { stays = not; room = room })
+  more_refused : (s : ChangeStream) (e : Error) → s.aggregate ≡ at.aggregate → IsStart at s → MayAsk at → resumes e ≡ false → (e.kind ≡ kind.OutOfMemory → ⊥) → RequestFails past (more_command at) false NoneBroken e → CallFails past at (standing_of (record (left_with s (ends_cursor (command_code e.kind))) { phase = phase.Rest })) e
+  more_refused s e kept start may not room failed =
+      refused_more may failed (record { stays = not; room = room })
       (same_standing (standing_of (record (left_with s (ends_cursor (command_code e.kind))) { phase = phase.Rest })) (record at { cursor = cursor_behind e at.cursor })
       kept (ap (cursor_behind e) start.cursor) start.events start.upto (sym start.settled.looked) (sym start.settled.quits))
 
   pub failed_rests : (s t : ChangeStream) (e : Error) → t ≡ left_with s (ends_cursor (command_code e.kind)) → resumes e ≡ false → (e.kind ≡ kind.OutOfMemory → ⊥)
-      → s.aggregate ≡ at.aggregate → IsStart at s → MayAsk at → Failed past (more_command at) false e → CallFailed past at (standing_of (record t { phase = phase.Rest })) e
+      → s.aggregate ≡ at.aggregate → IsStart at s → MayAsk at → RequestFails past (more_command at) false NoneBroken e → CallFailed past at (standing_of (record t { phase = phase.Rest })) e
   failed_rests s t e notes not room kept start may failed =
       subst (λ (x : ChangeStream). CallFailed past at (standing_of (record x { phase = phase.Rest })) e) (sym notes)
       (record { why = more_refused s e kept start may not room failed; token = kept })
@@ -377,10 +371,8 @@ module _ (awaited : Awaited) (past : Past) (at : Standing) where
   owing_fails resumed s e by far = record { why = cannot_again s e by far.same far.by.1; token = far.same }
 
   -- it failed
-  again_fails : (s : ChangeStream) (e : Error) → Resumes past at s.cursor → Failed past (resume_command past.wire at) true e → CallFails past at (standing_of (record s { phase = phase.Owing })) e
-  again_fails s e why (by_memory is) = may_lose (kind_of_plain e kind.OutOfMemory is) (owing s) (resuming why)
-  again_fails s e why (by_fault is heard) = lost (owing s) why is heard
-  again_fails s e why (by_reply bytes heard by) = refused bytes (owing s) why heard by
+  again_fails : (s : ChangeStream) (e : Error) → Resumes past at s.cursor → RequestFails past (resume_command past.wire at) true NoneBroken e → CallFails past at (standing_of (record s { phase = phase.Owing })) e
+  again_fails s e why failed = not_resumed (owing s) why (fails_anyhow past (resume_command past.wire at) true TellsNoCursor e failed)
 
   -- the reply to it came
   pub resumed_by : (s : ChangeStream) (bytes : List ℕ) (out : CursorSpecification) → Opens s.aggregate.args.options.batch_size bytes out → s.aggregate ≡ at.aggregate → Resumes past at s.cursor → HeardLast past (resume_command past.wire at) true (reply bytes) → IsSuccess bytes
@@ -389,12 +381,8 @@ module _ (awaited : Awaited) (past : Past) (at : Standing) where
       subst (λ (b : List ℕ). Resumed past at s.cursor b out.info out.post_batch_resume_token) (sym opens.whole)
       (record { why = why; heard = heard_by past (resume_command past.wire at) true (reply bytes) heard; success = success; tells = record { batch = opens.batch; says = opens.says; size_is = opens.size_is ∙ ap (λ (a : ChangeStreamAggregate). a.args.options.batch_size) kept } })
 
-  reply_unread : (s : ChangeStream) (bytes : List ℕ) (e : Error) → FailsBy (BreaksIn (fields bytes)) e → Resumes past at s.cursor → HeardLast past (resume_command past.wire at) true (reply bytes) → IsSuccess bytes → CallFails past at (standing_of (record s { phase = phase.Owing })) e
-  reply_unread s bytes e (inl room) why heard success = may_lose (kind_of_plain e kind.OutOfMemory room) (owing s) (resuming why)
-  reply_unread s bytes e (inr by) why heard success = unread bytes (owing s) why heard success by
-
   pub resumption_breaks : (s : ChangeStream) (bytes : List ℕ) (e : Error) → FailsBy (BreaksIn (fields bytes)) e → s.aggregate ≡ at.aggregate → Resumes past at s.cursor → HeardLast past (resume_command past.wire at) true (reply bytes) → IsSuccess bytes → CallFailed past at (standing_of (record s { phase = phase.Owing })) e
-  resumption_breaks s bytes e by kept why heard success = record { why = reply_unread s bytes e by why heard success; token = kept }
+  resumption_breaks s bytes e by kept why heard success = record { why = not_resumed (owing s) why (unread_fails past (resume_command past.wire at) true TellsNoCursor bytes e by heard success); token = kept }
 
   -- the old cursor is not killed
   kill_failed : (s s' : ChangeStream) (e : Error) (r : Stepped) (bytes : List ℕ) → s.aggregate ≡ at.aggregate → (old : CursorInformation) → Resumed past at old bytes s.cursor s.batch_token → old.id ≢ pos 0 → ((e.kind ≡ kind.OutOfMemory → ⊥) → Killed past old) → KillCause e bytes s s' r
@@ -481,7 +469,7 @@ module _ (old new : Awaited) (log log' : Told) (wire : ℤ) (s : ChangeStream) w
   -- a getMore
   module _ (get_more : GetMore) (exec : Sending) (asking : IsAsking s exec) where
     asked : (result : Step Sending (List ℕ)) → Runs old new log log' wire exec result → (calls : List Call) → log ≡ Some calls → (places : List ℕ) (since : ℕ) (at : Standing) (resumed : Bool) → since ≤ length calls → SoFar old (past_of places since calls wire) at resumed (phase.Asking get_more exec) s
-        → Ran new places since calls log' wire (more_command at) false result
+        → RequestRan new places since calls log' wire (more_command at) false result
     asked result runs calls logged places since at resumed room far =
         request_ran old new log log' wire exec (more_command at) false result (asking.carries.command_is ∙ ap (λ (c : CursorInformation). get_more_command c.id (space c.ns) c.batch_size) far.by.1.cursor) asking.carries.retries_is runs
         calls logged places since room far.by.3
@@ -522,7 +510,7 @@ module _ (old new : Awaited) (log log' : Told) (wire : ℤ) (s : ChangeStream) w
   -- a resumption
   module _ (exec : Sending) (carries : Carries exec (resuming_command s.aggregate wire) true) where
     asked_again : (result : Step Sending (List ℕ)) → Runs old new log log' wire exec result → (calls : List Call) → log ≡ Some calls → (places : List ℕ) (since : ℕ) (at : Standing) (resumed : Bool) → since ≤ length calls → SoFar old (past_of places since calls wire) at resumed (phase.Resuming exec) s
-        → Ran new places since calls log' wire (resume_command wire at) true result
+        → RequestRan new places since calls log' wire (resume_command wire at) true result
     asked_again result runs calls logged places since at resumed room far =
         request_ran old new log log' wire exec (resume_command wire at) true result (carries.command_is ∙ ap (λ (a : ChangeStreamAggregate). resuming_command a wire) far.same) carries.retries_is runs calls logged places since room far.by.2
 
@@ -569,7 +557,7 @@ module _ (old new : Awaited) (log log' : Told) (wire : ℤ) (s : ChangeStream) w
   -- the killing of the cursor before it
   module _ (exec : Sending) (id : ℤ) (bytes : List ℕ) (killing : IsKilling id exec) where
     killing_ran : (result : Step Sending (List ℕ)) → Runs old new log log' wire exec result → (calls : List Call) → log ≡ Some calls → (places : List ℕ) (since : ℕ) (at : Standing) (resumed : Bool) → since ≤ length calls → (far : SoFar old (past_of places since calls wire) at resumed (phase.Killing exec id bytes) s)
-        → Ran new places since calls log' wire (old_command far.by.1) false result
+        → RequestRan new places since calls log' wire (old_command far.by.1) false result
     killing_ran result runs calls logged places since at resumed room far = request_ran old new log log' wire exec (old_command far.by.1) false result far.by.3 killing.carries.retries_is runs calls logged places since room far.by.4
 
     pub killing_waits : (exec' : Sending) (id' : ℤ) → id' ≡ id → Runs old new log log' wire exec (step.Pending exec') → StepCaused old new log log' wire (phase.Killing exec id bytes) s (record s { phase = phase.Killing exec' id' bytes }) (stepped.Gives poll.Pending)

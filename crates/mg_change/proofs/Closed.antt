@@ -35,7 +35,7 @@ use Rattle.mg_ops.proofs.Asking.{asks_as_aimed, asks_for_more, asks_to_kill}
 use Rattle.mg_ops.specs.Aims.{asked_for}
 use Rattle.mg_change.specs.Following.{idle_by, in_hand, in_phase}
 use Rattle.mg_change.specs.Phases.{Carries, IsKept, Sends, resuming_command}
-use Rattle.mg_change.specs.Closings.{FailLeaves, Flies, IsLast, IsMore, IsOlder, Knew, Lands, Leaves, MoreLeaves, ResumeLeaves, closed, closes_to, closing_in, flight_in, flight_ticket, ids_left, landing_of, left_as, left_of}
+use Rattle.mg_change.specs.Closings.{FailLeaves, FlightCarries, IsLast, IsMore, IsOlder, Knew, Lands, Leaves, MoreLeaves, ResumeLeaves, closed, closes_to, closing_in, flight_in, flight_ticket, ids_left, landing_of, left_as, left_of}
 use Rattle.mg_change.specs.declared.closing.Closing.{Closing}
 use Rattle.mg_change.specs.declared.closing.Flight.{Flight}
 use Rattle.mg_change.specs.declared.closing.Flight.TheVariants as flight
@@ -108,13 +108,13 @@ close_moved log awaited events upto w start opened cursor token answered (phase.
 close_moved log awaited events upto w start opened cursor token answered (phase.Resumed said) = keeps_down log (in_phase awaited (phase.Resumed said) events upto (idle_by w start opened cursor token answered)) tt
 
 -- what is in flight stays what it is
-pub close_flies : (wire : ℤ) (s : ChangeStream) (r : Remains) (p : Phase) → r.aggregate ≡ s.aggregate → r.cursor ≡ s.cursor → r.opened ≡ pos 0 → Sends wire s p → Flies wire r (flight_in p)
+pub close_flies : (wire : ℤ) (s : ChangeStream) (r : Remains) (p : Phase) → r.aggregate ≡ s.aggregate → r.cursor ≡ s.cursor → r.opened ≡ pos 0 → Sends wire s p → FlightCarries wire r (flight_in p)
 close_flies wire s r phase.Taken a c none sends = tt
 close_flies wire s r phase.Rest a c none sends = tt
 close_flies wire s r (phase.First said) a c none sends = tt
 close_flies wire s r phase.Fresh a c none sends = tt
 close_flies wire s r (phase.Asking get_more exec) a c none sends =
-    subst (λ k. Flies wire (record r { cursor = k }) (flight.More get_more exec)) (sym c) (record { carries = sends.carries; held = sends.held; alone = none })
+    subst (λ k. FlightCarries wire (record r { cursor = k }) (flight.More get_more exec)) (sym c) (record { carries = sends.carries; held = sends.held; alone = none })
 close_flies wire s r phase.Owing a c none sends = tt
 close_flies wire s r (phase.Resuming exec) a c none sends = subst (λ k. Carries exec (resuming_command k wire) true) (sym a) sends
 close_flies wire s r (phase.Killing exec old said) a c none sends = record { kills = sends; alone = none }
@@ -302,8 +302,8 @@ resumption_lands wire r bytes (step.Failed e) leaves kept = tt
 
 -- ---- polls
 
-pub flies_as : (wire : ℤ) (r : Remains) (p q : Flight) → q ≡ p → Flies wire r q → Flies wire r p
-flies_as wire r p q same flies = subst (Flies wire r) same flies
+pub flies_as : (wire : ℤ) (r : Remains) (p q : Flight) → q ≡ p → FlightCarries wire r q → FlightCarries wire r p
+flies_as wire r p q same flies = subst (FlightCarries wire r) same flies
 
 -- the request in flight ended, and the cursors were killed
 pub closes_on : (old mid new : Awaited) (log between log' : Told) (f : Follow) (r : Remains) (p q : Flight) (landing : Step Closing Remains) {T : Type 0} (result : Step Closing T) → q ≡ p

@@ -1,42 +1,36 @@
 -- What the answers of a closing are caused by.
 use Rattle.std.specs.Prelude.{◌≢◌}
-use Rattle.std.proofs.Common.{◌≡◌, ℕ, ◌≤◌, ℤ, Bool, true, false, List, [], length, Some, refl, sym, ap, ◌∙◌, subst, inl, inr, arith}
+use Rattle.std.proofs.Common.{◌≡◌, ℕ, ◌≤◌, ℤ, true, false, List, [], length, Some, refl, sym, ap, ◌∙◌, subst, inl, inr, arith}
 use Rattle.mg_bson.specs.Tree.{Fields}
 use Rattle.mg_bson.specs.Raw.{fields}
-use Rattle.mg_bson.specs.Reading.{doc}
+use Rattle.mg_link.specs.Calls.{Came, Flies, Grows, HeardLast, Keeps, NoneBroken, Past, RequestFails, Stays, out_of_memory, past_of, was_broken}
 use Rattle.mg_link.specs.Errors.{plain}
 use Rattle.mg_link.specs.Exec.{IsSuccess, Runs, Sending, Stage, unsent}
 use Rattle.mg_link.specs.Link.{Awaited, Told}
-use Rattle.mg_link.specs.Log.{Sight, waiting, reply, fault, Call}
+use Rattle.mg_link.specs.Log.{Sight, waiting, reply, Call}
 use Rattle.mg_link.specs.Namespace.{space}
 use Rattle.mg_link.specs.declared.action.Step.{Step}
 use Rattle.mg_link.specs.declared.action.Step.TheVariants as step
 use Rattle.mg_link.specs.declared.error.Error.{Error}
 use Rattle.mg_link.specs.declared.error.ErrorKind.TheVariants as kind
+use Rattle.mg_link.proofs.Calls.{keeps_longer, log_grows, request_ran, same_keeps}
+use Rattle.mg_link.proofs.Pasts.{fails_anyhow, flies_grows, heard_by, heard_reply, last_grows, last_reply, request_fails_grows}
 use Rattle.mg_ops.specs.Commands.{kill_command}
 use Rattle.mg_ops.specs.Cursors.{BreaksIn}
 use Rattle.mg_ops.specs.Failing.{CannotBeSent, FailsBy}
 use Rattle.mg_ops.specs.declared.cursor_reply.CursorInformation.{CursorInformation}
 use Rattle.mg_ops.specs.declared.get_more.GetMore.{GetMore}
-use Rattle.mg_change.specs.Calls.{Came, Failed, Flies, Grows, HeardBy, HeardLast, Keeps, Past, Stays, by_fault, by_memory, by_reply, past_of}
-use Rattle.mg_change.specs.Causes.{cursor_behind}
-use Rattle.mg_change.specs.ClosingCauses.{ClosingCaused, FliesSoFar, KillCame, KillCaused, KillDone, KillFails, Kills, KillsSoFar, LandCame, LandCaused, LandRan, LeftBy, MoreLeft, NotKilled, ResumptionLeft, WantsMemory, asked_more, cannot_kill, killed, last_command, lost, no_memory, none_left, refused, unread, brought, given}
+use Rattle.mg_change.specs.Causes.{TellsNoCursor, cursor_behind}
+use Rattle.mg_change.specs.ClosingCauses.{ClosingCaused, FliesSoFar, KillCame, KillCaused, KillDone, KillFails, Kills, KillsSoFar, LandCame, LandCaused, LandRan, LeftBy, MoreLeft, NotKilled, ResumptionLeft, WantsMemory, asked_more, killed, last_command, none_left, untold, brought, given}
 use Rattle.mg_change.specs.Closings.{FailLeaves, IsLast, IsMore, Leaves, MoreLeaves, ResumeLeaves, flight_ticket, ids_left}
 use Rattle.mg_change.specs.declared.closing.Closing.{Closing}
 use Rattle.mg_change.specs.declared.closing.Flight.{Flight}
 use Rattle.mg_change.specs.declared.closing.Flight.TheVariants as flight
 use Rattle.mg_change.specs.declared.closing.Remains.{Remains}
 use Rattle.mg_change.specs.Phases.{Carries, resuming_command}
-use Rattle.mg_change.proofs.Calls.{grows_by, keeps_longer, request_ran, same_keeps}
 use Rattle.mg_change.proofs.Heeding.{success_ran}
-use Rattle.mg_change.proofs.Growing.{by_reply_grows, flies_grows, heard_grows, last_fault, last_grows, last_reply}
 
 -- ---- the killing of what is left
-
-failed_by : (past : Past) (r : Remains) (e : Error) → Failed past (last_command r.cursor r.opened) false e → NotKilled past r.cursor r.opened e
-failed_by past r e (by_memory room) = no_memory (ap (λ (x : Error). x.kind) room)
-failed_by past r e (by_fault io heard) = lost io heard
-failed_by past r e (by_reply bytes heard by) = refused bytes heard by
 
 module _ (old new : Awaited) (log log' : Told) (wire : ℤ) (r : Remains) (exec : Sending) (last : IsLast r exec) where
   -- by what came of its request
@@ -53,18 +47,18 @@ module _ (old new : Awaited) (log log' : Told) (wire : ℤ) (r : Remains) (exec 
   kill_done bytes runs = kill_led (step.Done bytes) (step.Done (tt {0})) (λ past some heard. killed some bytes heard (success_ran old new log log' wire exec bytes runs)) runs
 
   pub kill_fails : (e : Error) → Runs old new log log' wire exec (step.Failed e) → KillCaused {T = Unit {0}} old new log log' wire r (flight.Last exec) (step.Failed e)
-  kill_fails e runs = kill_led (step.Failed e) (step.Failed e) (λ past some fails. record { some_left = some; why = failed_by past r e fails }) runs
+  kill_fails e runs = kill_led (step.Failed e) (step.Failed e) (λ past some fails. record { some_left = some; why = inl fails }) runs
 
 -- nothing was sent
 pub kill_none : (old new : Awaited) (log : Told) (wire : ℤ) (r : Remains) → ids_left r.cursor.id r.opened ≡ [] → KillCaused old new log log wire r flight.Landed (step.Done (tt {0}))
 kill_none old new log wire r empty calls told places so_far = (calls, told, none_left empty)
 
 pub kill_no_memory : (old new : Awaited) (log : Told) (wire : ℤ) (r : Remains) (e : Error) → ids_left r.cursor.id r.opened ≢ [] → e.kind ≡ kind.OutOfMemory → KillCaused {T = Unit {0}} old new log log wire r flight.Landed (step.Failed e)
-kill_no_memory old new log wire r e some room calls told places so_far = (calls, told, record { some_left = some; why = no_memory room })
+kill_no_memory old new log wire r e some room calls told places so_far = (calls, told, record { some_left = some; why = inl (out_of_memory room) })
 
 unbuilt_by : (past : Past) (r : Remains) (ids : List ℤ) (e : Error) → ids ≡ ids_left r.cursor.id r.opened → FailsBy (CannotBeSent (kill_command (space r.cursor.ns) ids)) e → NotKilled past r.cursor r.opened e
-unbuilt_by past r ids e is (inl room) = no_memory (ap (λ (x : Error). x.kind) room)
-unbuilt_by past r ids e is (inr by) = cannot_kill (subst (λ (l : List ℤ). CannotBeSent (kill_command (space r.cursor.ns) l) e) is by)
+unbuilt_by past r ids e is (inl room) = inl (out_of_memory (ap (λ (x : Error). x.kind) room))
+unbuilt_by past r ids e is (inr by) = inr (subst (λ (l : List ℤ). CannotBeSent (kill_command (space r.cursor.ns) l) e) is by)
 
 pub kill_unbuilt : (old new : Awaited) (log : Told) (wire : ℤ) (r : Remains) (ids : List ℤ) (e : Error) → ids ≡ ids_left r.cursor.id r.opened → ids_left r.cursor.id r.opened ≢ [] → FailsBy (CannotBeSent (kill_command (space r.cursor.ns) ids)) e → KillCaused {T = Unit {0}} old new log log wire r flight.Landed (step.Failed e)
 kill_unbuilt old new log wire r ids e is some by calls told places so_far = (calls, told, record { some_left = some; why = unbuilt_by (past_of places (length calls) calls wire) r ids e is by })
@@ -85,10 +79,8 @@ module _ (past past' : Past) (grows : Grows past past') (c : CursorInformation) 
   kills_grows awaited awaited' (flight.Last exec) tickets h = (h.0, flies_grows past past' grows awaited awaited' (last_command c opened) exec.stage tickets h.1)
 
   not_killed_grows : (e : Error) → NotKilled past c opened e → NotKilled past' c opened e
-  not_killed_grows e (no_memory room) = no_memory room
-  not_killed_grows e (lost io heard) = lost io (last_fault past past' grows (last_command c opened) false heard)
-  not_killed_grows e (refused bytes heard by) = refused bytes (last_reply past past' grows (last_command c opened) false bytes heard) (by_reply_grows past past' grows (doc bytes) e by)
-  not_killed_grows e (cannot_kill by) = cannot_kill by
+  not_killed_grows e (inl fails) = inl (request_fails_grows past past' grows (last_command c opened) false NoneBroken e fails)
+  not_killed_grows e (inr by) = inr by
 
   pub kill_fails_grows : (e : Error) → KillFails past c opened e → KillFails past' c opened e
   kill_fails_grows e fails = record { some_left = fails.some_left; why = not_killed_grows e fails.why }
@@ -104,12 +96,13 @@ came_grows awaited past past' grows r (step.Failed e) h = kill_fails_grows past 
 
 -- ---- the request in flight
 
-heard_by : (past : Past) (command : Fields) (retries : Bool) (seen : Sight) → HeardLast past command retries seen → HeardBy past command seen
-heard_by past command retries seen h = record { place = h.place; heard = h.heard }
-
 -- want of memory is not passed over
 full : (e : Error) → e ≡ plain kind.OutOfMemory → (e.kind ≡ kind.OutOfMemory → ⊥) → ⊥
 full e is room = room (ap (λ (x : Error). x.kind) is)
+
+-- a reply that tells no cursor is none
+not_full : (said : Fields) (e : Error) → BreaksIn said e → e.kind ≡ kind.OutOfMemory → ⊥
+not_full said e breaks room = let bad : kind.InvalidResponse breaks.how ≡ kind.OutOfMemory = sym (ap (λ (x : Error). x.kind) breaks.error) ∙ room in cc
 
 -- a reply that tells no cursor is passed over
 pub more_unread : (bytes : List ℕ) (r : Remains) (e : Error) (result : Step Closing Remains) → FailsBy (BreaksIn (fields bytes)) e → Leaves e r result → MoreLeaves bytes r result
@@ -131,48 +124,38 @@ fail_left r r' e (step.Failed x) is leaves = tt
 
 module _ (awaited : Awaited) (past : Past) (r : Remains) where
   -- behind a getMore
-  more_kept : (bytes : List ℕ) (left : Remains) → HeardBy past (asked_more r.cursor) (reply bytes) → IsSuccess bytes → MoreLeaves bytes r (step.Done left) → MoreLeft past r left
-  more_kept bytes left heard success (inl x) = unread bytes x.0 heard success x.2 x.1
+  more_kept : (bytes : List ℕ) (left : Remains) → HeardLast past (asked_more r.cursor) false (reply bytes) → IsSuccess bytes → MoreLeaves bytes r (step.Done left) → MoreLeft past r left
+  more_kept bytes left heard success (inl x) =
+      untold x.0 (was_broken bytes heard success x.2) (not_full (fields bytes) x.0 x.2)
+      (x.1 ∙ sym (ap (λ (y : Error). record r { cursor = cursor_behind y r.cursor }) x.2.error))
   more_kept bytes left heard success (inr gave) =
-      given bytes (record r.cursor { id = gave.0.id; ns = gave.0.ns }) gave.0.post_batch_resume_token heard success (record { batch = gave.1.batch; says = gave.1.says; size_is = refl }) gave.2
-
-  more_passed : (e : Error) (left : Remains) → Failed past (asked_more r.cursor) false e → FailLeaves e r (step.Done left) → MoreLeft past r left
-  more_passed e left (by_memory room) leaves = absurd (full e room leaves.1)
-  more_passed e left (by_fault is heard) leaves =
-      lost (heard_by past (asked_more r.cursor) false fault heard)
-      (leaves.0 ∙ ap (λ (x : Error). record r { cursor = cursor_behind x r.cursor }) is)
-  more_passed e left (by_reply bytes heard by) leaves = refused bytes e (heard_by past (asked_more r.cursor) false (reply bytes) heard) by leaves.1 leaves.0
+      given bytes (record r.cursor { id = gave.0.id; ns = gave.0.ns }) gave.0.post_batch_resume_token (heard_by past (asked_more r.cursor) false (reply bytes) heard) success (record { batch = gave.1.batch; says = gave.1.says; size_is = refl }) gave.2
 
   more_ends : (get_more : GetMore) (exec : Sending) (bytes : List ℕ) (landing : Step Closing Remains) → MoreLeaves bytes r landing → WantsMemory landing → HeardLast past (asked_more r.cursor) false (reply bytes) → IsSuccess bytes → LandCame awaited past r (flight.More get_more exec) landing
   more_ends get_more exec bytes (step.Pending c) leaves memory heard success = absurd leaves
-  more_ends get_more exec bytes (step.Done left) leaves memory heard success = more_kept bytes left (heard_by past (asked_more r.cursor) false (reply bytes) heard) success leaves
+  more_ends get_more exec bytes (step.Done left) leaves memory heard success = more_kept bytes left heard success leaves
   more_ends get_more exec bytes (step.Failed e) leaves memory heard success = memory
 
-  more_lost : (get_more : GetMore) (exec : Sending) (e : Error) (landing : Step Closing Remains) → FailLeaves e r landing → WantsMemory landing → Failed past (asked_more r.cursor) false e → LandCame awaited past r (flight.More get_more exec) landing
+  more_lost : (get_more : GetMore) (exec : Sending) (e : Error) (landing : Step Closing Remains) → FailLeaves e r landing → WantsMemory landing → RequestFails past (asked_more r.cursor) false NoneBroken e → LandCame awaited past r (flight.More get_more exec) landing
   more_lost get_more exec e (step.Pending c) leaves memory failed = absurd leaves
-  more_lost get_more exec e (step.Done left) leaves memory failed = more_passed e left failed leaves
+  more_lost get_more exec e (step.Done left) leaves memory failed = untold e (fails_anyhow past (asked_more r.cursor) false TellsNoCursor e failed) leaves.1 leaves.0
   more_lost get_more exec e (step.Failed x) leaves memory failed = memory
 
   -- behind the aggregate of a resumption
   resumption_kept : (bytes : List ℕ) (left : Remains) → HeardLast past (resuming_command r.aggregate past.wire) true (reply bytes) → IsSuccess bytes → ResumeLeaves bytes r (step.Done left) → ResumptionLeft past r left
-  resumption_kept bytes left heard success (inl x) = unread bytes x.0 heard success x.2 x.1
+  resumption_kept bytes left heard success (inl x) = untold x.0 (was_broken bytes heard success x.2) (not_full (fields bytes) x.0 x.2) x.1
   resumption_kept bytes left heard success (inr gave) =
       let opens = gave.1.opens in
       brought bytes gave.0.0.info gave.0.0.post_batch_resume_token heard success (record { batch = opens.batch; says = opens.says; size_is = opens.size_is }) gave.2
-
-  resumption_passed : (e : Error) (left : Remains) → Failed past (resuming_command r.aggregate past.wire) true e → Leaves e r (step.Done left) → ResumptionLeft past r left
-  resumption_passed e left (by_memory room) leaves = absurd (full e room leaves.1)
-  resumption_passed e left (by_fault is heard) leaves = lost heard leaves.0
-  resumption_passed e left (by_reply bytes heard by) leaves = refused bytes e heard by leaves.0
 
   resumption_ends : (exec : Sending) (bytes : List ℕ) (landing : Step Closing Remains) → ResumeLeaves bytes r landing → WantsMemory landing → HeardLast past (resuming_command r.aggregate past.wire) true (reply bytes) → IsSuccess bytes → LandCame awaited past r (flight.Resumption exec) landing
   resumption_ends exec bytes (step.Pending c) leaves memory heard success = absurd leaves
   resumption_ends exec bytes (step.Done left) leaves memory heard success = resumption_kept bytes left heard success leaves
   resumption_ends exec bytes (step.Failed e) leaves memory heard success = memory
 
-  resumption_lost : (exec : Sending) (e : Error) (landing : Step Closing Remains) → Leaves e r landing → WantsMemory landing → Failed past (resuming_command r.aggregate past.wire) true e → LandCame awaited past r (flight.Resumption exec) landing
+  resumption_lost : (exec : Sending) (e : Error) (landing : Step Closing Remains) → Leaves e r landing → WantsMemory landing → RequestFails past (resuming_command r.aggregate past.wire) true NoneBroken e → LandCame awaited past r (flight.Resumption exec) landing
   resumption_lost exec e (step.Pending c) leaves memory failed = absurd leaves
-  resumption_lost exec e (step.Done left) leaves memory failed = resumption_passed e left failed leaves
+  resumption_lost exec e (step.Done left) leaves memory failed = untold e (fails_anyhow past (resuming_command r.aggregate past.wire) true TellsNoCursor e failed) leaves.1 leaves.0
   resumption_lost exec e (step.Failed x) leaves memory failed = memory
 
   -- behind the killing of an older cursor
@@ -232,22 +215,16 @@ module _ (old new : Awaited) (log log' : Told) (wire : ℤ) (r : Remains) (exec 
 -- ---- a later time of it
 
 module _ (past past' : Past) (grows : Grows past past') (r left : Remains) where
-  heard_reply : (command : Fields) (bytes : List ℕ) → HeardBy past command (reply bytes) → HeardBy past' command (reply bytes)
-  heard_reply command bytes h = heard_grows past past' grows command (reply bytes) (λ e. cc) h
-
   more_left_grows : MoreLeft past r left → MoreLeft past' r left
-  more_left_grows (lost heard is) = lost (heard_grows past past' grows (asked_more r.cursor) fault (λ e. cc) heard) is
-  more_left_grows (refused bytes e heard by room is) = refused bytes e (heard_reply (asked_more r.cursor) bytes heard) (by_reply_grows past past' grows (doc bytes) e by) room is
-  more_left_grows (unread bytes e heard success by is) = unread bytes e (heard_reply (asked_more r.cursor) bytes heard) success by is
-  more_left_grows (given bytes c upto heard success tells is) = given bytes c upto (heard_reply (asked_more r.cursor) bytes heard) success tells is
+  more_left_grows (untold e fails room is) = untold e (request_fails_grows past past' grows (asked_more r.cursor) false TellsNoCursor e fails) room is
+  more_left_grows (given bytes c upto heard success tells is) = given bytes c upto (heard_reply past past' grows (asked_more r.cursor) bytes heard) success tells is
 
   resumed_last : (seen : Sight) → (seen ≡ waiting → ⊥) → HeardLast past (resuming_command r.aggregate past.wire) true seen → HeardLast past' (resuming_command r.aggregate past'.wire) true seen
   resumed_last seen answer h = subst (λ (w : ℤ). HeardLast past' (resuming_command r.aggregate w) true seen) (sym grows.wire) (last_grows past past' grows (resuming_command r.aggregate past.wire) true seen answer h)
 
   resumption_left_grows : ResumptionLeft past r left → ResumptionLeft past' r left
-  resumption_left_grows (lost heard is) = lost (resumed_last fault (λ e. cc) heard) is
-  resumption_left_grows (refused bytes e heard by is) = refused bytes e (resumed_last (reply bytes) (λ f. cc) heard) (by_reply_grows past past' grows (doc bytes) e by) is
-  resumption_left_grows (unread bytes e heard success by is) = unread bytes e (resumed_last (reply bytes) (λ f. cc) heard) success by is
+  resumption_left_grows (untold e fails room is) =
+      untold e (subst (λ (w : ℤ). RequestFails past' (resuming_command r.aggregate w) true TellsNoCursor e) (sym grows.wire) (request_fails_grows past past' grows (resuming_command r.aggregate past.wire) true TellsNoCursor e fails)) room is
   resumption_left_grows (brought bytes c upto heard success tells is) = brought bytes c upto (resumed_last (reply bytes) (λ e. cc) heard) success tells is
 
   left_grows : (f : Flight) → LeftBy past r f left → LeftBy past' r f left
@@ -283,7 +260,7 @@ module _ (old mid new : Awaited) (log between log' : Told) (wire : ℤ) (r left 
         k.1,
         record {
           left = left;
-          leaves = left_grows (past_of places (length calls) x.0 wire) past (grows_by places (length calls) x.0 k.0 wire keeps) r left f x.3;
+          leaves = left_grows (past_of places (length calls) x.0 wire) past (log_grows places (length calls) x.0 k.0 wire keeps) r left f x.3;
           came = came_grows new (past_of [] (length x.0) k.0 wire) past (since_before places (length calls) (length x.0) k.0 wire (keeps_longer calls x.0 x.2)) left result k.2;
         },
       )

@@ -1,16 +1,15 @@
--- What a call had heard and had in flight it has still at a later time.
-use Rattle.std.proofs.Common.{◌≡◌, ℕ, ℤ, Bool, true, List, ◌∷◌, Option, Some, None, refl, sym, ap, ◌∙◌, subst, inl, inr}
+-- What a call of a stream had come to it has come to still at a later time.
+use Rattle.std.proofs.Common.{◌≡◌, ℕ, ℤ, Bool, true, false, List, ◌∷◌, Option, Some, None, sym, subst}
 use Rattle.mg_bson.specs.Tree.{Tree, Fields}
 use Rattle.mg_bson.specs.Raw.{fields}
-use Rattle.mg_bson.specs.Reading.{doc}
-use Rattle.mg_link.specs.Exec.{FailsByReply, Sending, Stage, ticket_at, ticket_of, unsent, first, second}
+use Rattle.mg_link.specs.Calls.{Flies, Grows, HeardBy, NoneBroken, Past, RequestFails}
+use Rattle.mg_link.specs.Exec.{Sending, ticket_of}
 use Rattle.mg_link.specs.Link.{Awaited}
-use Rattle.mg_link.specs.Log.{Sight, waiting, reply, fault, Call}
-use Rattle.mg_link.specs.Retry.{is_retried}
+use Rattle.mg_link.specs.Log.{Sight, waiting, reply}
 use Rattle.mg_link.specs.declared.error.Error.{Error}
+use Rattle.mg_link.proofs.Pasts.{flies_grows, heard_grows, heard_reply, request_fails_grows}
 use Rattle.mg_ops.specs.declared.cursor_reply.CursorInformation.{CursorInformation}
-use Rattle.mg_change.specs.Calls.{Failed, Flies, Grows, HeardAt, HeardBy, HeardLast, IsRetried, Past, WaitsAt, by_fault, by_memory, by_reply}
-use Rattle.mg_change.specs.Causes.{ByPhase, CallEmpty, CallFailed, CallFails, CallGave, CallNone, Called, CannotBuild, HeardMore, Killed, MayLose, MoreFails, Next, Replied, Resumed, Resumes, SoFar, Standing, Stays, again, as_it_was, asking, broken, came, came_empty, cannot_ask, cannot_resume, first_broken, in_hand, keeping, killing, left, lost, may_lose, more, more_command, more_failed, no_id, no_memory, none, none_left, old_command, opening, owed, refused, refused_more, resume_command, resuming, tried, unbuilt, unread}
+use Rattle.mg_change.specs.Causes.{ByPhase, CallEmpty, CallFailed, CallFails, CallGave, CallNone, Called, CannotBuild, HeardMore, Killed, MayLose, MoreFails, Next, Replied, Resumed, Resumes, SoFar, Standing, Stays, TellsNoCursor, again, as_it_was, asking, broken, came, came_empty, cannot_ask, cannot_resume, first_broken, in_hand, keeping, killing, left, may_lose, more, more_command, more_failed, no_id, no_memory, none, none_left, not_resumed, old_command, opening, owed, refused_more, resume_command, resuming, tried, unbuilt, untold}
 use Rattle.mg_change.specs.Phases.{ticket_in}
 use Rattle.mg_change.specs.declared.event_poll.EventPoll.{EventPoll}
 use Rattle.mg_change.specs.declared.event_poll.EventPoll.TheVariants as poll
@@ -19,82 +18,16 @@ use Rattle.mg_change.specs.declared.stream.Phase.{Phase}
 use Rattle.mg_change.specs.declared.stream.Phase.TheVariants as phase
 
 module _ (past past' : Past) (grows : Grows past past') where
-  -- ---- what was heard
-
-  pub heard_at_grows : (place : ℕ) (command : Fields) (seen : Sight) → (seen ≡ waiting → ⊥) → HeardAt past place command seen → HeardAt past' place command seen
-  heard_at_grows place command seen answer h =
-      let kept = grows.keeps place h.call h.there in
-      let stays : kept.0 ≡ h.call = kept.3 (λ e. answer (sym h.has_seen ∙ e)) in
-      record {
-        own = grows.own place h.call h.there h.own;
-        call = kept.0;
-        there = kept.1;
-        command_is = ap fields kept.2 ∙ h.command_is;
-        has_seen = ap (λ (c : Call). c.seen) stays ∙ h.has_seen;
-      }
-
-  pub retried_grows : (place : ℕ) (command : Fields) → IsRetried past place command → IsRetried past' place command
-  retried_grows place command r =
-      let answer : r.seen ≡ waiting → ⊥ = λ e. let bad : is_retried waiting ≡ true = sym (ap is_retried e) ∙ r.passes in cc in
-      record { earlier = r.earlier; before = r.before; seen = r.seen; heard = heard_at_grows r.earlier command r.seen answer r.heard; passes = r.passes }
-
-  -- ---- what is in flight
-
-  waits_grows : (awaited awaited' : Awaited) (ticket : ℕ) (command : Fields) (place : ℕ) → awaited' ticket ≡ awaited ticket → WaitsAt awaited past ticket command place → WaitsAt awaited' past' ticket command place
-  waits_grows awaited awaited' ticket command place ticket_same w =
-      let kept = grows.keeps place w.call w.there in
-      record { at = ticket_same ∙ w.at; own = grows.own place w.call w.there w.own; call = kept.0; there = kept.1; command_is = ap fields kept.2 ∙ w.command_is }
-
-  pub flies_grows : (awaited awaited' : Awaited) (command : Fields) (stage : Stage) → ((n : ℕ) → ticket_at stage ≡ Some n → awaited' n ≡ awaited n) → Flies awaited past command stage → Flies awaited' past' command stage
-  flies_grows awaited awaited' command unsent tickets f = tt
-  flies_grows awaited awaited' command (first ticket) tickets f = (f.0, waits_grows awaited awaited' ticket command f.0 (tickets ticket refl) f.1)
-  flies_grows awaited awaited' command (second ticket) tickets f = (f.0, waits_grows awaited awaited' ticket command f.0 (tickets ticket refl) f.1, retried_grows f.0 command f.2)
-
-pub not_waiting : (bytes : List ℕ) → reply bytes ≡ waiting → ⊥
-not_waiting bytes e = cc
-
-module _ (past past' : Past) (grows : Grows past past') where
-  -- ---- requests
-
-  pub heard_grows : (command : Fields) (seen : Sight) → (seen ≡ waiting → ⊥) → HeardBy past command seen → HeardBy past' command seen
-  heard_grows command seen answer h = record { place = h.place; heard = heard_at_grows past past' grows h.place command seen answer h.heard }
-
-  abbrev pub last_grows : (command : Fields) (retries : Bool) (seen : Sight) → (seen ≡ waiting → ⊥) → HeardLast past command retries seen → HeardLast past' command retries seen
-  last_grows command retries seen answer h = record {
-    place = h.place;
-    heard = heard_at_grows past past' grows h.place command seen answer h.heard;
-    last = elim h.last [ inl once ↦ inl once | inr twice ↦ inr (retried_grows past past' grows h.place command twice) ];
-  }
-
-  heard_reply : (command : Fields) (bytes : List ℕ) → HeardBy past command (reply bytes) → HeardBy past' command (reply bytes)
-  heard_reply command bytes h = heard_grows command (reply bytes) (λ e. cc) h
-
-  abbrev pub last_reply : (command : Fields) (retries : Bool) (bytes : List ℕ) → HeardLast past command retries (reply bytes) → HeardLast past' command retries (reply bytes)
-  last_reply command retries bytes h = last_grows command retries (reply bytes) (not_waiting bytes) h
-
-  pub last_fault : (command : Fields) (retries : Bool) → HeardLast past command retries fault → HeardLast past' command retries fault
-  last_fault command retries h = last_grows command retries fault (λ e. cc) h
-
-  pub by_reply_grows : (said : Option Fields) (e : Error) → FailsByReply said past.wire e → FailsByReply said past'.wire e
-  by_reply_grows said e h = subst (λ (w : ℤ). FailsByReply said w e) (sym grows.wire) h
-
-  pub failed_grows : (command : Fields) (retries : Bool) (e : Error) → Failed past command retries e → Failed past' command retries e
-  failed_grows command retries e (by_memory room) = by_memory room
-  failed_grows command retries e (by_fault io h) = by_fault io (last_fault command retries h)
-  failed_grows command retries e (by_reply bytes h by) = by_reply bytes (last_reply command retries bytes h) (by_reply_grows (doc bytes) e by)
-
   -- ---- a call of a stream
 
   more_grows : (at : Standing) (seen : Sight) → (seen ≡ waiting → ⊥) → HeardMore past at seen → HeardMore past' at seen
-  more_grows at seen answer h = record { asked = h.asked; heard = heard_grows (more_command at) seen answer h.heard }
+  more_grows at seen answer h = record { asked = h.asked; heard = heard_grows past past' grows (more_command at) seen answer h.heard }
 
   more_reply : (at : Standing) (bytes : List ℕ) → HeardMore past at (reply bytes) → HeardMore past' at (reply bytes)
   more_reply at bytes h = more_grows at (reply bytes) (λ e. cc) h
 
   pub more_fails_grows : (at : Standing) (e : Error) (c : CursorInformation) → MoreFails past at e c → MoreFails past' at e c
-  more_fails_grows at e c (lost io h is) = lost io (more_grows at fault (λ f. cc) h) is
-  more_fails_grows at e c (refused bytes h by is) = refused bytes (more_reply at bytes h) (by_reply_grows (doc bytes) e by) is
-  more_fails_grows at e c (unread bytes h success by is) = unread bytes (more_reply at bytes h) success by is
+  more_fails_grows at e c (untold asked fails is) = untold asked (request_fails_grows past past' grows (more_command at) false TellsNoCursor e fails) is
   more_fails_grows at e c (broken bytes upto h success tells by) = broken bytes upto (more_reply at bytes h) success tells by
 
   pub resumes_grows : (at : Standing) (c : CursorInformation) → Resumes past at c → Resumes past' at c
@@ -104,13 +37,13 @@ module _ (past past' : Past) (grows : Grows past past') where
 
   pub killed_grows : (old : CursorInformation) → Killed past old → Killed past' old
   killed_grows old (none is) = none is
-  killed_grows old (tried held seen answer h) = tried held seen answer (heard_grows (old_command old) seen answer h)
+  killed_grows old (tried held seen answer h) = tried held seen answer (heard_grows past past' grows (old_command old) seen answer h)
   killed_grows old (unbuilt held e by) = unbuilt held e by
 
   pub resumed_grows : (at : Standing) (old : CursorInformation) (bytes : List ℕ) (c : CursorInformation) (upto : Option Tree) → Resumed past at old bytes c upto → Resumed past' at old bytes c upto
   resumed_grows at old bytes c upto r = record {
     why = resumes_grows at old r.why;
-    heard = subst (λ (w : ℤ). HeardBy past' (resume_command w at) (reply bytes)) (sym grows.wire) (heard_reply (resume_command past.wire at) bytes r.heard);
+    heard = subst (λ (w : ℤ). HeardBy past' (resume_command w at) (reply bytes)) (sym grows.wire) (heard_reply past past' grows (resume_command past.wire at) bytes r.heard);
     success = r.success;
     tells = r.tells;
   }
@@ -152,18 +85,16 @@ module _ (past past' : Past) (grows : Grows past past') where
   may_lose_grows at c (killing old bytes upto r held) = killing old bytes upto (resumed_grows at old bytes c upto r) held
   may_lose_grows at c (keeping by_resumption bytes upto replied) = keeping by_resumption bytes upto (replied_grows at by_resumption bytes c upto replied)
 
-  resume_last : (at : Standing) (seen : Sight) → (seen ≡ waiting → ⊥) → HeardLast past (resume_command past.wire at) true seen → HeardLast past' (resume_command past'.wire at) true seen
-  resume_last at seen answer h = subst (λ (w : ℤ). HeardLast past' (resume_command w at) true seen) (sym grows.wire) (last_grows (resume_command past.wire at) true seen answer h)
+  resume_fails_grows : (at : Standing) (e : Error) → RequestFails past (resume_command past.wire at) true TellsNoCursor e → RequestFails past' (resume_command past'.wire at) true TellsNoCursor e
+  resume_fails_grows at e h = subst (λ (w : ℤ). RequestFails past' (resume_command w at) true TellsNoCursor e) (sym grows.wire) (request_fails_grows past past' grows (resume_command past.wire at) true TellsNoCursor e h)
 
   call_fails_grows : (at after : Standing) (e : Error) → CallFails past at after e → CallFails past' at after e
   call_fails_grows at after e (may_lose room owes may) = may_lose room owes (may_lose_grows at after.cursor may)
   call_fails_grows at after e (no_memory room stays) = no_memory room (stays_grows at after stays)
-  call_fails_grows at after e (lost owes why io h) = lost owes (resumes_grows at after.cursor why) io (resume_last at fault (λ f. cc) h)
-  call_fails_grows at after e (refused bytes owes why h by) = refused bytes owes (resumes_grows at after.cursor why) (resume_last at (reply bytes) (λ f. cc) h) (by_reply_grows (doc bytes) e by)
-  call_fails_grows at after e (unread bytes owes why h success by) = unread bytes owes (resumes_grows at after.cursor why) (resume_last at (reply bytes) (λ f. cc) h) success by
+  call_fails_grows at after e (not_resumed owes why fails) = not_resumed owes (resumes_grows at after.cursor why) (resume_fails_grows at e fails)
   call_fails_grows at after e (broken bytes upto owes replied by) = broken bytes upto owes (replied_grows at true bytes after.cursor upto replied) by
   call_fails_grows at after e (cannot_resume owes why by) = cannot_resume owes (resumes_grows at after.cursor why) (subst (λ (w : ℤ). CannotBuild at.aggregate.args.options.batch_size (resume_command w at) e) (sym grows.wire) by)
-  call_fails_grows at after e (refused_more bytes h by stays is) = refused_more bytes (more_reply at bytes h) (by_reply_grows (doc bytes) e by) stays is
+  call_fails_grows at after e (refused_more asked fails stays is) = refused_more asked (request_fails_grows past past' grows (more_command at) false NoneBroken e fails) stays is
   call_fails_grows at after e (cannot_ask asked by is) = cannot_ask asked by is
   call_fails_grows at after e (no_id event upto next lacks is behind settles) = no_id event upto (next_grows at (event ∷ after.events) after.cursor upto next) lacks is behind settles
 

@@ -12,8 +12,6 @@ pub mod SameClosings
 pub mod Seeking
 pub mod Sent
 pub mod Growing
-pub mod Staying
-pub mod Calls
 pub mod Causes
 pub mod OpeningSends
 pub mod OpeningCauses

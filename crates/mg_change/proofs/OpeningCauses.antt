@@ -1,30 +1,30 @@
 -- What the answers of an opening are caused by.
 use Rattle.std.proofs.Common.{refl, sym, ◌∙◌, ◌≡◌, ℕ, ℤ, true, List, length, Option, Some, None, ap, subst, inl, inr, arith}
 use Rattle.mg_bson.specs.Raw.{fields}
-use Rattle.mg_bson.specs.Reading.{doc}
+use Rattle.mg_link.specs.Calls.{Came, Flies, Grows, HeardLast, Past, out_of_memory, past_of}
 use Rattle.mg_link.specs.Exec.{IsSuccess, Runs, Sending, Stage}
 use Rattle.mg_link.specs.Link.{Awaited, Told}
 use Rattle.mg_link.specs.Log.{reply}
 use Rattle.mg_link.specs.declared.action.Step.{Step}
 use Rattle.mg_link.specs.declared.action.Step.TheVariants as step
 use Rattle.mg_link.specs.declared.error.Error.{Error}
+use Rattle.mg_link.proofs.Calls.{request_ran}
+use Rattle.mg_link.proofs.Pasts.{fails_anyhow, flies_grows, last_reply, request_fails_grows}
 use Rattle.mg_ops.specs.Cursors.{BreaksIn}
 use Rattle.mg_ops.specs.Failing.{FailsBy}
 use Rattle.mg_ops.specs.declared.aggregate.ChangeStreamAggregate.{ChangeStreamAggregate}
 use Rattle.mg_ops.specs.declared.change_stream.ChangeStreamData.{ChangeStreamData}
 use Rattle.mg_ops.specs.declared.change_stream.WatchArgs.{WatchArgs}
-use Rattle.mg_change.specs.Calls.{Came, Failed, Flies, Grows, HeardLast, Past, by_fault, by_memory, by_reply, past_of}
-use Rattle.mg_change.specs.Causes.{CannotBuild, Standing, first_in, owes_in, standing_of, unanswered_in}
+use Rattle.mg_ops.proofs.Unread.{unread_fails}
+use Rattle.mg_change.specs.Causes.{CannotBuild, Standing, TellsNoCursor, first_in, owes_in, standing_of, unanswered_in}
 use Rattle.mg_change.specs.Following.{buffered}
-use Rattle.mg_change.specs.OpeningCauses.{Opened, OpeningCame, OpeningCaused, OpeningFails, OpensSoFar, broken, cannot_open, lost, no_memory, refused}
+use Rattle.mg_change.specs.OpeningCauses.{Opened, OpeningCame, OpeningCaused, OpeningFails, OpensSoFar}
 use Rattle.mg_change.specs.Openings.{IsNextSent, IsOpened, exec_ticket, first_known, opening_command}
 use Rattle.mg_change.specs.Phases.{Carries, resuming_command}
 use Rattle.mg_change.specs.declared.opening.Opening.{Opening}
 use Rattle.mg_change.specs.declared.stream.ChangeStream.{ChangeStream}
 use Rattle.mg_change.specs.declared.stream.Phase.{Phase}
-use Rattle.mg_change.proofs.Calls.{request_ran}
 use Rattle.mg_change.proofs.Heeding.{success_ran}
-use Rattle.mg_change.proofs.Growing.{by_reply_grows, flies_grows, last_fault, last_reply}
 
 -- ---- its request
 
@@ -45,15 +45,6 @@ opened_by past a version bytes s at is heard success = record {
   known = subst (λ (w : ℤ). s.aggregate.resume ≡ Some (first_known a w is.is_empty s.batch_token is.time)) at is.known;
 }
 
-lost_by : (past : Past) (a : WatchArgs) (bytes : List ℕ) (e : Error) → FailsBy (BreaksIn (fields bytes)) e → HeardLast past (opening_command a) true (reply bytes) → IsSuccess bytes → OpeningFails past a e
-lost_by past a bytes e (inl room) heard success = no_memory (ap (λ (x : Error). x.kind) room)
-lost_by past a bytes e (inr by) heard success = broken bytes heard success by
-
-failed_by : (past : Past) (a : WatchArgs) (e : Error) → Failed past (opening_command a) true e → OpeningFails past a e
-failed_by past a e (by_memory room) = no_memory (ap (λ (x : Error). x.kind) room)
-failed_by past a e (by_fault io heard) = lost io heard
-failed_by past a e (by_reply bytes heard by) = refused bytes heard by
-
 module _ (a : WatchArgs) (old new : Awaited) (log log' : Told) (wire : ℤ) (exec : Sending) (carries : Carries exec (opening_command a) true) where
   -- by what came of its request
   opening_led : (sent : Step Sending (List ℕ)) (result : Step Opening ChangeStream) → ((past : Past) → past.wire ≡ wire → Came new past (opening_command a) true sent → OpeningCame new past a result)
@@ -72,11 +63,11 @@ module _ (a : WatchArgs) (old new : Awaited) (log log' : Told) (wire : ℤ) (exe
 
   -- It was not read.
   pub opening_lost : (bytes : List ℕ) (e : Error) → FailsBy (BreaksIn (fields bytes)) e → Runs old new log log' wire exec (step.Done bytes) → OpeningCaused old new log log' wire a (Some exec) (step.Failed e)
-  opening_lost bytes e by runs = opening_led (step.Done bytes) (step.Failed e) (λ past at heard. lost_by past a bytes e by heard (success_ran old new log log' wire exec bytes runs)) runs
+  opening_lost bytes e by runs = opening_led (step.Done bytes) (step.Failed e) (λ past at heard. inl (unread_fails past (opening_command a) true TellsNoCursor bytes e by heard (success_ran old new log log' wire exec bytes runs))) runs
 
   -- It failed.
   pub opening_failed : (e : Error) → Runs old new log log' wire exec (step.Failed e) → OpeningCaused old new log log' wire a (Some exec) (step.Failed e)
-  opening_failed e runs = opening_led (step.Failed e) (step.Failed e) (λ past at fails. failed_by past a e fails) runs
+  opening_failed e runs = opening_led (step.Failed e) (step.Failed e) (λ past at fails. inl (fails_anyhow past (opening_command a) true TellsNoCursor e fails)) runs
 
 -- ---- before it
 
@@ -89,9 +80,9 @@ pub next_caused : (a : ChangeStreamAggregate) (old new : Awaited) (log log' : To
 next_caused a old new log log' wire wire' exec e result next h calls told places so_far = h calls told places (next_flies old (past_of places (length calls) calls wire) a wire' exec e next so_far)
 
 built_by : (past : Past) (a : ChangeStreamAggregate) (wire : ℤ) (e : Error) (known : Option ChangeStreamData) → known ≡ None → FailsBy (CannotBuild a.args.options.batch_size (resuming_command (record a { resume = known }) wire)) e → OpeningFails past a.args e
-built_by past a wire e known first (inl room) = no_memory (ap (λ (x : Error). x.kind) room)
+built_by past a wire e known first (inl room) = inl (out_of_memory (ap (λ (x : Error). x.kind) room))
 built_by past a wire e (Some data_known) first (inr by) = absurd (let bad : Some data_known ≡ None = first in cc)
-built_by past a wire e None first (inr by) = cannot_open by
+built_by past a wire e None first (inr by) = inr by
 
 -- nothing was sent
 pub opening_unsent : (a : ChangeStreamAggregate) (old new : Awaited) (log : Told) (wire wire' : ℤ) (exec : Option Sending) (e : Error) → a.resume ≡ None → FailsBy (CannotBuild a.args.options.batch_size (resuming_command a wire')) e → OpeningCaused old new log log wire a.args exec (step.Failed e)
@@ -122,8 +113,5 @@ opened_grows past past' a at grows o =
     }
 
 pub opening_fails_grows : (past past' : Past) (a : WatchArgs) (e : Error) → Grows past past' → OpeningFails past a e → OpeningFails past' a e
-opening_fails_grows past past' a e grows (no_memory room) = no_memory room
-opening_fails_grows past past' a e grows (lost io heard) = lost io (last_fault past past' grows (opening_command a) true heard)
-opening_fails_grows past past' a e grows (refused bytes heard by) = refused bytes (last_reply past past' grows (opening_command a) true bytes heard) (by_reply_grows past past' grows (doc bytes) e by)
-opening_fails_grows past past' a e grows (broken bytes heard success by) = broken bytes (last_reply past past' grows (opening_command a) true bytes heard) success by
-opening_fails_grows past past' a e grows (cannot_open by) = cannot_open by
+opening_fails_grows past past' a e grows (inl fails) = inl (request_fails_grows past past' grows (opening_command a) true TellsNoCursor e fails)
+opening_fails_grows past past' a e grows (inr by) = inr by

@@ -4,6 +4,7 @@ use Rattle.std.specs.Prelude.{◌↔◌, ◌≤◌, IsTrue}
 use Rattle.mg_bson.specs.Tree.{Fields}
 use Rattle.mg_bson.specs.Raw.{fields}
 use Rattle.mg_bson.specs.Reading.{doc}
+use Rattle.mg_link.specs.Calls.{Keeps, NoneBroken, Past, RequestFails, Stays, out_of_memory, past_of, was_broken, was_lost, was_refused}
 use Rattle.mg_link.specs.Errors.{plain}
 use Rattle.mg_link.specs.Exec.{FailsAs, FailsByReply}
 use Rattle.mg_link.specs.Failures.{refusal_by}
@@ -17,9 +18,9 @@ use Rattle.mg_link.specs.declared.error.ErrorKind.TheVariants as kind
 use Rattle.mg_link.specs.declared.error.Malformed.TheVariants as malformed
 use Rattle.mg_link.specs.declared.reply.Verdict.{Verdict}
 use Rattle.mg_link.specs.declared.reply.Verdict.TheVariants as verdict
+use Rattle.mg_link.proofs.Calls.{keeps_on, same_keeps}
 use Rattle.mg_ops.specs.Cursors.{BreaksIn}
-use Rattle.mg_change.specs.Calls.{Keeps, Past, Stays, past_of}
-use Rattle.mg_change.specs.Causes.{BreaksBatch, CallEmpty, CallFailed, CallFails, CallGave, CannotBuild, SoFar, Standing, StepCame, StepCaused, bad_item, broken, cannot_ask, cannot_resume, is_resumed, lost, may_lose, more_command, no_batch, no_id, no_memory, refused, refused_more, resume_command, standing_of, unread}
+use Rattle.mg_change.specs.Causes.{BreaksBatch, CallEmpty, CallFailed, CallFails, CallGave, CannotBuild, SoFar, Standing, StepCame, StepCaused, TellsNoCursor, bad_item, broken, cannot_ask, cannot_resume, is_resumed, may_lose, more_command, no_batch, no_id, no_memory, not_resumed, refused_more, resume_command, standing_of}
 use Rattle.mg_change.specs.Following.{IsSpent, StepSpends}
 use Rattle.mg_change.specs.Phases.{AtRest}
 use Rattle.mg_change.specs.Rows.{CountsBy, KeptBy, Seeks, TooManyBy, in_row, looking}
@@ -31,7 +32,6 @@ use Rattle.mg_change.specs.declared.event_poll.Stepped.{Stepped}
 use Rattle.mg_change.specs.declared.event_poll.Stepped.TheVariants as stepped
 use Rattle.mg_change.specs.declared.stream.ChangeStream.{ChangeStream}
 use Rattle.mg_change.proofs.Causes as causes
-use Rattle.mg_change.proofs.Calls.{keeps_on, same_keeps}
 
 -- ---- a step
 
@@ -182,15 +182,19 @@ broken_otherwise said e (bad_item batch at has) = plainly (kind.InvalidResponse 
 memory_otherwise : (e : Error) → e.kind ≡ kind.OutOfMemory → IsNotEmptyBatches e
 memory_otherwise e room empty = let bad = sym room ∙ empty in absurd cc
 
+request_otherwise : (past : Past) (command : Fields) (retries : Bool) (Broken : List ℕ → Error → Type 0) (e : Error) → ((bytes : List ℕ) → Broken bytes e → IsNotEmptyBatches e) → RequestFails past command retries Broken e → IsNotEmptyBatches e
+request_otherwise past command retries Broken e read (out_of_memory room) = memory_otherwise e room
+request_otherwise past command retries Broken e read (was_lost io h) = plainly kind.Io e io (λ x. absurd cc)
+request_otherwise past command retries Broken e read (was_refused bytes h by) = replied_otherwise (doc bytes) past.wire e by
+request_otherwise past command retries Broken e read (was_broken bytes h success by) = read bytes by
+
 fails_otherwise : (past : Past) (at after : Standing) (e : Error) → CallFails past at after e → IsNotEmptyBatches e
 fails_otherwise past at after e (may_lose room owes may) empty = memory_otherwise e room empty
 fails_otherwise past at after e (no_memory room stands) empty = memory_otherwise e room empty
-fails_otherwise past at after e (lost owes why io h) empty = plainly kind.Io e io (λ x. absurd cc) empty
-fails_otherwise past at after e (refused bytes owes why h by) empty = replied_otherwise (doc bytes) past.wire e by empty
-fails_otherwise past at after e (unread bytes owes why h success by) empty = unread_otherwise (fields bytes) e by empty
+fails_otherwise past at after e (not_resumed owes why fails) empty = request_otherwise past (resume_command past.wire at) true TellsNoCursor e (λ bytes by. unread_otherwise (fields bytes) e by) fails empty
 fails_otherwise past at after e (broken bytes upto owes replied by) empty = broken_otherwise (fields bytes) e by empty
 fails_otherwise past at after e (cannot_resume owes why by) empty = unbuilt_otherwise at.aggregate.args.options.batch_size (resume_command past.wire at) e by empty
-fails_otherwise past at after e (refused_more bytes h by rests is) empty = replied_otherwise (doc bytes) past.wire e by empty
+fails_otherwise past at after e (refused_more asked fails rests is) empty = request_otherwise past (more_command at) false NoneBroken e (λ bytes none. absurd none) fails empty
 fails_otherwise past at after e (cannot_ask asked by is) empty = unbuilt_otherwise at.cursor.batch_size (more_command at) e by empty
 fails_otherwise past at after e (no_id event upto next lacks is behind settles) empty = plainly kind.MissingResumeToken e is (λ x. absurd cc) empty
 

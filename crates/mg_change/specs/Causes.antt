@@ -3,12 +3,12 @@ use Rattle.std.specs.Prelude.{◌≡◌, ◌≢◌, ◌⊎◌, ◌≤◌, ◌||�
 use Rattle.mg_bson.specs.Tree.{Tree, Fields, Items}
 use Rattle.mg_bson.specs.Find.{get}
 use Rattle.mg_bson.specs.Raw.{fields}
-use Rattle.mg_bson.specs.Reading.{doc}
+use Rattle.mg_link.specs.Calls.{Flies, HeardBy, HeardLast, IsAwaited, NoneBroken, Past, RequestFails, past_of}
 use Rattle.mg_link.specs.Commands.{documents_in}
 use Rattle.mg_link.specs.Errors.{plain, command_code}
-use Rattle.mg_link.specs.Exec.{FailsByReply, IsSuccess}
+use Rattle.mg_link.specs.Exec.{IsSuccess}
 use Rattle.mg_link.specs.Link.{Awaited, Told}
-use Rattle.mg_link.specs.Log.{Sight, waiting, reply, fault, Call}
+use Rattle.mg_link.specs.Log.{Sight, waiting, reply, Call}
 use Rattle.mg_link.specs.Namespace.{space}
 use Rattle.mg_link.specs.Resumable.{is_resumable}
 use Rattle.mg_link.specs.declared.error.Error.{Error}
@@ -22,7 +22,6 @@ use Rattle.mg_ops.specs.declared.aggregate.ChangeStreamAggregate.{ChangeStreamAg
 use Rattle.mg_ops.specs.declared.cursor_reply.CursorInformation.{CursorInformation}
 use Rattle.mg_ops.specs.declared.cursor_reply.CursorSpecification.{CursorSpecification}
 use Rattle.mg_change.specs.Batches.{HoldsBatch}
-use Rattle.mg_change.specs.Calls.{Failed, Flies, HeardBy, HeardLast, IsAwaited, Past, past_of}
 use Rattle.mg_change.specs.Following.{buffered}
 use Rattle.mg_change.specs.Phases.{remembered, resuming_command}
 use Rattle.mg_change.specs.Polls.{ends_cursor}
@@ -143,6 +142,10 @@ pub record TellsCursor (bytes : List ℕ) (size : Option ℕ) (c : CursorInforma
   pub says : cursor_of (fields bytes) ≡ Ok (record { id = c.id; space = space c.ns; token = upto; batch = batch })
   pub size_is : c.batch_size ≡ size
 
+-- the reply tells no cursor
+abbrev pub TellsNoCursor : List ℕ → Error → Type 0
+TellsNoCursor bytes e = BreaksIn (fields bytes) e
+
 -- The getMore of the call saw this.
 pub record HeardMore (past : Past) (at : Standing) (seen : Sight) : Type 0 where
   pub asked : MayAsk at
@@ -150,12 +153,8 @@ pub record HeardMore (past : Past) (at : Standing) (seen : Sight) : Type 0 where
 
 -- why a getMore brought no batch, and the cursor behind it
 pub data MoreFails (past : Past) (at : Standing) (e : Error) (c : CursorInformation) : Type 0 where
-  -- it was lost
-  lost : e ≡ plain kind.Io → HeardMore past at fault → c ≡ at.cursor → MoreFails past at e c
-  -- the reply to it is no success
-  refused : (bytes : List ℕ) → HeardMore past at (reply bytes) → FailsByReply (doc bytes) past.wire e → c ≡ cursor_behind e at.cursor → MoreFails past at e c
-  -- the reply is a success, and tells no cursor
-  unread : (bytes : List ℕ) → HeardMore past at (reply bytes) → IsSuccess bytes → BreaksIn (fields bytes) e → c ≡ at.cursor → MoreFails past at e c
+  -- it failed, or the reply to it tells no cursor
+  untold : MayAsk at → RequestFails past (more_command at) false TellsNoCursor e → c ≡ cursor_behind e at.cursor → MoreFails past at e c
   -- or no documents of it
   broken : (bytes : List ℕ) (upto : Option Tree) → HeardMore past at (reply bytes) → IsSuccess bytes → TellsCursor bytes at.cursor.batch_size c upto → BreaksBatch (fields bytes) e → MoreFails past at e c
 
@@ -318,18 +317,14 @@ pub data CallFails (past : Past) (at after : Standing) (e : Error) : Type 0 wher
   may_lose : e.kind ≡ kind.OutOfMemory → IsOwing after → MayLose past at after.cursor → CallFails past at after e
   -- or elsewhere
   no_memory : e.kind ≡ kind.OutOfMemory → Stays past at after → CallFails past at after e
-  -- the aggregate of a resumption was lost, twice
-  lost : IsOwing after → Resumes past at after.cursor → e ≡ plain kind.Io → HeardLast past (resume_command past.wire at) true fault → CallFails past at after e
-  -- the reply to it is no success
-  refused : (bytes : List ℕ) → IsOwing after → Resumes past at after.cursor → HeardLast past (resume_command past.wire at) true (reply bytes) → FailsByReply (doc bytes) past.wire e → CallFails past at after e
-  -- the reply to it is a success, and tells no cursor
-  unread : (bytes : List ℕ) → IsOwing after → Resumes past at after.cursor → HeardLast past (resume_command past.wire at) true (reply bytes) → IsSuccess bytes → BreaksIn (fields bytes) e → CallFails past at after e
+  -- the aggregate of a resumption failed, or the reply to it tells no cursor
+  not_resumed : IsOwing after → Resumes past at after.cursor → RequestFails past (resume_command past.wire at) true TellsNoCursor e → CallFails past at after e
   -- or no documents of the new one
   broken : (bytes : List ℕ) (upto : Option Tree) → IsOwing after → Replied past at true bytes after.cursor upto → BreaksBatch (fields bytes) e → CallFails past at after e
   -- it cannot be built
   cannot_resume : IsOwing after → Resumes past at after.cursor → CannotBuild at.aggregate.args.options.batch_size (resume_command past.wire at) e → CallFails past at after e
-  -- the reply to the getMore is no success, and nothing is to be resumed: the stream is as it was, but for a cursor that ended
-  refused_more : (bytes : List ℕ) → HeardMore past at (reply bytes) → FailsByReply (doc bytes) past.wire e → IsFinal e → after ≡ record at { cursor = cursor_behind e at.cursor } → CallFails past at after e
+  -- the getMore failed, and nothing is to be resumed: the stream is as it was, but for a cursor that ended
+  refused_more : MayAsk at → RequestFails past (more_command at) false NoneBroken e → IsFinal e → after ≡ record at { cursor = cursor_behind e at.cursor } → CallFails past at after e
   -- the getMore cannot be built: the stream is as it was
   cannot_ask : MayAsk at → CannotBuild at.cursor.batch_size (more_command at) e → after ≡ at → CallFails past at after e
   -- the next event, which was left or came with a reply, names no place to resume from; it is passed over
@@ -470,7 +465,7 @@ MoreLeads bytes s s' r = (awaited : Awaited) (past : Past) (at : Standing) → s
 
 -- behind a getMore that failed
 abbrev pub FailLeads : Error → ChangeStream → ChangeStream → Stepped → Type 0
-FailLeads e s s' r = (awaited : Awaited) (past : Past) (at : Standing) → s.aggregate ≡ at.aggregate → IsStart at s → MayAsk at → Failed past (more_command at) false e → StepCame awaited past at false s' r
+FailLeads e s s' r = (awaited : Awaited) (past : Past) (at : Standing) → s.aggregate ≡ at.aggregate → IsStart at s → MayAsk at → RequestFails past (more_command at) false NoneBroken e → StepCame awaited past at false s' r
 
 -- behind the reply to the aggregate of a resumption
 abbrev pub ResumeLeads : List ℕ → ChangeStream → ChangeStream → Stepped → Type 0

@@ -1,23 +1,19 @@
 -- What the answers of a closing are caused by, over all its polls, and what it waits for.
 use Rattle.std.specs.Prelude.{◌≡◌, ◌≢◌, ◌⊎◌, true, false, ℕ, ℤ, List, [], length, Option, Some}
 use Rattle.mg_bson.specs.Tree.{Fields, Tree}
-use Rattle.mg_bson.specs.Raw.{fields}
-use Rattle.mg_bson.specs.Reading.{doc}
-use Rattle.mg_link.specs.Errors.{plain}
-use Rattle.mg_link.specs.Exec.{FailsByReply, IsSuccess}
+use Rattle.mg_link.specs.Calls.{Flies, HeardBy, HeardLast, IsAwaited, Keeps, NoneBroken, Past, RequestFails, past_of}
+use Rattle.mg_link.specs.Exec.{IsSuccess}
 use Rattle.mg_link.specs.Link.{Awaited, Told}
-use Rattle.mg_link.specs.Log.{reply, fault, Call}
+use Rattle.mg_link.specs.Log.{reply, Call}
 use Rattle.mg_link.specs.Namespace.{space}
 use Rattle.mg_link.specs.declared.action.Step.{Step}
 use Rattle.mg_link.specs.declared.action.Step.TheVariants as step
 use Rattle.mg_link.specs.declared.error.Error.{Error}
 use Rattle.mg_link.specs.declared.error.ErrorKind.TheVariants as kind
 use Rattle.mg_ops.specs.Commands.{get_more_command, kill_command}
-use Rattle.mg_ops.specs.Cursors.{BreaksIn}
 use Rattle.mg_ops.specs.Failing.{CannotBeSent}
 use Rattle.mg_ops.specs.declared.cursor_reply.CursorInformation.{CursorInformation}
-use Rattle.mg_change.specs.Calls.{Flies, HeardBy, HeardLast, IsAwaited, Keeps, Past, past_of}
-use Rattle.mg_change.specs.Causes.{TellsCursor, cursor_behind}
+use Rattle.mg_change.specs.Causes.{TellsCursor, TellsNoCursor, cursor_behind}
 use Rattle.mg_change.specs.Closings.{ids_left}
 use Rattle.mg_change.specs.Phases.{resuming_command}
 use Rattle.mg_change.specs.declared.closing.Closing.{Closing}
@@ -42,16 +38,9 @@ pub record KillWaits (awaited : Awaited) (past : Past) (c : CursorInformation) (
   pub some_left : ids_left c.id opened ≢ []
   pub waits : IsAwaited awaited past (last_command c opened)
 
--- why what is left is not killed
-pub data NotKilled (past : Past) (c : CursorInformation) (opened : ℤ) (e : Error) : Type 0 where
-  -- memory ran out
-  no_memory : e.kind ≡ kind.OutOfMemory → NotKilled past c opened e
-  -- the killCursors was lost
-  lost : e ≡ plain kind.Io → HeardLast past (last_command c opened) false fault → NotKilled past c opened e
-  -- the reply to it is no success
-  refused : (bytes : List ℕ) → HeardLast past (last_command c opened) false (reply bytes) → FailsByReply (doc bytes) past.wire e → NotKilled past c opened e
-  -- it cannot be built
-  cannot_kill : CannotBeSent (last_command c opened) e → NotKilled past c opened e
+-- why what is left is not killed: the killCursors fails, or cannot be built
+abbrev pub NotKilled : Past → CursorInformation → ℤ → Error → Type 0
+NotKilled past c opened e = RequestFails past (last_command c opened) false NoneBroken e ⊎ CannotBeSent (last_command c opened) e
 
 -- the killing fails only where something is left
 pub record KillFails (past : Past) (c : CursorInformation) (opened : ℤ) (e : Error) : Type 0 where
@@ -90,23 +79,15 @@ FliesSoFar awaited past r (flight.Last exec) = ⊥
 
 -- what a getMore leaves that has ended
 pub data MoreLeft (past : Past) (r left : Remains) : Type 0 where
-  -- it was lost: the cursor, as it was
-  lost : HeardBy past (asked_more r.cursor) fault → left ≡ r → MoreLeft past r left
-  -- it was refused: none where the server says that it holds it no longer
-  refused : (bytes : List ℕ) (e : Error) → HeardBy past (asked_more r.cursor) (reply bytes) → FailsByReply (doc bytes) past.wire e → e.kind ≢ kind.OutOfMemory → left ≡ record r { cursor = cursor_behind e r.cursor } → MoreLeft past r left
-  -- the reply is a success, and tells no cursor
-  unread : (bytes : List ℕ) (e : Error) → HeardBy past (asked_more r.cursor) (reply bytes) → IsSuccess bytes → BreaksIn (fields bytes) e → left ≡ r → MoreLeft past r left
+  -- it failed, or the reply to it tells no cursor: the cursor as it was, or none where the server says that it holds it no longer
+  untold : (e : Error) → RequestFails past (asked_more r.cursor) false TellsNoCursor e → e.kind ≢ kind.OutOfMemory → left ≡ record r { cursor = cursor_behind e r.cursor } → MoreLeft past r left
   -- the cursor that the reply tells
   given : (bytes : List ℕ) (c : CursorInformation) (upto : Option Tree) → HeardBy past (asked_more r.cursor) (reply bytes) → IsSuccess bytes → TellsCursor bytes r.cursor.batch_size c upto → left ≡ record r { cursor = c } → MoreLeft past r left
 
 -- what the aggregate of a resumption leaves that has ended
 pub data ResumptionLeft (past : Past) (r left : Remains) : Type 0 where
-  -- it was lost, twice
-  lost : HeardLast past (resuming_command r.aggregate past.wire) true fault → left ≡ r → ResumptionLeft past r left
-  -- it was refused
-  refused : (bytes : List ℕ) (e : Error) → HeardLast past (resuming_command r.aggregate past.wire) true (reply bytes) → FailsByReply (doc bytes) past.wire e → left ≡ r → ResumptionLeft past r left
-  -- the reply is a success, and tells no cursor
-  unread : (bytes : List ℕ) (e : Error) → HeardLast past (resuming_command r.aggregate past.wire) true (reply bytes) → IsSuccess bytes → BreaksIn (fields bytes) e → left ≡ r → ResumptionLeft past r left
+  -- it failed, or the reply to it tells no cursor
+  untold : (e : Error) → RequestFails past (resuming_command r.aggregate past.wire) true TellsNoCursor e → e.kind ≢ kind.OutOfMemory → left ≡ r → ResumptionLeft past r left
   -- one cursor more, which the reply tells
   brought : (bytes : List ℕ) (c : CursorInformation) (upto : Option Tree) → HeardLast past (resuming_command r.aggregate past.wire) true (reply bytes) → IsSuccess bytes → TellsCursor bytes r.aggregate.args.options.batch_size c upto → left ≡ record r { opened = c.id } → ResumptionLeft past r left
 

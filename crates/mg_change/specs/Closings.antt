@@ -82,17 +82,17 @@ abbrev pub IsLast : Remains → Sending → Type 0
 IsLast r exec = Carries exec (kill_command (space r.cursor.ns) (ids_left r.cursor.id r.opened)) false
 
 -- the command in flight is the one of the closing's state
-abbrev pub Flies : ℤ → Remains → Flight → Type 0
-Flies wire r flight.Landed = Unit {0}
-Flies wire r (flight.More get_more exec) = IsMore r exec
-Flies wire r (flight.Resumption exec) = Carries exec (resuming_command r.aggregate wire) true
-Flies wire r (flight.Older exec old) = IsOlder r old exec
-Flies wire r (flight.Last exec) = IsLast r exec
+abbrev pub FlightCarries : ℤ → Remains → Flight → Type 0
+FlightCarries wire r flight.Landed = Unit {0}
+FlightCarries wire r (flight.More get_more exec) = IsMore r exec
+FlightCarries wire r (flight.Resumption exec) = Carries exec (resuming_command r.aggregate wire) true
+FlightCarries wire r (flight.Older exec old) = IsOlder r old exec
+FlightCarries wire r (flight.Last exec) = IsLast r exec
 
 -- what a closing keeps between its polls, over a link of this wire version
 pub record IsClosing (wire : ℤ) (r : Remains) (f : Flight) : Type 0 where
   pub kept : IsKept r.aggregate r.cursor
-  pub flies : Flies wire r f
+  pub flies : FlightCarries wire r f
 
 -- what it keeps where a poll ends with this
 abbrev pub Lands : ℤ → ChangeStreamAggregate → Step Closing Remains → Type 0

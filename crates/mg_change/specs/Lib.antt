@@ -7,7 +7,6 @@ pub mod Following
 pub mod Replies
 pub mod Rows
 pub mod Sent
-pub mod Calls
 pub mod Causes
 pub mod OpeningSends
 pub mod OpeningCauses

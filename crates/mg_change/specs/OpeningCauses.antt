@@ -1,24 +1,21 @@
 -- What the answers of an opening are caused by, over all its polls.
-use Rattle.std.specs.Prelude.{◌≡◌, ◌↔◌, IsTrue, Bool, true, false, ℕ, ℤ, List, [], length, Option, Some, None, option_map}
+use Rattle.std.specs.Prelude.{◌≡◌, ◌⊎◌, ◌↔◌, IsTrue, Bool, true, false, ℕ, ℤ, List, [], length, Option, Some, None, option_map}
 use Rattle.mg_bson.specs.Tree.{no_items}
 use Rattle.mg_bson.specs.Raw.{fields}
-use Rattle.mg_bson.specs.Reading.{doc}
-use Rattle.mg_link.specs.Errors.{plain}
-use Rattle.mg_link.specs.Exec.{FailsByReply, IsSuccess, Sending}
+use Rattle.mg_link.specs.Calls.{Flies, HeardLast, Past, RequestFails, past_of}
+use Rattle.mg_link.specs.Exec.{IsSuccess, Sending}
 use Rattle.mg_link.specs.Follow.{Moved}
 use Rattle.mg_link.specs.Link.{Awaited, Told}
-use Rattle.mg_link.specs.Log.{reply, fault, Call}
+use Rattle.mg_link.specs.Log.{reply, Call}
 use Rattle.mg_link.specs.State.{Start, Watch}
 use Rattle.mg_link.specs.declared.action.Step.{Step}
 use Rattle.mg_link.specs.declared.action.Step.TheVariants as step
 use Rattle.mg_link.specs.declared.error.Error.{Error}
-use Rattle.mg_link.specs.declared.error.ErrorKind.TheVariants as kind
-use Rattle.mg_ops.specs.Cursors.{BreaksIn, operation_time, time_parts}
+use Rattle.mg_ops.specs.Cursors.{operation_time, time_parts}
 use Rattle.mg_ops.specs.declared.aggregate.ChangeStreamAggregate.{ChangeStreamAggregate}
 use Rattle.mg_ops.specs.declared.change_stream.WatchArgs.{WatchArgs}
 use Rattle.mg_bson.specs.declared.tree.Timestamp.{Timestamp}
-use Rattle.mg_change.specs.Calls.{Flies, HeardLast, Past, past_of}
-use Rattle.mg_change.specs.Causes.{CannotBuild, Standing, TellsCursor, standing_of}
+use Rattle.mg_change.specs.Causes.{CannotBuild, Standing, TellsCursor, TellsNoCursor, standing_of}
 use Rattle.mg_change.specs.Following.{Asks, follow_of, opening_in}
 use Rattle.mg_change.specs.Openings.{IsOpening, first_known, opening_command}
 use Rattle.mg_change.specs.declared.opening.Opening.{Opening}
@@ -29,18 +26,9 @@ abbrev pub OpensSoFar : Awaited → Past → WatchArgs → Option Sending → Ty
 OpensSoFar awaited past args None = Unit {0}
 OpensSoFar awaited past args (Some exec) = Flies awaited past (opening_command args) exec.stage
 
--- why an opening fails
-pub data OpeningFails (past : Past) (args : WatchArgs) (e : Error) : Type 0 where
-  -- memory ran out
-  no_memory : e.kind ≡ kind.OutOfMemory → OpeningFails past args e
-  -- its aggregate was lost, twice
-  lost : e ≡ plain kind.Io → HeardLast past (opening_command args) true fault → OpeningFails past args e
-  -- the reply to it is no success
-  refused : (bytes : List ℕ) → HeardLast past (opening_command args) true (reply bytes) → FailsByReply (doc bytes) past.wire e → OpeningFails past args e
-  -- the reply to it is a success, and breaks the grammar of a cursor
-  broken : (bytes : List ℕ) → HeardLast past (opening_command args) true (reply bytes) → IsSuccess bytes → BreaksIn (fields bytes) e → OpeningFails past args e
-  -- it cannot be built
-  cannot_open : CannotBuild args.options.batch_size (opening_command args) e → OpeningFails past args e
+-- why an opening fails: its aggregate does, or the reply to it tells no cursor; or it cannot be built
+abbrev pub OpeningFails : Past → WatchArgs → Error → Type 0
+OpeningFails past args e = RequestFails past (opening_command args) true TellsNoCursor e ⊎ CannotBuild args.options.batch_size (opening_command args) e
 
 -- the stream that was opened: the reply is in hand, its cursor is the stream's, and the stream remembers what a new one does
 pub record Opened (past : Past) (args : WatchArgs) (first : Standing) : Type 0 where

@@ -1,12 +1,12 @@
 -- What the answers of a call that seeks an event are caused by, over all its polls.
 use Rattle.std.specs.Prelude.{◌≡◌, ◌≢◌, ◌⊎◌, ◌≤◌, false, ℕ, ℤ, pos, Bool, List, [], length, None, Some}
 use Rattle.mg_bson.specs.Raw.{fields}
+use Rattle.mg_link.specs.Calls.{Keeps, Past, past_of}
 use Rattle.mg_link.specs.Errors.{plain}
 use Rattle.mg_link.specs.Link.{Awaited, Told}
 use Rattle.mg_link.specs.Log.{Call}
 use Rattle.mg_link.specs.declared.error.Error.{Error}
 use Rattle.mg_link.specs.declared.error.ErrorKind.TheVariants as kind
-use Rattle.mg_change.specs.Calls.{Keeps, Past, past_of}
 use Rattle.mg_change.specs.Causes.{CallEmpty, CallFailed, CallGave, SoFar, Standing, is_resumed, standing_of}
 use Rattle.mg_change.specs.Following.{IsSpent}
 use Rattle.mg_change.specs.Rows.{CountsBy, TooManyBy, looking}

@@ -1,13 +1,13 @@
 //! The closing of a change stream.
 ghost use Rattle.std.specs.Prelude.{◌≡◌, ◌≢◌, ◌≤◌, ℕ, [], IfErr, IfOk, OnErr, None, true};
 ghost use Rattle.mg_link.specs.Acts.{EndsAtOnce, FailsByFault, IsOut, Pended, Tickets, ticket_after};
+ghost use Rattle.mg_link.specs.Calls.{Stays};
 ghost use Rattle.mg_link.specs.Exec.{ticket_of};
 ghost use Rattle.mg_link.specs.Link.{Later};
 ghost use Rattle.mg_link.specs.Follow.{Follow, Moved};
 ghost use Rattle.mg_link.specs.Link.{Told};
 ghost use Rattle.mg_change.specs.Growths.{Grows};
 ghost use Rattle.mg_change.specs.Closings.{Closes, FailLeaves, IsClosing, IsLanded, IsLast, IsMore, IsOlder, IsQuiet, KillRan, KillsAll, Knew, KnewBy, Lands, Leaves, MoreLeaves, QuietAfter, ResumeLeaves, closes_to, closing_in, closing_of, closing_ticket, flight_in, ids_left, landing_of, left_of};
-ghost use Rattle.mg_change.specs.Calls.{Stays};
 ghost use Rattle.mg_change.specs.Causes.{cursor_behind};
 ghost use Rattle.mg_change.specs.ClosingCauses.{ClosingCaused, KillCaused, LandCaused, LandRan, WantsMemory};
 ghost use Rattle.mg_change.specs.ClosingSends.{ClosingSent};

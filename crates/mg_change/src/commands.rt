@@ -30,8 +30,8 @@ pub(crate) fn ask(
         max_time: None,
         comment: None,
     };
-    let command = encode(alloc, &get_more, wire)?;
-    let exec = Exec::start(command, get_more.retry());
+    let command = encode(alloc, &get_more, wire, None)?;
+    let exec = Exec::start(command, get_more.retry(None));
     Ok((get_more, exec))
 }
 
@@ -46,8 +46,8 @@ pub(crate) fn resume(
     ensures err { IfErr result IsNotIo }
     ensures fails { IfErr result (λ e. FailsBy (CannotBuild aggregate.now.args.options.batch_size (resuming_command aggregate.now wire)) e) }
 {
-    let command = encode(alloc, aggregate, wire)?;
-    Ok(Exec::start(command, aggregate.retry()))
+    let command = encode(alloc, aggregate, wire, None)?;
+    Ok(Exec::start(command, aggregate.retry(None)))
 }
 
 // The killCursors of cursors of one namespace.
@@ -61,8 +61,8 @@ pub(crate) fn kill(alloc: Global, ns: &Namespace, ids: Vec<i64>, wire: i32) -> R
         ns: ns.clone()?,
         ids,
     };
-    let command = encode(alloc, &kill, wire)?;
-    Ok(Exec::start(command, kill.retry()))
+    let command = encode(alloc, &kill, wire, None)?;
+    Ok(Exec::start(command, kill.retry(None)))
 }
 
 // The killCursors of one cursor.

@@ -1,6 +1,7 @@
 //! The opening of a change stream.
 ghost use Rattle.std.specs.Prelude.{◌≡◌, IfOk, IfErr, OnErr, Some, None};
 ghost use Rattle.mg_link.specs.Acts.{EndsAtOnce, FailsByFault, IsOut, Pended, Tickets, ticket_after};
+ghost use Rattle.mg_link.specs.Calls.{Stays};
 ghost use Rattle.mg_link.specs.Exec.{ticket_of};
 ghost use Rattle.mg_link.specs.Link.{Later};
 ghost use Rattle.mg_link.specs.State.{Start, Watch};
@@ -11,7 +12,6 @@ ghost use Rattle.mg_change.specs.Following.{Asks, AsksNothing, opening_in};
 ghost use Rattle.mg_change.specs.Growths.{OpensInVain};
 ghost use Rattle.mg_change.specs.Polls.{IsNotIo};
 ghost use Rattle.mg_change.specs.OpeningSends.{OpeningSent};
-ghost use Rattle.mg_change.specs.Calls.{Stays};
 ghost use Rattle.mg_change.specs.OpeningCauses.{OpeningCaused, OpensAt};
 ghost use Rattle.mg_change.specs.Causes.{CannotBuild};
 ghost use Rattle.mg_change.specs.Phases.{resuming_command};

@@ -2,6 +2,7 @@
 ghost use Rattle.std.specs.Prelude.{◌≡◌, ◌≢◌, ◌↔◌, ◌⊎◌, IsTrue, ℕ, ℤ, pos, List, ◌++◌, Option, Ok, None};
 ghost use Rattle.mg_bson.specs.Tree.{Fields, Tree};
 ghost use Rattle.mg_link.specs.Acts.{IsOut, Tickets};
+ghost use Rattle.mg_link.specs.Calls.{Stays};
 ghost use Rattle.mg_link.specs.Follow.{Moved};
 ghost use Rattle.mg_link.specs.Link.{Later, Awaited, Told};
 ghost use Rattle.mg_link.specs.State.{Start, Watch};
@@ -10,7 +11,6 @@ ghost use Rattle.mg_change.specs.Phases.{AtRest, IsKept, IsResuming, IsSound, ra
 ghost use Rattle.mg_change.specs.Polls.{Falls, IsAtOnce, IsStepAtOnce, Loses, Pends, RestsAfter, StepLoses, StepPends, StepRests};
 ghost use Rattle.mg_change.specs.Sent.{CallSent, Quiet, SeekSent, StepSent};
 ghost use Rattle.mg_change.specs.Causes.{CallCaused, StepCaused, StepLeads, is_resumed};
-ghost use Rattle.mg_change.specs.Calls.{Stays};
 ghost use Rattle.mg_change.specs.SeekCauses.{SeekCaused, SeekSteps};
 ghost use Rattle.mg_change.specs.Rows.{CountsAfter, Ends, KeptBy, StepEnds, left_in};
 ghost use Rattle.mg_change.specs.Closings.{IsClosing, IsQuiet, closing_of, closing_ticket, flight_in};

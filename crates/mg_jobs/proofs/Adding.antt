@@ -3,17 +3,17 @@ use Rattle.std.proofs.Common.{◌≡◌, ◌⊎◌, ◌<◌, ◌≤◌, ◌++◌
 use Rattle.std.specs.Prelude.{slice_get}
 use Rattle.mg_bson.specs.Tree.{Fields}
 use Rattle.mg_bson.specs.Raw.{fields}
+use Rattle.mg_link.specs.Calls.{Keeps}
 use Rattle.mg_link.specs.Exec.{Runs, Sending}
 use Rattle.mg_link.specs.Link.{Awaited, Told}
 use Rattle.mg_link.specs.Log.{Call}
 use Rattle.mg_link.specs.declared.action.Step.{Step}
+use Rattle.mg_link.proofs.Calls.{keeps_on, same_keeps}
 use Rattle.mg_link.proofs.Owners.{same_some}
 use Rattle.mg_link.proofs.Places.{get_some, get_within}
-use Rattle.mg_change.specs.Calls.{Keeps}
+use Rattle.mg_link.proofs.Staying.{stays_ran}
 use Rattle.mg_change.specs.Sent.{Falling, Sent, commands_of, resuming_places}
-use Rattle.mg_change.proofs.Calls.{keeps_on, same_keeps}
 use Rattle.mg_change.proofs.Sent.{resume_sent}
-use Rattle.mg_change.proofs.Staying.{stays_ran}
 use Rattle.mg_jobs.specs.Adds.{AddsOnly}
 
 -- ---- what is added to a log

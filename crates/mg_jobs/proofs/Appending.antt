@@ -4,6 +4,7 @@ use Rattle.std.specs.Prelude.{slice_get}
 use Rattle.std.specs.Option.{option_flatten}
 use Rattle.mg_bson.specs.Tree.{Fields}
 use Rattle.mg_bson.specs.declared.object_id.ObjectId.{ObjectId}
+use Rattle.mg_link.specs.Calls.{Grows, IsOwn, Keeps, Past, past_of}
 use Rattle.mg_link.specs.Commands.{asked, asks_insert, inserted, told}
 use Rattle.mg_link.specs.Exec.{Stage, unsent, first, second, Sending, Attempt, not_sent, waits, answered, Begins, GoesOn, Tries, Gives, Runs, IsSuccess, holding, ticket_at, ticket_of}
 use Rattle.mg_link.specs.Link.{Awaited, Told}
@@ -11,11 +12,10 @@ use Rattle.mg_link.specs.Log.{Sight, waiting, reply, Call, see}
 use Rattle.mg_link.specs.Namespace.{Space}
 use Rattle.mg_link.specs.declared.action.Step.{Step}
 use Rattle.mg_link.specs.declared.action.Step.TheVariants as step
+use Rattle.mg_link.proofs.Calls.{log_grows, keeps_longer, see_keeps}
 use Rattle.mg_link.proofs.Places.{get_front, get_seam, get_within, take_more}
-use Rattle.mg_change.specs.Calls.{Grows, IsOwn, Keeps, Past, past_of}
-use Rattle.mg_change.proofs.Calls.{grows_by, keeps_longer, see_keeps}
 use Rattle.mg_jobs.specs.Appended.{InsertsAt, Piece, ArePieces, InsertedBelow, Appended}
-use Rattle.mg_jobs.specs.Underway.{with_id, IsBatch, IsSameList, sent_of, Flies, Holding}
+use Rattle.mg_jobs.specs.Underway.{with_id, IsBatch, IsSameList, sent_of, WaitsBehind, Holding}
 use Rattle.mg_jobs.specs.declared.insert.Batches.{Batches}
 
 -- ---- a log that grew
@@ -115,10 +115,10 @@ module _ (space : Space) (before piece : List Fields) where
 
   abbrev Tried : Awaited → Past → Attempt → Type 0
   Tried awaited past not_sent = InsertedBelow past (length past.calls) space before
-  Tried awaited past (waits ticket) = Flies awaited past space before piece ticket
+  Tried awaited past (waits ticket) = WaitsBehind awaited past space before piece ticket
   Tried awaited past (answered seen) = Told_of past seen
 
-  flies_base : (awaited : Awaited) (past : Past) (ticket : ℕ) → Flies awaited past space before piece ticket → InsertedBelow past (length past.calls) space before
+  flies_base : (awaited : Awaited) (past : Past) (ticket : ℕ) → WaitsBehind awaited past space before piece ticket → InsertedBelow past (length past.calls) space before
   flies_base awaited past ticket f = let within = get_within past.calls f.place f.call f.found in below_up past f.place (length past.calls) space before (omega arith) f.done
 
   base_of : (awaited : Awaited) (past : Past) (attempt : Attempt) → Tried awaited past attempt → InsertedBelow past (length past.calls) space before
@@ -161,7 +161,7 @@ module _ (space : Space) (before piece : List Fields) where
 
     -- so much was inserted when the log had these calls, and it is when it has more or one has seen its answer
     base_on : (calls calls' : List Call) (k : ℕ) → Keeps calls calls' → InsertedBelow (past_of places since calls wire) k space before → InsertedBelow (past_of places since calls' wire) k space before
-    base_on calls calls' k keeps done = below_on (past_of places since calls wire) (past_of places since calls' wire) k k space before (grows_by places since calls calls' wire keeps) (omega arith) done
+    base_on calls calls' k keeps done = below_on (past_of places since calls wire) (past_of places since calls' wire) k k space before (log_grows places since calls calls' wire keeps) (omega arith) done
 
     module _ (command : List ℕ) (asks : asked command ≡ asks_insert space piece true) where
       begins_sent : (old new : Awaited) (log log' : Told) (calls : List Call) (attempt : Attempt) → log ≡ Some calls → since ≤ length calls → InsertedBelow (past_of places since calls wire) (length calls) space before → Begins old new log log' command attempt → Leads new log' attempt
@@ -195,7 +195,7 @@ module _ (space : Space) (before piece : List Fields) where
             heard_at (past_of places since calls' wire) (length calls) call seen (inr room) (get_seam calls [] call) refl asks (base_on calls calls' (length calls) (push_keeps calls call) done),
           )
 
-      goes_on_sent : (old new : Awaited) (log log' : Told) (calls : List Call) (ticket : ℕ) (attempt : Attempt) → log ≡ Some calls → since ≤ length calls → Flies old (past_of places since calls wire) space before piece ticket → GoesOn old new log log' ticket attempt → Leads new log' attempt
+      goes_on_sent : (old new : Awaited) (log log' : Told) (calls : List Call) (ticket : ℕ) (attempt : Attempt) → log ≡ Some calls → since ≤ length calls → WaitsBehind old (past_of places since calls wire) space before piece ticket → GoesOn old new log log' ticket attempt → Leads new log' attempt
       goes_on_sent old new log log' calls ticket not_sent told room f g = absurd g
       goes_on_sent old new log log' calls ticket (waits given) told room f g =
           (calls, g.log_same ∙ told, room, record { place = f.place; call = f.call; at = g.rest given ∙ ap old g.same ∙ f.at; own = f.own; found = f.found; asks = f.asks; done = f.done })

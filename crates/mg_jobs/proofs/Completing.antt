@@ -4,6 +4,7 @@ use Rattle.std.specs.Prelude.{IfOk, Result, Ok, Err, slice_get, unwrap_or}
 use Rattle.mg_bson.specs.Tree.{Tree, Fields, no_fields}
 use Rattle.mg_bson.specs.Raw.{fields}
 use Rattle.mg_bson.specs.Reading.{doc}
+use Rattle.mg_link.specs.Calls.{HeardAt, HeardBy, NoneBroken, Past, RequestFails, out_of_memory, was_broken, was_lost, was_refused}
 use Rattle.mg_link.specs.Exec.{FailsAs, FailsByReply, IsSuccess}
 use Rattle.mg_link.specs.History.{Step, state_of}
 use Rattle.mg_link.specs.Link.{Awaited, Told}
@@ -15,8 +16,10 @@ use Rattle.mg_link.specs.State.{State}
 use Rattle.mg_link.specs.Step.{documents_of}
 use Rattle.mg_link.specs.declared.error.Error.{Error}
 use Rattle.mg_link.specs.declared.error.ErrorKind.{ErrorKind}
+use Rattle.mg_link.specs.declared.error.ErrorKind.TheVariants as kind
 use Rattle.mg_link.specs.declared.reply.Verdict.{Verdict}
 use Rattle.mg_link.specs.declared.reply.Verdict.TheVariants as verdict
+use Rattle.mg_link.proofs.Pasts.{heard_by}
 use Rattle.mg_link.proofs.Places.{get_within}
 use Rattle.mg_options.specs.declared.change_stream.ChangeStreamOptions.{ChangeStreamOptions}
 use Rattle.mg_ops.specs.Commands.{get_more_command, insert_command}
@@ -27,21 +30,18 @@ use Rattle.mg_ops.specs.Writes.{ListsAs}
 use Rattle.mg_ops.specs.declared.change_stream.WatchArgs.{WatchArgs}
 use Rattle.mg_ops.specs.declared.cursor_reply.CursorInformation.{CursorInformation}
 use Rattle.mg_ops.proofs.Asking.{asks_to_insert}
-use Rattle.mg_change.specs.Calls.{HeardAt, HeardBy, HeardLast, Past}
-use Rattle.mg_change.specs.Causes.{CallFails, Called, CannotBuild, Standing, more_command, resume_command}
+use Rattle.mg_change.specs.Causes.{CallFails, Called, CannotBuild, Standing, TellsNoCursor, more_command, resume_command}
 use Rattle.mg_change.specs.Causes as causes
 use Rattle.mg_change.specs.Closings.{ids_left}
 use Rattle.mg_change.specs.ClosingCauses.{NotKilled, last_command}
-use Rattle.mg_change.specs.ClosingCauses as closings
 use Rattle.mg_change.specs.OpeningCauses.{OpeningFails}
-use Rattle.mg_change.specs.OpeningCauses as openings
 use Rattle.mg_change.specs.Openings.{opening_command}
 use Rattle.mg_jobs.specs.Causes.{AllCaused, AllSentIn, Answered, Closed, CloseCaused, Course, FollowCaused, InsertEnds, OpenCaused, OpenFailed, OutcomeCaused, SentIn, course, sent_at}
 use Rattle.mg_jobs.specs.Completing.{AllWell, AnswerWell, AnswersAreWell, AnswersWell, AreFresh, CallsWell, EndsWell, FollowWell, InsertWell, IsExcused, IsExcusedInsert, OutcomeWell, SendFresh, asks, kills, opens, resumes}
 use Rattle.mg_jobs.specs.Counts.{Faultless, LosesNothing}
 use Rattle.mg_jobs.specs.Drawing.{as_sent}
 use Rattle.mg_jobs.specs.Follows.{IsArgsFor, poll_of}
-use Rattle.mg_jobs.specs.InsertCauses.{InsertFails, cannot_encode, cannot_insert, listed, lost, no_memory, refused}
+use Rattle.mg_jobs.specs.InsertCauses.{InsertFails, ListsFor, cannot_encode, cannot_insert, command_fails, no_memory}
 use Rattle.mg_script.specs.Plan.{Begin, Task, follow, get, insert, put}
 use Rattle.mg_jobs.specs.Progress.{AllPlayed, FollowPlayed, InsertPlayed, IsPlayed, OpenPlayed, pends_last, turns_done}
 use Rattle.mg_script.specs.declared.outcome.Answer.{Answer}
@@ -56,7 +56,7 @@ use Rattle.mg_jobs.proofs.Batches.{breaks_not}
 use Rattle.mg_jobs.proofs.InsertWell.{never_lists}
 use Rattle.mg_jobs.proofs.Creating.{CreatesNone, asked_creates, asking_none, inserting_none, killing_none, resuming_none, watching_none}
 use Rattle.mg_jobs.proofs.Prompting.{Brings, IsPrompted, prompt_success, prompted}
-use Rattle.mg_jobs.proofs.Identified.{IsHonest, StandsWell, empty_well, failed_well, gave_well, heard_by, honest_over, next_well, opened_well, replied_well, resumed_brings}
+use Rattle.mg_jobs.proofs.Identified.{IsHonest, StandsWell, empty_well, failed_well, gave_well, honest_over, next_well, opened_well, replied_well, resumed_brings}
 use Rattle.mg_link.proofs.Watched.{IsWatched}
 
 -- ---- what a call heard
@@ -126,6 +126,14 @@ module _ (c : Course) (i k : ℕ) (begun calls : List Call) (wire : ℤ) (places
     honest = honest_over well.history calls well.legal well.stands places wire;
   }
 
+-- a request of it fails for want of memory alone, where no success of its server's is broken
+request_well : (watched : ℤ → Type 0) (past : Past) (command : Fields) (retries : Bool) (Broken : List ℕ → Error → Type 0) (e : Error) → IsServed watched past → CreatesNone command
+    → ((bytes : List ℕ) → HeardBy past command (reply bytes) → IsSuccess bytes → Broken bytes e → ⊥) → RequestFails past command retries Broken e → e.kind ≡ kind.OutOfMemory
+request_well watched past command retries Broken e served other whole (out_of_memory room) = room
+request_well watched past command retries Broken e served other whole (was_lost is heard) = absurd (served.lost command (heard_by past command retries fault heard))
+request_well watched past command retries Broken e served other whole (was_refused bytes heard fails) = absurd (served.refused command bytes past.wire e other (heard_by past command retries (reply bytes) heard) fails)
+request_well watched past command retries Broken e served other whole (was_broken bytes heard success broken) = absurd (whole bytes (heard_by past command retries (reply bytes) heard) success broken)
+
 cannot_build : (size : Option ℕ) (command : Fields) (e : Error) → (SizePasses size → ⊥) → CannotBuild size command e → CannotBeSent command e
 cannot_build size command e fits (inl bad) = absurd (fits bad.1)
 cannot_build size command e fits (inr by) = by
@@ -140,13 +148,13 @@ module _ (watched : ℤ → Type 0) (are_its : WatchArgs → Type 0) (fits : (ar
   fails_well : (after : Standing) (e : Error) → CallFails past at after e → IsExcused are_its e
   fails_well after e (causes.may_lose room owes may) = inl room
   fails_well after e (causes.no_memory room stays) = inl room
-  fails_well after e (causes.lost owes why is heard) = absurd (served.lost (resume_command past.wire at) (heard_by past (resume_command past.wire at) true fault heard))
-  fails_well after e (causes.refused bytes owes why heard fails) = absurd (served.refused (resume_command past.wire at) bytes past.wire e (resuming_none at.aggregate past.wire) (heard_by past (resume_command past.wire at) true (reply bytes) heard) fails)
-  fails_well after e (causes.unread bytes owes why heard success breaks) = let b = brings bytes (heard_by past (resume_command past.wire at) true (reply bytes) heard) success in absurd (breaks_not (fields bytes) b.batch e b.there (inl breaks))
+  fails_well after e (causes.not_resumed owes why fails) =
+      inl (request_well watched past (resume_command past.wire at) true TellsNoCursor e served (resuming_none at.aggregate past.wire) (λ bytes heard success breaks. let b = brings bytes heard success in breaks_not (fields bytes) b.batch e b.there (inl breaks)) fails)
   fails_well after e (causes.broken bytes upto owes r breaks) = let b = (replied_well watched are_its past served.honest at well true bytes after.cursor upto r).0 in absurd (breaks_not (fields bytes) b.batch e b.there (inr breaks))
   fails_well after e (causes.cannot_resume owes why by) =
       inr (resume_command past.wire at, resumes at.aggregate past.wire well.args refl, cannot_build at.aggregate.args.options.batch_size (resume_command past.wire at) e (fits at.aggregate.args well.args) by)
-  fails_well after e (causes.refused_more bytes heard fails final is) = absurd (served.refused (more_command at) bytes past.wire e (asking_none at.cursor.id (space at.cursor.ns) at.cursor.batch_size) heard.heard fails)
+  fails_well after e (causes.refused_more asked fails final is) =
+      inl (request_well watched past (more_command at) false NoneBroken e served (asking_none at.cursor.id (space at.cursor.ns) at.cursor.batch_size) (λ bytes heard success none. absurd none) fails)
   fails_well after e (causes.cannot_ask asked by is) =
       inr (
         more_command at,
@@ -163,23 +171,20 @@ module _ (watched : ℤ → Type 0) (are_its : WatchArgs → Type 0) (fits : (ar
 -- ---- the opening
 
 module _ (watched : ℤ → Type 0) (are_its : WatchArgs → Type 0) (fits : (args : WatchArgs) → are_its args → SizePasses args.options.batch_size → ⊥) (past : Past) (served : IsServed watched past) (args : WatchArgs) (its : are_its args) where
-  opening_brings : (bytes : List ℕ) → HeardLast past (opening_command args) true (reply bytes) → IsSuccess bytes → Brings bytes
-  opening_brings bytes heard success = (served.honest.watch (target args.target) args.pipeline.items args.options bytes (heard_by past (opening_command args) true (reply bytes) heard) success).0
+  opening_brings : (bytes : List ℕ) → HeardBy past (opening_command args) (reply bytes) → IsSuccess bytes → Brings bytes
+  opening_brings bytes heard success = (served.honest.watch (target args.target) args.pipeline.items args.options bytes heard success).0
 
   opening_well : (e : Error) → OpeningFails past args e → IsExcused are_its e
-  opening_well e (openings.no_memory room) = inl room
-  opening_well e (openings.lost is heard) = absurd (served.lost (opening_command args) (heard_by past (opening_command args) true fault heard))
-  opening_well e (openings.refused bytes heard fails) = absurd (served.refused (opening_command args) bytes past.wire e (watching_none (target args.target) args.pipeline.items args.options) (heard_by past (opening_command args) true (reply bytes) heard) fails)
-  opening_well e (openings.broken bytes heard success breaks) = let b = opening_brings bytes heard success in absurd (breaks_not (fields bytes) b.batch e b.there (inl breaks))
-  opening_well e (openings.cannot_open by) = inr (opening_command args, opens args its refl, cannot_build args.options.batch_size (opening_command args) e (fits args its) by)
+  opening_well e (inl fails) =
+      inl (request_well watched past (opening_command args) true TellsNoCursor e served (watching_none (target args.target) args.pipeline.items args.options) (λ bytes heard success breaks. let b = opening_brings bytes heard success in breaks_not (fields bytes) b.batch e b.there (inl breaks)) fails)
+  opening_well e (inr by) = inr (opening_command args, opens args its refl, cannot_build args.options.batch_size (opening_command args) e (fits args its) by)
 
 -- ---- the closing
 
 kill_well : (watched : ℤ → Type 0) (are_its : WatchArgs → Type 0) (past : Past) (c : CursorInformation) (e : Error) → IsServed watched past → NotKilled past c (pos 0) e → IsExcused are_its e
-kill_well watched are_its past c e served (closings.no_memory room) = inl room
-kill_well watched are_its past c e served (closings.lost is heard) = absurd (served.lost (last_command c (pos 0)) (heard_by past (last_command c (pos 0)) false fault heard))
-kill_well watched are_its past c e served (closings.refused bytes heard fails) = absurd (served.refused (last_command c (pos 0)) bytes past.wire e (killing_none (space c.ns) (ids_left c.id (pos 0))) (heard_by past (last_command c (pos 0)) false (reply bytes) heard) fails)
-kill_well watched are_its past c e served (closings.cannot_kill by) = inr (last_command c (pos 0), kills (space c.ns) (ids_left c.id (pos 0)) refl, by)
+kill_well watched are_its past c e served (inl fails) =
+    inl (request_well watched past (last_command c (pos 0)) false NoneBroken e served (killing_none (space c.ns) (ids_left c.id (pos 0))) (λ bytes heard success none. absurd none) fails)
+kill_well watched are_its past c e served (inr by) = inr (last_command c (pos 0), kills (space c.ns) (ids_left c.id (pos 0)) refl, by)
 
 -- ---- all calls
 
@@ -255,9 +260,8 @@ module _ (awaited : Awaited) (c : Course) (i : ℕ) (begun calls : List Call) (w
 
     insert_fails : (e : Error) → InsertFails (sent_at places calls wire) ns docs e → IsExcusedInsert ns docs e
     insert_fails e (no_memory room) = inl room
-    insert_fails e (lost piece part is heard) = absurd (served.lost (insert_command ns piece) (heard_by (sent_at places calls wire) (insert_command ns piece) false fault heard))
-    insert_fails e (refused piece bytes part heard fails) = absurd (served.refused (insert_command ns piece) bytes wire e (inserting_none ns piece) (heard_by (sent_at places calls wire) (insert_command ns piece) false (reply bytes) heard) fails)
-    insert_fails e (listed piece bytes part heard success lists) = absurd (never_listed piece bytes e.kind (heard_by (sent_at places calls wire) (insert_command ns piece) false (reply bytes) heard) lists)
+    insert_fails e (command_fails piece part fails) =
+        inl (request_well (IsWatched well.history) (sent_at places calls wire) (insert_command ns piece) false (ListsFor piece) e served (inserting_none ns piece) (λ bytes heard success lists. never_listed piece bytes e.kind heard lists.1) fails)
     insert_fails e (cannot_encode d part by) = inr (inr (d, part, by))
     insert_fails e (cannot_insert piece part by) = inr (inl (piece, part, by))
 

@@ -7,6 +7,7 @@ use Rattle.std.proofs.lemmas.Bool.Decides.{Decides-int_eq}
 use Rattle.mg_bson.specs.Tree.{Tree, Fields}
 use Rattle.mg_bson.specs.Raw.{fields}
 use Rattle.mg_bson.specs.Reading.{doc}
+use Rattle.mg_link.specs.Calls.{HeardBy, NoneBroken, Past, RequestFails, out_of_memory, was_broken, was_lost, was_refused}
 use Rattle.mg_link.specs.Events.{HaveIds}
 use Rattle.mg_link.specs.Exec.{FailsAs, FailsByReply, IsSuccess}
 use Rattle.mg_link.specs.Failures.{refusal_by, refusal_in}
@@ -21,6 +22,7 @@ use Rattle.mg_link.specs.declared.error.ErrorKind.{ErrorKind}
 use Rattle.mg_link.specs.declared.error.ErrorKind.TheVariants as kind
 use Rattle.mg_link.specs.declared.reply.Verdict.{Verdict}
 use Rattle.mg_link.specs.declared.reply.Verdict.TheVariants as verdict
+use Rattle.mg_link.proofs.Pasts.{heard_by}
 use Rattle.mg_options.specs.declared.change_stream.ChangeStreamOptions.{ChangeStreamOptions}
 use Rattle.mg_ops.specs.Aims.{aim_of}
 use Rattle.mg_ops.specs.Commands.{get_more_command, watch_command}
@@ -35,8 +37,7 @@ use Rattle.mg_ops.specs.Cursors.{Cursor, cursor_of}
 use Rattle.mg_ops.proofs.Asking.{asks_as_aimed, asks_for_more}
 use Rattle.mg_ops.proofs.Replying.{same_id}
 use Rattle.mg_change.specs.Batches.{HoldsBatch}
-use Rattle.mg_change.specs.Calls.{HeardBy, HeardLast, Past}
-use Rattle.mg_change.specs.Causes.{BreaksBatch, CallEmpty, CallFailed, CallFails, CallGave, CallNone, Called, CannotBuild, HeardMore, MayLose, MoreFails, Next, Replied, Resumed, Resumes, Standing, Stays, TellsCursor, more_command, remembered_empty, resume_command}
+use Rattle.mg_change.specs.Causes.{BreaksBatch, CallEmpty, CallFailed, CallFails, CallGave, CallNone, Called, CannotBuild, HeardMore, MayLose, MoreFails, Next, Replied, Resumed, Resumes, Standing, Stays, TellsCursor, TellsNoCursor, more_command, remembered_empty, resume_command}
 use Rattle.mg_change.specs.Causes as causes
 use Rattle.mg_change.specs.OpeningCauses.{Opened}
 use Rattle.mg_change.specs.Openings.{opening_command}
@@ -60,9 +61,6 @@ TellsWatch watched bytes = (c : Cursor) → cursor_of (fields bytes) ≡ Ok c �
 pub record IsHonest (watched : ℤ → Type 0) (past : Past) : Type 0 where
   pub watch : (on : Target) (stages : List Fields) (o : ChangeStreamOptions) (bytes : List ℕ) → HeardBy past (watch_command on stages o) (reply bytes) → IsSuccess bytes → Brings bytes × TellsWatch watched bytes
   pub more : (id : ℤ) (at : Space) (size : Option ℕ) (bytes : List ℕ) → IsNamed at → (id ≢ pos 0 → watched id) → HeardBy past (get_more_command id at size) (reply bytes) → IsSuccess bytes → Brings bytes × TellsWatch watched bytes
-
-pub heard_by : (past : Past) (command : Fields) (retries : Bool) (seen : Sight) → HeardLast past command retries seen → HeardBy past command seen
-heard_by past command retries seen h = record { place = h.place; heard = h.heard }
 
 -- the step of a command whose reply was heard
 record Taken (history : List Step) (command : Fields) (bytes : List ℕ) : Type 0 where
@@ -167,6 +165,12 @@ by_reply : (o : Option Fields) (wire : ℤ) (e : Error) → FailsByReply o wire 
 by_reply None wire e fails is = other_kind e kind.BsonDeserialization (ap (λ (x : Error). x.kind) fails) is (λ same. cc)
 by_reply (Some said) wire e fails is = by_verdict (verdict_of said) said wire e fails is
 
+by_request : (past : Past) (command : Fields) (retries : Bool) (Broken : List ℕ → Error → Type 0) (e : Error) → ((bytes : List ℕ) → Broken bytes e → e.kind ≡ kind.MissingResumeToken → ⊥) → RequestFails past command retries Broken e → e.kind ≡ kind.MissingResumeToken → ⊥
+by_request past command retries Broken e read (out_of_memory room) is = other_kind e kind.OutOfMemory room is (λ same. cc)
+by_request past command retries Broken e read (was_lost io heard) is = other_kind e kind.Io (ap (λ (x : Error). x.kind) io) is (λ same. cc)
+by_request past command retries Broken e read (was_refused bytes heard fails) is = by_reply (doc bytes) past.wire e fails is
+by_request past command retries Broken e read (was_broken bytes heard success broken) is = read bytes broken is
+
 by_batch : (said : Fields) (e : Error) → BreaksBatch said e → e.kind ≡ kind.MissingResumeToken → ⊥
 by_batch said e (causes.no_batch how none error) is = other_kind e (kind.InvalidResponse how) (ap (λ (x : Error). x.kind) error) is (λ same. cc)
 by_batch said e (causes.bad_item batch there bad) is = other_kind e _ (ap (λ (x : Error). x.kind) bad.1) is (λ same. cc)
@@ -207,9 +211,7 @@ module _ (watched : ℤ → Type 0) (are_its : WatchArgs → Type 0) (past : Pas
   cursor_ended c ends is = subst (λ (d : CursorInformation). IsItsCursor d) (sym is) (record { size_is = well.cursor.size_is; named = well.cursor.named; watches = ended_watches ends })
 
   cursor_fails : (e : Error) (c : CursorInformation) → MoreFails past at e c → IsItsCursor c
-  cursor_fails e c (causes.lost io heard is) = cursor_same c is
-  cursor_fails e c (causes.refused bytes heard fails is) = cursor_ended c (ends_cursor (command_code e.kind)) is
-  cursor_fails e c (causes.unread bytes heard success breaks is) = cursor_same c is
+  cursor_fails e c (causes.untold asked fails is) = cursor_ended c (ends_cursor (command_code e.kind)) is
   cursor_fails e c (causes.broken bytes upto heard success tells breaks) = cursor_more bytes c upto heard success tells
 
   cursor_left : (c : CursorInformation) → Resumes past at c → IsItsCursor c
@@ -272,13 +274,11 @@ module _ (watched : ℤ → Type 0) (are_its : WatchArgs → Type 0) (past : Pas
   failed_so : (after : Standing) (e : Error) → CallFails past at after e → (after.first ≡ None) × (after.owes ≡ false → HaveIds after.events) × IsItsCursor after.cursor
   failed_so after e (causes.may_lose room owes may) = (owes.looked, λ quits. let is = owes.owes in absurd cc, cursor_lost after.cursor may)
   failed_so after e (causes.no_memory room stays) = let w = stays_well after stays in (w.0, λ quits. w.1, w.2)
-  failed_so after e (causes.lost owes why io heard) = (owes.looked, λ quits. let is = owes.owes in absurd cc, cursor_left after.cursor why)
-  failed_so after e (causes.refused bytes owes why heard fails) = (owes.looked, λ quits. let is = owes.owes in absurd cc, cursor_left after.cursor why)
-  failed_so after e (causes.unread bytes owes why heard success breaks) = (owes.looked, λ quits. let is = owes.owes in absurd cc, cursor_left after.cursor why)
+  failed_so after e (causes.not_resumed owes why fails) = (owes.looked, λ quits. let is = owes.owes in absurd cc, cursor_left after.cursor why)
   failed_so after e (causes.broken bytes upto owes r breaks) = (owes.looked, λ quits. let is = owes.owes in absurd cc, (replied_well true bytes after.cursor upto r).1)
   failed_so after e (causes.cannot_resume owes why by) = (owes.looked, λ quits. let is = owes.owes in absurd cc, cursor_left after.cursor why)
-  failed_so after e (causes.refused_more bytes heard fails final is) =
-      (ap (λ (x : Standing). x.first) is ∙ heard.asked.settled.looked, λ quits. subst HaveIds (sym (ap (λ (x : Standing). x.events) is ∙ heard.asked.none_left)) tt, cursor_ended after.cursor (ends_cursor (command_code e.kind)) (ap (λ (x : Standing). x.cursor) is))
+  failed_so after e (causes.refused_more asked fails final is) =
+      (ap (λ (x : Standing). x.first) is ∙ asked.settled.looked, λ quits. subst HaveIds (sym (ap (λ (x : Standing). x.events) is ∙ asked.none_left)) tt, cursor_ended after.cursor (ends_cursor (command_code e.kind)) (ap (λ (x : Standing). x.cursor) is))
   failed_so after e (causes.cannot_ask asked by is) =
       (ap (λ (x : Standing). x.first) is ∙ asked.settled.looked, λ quits. subst HaveIds (sym (ap (λ (x : Standing). x.events) is ∙ asked.none_left)) tt, cursor_same after.cursor (ap (λ (x : Standing). x.cursor) is))
   failed_so after e (causes.no_id event upto next lacks is behind settled) = let n = next_well (event ∷ after.events) after.cursor upto next in (settled.looked, λ quits. n.0.1, n.1)
@@ -290,12 +290,10 @@ module _ (watched : ℤ → Type 0) (are_its : WatchArgs → Type 0) (past : Pas
   pub never_missing : (after : Standing) (e : Error) → CallFails past at after e → e.kind ≡ kind.MissingResumeToken → ⊥
   never_missing after e (causes.may_lose room owes may) is = other_kind e kind.OutOfMemory room is (λ same. cc)
   never_missing after e (causes.no_memory room stays) is = other_kind e kind.OutOfMemory room is (λ same. cc)
-  never_missing after e (causes.lost owes why io heard) is = other_kind e kind.Io (ap (λ (x : Error). x.kind) io) is (λ same. cc)
-  never_missing after e (causes.refused bytes owes why heard fails) is = by_reply (doc bytes) past.wire e fails is
-  never_missing after e (causes.unread bytes owes why heard success breaks) is = other_kind e (kind.InvalidResponse breaks.how) (ap (λ (x : Error). x.kind) breaks.error) is (λ same. cc)
+  never_missing after e (causes.not_resumed owes why fails) is = by_request past (resume_command past.wire at) true TellsNoCursor e (λ bytes breaks same. other_kind e (kind.InvalidResponse breaks.how) (ap (λ (x : Error). x.kind) breaks.error) same (λ f. cc)) fails is
   never_missing after e (causes.broken bytes upto owes r breaks) is = by_batch (fields bytes) e breaks is
   never_missing after e (causes.cannot_resume owes why by) is = not_built at.aggregate.args.options.batch_size (resume_command past.wire at) e by is
-  never_missing after e (causes.refused_more bytes heard fails final same) is = by_reply (doc bytes) past.wire e fails is
+  never_missing after e (causes.refused_more asked fails final same) is = by_request past (more_command at) false NoneBroken e (λ bytes none missing. absurd none) fails is
   never_missing after e (causes.cannot_ask asked by same) is = not_built at.cursor.batch_size (more_command at) e by is
   never_missing after e (causes.no_id event upto next lacks io behind settled) is = let id = (next_well (event ∷ after.events) after.cursor upto next).0.0 in let has = id.1 in absurd cc
 

@@ -9,24 +9,24 @@ use Rattle.std.specs.Option.{option_flatten}
 use Rattle.mg_bson.specs.Bytes.{bytes, fields_bytes, framed, le32}
 use Rattle.mg_bson.specs.Tree.{Fields}
 use Rattle.mg_bson.specs.Raw.{fields}
-use Rattle.mg_bson.specs.Reading.{doc}
 use Rattle.mg_bson.specs.declared.object_id.ObjectId.{ObjectId}
-use Rattle.mg_link.specs.Exec.{FailsByReply, IsSuccess, Runs, Sending}
+use Rattle.mg_link.specs.Calls.{Flies, Grows, Past, past_of}
+use Rattle.mg_link.specs.Exec.{Runs, Sending}
 use Rattle.mg_link.specs.Link.{Awaited, Told}
-use Rattle.mg_link.specs.Log.{reply, fault, Call}
+use Rattle.mg_link.specs.Log.{Call}
 use Rattle.mg_link.specs.Namespace.{Space, space}
 use Rattle.mg_link.specs.declared.action.Step.{Step}
 use Rattle.mg_link.specs.declared.action.Step.TheVariants as step
 use Rattle.mg_link.specs.declared.error.Error.{Error}
+use Rattle.mg_link.proofs.Calls.{request_ran}
+use Rattle.mg_link.proofs.Pasts.{fails_anyhow, flies_grows, request_fails_grows}
 use Rattle.mg_ops.specs.Commands.{insert_command}
 use Rattle.mg_ops.specs.Failing.{CannotBeInserted, CannotBeSent, FailsBy}
 use Rattle.mg_ops.specs.Limits.{max_documents}
-use Rattle.mg_ops.specs.Writes.{ListsAs}
-use Rattle.mg_change.specs.Calls.{Failed, Flies, Grows, HeardLast, Past, by_fault, by_memory, by_reply, past_of}
-use Rattle.mg_change.proofs.Calls.{request_ran}
-use Rattle.mg_change.proofs.Growing.{flies_grows, last_grows}
+use Rattle.mg_ops.specs.Writes.{NotInserted}
+use Rattle.mg_ops.proofs.Unread.{unread_fails}
 use Rattle.mg_change.proofs.Heeding.{success_ran}
-use Rattle.mg_jobs.specs.InsertCauses.{CannotEncode, CannotGoOn, FitTogether, HearsCaused, InsertCaused, InsertFails, InsertFlies, InsertsSoFar, IsBuilt, IsInsertOf, IsLength, IsNextPiece, IsPiece, IsSentFor, LeadsCaused, NextCaused, cannot_encode, cannot_insert, listed, lost, max_batch, no_memory, refused, total}
+use Rattle.mg_jobs.specs.InsertCauses.{CannotEncode, CannotGoOn, FitTogether, HearsCaused, InsertCaused, InsertFails, InsertFlies, InsertsSoFar, IsBuilt, IsInsertOf, IsLength, IsNextPiece, IsPiece, IsSentFor, LeadsCaused, ListsFor, NextCaused, cannot_encode, cannot_insert, command_fails, max_batch, no_memory, total}
 use Rattle.mg_jobs.specs.Adds.{AddsOnly}
 use Rattle.mg_jobs.specs.Inserts.{held, insert_ticket}
 use Rattle.mg_jobs.specs.Underway.{IsBatch, IsSameList, IsStarted, sent_of, with_id}
@@ -174,16 +174,6 @@ same_retries : (old new : Awaited) (log log' : Told) (wire : ℤ) (s s' : Sendin
 same_retries old new log log' wire s s' (inl once) = ap (λ (x : Sending). x.retries) once.gives.2
 same_retries old new log log' wire s s' (inr twice) = ap (λ (x : Sending). x.retries) twice.gives.2
 
-module _ (past : Past) (at : Space) (ds piece : List Fields) (e : Error) (part : IsPiece ds piece) where
-  failed_as : Failed past (insert_command at piece) false e → InsertFails past at ds e
-  failed_as (by_memory room) = no_memory (ap (λ (x : Error). x.kind) room)
-  failed_as (by_fault io h) = lost piece part io h
-  failed_as (by_reply bytes h by) = refused piece bytes part h by
-
-  unread_as : (bytes : List ℕ) → HeardLast past (insert_command at piece) false (reply bytes) → IsSuccess bytes → FailsBy (λ (x : Error). ListsAs (length piece) (fields bytes) x.kind) e → InsertFails past at ds e
-  unread_as bytes h success (inl room) = no_memory (ap (λ (x : Error). x.kind) room)
-  unread_as bytes h success (inr lists) = listed piece bytes part h success lists
-
 module _ (old new : Awaited) (log log' : Told) (wire : ℤ) (c : Command) where
   -- it adds its own command alone
   command_adds : (awaited : Awaited) (past : Past) (at : Space) (ds : List Fields) (result : Step Sending (List ℕ)) → Runs old new log log' wire c.exec result → IsSentFor awaited past at ds c → (calls calls' : List Call) → log ≡ Some calls → log' ≡ Some calls' → AddsOnly (IsInsertOf at ds) calls calls'
@@ -208,13 +198,13 @@ module _ (old new : Awaited) (log log' : Told) (wire : ℤ) (c : Command) where
   failed_caused e runs calls told places since room at ds s =
       let piece : List Fields = c.insert.documents.items in
       let r = request_ran old new log log' wire c.exec (insert_command at piece) false (step.Failed e) s.command_is s.once runs calls told places since room s.flies in
-      (r.calls', r.told, r.room, failed_as (past_of places since r.calls' wire) at ds piece e s.part r.came, command_adds old (past_of places since calls wire) at ds (step.Failed e) runs s calls r.calls' told r.told)
+      (r.calls', r.told, r.room, command_fails piece s.part (fails_anyhow (past_of places since r.calls' wire) (insert_command at piece) false (ListsFor piece) e r.came), command_adds old (past_of places since calls wire) at ds (step.Failed e) runs s calls r.calls' told r.told)
 
-  pub unread_caused : (bytes : List ℕ) (e : Error) → Runs old new log log' wire c.exec (step.Done bytes) → FailsBy (λ (x : Error). ListsAs (length c.insert.documents.items) (fields bytes) x.kind) e → HearsCaused old new log log' wire c (heard.Failed e)
+  pub unread_caused : (bytes : List ℕ) (e : Error) → Runs old new log log' wire c.exec (step.Done bytes) → FailsBy (NotInserted (length c.insert.documents.items) (fields bytes)) e → HearsCaused old new log log' wire c (heard.Failed e)
   unread_caused bytes e runs by calls told places since room at ds s =
       let piece : List Fields = c.insert.documents.items in
       let r = request_ran old new log log' wire c.exec (insert_command at piece) false (step.Done bytes) s.command_is s.once runs calls told places since room s.flies in
-      (r.calls', r.told, r.room, unread_as (past_of places since r.calls' wire) at ds piece e s.part bytes r.came (success_ran old new log log' wire c.exec bytes runs) by, command_adds old (past_of places since calls wire) at ds (step.Done bytes) runs s calls r.calls' told r.told)
+      (r.calls', r.told, r.room, command_fails piece s.part (unread_fails (past_of places since r.calls' wire) (insert_command at piece) false (ListsFor piece) bytes e by r.came (success_ran old new log log' wire c.exec bytes runs)), command_adds old (past_of places since calls wire) at ds (step.Done bytes) runs s calls r.calls' told r.told)
 
   pub inserted_caused : (bytes : List ℕ) → Runs old new log log' wire c.exec (step.Done bytes) → HearsCaused old new log log' wire c heard.Inserted
   inserted_caused bytes runs calls told places since room at ds s =
@@ -265,14 +255,9 @@ inserts_begin awaited past at ds i none s =
     record { at_is = s.at_is; sent_is = s.sent_is; flies = subst (InsertFlies awaited past at ds) (sym none) tt }
 
 module _ (past past' : Past) (grows : Grows past past') (at : Space) (ds : List Fields) where
-  heard_grows : (piece : List Fields) (bytes : List ℕ) → HeardLast past (insert_command at piece) false (reply bytes) → HeardLast past' (insert_command at piece) false (reply bytes)
-  heard_grows piece bytes h = last_grows past past' grows (insert_command at piece) false (reply bytes) (λ e. cc) h
-
   pub insert_fails_grow : (e : Error) → InsertFails past at ds e → InsertFails past' at ds e
   insert_fails_grow e (no_memory room) = no_memory room
-  insert_fails_grow e (lost piece part io h) = lost piece part io (last_grows past past' grows (insert_command at piece) false fault (λ f. cc) h)
-  insert_fails_grow e (refused piece bytes part h by) = refused piece bytes part (heard_grows piece bytes h) (subst (λ (w : ℤ). FailsByReply (doc bytes) w e) (sym grows.wire) by)
-  insert_fails_grow e (listed piece bytes part h success lists) = listed piece bytes part (heard_grows piece bytes h) success lists
+  insert_fails_grow e (command_fails piece part fails) = command_fails piece part (request_fails_grows past past' grows (insert_command at piece) false (ListsFor piece) e fails)
   insert_fails_grow e (cannot_encode d part by) = cannot_encode d part by
   insert_fails_grow e (cannot_insert piece part by) = cannot_insert piece part by
 

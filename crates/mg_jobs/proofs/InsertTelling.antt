@@ -1,6 +1,7 @@
 -- What an insert tells goes on to hold, turn by turn.
 use Rattle.std.proofs.Common.{◌≡◌, ◌⊎◌, ℕ, ℤ, true, List, None, length, Some, refl, sym, ap, ◌∙◌, subst, inl, inr, Bool}
 use Rattle.mg_bson.specs.Tree.{Fields}
+use Rattle.mg_link.specs.Calls.{Grows, Past, past_of}
 use Rattle.mg_link.specs.Errors.{plain}
 use Rattle.mg_link.specs.Link.{Awaited, Told}
 use Rattle.mg_link.specs.Log.{Call}
@@ -10,7 +11,6 @@ use Rattle.mg_link.specs.declared.action.Step.TheVariants as step
 use Rattle.mg_link.specs.declared.error.Error.{Error}
 use Rattle.mg_link.specs.declared.error.ErrorKind.TheVariants as kind
 use Rattle.mg_link.proofs.Owners.{same_some}
-use Rattle.mg_change.specs.Calls.{Grows, Past, past_of}
 use Rattle.mg_jobs.specs.Adds.{AddsOnly}
 use Rattle.mg_jobs.specs.Appended.{Appended}
 use Rattle.mg_jobs.specs.Causes.{EndsBy, sent_at}

@@ -2,6 +2,7 @@
 use Rattle.std.proofs.Common.{◌≡◌, ℕ, ℤ, pos, true, List, ◌++◌, length, Option, Some, None, refl, sym, ap, ◌∙◌, subst, take, arith}
 use Rattle.mg_bson.specs.Tree.{Fields}
 use Rattle.mg_bson.specs.Raw.{fields}
+use Rattle.mg_link.specs.Calls.{Grows, Past, past_of}
 use Rattle.mg_link.specs.Commands.{asked, asks_insert}
 use Rattle.mg_link.specs.Exec.{Runs, ticket_of}
 use Rattle.mg_link.specs.Link.{Awaited, Told}
@@ -11,7 +12,6 @@ use Rattle.mg_link.specs.declared.error.Error.{Error}
 use Rattle.mg_ops.specs.Naming.{IsNamed}
 use Rattle.mg_ops.specs.Writes.{Inserted}
 use Rattle.mg_ops.proofs.Replying.{tells_of_insert}
-use Rattle.mg_change.specs.Calls.{Grows, Past, past_of}
 use Rattle.mg_jobs.specs.Appended.{Appended, InsertedBelow}
 use Rattle.mg_jobs.specs.Inserts.{held, insert_ticket}
 use Rattle.mg_jobs.specs.Underway.{AreSent, HasInserted, HearsSent, Holding, Inserts, IsInserting, IsNextOf, IsSameList, IsStarted, LeadsOn, SendsNext}

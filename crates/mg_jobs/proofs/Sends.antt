@@ -3,6 +3,7 @@ use Rattle.std.proofs.Common.{◌≡◌, ◌+◌, ◌<◌, ◌≤◌, ◌++◌, 
 use Rattle.std.specs.Prelude.{slice_get, if◌then◌else◌}
 use Rattle.mg_bson.specs.Tree.{Tree, Fields}
 use Rattle.mg_bson.specs.Raw.{fields}
+use Rattle.mg_link.specs.Calls.{Keeps, Past}
 use Rattle.mg_link.specs.Exec.{Sending, Stage, unsent, first, second}
 use Rattle.mg_link.specs.Link.{Awaited, Told}
 use Rattle.mg_link.specs.Log.{Call}
@@ -13,7 +14,6 @@ use Rattle.mg_ops.specs.Commands.{get_more_command}
 use Rattle.mg_ops.specs.declared.aggregate.ChangeStreamAggregate.{ChangeStreamAggregate}
 use Rattle.mg_ops.specs.declared.change_stream.WatchArgs.{WatchArgs}
 use Rattle.mg_ops.specs.declared.cursor_reply.CursorInformation.{CursorInformation}
-use Rattle.mg_change.specs.Calls.{Keeps, Past}
 use Rattle.mg_change.specs.Causes.{ByPhase, CallFails, CallNone, Called, MayLose, MoreFails, Next, Replied, Resumes, SoFar, Standing, remembered_empty}
 use Rattle.mg_change.specs.Causes as causes
 use Rattle.mg_change.specs.ClosingSends.{ClosingSent, KillsTheRest, closing_places}
@@ -70,9 +70,7 @@ module _ (args : WatchArgs) (past : Past) (at : Standing) (fit : IsFor args at) 
   sized_again c is = is ∙ ap (λ (a : WatchArgs). a.options.batch_size) fit.args_are
 
   sized_fails : (e : Error) (c : CursorInformation) → MoreFails past at e c → IsSized c
-  sized_fails e c (causes.lost io heard is) = sized_same c is
-  sized_fails e c (causes.refused bytes heard fails is) = sized_ended c (ends_cursor (command_code e.kind)) is
-  sized_fails e c (causes.unread bytes heard success breaks is) = sized_same c is
+  sized_fails e c (causes.untold asked fails is) = sized_ended c (ends_cursor (command_code e.kind)) is
   sized_fails e c (causes.broken bytes upto heard success tells breaks) = tells.size_is ∙ fit.size_is
 
   sized_left : (c : CursorInformation) → Resumes past at c → IsSized c
@@ -106,12 +104,10 @@ module _ (args : WatchArgs) (past : Past) (at : Standing) (fit : IsFor args at) 
   sized_failed : (after : Standing) (e : Error) → CallFails past at after e → IsSized after.cursor
   sized_failed after e (causes.may_lose room owes may) = sized_lost after.cursor may
   sized_failed after e (causes.no_memory room stays) = sized_stays after stays
-  sized_failed after e (causes.lost owes why io heard) = sized_left after.cursor why
-  sized_failed after e (causes.refused bytes owes why heard fails) = sized_left after.cursor why
-  sized_failed after e (causes.unread bytes owes why heard success breaks) = sized_left after.cursor why
+  sized_failed after e (causes.not_resumed owes why fails) = sized_left after.cursor why
   sized_failed after e (causes.broken bytes upto owes r breaks) = sized_replied true bytes after.cursor upto r
   sized_failed after e (causes.cannot_resume owes why by) = sized_left after.cursor why
-  sized_failed after e (causes.refused_more bytes heard fails final is) = sized_ended after.cursor (ends_cursor (command_code e.kind)) (ap (λ (x : Standing). x.cursor) is)
+  sized_failed after e (causes.refused_more asked fails final is) = sized_ended after.cursor (ends_cursor (command_code e.kind)) (ap (λ (x : Standing). x.cursor) is)
   sized_failed after e (causes.cannot_ask asked by is) = sized_same after.cursor (ap (λ (x : Standing). x.cursor) is)
   sized_failed after e (causes.no_id event upto next lacks is behind settled) = sized_next (event ∷ after.events) after.cursor upto next
 

@@ -3,10 +3,10 @@ use Rattle.std.proofs.Common.{◌≡◌, ◌⊎◌, ℕ, ℤ, List, true, false,
 use Rattle.std.specs.Prelude.{is_some, IsSome}
 use Rattle.mg_bson.specs.Tree.{Fields}
 use Rattle.mg_link.specs.Acts.{Tickets}
+use Rattle.mg_link.specs.Calls.{Grows, Keeps, Past, past_of}
 use Rattle.mg_link.specs.Link.{Awaited, Told}
 use Rattle.mg_link.specs.Log.{Call}
 use Rattle.mg_link.specs.Namespace.{Space, space}
-use Rattle.mg_change.specs.Calls.{Grows, Keeps, Past, past_of}
 use Rattle.mg_jobs.specs.Causes.{sent_at}
 use Rattle.mg_jobs.specs.Counts.{OthersStay, is_held, shown}
 use Rattle.mg_jobs.specs.Follows.{Placing}

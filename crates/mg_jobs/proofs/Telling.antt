@@ -2,6 +2,7 @@
 use Rattle.std.proofs.Common.{◌≡◌, ◌⊎◌, ◌+◌, ◌-◌, ◌≤◌, ◌<◌, ℕ, zero, suc, ℤ, pos, Bool, true, false, List, [], ◌∷◌, ◌++◌, length, Option, Some, None, refl, sym, ap, ◌∙◌, subst, inl, inr, arith, length-append}
 use Rattle.std.specs.Prelude.{◌≢◌, ◌↔◌, IsTrue, slice_get}
 use Rattle.mg_bson.specs.Tree.{Tree}
+use Rattle.mg_link.specs.Calls.{Grows, Keeps, Past, Stays, past_of}
 use Rattle.mg_link.specs.Exec.{Sending}
 use Rattle.mg_link.specs.Link.{Awaited, Told}
 use Rattle.mg_link.specs.Log.{Call}
@@ -10,10 +11,10 @@ use Rattle.mg_link.specs.declared.action.Step.{Step}
 use Rattle.mg_link.specs.declared.action.Step.TheVariants as step
 use Rattle.mg_link.specs.declared.error.Error.{Error}
 use Rattle.mg_link.specs.declared.error.ErrorKind.TheVariants as kind
+use Rattle.mg_link.proofs.Calls.{keeps_longer, same_keeps}
 use Rattle.mg_link.proofs.Places.{get_within}
 use Rattle.mg_ops.specs.declared.change_stream.WatchArgs.{WatchArgs}
 use Rattle.mg_ops.specs.declared.cursor_reply.CursorInformation.{CursorInformation}
-use Rattle.mg_change.specs.Calls.{Grows, Keeps, Past, Stays, past_of}
 use Rattle.mg_change.specs.Causes.{CallCame, CallCaused, Called, SoFar, Standing, owes_in, standing_of}
 use Rattle.mg_change.specs.ClosingCauses.{ClosingCaused, KillCame, KillCaused, KillDone, KillFails, KillsSoFar}
 use Rattle.mg_change.specs.ClosingSends.{ClosingSent}
@@ -35,7 +36,6 @@ use Rattle.mg_change.specs.declared.stream.ChangeStream.{ChangeStream}
 use Rattle.mg_change.specs.declared.stream.Phase.{Phase}
 use Rattle.mg_change.specs.declared.stream.Phase.TheVariants as phase
 use Rattle.mg_change.proofs.Growing.{called_grows, so_far_grows}
-use Rattle.mg_change.proofs.Calls.{keeps_longer, same_keeps}
 use Rattle.mg_change.proofs.Causes.{begins}
 use Rattle.mg_change.proofs.ClosingCauses.{kill_done_grows, kill_fails_grows, kills_grows}
 use Rattle.mg_change.proofs.OpeningCauses.{opened_grows, opening_fails_grows, opens_grows}

@@ -6,21 +6,21 @@ use Rattle.std.proofs.lemmas.List.{take_all}
 use Rattle.std.proofs.lemmas.List.Sums.{sum_by-append}
 use Rattle.mg_bson.specs.Tree.{Fields, Tree}
 use Rattle.mg_bson.specs.Raw.{fields}
+use Rattle.mg_link.specs.Calls.{Keeps, Past, Stays, past_of}
 use Rattle.mg_link.specs.Link.{Awaited, Told}
 use Rattle.mg_link.specs.Log.{Call}
 use Rattle.mg_link.specs.Namespace.{Space, Target, space, target}
 use Rattle.mg_link.specs.Owner.{NamesItsOwn, Owner}
 use Rattle.mg_link.specs.State.{Start, Watch}
 use Rattle.mg_link.specs.declared.error.Error.{Error}
+use Rattle.mg_link.proofs.Calls.{awaited_by}
 use Rattle.mg_link.proofs.Places.{get_within}
 use Rattle.mg_ops.specs.declared.change_stream.WatchArgs.{WatchArgs}
-use Rattle.mg_change.specs.Calls.{Keeps, Past, Stays, past_of}
 use Rattle.mg_change.specs.Causes.{Standing}
 use Rattle.mg_change.specs.Following.{token_of}
 use Rattle.mg_change.specs.Phases.{ticket_in}
 use Rattle.mg_change.specs.declared.stream.ChangeStream.{ChangeStream}
 use Rattle.mg_change.proofs.Awaiting.{call_awaits, kill_awaits, opening_awaits}
-use Rattle.mg_change.proofs.Calls.{awaited_by}
 use Rattle.mg_ops.specs.Commands.{insert_command}
 use Rattle.mg_jobs.specs.Adds.{AddsOnly}
 use Rattle.mg_jobs.specs.InsertCauses.{InsertFlies, IsInsertOf}

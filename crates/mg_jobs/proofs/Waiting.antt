@@ -5,16 +5,16 @@ use Rattle.std.proofs.lemmas.Bool.{cases_eq, cases_order}
 use Rattle.std.proofs.lemmas.List.Sums.{sum_by-cons}
 use Rattle.mg_bson.specs.Tree.{Fields}
 use Rattle.mg_link.specs.Acts.{Tickets}
+use Rattle.mg_link.specs.Calls.{Past}
 use Rattle.mg_link.specs.Link.{Awaited, Told}
 use Rattle.mg_link.specs.Log.{Call}
 use Rattle.mg_link.specs.Namespace.{Space, space}
 use Rattle.mg_link.specs.declared.error.Error.{Error}
+use Rattle.mg_link.proofs.Calls.{HoldsOwn, own_by}
 use Rattle.mg_link.proofs.Owners.{same_some}
 use Rattle.mg_link.proofs.Places.{get_past_other, get_seam, get_set_same}
 use Rattle.mg_ops.specs.Commands.{insert_command}
-use Rattle.mg_change.specs.Calls.{Past}
 use Rattle.mg_change.proofs.Awaiting.{call_own, kill_own, opening_own}
-use Rattle.mg_change.proofs.Calls.{HoldsOwn, own_by}
 use Rattle.mg_jobs.specs.Causes.{AllSentIn, AllWaitAlone, Course, WaitsAlone, SentIn, course, sent_at}
 use Rattle.mg_jobs.specs.Drawing.{HadTurn, HaveDrawn, JobHadTurn, first_id, has_turn}
 use Rattle.mg_jobs.specs.InsertCauses.{InsertFlies}

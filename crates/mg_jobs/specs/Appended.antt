@@ -1,10 +1,10 @@
 -- What an insert appended to its collection, and by which commands.
 use Rattle.std.specs.Prelude.{◌≡◌, ◌<◌, ◌++◌, ℕ, ℤ, true, List, [], ◌∷◌, length, Some, slice_get}
 use Rattle.mg_bson.specs.Tree.{Fields}
+use Rattle.mg_link.specs.Calls.{IsOwn, Past}
 use Rattle.mg_link.specs.Commands.{asked, asks_insert, inserted, told}
 use Rattle.mg_link.specs.Log.{reply, Call}
 use Rattle.mg_link.specs.Namespace.{Space}
-use Rattle.mg_change.specs.Calls.{IsOwn, Past}
 
 -- the call at this place asks for these documents to be inserted in order, and saw a reply that tells of no failure
 pub record InsertsAt (calls : List Call) (k : ℕ) (space : Space) (documents : List Fields) : Type 0 where

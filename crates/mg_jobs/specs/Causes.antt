@@ -2,6 +2,7 @@
 use Rattle.std.specs.Prelude.{◌≡◌, ◌≢◌, ◌↔◌, ◌⊎◌, ◌<◌, ◌≤◌, ◌+◌, ◌++◌, IsTrue, false, true, Bool, ℕ, suc, ℤ, pos, List, [], ◌∷◌, length, Option, Some, slice_get}
 use Rattle.std.specs.List.{sum_by}
 use Rattle.mg_bson.specs.Tree.{Tree, Fields}
+use Rattle.mg_link.specs.Calls.{IsAwaited, Past, past_of}
 use Rattle.mg_link.specs.History.{IsLegal, Step}
 use Rattle.mg_link.specs.Link.{Awaited, Polls, SamePolls, Told}
 use Rattle.mg_link.specs.Log.{Call}
@@ -13,7 +14,6 @@ use Rattle.mg_link.specs.declared.error.ErrorKind.TheVariants as kind
 use Rattle.mg_ops.specs.Commands.{insert_command}
 use Rattle.mg_ops.specs.Naming.{IsNamed}
 use Rattle.mg_ops.specs.declared.change_stream.WatchArgs.{WatchArgs}
-use Rattle.mg_change.specs.Calls.{IsAwaited, Past, past_of}
 use Rattle.mg_change.specs.Causes.{CallWaits, Called, Standing}
 use Rattle.mg_change.specs.ClosingCauses.{KillDone, KillFails, KillWaits}
 use Rattle.mg_change.specs.Following.{token_of}

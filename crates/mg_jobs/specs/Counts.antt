@@ -1,9 +1,9 @@
 -- What is counted of a turn.
 use Rattle.std.specs.Prelude.{◌≡◌, ◌+◌, ◌-◌, ◌^◌, ◌<◌, ◌≤◌, ℕ, zero, suc, Bool, true, false, nat_eq, Option, Some, None, is_some, IsSome, List, [], ◌∷◌, length, slice_get, if◌then◌else◌}
+use Rattle.mg_link.specs.Calls.{Stays}
 use Rattle.mg_link.specs.Causes.{RoseJust}
 use Rattle.mg_link.specs.Link.{Awaited, OneMore, Polls, SamePolls, Told}
 use Rattle.mg_link.specs.Log.{fault, Call}
-use Rattle.mg_change.specs.Calls.{Stays}
 use Rattle.mg_script.specs.declared.outcome.Turned.{Turned}
 
 -- so many commands were started between two states of a log, where it is told

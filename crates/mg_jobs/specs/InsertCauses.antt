@@ -4,12 +4,11 @@ use Rattle.std.specs.List.{sum_by}
 use Rattle.mg_bson.specs.Bytes.{bytes}
 use Rattle.mg_bson.specs.Tree.{Fields}
 use Rattle.mg_bson.specs.Raw.{fields}
-use Rattle.mg_bson.specs.Reading.{doc}
 use Rattle.mg_bson.specs.Writable.{max_len}
-use Rattle.mg_link.specs.Errors.{plain}
-use Rattle.mg_link.specs.Exec.{FailsByReply, IsSuccess, unsent}
+use Rattle.mg_link.specs.Calls.{Flies, Past, RequestFails, past_of}
+use Rattle.mg_link.specs.Exec.{unsent}
 use Rattle.mg_link.specs.Link.{Awaited, Told}
-use Rattle.mg_link.specs.Log.{reply, fault, Call}
+use Rattle.mg_link.specs.Log.{Call}
 use Rattle.mg_link.specs.Namespace.{Space, space}
 use Rattle.mg_link.specs.declared.action.Step.{Step}
 use Rattle.mg_link.specs.declared.action.Step.TheVariants as step
@@ -18,8 +17,7 @@ use Rattle.mg_link.specs.declared.error.ErrorKind.TheVariants as kind
 use Rattle.mg_ops.specs.Commands.{insert_command}
 use Rattle.mg_ops.specs.Failing.{CannotBeInserted, CannotBeSent}
 use Rattle.mg_ops.specs.Limits.{max_documents}
-use Rattle.mg_ops.specs.Writes.{ListsAs}
-use Rattle.mg_change.specs.Calls.{Flies, HeardLast, Past, past_of}
+use Rattle.mg_ops.specs.Writes.{NotInserted}
 use Rattle.mg_jobs.specs.Adds.{AddsOnly}
 use Rattle.mg_jobs.specs.Underway.{IsBatch, sent_of}
 use Rattle.mg_jobs.specs.declared.insert.Batches.{Batches}
@@ -57,16 +55,16 @@ pub record IsInsertOf (at : Space) (sent : List Fields) (command : Fields) : Typ
   pub part : IsPiece sent piece
   pub command_is : command ≡ insert_command at piece
 
+-- a reply lists write errors of this command, or a write concern error, or breaks its grammar, and the error tells no more
+abbrev pub ListsFor : List Fields → List ℕ → Error → Type 0
+ListsFor piece bytes e = NotInserted (length piece) (fields bytes) e
+
 -- why an insert that sends these documents fails
 pub data InsertFails (past : Past) (at : Space) (sent : List Fields) (e : Error) : Type 0 where
   -- memory ran out
   no_memory : e.kind ≡ kind.OutOfMemory → InsertFails past at sent e
-  -- one of its commands was lost
-  lost : (piece : List Fields) → IsPiece sent piece → e ≡ plain kind.Io → HeardLast past (insert_command at piece) false fault → InsertFails past at sent e
-  -- the reply to it is no success
-  refused : (piece : List Fields) (bytes : List ℕ) → IsPiece sent piece → HeardLast past (insert_command at piece) false (reply bytes) → FailsByReply (doc bytes) past.wire e → InsertFails past at sent e
-  -- the reply is a success, and lists write errors, or a write concern error, or breaks its grammar
-  listed : (piece : List Fields) (bytes : List ℕ) → IsPiece sent piece → HeardLast past (insert_command at piece) false (reply bytes) → IsSuccess bytes → ListsAs (length piece) (fields bytes) e.kind → InsertFails past at sent e
+  -- one of its commands failed, or the reply to it lists a failure
+  command_fails : (piece : List Fields) → IsPiece sent piece → RequestFails past (insert_command at piece) false (ListsFor piece) e → InsertFails past at sent e
   -- one of the documents cannot be encoded
   cannot_encode : (d : Fields) → IsPiece sent (d ∷ []) → CannotBeSent d e → InsertFails past at sent e
   -- the next command cannot be built

@@ -2,6 +2,7 @@
 use Rattle.std.specs.Prelude.{◌≡◌, ◌≤◌, ◌++◌, ℕ, ℤ, true, List, [], ◌∷◌, length, take, Option, Some, None, slice_get, codes}
 use Rattle.mg_bson.specs.Tree.{object_id, Fields, field}
 use Rattle.mg_bson.specs.declared.object_id.ObjectId.{ObjectId}
+use Rattle.mg_link.specs.Calls.{IsOwn, Past, past_of}
 use Rattle.mg_link.specs.Commands.{asked, asks_insert}
 use Rattle.mg_link.specs.Exec.{ticket_of}
 use Rattle.mg_link.specs.Link.{Awaited, Told}
@@ -10,7 +11,6 @@ use Rattle.mg_link.specs.Namespace.{Space, space}
 use Rattle.mg_link.specs.declared.action.Step.{Step}
 use Rattle.mg_link.specs.declared.action.Step.TheVariants as step
 use Rattle.mg_ops.specs.Naming.{IsNamed}
-use Rattle.mg_change.specs.Calls.{IsOwn, Past, past_of}
 use Rattle.mg_jobs.specs.Appended.{Appended, InsertedBelow}
 use Rattle.mg_jobs.specs.declared.insert.Batches.{Batches}
 use Rattle.mg_jobs.specs.declared.insert.Command.{Command}
@@ -40,7 +40,7 @@ IsBatch drawn documents from batch upto = take upto (sent_of drawn documents) �
 -- ---- a command that is underway
 
 -- the command waits in the log, at a place of its own, behind the commands that inserted what was sent before
-pub record Flies (awaited : Awaited) (past : Past) (space : Space) (before piece : List Fields) (ticket : ℕ) : Type 0 where
+pub record WaitsBehind (awaited : Awaited) (past : Past) (space : Space) (before piece : List Fields) (ticket : ℕ) : Type 0 where
   pub place : ℕ
   pub call : Call
   pub at : awaited ticket ≡ Some place
@@ -52,7 +52,7 @@ pub record Flies (awaited : Awaited) (past : Past) (space : Space) (before piece
 -- a command waits in the log, or is not sent
 abbrev pub Holding : Awaited → Past → Space → List Fields → List Fields → Option ℕ → Type 0
 Holding awaited past space before piece None = InsertedBelow past (length past.calls) space before
-Holding awaited past space before piece (Some ticket) = Flies awaited past space before piece ticket
+Holding awaited past space before piece (Some ticket) = WaitsBehind awaited past space before piece ticket
 
 -- the command asks for the last of these documents to be inserted, and the others are inserted
 pub record IsUnderway (awaited : Awaited) (past : Past) (space : Space) (sent : List Fields) (c : Command) : Type 0 where

@@ -18,6 +18,7 @@ ghost use Rattle.mg_jobs.specs.Underway.{HearsSent, Inserts, IsBatch, IsNextOf, 
 use mg_bson::{Bson, BsonError, Document, ObjectId, to_bytes};
 use mg_link::{Action, Error, ErrorKind, Exec, IdSource, Link, Namespace, Retry, Step, plain};
 use mg_ops::{Insert, Operation, encode};
+use mg_options::InsertManyOptions;
 use std::alloc::Global;
 
 /// The most documents of one insert command.
@@ -218,8 +219,14 @@ impl<'a> Batches<'a> {
         let insert = Insert {
             ns: self.ns.clone()?,
             documents: batch.documents,
+            options: InsertManyOptions {
+                bypass_document_validation: None,
+                ordered: None,
+                comment: None,
+                write_concern: None,
+            },
         };
-        let command = encode(self.alloc, &insert, wire)?;
+        let command = encode(self.alloc, &insert, wire, None)?;
         self.upto = batch.upto;
         let exec = Exec::start(command, Retry::None);
         Ok(Some(Command { exec, insert }))

@@ -1,6 +1,7 @@
 //! What holds of the definitions.
 ghost use Rattle.std.specs.Prelude.{◌≡◌, ◌++◌, ◌∷◌, [], ℕ, ℤ, suc, pos, List, Option, Some, length, take};
 ghost use Rattle.mg_bson.specs.Tree.{Fields};
+ghost use Rattle.mg_link.specs.Calls.{Grows, Past};
 ghost use Rattle.mg_link.specs.History.{IsLegal, Step, state_of};
 ghost use Rattle.mg_link.specs.Ids.{counted_id};
 ghost use Rattle.mg_link.specs.Link.{Awaited};
@@ -9,7 +10,6 @@ ghost use Rattle.mg_link.specs.Namespace.{Space};
 ghost use Rattle.mg_link.specs.Standing.{Stands};
 ghost use Rattle.mg_link.specs.State.{documents_at};
 ghost use Rattle.mg_link.specs.Step.{documents_of};
-ghost use Rattle.mg_change.specs.Calls.{Grows, Past};
 ghost use Rattle.mg_jobs.specs.Appended.{Appended, InsertsAt};
 ghost use Rattle.mg_jobs.specs.Causes.{Course, OutcomeCaused};
 ghost use Rattle.mg_jobs.specs.Completing.{OutcomeWell};

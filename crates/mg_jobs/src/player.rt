@@ -1,12 +1,12 @@
 //! Jobs that go on turn by turn.
 ghost use Rattle.std.specs.Prelude.{◌≡◌, ◌≢◌, ◌↔◌, ◌⊎◌, IsTrue, Bool, pos, List, ◌-◌, ◌++◌, ◌∷◌, ℕ, [], None, Some, false, IfErr, IfOk, OnOk, option_map};
 ghost use Rattle.mg_link.specs.Acts.{IsOut, Tickets};
+ghost use Rattle.mg_link.specs.Calls.{Past};
 ghost use Rattle.mg_link.specs.Errors.{plain};
 ghost use Rattle.mg_link.specs.declared.error.ErrorKind.TheVariants as kinds;
 ghost use Rattle.mg_link.specs.Link.{Awaited, Later};
 ghost use Rattle.mg_link.specs.Namespace.{Space, space};
 ghost use Rattle.mg_bson.specs.Tree.{Fields};
-ghost use Rattle.mg_change.specs.Calls.{Past};
 ghost use Rattle.mg_change.specs.Closings.{closing_ticket};
 ghost use Rattle.mg_change.specs.Openings.{opening_ticket};
 ghost use Rattle.mg_change.specs.Phases.{AtRest, IsResuming, IsSound, ticket_in};

@@ -42,6 +42,7 @@ file_text (files.MissingChunk n) = codes "E11c " ++ decimal n
 file_text (files.WrongSizeChunk n actual expected) = codes "E11d " ++ decimal n
 file_text files.UploadStreamClosed = codes "E11e"
 file_text files.WriteInProgress = codes "E11f"
+file_text (files.AbortError' original box kind labels wire_version) = codes "E11g"
 
 -- the word of an error, and the code where a server gave one
 abbrev pub kind_text : ErrorKind → List ℕ

@@ -30,6 +30,7 @@ fn file_text(alloc: Global, kind: &GridFsErrorKind) -> Result<String, AllocError
         GridFsErrorKind::WrongSizeChunk { n, .. } => format!(in alloc; "E11d {n}"),
         GridFsErrorKind::UploadStreamClosed => String::from_str(alloc, "E11e"),
         GridFsErrorKind::WriteInProgress => String::from_str(alloc, "E11f"),
+        GridFsErrorKind::AbortError { .. } => String::from_str(alloc, "E11g"),
     }
 }
 

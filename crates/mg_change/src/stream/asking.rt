@@ -1,6 +1,7 @@
 //! The batches of a stream: the one of its opening, and the next ones, which are asked for.
 ghost use Rattle.std.specs.Prelude.{◌≡◌, ℕ, ℤ, [], IfErr, OnOk, OnErr, None};
 ghost use Rattle.mg_bson.specs.Raw.{fields};
+ghost use Rattle.mg_link.specs.Calls.{Stays};
 ghost use Rattle.mg_change.specs.Batches.{HoldsBatch};
 ghost use Rattle.mg_link.specs.Acts.{IsOut, Tickets};
 ghost use Rattle.mg_link.specs.Errors.{command_code};
@@ -11,7 +12,6 @@ ghost use Rattle.mg_change.specs.Phases.{IsAsking, IsKept, IsSound, left_with, r
 ghost use Rattle.mg_change.specs.Polls.{Falls, IsNotIo, IsStepAtOnce, StepLoses, StepPends, StepRests, ends_cursor};
 ghost use Rattle.mg_change.specs.Sent.{Quiet, StepSent};
 ghost use Rattle.mg_change.specs.Causes.{FailCause, FailLeads, MoreLeads, StepCaused, StepLeads, TellsCursor, Unkept};
-ghost use Rattle.mg_change.specs.Calls.{Stays};
 ghost use Rattle.mg_change.specs.Replies.{FailTurns, MoreTurns};
 
 use super::{ChangeStream, Phase};

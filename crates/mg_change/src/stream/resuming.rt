@@ -1,6 +1,7 @@
 //! The resumption of a stream, behind its token.
 ghost use Rattle.std.specs.Prelude.{◌≡◌, ℕ, ℤ, Ok, None, true};
 ghost use Rattle.mg_link.specs.Acts.{IsOut, Tickets};
+ghost use Rattle.mg_link.specs.Calls.{Stays};
 ghost use Rattle.mg_link.specs.Exec.{ticket_of};
 ghost use Rattle.mg_link.specs.Link.{Later};
 ghost use Rattle.mg_link.specs.Namespace.{space};
@@ -10,7 +11,6 @@ ghost use Rattle.mg_change.specs.Phases.{Carries, IsKept, IsKilling, IsSound, ra
 ghost use Rattle.mg_change.specs.Polls.{Falls, IsStepAtOnce, StepLoses, StepPends, StepRests};
 ghost use Rattle.mg_change.specs.Sent.{Quiet, StepSent};
 ghost use Rattle.mg_change.specs.Causes.{KillCause, OweLeads, ReplaceLeads, ResumeLeads, StepCaused, StepLeads};
-ghost use Rattle.mg_change.specs.Calls.{Stays};
 ghost use Rattle.mg_change.specs.Replies.{Replaces, ResumeTurns};
 
 use super::{ChangeStream, Phase};

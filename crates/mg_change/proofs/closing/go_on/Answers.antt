@@ -1,12 +1,12 @@
 use Rattle.std.proofs.Common.{◌≡◌, ◌∙◌, refl, subst, sym}
 use Rattle.mg_link.specs.Follow.{Moved}
 use Rattle.mg_link.proofs.Moves.{stayed}
+use Rattle.mg_link.proofs.Staying.{stays_same}
 use Rattle.mg_change.specs.Closings.{KillsAll, closed, closes_to, closing_of, landing_of}
 use Rattle.mg_link.specs.declared.action.Step.{Step}
 use Rattle.mg_link.specs.declared.action.Step.TheVariants as step
 use Rattle.mg_change.specs.declared.closing.Closing.{Closing}
 use Rattle.mg_change.specs.declared.closing.Remains.{Remains}
-use Rattle.mg_change.proofs.Staying.{stays_same}
 use Rattle.mg_change.proofs.ClosingCauses as causes
 use Rattle.mg_change.proofs.closing.go_on.Goals as goal
 

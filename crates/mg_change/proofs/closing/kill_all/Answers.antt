@@ -3,12 +3,12 @@ use Rattle.std.proofs.Common.{◌≢◌, ◌≡◌, ◌==◌, ℕ, ℤ, Bool, tr
 use Rattle.std.proofs.lemmas.Bool.{eqb-true}
 use Rattle.std.proofs.lemmas.Int.{to_z-of_z}
 use Rattle.mg_link.specs.Namespace.{space}
+use Rattle.mg_link.proofs.Staying.{stays_same}
 use Rattle.mg_ops.specs.Commands.{kill_command}
 use Rattle.mg_change.specs.Closings.{IsLast, ids_left}
 use Rattle.mg_change.specs.Phases.{Carries}
 use Rattle.mg_change.proofs.Closed.{dropped}
 use Rattle.mg_link.specs.declared.error.Error.{Error}
-use Rattle.mg_change.proofs.Staying.{stays_same}
 use Rattle.mg_change.proofs.ClosingCauses as causes
 use Rattle.mg_change.proofs.closing.kill_all.Goals as goal
 use Rattle.mg_change.proofs.closing.kill_all.Goals.{After-wait}

@@ -1,9 +1,9 @@
 use Rattle.std.proofs.Common.{refl, false}
 use Rattle.mg_link.specs.Namespace.{space}
+use Rattle.mg_link.proofs.Staying.{stays_ran}
 use Rattle.mg_ops.specs.Commands.{get_more_command}
 use Rattle.mg_change.proofs.Garbled.{carries_on, still_waits}
 use Rattle.mg_change.proofs.Closed.{fail_lands, fail_to, more_flown, more_lands, more_to}
-use Rattle.mg_change.proofs.Staying.{stays_ran}
 use Rattle.mg_change.proofs.ClosingCauses as causes
 use Rattle.mg_change.proofs.closing.land_more.Goals as goal
 

@@ -1,9 +1,9 @@
 use mir.Val.{SFits}
 use Rattle.std.proofs.Common.{refl, w64, rules, to_z, of_z}
 use Rattle.std.proofs.lemmas.Int.{to_z-of_z}
+use Rattle.mg_link.proofs.Staying.{stays_ran}
 use Rattle.mg_change.proofs.Garbled.{still_waits}
 use Rattle.mg_change.proofs.Closed.{lost_lands, lost_to, older_ran, older_still, older_waits}
-use Rattle.mg_change.proofs.Staying.{stays_ran}
 use Rattle.mg_change.proofs.ClosingCauses as causes
 use Rattle.mg_change.proofs.closing.land_older.Goals as goal
 

@@ -1,8 +1,8 @@
 use Rattle.std.proofs.Common.{ℤ, refl, true, subst, sym}
+use Rattle.mg_link.proofs.Staying.{stays_ran}
 use Rattle.mg_change.specs.Phases.{Carries, resuming_command}
 use Rattle.mg_change.proofs.Garbled.{carries_on, still_waits}
 use Rattle.mg_change.proofs.Closed.{lost_lands, lost_to, resumption_flown, resumption_lands, resumption_to}
-use Rattle.mg_change.proofs.Staying.{stays_ran}
 use Rattle.mg_change.proofs.ClosingCauses as causes
 use Rattle.mg_change.proofs.closing.land_resumption.Goals as goal
 

@@ -1,12 +1,12 @@
 use Rattle.std.proofs.Common.{refl, false}
 use Rattle.mg_link.specs.Namespace.{space}
 use Rattle.mg_link.specs.declared.action.Step.TheVariants as step
+use Rattle.mg_link.proofs.Staying.{stays_ran}
 use Rattle.mg_ops.specs.Commands.{kill_command}
 use Rattle.mg_link.proofs.Moves.{moved}
 use Rattle.mg_change.specs.Closings.{closed, ids_left, left_of}
 use Rattle.mg_change.proofs.Garbled.{carries_on, still_waits}
 use Rattle.mg_change.proofs.Closed.{dropped, last_ran}
-use Rattle.mg_change.proofs.Staying.{stays_ran}
 use Rattle.mg_change.proofs.ClosingCauses as causes
 use Rattle.mg_change.proofs.closing.wait.Goals as goal
 

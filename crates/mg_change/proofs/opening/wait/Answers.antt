@@ -1,13 +1,13 @@
 use mir.Val.{SFits}
 use Rattle.std.proofs.lemmas.Int.{to_z-of_z}
 use Rattle.std.proofs.Common.{rules, true, Some, refl, subst, sym, ◌∙◌, w32}
+use Rattle.mg_link.proofs.Staying.{stays_ran}
 use Rattle.mg_change.specs.Phases.{AtRest}
 use Rattle.mg_change.specs.Openings.{opening_command}
 use Rattle.mg_change.proofs.Garbled.{carries_on, still_waits}
 use Rattle.mg_change.proofs.Opened.{opened_sound, opening_came, opening_failed, opening_lost, opening_waits}
 use Rattle.mg_change.proofs.OpeningSends as sends
 use Rattle.mg_change.proofs.Vain as vain
-use Rattle.mg_change.proofs.Staying.{stays_ran}
 use Rattle.mg_change.proofs.OpeningCauses as causes
 use Rattle.mg_change.proofs.Placed.{opening_placed}
 use Rattle.mg_change.proofs.opening.wait.Goals as goal

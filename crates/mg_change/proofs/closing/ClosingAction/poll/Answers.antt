@@ -2,13 +2,13 @@ use mir.Val.{SFits}
 use Rattle.std.proofs.Common.{◌≡◌, ◌∙◌, w64, to_z, of_z, ap, subst, sym, rules}
 use Rattle.std.proofs.lemmas.Int.{to_z-of_z}
 use Rattle.mg_link.specs.Follow.{Moved}
+use Rattle.mg_link.proofs.Staying.{stays_on}
 use Rattle.mg_change.specs.Closings.{IsQuiet, KnewBy, closes_to, closing_in, left_of}
 use Rattle.mg_change.specs.declared.closing.Flight.{Flight}
 use Rattle.mg_change.specs.declared.closing.Flight.TheVariants as flight
 use Rattle.mg_change.proofs.ClosingSends.{landed_sends, last_sends, sends_as}
 use Rattle.mg_change.proofs.Growths.{grows_kills, grows_ran}
 use Rattle.mg_change.proofs.Closed.{closes_on, flies_as, tickets_through}
-use Rattle.mg_change.proofs.Staying.{stays_on}
 use Rattle.mg_change.proofs.ClosingCauses as causes
 use Rattle.mg_change.proofs.closing.ClosingAction.poll.Goals as goal
 use Rattle.mg_change.proofs.closing.ClosingAction.poll.Goals.{After-go_on-in-Older}

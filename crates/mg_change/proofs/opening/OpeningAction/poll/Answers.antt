@@ -2,12 +2,12 @@ use Rattle.std.proofs.Common.{Option, sym, subst, refl}
 use Rattle.mg_link.specs.Exec.{Sending}
 use Rattle.mg_link.specs.Follow.{Follow, Moved}
 use Rattle.mg_link.proofs.Moves.{stayed}
+use Rattle.mg_link.proofs.Staying.{stays_same}
 use Rattle.mg_change.specs.Following.{not_open, opening_in}
 use Rattle.mg_change.specs.Openings.{OpeningMoves}
 use Rattle.mg_change.proofs.Opened.{next_follow, next_keeps, next_opening}
 use Rattle.mg_change.proofs.OpeningSends as sends
 use Rattle.mg_change.proofs.Vain.{next_vain, vainly_unsent}
-use Rattle.mg_change.proofs.Staying.{stays_same}
 use Rattle.mg_change.proofs.OpeningCauses as causes
 use Rattle.mg_change.proofs.Placed.{next_placed}
 use Rattle.mg_change.proofs.opening.OpeningAction.poll.Goals as goal

@@ -1,11 +1,11 @@
 use mir.Val.{SFits}
 use Rattle.std.proofs.Common.{rules, ◌≡◌, ℤ, refl, sym, ap, ◌∙◌, w32, w64, to_z, of_z}
 use Rattle.std.proofs.lemmas.Int.{to_z-of_z}
+use Rattle.mg_link.proofs.Staying as staying
 use Rattle.mg_change.specs.Following.{step_told}
 use Rattle.mg_change.specs.declared.stream.Phase.TheVariants as phase
 use Rattle.mg_change.proofs.Hearing as hearing
 use Rattle.mg_change.proofs.Sent as sending
-use Rattle.mg_change.proofs.Staying as staying
 use Rattle.mg_change.proofs.Causes as causes
 use Rattle.mg_change.proofs.stream.ChangeStream.advance.Goals as goal
 
@@ -335,3 +335,18 @@ returns-in-Killing-clause-stays g c = c.killing.ensures.stays
 
 pub returns-in-Killing-clause-falls : goal.returns-in-Killing-clause-falls
 returns-in-Killing-clause-falls g c = rw (sym c.in-Killing.ensures.value) c.killing.ensures.falls
+
+pub returns-in-Taken-clause-sound : goal.returns-in-Taken-clause-sound
+returns-in-Taken-clause-sound g c =
+    let fits : SFits w32 c.wire_version-wire.result = search rules in
+    c.rest.ensures.sound (g.L.Link.wire c.args.link.now) (sym c.wire_version-wire.ensures ∙ sym (to_z-of_z w32 c.wire_version-wire.result fits))
+
+pub returns-in-Rest-clause-sound : goal.returns-in-Rest-clause-sound
+returns-in-Rest-clause-sound g c =
+    let fits : SFits w32 c.wire_version-wire.result = search rules in
+    c.rest-in-Rest.ensures.sound (g.L.Link.wire c.args.link.now) (sym c.wire_version-wire.ensures ∙ sym (to_z-of_z w32 c.wire_version-wire.result fits))
+
+pub returns-in-Owing-clause-sound : goal.returns-in-Owing-clause-sound
+returns-in-Owing-clause-sound g c =
+    let fits : SFits w32 c.wire_version-wire.result = search rules in
+    c.owing.ensures.sound (g.L.Link.wire c.args.link.now) (sym c.wire_version-wire.ensures ∙ sym (to_z-of_z w32 c.wire_version-wire.result fits))

@@ -1,7 +1,7 @@
+use Rattle.mg_link.proofs.Staying as staying
 use Rattle.mg_change.specs.Following.{step_told}
 use Rattle.mg_change.proofs.Hearing as hearing
 use Rattle.mg_change.proofs.Sent as sending
-use Rattle.mg_change.proofs.Staying as staying
 use Rattle.mg_change.proofs.Causes as causes
 use Rattle.mg_change.proofs.stream.ChangeStream.asking.Goals as goal
 

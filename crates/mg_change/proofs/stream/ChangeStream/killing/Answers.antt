@@ -1,10 +1,10 @@
 use Rattle.std.proofs.Common.{[], w64, to_z, of_z}
 use Rattle.std.proofs.lemmas.Int.{to_z-of_z}
+use Rattle.mg_link.proofs.Staying as staying
 use Rattle.mg_change.specs.Following.{step_told}
 use Rattle.mg_change.proofs.Hearing as hearing
 use Rattle.mg_change.proofs.Turning as turning
 use Rattle.mg_change.proofs.Sent as sending
-use Rattle.mg_change.proofs.Staying as staying
 use Rattle.mg_change.proofs.Causes as causes
 use Rattle.mg_change.proofs.stream.ChangeStream.killing.Goals as goal
 

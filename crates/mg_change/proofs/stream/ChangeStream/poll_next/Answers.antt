@@ -1,4 +1,5 @@
 use Rattle.std.proofs.Common.{[], refl, sym, subst, ◌∙◌}
+use Rattle.mg_link.proofs.Staying as staying
 use Rattle.mg_change.specs.Following.{Turned, event_told}
 use Rattle.mg_change.specs.Rows.{Ends}
 use Rattle.mg_change.specs.declared.event_poll.Stepped.TheVariants as stepped
@@ -7,7 +8,6 @@ use Rattle.mg_change.specs.Phases.{ticket_in}
 use Rattle.mg_change.proofs.Hearing as hearing
 use Rattle.mg_change.proofs.Seeking as seeking
 use Rattle.mg_change.proofs.Sent as sending
-use Rattle.mg_change.proofs.Staying as staying
 use Rattle.mg_change.specs.SeekCauses.{SeekCaused}
 use Rattle.mg_change.proofs.SeekCauses as causes
 use Rattle.mg_change.proofs.stream.ChangeStream.poll_next.Goals as goal

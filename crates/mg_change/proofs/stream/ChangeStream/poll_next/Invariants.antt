@@ -1,7 +1,7 @@
 use Rattle.std.proofs.Common.{◌≡◌, []}
 use Rattle.mg_link.specs.Acts.{Tickets}
+use Rattle.mg_link.specs.Calls.{Stays}
 use Rattle.mg_link.specs.Link.{Later}
-use Rattle.mg_change.specs.Calls.{Stays}
 use Rattle.mg_change.specs.Following.{Turned}
 use Rattle.mg_change.specs.Phases.{IsSound, ticket_in}
 use Rattle.mg_change.specs.Rows.{left_in}

@@ -1,4 +1,5 @@
 use Rattle.std.proofs.Common.{◌∙◌, [], refl, sym, subst}
+use Rattle.mg_link.proofs.Staying as staying
 use Rattle.mg_change.specs.Following.{Spends, Turned, event_told}
 use Rattle.mg_change.specs.Sent.{CallSent}
 use Rattle.mg_link.proofs.Onward.{later_on, later_same, tickets_on, tickets_same}
@@ -7,7 +8,6 @@ use Rattle.mg_change.specs.declared.event_poll.Stepped.TheVariants as stepped
 use Rattle.mg_change.proofs.Hearing as hearing
 use Rattle.mg_change.proofs.Seeking as seeking
 use Rattle.mg_change.proofs.Sent as sending
-use Rattle.mg_change.proofs.Staying as staying
 use Rattle.mg_change.specs.Causes.{CallCaused}
 use Rattle.mg_change.proofs.Causes as causes
 use Rattle.mg_change.proofs.stream.ChangeStream.poll_next_if_any.Goals as goal

@@ -1,8 +1,8 @@
 use Rattle.std.proofs.Common.{◌≡◌, []}
+use Rattle.mg_link.specs.Calls.{Stays}
 use Rattle.mg_change.proofs.Causes.{Went}
 use Rattle.mg_link.specs.Acts.{Tickets}
 use Rattle.mg_link.specs.Link.{Later}
-use Rattle.mg_change.specs.Calls.{Stays}
 use Rattle.mg_change.specs.Following.{Turned}
 use Rattle.mg_change.specs.Sent.{StepSent}
 use Rattle.mg_change.specs.declared.event_poll.Stepped.TheVariants as stepped
