@@ -6,13 +6,13 @@ use mg_link::{
     WriteConcern,
 };
 use mg_ops::{
-    Aggregate, Create, CreateIndexes, Delete, DropCollection, Find, GetMore, ListCollections,
-    ListIndexes, Operation, RunCommand, RunCursorCommand, Update,
+    Aggregate, Create, CreateIndexes, Delete, DropCollection, Find, GetMore, Insert,
+    ListCollections, ListIndexes, Operation, RunCommand, RunCursorCommand, Update,
 };
 use mg_options::{
     AggregateOptions, CreateIndexOptions, CursorType, DeleteOptions, DropCollectionOptions,
-    FindOptions, Hint, ListCollectionsOptions, ListIndexesOptions, RunCommandOptions,
-    RunCursorCommandOptions, UpdateModifications,
+    FindOptions, Hint, InsertManyOptions, ListCollectionsOptions, ListIndexesOptions,
+    RunCommandOptions, RunCursorCommandOptions, UpdateModifications,
 };
 use std::alloc::Global;
 use std::test::Fail;
@@ -33,6 +33,9 @@ given command x $db $readPreference {"$db":"db","$readPreference":{"mode":"neare
 given cursor x $db {"$db":"db","x":1}
 given excessive invalid batch size
 given more getMore collection batchSize maxTimeMS comment $db {"$db":"db","batchSize":5,"collection":"coll","comment":"c","getMore":{"$int64":"9"},"maxTimeMS":2147483647}
+write insert insert documents ordered bypassDocumentValidation comment $db writeConcern {"$db":"db","bypassDocumentValidation":true,"comment":"c","documents":[{"x":1}],"insert":"coll","ordered":false,"writeConcern":{"j":true}}
+write none no documents to insert
+write slow number out of range
 write delete delete deletes ordered let comment $db writeConcern {"$db":"db","comment":"c","delete":"coll","deletes":[{"hint":{"x":2},"limit":1,"q":{"x":1}}],"let":{"x":3},"ordered":true,"writeConcern":{"j":true}}
 write update update updates ordered $db writeConcern {"$db":"db","ordered":true,"update":"coll","updates":[{"multi":true,"q":{"x":1},"u":{"x":2}}],"writeConcern":{"j":true}}
 write one update updates ordered $db writeConcern {"$db":"db","ordered":true,"update":"coll","updates":[{"q":{"x":1},"u":{"x":2}}],"writeConcern":{"j":true}}
@@ -71,7 +74,7 @@ fn find(alloc: Global, options: FindOptions) -> Result<Document, Error> {
         filter: x(alloc, 1)?,
         options,
     };
-    find.build(alloc, 21)
+    find.build(alloc, 21, None)
 }
 
 fn awaited(alloc: Global) -> Result<Document, Error> {
@@ -119,7 +122,7 @@ fn aggregate(alloc: Global, target: OperationTarget, stage: &str) -> Result<Docu
         pipeline,
         options,
     };
-    aggregate.build(alloc, 21)
+    aggregate.build(alloc, 21, None)
 }
 
 fn on_collection(alloc: Global, stage: &str) -> Result<Document, Error> {
@@ -146,7 +149,7 @@ fn list_collections(alloc: Global, name: &str) -> Result<Document, Error> {
             .filter(filter)
             .batch_size(5),
     };
-    list.build(alloc, 21)
+    list.build(alloc, 21, None)
 }
 
 fn list_indexes(alloc: Global) -> Result<Document, Error> {
@@ -159,7 +162,7 @@ fn list_indexes(alloc: Global) -> Result<Document, Error> {
         ns: namespace(alloc)?,
         options,
     };
-    list.build(alloc, 21)
+    list.build(alloc, 21, None)
 }
 
 fn lists(alloc: Global, way: &str) -> Result<Document, Error> {
@@ -177,7 +180,7 @@ fn run(alloc: Global) -> Result<Document, Error> {
         command: x(alloc, 1)?,
         options: RunCommandOptions::builder().selection_criteria(nearest()),
     };
-    run.build(alloc, 21)
+    run.build(alloc, 21, None)
 }
 
 fn run_cursor(alloc: Global, batch_size: u32) -> Result<Document, Error> {
@@ -187,7 +190,7 @@ fn run_cursor(alloc: Global, batch_size: u32) -> Result<Document, Error> {
         command: x(alloc, 1)?,
         options: RunCursorCommandOptions::builder().batch_size(batch_size),
     };
-    run.build(alloc, 21)
+    run.build(alloc, 21, None)
 }
 
 fn get_more(alloc: Global, max_time: u64) -> Result<Document, Error> {
@@ -200,7 +203,7 @@ fn get_more(alloc: Global, max_time: u64) -> Result<Document, Error> {
         max_time: Some(max_time),
         comment: Some(comment),
     };
-    get_more.build(alloc, 21)
+    get_more.build(alloc, 21, None)
 }
 
 fn given(alloc: Global, way: &str) -> Result<Document, Error> {
@@ -209,6 +212,34 @@ fn given(alloc: Global, way: &str) -> Result<Document, Error> {
         "cursor" => run_cursor(alloc, 5),
         "excessive" => run_cursor(alloc, 2_147_483_648),
         _ => get_more(alloc, 2_147_483_648),
+    }
+}
+
+fn insert(
+    alloc: Global,
+    documents: Vec<Document>,
+    writes: WriteConcern,
+) -> Result<Document, Error> {
+    let ns = namespace(alloc)?;
+    let comment = text(alloc, "c")?;
+    let insert = Insert {
+        ns,
+        documents,
+        options: InsertManyOptions::builder()
+            .ordered(false)
+            .bypass_document_validation(true)
+            .comment(comment)
+            .write_concern(writes),
+    };
+    insert.build(alloc, 21, None)
+}
+
+// A write is to be safe within more milliseconds than an Int64 counts.
+fn slow() -> WriteConcern {
+    WriteConcern {
+        w: None,
+        w_timeout: Some(u64::MAX),
+        journal: None,
     }
 }
 
@@ -228,7 +259,7 @@ fn delete(alloc: Global, many: bool) -> Result<Document, Error> {
             .comment(comment)
             .write_concern(journaled()),
     };
-    delete.build(alloc, 21)
+    delete.build(alloc, 21, None)
 }
 
 fn update(alloc: Global, many: bool) -> Result<Document, Error> {
@@ -242,11 +273,14 @@ fn update(alloc: Global, many: bool) -> Result<Document, Error> {
         many,
         write_concern: Some(journaled()),
     };
-    update.build(alloc, 21)
+    update.build(alloc, 21, None)
 }
 
 fn writes(alloc: Global, way: &str) -> Result<Document, Error> {
     match way {
+        "insert" => insert(alloc, vec![in alloc; x(alloc, 1)?]?, journaled()),
+        "none" => insert(alloc, Vec::new(alloc), journaled()),
+        "slow" => insert(alloc, vec![in alloc; x(alloc, 1)?]?, slow()),
         "delete" => delete(alloc, false),
         "update" => update(alloc, true),
         _ => update(alloc, false),
@@ -258,7 +292,7 @@ fn create(alloc: Global) -> Result<Document, Error> {
         ns: namespace(alloc)?,
         write_concern: Some(journaled()),
     };
-    create.build(alloc, 21)
+    create.build(alloc, 21, None)
 }
 
 fn drop_collection(alloc: Global) -> Result<Document, Error> {
@@ -266,7 +300,7 @@ fn drop_collection(alloc: Global) -> Result<Document, Error> {
         ns: namespace(alloc)?,
         options: DropCollectionOptions::builder(),
     };
-    dropped.build(alloc, 21)
+    dropped.build(alloc, 21, None)
 }
 
 // An index of two keys, the second with this value.
@@ -279,7 +313,7 @@ fn create_indexes(alloc: Global, value: Bson) -> Result<Document, Error> {
         keys,
         options: CreateIndexOptions::builder().max_time(6),
     };
-    create.build(alloc, 21)
+    create.build(alloc, 21, None)
 }
 
 fn spaces(alloc: Global, way: &str) -> Result<Document, Error> {

@@ -4,7 +4,7 @@ use mg_link::{
     BadArgument, CommandError, CountedIds, Error, ErrorKind, GridFsErrorKind, GridFsFileIdentifier,
     IdSource, IndexedFailure, InputError, Labels, Log, LoggedCall, Malformed, MemSink, MemSource,
     Mismatch, Namespace, OperationTarget, OutOfMemory, Receipt, Seen, Sink, Source, StdSink,
-    StdSource, WriteFailed, WriteFailure, read_all, write_all,
+    StdSource, WriteFailed, WriteFailure, plain, read_all, write_all,
 };
 use std::alloc::{AllocError, Global};
 use std::process::Abort;
@@ -169,6 +169,25 @@ fn no_file_with_id() -> ErrorKind {
     ErrorKind::GridFs(GridFsErrorKind::FileNotFound(id))
 }
 
+// An upload that was aborted, or that failed so, and the link failed while its chunks were to be removed.
+fn chunks_left(alloc: Global, failed: Option<GridFsErrorKind>) -> Result<ErrorKind, AllocError> {
+    let delete = Box::new(alloc, plain(ErrorKind::Io))?;
+    let original = match failed {
+        None => None,
+        Some(kind) => Some(Box::new(alloc, plain(ErrorKind::GridFs(kind)))?),
+    };
+    Ok(ErrorKind::GridFs(GridFsErrorKind::AbortError { original, delete }))
+}
+
+fn uploads_print(rt: &impl Abort, alloc: Global) -> Result<(), AllocError> {
+    let aborted = "the upload was aborted, and its chunks could not be removed (the link failed)";
+    prints(rt, alloc, chunks_left(alloc, None)?, aborted)?;
+    let failed = chunks_left(alloc, Some(GridFsErrorKind::WriteInProgress))?;
+    let both =
+        "the upload failed (a write is going on), and its chunks could not be removed (the link failed)";
+    prints(rt, alloc, failed, both)
+}
+
 fn mismatched(alloc: Global) -> Result<ErrorKind, BsonError> {
     let command = to_bytes(alloc, &Document::new(alloc))?;
     let reply = to_bytes(alloc, &Document::new(alloc))?;
@@ -201,7 +220,9 @@ fn kinds_with_parts_print(rt: &impl Abort, alloc: Global) -> Result<(), BsonErro
 
 #[test]
 fn texts_of_errors_with_parts(rt: HostRuntime) -> Result<(), Fail> {
-    Ok(kinds_with_parts_print(&rt, rt.alloc())?)
+    kinds_with_parts_print(&rt, rt.alloc())?;
+    uploads_print(&rt, rt.alloc())?;
+    Ok(())
 }
 
 // Whether a change stream goes on after a refusal.
@@ -259,6 +280,16 @@ fn errors_that_are_no_refusals(rt: HostRuntime) {
     assert_eq!(rt; lost.sdam_code(), None);
     let read = Error::from(BsonError::Malformed);
     assert!(rt; matches!(&read.kind, ErrorKind::BsonDeserialization));
+}
+
+// The errors inside do not speak for the one around them.
+#[test]
+fn chunks_that_are_left(rt: HostRuntime) -> Result<(), Fail> {
+    let left = plain(chunks_left(rt.alloc(), None)?);
+    assert!(rt; !left.is_network_error());
+    assert!(rt; !left.is_resumable());
+    assert_eq!(rt; left.sdam_code(), None);
+    Ok(())
 }
 
 // The parts of a name, and what a copy prints as.

@@ -2,9 +2,11 @@ ghost use Rattle.std.specs.Prelude.{IfOk, IsSome};
 ghost use Rattle.mg_link.specs.Places.{out_at};
 ghost use Rattle.mg_store.specs.InMemory.{AreSmall};
 
-use super::{one_field, text, with, with_text};
+use super::{namespace, one_field, text, with, with_text};
 use mg_bson::{Array, Bson, BsonError, RawDocumentBuf, to_bytes};
-use mg_link::{Link, Namespace, Polled, Ticket};
+use mg_link::{Error, Link, Namespace, Polled, Ticket};
+use mg_ops::{Insert, encode};
+use mg_options::InsertManyOptions;
 use mg_store::{Fate, FateKind, MemLink, Store};
 use std::alloc::{AllocError, Global};
 use std::test::Fail;
@@ -129,5 +131,32 @@ fn each_command_meets_its_fate(rt: HostRuntime) -> Result<(), Fail> {
         assert_eq!(rt; stands, (position, documents));
     }
     assert_eq!(rt; link.store().history().len(), 5);
+    Ok(())
+}
+
+/// Inserts a document with this id by nobody's call, and gives where its step stands.
+fn put_aside(alloc: Global, link: &mut MemLink, id: i32) -> Result<u64, Error> {
+    let ns = namespace(alloc)?;
+    let documents = vec![in alloc; one_field(alloc, "_id", Bson::Int32(id))?]?;
+    let insert = Insert {
+        ns,
+        documents,
+        options: InsertManyOptions::builder(),
+    };
+    let command = encode(alloc, &insert, 21, None)?;
+    Ok(link.aside(command.as_raw())?.position)
+}
+
+#[test]
+fn steps_of_nobodys_call(rt: HostRuntime) -> Result<(), Fail> {
+    let alloc = rt.alloc();
+    let mut link = MemLink::new(alloc, Store::new(alloc), Vec::new(alloc), 21);
+    assert_eq!(rt; put_aside(alloc, &mut link, 1)?, 0);
+    assert_eq!(rt; put_aside(alloc, &mut link, 2)?, 1);
+    assert_eq!(rt; link.log().calls().len(), 0);
+    let store = link.store();
+    let documents = store.documents(&namespace(alloc)?)?.len();
+    let counts = (store.history().len(), store.changes().len(), documents);
+    assert_eq!(rt; counts, (2, 2, 2));
     Ok(())
 }

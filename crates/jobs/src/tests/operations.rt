@@ -2,7 +2,7 @@ use super::{namespace, one_field, with, with_text};
 use mg_bson::{Array, Binary, Bson, BsonError, Document, to_bytes};
 use mg_link::{Error, ErrorKind, OperationTarget};
 use mg_ops::{ChangeStreamData, GetMore, Insert, Operation, WatchArgs, doc_slices, resume_options};
-use mg_options::{ChangeStreamOptions, ResumeToken};
+use mg_options::{ChangeStreamOptions, InsertManyOptions, ResumeToken};
 use std::alloc::Global;
 use std::test::Fail;
 
@@ -31,7 +31,7 @@ fn get_more_without_a_size(rt: HostRuntime) -> Result<(), Fail> {
             max_time: None,
             comment: None,
         };
-        let Ok(command) = get_more.build(alloc, 21) else {
+        let Ok(command) = get_more.build(alloc, 21, None) else {
             return Err(Fail::from("build"));
         };
         assert!(rt; command == expected);
@@ -95,6 +95,7 @@ fn insert_of(alloc: Global, bytes: Vec<u8>) -> Result<Insert, Fail> {
     Ok(Insert {
         ns: namespace(alloc)?,
         documents: vec![in alloc; document]?,
+        options: InsertManyOptions::builder(),
     })
 }
 
@@ -102,7 +103,7 @@ fn insert_of(alloc: Global, bytes: Vec<u8>) -> Result<Insert, Fail> {
 fn document_too_large(rt: HostRuntime) -> Result<(), Fail> {
     let alloc = rt.alloc();
     let insert = insert_of(alloc, vec![in alloc; 0; 16_777_216]?)?;
-    let Err(error) = insert.build(alloc, 21) else {
+    let Err(error) = insert.build(alloc, 21, None) else {
         return Err(Fail::from("built"));
     };
     assert!(rt; matches!(&error.kind, ErrorKind::BsonSerialization));

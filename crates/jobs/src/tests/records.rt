@@ -101,7 +101,7 @@ fn collation(alloc: Global) -> Result<Collation, Error> {
 
 fn put_delete(alloc: Global, options: DeleteOptions) -> Result<Document, Error> {
     let mut body = Document::new(alloc);
-    options.append_fields(alloc, &mut body)?;
+    options.clone()?.append_fields(alloc, &mut body)?;
     Ok(body)
 }
 
@@ -112,7 +112,7 @@ fn delete_of_collation(alloc: Global) -> Result<Document, Error> {
 
 fn put_find(alloc: Global, options: FindOptions) -> Result<Document, Error> {
     let mut body = Document::new(alloc);
-    options.append_fields(alloc, &mut body)?;
+    options.clone()?.append_fields(alloc, &mut body)?;
     Ok(body)
 }
 
@@ -181,7 +181,7 @@ fn aggregate(alloc: Global) -> Result<Document, Error> {
         .let_vars(let_vars)
         .build();
     let mut body = Document::new(alloc);
-    options.append_fields(alloc, &mut body)?;
+    options.clone()?.append_fields(alloc, &mut body)?;
     Ok(body)
 }
 
@@ -192,7 +192,7 @@ fn insert(alloc: Global) -> Result<Document, Error> {
         .comment(comment);
     let options = InsertManyOptions::from_insert_one_options(one).ordered(false);
     let mut body = Document::new(alloc);
-    options.append_fields(alloc, &mut body)?;
+    options.clone()?.append_fields(alloc, &mut body)?;
     Ok(body)
 }
 
@@ -223,7 +223,7 @@ fn create_index(alloc: Global, quorum: CommitQuorum) -> Result<Document, Error> 
         .max_time(6)
         .comment(comment);
     let mut body = Document::new(alloc);
-    options.append_fields(alloc, &mut body)?;
+    options.clone()?.append_fields(alloc, &mut body)?;
     Ok(body)
 }
 
@@ -231,7 +231,7 @@ fn drop_index(alloc: Global) -> Result<Document, Error> {
     let comment = text(alloc, "c")?;
     let options = DropIndexOptions::builder().max_time(6).comment(comment);
     let mut body = Document::new(alloc);
-    options.append_fields(alloc, &mut body)?;
+    options.clone()?.append_fields(alloc, &mut body)?;
     Ok(body)
 }
 
@@ -242,7 +242,7 @@ fn list_indexes(alloc: Global) -> Result<Document, Error> {
         .comment(comment)
         .batch_size(5);
     let mut body = Document::new(alloc);
-    options.append_fields(alloc, &mut body)?;
+    options.clone()?.append_fields(alloc, &mut body)?;
     Ok(body)
 }
 
@@ -264,7 +264,7 @@ fn list_collections(alloc: Global) -> Result<Document, Error> {
         .batch_size(5)
         .comment(comment);
     let mut body = Document::new(alloc);
-    options.append_fields(alloc, &mut body)?;
+    options.clone()?.append_fields(alloc, &mut body)?;
     Ok(body)
 }
 
@@ -274,7 +274,7 @@ fn estimate(alloc: Global) -> Result<Document, Error> {
         .max_time(6)
         .comment(comment);
     let mut body = Document::new(alloc);
-    options.append_fields(alloc, &mut body)?;
+    options.clone()?.append_fields(alloc, &mut body)?;
     Ok(body)
 }
 
@@ -288,7 +288,7 @@ fn distinct(alloc: Global) -> Result<Document, Error> {
         .comment(comment)
         .hint(Hint::Keys(hint));
     let mut body = Document::new(alloc);
-    options.append_fields(alloc, &mut body)?;
+    options.clone()?.append_fields(alloc, &mut body)?;
     Ok(body)
 }
 

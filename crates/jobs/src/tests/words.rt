@@ -1,9 +1,9 @@
 use super::expect;
 use mg_bson::Bson;
-use mg_link::{Acknowledgment, Error, ReadConcernLevel, ReadPreference};
+use mg_link::{Acknowledgment, Error, ReadConcern, ReadConcernLevel, ReadPreference};
 use mg_options::{
     CollationAlternate, CollationCaseFirst, CollationMaxVariable, CollationStrength, CommitQuorum,
-    FullDocumentBeforeChangeType, FullDocumentType, ReturnDocument,
+    FullDocumentBeforeChangeType, FullDocumentType, Hint, ResumeToken, ReturnDocument,
 };
 use mg_records::{ChangeNamespaceType, OperationType};
 use std::alloc::{AllocError, Global};
@@ -232,5 +232,44 @@ fn quorums(rt: HostRuntime) -> Result<(), Fail> {
     expect(&rt, "less", less.as_str(), "number out of range");
     let flag = quorum_of(alloc, &Bson::Boolean(true))?;
     expect(&rt, "flag", flag.as_str(), "number out of range");
+    Ok(())
+}
+
+/// Each line is two words, and whether the values of these words are equal.
+const EQUAL: &str = "majority majority true
+majority local false
+own own true
+own Own false";
+
+// Whether two words make the same of each kind of value, and all kinds agree on it.
+fn are_equal(alloc: Global, one: &str, other: &str) -> Result<Option<bool>, Error> {
+    let text = Bson::String(String::from_str(alloc, one)?);
+    let next = Bson::String(String::from_str(alloc, other)?);
+    let equal = ResumeToken::from_value(&text)? == ResumeToken::from_value(&next)?;
+    let quorums = CommitQuorum::from_value(&text)? == CommitQuorum::from_value(&next)?;
+    let reads = ReadConcern::from_word(alloc, one)? == ReadConcern::from_word(alloc, other)?;
+    let writes = Acknowledgment::from_word(alloc, one)? == Acknowledgment::from_word(alloc, other)?;
+    let hint = Hint::Name(String::from_str(alloc, one)?);
+    let hints = hint == Hint::Name(String::from_str(alloc, other)?);
+    if quorums == equal && reads == equal && writes == equal && hints == equal {
+        Ok(Some(equal))
+    } else {
+        Ok(None)
+    }
+}
+
+#[test]
+fn equal_values(rt: HostRuntime) -> Result<(), Fail> {
+    let alloc = rt.alloc();
+    for line in EQUAL.lines() {
+        let (one, rest) = super::parted(line);
+        let (other, wanted) = super::parted(rest);
+        let found = match are_equal(alloc, one, other) {
+            Ok(Some(true)) => "true",
+            Ok(Some(false)) => "false",
+            _ => "none",
+        };
+        expect(&rt, line, found, wanted);
+    }
     Ok(())
 }
