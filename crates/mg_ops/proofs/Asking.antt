@@ -3,7 +3,7 @@ use Rattle.std.proofs.Common.{◌≡◌, ◌++◌, ℕ, ℤ, Bool, true, false, 
 use Rattle.std.specs.Prelude.{codes, option_and_then, unwrap_or, if◌then◌else◌}
 use Rattle.std.specs.Str.{bytes_eq}
 use Rattle.mg_bson.specs.Tree.{Tree, string, document, array, int64, boolean, Fields, item}
-use Rattle.mg_bson.specs.Find.{as_boolean, get, as_array, joined}
+use Rattle.mg_bson.specs.Find.{as_boolean, get, joined}
 use Rattle.mg_bson.specs.Literal.{◌⇒◌⨾◌, empty}
 use Rattle.mg_bson.specs.Raw.{fields}
 use Rattle.mg_bson.specs.View.{tree}

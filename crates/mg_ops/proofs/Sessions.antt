@@ -11,7 +11,7 @@ use Rattle.mg_link.specs.Session.{Session, in_transaction, starts_transaction}
 use Rattle.mg_link.specs.declared.error.BadArgument.{BadArgument}
 use Rattle.mg_link.specs.declared.error.Error.{Error}
 use Rattle.mg_link.specs.declared.error.ErrorKind.TheVariants as kind
-use Rattle.mg_options.specs.Fields.{FailsBy, Line, line, Shown, absent, shown, unfit, fields_in, first_unfit, ◌⟼◌⨾◌, nothing}
+use Rattle.mg_options.specs.Fields.{FailsBy, Line, line, Shown, absent, shown, unfit, fields_in, first_unfit, ◌⟼◌⨾◌}
 use Rattle.mg_options.specs.Printing.{flag}
 use Rattle.mg_ops.specs.Pieces.{only_true}
 use Rattle.mg_ops.specs.Sessions.{autocommit, end_of, in_session, session_lines, start_transaction, numbered}
