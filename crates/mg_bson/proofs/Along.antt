@@ -21,11 +21,11 @@ refuses_more TooLarge n m l l' d d' b b' h len deep bad = omega arith
 refuses_more TooDeep n m l l' d d' b b' h len deep bad = deep h
 refuses_more BadName n m l l' d d' b b' h len deep bad = bad h
 
-or_left : (b c : Bool) → b ≡ true → (b || c) ≡ true
+pub or_left : (b c : Bool) → b ≡ true → (b || c) ≡ true
 or_left true c e = refl
 or_left false c e = absurd cc
 
-or_right : (b c : Bool) → c ≡ true → (b || c) ≡ true
+pub or_right : (b c : Bool) → c ≡ true → (b || c) ≡ true
 or_right true c e = refl
 or_right false c e = e
 

@@ -14,3 +14,4 @@ pub mod ReadLimits
 pub mod Counts
 pub mod Depths
 pub mod Plain
+pub mod Measuring

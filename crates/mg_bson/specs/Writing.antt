@@ -12,6 +12,14 @@ RefusesAt TooLarge n l d b = max_len < n
 RefusesAt TooDeep n l d b = l < d
 RefusesAt BadName n l d b = b ≡ true
 
+-- why its length is not found: the same, but that no memory is taken
+abbrev pub StopsAt : BsonError → ℕ → ℕ → ℕ → Bool → Type 0
+StopsAt OutOfMemory n l d b = ⊥
+StopsAt Malformed n l d b = ⊥
+StopsAt TooLarge n l d b = max_len < n
+StopsAt TooDeep n l d b = l < d
+StopsAt BadName n l d b = b ≡ true
+
 -- the bytes went to the end, and all is within the limit
 pub record Puts (old new bytes : List ℕ) : Type 0 where
   pub appended : new ≡ old ++ bytes

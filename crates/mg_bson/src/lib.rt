@@ -23,6 +23,7 @@ pub mod laws;
 mod lend;
 mod levels;
 mod limits;
+mod measure;
 mod name;
 mod object_id;
 mod raw;

@@ -119,7 +119,7 @@ fn put_timestamp(out: &mut Vec<u8>, t: Timestamp) -> Result<(), BsonError>
     add(out, &t.time.to_le_bytes())
 }
 
-fn holds_zero(name: &str) -> bool
+pub(crate) fn holds_zero(name: &str) -> bool
     ensures { result ≡ has_zero name.now }
 {
     for byte in name.as_bytes() {
