@@ -4,7 +4,7 @@ use Rattle.std.specs.Prelude.{◌<◌, IsSome, slice_get}
 use Rattle.mg_bson.specs.Tree.{Fields}
 use Rattle.mg_bson.specs.Raw.{fields}
 use Rattle.mg_link.specs.Calls.{Came, Flies, Grows, HeardAt, HeardLast, IsAwaited, IsOwn, IsRetried, Keeps, NoneBroken, Past, RequestFails, WaitsAt, out_of_memory, past_of, was_lost, was_refused}
-use Rattle.mg_link.specs.Exec.{Attempt, not_sent, waits, answered, Stage, unsent, first, second, Sending, Begins, FailsBy, Gives, GoesOn, Once, Runs, Tries, Twice, holding, is_repeated, is_retried_attempt, ticket_at}
+use Rattle.mg_link.specs.Exec.{Attempt, not_sent, waits, answered, Stage, unsent, first, second, Sending, Begins, FailsBy, Gives, GoesOn, IsSuccess, Once, Runs, Tries, Twice, holding, is_repeated, is_retried_attempt, ticket_at}
 use Rattle.mg_link.specs.Link.{Awaited, Told}
 use Rattle.mg_link.specs.Log.{Sight, waiting, reply, fault, memory, Call, see}
 use Rattle.mg_link.specs.Retry.{is_retried}
@@ -250,6 +250,11 @@ request_ran old new log log' wire s command retries result sends repeats runs ca
     subst (λ (b : Bool). RequestRan new places since calls log' wire command b result) repeats
     (subst (λ (c : Fields). RequestRan new places since calls log' wire c s.retries result) sends
     (ran_by old new log log' wire s result calls told places since room (subst (λ (c : Fields). Flies old (past_of places since calls wire) c s.stage) (sym sends) flies) runs))
+
+-- a reply that it gives is a success
+pub success_ran : (old new : Awaited) (log log' : Told) (wire : ℤ) (s : Sending) (bytes : List ℕ) → Runs old new log log' wire s (step.Done bytes) → IsSuccess bytes
+success_ran old new log log' wire s bytes (inl once) = once.gives.1
+success_ran old new log log' wire s bytes (inr twice) = twice.gives.1
 
 -- ---- what waits
 

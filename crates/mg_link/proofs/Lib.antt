@@ -31,6 +31,7 @@ pub mod Owners
 pub mod Pasts
 pub mod Calls
 pub mod Staying
+pub mod Adding
 pub mod SelfMade
 pub mod Apart
 pub mod Numbered

@@ -1,5 +1,5 @@
 -- What a call, over all its polls, sent and saw, and why a request of it fails.
-use Rattle.std.specs.Prelude.{◌≡◌, ◌<◌, ◌≤◌, ◌⊎◌, ◌&&◌, slice_get, Bool, false, true, ℕ, ℤ, List, Some}
+use Rattle.std.specs.Prelude.{◌≡◌, ◌<◌, ◌≤◌, ◌⊎◌, ◌&&◌, slice_get, Bool, false, true, ℕ, ℤ, List, length, Some}
 use Rattle.mg_bson.specs.Tree.{Fields}
 use Rattle.mg_bson.specs.Raw.{fields}
 use Rattle.mg_bson.specs.Reading.{doc}
@@ -93,6 +93,11 @@ pub record Grows (past past' : Past) : Type 0 where
   pub own : (place : ℕ) (call : Call) → slice_get past.calls place ≡ Some call → IsOwn past place → IsOwn past' place
   pub keeps : Keeps past.calls past'.calls
   pub wire : past'.wire ≡ past.wire
+
+-- each call keeps its place and its command, and each command that was added is such a one
+pub record AddsOnly (may : Fields → Type 0) (calls calls' : List Call) : Type 0 where
+  pub keeps : Keeps calls calls'
+  pub added : (place : ℕ) (call : Call) → length calls ≤ place → slice_get calls' place ≡ Some call → may (fields call.command)
 
 -- ---- requests
 
