@@ -1,4 +1,5 @@
-pub mod Appending
+pub mod Fitting
+pub mod Streams
 pub mod Fielding
 pub mod Copying
 pub mod Levels

@@ -1,5 +1,7 @@
 -- Which record another becomes. Fields of the same name are kept, and nothing else is given.
 use Rattle.std.specs.Prelude.{Some, None, negsuc}
+use Rattle.mg_options.specs.declared.aggregate.AggregateOptions.{AggregateOptions}
+use Rattle.mg_options.specs.declared.change_stream.ChangeStreamOptions.{ChangeStreamOptions}
 use Rattle.mg_options.specs.declared.find.FindOptions.{FindOptions}
 use Rattle.mg_options.specs.declared.find.FindOneOptions.{FindOneOptions}
 use Rattle.mg_options.specs.declared.grid_fs.GridFsFindOptions.{GridFsFindOptions}
@@ -19,3 +21,7 @@ find_one_of_files o = record { allow_partial_results = None; collation = None; c
 
 abbrev pub insert_of_one : InsertOneOptions → InsertManyOptions
 insert_of_one o = record { bypass_document_validation = o.bypass_document_validation; ordered = None; comment = o.comment; write_concern = o.write_concern }
+
+-- the aggregate that opens a watch
+abbrev pub aggregate_of_watch : ChangeStreamOptions → AggregateOptions
+aggregate_of_watch o = record { allow_disk_use = None; batch_size = o.batch_size; bypass_document_validation = None; collation = o.collation; comment = o.comment; hint = None; max_time = None; let_vars = None; max_await_time = o.max_await_time; read_concern = o.read_concern; selection_criteria = o.selection_criteria; write_concern = None }

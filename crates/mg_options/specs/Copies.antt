@@ -6,8 +6,9 @@ use Rattle.mg_link.specs.Concerns.{concerned, level_word}
 use Rattle.mg_link.specs.Words.{Word}
 use Rattle.mg_link.specs.declared.concern.ReadConcern.{ReadConcern}
 use Rattle.mg_options.specs.Collations.{collation_lines}
-use Rattle.mg_options.specs.Tables.{hint_value, quorum_members}
+use Rattle.mg_options.specs.Tables.{full_document_before_word, full_document_word, hint_value, quorum_members}
 use Rattle.mg_options.specs.declared.aggregate.AggregateOptions.{AggregateOptions}
+use Rattle.mg_options.specs.declared.change_stream.ChangeStreamOptions.{ChangeStreamOptions}
 use Rattle.mg_options.specs.declared.collections.CollectionOptions.{CollectionOptions}
 use Rattle.mg_options.specs.declared.collections.CreateIndexOptions.{CreateIndexOptions}
 use Rattle.mg_options.specs.declared.collections.DropCollectionOptions.{DropCollectionOptions}
@@ -58,6 +59,22 @@ SameAggregateOptions o p =
     × SameIn level_of o.read_concern p.read_concern
     × (p.selection_criteria ≡ o.selection_criteria)
     × SameIn concerned o.write_concern p.write_concern
+
+abbrev pub SameChangeStreamOptions : ChangeStreamOptions → ChangeStreamOptions → Type 0
+SameChangeStreamOptions o p =
+    SameIn full_document_word o.full_document p.full_document
+    × SameIn full_document_before_word o.full_document_before_change p.full_document_before_change
+    × (p.resume_after ≡ o.resume_after)
+    × (p.start_at_operation_time ≡ o.start_at_operation_time)
+    × (p.start_after ≡ o.start_after)
+    × (p.all_changes_for_cluster ≡ o.all_changes_for_cluster)
+    × (p.show_expanded_events ≡ o.show_expanded_events)
+    × SameIn tree o.comment p.comment
+    × (p.max_await_time ≡ o.max_await_time)
+    × (p.batch_size ≡ o.batch_size)
+    × SameIn collation_lines o.collation p.collation
+    × SameIn level_of o.read_concern p.read_concern
+    × (p.selection_criteria ≡ o.selection_criteria)
 
 abbrev pub SameCollectionOptions : CollectionOptions → CollectionOptions → Type 0
 SameCollectionOptions o p =

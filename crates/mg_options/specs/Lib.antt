@@ -1,4 +1,3 @@
-pub mod Given
 pub mod Tokens
 pub mod Options
 pub mod Fields

@@ -1,6 +1,6 @@
 -- What the values of options come to in a document.
-use Rattle.std.specs.Prelude.{ℕ, ℤ, pos, nat_abs, Bool, Option, Some, None, option_map, if◌then◌else◌, ltb, ◌^◌}
-use Rattle.mg_bson.specs.Tree.{Tree, Fields, string, document, boolean, int32, int64, timestamp}
+use Rattle.std.specs.Prelude.{ℕ, ℤ, pos, nat_abs, Bool, List, [], ◌∷◌, Option, Some, None, option_map, if◌then◌else◌, ltb, ◌^◌}
+use Rattle.mg_bson.specs.Tree.{Tree, Fields, Items, no_items, item, string, document, boolean, int32, int64, timestamp}
 use Rattle.mg_bson.specs.Literal.{◌⇒◌⨾◌, empty}
 use Rattle.mg_bson.specs.View.{tree}
 use Rattle.mg_bson.specs.declared.tree.Bson.{Bson}
@@ -9,6 +9,11 @@ use Rattle.mg_link.specs.Words.{Word, text}
 use Rattle.mg_link.specs.Concerns.{Members, so_many, told_by}
 use Rattle.mg_link.specs.declared.error.BadArgument.TheVariants as argument
 use Rattle.mg_options.specs.Fields.{Shown, absent, shown, unfit, given}
+
+-- an array of a value for each
+abbrev pub listed : {A : Type 0} → (A → Tree) → List A → Items
+listed f [] = no_items
+listed f (x ∷ xs) = item (f x) (listed f xs)
 
 abbrev pub flag : Option Bool → Shown
 flag b = given (option_map boolean b)
@@ -26,8 +31,11 @@ word_value w = string (text w)
 abbrev pub word : Option Word → Shown
 word w = given (option_map word_value w)
 
+abbrev pub time_value : Timestamp → Tree
+time_value t = timestamp t.time t.increment
+
 abbrev pub time : Option Timestamp → Shown
-time t = given (option_map (λ t. timestamp t.time t.increment) t)
+time t = given (option_map time_value t)
 
 -- the size of a batch
 abbrev pub size : Option ℕ → Shown

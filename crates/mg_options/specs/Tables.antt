@@ -1,9 +1,10 @@
 -- The words and values of options (find, change streams and index specifications).
 use Rattle.std.specs.Prelude.{ℤ, pos, List, [], ◌∷◌, codes, string_bytes, Option, Some, None, if◌then◌else◌, ltb, ◌^◌}
 use Rattle.std.specs.Str.{bytes_eq}
-use Rattle.mg_bson.specs.Tree.{Tree, string, document, array, int32, int64, Fields, Items, no_items, item}
+use Rattle.mg_bson.specs.Tree.{Tree, string, document, array, int32, int64}
 use Rattle.mg_link.specs.Words.{Word, spelled, other}
 use Rattle.mg_link.specs.Concerns.{Members, so_many, told_by}
+use Rattle.mg_options.specs.Printing.{listed}
 use Rattle.mg_options.specs.declared.full_document.FullDocumentType.{FullDocumentType}
 use Rattle.mg_options.specs.declared.full_document.FullDocumentType.TheVariants as full_document
 use Rattle.mg_options.specs.declared.full_document.FullDocumentBeforeChangeType.{FullDocumentBeforeChangeType}
@@ -65,11 +66,7 @@ quorum_of (int64 z) = counted z
 quorum_of (string w) = Some (told_by (if bytes_eq w (codes "votingMembers") then spelled "votingMembers" else (if bytes_eq w (codes "majority") then spelled "majority" else other w)))
 quorum_of _ = None
 
-abbrev pub documents_in : List Fields → Items
-documents_in [] = no_items
-documents_in (d ∷ ds) = item (document d) (documents_in ds)
-
 -- a document prints as itself, a pipeline as an array
 abbrev pub modifications_value : UpdateModifications → Tree
 modifications_value (modifications.Document d) = document d
-modifications_value (modifications.Pipeline ds) = array (documents_in ds.items)
+modifications_value (modifications.Pipeline ds) = array (listed document ds.items)

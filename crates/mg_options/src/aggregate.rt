@@ -24,7 +24,7 @@ pub struct AggregateOptions {
     pub bypass_document_validation: Option<bool>,
     /// How texts are compared.
     pub collation: Option<Collation>,
-    /// A value that the server writes beside the command into its logs.
+    /// A value that the server writes beside the command, and beside each getMore, into its logs.
     pub comment: Option<Bson>,
     /// The index to be used.
     pub hint: Option<Hint>,

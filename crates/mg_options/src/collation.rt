@@ -1,12 +1,17 @@
 //! How texts are compared.
-ghost use Rattle.std.specs.Prelude.{◌≡◌, ◌⊎◌, ◌<◌, Some, None, IfOk, IfErr, OnErr, decimal};
+ghost use Rattle.std.specs.Prelude.{◌≡◌, ◌⊎◌, ◌<◌, Some, None, IfOk, IfErr, OnOk, OnErr, decimal};
+ghost use Rattle.mg_bson.specs.Find.{joined};
 ghost use Rattle.mg_link.specs.Errors.{plain};
 ghost use Rattle.mg_link.specs.Words.{named, text};
 ghost use Rattle.mg_link.specs.declared.error.BadArgument.TheVariants as arguments;
 ghost use Rattle.mg_link.specs.declared.error.ErrorKind.TheVariants as kinds;
 ghost use Rattle.mg_options.specs.Collations.{alternate_word, alternates, case_first_word, case_firsts, collation_lines, max_variable_word, max_variables, strength_level};
+ghost use Rattle.mg_options.specs.Fields.{fields_in, first_unfit};
 ghost use Rattle.mg_options.specs.Reading.{IsBadWord};
 
+use crate::field::append_given;
+use crate::printing::Part;
+use mg_bson::Document;
 use mg_link::{BadArgument, Error, ErrorKind, plain};
 use std::alloc::{AllocError, Global};
 use std::fmt;
@@ -199,6 +204,31 @@ impl Collation {
         ensures { result ≡ self }
     {
         self
+    }
+
+    /// Puts its rules at the end of a document, those that are given, in their order. Only memory can fail, and then the
+    /// document is as it was.
+    pub fn append_fields(&self, alloc: Global, body: &mut Document) -> Result<(), Error>
+        ensures ok { OnOk result (body.new ≡ joined body.old (fields_in (collation_lines self.now))) }
+        ensures fits { OnOk result (first_unfit (collation_lines self.now) ≡ None) }
+        ensures same { OnErr result (body.new ≡ body.old) }
+        ensures err { IfErr result (λ e. e ≡ plain kinds.OutOfMemory) }
+    {
+        append_given(
+            alloc,
+            body,
+            &[
+                ("locale", Part::Text(&self.locale)),
+                ("strength", Part::Strength(self.strength)),
+                ("caseLevel", Part::Flag(self.case_level)),
+                ("caseFirst", Part::CaseFirst(self.case_first)),
+                ("numericOrdering", Part::Flag(self.numeric_ordering)),
+                ("alternate", Part::Alternate(self.alternate)),
+                ("maxVariable", Part::MaxVariable(self.max_variable)),
+                ("normalization", Part::Flag(self.normalization)),
+                ("backwards", Part::Flag(self.backwards)),
+            ],
+        )
     }
 }
 

@@ -72,7 +72,7 @@ pub struct RunCursorCommandOptions {
     pub batch_size: Option<u32>,
     /// The most milliseconds that the server may work on it.
     pub max_time: Option<u64>,
-    /// A value that the server writes beside the command into its logs.
+    /// A value that the server writes beside the command, and beside each getMore, into its logs.
     pub comment: Option<Bson>,
 }
 

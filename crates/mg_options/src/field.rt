@@ -32,7 +32,7 @@ fn put<V: Print>(alloc: Global, body: &mut Document, name: &str, value: &V) -> R
 }
 
 /// Puts the fields that are given at the end, in their order, without a copy of what stands there. It fails where memory runs
-/// out, or an argument is outside its range; after an error the document may hold some of them.
+/// out, or an argument is outside its range; what the document holds after an error is not said.
 pub fn put_given<V: Print>(
     alloc: Global,
     body: &mut Document,

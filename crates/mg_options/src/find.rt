@@ -23,7 +23,7 @@ pub struct FindOptions {
     pub allow_partial_results: Option<bool>,
     /// The most documents of a batch.
     pub batch_size: Option<u32>,
-    /// A value that the server writes beside the command into its logs.
+    /// A value that the server writes beside the command, and beside each getMore, into its logs.
     pub comment: Option<Bson>,
     /// The index to be used.
     pub hint: Option<Hint>,

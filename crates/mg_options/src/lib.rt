@@ -11,7 +11,6 @@ mod copy;
 mod field;
 mod find;
 mod full_document;
-mod given;
 mod grid_fs;
 pub mod laws;
 mod printing;

@@ -305,20 +305,9 @@ fn print_rules(alloc: Global, rules: &Collation) -> Result<Option<Bson>, Error>
     ensures ok { IfOk result (λ v. nested (collation_lines rules.now) ≡ given (option_map tree v)) }
     ensures err { IfErr result (λ e. FailsBy (unfit_of (nested (collation_lines rules.now))) e) }
 {
-    print_parts(
-        alloc,
-        &[
-            ("locale", Part::Text(&rules.locale)),
-            ("strength", Part::Strength(rules.strength)),
-            ("caseLevel", Part::Flag(rules.case_level)),
-            ("caseFirst", Part::CaseFirst(rules.case_first)),
-            ("numericOrdering", Part::Flag(rules.numeric_ordering)),
-            ("alternate", Part::Alternate(rules.alternate)),
-            ("maxVariable", Part::MaxVariable(rules.max_variable)),
-            ("normalization", Part::Flag(rules.normalization)),
-            ("backwards", Part::Flag(rules.backwards)),
-        ],
-    )
+    let mut inside = Document::new(alloc);
+    rules.append_fields(alloc, &mut inside)?;
+    Ok(Some(Bson::Document(inside)))
 }
 
 fn print_collation(alloc: Global, value: &Option<Collation>) -> Result<Option<Bson>, Error>

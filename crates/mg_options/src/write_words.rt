@@ -9,8 +9,9 @@ ghost use Rattle.mg_link.specs.Errors.{plain};
 ghost use Rattle.mg_link.specs.Words.{named};
 ghost use Rattle.mg_link.specs.declared.error.BadArgument.TheVariants as arguments;
 ghost use Rattle.mg_link.specs.declared.error.ErrorKind.TheVariants as kinds;
+ghost use Rattle.mg_options.specs.Printing.{listed};
 ghost use Rattle.mg_options.specs.Reading.{IsBadWord};
-ghost use Rattle.mg_options.specs.Tables.{counted, documents_in, hint_value, modifications_value, quorum_members, quorum_of, return_document_word, return_documents};
+ghost use Rattle.mg_options.specs.Tables.{counted, hint_value, modifications_value, quorum_members, quorum_of, return_document_word, return_documents};
 
 use mg_bson::{Bson, Document};
 use mg_link::{BadArgument, Error, ErrorKind, plain};
@@ -218,7 +219,7 @@ impl From<Document> for UpdateModifications {
 }
 
 impl From<Vec<Document>> for UpdateModifications {
-    ghost from_gives = { λ ds m. modifications_value m ≡ array (documents_in ds.items) };
+    ghost from_gives = { λ ds m. modifications_value m ≡ array (listed document ds.items) };
 
     fn from(stages: Vec<Document>) -> UpdateModifications {
         UpdateModifications::Pipeline(stages)
