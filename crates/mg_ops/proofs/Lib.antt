@@ -5,5 +5,11 @@ pub mod AskingMore
 pub mod Composing
 pub mod Sessions
 pub mod Failed
-pub mod Inserting
+pub mod InsertFailing
 pub mod Unread
+pub mod Watching
+pub mod Plainly
+pub mod Appending
+pub mod Drawn
+pub mod Sendings
+pub mod InsertCauses

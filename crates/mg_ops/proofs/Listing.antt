@@ -1,11 +1,10 @@
 -- Parts that go into an array one after another.
-use Rattle.std.proofs.Common.{◌≡◌, ℕ, ◌+◌, ◌<◌, ◌≤◌, List, [], ◌∷◌, refl, length, get_or, drop, sym, ap, ◌∙◌}
+use Rattle.std.proofs.Common.{◌≡◌, ℕ, ◌+◌, ◌<◌, ◌≤◌, List, ◌∷◌, length, get_or, drop, sym, ap, ◌∙◌}
 use Rattle.std.proofs.lemmas.List.{drop_more, drop_all}
-use Rattle.mg_bson.specs.Tree.{Tree, document, Fields, Items, item}
+use Rattle.mg_bson.specs.Tree.{Tree, Items, item}
 use Rattle.mg_bson.specs.Find.{with_item, items_joined}
 use Rattle.mg_bson.proofs.Joining.{items_joined_more, items_joined_all}
-use Rattle.mg_options.specs.Tables.{documents_in}
-use Rattle.mg_ops.specs.Commands.{listed}
+use Rattle.mg_options.specs.Printing.{listed}
 
 pub listed_go_on : {A : Type 0} (f : A → Tree) (front after : Items) (xs : List A) (i : ℕ) (x : A) (v : Tree) (all : Items) → i < length xs → x ≡ get_or xs i x → v ≡ f x → after ≡ with_item front v
     → items_joined front (listed f (drop i xs)) ≡ all → items_joined after (listed f (drop (i + 1) xs)) ≡ all
@@ -21,8 +20,3 @@ listed_on f front after xs i d all lt e so_far =
 
 pub listed_end : {A : Type 0} (f : A → Tree) (front : Items) (xs : List A) (i : ℕ) (all : Items) → length xs ≤ i → items_joined front (listed f (drop i xs)) ≡ all → front ≡ all
 listed_end f front xs i all le so_far = sym (items_joined_all front) ∙ ap (λ ys. items_joined front (listed f ys)) (sym (drop_all i xs le)) ∙ so_far
-
--- two words for one list
-pub documents_are : (ds : List Fields) → documents_in ds ≡ listed document ds
-documents_are [] = refl
-documents_are (d ∷ ds) = ap (item (document d)) (documents_are ds)

@@ -75,7 +75,7 @@ session_allowed names (Some s) ls only =
     (ignored_line names (codes "startTransaction") (start_transaction s) ("autocommit" ⟼ autocommit s ⨾ ls) refl
     (ignored_line names (codes "autocommit") (autocommit s) ls refl only)))
 
-line_past : (k l : List ℕ) (s : Shown) (ls : List Line) → bytes_eq l k ≡ false → get k (fields_in (line l s ∷ ls)) ≡ get k (fields_in ls)
+pub line_past : (k l : List ℕ) (s : Shown) (ls : List Line) → bytes_eq l k ≡ false → get k (fields_in (line l s ∷ ls)) ≡ get k (fields_in ls)
 line_past k l absent ls other = refl
 line_past k l (shown t) ls other = ap (λ (b : Bool). if b then Some t else get k (fields_in ls)) other
 line_past k l (unfit a) ls other = refl

@@ -2,19 +2,20 @@
 use Rattle.std.specs.Prelude.{◌++◌, ℕ, ℤ, pos, true, false, Bool, List, [], ◌∷◌, Option, Some, None, option_map, min, ◌^◌, ◌-◌, ◌+◌, int_lt, ◌&&◌, if◌then◌else◌, codes}
 use Rattle.std.specs.Ordering.{int_eq}
 use Rattle.std.specs.Str.{bytes_eq}
-use Rattle.mg_bson.specs.Tree.{string, document, array, int32, Fields, no_fields, field}
+use Rattle.mg_bson.specs.Tree.{string, document, array, int32, Fields, no_fields, field, item}
 use Rattle.mg_bson.specs.Find.{names}
 use Rattle.mg_link.specs.Namespace.{Space, Target}
 use Rattle.mg_link.specs.Session.{Session}
 use Rattle.mg_link.specs.declared.concern.ReadConcern.{ReadConcern}
 use Rattle.mg_link.specs.declared.concern.WriteConcern.{WriteConcern}
 use Rattle.mg_link.specs.declared.read_preference.SelectionCriteria.{SelectionCriteria}
-use Rattle.mg_options.specs.Fields.{Line, Shown, shown, ◌⟼◌⨾◌, nothing}
-use Rattle.mg_options.specs.Printing.{cursor, flag, inner, value}
+use Rattle.mg_options.specs.Fields.{Line, Shown, shown, ◌⟼◌⨾◌, nothing, fields_in}
+use Rattle.mg_options.specs.Printing.{cursor, flag, inner, value, listed}
 use Rattle.mg_options.specs.Records.{aggregate_lines, create_index_lines, find_lines, list_collections_lines, list_indexes_lines}
 use Rattle.mg_options.specs.Shown.{collation, concern_lines, hint, read_concern, selection, write_concern}
 use Rattle.mg_options.specs.Tables.{modifications_value}
 use Rattle.mg_options.specs.declared.aggregate.AggregateOptions.{AggregateOptions}
+use Rattle.mg_options.specs.declared.change_stream.ChangeStreamOptions.{ChangeStreamOptions}
 use Rattle.mg_options.specs.declared.collections.CreateIndexOptions.{CreateIndexOptions}
 use Rattle.mg_options.specs.declared.collections.ListCollectionsOptions.{ListCollectionsOptions}
 use Rattle.mg_options.specs.declared.collections.ListIndexesOptions.{ListIndexesOptions}
@@ -24,7 +25,8 @@ use Rattle.mg_options.specs.declared.write_words.CursorType.TheVariants as curso
 use Rattle.mg_options.specs.declared.write_words.UpdateModifications.{UpdateModifications}
 use Rattle.mg_options.specs.declared.writes.DeleteOptions.{DeleteOptions}
 use Rattle.mg_options.specs.declared.writes.InsertManyOptions.{InsertManyOptions}
-use Rattle.mg_ops.specs.Commands.{aggregate_on, database_of, listed}
+use Rattle.mg_ops.specs.Commands.{aggregate_on, database_of, watch_stage}
+use Rattle.mg_ops.specs.Plain.{plain_insert}
 use Rattle.mg_ops.specs.Pieces.{cursor_of_size, index_name, one_of, only_true}
 use Rattle.mg_ops.specs.Sessions.{end_of}
 
@@ -116,6 +118,24 @@ aggregate_body target pipeline o session =
     ++ (aggregate_lines (record o { batch_size = None })
     ++ end_of (text (database_of target)) session (concern_lines o.read_concern o.write_concern o.selection_criteria))
 
+-- the pipeline of a watch: the stage that opens it, and those behind it
+abbrev pub watch_pipeline : ChangeStreamOptions → List Fields → Shown
+watch_pipeline o pipeline = shown (array (item (document (watch_stage o)) (listed document pipeline)))
+
+-- opens a watch: an aggregate with its stage in front, and those of its options that are options of an aggregate
+abbrev pub watch_body : Target → List Fields → ChangeStreamOptions → Option Session → List Line
+watch_body target pipeline o session =
+    "aggregate" ⟼ shown (aggregate_on target)
+    ⨾ "pipeline" ⟼ watch_pipeline o pipeline
+    ⨾ "cursor" ⟼ cursor_of_size (writes_out pipeline) o.batch_size
+    ⨾ "collation" ⟼ collation o.collation
+    ⨾ "comment" ⟼ value o.comment
+    ⨾ behind_read (database_of target) session o.read_concern o.selection_criteria
+
+-- the same without a session
+abbrev pub watch_command : Target → List Fields → ChangeStreamOptions → Fields
+watch_command target pipeline o = fields_in (watch_body target pipeline o None)
+
 -- ---- lists of collections and indexes
 
 -- each is `name`
@@ -168,6 +188,10 @@ insert_body space documents o session =
     ⨾ "bypassDocumentValidation" ⟼ flag o.bypass_document_validation
     ⨾ "comment" ⟼ value o.comment
     ⨾ behind_write space.db session o.write_concern
+
+-- the same without options and a session, which inserts up to the first document that fails
+abbrev pub insert_command : Space → List Fields → Fields
+insert_command space documents = fields_in (insert_body space documents plain_insert None)
 
 -- how many documents a deletion may take: all of them where it says 0
 abbrev pub delete_limit : Bool → ℤ

@@ -12,6 +12,9 @@ use Rattle.mg_link.specs.declared.error.Error.{Error}
 use Rattle.mg_link.specs.declared.error.ErrorKind.TheVariants as kind
 use Rattle.mg_link.specs.declared.error.Malformed.{Malformed}
 use Rattle.mg_link.specs.declared.error.Malformed.TheVariants as malformed
+use Rattle.mg_options.specs.declared.change_stream.ChangeStreamOptions.{ChangeStreamOptions}
+use Rattle.mg_ops.specs.Commands.{more_command}
+use Rattle.mg_ops.specs.declared.cursor_reply.CursorInformation.{CursorInformation}
 use Rattle.mg_ops.specs.declared.cursor_reply.Found.{Found}
 use Rattle.mg_ops.specs.declared.cursor_reply.CursorSpecification.{CursorSpecification}
 use Rattle.mg_ops.specs.declared.cursor_reply.GetMoreResult.{GetMoreResult}
@@ -54,7 +57,7 @@ unfoldable pub operation_time : Fields → Option (ℕ × ℕ)
 operation_time reply = option_and_then as_timestamp (get (codes "operationTime") reply)
 
 abbrev pub found_cursor : Found → Cursor
-found_cursor f = record { id = f.id; space = space f.ns; token = f.token; batch = items f.batch }
+found_cursor f = record { id = f.cursor.id; space = space f.cursor.ns; token = f.cursor.post_batch_resume_token; batch = items f.batch }
 
 -- a reply breaks the grammar so
 pub record BreaksIn (reply : Fields) (e : Error) : Type 0 where
@@ -86,9 +89,31 @@ pub record OpensWith (size time : Option ℕ) (comment : Option Bson) (reply : L
 abbrev pub time_parts : Timestamp → ℕ × ℕ
 time_parts t = (t.time, t.increment)
 
--- and its time; its getMores have no time to wait, and no comment
-pub record OpensAt (size : Option ℕ) (reply : List ℕ) (out : CursorSpecification × Option Timestamp) : Type 0 where
-  pub opens : Opens size reply out.0
-  pub no_wait : out.0.info.max_time ≡ None
-  pub no_comment : out.0.info.comment ≡ None
+-- and its time
+pub record OpensAt (size wait : Option ℕ) (comment : Option Bson) (reply : List ℕ) (out : CursorSpecification × Option Timestamp) : Type 0 where
+  pub opens : OpensWith size wait comment reply out.0
   pub time : option_map time_parts out.1 ≡ operation_time (fields reply)
+
+-- ---- the getMores of a cursor
+
+-- how the batches of a cursor are asked for: of which size, with how long a wait, and with which comment
+pub record Manner : Type 0 where
+  pub size : Option ℕ
+  pub wait : Option ℕ
+  pub comment : Option Tree
+
+-- asks for the next batch of a cursor in this manner
+abbrev pub next_command : ℤ → Space → Manner → Fields
+next_command id space m = more_command id space m.size m.wait m.comment
+
+-- the manner that a cursor is kept with
+abbrev pub manner_of : CursorInformation → Manner
+manner_of c = record { size = c.batch_size; wait = c.max_time; comment = option_map tree c.comment }
+
+-- asks for the next batch of a cursor
+abbrev pub asking_command : CursorInformation → Fields
+asking_command c = next_command c.id (space c.ns) (manner_of c)
+
+-- the manner that the options of a watch ask for
+abbrev pub watch_manner : ChangeStreamOptions → Manner
+watch_manner o = record { size = o.batch_size; wait = o.max_await_time; comment = option_map tree o.comment }

@@ -1,3 +1,4 @@
+pub mod Given
 pub mod Commands
 pub mod Limits
 pub mod Failing
@@ -12,3 +13,8 @@ pub mod Bodies
 pub mod Entries
 pub mod Plain
 pub mod Updates
+pub mod Drawn
+pub mod Inserts
+pub mod Appended
+pub mod Underway
+pub mod InsertCauses

@@ -3,7 +3,7 @@ use Rattle.std.specs.Prelude.{◌≡◌, Bool, false, Option, Some, unwrap_or, o
 use Rattle.mg_link.specs.Namespace.{Space}
 use Rattle.mg_link.specs.Commands.{as_collection, as_database, start_by}
 use Rattle.mg_link.specs.State.{Start}
-use Rattle.mg_options.specs.Options.{time_value}
+use Rattle.mg_options.specs.Printing.{time_value}
 use Rattle.mg_options.specs.declared.change_stream.ChangeStreamOptions.{ChangeStreamOptions}
 
 -- the parts of a namespace may name a database and a collection

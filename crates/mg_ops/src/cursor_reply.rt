@@ -1,5 +1,5 @@
 //! Replies with a cursor.
-ghost use Rattle.std.specs.Prelude.{◌≡◌, None, Ok, Err, IfOk, IfErr, MatchResult, option_map, option_and_then, codes};
+ghost use Rattle.std.specs.Prelude.{◌≡◌, Ok, Err, IfOk, IfErr, MatchResult, option_map, option_and_then, codes};
 ghost use Rattle.mg_bson.specs.Find.{as_int64, get};
 ghost use Rattle.mg_bson.specs.Raw.{fields, items};
 ghost use Rattle.mg_bson.specs.RawView.{value};
@@ -7,10 +7,12 @@ ghost use Rattle.mg_bson.specs.View.{tree};
 ghost use Rattle.mg_link.specs.Commands.{array_in, as_token, batch_items, text_of, token_in};
 ghost use Rattle.mg_link.specs.Namespace.{space, space_of};
 ghost use Rattle.mg_link.specs.declared.error.Malformed.TheVariants as malformed;
-ghost use Rattle.mg_ops.specs.Cursors.{BreaksIn, Gave, Opens, OpensWith, batch_at, cursor_in, cursor_of, found, found_cursor};
+ghost use Rattle.mg_ops.specs.Commands.{more_command};
+ghost use Rattle.mg_ops.specs.Cursors.{BreaksIn, Gave, Opens, OpensWith, batch_at, cursor_in, cursor_of, found, found_cursor, asking_command};
 ghost use Rattle.mg_ops.specs.Failing.{FailsBy, Gives};
 
 use crate::fault::{Fault, error_of};
+use crate::get_more::GetMore;
 use mg_bson::{Bson, RawArray, RawDocument, RawDocumentBuf, RawValue};
 use mg_link::{Error, Malformed, Namespace};
 use mg_options::ResumeToken;
@@ -43,6 +45,22 @@ impl Drop for CursorInformation {
     }
 }
 
+impl CursorInformation {
+    /// The getMore that asks for its next batch. Only memory can fail.
+    pub fn get_more(&self) -> Result<GetMore, AllocError>
+        ensures command { IfOk result (λ g. more_command g.id (space g.ns) g.batch_size g.max_time (option_map tree g.comment) ≡ asking_command self.now) }
+        ensures size { IfOk result (λ g. g.batch_size ≡ self.now.batch_size) }
+    {
+        Ok(GetMore {
+            ns: self.ns.clone()?,
+            id: self.id,
+            batch_size: self.batch_size,
+            max_time: self.max_time,
+            comment: copied(&self.comment)?,
+        })
+    }
+}
+
 /// What the reply to an opening gave.
 #[derive(Drop)]
 pub struct CursorSpecification {
@@ -71,12 +89,21 @@ pub struct GetMoreResult {
     pub id: i64,
 }
 
+/// What a reply tells of its cursor.
+#[derive(Drop)]
+pub struct CursorReply {
+    /// The id of the cursor, or 0 where the server holds none.
+    pub id: i64,
+    /// The namespace of the cursor.
+    pub ns: Namespace,
+    /// The token behind the batch.
+    pub post_batch_resume_token: Option<ResumeToken>,
+}
+
 // The cursor of a reply, and its batch as it lies there.
 #[derive(Drop)]
 pub(crate) struct Found<'a> {
-    pub(crate) id: i64,
-    pub(crate) ns: Namespace,
-    pub(crate) token: Option<ResumeToken>,
+    pub(crate) cursor: CursorReply,
     pub(crate) batch: RawArray<'a>,
 }
 
@@ -158,12 +185,14 @@ fn cursor_in<'a>(alloc: Global, cursor: &RawDocument<'a>) -> Result<Found<'a>, F
 {
     let id = id_of(cursor)?;
     let ns = ns_of(alloc, cursor)?;
-    let token = token_of(alloc, cursor)?;
+    let post_batch_resume_token = token_of(alloc, cursor)?;
     let batch = batch_of(cursor)?;
     Ok(Found {
-        id,
-        ns,
-        token,
+        cursor: CursorReply {
+            id,
+            ns,
+            post_batch_resume_token,
+        },
         batch,
     })
 }
@@ -184,26 +213,25 @@ fn cursor_of<'a>(alloc: Global, reply: &RawDocument<'a>) -> Result<Found<'a>, Fa
 }
 
 // Reads the reply to an opening whose batches have at most so many documents.
-pub(crate) fn read_opening(
+fn read_opening(
     alloc: Global,
     batch_size: Option<u32>,
     reply: RawDocumentBuf,
 ) -> Result<CursorSpecification, Error>
     ensures ok { IfOk result (λ out. Opens batch_size reply out) }
-    ensures bare { IfOk result (λ out. (out.info.max_time ≡ None) × (out.info.comment ≡ None)) }
     ensures err { IfErr result (λ e. FailsBy (BreaksIn (fields reply)) e) }
 {
     let raw = reply.as_raw();
-    let Found {
-        id,
-        ns,
-        token,
-        batch,
-    } = match cursor_of(alloc, &raw) {
+    let Found { cursor, batch } = match cursor_of(alloc, &raw) {
         Ok(found) => found,
         Err(fault) => return Err(error_of(fault)),
     };
     let is_empty = batch.is_empty();
+    let CursorReply {
+        id,
+        ns,
+        post_batch_resume_token,
+    } = cursor;
     Ok(CursorSpecification {
         info: CursorInformation {
             ns,
@@ -214,7 +242,7 @@ pub(crate) fn read_opening(
         },
         initial_reply: reply,
         is_empty,
-        post_batch_resume_token: token,
+        post_batch_resume_token,
     })
 }
 
@@ -251,14 +279,19 @@ pub(crate) fn read_more(alloc: Global, reply: RawDocumentBuf) -> Result<GetMoreR
     ensures err { IfErr result (λ e. FailsBy (BreaksIn (fields reply)) e) }
 {
     let raw = reply.as_raw();
-    let Found { id, ns, token, .. } = match cursor_of(alloc, &raw) {
+    let Found { cursor, batch: _ } = match cursor_of(alloc, &raw) {
         Ok(found) => found,
         Err(fault) => return Err(error_of(fault)),
     };
+    let CursorReply {
+        id,
+        ns,
+        post_batch_resume_token,
+    } = cursor;
     Ok(GetMoreResult {
         raw_reply: reply,
         exhausted: id == 0,
-        post_batch_resume_token: token,
+        post_batch_resume_token,
         ns,
         id,
     })

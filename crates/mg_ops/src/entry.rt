@@ -7,9 +7,9 @@ ghost use Rattle.mg_link.specs.declared.error.ErrorKind.TheVariants as kinds;
 ghost use Rattle.mg_options.specs.Fields.{FailsBy, given, shown, unfit_of};
 ghost use Rattle.mg_options.specs.Tables.{modifications_value};
 ghost use Rattle.mg_link.specs.Namespace.{target};
-ghost use Rattle.mg_options.specs.Printing.{flag};
-ghost use Rattle.mg_ops.specs.Bodies.{awaits_data, delete_limit, is_ordered, is_single, is_tailable, selects_by_name, writes_out};
-ghost use Rattle.mg_ops.specs.Commands.{aggregate_on, database_of, listed};
+ghost use Rattle.mg_options.specs.Printing.{flag, listed};
+ghost use Rattle.mg_ops.specs.Bodies.{awaits_data, delete_limit, is_ordered, is_single, is_tailable, selects_by_name, watch_pipeline, writes_out};
+ghost use Rattle.mg_ops.specs.Commands.{aggregate_on, database_of, watch_stage};
 ghost use Rattle.mg_ops.specs.Pieces.{cursor_of_size, index_name, key_onto, key_text, keys_onto, only_true, underscored};
 ghost use Rattle.mg_ops.specs.Sessions.{autocommit, numbered};
 
@@ -17,7 +17,7 @@ use crate::looking::{selects_by_name, writes_out};
 use crate::parts::{put_documents, text};
 use mg_bson::{Array, Bson, Document};
 use mg_link::{BadArgument, ClientSession, Error, ErrorKind, OperationTarget, plain};
-use mg_options::{CursorType, Print, UpdateModifications, Value};
+use mg_options::{ChangeStreamOptions, CursorType, Print, UpdateModifications, Value};
 use std::alloc::{AllocError, Global};
 
 /// What a field of a command may be.
@@ -40,6 +40,8 @@ pub(crate) enum Entry<'a> {
     AggregateOn(&'a OperationTarget),
     /// The database of an aggregate.
     DatabaseOf(&'a OperationTarget),
+    /// The pipeline of a watch: the stage that opens it with these options, and those behind it.
+    Watch(&'a ChangeStreamOptions, &'a Vec<Document>),
     /// The cursor of an aggregate with batches of this size and these stages.
     Cursor(Option<u32>, &'a Vec<Document>),
     /// Whether names are enough, where they are asked for and a filter looks at no more.
@@ -77,7 +79,6 @@ fn print_documents(alloc: Global, documents: &[Document]) -> Result<Option<Bson>
     Ok(Some(Bson::Array(array)))
 }
 
-#[tactic(auto, using(crate::proofs::Listing::documents_are))]
 fn print_modifications(alloc: Global, value: &UpdateModifications) -> Result<Option<Bson>, Error>
     ensures ok { IfOk result (λ v. shown (modifications_value value.now) ≡ given (option_map tree v)) }
     ensures err { IfErr result (λ e. e ≡ plain kinds.OutOfMemory) }
@@ -86,6 +87,33 @@ fn print_modifications(alloc: Global, value: &UpdateModifications) -> Result<Opt
         UpdateModifications::Document(document) => print_document(document),
         UpdateModifications::Pipeline(stages) => print_documents(alloc, stages),
     }
+}
+
+// The stage that opens a watch.
+fn watch_stage(alloc: Global, options: &ChangeStreamOptions) -> Result<Document, Error>
+    ensures ok { IfOk result (λ d. d ≡ watch_stage options.now) }
+    ensures err { IfErr result (λ e. e ≡ plain kinds.OutOfMemory) }
+{
+    let mut fields = Document::new(alloc);
+    options.append_fields(alloc, &mut fields)?;
+    let mut stage = Document::new(alloc);
+    stage.append("$changeStream", Bson::Document(fields))?;
+    Ok(stage)
+}
+
+// The pipeline of a watch.
+fn print_watch(
+    alloc: Global,
+    options: &ChangeStreamOptions,
+    stages: &[Document],
+) -> Result<Option<Bson>, Error>
+    ensures ok { IfOk result (λ v. watch_pipeline options.now stages.now ≡ given (option_map tree v)) }
+    ensures err { IfErr result (λ e. e ≡ plain kinds.OutOfMemory) }
+{
+    let mut pipeline = Array::new(alloc);
+    pipeline.push(Bson::Document(watch_stage(alloc, options)?))?;
+    put_documents(&mut pipeline, stages)?;
+    Ok(Some(Bson::Array(pipeline)))
 }
 
 // The document of a cursor, with the size of its batches where documents come out of the stages.
@@ -307,6 +335,7 @@ impl Print for Entry<'_> {
             Entry::AwaitData(cursor_type) => Ok(only_true(awaits_data(*cursor_type))),
             Entry::AggregateOn(target) => Ok(print_on(alloc, target)?),
             Entry::DatabaseOf(target) => Ok(print_database(alloc, target)?),
+            Entry::Watch(options, stages) => Ok(print_watch(alloc, options, stages)?),
             Entry::Cursor(size, stages) => print_cursor(alloc, *size, stages),
             Entry::NameOnly(asked, filter) => Ok(Some(Bson::Boolean(name_only(*asked, filter)))),
             Entry::Limit(many) => Ok(Some(Bson::Int32(delete_limit(*many)))),

@@ -7,7 +7,7 @@ ghost use Rattle.mg_link.specs.declared.error.ErrorKind.TheVariants as kinds;
 ghost use Rattle.mg_ops.specs.Commands.{asked_size, more_command, wait_value};
 ghost use Rattle.mg_ops.specs.Failing.{FailsBy, HasBadSize};
 ghost use Rattle.mg_ops.specs.Limits.{SizeFits};
-ghost use Rattle.mg_options.specs.Given.{behind};
+ghost use Rattle.mg_ops.specs.Given.{behind};
 
 use crate::cursor_reply::{GetMoreResult, read_more};
 use crate::operation::Operation;

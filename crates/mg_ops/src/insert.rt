@@ -10,13 +10,13 @@ use crate::body::{Listed, body};
 use crate::entry::Entry;
 use crate::insert_reply::read_reply;
 use crate::operation::Operation;
-use mg_bson::{Document, RawDocumentBuf, to_bytes};
+use mg_bson::{Document, RawDocumentBuf};
 use mg_link::{BadArgument, ClientSession, Error, ErrorKind, Namespace, Retry, plain};
 use mg_options::{InsertManyOptions, Value};
 use std::alloc::Global;
 
 /// The most documents of one command.
-const MAX_DOCUMENTS: usize = 100_000;
+pub(crate) const MAX_DOCUMENTS: usize = 100_000;
 
 /// The most bytes of a stored document.
 const MAX_STORED: usize = 16_777_216;
@@ -43,32 +43,31 @@ impl Drop for Insert {
 }
 
 // Refuses a document that cannot be stored.
-fn check_document(alloc: Global, value: &Document) -> Result<(), Error>
+fn check_document(value: &Document) -> Result<(), Error>
     ensures ok { OnOk result (IsStorable value.now) }
     ensures err { IfErr result (λ e. FailsBy (λ e. (e ≡ plain kinds.BsonSerialization) × PassesLimit max_stored value.now) e) }
 {
-    let bytes = to_bytes(alloc, value)?;
-    if bytes.as_bytes().len() > MAX_STORED {
+    if value.encoded_len()? > MAX_STORED {
         return Err(plain(ErrorKind::BsonSerialization));
     }
     Ok(())
 }
 
 // Refuses documents of which one cannot be stored.
-fn check_documents(alloc: Global, documents: &[Document]) -> Result<(), Error>
+fn check_documents(documents: &[Document]) -> Result<(), Error>
     ensures ok { OnOk result (AreStorable documents.now) }
     ensures err { IfErr result (λ e. FailsBy (λ e. (e ≡ plain kinds.BsonSerialization) × SomePassLimit documents.now) e) }
 {
     let mut left = documents;
     'documents: while let [first, rest @ ..] = left {
-        check_document(alloc, first)?;
+        check_document(first)?;
         left = rest;
     }
     Ok(())
 }
 
 // Refuses documents that one command cannot insert.
-fn check(alloc: Global, documents: &[Document]) -> Result<(), Error>
+fn check(documents: &[Document]) -> Result<(), Error>
     ensures ok { OnOk result (MayInsert documents.now) }
     ensures err { IfErr result (λ e. FailsBy (CannotBeInserted documents.now) e) }
 {
@@ -78,7 +77,7 @@ fn check(alloc: Global, documents: &[Document]) -> Result<(), Error>
     if documents.len() > MAX_DOCUMENTS {
         return Err(plain(ErrorKind::BsonSerialization));
     }
-    check_documents(alloc, documents)
+    check_documents(documents)
 }
 
 impl Operation for Insert {
@@ -106,14 +105,14 @@ impl Operation for Insert {
 
     ghost fails = { λ o reply e. NotInserted (length o.documents.items) reply e };
 
-    #[tactic(auto, using(crate::proofs::Inserting::cannot_at_all, crate::proofs::Inserting::not_by_option))]
+    #[tactic(auto, using(crate::proofs::InsertFailing::cannot_at_all, crate::proofs::InsertFailing::not_by_option))]
     fn build(
         &self,
         alloc: Global,
         _wire: i32,
         session: Option<&ClientSession>,
     ) -> Result<Document, Error> {
-        check(alloc, &self.documents)?;
+        check(&self.documents)?;
         let o = &self.options;
         body(
             alloc,

@@ -1,6 +1,6 @@
 //! What the commands of operations ask a server for, whatever their session, and what it tells by their replies, for the
 //! proofs of callers.
-ghost use Rattle.std.specs.Prelude.{◌≡◌, ℕ, ℤ, pos, true, false, Bool, List, [], ◌∷◌, Option, Some, None, Ok};
+ghost use Rattle.std.specs.Prelude.{◌≡◌, ℕ, ℤ, pos, false, Bool, List, [], ◌∷◌, Option, Some, None, Ok};
 ghost use Rattle.mg_bson.specs.Tree.{Tree, Fields};
 ghost use Rattle.mg_bson.specs.Raw.{fields};
 ghost use Rattle.mg_link.specs.Commands.{as_database, asked, asks_create, asks_delete, asks_drop, asks_indexes, asks_insert, asks_kill, asks_more, asks_query, asks_update, deleted, documents_in, done, gave, inserted, modification_of, opened, pipeline_of, time_in, told, updated};
@@ -13,13 +13,14 @@ ghost use Rattle.mg_link.specs.State.{Index};
 ghost use Rattle.mg_link.specs.Write.{Modification};
 ghost use Rattle.mg_link.specs.declared.concern.WriteConcern.{WriteConcern};
 ghost use Rattle.mg_link.specs.declared.reply.Verdict.TheVariants as verdict;
+ghost use Rattle.mg_options.specs.Conversions.{aggregate_of_watch};
 ghost use Rattle.mg_options.specs.declared.change_stream.ChangeStreamOptions.{ChangeStreamOptions};
 ghost use Rattle.mg_options.specs.Fields.{fields_in};
 ghost use Rattle.mg_options.specs.declared.write_words.UpdateModifications.TheVariants as modifications;
 ghost use Rattle.mg_options.specs.declared.writes.InsertManyOptions.{InsertManyOptions};
 ghost use Rattle.mg_ops.specs.Aims.{aim_of, asked_for};
-ghost use Rattle.mg_ops.specs.Bodies.{aggregate_body, create_body, create_indexes_body, delete_body, drop_body, find_body, insert_body, is_ordered, list_collections_body, list_indexes_body, update_body};
-ghost use Rattle.mg_ops.specs.Commands.{get_more_command, kill_command, more_command, watch_command};
+ghost use Rattle.mg_ops.specs.Bodies.{aggregate_body, create_body, create_indexes_body, delete_body, drop_body, find_body, insert_body, is_ordered, list_collections_body, list_indexes_body, update_body, watch_body};
+ghost use Rattle.mg_ops.specs.Commands.{kill_command, more_command, watch_stage};
 ghost use Rattle.mg_ops.specs.Cursors.{Cursor, cursor_of};
 ghost use Rattle.mg_ops.specs.Naming.{IsNamed};
 ghost use Rattle.mg_ops.specs.Pieces.{keys_onto};
@@ -36,17 +37,18 @@ pub fn asks_to_insert()
 /// The aggregate of a watch asks for that watch, from its start on, or for nothing where its names, filter or starts may not be.
 pub fn asks_as_aimed()
     ensures { (command : List ℕ) (target : Target) (pipeline : List Fields) (o : ChangeStreamOptions) (session : Option Session)
-        → fields command ≡ in_session session (watch_command target pipeline o) → asked command ≡ asked_for (aim_of target pipeline o) }
+        → fields command ≡ fields_in (watch_body target pipeline o session) → asked command ≡ asked_for (aim_of target pipeline o) }
 {}
 
-/// A getMore asks for more of its cursor.
+/// The aggregate of a watch is the aggregate whose pipeline begins with the stage of the watch, with those of its options that are
+/// options of an aggregate.
+pub fn watches_by_aggregate()
+    ensures { (target : Target) (pipeline : List Fields) (o : ChangeStreamOptions) (session : Option Session)
+        → fields_in (watch_body target pipeline o session) ≡ fields_in (aggregate_body target (watch_stage o ∷ pipeline) (aggregate_of_watch o) session) }
+{}
+
+/// A getMore asks for more of its cursor, whatever the size of its batch, its time to wait and its comment.
 pub fn asks_for_more()
-    ensures { (command : List ℕ) (id : ℤ) (space : Space) (size : Option ℕ) (session : Option Session) → IsNamed space
-        → fields command ≡ in_session session (get_more_command id space size) → asked command ≡ asks_more id space }
-{}
-
-/// The same where it has a time to wait and a comment.
-pub fn asks_for_next()
     ensures { (command : List ℕ) (id : ℤ) (space : Space) (size time : Option ℕ) (comment : Option Tree) (session : Option Session) → IsNamed space
         → fields command ≡ in_session session (more_command id space size time comment) → asked command ≡ asks_more id space }
 {}

@@ -1,6 +1,7 @@
 //! The commands of operations and what their replies say.
 //!
-//! An [`Operation`] builds its command, always the same one, and reads the reply to it. It sends nothing.
+//! An [`Operation`] builds its command, always the same one, and reads the reply to it. It sends nothing. [`Inserting`] sends the
+//! commands of one insert, one behind another.
 #![tactic(auto)]
 
 mod aggregate;
@@ -15,6 +16,7 @@ mod find;
 mod get_more;
 mod insert;
 mod insert_reply;
+mod inserting;
 mod kill_cursors;
 pub mod laws;
 mod lists;
@@ -32,11 +34,14 @@ pub use aggregate::ChangeStreamAggregate;
 pub use change_stream::{ChangeStreamData, WatchArgs};
 pub use changes::{Delete, Update, UpdateCounts};
 pub use collections::{Create, CreateIndexes, DropCollection};
-pub use cursor_reply::{CursorInformation, CursorSpecification, GetMoreResult, doc_slices};
+pub use cursor_reply::{
+    CursorInformation, CursorReply, CursorSpecification, GetMoreResult, doc_slices,
+};
 pub use fault::check_reply;
 pub use find::Find;
 pub use get_more::GetMore;
 pub use insert::Insert;
+pub use inserting::Inserting;
 pub use kill_cursors::KillCursors;
 pub use lists::{ListCollections, ListIndexes};
 pub use mg_link::OperationTarget;

@@ -5,7 +5,8 @@ ghost use Rattle.mg_bson.specs.Find.{items_joined, with_item};
 ghost use Rattle.mg_bson.specs.View.{tree};
 ghost use Rattle.mg_link.specs.Errors.{plain};
 ghost use Rattle.mg_link.specs.declared.error.ErrorKind.TheVariants as kinds;
-ghost use Rattle.mg_ops.specs.Commands.{listed, size_value};
+ghost use Rattle.mg_options.specs.Printing.{listed};
+ghost use Rattle.mg_ops.specs.Commands.{size_value};
 ghost use Rattle.mg_ops.specs.Failing.{HasBadSize};
 ghost use Rattle.mg_ops.specs.Limits.{SizeFits};
 

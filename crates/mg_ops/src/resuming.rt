@@ -2,6 +2,7 @@
 ghost use Rattle.std.specs.Prelude.{◌≡◌, IfOk, IfErr};
 ghost use Rattle.mg_link.specs.Errors.{plain};
 ghost use Rattle.mg_link.specs.declared.error.ErrorKind.TheVariants as kinds;
+ghost use Rattle.mg_options.specs.Copies.{SameChangeStreamOptions};
 ghost use Rattle.mg_ops.specs.Resuming.{has_start, resume_at, resume_behind, resumed, saved_time};
 
 use crate::change_stream::{ChangeStreamData, WatchArgs};
@@ -51,18 +52,16 @@ fn resume_at(
     options
 }
 
-/// The options with which a stream in this state resumes over a link of this wire version. What the state says nothing
-/// of stays as it was given. Only memory can fail.
-pub fn resume_options(
-    args: &WatchArgs,
+// In this state, over a link of this wire version.
+fn resumed(
+    options: ChangeStreamOptions,
     state: &ChangeStreamData,
     wire: i32,
 ) -> Result<ChangeStreamOptions, Error>
-    ensures ok { IfOk result (λ o. o ≡ resumed args.now.options state.now wire) }
-    ensures size { IfOk result (λ o. o.batch_size ≡ args.now.options.batch_size) }
+    ensures ok { IfOk result (λ o. o ≡ resumed options state.now wire) }
+    ensures size { IfOk result (λ o. o.batch_size ≡ options.batch_size) }
     ensures err { IfErr result (λ e. e ≡ plain kinds.OutOfMemory) }
 {
-    let options = args.options.clone()?;
     match &state.resume_token {
         Some(token) => {
             let keeps = options.start_after.is_some() && !state.document_returned;
@@ -70,6 +69,21 @@ pub fn resume_options(
         }
         None => Ok(resume_at(options, state.initial_operation_time, wire)),
     }
+}
+
+/// The options with which a stream in this state resumes over a link of this wire version. What the state says nothing
+/// of stays as it was given. Only memory can fail.
+pub fn resume_options(
+    args: &WatchArgs,
+    state: &ChangeStreamData,
+    wire: i32,
+) -> Result<ChangeStreamOptions, Error>
+    ensures ok { IfOk result (SameChangeStreamOptions (resumed args.now.options state.now wire)) }
+    ensures size { IfOk result (λ o. o.batch_size ≡ args.now.options.batch_size) }
+    ensures err { IfErr result (λ e. e ≡ plain kinds.OutOfMemory) }
+{
+    let options = args.options.clone()?;
+    resumed(options, state, wire)
 }
 
 /// The time that a new stream saves: that of the reply to its opening, where no start was given, the link's wire

@@ -1,5 +1,5 @@
-use Rattle.mg_ops.proofs.Asking.{asks_to_insert_in}
+use Rattle.mg_ops.proofs.Asking.{asks_to_insert}
 use Rattle.mg_ops.proofs.laws.asks_to_insert.Goals as goal
 
 pub returns : goal.returns
-returns c = asks_to_insert_in
+returns c = asks_to_insert

@@ -1,9 +1,9 @@
 use Rattle.std.proofs.Common.{◌≡◌, get_or, pos, rules}
 use Rattle.mg_bson.specs.Tree.{int64}
 use Rattle.mg_bson.specs.Find.{with_item}
-use Rattle.mg_ops.specs.Commands.{listed}
 use Rattle.mg_ops.proofs.Listing.{listed_on, listed_end}
 use Rattle.mg_ops.proofs.parts.ids.Goals as goal
+use Rattle.mg_options.specs.Printing.{listed}
 
 pub loop-id-preserved : goal.loop-id-preserved
 loop-id-preserved c =

@@ -1,9 +1,9 @@
 use Rattle.std.proofs.Common.{refl}
 use Rattle.mg_bson.specs.Tree.{document}
 use Rattle.mg_bson.specs.Find.{items_joined}
-use Rattle.mg_ops.specs.Commands.{listed}
 use Rattle.mg_ops.proofs.Listing.{listed_go_on, listed_end}
 use Rattle.mg_ops.proofs.parts.put_documents.Goals as goal
+use Rattle.mg_options.specs.Printing.{listed}
 
 pub loop-value-preserved : goal.loop-value-preserved
 loop-value-preserved c =
