@@ -8,8 +8,9 @@ use Rattle.mg_bson.proofs.Joining.{items_joined_more, items_joined_all}
 use Rattle.mg_link.specs.Namespace.{Space}
 use Rattle.mg_link.specs.State.{Entry}
 use Rattle.mg_link.specs.Rules.{accept, choose, insert_entry, Inserted, inserting, no_more, with_document, with_error, write_error}
+use Rattle.mg_query.specs.Numbering.{HaveNewIds, document_of, holds_id, vec_cmp}
 use Rattle.mg_store.specs.Holding.{AreExact, entries_from, entry_at, change_told}
-use Rattle.mg_store.specs.Inserting.{Accepts, Appends, HaveNewIds, Fits, Lists, Refuses, Takes, document_of, holds_id, new_documents, vec_cmp}
+use Rattle.mg_store.specs.Inserting.{Accepts, Appends, Fits, Lists, Refuses, Takes, new_documents}
 use Rattle.mg_store.specs.declared.change.ChangeEntry.{ChangeEntry}
 use Rattle.mg_store.specs.declared.insert.Appended.{Appended}
 use Rattle.mg_store.proofs.Entries.{entries-append}

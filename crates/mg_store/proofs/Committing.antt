@@ -14,23 +14,23 @@ use Rattle.mg_link.specs.Namespace.{Space, space}
 use Rattle.mg_link.specs.State.{Entry, Cursor, Index, State, documents_at, indexes_of, is_space, put_cursor, without_cursors, query, changed_documents}
 use Rattle.mg_link.specs.Step.{documents_of}
 use Rattle.mg_link.specs.Rules.{is_id_among}
+use Rattle.mg_query.specs.Numbering.{KeepsIds, indexed, stored}
+use Rattle.mg_query.specs.Indexing.{index_held}
+use Rattle.mg_query.specs.declared.index.Index as code_index
+use Rattle.mg_query.specs.declared.collection.Collection.{Collection}
 use Rattle.mg_store.specs.Contents.{GoesOn, IsCursor, IsCursorAt, Leads, Represents, collection_at, Becomes}
 use Rattle.mg_store.specs.Holding.{AreExact, entries_from}
-use Rattle.mg_store.specs.Inserting.{KeepsIds, indexed, new_documents, stored}
-use Rattle.mg_store.specs.Indexing.{index_held}
+use Rattle.mg_store.specs.Inserting.{new_documents}
 use Rattle.mg_store.specs.declared.change.ChangeEntry.{ChangeEntry}
 use Rattle.mg_store.specs.declared.cursor.Cursor as code
-use Rattle.mg_store.specs.declared.index.Index as code_index
 use Rattle.mg_store.specs.declared.cursor.Source.{Source}
 use Rattle.mg_store.specs.declared.cursor.Source.TheVariants as sources
 use Rattle.mg_store.specs.declared.insert.Appended.{Appended}
-use Rattle.mg_store.specs.declared.collection.Collection.{Collection}
 use Rattle.mg_store.specs.declared.content.Content.{Content}
 use Rattle.mg_store.specs.declared.content.Effect.TheVariants as effects
 use Rattle.mg_store.proofs.Entries.{entries-append, exact-append}
 use Rattle.mg_store.proofs.Holdings.{changes-length}
 use Rattle.mg_store.proofs.Maps.{int_test, same_space}
-use Rattle.mg_store.specs.declared.change.ChangeEntry.{ChangeEntry}
 
 -- ---- cursors
 

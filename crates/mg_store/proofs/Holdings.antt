@@ -21,16 +21,20 @@ use Rattle.mg_link.specs.Query.{id_index, index_listed, of_indexes, Query, read,
 use Rattle.mg_link.specs.Commands.{query_by, KeepsId}
 use Rattle.mg_link.specs.Write.{with_indexes, Modification, chosen, changing}
 use Rattle.mg_link.specs.State as state
+use Rattle.mg_query.specs.Numbering.{HaveNewIds, KeepsIdsThere, document_of, holds_id, indexed, indexes_there, stored, there, vec_cmp}
+use Rattle.mg_query.specs.Indexing.{index_held}
+use Rattle.mg_query.specs.declared.index.Index as code_index
+use Rattle.mg_query.specs.Replies.{killed_with, found_with}
 use Rattle.mg_store.specs.Answering.{Answers}
 use Rattle.mg_store.specs.Contents.{IsCursorAt, Represents, Settles, collection_at, moving, opening, GoesOn, IsCursor, beginning, taking}
 use Rattle.mg_store.specs.Holding.{AreExact, GivesBatch, IsWatch, entries_from}
-use Rattle.mg_store.specs.Inserting.{Appends, HaveNewIds, Fits, KeepsIdsThere, document_of, holds_id, indexed, indexes_there, new_documents, stored, there, vec_cmp}
-use Rattle.mg_store.specs.Indexing.{index_held}
-use Rattle.mg_store.specs.declared.index.Index as code_index
-use Rattle.mg_store.specs.Replies.{killed_with, found_with}
+use Rattle.mg_store.specs.Inserting.{Appends, Fits, new_documents}
 use Rattle.mg_link.proofs.Cursoring.{not_zero}
-use Rattle.mg_store.specs.Querying.{GivesDocuments, is_none}
-use Rattle.mg_store.specs.declared.batch.Batch.{Batch}
+use Rattle.mg_query.specs.Querying.{GivesDocuments, chosen_by, is_none, lent}
+use Rattle.mg_query.specs.declared.batch.Batch.{Batch}
+use Rattle.mg_query.specs.declared.collection.Collection.{Collection}
+use Rattle.mg_query.specs.declared.refusal.Stop.{Stop}
+use Rattle.mg_query.specs.declared.refusal.Stop.TheVariants as stops
 use Rattle.mg_store.specs.declared.change.Events.{Events}
 use Rattle.mg_store.specs.declared.change.ChangeEntry.{ChangeEntry}
 use Rattle.mg_store.specs.declared.cursor.Cursor as code
@@ -39,24 +43,21 @@ use Rattle.mg_store.specs.declared.cursor.Source.{Source}
 use Rattle.mg_store.specs.declared.cursor.Source.TheVariants as sources
 use Rattle.mg_store.specs.declared.cursor.Watch as held
 use Rattle.mg_store.specs.declared.insert.Appended.{Appended}
-use Rattle.mg_store.specs.declared.collection.Collection.{Collection}
 use Rattle.mg_store.specs.declared.perform.Answer.{Answer}
 use Rattle.mg_store.specs.declared.content.Content.{Content}
 use Rattle.mg_store.specs.declared.content.Effect.{Effect}
 use Rattle.mg_store.specs.declared.content.Effect.TheVariants as effects
-use Rattle.mg_store.specs.declared.refusal.Stop.{Stop}
-use Rattle.mg_store.specs.declared.refusal.Stop.TheVariants as stops
 use Rattle.mg_store.proofs.Entries.{length-entries}
 use Rattle.mg_store.proofs.Settling.{settles}
 use Rattle.mg_link.specs.declared.namespace.Namespace.{Namespace}
 use Rattle.mg_link.specs.Filter.{Condition}
-use Rattle.mg_store.specs.Asking.{Keyed, keyed}
-use Rattle.mg_store.specs.Collecting.{AreDistinct}
-use Rattle.mg_store.specs.Rewriting.{Makes, Removes, all_fit, all_go, altering, chosen_by, lent, MakesAllOr, RemovesAllOr}
+use Rattle.mg_query.specs.Asking.{Keyed, keyed}
+use Rattle.mg_query.specs.Collecting.{AreDistinct}
+use Rattle.mg_query.specs.declared.refusal.Refusal.{Refusal}
+use Rattle.mg_query.proofs.Changing.{distinct_ids}
+use Rattle.mg_store.specs.Rewriting.{Makes, Removes, all_fit, all_go, altering, MakesAllOr, RemovesAllOr}
 use Rattle.mg_store.specs.declared.rewrite.Changes.{Changes}
 use Rattle.mg_store.specs.declared.rewrite.Removals.{Removals}
-use Rattle.mg_store.specs.declared.refusal.Refusal.{Refusal}
-use Rattle.mg_store.proofs.Changing.{distinct_ids}
 use Rattle.mg_store.proofs.Rewriting.{chosen_is, delete_is, made_keyed, made_length, update_is}
 
 pub changes-length : (c : Content) (s : State) (given : ℕ) → Represents c s given → length s.changes ≡ length c.changes.items

@@ -19,16 +19,16 @@ use Rattle.mg_link.specs.History.{IsLegal, state_after}
 use Rattle.mg_link.proofs.Behind.{behind_refusal}
 use Rattle.mg_link.proofs.Indexed.{indexes_refused}
 use Rattle.mg_link.proofs.Legal.{by_rules_push, given_push, kept_is_legal, kept_state, state_push}
+use Rattle.mg_query.specs.Continued.{continued}
+use Rattle.mg_query.specs.Numbering.{stored}
+use Rattle.mg_query.specs.declared.collection.Collection.{Collection}
 use Rattle.mg_store.specs.Contents.{AnswersBy, Becomes, Does, Keeps, Leads, MayKeep, Represents, closing, collection_at, indexes_behind}
-use Rattle.mg_store.specs.Continued.{continued}
 use Rattle.mg_store.specs.declared.perform.Answer.{Answer}
 use Rattle.mg_store.specs.declared.content.Content.{Content}
 use Rattle.mg_store.specs.declared.content.Effect.{Effect}
 use Rattle.mg_store.specs.Holding.{AreExact, entries_from}
-use Rattle.mg_store.specs.Inserting.{stored}
 use Rattle.mg_store.specs.Stored.{AreOpen, Shown, shown, shown_of}
 use Rattle.mg_store.specs.declared.change.ChangeEntry.{ChangeEntry}
-use Rattle.mg_store.specs.declared.collection.Collection.{Collection}
 use Rattle.mg_store.proofs.Holdings.{changes-length, held_is}
 use Rattle.mg_store.proofs.Maps.{int_test}
 

@@ -1,9 +1,8 @@
 -- What lists of collections find.
 use Rattle.std.proofs.Common.{◌≡◌, ℕ, Bool, true, false, List, [], ◌∷◌, map, Option, Some, is_some, Err, refl, sym, ap, ap₂, ◌∙◌, subst}
 use Rattle.std.specs.Prelude.{cond, if◌then◌else◌, ◌||◌}
-use Rattle.std.specs.declared.cmp.Ordering.TheVariants.{Less}
 use Rattle.std.specs.BTreeMap.{keys}
-use Rattle.std.specs.List.{AllByRecursion, filter, list_any}
+use Rattle.std.specs.List.{filter, list_any}
 use Rattle.std.specs.List.Sorted.{IsStrictlySortedBy}
 use Rattle.std.specs.Map.{keys_of, lookup}
 use Rattle.std.specs.Ordering.{is_eq}
@@ -19,30 +18,20 @@ use Rattle.mg_link.specs.Rules.{refused}
 use Rattle.mg_link.specs.State as state
 use Rattle.mg_link.specs.State.{State, collection_in, is_space, space_cmp, names_of, AreInOrder}
 use Rattle.mg_link.proofs.Ordered.{spaces_total, tied_is}
+use Rattle.mg_query.specs.Listing.{name_listed, names_listed}
+use Rattle.mg_query.specs.Querying.{Doing, Results, all_done, doing}
+use Rattle.mg_query.specs.Wanted.{code_of}
+use Rattle.mg_query.specs.declared.collection.Collection.{Collection}
+use Rattle.mg_query.specs.declared.refusal.Refusal.{Refusal}
+use Rattle.mg_query.specs.declared.refusal.Stop.{Stop}
+use Rattle.mg_query.specs.declared.refusal.Stop.TheVariants as stops
 use Rattle.mg_store.specs.Contents.{Misses, Represents, Settles}
-use Rattle.mg_store.specs.Listing.{name_listed, names_listed}
-use Rattle.mg_store.specs.Querying.{Doing, Results, all_done, doing}
-use Rattle.mg_store.specs.Wanted.{code_of}
-use Rattle.mg_store.specs.declared.collection.Collection.{Collection}
 use Rattle.mg_store.specs.declared.content.Content.{Content}
-use Rattle.mg_store.specs.declared.refusal.Refusal.{Refusal}
-use Rattle.mg_store.specs.declared.refusal.Stop.{Stop}
-use Rattle.mg_store.specs.declared.refusal.Stop.TheVariants as stops
 use Rattle.mg_store.proofs.Finding.{stages_same}
 use Rattle.mg_store.proofs.Holdings.{find_refused, is_there}
-use Rattle.mg_store.proofs.Maps.{ns_cmp, same_space}
+use Rattle.mg_store.proofs.Maps.{same_space}
 
 -- ---- the names that are held
-
--- the names stand in order where the keys do
-behind_spaces : (n : Namespace) (ns : List Namespace) → AllByRecursion (λ m. ns_cmp n m ≡ Less) ns → AllByRecursion (λ s. space_cmp (space n) s ≡ Less) (map space ns)
-behind_spaces n [] h = tt
-behind_spaces n (m ∷ ms) h = (h.0, behind_spaces n ms h.1)
-
-pub spaces_sorted : (ns : List Namespace) → IsStrictlySortedBy ns_cmp ns → IsStrictlySortedBy space_cmp (map space ns)
-unfolding IsStrictlySortedBy
-spaces_sorted [] h = tt
-spaces_sorted (n ∷ ns) h = (behind_spaces n ns h.0, spaces_sorted ns h.1)
 
 name_if : (b : Bool) (c : state.Collection) (o : Option state.Collection) → (b || is_some o) ≡ is_some (if b then Some c else o)
 name_if true c o = refl

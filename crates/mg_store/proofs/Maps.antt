@@ -16,8 +16,9 @@ use Rattle.std.proofs.lemmas.Slice.Eq.{bytes_eq-Decides}
 use Rattle.mg_link.specs.declared.namespace.Namespace.{Namespace}
 use Rattle.mg_link.specs.Namespace.{Space, space}
 use Rattle.mg_link.specs.State.{is_space}
+use Rattle.mg_query.specs.declared.collection.Collection.{Collection}
+use Rattle.mg_query.proofs.Spaces.{ns_cmp}
 use Rattle.mg_store.specs.Contents.{collection_at}
-use Rattle.mg_store.specs.declared.collection.Collection.{Collection}
 
 -- ---- ids
 
@@ -38,9 +39,6 @@ then_eq : (a b : Ordering) → is_eq (ordering_then a b) ≡ (is_eq a && is_eq b
 then_eq Less b = refl
 then_eq Equal b = refl
 then_eq Greater b = refl
-
-abbrev pub ns_cmp : Namespace → Namespace → Ordering
-ns_cmp a b = ordering_then (string_cmp a.db b.db) (string_cmp a.coll b.coll)
 
 pub spaces : (a b : Namespace) → is_eq (ns_cmp a b) ≡ is_space (space a) (space b)
 spaces a b = then_eq (string_cmp a.db b.db) (string_cmp a.coll b.coll) ∙ ap₂ (λ (x y : Bool). x && y) (is_eq-slice_cmp (string_bytes a.db) (string_bytes b.db)) (is_eq-slice_cmp (string_bytes a.coll) (string_bytes b.coll))

@@ -9,13 +9,13 @@ use Rattle.mg_link.specs.Commands.{query_by, KeepsId}
 use Rattle.mg_link.specs.Query.{Query, Source, Stage, of_collection, of_indexes}
 use Rattle.mg_link.specs.Rules as rules
 use Rattle.mg_link.specs.Rules.{ended_before, map_ok, no_such_token, place_after, place_at, request_of, token_place, or_code}
-use Rattle.mg_store.specs.Asking.{Keyed, keyed}
-use Rattle.mg_store.specs.Querying.{Doing, doing}
+use Rattle.mg_query.specs.Asking.{Keyed, keyed}
+use Rattle.mg_query.specs.Querying.{Doing, doing}
+use Rattle.mg_query.specs.Wanted.{Wanted, StopsBy, create_collection, create_indexes, drop_collection, insert, kill, more, wanted, watch, find, update, delete}
+use Rattle.mg_query.specs.declared.refusal.Stop.{Stop}
+use Rattle.mg_query.specs.declared.refusal.Stop.TheVariants as stops
 use Rattle.mg_store.specs.Contents.{AnswersOr, Settles}
-use Rattle.mg_store.specs.Wanted.{Wanted, StopsBy, create_collection, create_indexes, drop_collection, insert, kill, more, wanted, watch, find, update, delete}
 use Rattle.mg_store.specs.declared.perform.Answer.{Answer}
-use Rattle.mg_store.specs.declared.refusal.Stop.{Stop}
-use Rattle.mg_store.specs.declared.refusal.Stop.TheVariants as stops
 use Rattle.mg_store.proofs.Settling.{answers_or, answers_unread}
 use Rattle.mg_link.specs.Filter.{Condition}
 use Rattle.mg_link.specs.Write.{Modification}

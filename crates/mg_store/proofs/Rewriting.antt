@@ -9,34 +9,35 @@ use Rattle.std.proofs.lemmas.List.{map-append, take-append-drop}
 use Rattle.std.proofs.lemmas.List.Elements.{filter-append}
 use Rattle.std.proofs.lemmas.List.Folds.{list_all-append}
 use Rattle.std.proofs.Math.Seq.{take-suc}
-use denote.Ref.{Bor}
 use Rattle.std.proofs.lemmas.Slice.Eq.{bytes_eq-Decides}
+use denote.Ref.{Bor}
 use Rattle.mg_bson.specs.Tree.{Tree, Fields, no_fields, field}
 use Rattle.mg_bson.specs.Bytes.{bytes}
-use Rattle.mg_bson.specs.Find.{get, joined, put, with_field}
-use Rattle.mg_bson.proofs.Joining.{joined_all, joined_more}
+use Rattle.mg_bson.specs.Find.{get, put}
 use Rattle.mg_bson.specs.Raw.{fields}
 use Rattle.mg_bson.specs.Writable.{max_len}
 use Rattle.mg_link.specs.Namespace.{Space}
 use Rattle.mg_link.specs.Filter.{Condition, matches}
 use Rattle.mg_link.specs.State.{Change, Entry, deletes}
 use Rattle.mg_link.specs.Commands.{may_set, KeepsId}
-use Rattle.mg_link.specs.Rules.{deleted_entries, deleted_event, entry_before, events_may_be_given, may_be_given, may_stay, modified_entries, modified_event, same_id, set_anew, max_document}
+use Rattle.mg_link.specs.Rules.{deleted_entries, deleted_event, entry_before, events_may_be_given, may_be_given, may_stay, modified_entries, modified_event, max_document}
 use Rattle.mg_link.specs.Write.{Modification, sets, puts, after_delete, after_update, change_of, changing, chosen, differs, modified, with_fields, with_id}
-use Rattle.mg_store.specs.Asking.{Keyed, keyed, matches_keys}
-use Rattle.mg_store.specs.Collecting.{AreDistinct, exchange_document, without_document}
+use Rattle.mg_query.specs.Asking.{Keyed, keyed, matches_keys}
+use Rattle.mg_query.specs.Collecting.{AreDistinct, exchange_document, without_document, AreKeyed, exchange_documents, without_documents}
+use Rattle.mg_query.specs.Numbering.{IsKeyed, document_of, holds_id, is_of_id}
+use Rattle.mg_query.specs.Querying.{chosen_by, lent}
+use Rattle.mg_query.specs.Modifying.{AltersOr}
+use Rattle.mg_query.specs.declared.collection.KeyedDocument.{KeyedDocument}
+use Rattle.mg_query.specs.declared.refusal.Stop.{Stop}
+use Rattle.mg_query.specs.declared.refusal.Stop.TheVariants as stops
+use Rattle.mg_query.proofs.Changing.{none_changes, none_goes}
+use Rattle.mg_query.proofs.Ids.{of_key, same_bytes}
 use Rattle.mg_store.specs.Holding.{AreExact, IsEntryOf, change_told, entries_from, entry_at}
-use Rattle.mg_store.specs.Inserting.{IsKeyed, document_of, holds_id, is_of_id}
-use Rattle.mg_store.specs.Rewriting.{AreIdsOf, AreKeyed, AreMade, ChangesBy, ChangesOr, GivesEvent, Makes, MakesAllOr, MakesOr, Removes, RemovesAllOr, RemovesOr, all_fit, all_go, altering, chosen_by, lent, one_fits, exchange_documents, without_documents, AltersOr, EncodesOr}
+use Rattle.mg_store.specs.Rewriting.{AreIdsOf, AreMade, ChangesBy, ChangesOr, GivesEvent, Makes, MakesAllOr, MakesOr, Removes, RemovesAllOr, RemovesOr, all_fit, all_go, altering, one_fits}
 use Rattle.mg_store.specs.declared.change.ChangeEntry.{ChangeEntry}
-use Rattle.mg_store.specs.declared.collection.KeyedDocument.{KeyedDocument}
-use Rattle.mg_store.specs.declared.refusal.Stop.{Stop}
-use Rattle.mg_store.specs.declared.refusal.Stop.TheVariants as stops
 use Rattle.mg_store.specs.declared.rewrite.Changes.{Changes}
 use Rattle.mg_store.specs.declared.rewrite.Removals.{Removals}
-use Rattle.mg_store.proofs.Changing.{none_changes, none_goes}
 use Rattle.mg_store.proofs.Entries.{entries-append, exact-append, length-entries, told_entry}
-use Rattle.mg_store.proofs.Ids.{of_key, same_bytes}
 use Rattle.mg_store.proofs.Seeing.{matches_by_keys}
 
 -- ---- which documents are chosen
@@ -47,10 +48,6 @@ filter_same cs (d ∷ ds) = ap₂ (λ (b : Bool) (l : List Fields). cond b (d �
 
 pub chosen_is : (cs : List Condition) (keys : List Keyed) (many : Bool) (ds : List Fields) → keys ≡ map keyed cs → chosen_by keys many ds ≡ chosen cs many ds
 chosen_is cs keys many ds e = ap (λ (ks : List Keyed). chosen_by ks many ds) e ∙ ap (λ (l : List Fields). if many then l else take 1 l) (filter_same cs ds)
-
--- what was chosen so far, and the documents that are left; where one is asked for none was chosen so far
-abbrev pub ChosenBehind : List Keyed → Bool → List Fields → List Fields → List Fields → Type 0
-ChosenBehind keys many front left all = (front ++ filter (matches_keys keys) left ≡ filter (matches_keys keys) all) × (many ≡ false → front ≡ [])
 
 -- ---- the `_id` of a document that is modified
 
@@ -481,19 +478,6 @@ lent_push ds i d lt =
     let e : i + 1 ≡ suc i = omega arith in
     ap (λ (n : ℕ). lent (take n ds)) e ∙ ap lent (take-suc ds i d lt) ∙ map-append (λ (x : Bor (List ℕ)). fields x.now) (take i ds) (get_or ds i d ∷ [])
 
--- ---- fields that are set anew
-
-anew_if : (b : Bool) (before more : Fields) (k : List ℕ) (t : Tree) → joined (if b then before else with_field before k t) more ≡ joined before (if b then more else field k t more)
-anew_if true before more k t = refl
-anew_if false before more k t = joined_more before k t more
-
-pub anew_goes : (d before after left rest all : Fields) (k : List ℕ) (t : Tree) → left ≡ field k t rest → after ≡ (if same_id t (get k d) then before else with_field before k t) → joined before (set_anew d left) ≡ all → joined after (set_anew d rest) ≡ all
-anew_goes d before after left rest all k t is made so_far =
-    ap (λ (x : Fields). joined x (set_anew d rest)) made ∙ anew_if (same_id t (get k d)) before (set_anew d rest) k t ∙ sym (ap (λ (fs : Fields). joined before (set_anew d fs)) is) ∙ so_far
-
-pub anew_ends : (d before left all : Fields) → left ≡ no_fields → joined before (set_anew d left) ≡ all → before ≡ all
-anew_ends d before left all is so_far = sym (joined_all before) ∙ sym (ap (λ (fs : Fields). joined before (set_anew d fs)) is) ∙ so_far
-
 -- ---- what stops
 
 pub removes_stop : (entries place : ℕ) (sp : Space) (ds : List Fields) (d : Fields) (old new : Removals) (stop : Stop) → place ≡ suc (entries + length old.entries.items) → GivesEvent sp (deleted_event place sp d) (Err stop) → RemovesOr entries sp ds d old new (Err stop)
@@ -539,7 +523,3 @@ not_altered entries sp m ds d old new (stops.Refused refusal) got =
     let place : ℕ = suc (entries + length old.entries.items) in
     let stays : may_stay (modified m d) ≡ false = too_large (modified m d) (nat_le (length (bytes (modified m d))) max_document) refl got.1 in
     λ h. (got.0, makes_no_more entries place sp m ds d old refl differ (ap (λ (b : Bool). b && may_be_given (modified_event place sp m d)) stays) h)
-
-pub not_encoded : (m : Modification) (d held made : Fields) (stop : Stop) → held ≡ d → made ≡ modified m d → length (bytes held) ≤ max_len → EncodesOr made (Err stop) → AltersOr m d (Err stop)
-not_encoded m d held made stops.Memory same is short got = tt
-not_encoded m d held made (stops.Refused refusal) same is short got = (got.0, subst (λ (e : Fields). max_len < length (bytes e)) is got.1, subst (λ (e : Fields). length (bytes e) ≤ max_len) same short)

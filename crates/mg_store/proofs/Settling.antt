@@ -23,23 +23,23 @@ use Rattle.mg_link.proofs.Allowed.{answered_if, create_ok, drop_ok, found_by, qu
 use Rattle.mg_link.proofs.Collections.{same_space}
 use Rattle.mg_link.proofs.Cursoring.{same_int, not_zero}
 use Rattle.mg_link.proofs.Indexed.{HasIndexesOf, LeavesIndexes, indexes_created, indexes_dropped, indexes_refused, indexes_stay}
+use Rattle.mg_query.specs.Querying.{is_none}
+use Rattle.mg_query.specs.Replies.{IsWritten, fits}
+use Rattle.mg_query.specs.Wanted.{code_of}
+use Rattle.mg_query.specs.declared.refusal.Refusal.{Refusal}
+use Rattle.mg_query.specs.declared.refusal.Refusal.TheVariants as refusals
+use Rattle.mg_query.specs.declared.refusal.Stop.{Stop}
+use Rattle.mg_query.specs.declared.refusal.Stop.TheVariants as stops
+use Rattle.mg_query.specs.Collecting.{exchange_documents, without_documents}
 use Rattle.mg_store.specs.Answering.{Answers, Replies}
 use Rattle.mg_store.specs.Contents.{AnswersBy, AnswersOr, Becomes, Does, EffectOf, LosesNone, Misses, Settled, Settles, moving, opening, indexes_behind, beginning, taking, IsCursor}
 use Rattle.mg_store.specs.Holding.{AreExact, entries_from}
 use Rattle.mg_store.specs.Inserting.{Fits, new_documents}
-use Rattle.mg_store.specs.Querying.{is_none}
-use Rattle.mg_store.specs.Replies.{IsWritten, fits}
 use Rattle.mg_store.specs.declared.cursor.Found.{Found}
-use Rattle.mg_store.specs.Wanted.{code_of}
 use Rattle.mg_store.specs.declared.cursor.Cursor as code
 use Rattle.mg_store.specs.declared.perform.Answer.{Answer}
 use Rattle.mg_store.specs.declared.content.Effect.{Effect}
 use Rattle.mg_store.specs.declared.content.Effect.TheVariants as effects
-use Rattle.mg_store.specs.declared.refusal.Refusal.{Refusal}
-use Rattle.mg_store.specs.declared.refusal.Refusal.TheVariants as refusals
-use Rattle.mg_store.specs.declared.refusal.Stop.{Stop}
-use Rattle.mg_store.specs.declared.refusal.Stop.TheVariants as stops
-use Rattle.mg_store.specs.Rewriting.{exchange_documents, without_documents}
 
 -- a reply that fits settles the request, and one that does not is refused
 pub settles : (s : State) (given : ℕ) (r : rules.Request) (a : rules.Answer) (d : Fields) (e : Effect) (result : Result Answer Stop) → answer s (pos (suc given)) r ≡ Ok a → d ≡ a.reply → EffectOf s given r e → Answers result d e → Settles s given r result

@@ -1,13 +1,13 @@
 -- The answer to a command: its reply, and what it does.
 use Rattle.std.specs.Prelude.{◌≡◌, false, Result, Ok, Err}
 use Rattle.mg_bson.specs.Tree.{Fields}
-use Rattle.mg_store.specs.Replies.{IsWritten, fits}
+use Rattle.mg_query.specs.Replies.{IsWritten, fits}
+use Rattle.mg_query.specs.declared.refusal.Refusal.TheVariants.{BadRequest}
+use Rattle.mg_query.specs.declared.refusal.Stop.{Stop}
+use Rattle.mg_query.specs.declared.refusal.Stop.TheVariants as stops
 use Rattle.mg_store.specs.declared.perform.Answer.{Answer}
 use Rattle.mg_store.specs.declared.content.Effect.{Effect}
 use Rattle.mg_store.specs.declared.content.Effect.TheVariants.{Nothing}
-use Rattle.mg_store.specs.declared.refusal.Refusal.TheVariants.{BadRequest}
-use Rattle.mg_store.specs.declared.refusal.Stop.{Stop}
-use Rattle.mg_store.specs.declared.refusal.Stop.TheVariants as stops
 
 -- the reply is written, and the command does this
 pub record Replies (d : Fields) (effect : Effect) (answer : Answer) : Type 0 where

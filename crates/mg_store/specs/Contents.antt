@@ -17,31 +17,32 @@ use Rattle.mg_link.specs.Rules.{dropped_entries, inserting, answer, answer_of, b
 use Rattle.mg_link.specs.Query.{Query, result}
 use Rattle.mg_link.specs.Commands.{asked}
 use Rattle.mg_link.specs.Kept.{Kept, Follows, IsByRules, IsReply, IsStoreState, given_after, given_of, state_behind, state_of_kept}
+use Rattle.mg_query.specs.Indexing.{index_held}
+use Rattle.mg_query.specs.Numbering.{KeepsIds, indexed, stored}
+use Rattle.mg_query.specs.declared.index.Index as code_index
+use Rattle.mg_query.specs.Querying.{is_none}
+use Rattle.mg_query.specs.Replies.{IsWritten}
+use Rattle.mg_query.specs.Collecting.{AreKeyed, exchange_documents, without_documents}
+use Rattle.mg_query.specs.Wanted.{Wanted, code_of, wanted}
+use Rattle.mg_query.specs.declared.collection.Collection.{Collection}
+use Rattle.mg_query.specs.declared.refusal.Refusal.{Refusal}
+use Rattle.mg_query.specs.declared.refusal.Refusal.TheVariants as refusals
+use Rattle.mg_query.specs.declared.refusal.Stop.{Stop}
+use Rattle.mg_query.specs.declared.refusal.Stop.TheVariants as stops
 use Rattle.mg_store.specs.Holding.{AreExact, IsWatch, entries_from}
-use Rattle.mg_store.specs.Indexing.{index_held}
-use Rattle.mg_store.specs.Inserting.{Fits, KeepsIds, indexed, new_documents, stored}
-use Rattle.mg_store.specs.declared.index.Index as code_index
-use Rattle.mg_store.specs.Querying.{is_none}
-use Rattle.mg_store.specs.Replies.{IsWritten}
-use Rattle.mg_store.specs.Rewriting.{AreKeyed, exchange_documents, without_documents}
+use Rattle.mg_store.specs.Inserting.{Fits, new_documents}
 use Rattle.mg_store.specs.declared.rewrite.Changes.{Changes}
 use Rattle.mg_store.specs.declared.rewrite.Removals.{Removals}
-use Rattle.mg_store.specs.Wanted.{Wanted, code_of, wanted}
 use Rattle.mg_store.specs.declared.change.ChangeEntry.{ChangeEntry}
 use Rattle.mg_store.specs.declared.cursor.Cursor as code
 use Rattle.mg_store.specs.declared.cursor.Found.{Found}
 use Rattle.mg_store.specs.declared.cursor.Source.{Source}
 use Rattle.mg_store.specs.declared.cursor.Source.TheVariants as sources
 use Rattle.mg_store.specs.declared.insert.Appended.{Appended}
-use Rattle.mg_store.specs.declared.collection.Collection.{Collection}
 use Rattle.mg_store.specs.declared.perform.Answer.{Answer}
 use Rattle.mg_store.specs.declared.content.Content.{Content}
 use Rattle.mg_store.specs.declared.content.Effect.{Effect}
 use Rattle.mg_store.specs.declared.content.Effect.TheVariants as effects
-use Rattle.mg_store.specs.declared.refusal.Refusal.{Refusal}
-use Rattle.mg_store.specs.declared.refusal.Refusal.TheVariants as refusals
-use Rattle.mg_store.specs.declared.refusal.Stop.{Stop}
-use Rattle.mg_store.specs.declared.refusal.Stop.TheVariants as stops
 
 -- ---- what is held
 

@@ -8,7 +8,7 @@ use Rattle.mg_link.specs.Namespace.{Space, Target, space, target}
 use Rattle.mg_link.specs.Commands.{text_of}
 use Rattle.mg_link.specs.State.{inserts, updates, replaces, deletes, drops, invalidates, Change, Entry, Watch, events_between}
 use Rattle.mg_link.specs.Rules.{token_of, now_of, batch_place, documents_of_items, ends_watch}
-use Rattle.mg_store.specs.Asking.{Keyed, held, keyed, matches_keys}
+use Rattle.mg_query.specs.Asking.{Keyed, held, keyed, matches_keys}
 use Rattle.mg_store.specs.declared.change.ChangeEntry.{ChangeEntry}
 use Rattle.mg_store.specs.declared.change.Events.{Events}
 use Rattle.mg_store.specs.declared.cursor.Watch as code

@@ -13,7 +13,7 @@ use Rattle.mg_link.specs.declared.link.LinkError.TheVariants as errors
 use Rattle.mg_link.specs.declared.link.Polled.{Polled}
 use Rattle.mg_link.specs.declared.link.Polled.TheVariants as polled
 use Rattle.mg_link.specs.declared.link.Ticket.{Ticket}
-use Rattle.mg_store.specs.Replies.{fits}
+use Rattle.mg_query.specs.Replies.{fits}
 use Rattle.mg_store.specs.Stored.{Stored}
 use Rattle.mg_store.specs.declared.fate.Fate.{Fate}
 use Rattle.mg_store.specs.declared.fate.FateKind.{FateKind}

@@ -1,35 +1,20 @@
 -- What updates and deletes make of the documents of a collection.
 use Rattle.std.specs.declared.alloc.Global.{Global}
-use Rattle.std.specs.Prelude.{◌≡◌, ◌<◌, ◌≤◌, ℕ, length, Bool, true, false, ◌&&◌, List, [], ◌∷◌, ◌++◌, map, take, Option, Some, None, Result, Ok, Err, if◌then◌else◌, Vec}
+use Rattle.std.specs.Prelude.{◌≡◌, ℕ, Bool, true, false, ◌&&◌, List, [], ◌∷◌, ◌++◌, map, Result, Ok, Err, Vec}
 use Rattle.std.specs.List.{AllByRecursion, filter, list_all}
-use denote.Ref.{Bor}
 use Rattle.mg_bson.specs.Tree.{Fields}
-use Rattle.mg_bson.specs.Bytes.{bytes}
-use Rattle.mg_bson.specs.Raw.{fields}
-use Rattle.mg_bson.specs.Writable.{max_len}
 use Rattle.mg_link.specs.Namespace.{Space}
 use Rattle.mg_link.specs.Rules.{deleted_entries, events_may_be_given, may_be_given, may_stay, modified_entries, modified_event}
 use Rattle.mg_link.specs.Write.{Modification, differs, modified}
-use Rattle.mg_store.specs.Asking.{Keyed, matches_keys}
-use Rattle.mg_store.specs.Collecting.{exchange_document, without_document}
+use Rattle.mg_query.specs.Numbering.{IsKeyed, document_of}
+use Rattle.mg_query.specs.declared.collection.KeyedDocument.{KeyedDocument}
+use Rattle.mg_query.specs.declared.refusal.Refusal.TheVariants as refusals
+use Rattle.mg_query.specs.declared.refusal.Stop.{Stop}
+use Rattle.mg_query.specs.declared.refusal.Stop.TheVariants as stops
 use Rattle.mg_store.specs.Holding.{AreExact, IsEntryOf, entries_from}
-use Rattle.mg_store.specs.Inserting.{IsKeyed, document_of}
 use Rattle.mg_store.specs.declared.change.ChangeEntry.{ChangeEntry}
-use Rattle.mg_store.specs.declared.collection.KeyedDocument.{KeyedDocument}
-use Rattle.mg_store.specs.declared.refusal.Refusal.TheVariants as refusals
-use Rattle.mg_store.specs.declared.refusal.Stop.{Stop}
-use Rattle.mg_store.specs.declared.refusal.Stop.TheVariants as stops
-use Rattle.mg_store.specs.declared.rewrite.Altered.{Altered}
 use Rattle.mg_store.specs.declared.rewrite.Changes.{Changes}
 use Rattle.mg_store.specs.declared.rewrite.Removals.{Removals}
-
--- the documents that are lent
-abbrev pub lent : List (Bor (List ℕ)) → List Fields
-lent ds = map (λ d. fields d.now) ds
-
--- those that a write is for
-abbrev pub chosen_by : List Keyed → Bool → List Fields → List Fields
-chosen_by keys many ds = if many then filter (matches_keys keys) ds else take 1 (filter (matches_keys keys) ds)
 
 -- the entry of an event that may be given, or the refusal of another
 abbrev pub GivesEvent : Space → Fields → Result ChangeEntry Stop → Type 0
@@ -38,28 +23,6 @@ GivesEvent sp event (Err stops.Memory) = Unit {0}
 GivesEvent sp event (Err (stops.Refused refusal)) = (refusal ≡ refusals.BadRequest) × (may_be_given event ≡ false)
 
 -- ---- a document that is altered
-
-pub record IsAltered (m : Modification) (d : Fields) (a : Altered) : Type 0 where
-  pub differs : differs d (modified m d) ≡ true
-  pub document_is : a.document ≡ modified m d
-  pub encoded_is : a.encoded ≡ bytes (modified m d)
-  pub read_back : fields a.encoded ≡ modified m d
-
-abbrev pub Alters : Modification → Fields → Option Altered → Type 0
-Alters m d None = modified m d ≡ d
-Alters m d (Some a) = IsAltered m d a
-
--- a document is encoded, or refused as too large for that
-abbrev pub EncodesOr : Fields → Result (List ℕ) Stop → Type 0
-EncodesOr d (Ok encoded) = (encoded ≡ bytes d) × (fields encoded ≡ d)
-EncodesOr d (Err stops.Memory) = Unit {0}
-EncodesOr d (Err (stops.Refused refusal)) = (refusal ≡ refusals.BadRequest) × (max_len < length (bytes d))
-
--- a document is altered or left equal, or it would be too large to be encoded, which the old one is not
-abbrev pub AltersOr : Modification → Fields → Result (Option Altered) Stop → Type 0
-AltersOr m d (Ok altered) = Alters m d altered
-AltersOr m d (Err stops.Memory) = Unit {0}
-AltersOr m d (Err (stops.Refused refusal)) = (refusal ≡ refusals.BadRequest) × (max_len < length (bytes (modified m d))) × (length (bytes d) ≤ max_len)
 
 -- the altered document and its entry may stay
 abbrev pub one_fits : ℕ → Space → Modification → Fields → Bool
@@ -146,20 +109,3 @@ abbrev pub RemovesAllOr : ℕ → Space → List Fields → Result Removals Stop
 RemovesAllOr entries sp ds (Ok r) = Removes entries sp ds r
 RemovesAllOr entries sp ds (Err stops.Memory) = Unit {0}
 RemovesAllOr entries sp ds (Err (stops.Refused refusal)) = (refusal ≡ refusals.BadRequest) × (all_go entries sp ds ≡ false)
-
--- ---- collections
-
--- the documents once each of these stands in the place of that with its id
-abbrev pub exchange_documents : List KeyedDocument → List Fields → List Fields
-exchange_documents [] ds = ds
-exchange_documents (k ∷ ks) ds = exchange_documents ks (exchange_document k.key.items (document_of k) ds)
-
--- each has its id under its encoding
-abbrev pub AreKeyed : List KeyedDocument → Type 0
-AreKeyed [] = Unit {0}
-AreKeyed (k ∷ ks) = IsKeyed k.key.items (document_of k) × AreKeyed ks
-
--- the documents without those with these ids
-abbrev pub without_documents : List (Vec ℕ Global) → List Fields → List Fields
-without_documents [] ds = ds
-without_documents (k ∷ ks) ds = without_documents ks (without_document k.items ds)

@@ -8,12 +8,11 @@ ghost use Rattle.mg_link.specs.State.{State, nothing};
 ghost use Rattle.mg_store.specs.Contents.{Leads, Represents};
 
 use crate::change::ChangeEntry;
-use crate::collection::Collection;
 use crate::cursor::Cursor;
-use crate::index::Index;
 use crate::insert::{Appended, append_reserved};
 use crate::rewrite::{Changes, Removals};
 use mg_link::{Namespace, OutOfMemory};
+use mg_query::{Collection, Index};
 use std::alloc::Global;
 use std::collections::BTreeMap;
 

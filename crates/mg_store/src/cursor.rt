@@ -1,7 +1,7 @@
 //! The open cursors.
-use crate::filter::Condition;
 use mg_bson::RawDocumentBuf;
 use mg_link::{Namespace, OperationTarget};
+use mg_query::Condition;
 
 /// What a cursor is to see: the changes of its target whose events meet each condition.
 pub(crate) struct Watch {

@@ -2,8 +2,8 @@
 ghost use Rattle.std.specs.Prelude.{◌≡◌, IfOk, true};
 ghost use Rattle.mg_store.specs.InMemory.{IsSmall, fate_at, is_small};
 
-use crate::reply::{bytes_of, refusal};
 use mg_link::OutOfMemory;
+use mg_query::reply::{bytes_of, refusal};
 use std::alloc::Global;
 
 /// What becomes of a command.

@@ -11,26 +11,23 @@ ghost use Rattle.mg_link.specs.Query.{Query, Stage, of_collection};
 ghost use Rattle.mg_link.specs.Rules.{find, id_unless, kill, more, place_at, query_space, size_of};
 ghost use Rattle.mg_link.specs.State as state;
 ghost use Rattle.mg_link.specs.State.{State, after, watching};
-ghost use Rattle.mg_store.specs.Asking.{ids_among};
+ghost use Rattle.mg_query.specs.Asking.{ids_among};
+ghost use Rattle.mg_query.specs.Querying.{doing, held_stage};
+ghost use Rattle.mg_query.specs.Wanted.{lent_start};
 ghost use Rattle.mg_store.specs.Contents.{OpensAt, Represents, Settles, beginning, moving, opening, taking};
 ghost use Rattle.mg_store.specs.Holding.{IsWatch, entries_from};
-ghost use Rattle.mg_store.specs.Querying.{doing, held_stage};
-ghost use Rattle.mg_store.specs.Wanted.{lent_start};
 
-use crate::batch::batch_from;
 use crate::change::{count_before, ended_before, events_from};
 use crate::content::{Content, Effect};
 use crate::cursor::{Cursor, Found, Source, Watch};
 use crate::perform::{Answer, answered};
-use crate::query::Plan;
-use crate::reading::{id_of, is_same_space, watch_namespace};
-use crate::refusal::{Refusal, Stop};
-use crate::reply;
-use crate::results::through;
 use crate::token::place_of;
-use crate::watch::LentStart;
 use mg_bson::{Array, Bson, RawArray, RawValue};
 use mg_link::Namespace;
+use mg_query::{
+    LentStart, Plan, Refusal, Stop, batch_from, id_of, is_same_space, reply, through,
+    watch_namespace,
+};
 use std::alloc::Global;
 use std::collections::BTreeSet;
 

@@ -6,17 +6,17 @@ ghost use Rattle.mg_bson.specs.Raw.{items};
 ghost use Rattle.mg_bson.specs.Tree.{Fields, no_items};
 ghost use Rattle.mg_link.specs.Namespace.{space};
 ghost use Rattle.mg_link.specs.Rules.{inserting, write_error};
-ghost use Rattle.mg_store.specs.Asking.{documents_among};
-ghost use Rattle.mg_store.specs.Inserting.{AcceptsOr, Adds, Appends, Encodes, Fits, GivesEntry, GivesId, GivesKey, KeepsIdsThere, Lists, Takes, holds_id, new_documents, there};
+ghost use Rattle.mg_query.specs.Asking.{documents_among};
+ghost use Rattle.mg_query.specs.Numbering.{KeepsIdsThere, holds_id, there};
+ghost use Rattle.mg_store.specs.Inserting.{AcceptsOr, Adds, Appends, Encodes, Fits, GivesEntry, GivesId, GivesKey, Lists, Takes, new_documents};
 
-use crate::change::{ChangeEntry, entry_of, insert_event};
-use crate::collection::{Collection, KeyedDocument};
-use crate::copies::tree_of;
-use crate::filter::key_of;
-use crate::limits::{MAX_DOCUMENT, MAX_INSERTED_LEVELS};
-use crate::reply::{put_item, write_error};
+use crate::change::{ChangeEntry, entry_of};
 use mg_bson::{Array, Bson, BsonError, Document, RawArray, RawDocumentBuf, to_bytes};
 use mg_link::{Namespace, OutOfMemory};
+use mg_query::reply::{put_item, write_error};
+use mg_query::{
+    Collection, KeyedDocument, MAX_DOCUMENT, MAX_INSERTED_LEVELS, insert_event, key_of, tree_of,
+};
 use std::alloc::{AllocError, AllocFailed, Global};
 use std::collections::BTreeSet;
 
@@ -244,7 +244,7 @@ fn holds(collection: Option<&Collection>, key: &Vec<u8>) -> bool
     ensures { KeepsIdsThere collection.entry → result ≡ holds_id key.now.items (there collection.entry) }
 {
     match collection {
-        Some(collection) => collection.ids.contains_key(key),
+        Some(collection) => collection.has_id(key),
         None => false,
     }
 }

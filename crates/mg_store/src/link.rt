@@ -9,13 +9,13 @@ ghost use Rattle.mg_store.specs.InMemory.{IsPrompt, IsSmall, NamesNone, Performe
 ghost use Rattle.mg_store.specs.Sending.{HandsOver, HeardAt, Hearing, Honest, PolledAt, Sent, pended_of};
 ghost use Rattle.mg_store.specs.Stored.{Performs};
 
-use crate::copies::copy;
 use crate::fate::{Fate, FateKind, kind_at, pend_at};
 use crate::store::Store;
 use mg_bson::{RawDocument, RawDocumentBuf};
 use mg_link::{
     Link, LinkError, Log, LoggedCall, OutOfMemory, Polled, Receipt, Seen, Ticket, push_reserved,
 };
+use mg_query::copy;
 use std::alloc::Global;
 use std::marker::Model;
 

@@ -2,19 +2,15 @@
 ghost use Rattle.std.specs.Prelude.{◌≡◌, ℕ, IfOk, map, string_bytes};
 ghost use Rattle.mg_link.specs.Rules.{refusal};
 ghost use Rattle.mg_link.specs.State.{State, AreInOrder};
+ghost use Rattle.mg_query.specs.Wanted.{lent_write};
 ghost use Rattle.mg_store.specs.Answering.{Answers, Refuses};
 ghost use Rattle.mg_store.specs.Contents.{AnswersAsked, AnswersBy, AnswersOr, Represents, closing};
-ghost use Rattle.mg_store.specs.Wanted.{lent_write};
 
 use crate::content::{Content, Effect};
 use crate::cursor::Watch;
-use crate::reading::{namespace, target};
-use crate::refusal::{Refusal, Stop};
-use crate::reply;
-use crate::request::{Request, request_of};
-use crate::write::Write;
 use mg_bson::{Document, RawDocument, RawDocumentBuf};
 use mg_link::OutOfMemory;
+use mg_query::{Refusal, Request, Stop, Write, namespace, reply, request_of, target};
 use std::alloc::Global;
 
 /// A reply, and what the command does.

@@ -1,44 +1,25 @@
 //! What updates and deletes change.
-ghost use Rattle.std.specs.Prelude.{◌≡◌, ◌<◌, ◌^◌, ◌++◌, ◌∷◌, [], List, Some, codes, if◌then◌else◌, map, IfOk, OnOk};
-ghost use Rattle.mg_bson.specs.Find.{get, with_field};
+ghost use Rattle.std.specs.Prelude.{◌≡◌, ◌<◌, ◌^◌, ◌++◌, ◌∷◌, [], List, Some, codes, IfOk, OnOk};
+ghost use Rattle.mg_bson.specs.Find.{get};
 ghost use Rattle.mg_bson.specs.Raw.{fields};
 ghost use Rattle.mg_bson.specs.Tree.{Fields};
 ghost use Rattle.mg_bson.specs.View.{tree};
 ghost use Rattle.mg_link.specs.Namespace.{space};
-ghost use Rattle.mg_link.specs.Rules.{modified_event, same_id, set_anew};
+ghost use Rattle.mg_link.specs.Rules.{modified_event};
 ghost use Rattle.mg_link.specs.Write.{modified};
-ghost use Rattle.mg_store.specs.Asking.{held};
-ghost use Rattle.mg_store.specs.Inserting.{IsKeyed, KeepsIds, KeepsIdsThere, stored, there};
-ghost use Rattle.mg_store.specs.Modifying.{lent_modification};
-ghost use Rattle.mg_store.specs.Rewriting.{Alters, AreKeyed, ChangesOr, GivesEvent, MakesAllOr, MakesOr, RemovesAllOr, RemovesOr, chosen_by, lent, exchange_documents, without_documents, AltersOr, EncodesOr};
+ghost use Rattle.mg_query.specs.Numbering.{IsKeyed};
+ghost use Rattle.mg_query.specs.Modifying.{lent_modification, Alters};
+ghost use Rattle.mg_query.specs.Querying.{lent};
+ghost use Rattle.mg_store.specs.Rewriting.{ChangesOr, GivesEvent, MakesAllOr, MakesOr, RemovesAllOr, RemovesOr};
 
-use crate::change::{ChangeEntry, deleted_event, entry_of, replaced_event, updated_event};
-use crate::collection::{Collection, KeyedDocument};
-use crate::copies::{encoded, owned, tree_of};
-use crate::filter::{Condition, key_of, raw_key};
-use crate::limits::{encoded_may_stay, may_be_given};
-use crate::lookup::chosen_in;
-use crate::modification::{Modification, modified, with_fields};
-use crate::refusal::{Refusal, Stop};
-use crate::reply::with;
-use mg_bson::{Bson, BsonError, Document, RawDocument, RawDocumentBuf, to_bytes};
+use crate::change::{ChangeEntry, entry_of};
+use mg_bson::{Bson, Document, RawDocumentBuf};
 use mg_link::{Namespace, OutOfMemory};
+use mg_query::{
+    Altered, KeyedDocument, Modification, Refusal, Stop, alter, deleted_event, encoded_may_stay,
+    key_of, may_be_given, owned, replaced_event, set_anew, updated_event, with_fields,
+};
 use std::alloc::Global;
-
-/// The documents that a write is for, lent: all that meet each condition, or the first of them.
-pub(crate) fn chosen<'a>(
-    alloc: Global,
-    conditions: &Vec<Condition>,
-    many: bool,
-    collection: Option<&'a Collection>,
-) -> Result<Vec<&'a RawDocumentBuf>, OutOfMemory>
-    ensures { KeepsIdsThere collection.entry → IfOk result (λ ds. lent ds.items ≡ chosen_by (map held conditions.now.items) many (there collection.entry)) }
-{
-    match collection {
-        Some(collection) => chosen_in(alloc, conditions, many, collection),
-        None => Ok(Vec::new(alloc)),
-    }
-}
 
 /// A copy of the `_id` of a stored document. Each of those has one.
 fn stored_id(alloc: Global, document: &RawDocumentBuf) -> Result<Bson, OutOfMemory>
@@ -56,55 +37,6 @@ fn stored_key(alloc: Global, document: &RawDocumentBuf) -> Result<Vec<u8>, OutOf
 {
     let id = stored_id(alloc, document)?;
     key_of(alloc, id)
-}
-
-/// Whether the document has this value there.
-fn has_value(
-    alloc: Global,
-    document: &RawDocument<'_>,
-    name: &str,
-    value: &Bson,
-) -> Result<bool, OutOfMemory>
-    ensures { IfOk result (λ b. b ≡ same_id (tree value.now) (get name.now (fields document.now))) }
-{
-    let Some(found) = document.get(name) else {
-        return Ok(false);
-    };
-    let here = raw_key(alloc, &found)?;
-    let key = key_of(alloc, value.clone()?)?;
-    Ok(here == key)
-}
-
-/// These fields, and another where the document has another value there.
-fn with_anew(
-    alloc: Global,
-    anew: Document,
-    document: &RawDocument<'_>,
-    name: &str,
-    value: &Bson,
-) -> Result<Document, OutOfMemory>
-    ensures { IfOk result (λ d. d ≡ (if same_id (tree value.now) (get name.now (fields document.now)) then anew else with_field anew name.now (tree value.now))) }
-{
-    if has_value(alloc, document, name, value)? {
-        return Ok(anew);
-    }
-    with(anew, name, value.clone()?)
-}
-
-/// The fields that are to have another value than the document has.
-fn set_anew(
-    alloc: Global,
-    sets: &Document,
-    document: &RawDocument<'_>,
-) -> Result<Document, OutOfMemory>
-    ensures { IfOk result (λ d. d ≡ set_anew (fields document.now) sets.now) }
-{
-    let mut anew = Document::new(alloc);
-    let mut left = sets.iter();
-    'fields: while let Some((name, value)) = left.next() {
-        anew = with_anew(alloc, anew, document, name, value)?;
-    }
-    Ok(anew)
 }
 
 /// The event of a document of which the modification makes this one.
@@ -138,60 +70,6 @@ fn given_entry(alloc: Global, ns: &Namespace, event: &Document) -> Result<Change
     }
     let entry = entry_of(alloc, ns, event)?;
     Ok(entry)
-}
-
-/// A document as an update makes it, and its encoding.
-struct Altered {
-    document: Document,
-    encoded: RawDocumentBuf,
-}
-
-// By hand, so that letting one go is one call.
-impl Drop for Altered {
-    fn drop(self) {
-        let Altered {
-            document: _,
-            encoded: _,
-        } = self;
-    }
-}
-
-impl Altered {
-    fn into_parts(self) -> (Document, RawDocumentBuf)
-        ensures document { result.0 ≡ self.document }
-        ensures encoded { result.1 ≡ self.encoded }
-    {
-        let Altered { document, encoded } = self;
-        (document, encoded)
-    }
-}
-
-/// The encoding of a document, or the refusal of one that is too large for that.
-fn encoded_anew(alloc: Global, document: &Document) -> Result<RawDocumentBuf, Stop>
-    ensures { EncodesOr document.now result }
-{
-    match to_bytes(alloc, document) {
-        Ok(encoded) => Ok(encoded),
-        Err(BsonError::TooLarge) => Err(Stop::Refused(Refusal::BadRequest)),
-        Err(_) => Err(Stop::Memory),
-    }
-}
-
-/// What the modification makes of a document, none where it leaves that equal.
-fn alter(
-    alloc: Global,
-    modification: &Modification<'_>,
-    document: &RawDocumentBuf,
-) -> Result<Option<Altered>, Stop>
-    ensures { AltersOr (lent_modification modification.now) (fields document.now) result }
-{
-    let before = encoded(alloc, &tree_of(alloc, document.as_raw())?)?;
-    let document = modified(alloc, modification, document)?;
-    let encoded = encoded_anew(alloc, &document)?;
-    if before == encoded {
-        return Ok(None);
-    }
-    Ok(Some(Altered { document, encoded }))
 }
 
 /// The new documents of an update, under their ids, and their entries.
@@ -379,29 +257,4 @@ pub(crate) fn removals_of(
         removals.take(alloc, entries, ns, document)?;
     }
     Ok(removals)
-}
-
-impl Collection {
-    /// Puts documents in the places of those with the same ids.
-    pub(crate) fn change_all(&mut self, documents: Vec<KeyedDocument>)
-        ensures documents { KeepsIds self.old → AreKeyed documents.items → stored self.new ≡ exchange_documents documents.items (stored self.old) }
-        ensures ids { KeepsIds self.old → AreKeyed documents.items → KeepsIds self.new }
-        ensures indexes { self.new.indexes ≡ self.old.indexes }
-    {
-        for keyed in documents {
-            let (key, document) = keyed.into_parts();
-            self.change(&key, document);
-        }
-    }
-
-    /// Removes the documents with these ids.
-    pub(crate) fn remove_all(&mut self, ids: &Vec<Vec<u8>>)
-        ensures documents { KeepsIds self.old → stored self.new ≡ without_documents ids.now.items (stored self.old) }
-        ensures ids { KeepsIds self.old → KeepsIds self.new }
-        ensures indexes { self.new.indexes ≡ self.old.indexes }
-    {
-        for id in ids {
-            self.remove(id);
-        }
-    }
 }

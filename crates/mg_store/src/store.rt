@@ -13,11 +13,10 @@ ghost use Rattle.mg_store.specs.Stored.{AreOpen, Performs, Stored, kept_of, show
 
 use crate::change::ChangeEntry;
 use crate::content::Content;
-use crate::continuing::{continued_cursor, ends_cursor};
-use crate::copies::copy;
 use crate::perform::{Answer, closing, refused};
 use mg_bson::{RawDocument, RawDocumentBuf};
 use mg_link::{HistoryStep, Namespace, OutOfMemory, Receipt, push_reserved};
+use mg_query::{continued_cursor, copy, ends_cursor};
 use std::alloc::Global;
 use std::marker::Model;
 

@@ -6,23 +6,21 @@ ghost use Rattle.mg_link.specs.Namespace.{space};
 ghost use Rattle.mg_link.specs.Commands.{KeepsId};
 ghost use Rattle.mg_link.specs.Rules.{create_collection, create_indexes, insert, drop_collection, update, delete};
 ghost use Rattle.mg_link.specs.State.{State};
-ghost use Rattle.mg_store.specs.Asking.{documents_among, held, keyed};
+ghost use Rattle.mg_query.specs.Asking.{documents_among, held, keyed};
+ghost use Rattle.mg_query.specs.Indexing.{index_held};
+ghost use Rattle.mg_query.specs.Modifying.{lent_modification};
 ghost use Rattle.mg_store.specs.Contents.{Represents, Settles};
-ghost use Rattle.mg_store.specs.Indexing.{index_held};
-ghost use Rattle.mg_store.specs.Modifying.{lent_modification};
 
 use crate::change::dropped_entries;
 use crate::content::{Content, Effect};
-use crate::filter::Condition;
-use crate::index::{Index, all_may_stay, with_indexes};
 use crate::insert::{Appended, append_all};
-use crate::modification::Modification;
 use crate::perform::{Answer, answered};
-use crate::refusal::{Refusal, Stop};
-use crate::reply;
-use crate::rewrite::{changes_of, chosen, removals_of};
+use crate::rewrite::{changes_of, removals_of};
 use mg_bson::{Array, RawArray};
 use mg_link::Namespace;
+use mg_query::{
+    Condition, Index, Modification, Refusal, Stop, all_may_stay, chosen, reply, with_indexes,
+};
 use std::alloc::Global;
 
 impl Content {

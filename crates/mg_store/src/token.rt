@@ -5,11 +5,10 @@ ghost use Rattle.hex.specs.Hex.{encode_lower};
 ghost use Rattle.mg_bson.specs.RawView.{value};
 ghost use Rattle.mg_link.specs.Rules.{token_of, token_place};
 
-use crate::filter::{key_of, raw_key};
-use crate::reading::text_at;
-use crate::reply::token;
 use mg_bson::{Bson, RawValue};
 use mg_link::OutOfMemory;
+use mg_query::reply::token;
+use mg_query::{key_of, raw_key, text_at};
 use std::alloc::Global;
 
 /// The number that the text of a token spells.

@@ -1,5 +1,5 @@
 use Rattle.std.proofs.Common.{◌≡◌, suc, ◌-◌, ◌<◌, length, inl, inr, sym, ◌∙◌, arith}
-use Rattle.mg_store.specs.Selecting.{selecting}
+use Rattle.mg_query.specs.Selecting.{selecting}
 use Rattle.mg_store.proofs.Entries.{ended_none}
 use Rattle.mg_store.proofs.Seeing.{ended_ok, not_ended}
 use Rattle.mg_store.proofs.change.ended_before.Goals as goal

@@ -6,8 +6,8 @@ use Rattle.mg_bson.specs.Tree.{document}
 use Rattle.mg_bson.specs.Find.{with_item}
 use Rattle.mg_link.specs.State as state
 use Rattle.mg_link.specs.State.{Entry, sees}
+use Rattle.mg_query.specs.Selecting.{selecting}
 use Rattle.mg_store.specs.Holding.{AreExact, IsWatch, entries_from, entry_at}
-use Rattle.mg_store.specs.Selecting.{selecting}
 use Rattle.mg_store.proofs.Seeing.{selected_watch}
 use Rattle.mg_store.proofs.Entries.{length-entries, drop_entry, exact_at}
 use Rattle.mg_store.proofs.Batches.{Stands, batch_passes, batch_takes, batch_counted, batch_filled, batch_ended, batch_at_end}

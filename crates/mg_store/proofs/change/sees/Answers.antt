@@ -2,8 +2,8 @@ use Rattle.std.proofs.Common.{◌≡◌, subst}
 use Rattle.std.specs.Prelude.{IfOk}
 use Rattle.mg_bson.specs.Raw.{fields}
 use Rattle.mg_link.specs.Namespace.{target}
-use Rattle.mg_store.specs.Asking.{matches_keys}
-use Rattle.mg_store.specs.Selecting.{selecting}
+use Rattle.mg_query.specs.Asking.{matches_keys}
+use Rattle.mg_query.specs.Selecting.{selecting}
 use Rattle.mg_store.proofs.Seeing.{sees_ok}
 use Rattle.mg_store.proofs.change.sees.Goals as goal
 

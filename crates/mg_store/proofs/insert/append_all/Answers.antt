@@ -3,8 +3,9 @@ use Rattle.mg_bson.specs.Tree.{Fields, Items}
 use Rattle.mg_bson.specs.Raw.{items, items_left}
 use Rattle.mg_link.specs.Namespace.{space}
 use Rattle.mg_link.specs.Rules.{inserting}
-use Rattle.mg_store.specs.Asking.{ahead, documents_among}
-use Rattle.mg_store.specs.Inserting.{Takes, KeepsIdsThere, there}
+use Rattle.mg_query.specs.Asking.{ahead, documents_among}
+use Rattle.mg_query.specs.Numbering.{KeepsIdsThere, there}
+use Rattle.mg_store.specs.Inserting.{Takes}
 use Rattle.mg_store.proofs.Appending.{Going, insert_begins, insert_goes, insert_stops, insert_ends}
 use Rattle.mg_store.proofs.insert.append_all.Goals as goal
 use Rattle.mg_store.proofs.insert.append_all.Goals.{In_ok-taken, else-ordered-via-then-ordered+else-not-taken, else-ordered-via-else-ordered}

@@ -2,8 +2,9 @@ use Rattle.std.proofs.Common.{Err, take, subst}
 use Rattle.std.proofs.lemmas.Result.{err_from_is_err_and}
 use Rattle.mg_bson.specs.Raw.{fields}
 use Rattle.mg_link.specs.Namespace.{space}
-use Rattle.mg_store.specs.Modifying.{lent_modification}
-use Rattle.mg_store.specs.Rewriting.{MakesOr, lent}
+use Rattle.mg_query.specs.Modifying.{lent_modification}
+use Rattle.mg_query.specs.Querying.{lent}
+use Rattle.mg_store.specs.Rewriting.{MakesOr}
 use Rattle.mg_store.proofs.Rewriting.{changes_all_stop}
 use Rattle.mg_store.proofs.rewrite.changes_of.Goals as goal
 

@@ -1,7 +1,8 @@
 use Rattle.std.proofs.lemmas.Result.{err_from_is_err_and}
 use Rattle.mg_bson.specs.Raw.{fields}
 use Rattle.mg_link.specs.Namespace.{space}
-use Rattle.mg_store.specs.Rewriting.{RemovesOr, lent}
+use Rattle.mg_query.specs.Querying.{lent}
+use Rattle.mg_store.specs.Rewriting.{RemovesOr}
 use Rattle.mg_store.proofs.Rewriting.{removes_all_stop}
 use Rattle.mg_store.proofs.rewrite.removals_of.Goals as goal
 use Rattle.std.proofs.Common.{Err, take, subst}

@@ -3,10 +3,10 @@ use mir.Val.{SFits}
 use Rattle.std.proofs.lemmas.Int.{to_z-of_z}
 use Rattle.std.specs.Prelude.{IfOk}
 use Rattle.mg_link.specs.Rules.{refusal}
+use Rattle.mg_query.specs.Wanted.{code_of}
+use Rattle.mg_query.specs.declared.refusal.Stop.{Stop}
 use Rattle.mg_store.specs.Answering.{Replies}
 use Rattle.mg_store.specs.Contents.{AnswersOr}
-use Rattle.mg_store.specs.Wanted.{code_of}
-use Rattle.mg_store.specs.declared.refusal.Stop.{Stop}
 use Rattle.mg_store.specs.declared.content.Effect.TheVariants as effects
 use Rattle.mg_store.proofs.Settling.{refused_ok}
 use Rattle.mg_store.proofs.content.Content.answer.Goals as goal

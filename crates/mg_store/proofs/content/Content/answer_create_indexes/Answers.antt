@@ -5,7 +5,7 @@ use Rattle.mg_link.specs.Query.{index_listed}
 use Rattle.mg_link.specs.Rules.{may_stay}
 use Rattle.mg_link.specs.State.{Index, indexes_of}
 use Rattle.mg_link.specs.Write.{with_indexes}
-use Rattle.mg_store.specs.Indexing.{index_held}
+use Rattle.mg_query.specs.Indexing.{index_held}
 use Rattle.mg_store.proofs.Holdings.{indexes_are, indexes_settle, indexes_refused}
 use Rattle.mg_store.proofs.Maps.{found_at}
 use Rattle.mg_store.proofs.content.Content.answer_create_indexes.Goals as goal

@@ -4,9 +4,10 @@ use Rattle.std.specs.Option.{option_copied}
 use denote.Ref.{Bor}
 use Rattle.mg_link.specs.Namespace.{space}
 use Rattle.mg_link.specs.Rules.{deleted_reply}
-use Rattle.mg_store.specs.Asking.{held}
+use Rattle.mg_query.specs.Asking.{held}
+use Rattle.mg_query.specs.Querying.{lent}
 use Rattle.mg_store.specs.Contents.{collection_at}
-use Rattle.mg_store.specs.Rewriting.{Removes, lent}
+use Rattle.mg_store.specs.Rewriting.{Removes}
 use Rattle.mg_store.proofs.Holdings.{distinct_there, delete_settles, delete_stops, keeps_there}
 use Rattle.mg_store.proofs.Maps.{found_at}
 use Rattle.mg_store.proofs.content.Content.answer_delete.Goals as goal

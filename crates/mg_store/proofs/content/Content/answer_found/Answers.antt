@@ -5,10 +5,10 @@ use Rattle.std.proofs.lemmas.Int.{ints, to_z-of_z}
 use Rattle.mg_bson.specs.Tree.{Fields}
 use Rattle.mg_bson.specs.Raw.{fields}
 use Rattle.mg_link.specs.Namespace.{space}
+use Rattle.mg_query.specs.Querying.{GivesDocuments}
+use Rattle.mg_query.specs.Replies.{found_with}
 use Rattle.mg_store.specs.Answering.{Answers}
 use Rattle.mg_store.specs.Contents.{beginning}
-use Rattle.mg_store.specs.Querying.{GivesDocuments}
-use Rattle.mg_store.specs.Replies.{found_with}
 use Rattle.mg_store.proofs.Holdings.{find_settles}
 use Rattle.mg_store.proofs.content.Content.answer_found.Goals as goal
 use Rattle.mg_store.proofs.content.Content.answer_found.Goals.{then-single, else-single}

@@ -5,9 +5,10 @@ use Rattle.mg_bson.specs.Raw.{items}
 use Rattle.mg_bson.specs.Literal.{◌⇒◌⨾◌, empty}
 use Rattle.mg_link.specs.Namespace.{space}
 use Rattle.mg_link.specs.Rules.{errors_field, inserting, number_of}
-use Rattle.mg_store.specs.Asking.{documents_among}
+use Rattle.mg_query.specs.Asking.{documents_among}
+use Rattle.mg_query.specs.Numbering.{there}
 use Rattle.mg_store.specs.Contents.{collection_at}
-use Rattle.mg_store.specs.Inserting.{Appends, there}
+use Rattle.mg_store.specs.Inserting.{Appends}
 use Rattle.mg_store.proofs.Holdings.{insert_settles, keeps_there}
 use Rattle.mg_store.proofs.Maps.{found_at}
 use Rattle.mg_store.proofs.content.Content.answer_insert.Goals as goal

@@ -5,7 +5,7 @@ use Rattle.mg_bson.specs.Tree.{items_size}
 use Rattle.mg_bson.specs.Raw.{items, items_left}
 use Rattle.mg_link.specs.State.{State}
 use Rattle.mg_link.specs.Rules.{is_id_among}
-use Rattle.mg_store.specs.Asking.{ids_among}
+use Rattle.mg_query.specs.Asking.{ids_among}
 use Rattle.mg_store.specs.Contents.{Represents}
 use Rattle.mg_store.proofs.Killing.{Lists}
 use Rattle.mg_store.proofs.content.Content.answer_kill.Given as goal

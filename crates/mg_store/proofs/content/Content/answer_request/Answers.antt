@@ -4,13 +4,13 @@ use Rattle.std.proofs.lemmas.Int.{to_z-of_z}
 use Rattle.std.proofs.lemmas.Result.{err_from_is_err_and}
 use Rattle.mg_bson.specs.Raw.{items}
 use Rattle.mg_link.specs.Namespace.{space}
-use Rattle.mg_store.specs.Asking.{held, ids_among, lent_space, lent_target}
+use Rattle.mg_query.specs.Asking.{held, ids_among, lent_space, lent_target}
 use Rattle.mg_link.specs.Query.{of_database}
 use Rattle.mg_link.specs.Rules.{more}
+use Rattle.mg_query.specs.Wanted.{lent_request, lent_start}
+use Rattle.mg_query.specs.Querying.{held_stage}
 use Rattle.mg_store.specs.Contents.{Settles}
-use Rattle.mg_store.specs.Wanted.{lent_request, lent_start}
 use Rattle.mg_store.proofs.Requesting.{kill_answers, more_answers, stops_answer, watch_answers, find_answers, list_answers, indexes_list_answers}
-use Rattle.mg_store.specs.Querying.{held_stage}
 use Rattle.mg_store.proofs.content.Content.answer_request.Goals as goal
 
 pub returns-in_err-space : goal.returns-in_err-space

@@ -4,10 +4,11 @@ use Rattle.std.specs.Option.{option_copied}
 use denote.Ref.{Bor}
 use Rattle.mg_link.specs.Namespace.{space}
 use Rattle.mg_link.specs.Rules.{updated_reply}
-use Rattle.mg_store.specs.Asking.{held}
+use Rattle.mg_query.specs.Asking.{held}
+use Rattle.mg_query.specs.Modifying.{lent_modification}
+use Rattle.mg_query.specs.Querying.{lent}
 use Rattle.mg_store.specs.Contents.{collection_at}
-use Rattle.mg_store.specs.Modifying.{lent_modification}
-use Rattle.mg_store.specs.Rewriting.{Makes, lent}
+use Rattle.mg_store.specs.Rewriting.{Makes}
 use Rattle.mg_store.proofs.Holdings.{distinct_there, keeps_there, update_settles, update_stops}
 use Rattle.mg_store.proofs.Maps.{found_at}
 use Rattle.mg_store.proofs.content.Content.answer_update.Goals as goal

@@ -4,8 +4,8 @@ use Rattle.std.proofs.lemmas.Int.{ints, to_z-of_z}
 use Rattle.mg_bson.specs.Tree.{timestamp}
 use Rattle.mg_link.specs.Namespace.{space}
 use Rattle.mg_link.specs.Rules.{id_unless, stamp_of, watch_space}
+use Rattle.mg_query.specs.Wanted.{lent_start}
 use Rattle.mg_store.specs.Contents.{opening}
-use Rattle.mg_store.specs.Wanted.{lent_start}
 use Rattle.mg_store.specs.declared.cursor.Source.TheVariants as sources
 use Rattle.mg_store.proofs.Holdings.{batch_is, changes-length, opened_with, watch_settles}
 use Rattle.mg_store.proofs.content.Content.answer_watch.Goals as goal

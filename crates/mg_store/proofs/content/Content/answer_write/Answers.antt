@@ -1,11 +1,11 @@
 use Rattle.std.proofs.Common.{map, Ok, ap, ◌∙◌}
 use Rattle.mg_bson.specs.Raw.{items}
 use Rattle.mg_link.specs.Namespace.{space}
-use Rattle.mg_store.specs.Asking.{documents_among, held, lent_space}
-use Rattle.mg_store.specs.Indexing.{index_held}
-use Rattle.mg_store.specs.Wanted.{lent_write}
+use Rattle.mg_query.specs.Asking.{documents_among, held, lent_space}
+use Rattle.mg_query.specs.Indexing.{index_held}
+use Rattle.mg_query.specs.Wanted.{lent_write}
+use Rattle.mg_query.specs.Modifying.{lent_modification}
 use Rattle.mg_store.proofs.Requesting.{insert_answers, create_answers, indexes_answer, drop_answers, update_answers, delete_answers}
-use Rattle.mg_store.specs.Modifying.{lent_modification}
 use Rattle.mg_store.proofs.content.Content.answer_write.Goals as goal
 
 pub returns-in_ok-namespace-in-Insert : goal.returns-in_ok-namespace-in-Insert

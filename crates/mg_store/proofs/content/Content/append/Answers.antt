@@ -6,13 +6,14 @@ use Rattle.mg_bson.specs.Tree.{Fields}
 use Rattle.mg_link.specs.Namespace.{space}
 use Rattle.mg_link.specs.State.{is_space}
 use Rattle.mg_link.specs.Step.{documents_of}
+use Rattle.mg_query.specs.Numbering.{HaveNewIds, indexed, stored}
+use Rattle.mg_query.specs.Indexing.{index_held}
+use Rattle.mg_query.specs.declared.collection.Collection.{Collection}
+use Rattle.mg_query.specs.declared.collection.KeyedDocument.{KeyedDocument}
 use Rattle.mg_store.specs.Contents.{Leads, collection_at}
-use Rattle.mg_store.specs.Inserting.{HaveNewIds, indexed, new_documents, stored}
-use Rattle.mg_store.specs.Indexing.{index_held}
+use Rattle.mg_store.specs.Inserting.{new_documents}
 use Rattle.mg_store.specs.declared.change.ChangeEntry.{ChangeEntry}
-use Rattle.mg_store.specs.declared.collection.Collection.{Collection}
 use Rattle.mg_store.specs.declared.insert.Appended.{Appended}
-use Rattle.mg_store.specs.declared.collection.KeyedDocument.{KeyedDocument}
 use Rattle.mg_store.specs.declared.content.Content.{Content}
 use Rattle.mg_store.specs.declared.content.Effect.TheVariants.{Insert}
 use Rattle.mg_store.proofs.Committing.{does_insert, insert_undone, nothing_done, some_of}

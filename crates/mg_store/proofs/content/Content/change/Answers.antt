@@ -1,10 +1,10 @@
 use Rattle.std.proofs.Common.{◌≡◌, List, ◌++◌, None, Some, sym, ap, ◌∙◌, subst}
 use Rattle.mg_link.specs.Namespace.{space}
+use Rattle.mg_query.specs.Numbering.{stored}
+use Rattle.mg_query.specs.Collecting.{AreKeyed, exchange_documents}
+use Rattle.mg_query.specs.declared.collection.Collection.{Collection}
 use Rattle.mg_store.specs.Contents.{collection_at}
-use Rattle.mg_store.specs.Inserting.{stored}
-use Rattle.mg_store.specs.Rewriting.{AreKeyed, exchange_documents}
 use Rattle.mg_store.specs.declared.change.ChangeEntry.{ChangeEntry}
-use Rattle.mg_store.specs.declared.collection.Collection.{Collection}
 use Rattle.mg_store.specs.declared.content.Content.{Content}
 use Rattle.mg_store.proofs.Committing.{does_nothing_to, does_rewrite, some_of}
 use Rattle.mg_store.proofs.Maps.{collections_update, found_at}

@@ -5,9 +5,9 @@ use Rattle.mg_bson.specs.Tree.{Fields}
 use Rattle.mg_link.specs.Namespace.{space}
 use Rattle.mg_link.specs.State.{is_space}
 use Rattle.mg_link.specs.Step.{documents_of}
+use Rattle.mg_query.specs.Numbering.{KeepsIds, stored}
+use Rattle.mg_query.specs.declared.collection.Collection.{Collection}
 use Rattle.mg_store.specs.Contents.{collection_at}
-use Rattle.mg_store.specs.Inserting.{KeepsIds, stored}
-use Rattle.mg_store.specs.declared.collection.Collection.{Collection}
 use Rattle.mg_store.proofs.Committing.{does_index, nothing_done, some_of}
 use Rattle.mg_store.proofs.Maps.{collections_update, found_at}
 use Rattle.mg_store.proofs.content.Content.index.Goals as goal

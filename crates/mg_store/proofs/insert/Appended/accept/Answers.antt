@@ -8,12 +8,13 @@ use Rattle.std.proofs.lemmas.List.Folds.{list_any-append}
 use Rattle.mg_bson.specs.Tree.{Tree, Fields}
 use Rattle.mg_bson.specs.Find.{get}
 use Rattle.mg_link.specs.Filter.{key}
+use Rattle.mg_query.specs.Numbering.{HaveNewIds, IsKeyed, KeepsIdsThere, document_of, holds_id, is_of_id, there, vec_cmp}
+use Rattle.mg_query.specs.declared.collection.KeyedDocument.{KeyedDocument}
+use Rattle.mg_query.proofs.Ids.{accept_new, accept_twice, holds_push, new_push}
 use Rattle.mg_store.specs.Holding.{AreExact}
-use Rattle.mg_store.specs.Inserting.{HaveNewIds, Fits, IsKeyed, KeepsIdsThere, document_of, holds_id, is_of_id, new_documents, there, vec_cmp}
-use Rattle.mg_store.specs.declared.collection.KeyedDocument.{KeyedDocument}
+use Rattle.mg_store.specs.Inserting.{Fits, new_documents}
 use Rattle.mg_store.specs.declared.change.ChangeEntry.{ChangeEntry}
 use Rattle.mg_store.proofs.Entries.{exact-append}
-use Rattle.mg_store.proofs.Ids.{accept_new, accept_twice, holds_push, new_push}
 use Rattle.mg_store.proofs.insert.Appended.accept.Goals as goal
 use Rattle.mg_store.proofs.insert.Appended.accept.Goals.{After-holds, then-holds-via-then-holds, then-holds-via-else-holds+then-contains}
 

@@ -2,8 +2,8 @@ use Rattle.std.proofs.Common.{refl, ap, ◌∙◌, cond, true}
 use Rattle.std.specs.BTreeSet.{contains}
 use Rattle.std.specs.List.{each_same}
 use Rattle.std.specs.Str.{bytes_eq}
-use Rattle.mg_store.specs.Inserting.{vec_cmp}
-use Rattle.mg_store.proofs.Ids.{set_updates}
+use Rattle.mg_query.specs.Numbering.{vec_cmp}
+use Rattle.mg_query.proofs.Ids.{set_updates}
 use Rattle.mg_store.proofs.insert.Appended.add.Goals as goal
 
 pub returns : goal.returns

@@ -1,6 +1,7 @@
 use Rattle.std.proofs.Common.{◌≡◌, ℕ, ◌+◌, suc, length, subst, arith}
 use Rattle.mg_link.specs.Namespace.{space}
-use Rattle.mg_store.specs.Inserting.{Accepts, there}
+use Rattle.mg_query.specs.Numbering.{there}
+use Rattle.mg_store.specs.Inserting.{Accepts}
 use Rattle.mg_store.proofs.insert.Appended.take.Goals as goal
 
 pub returns-in-Ok : goal.returns-in-Ok

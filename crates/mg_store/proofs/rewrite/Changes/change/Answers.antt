@@ -6,7 +6,7 @@ use Rattle.mg_bson.specs.Tree.{Fields}
 use Rattle.mg_link.specs.Namespace.{space}
 use Rattle.mg_link.specs.Rules.{may_stay}
 use Rattle.mg_link.specs.Write.{modified}
-use Rattle.mg_store.specs.Modifying.{lent_modification}
+use Rattle.mg_query.specs.Modifying.{lent_modification}
 use Rattle.mg_store.specs.Rewriting.{GivesEvent}
 use Rattle.mg_store.proofs.rewrite.Changes.change.Goals as goal
 

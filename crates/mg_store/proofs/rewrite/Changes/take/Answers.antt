@@ -1,8 +1,7 @@
 use Rattle.std.proofs.Common.{◌≡◌, ◌+◌, suc, length, subst, arith}
 use Rattle.mg_bson.specs.Raw.{fields}
 use Rattle.mg_link.specs.Namespace.{space}
-use Rattle.mg_store.specs.Modifying.{lent_modification}
-use Rattle.mg_store.specs.Rewriting.{Alters}
+use Rattle.mg_query.specs.Modifying.{lent_modification, Alters}
 use Rattle.mg_store.proofs.Rewriting.{makes_by, makes_same}
 use Rattle.mg_store.proofs.rewrite.Changes.take.Goals as goal
 

@@ -1,0 +1,12 @@
+pub mod Asking
+pub mod Grouping
+pub mod Indexing
+pub mod Numbering
+pub mod Collecting
+pub mod Modifying
+pub mod Querying
+pub mod Selecting
+pub mod Wanted
+pub mod Replies
+pub mod Listing
+pub mod Continued

@@ -1,7 +1,0 @@
-use Rattle.std.proofs.Common.{drop, map}
-use Rattle.mg_bson.specs.Raw.{fields}
-use Rattle.mg_store.proofs.Giving.{Going}
-use Rattle.mg_store.proofs.batch.batch_from.Given as goal
-
-abbrev pub invariant-loop-place : goal.invariant-loop-place
-invariant-loop-place l = Going (drop l.from (map fields l.documents)) (drop l.place (map fields l.documents)) l.size l.given l.room l.left

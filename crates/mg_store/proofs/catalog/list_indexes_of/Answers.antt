@@ -1,7 +1,0 @@
-use Rattle.std.proofs.Common.{◌∙◌}
-use Rattle.mg_bson.specs.Raw.{fields}
-use Rattle.mg_store.proofs.Finding.{indexes_are_listed}
-use Rattle.mg_store.proofs.catalog.list_indexes_of.Goals as goal
-
-pub returns : goal.returns
-returns c = c.list_indexes_parts.ensures ∙ indexes_are_listed (fields c.args.command.now)

@@ -1,7 +1,0 @@
-use Rattle.std.proofs.Common.{◌≡◌, drop}
-use Rattle.mg_store.specs.Inserting.{KeepsIds, stored}
-use Rattle.mg_store.specs.Rewriting.{without_documents}
-use Rattle.mg_store.proofs.collection.Collection.remove_all.Given as goal
-
-abbrev pub invariant-loop-id : goal.invariant-loop-id
-invariant-loop-id l = (KeepsIds l.fn.self → KeepsIds l.self × (without_documents (drop l.id-index l.ids.items) (stored l.self) ≡ without_documents l.ids.items (stored l.fn.self))) × (l.self.indexes ≡ l.fn.self.indexes)

@@ -1,8 +1,0 @@
-use Rattle.std.proofs.Common.{◌≡◌, drop, map}
-use Rattle.mg_link.specs.Write.{with_indexes}
-use Rattle.mg_store.specs.Indexing.{index_held}
-use Rattle.mg_store.specs.Inserting.{indexes_there}
-use Rattle.mg_store.proofs.index.with_indexes.Given as goal
-
-abbrev pub invariant-loop-index : goal.invariant-loop-index
-invariant-loop-index l = with_indexes (map index_held l.indexes.items) (map index_held (drop l.index-index l.more)) ≡ with_indexes (indexes_there l.collection) (map index_held l.more)
