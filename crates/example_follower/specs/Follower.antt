@@ -7,6 +7,7 @@ use Rattle.mg_link.specs.Follow.{FollowsOn, Moved}
 use Rattle.mg_link.specs.Link.{Awaited, Told}
 use Rattle.mg_link.specs.Log.{Call}
 use Rattle.mg_link.specs.State.{Start, Watch}
+use Rattle.mg_options.specs.Options.{no_options}
 use Rattle.mg_options.specs.declared.change_stream.ChangeStreamOptions.{ChangeStreamOptions}
 use Rattle.mg_ops.specs.declared.change_stream.WatchArgs.{WatchArgs}
 use Rattle.mg_change.specs.Following.{Asks, Turned, follow_of, idle, not_open}
@@ -14,7 +15,7 @@ use Rattle.mg_change.specs.declared.stream.ChangeStream.{ChangeStream}
 
 -- the options of a watch that goes on behind this token, where there is one
 abbrev pub from_token : Option Tree → ChangeStreamOptions
-from_token token = record { resume_after = token; start_at_operation_time = None; start_after = None; all_changes_for_cluster = None; batch_size = None }
+from_token token = record no_options { resume_after = token }
 
 -- the document that keeps a token
 abbrev pub kept_token : Option Tree → Fields

@@ -27,7 +27,7 @@ pub fn watch_of(
     ensures { IfOk result (λ args. args.options ≡ from_token token) }
 {
     let ns = ns.clone()?;
-    let mut options = ChangeStreamOptions::default();
+    let mut options = ChangeStreamOptions::builder();
     options.resume_after = token;
     Ok(WatchArgs {
         pipeline: Vec::new(alloc),

@@ -16,10 +16,10 @@ use Rattle.mg_link.specs.declared.error.Error.{Error}
 use Rattle.mg_link.specs.declared.error.ErrorKind.{ErrorKind}
 use Rattle.mg_link.specs.declared.error.ErrorKind.TheVariants as kind
 use Rattle.mg_link.specs.declared.error.Malformed.TheVariants as malformed
-use Rattle.mg_link.proofs.Calls.{RequestRan, request_ran}
+use Rattle.mg_link.proofs.Calls.{RequestRan, request_ran, success_ran}
 use Rattle.mg_link.proofs.Pasts.{fails_anyhow, heard_by, heard_last}
-use Rattle.mg_ops.specs.Commands.{get_more_command}
-use Rattle.mg_ops.specs.Cursors.{BreaksIn, Gave, Opens, batch_at}
+use Rattle.mg_ops.proofs.Watching.{manner_read}
+use Rattle.mg_ops.specs.Cursors.{BreaksIn, Gave, batch_at, asking_command, manner_of, OpensWith, watch_manner}
 use Rattle.mg_ops.specs.Failing.{CannotBeSent, FailsBy}
 use Rattle.mg_ops.specs.declared.aggregate.ChangeStreamAggregate.{ChangeStreamAggregate}
 use Rattle.mg_ops.specs.declared.cursor_reply.CursorInformation.{CursorInformation}
@@ -40,7 +40,6 @@ use Rattle.mg_change.specs.declared.event_poll.Stepped.TheVariants as stepped
 use Rattle.mg_change.specs.declared.stream.ChangeStream.{ChangeStream}
 use Rattle.mg_change.specs.declared.stream.Phase.{Phase}
 use Rattle.mg_change.specs.declared.stream.Phase.TheVariants as phase
-use Rattle.mg_change.proofs.Heeding.{success_ran}
 use Rattle.mg_change.proofs.Growing.{resumed_grows, resumes_grows}
 
 -- ---- errors
@@ -76,12 +75,12 @@ items_break said batch at e (inr bad) = inr (bad_item batch at bad)
 -- the cursor of a reply whose batch was not kept
 pub kept_unheld : (s t : ChangeStream) (bytes : List ℕ) (out : GetMoreResult) (e : Error) → Gave bytes out → (id : ℤ) → id ≡ out.id → t.cursor ≡ record s.cursor { id = id; ns = out.ns } → FailsBy (BreaksBatch (fields out.raw_reply)) e → Unkept s t bytes e
 kept_unheld s t bytes out e gave id same is by =
-    let tells : TellsCursor bytes s.cursor.batch_size (record s.cursor { id = id; ns = out.ns }) out.post_batch_resume_token = record {
+    let tells : TellsCursor bytes (manner_of s.cursor) (record s.cursor { id = id; ns = out.ns }) out.post_batch_resume_token = record {
       batch = gave.batch;
       says = gave.says ∙ ap (λ (i : ℤ). Ok (record { id = i; space = space out.ns; token = out.post_batch_resume_token; batch = gave.batch })) (sym same);
-      size_is = refl;
+      manner_is = refl;
     } in
-    unheld out.post_batch_resume_token (subst (λ (c : CursorInformation). TellsCursor bytes s.cursor.batch_size c out.post_batch_resume_token) (sym is) tells)
+    unheld out.post_batch_resume_token (subst (λ (c : CursorInformation). TellsCursor bytes (manner_of s.cursor) c out.post_batch_resume_token) (sym is) tells)
     (subst (λ (b : List ℕ). FailsBy (BreaksBatch (fields b)) e) gave.whole by)
 
 -- an error that is no want of memory has its cause
@@ -226,12 +225,12 @@ module _ (awaited : Awaited) (past : Past) (at : Standing) where
           by = (far.by.0, start_in s (phase.Asking get_more exec) far.by.1, may_ask s empty held far.by.1, subst (λ (stage : Stage). Flies awaited past (more_command at) stage) (sym not_sent) tt);
         }
 
-    rest_cannot : (e : Error) → s.buffer.items ≡ [] → s.cursor.id ≢ pos 0 → FailsBy (CannotBuild s.cursor.batch_size (get_more_command s.cursor.id (space s.cursor.ns) s.cursor.batch_size)) e → CallFails past at (standing_of (record s { phase = phase.Rest })) e
+    rest_cannot : (e : Error) → s.buffer.items ≡ [] → s.cursor.id ≢ pos 0 → FailsBy (CannotBuild s.cursor.batch_size (asking_command s.cursor)) e → CallFails past at (standing_of (record s { phase = phase.Rest })) e
     rest_cannot e empty held (inl room) = no_memory (kind_of_plain e kind.OutOfMemory room) (as_it_was far.by.1.settled (as_before s far.same far.by.1))
     rest_cannot e empty held (inr by) =
-        cannot_ask (may_ask s empty held far.by.1) (subst (λ (c : CursorInformation). CannotBuild c.batch_size (get_more_command c.id (space c.ns) c.batch_size) e) far.by.1.cursor by) (as_before s far.same far.by.1)
+        cannot_ask (may_ask s empty held far.by.1) (subst (λ (c : CursorInformation). CannotBuild c.batch_size (asking_command c) e) far.by.1.cursor by) (as_before s far.same far.by.1)
 
-    pub rest_fails : (e : Error) → s.buffer.items ≡ [] → s.cursor.id ≢ pos 0 → FailsBy (CannotBuild s.cursor.batch_size (get_more_command s.cursor.id (space s.cursor.ns) s.cursor.batch_size)) e → CallFailed past at (standing_of (record s { phase = phase.Rest })) e
+    pub rest_fails : (e : Error) → s.buffer.items ≡ [] → s.cursor.id ≢ pos 0 → FailsBy (CannotBuild s.cursor.batch_size (asking_command s.cursor)) e → CallFailed past at (standing_of (record s { phase = phase.Rest })) e
     rest_fails e empty held by = record { why = rest_cannot e empty held by; token = far.same }
 
   -- a batch is lost
@@ -300,14 +299,14 @@ module _ (awaited : Awaited) (past : Past) (at : Standing) where
   -- ---- a getMore
 
   -- the reply came
-  pub more_kept : (s t : ChangeStream) (bytes : List ℕ) → t.aggregate ≡ s.aggregate → TellsCursor bytes s.cursor.batch_size t.cursor t.batch_token → HoldsBatch (fields bytes) (buffered t)
+  pub more_kept : (s t : ChangeStream) (bytes : List ℕ) → t.aggregate ≡ s.aggregate → TellsCursor bytes (manner_of s.cursor) t.cursor t.batch_token → HoldsBatch (fields bytes) (buffered t)
       → s.aggregate ≡ at.aggregate → s.cursor ≡ at.cursor → HeardMore past at (reply bytes) → IsSuccess bytes → SoFar awaited past at false phase.Fresh (record t { phase = phase.Fresh })
   more_kept s t bytes stays tells holds kept cursor heard success =
       record {
         same = stays ∙ kept;
         by = record {
           bytes = bytes;
-          replied = more refl heard success (subst (λ (c : CursorInformation). TellsCursor bytes c.batch_size t.cursor t.batch_token) cursor tells);
+          replied = more refl heard success (subst (λ (c : CursorInformation). TellsCursor bytes (manner_of c) t.cursor t.batch_token) cursor tells);
           holds = holds;
         };
       }
@@ -317,7 +316,7 @@ module _ (awaited : Awaited) (past : Past) (at : Standing) where
       broken_loses (BreaksIn (fields bytes)) t e r kept (asking heard.asked (stays ∙ cursor))
       (λ breaks. let so = cursor_resumes (fields bytes) e breaks in (so, more_failed e (untold heard.asked (was_broken bytes (heard_last past (more_command at) (reply bytes) heard.heard) success breaks) (stays ∙ cursor ∙ sym (ap (λ (y : Error). cursor_behind y at.cursor) breaks.error))) so)) by h
   unkept_loses s t bytes e r kept (unheld upto tells by) cursor heard success h =
-      let says = subst (λ (c : CursorInformation). TellsCursor bytes c.batch_size t.cursor upto) cursor tells in
+      let says = subst (λ (c : CursorInformation). TellsCursor bytes (manner_of c) t.cursor upto) cursor tells in
       broken_loses (BreaksBatch (fields bytes)) t e r kept (keeping false bytes upto (more refl heard success says))
       (λ breaks. let so = batch_resumes (fields bytes) e breaks in (so, more_failed e (broken bytes upto heard success says breaks) so)) by h
 
@@ -375,11 +374,12 @@ module _ (awaited : Awaited) (past : Past) (at : Standing) where
   again_fails s e why failed = not_resumed (owing s) why (fails_anyhow past (resume_command past.wire at) true TellsNoCursor e failed)
 
   -- the reply to it came
-  pub resumed_by : (s : ChangeStream) (bytes : List ℕ) (out : CursorSpecification) → Opens s.aggregate.args.options.batch_size bytes out → s.aggregate ≡ at.aggregate → Resumes past at s.cursor → HeardLast past (resume_command past.wire at) true (reply bytes) → IsSuccess bytes
+  pub resumed_by : (s : ChangeStream) (bytes : List ℕ) (out : CursorSpecification) → OpensWith s.aggregate.args.options.batch_size s.aggregate.args.options.max_await_time s.aggregate.args.options.comment bytes out → s.aggregate ≡ at.aggregate → Resumes past at s.cursor → HeardLast past (resume_command past.wire at) true (reply bytes) → IsSuccess bytes
       → Resumed past at s.cursor out.initial_reply out.info out.post_batch_resume_token
-  resumed_by s bytes out opens kept why heard success =
+  resumed_by s bytes out read kept why heard success =
+      let opens = read.opens in
       subst (λ (b : List ℕ). Resumed past at s.cursor b out.info out.post_batch_resume_token) (sym opens.whole)
-      (record { why = why; heard = heard_by past (resume_command past.wire at) true (reply bytes) heard; success = success; tells = record { batch = opens.batch; says = opens.says; size_is = opens.size_is ∙ ap (λ (a : ChangeStreamAggregate). a.args.options.batch_size) kept } })
+      (record { why = why; heard = heard_by past (resume_command past.wire at) true (reply bytes) heard; success = success; tells = record { batch = opens.batch; says = opens.says; manner_is = manner_read s.aggregate.args.options bytes out read ∙ ap (λ (a : ChangeStreamAggregate). watch_manner a.args.options) kept } })
 
   pub resumption_breaks : (s : ChangeStream) (bytes : List ℕ) (e : Error) → FailsBy (BreaksIn (fields bytes)) e → s.aggregate ≡ at.aggregate → Resumes past at s.cursor → HeardLast past (resume_command past.wire at) true (reply bytes) → IsSuccess bytes → CallFailed past at (standing_of (record s { phase = phase.Owing })) e
   resumption_breaks s bytes e by kept why heard success = record { why = not_resumed (owing s) why (unread_fails past (resume_command past.wire at) true TellsNoCursor bytes e by heard success); token = kept }
@@ -471,7 +471,7 @@ module _ (old new : Awaited) (log log' : Told) (wire : ℤ) (s : ChangeStream) w
     asked : (result : Step Sending (List ℕ)) → Runs old new log log' wire exec result → (calls : List Call) → log ≡ Some calls → (places : List ℕ) (since : ℕ) (at : Standing) (resumed : Bool) → since ≤ length calls → SoFar old (past_of places since calls wire) at resumed (phase.Asking get_more exec) s
         → RequestRan new places since calls log' wire (more_command at) false result
     asked result runs calls logged places since at resumed room far =
-        request_ran old new log log' wire exec (more_command at) false result (asking.carries.command_is ∙ ap (λ (c : CursorInformation). get_more_command c.id (space c.ns) c.batch_size) far.by.1.cursor) asking.carries.retries_is runs
+        request_ran old new log log' wire exec (more_command at) false result (asking.carries.command_is ∙ ap asking_command far.by.1.cursor) asking.carries.retries_is runs
         calls logged places since room far.by.3
 
     pub asking_waits : (get_more' : GetMore) (exec' : Sending) → Runs old new log log' wire exec (step.Pending exec') → StepCaused old new log log' wire (phase.Asking get_more exec) s (record s { phase = phase.Asking get_more' exec' }) (stepped.Gives poll.Pending)

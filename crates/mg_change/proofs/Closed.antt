@@ -26,12 +26,12 @@ use Rattle.mg_link.proofs.Killing.{close_begun, close_gone_on}
 use Rattle.mg_link.proofs.Resumes.{kill_own, resumed_with}
 use Rattle.mg_link.proofs.Retries.{at_stage}
 use Rattle.mg_ops.specs.Commands.{kill_command}
-use Rattle.mg_ops.specs.Cursors.{Cursor}
+use Rattle.mg_ops.specs.Cursors.{Cursor, manner_of}
 use Rattle.mg_ops.specs.Resuming.{options_for}
 use Rattle.mg_ops.specs.declared.cursor_reply.CursorSpecification.{CursorSpecification}
 use Rattle.mg_ops.specs.declared.cursor_reply.GetMoreResult.{GetMoreResult}
 use Rattle.mg_ops.specs.declared.get_more.GetMore.{GetMore}
-use Rattle.mg_ops.proofs.Asking.{asks_as_aimed, asks_for_more, asks_to_kill}
+use Rattle.mg_ops.proofs.Asking.{asks_as_aimed_plainly, asks_for_more_plainly, asks_to_kill_plainly}
 use Rattle.mg_ops.specs.Aims.{asked_for}
 use Rattle.mg_change.specs.Following.{idle_by, in_hand, in_phase}
 use Rattle.mg_change.specs.Phases.{Carries, IsKept, Sends, resuming_command}
@@ -172,20 +172,20 @@ module _ (old new : Awaited) (log log' : Told) (wire : ℤ) (f : Follow) (r : Re
       let once = runs_once old new log log' wire s result is.retries_is runs in
       let ids = ids_left r.cursor.id r.opened in
       own_tried old new log log' (left_of f r) s.command s.stage once.attempt
-      (kill_own (left_of f r) s.command ids (asks_to_kill s.command (space r.cursor.ns) ids is.command_is) (λ x of. left_by (int_eq r.cursor.id (pos 0)) (int_eq r.opened (pos 0)) r.cursor.id r.opened x refl refl of))
+      (kill_own (left_of f r) s.command ids (asks_to_kill_plainly s.command (space r.cursor.ns) ids is.command_is) (λ x of. left_by (int_eq r.cursor.id (pos 0)) (int_eq r.opened (pos 0)) r.cursor.id r.opened x refl refl of))
       once.tries
 
   -- The killing of an older cursor was polled.
   pub older_ran : (id : ℤ) → IsOlder r id s → Moved log log' (closing_in old (flight.Older s id) (left_of f r)) (left_of f r)
   older_ran id is =
       let once = runs_once old new log log' wire s result is.kills.carries.retries_is runs in
-      older_tried old new log log' f r.cursor.id id r.opened s.command s.stage once.attempt is.alone is.kills.there (asks_to_kill s.command is.kills.at (id ∷ []) is.kills.carries.command_is) once.tries
+      older_tried old new log log' f r.cursor.id id r.opened s.command s.stage once.attempt is.alone is.kills.there (asks_to_kill_plainly s.command is.kills.at (id ∷ []) is.kills.carries.command_is) once.tries
 
   -- A getMore was polled.
   pub more_flown : (get_more : GetMore) → IsKept r.aggregate r.cursor → IsMore r s → MoreCame (left_of f r) new log log' (closing_in old (flight.More get_more s) (left_of f r)) result
   more_flown get_more kept is =
       more_polled (left_of f r) old new log log' wire s (space r.cursor.ns) result is.held
-      (asks_for_more s.command r.cursor.id (space r.cursor.ns) r.cursor.batch_size kept.named is.carries.command_is) is.carries.retries_is runs
+      (asks_for_more_plainly s.command r.cursor.id (space r.cursor.ns) (manner_of r.cursor) kept.named is.carries.command_is) is.carries.retries_is runs
 
   -- The aggregate of a resumption was polled.
   pub resumption_flown : IsKept r.aggregate r.cursor → Carries s (resuming_command r.aggregate wire) true → Knew r.aggregate f → ResumeCame (left_of f r) new log log' (closing_in old (flight.Resumption s) (left_of f r)) result
@@ -196,7 +196,7 @@ module _ (old new : Awaited) (log log' : Told) (wire : ℤ) (f : Follow) (r : Re
       let b = begins_again a.options r.aggregate.resume wire f.start kept.saved asks.from in
       let aimed = aimed_still (target a.target) a.options r.aggregate.resume wire ∙ asks.aimed in
       let is : asked s.command ≡ asks_watch f.watch b.begin =
-      asks_as_aimed s.command (target a.target) a.pipeline.items o carries.command_is ∙ ap asked_for (aimed_at a f.watch o b.begin aimed asks.by b.starts) in
+      asks_as_aimed_plainly s.command (target a.target) a.pipeline.items o carries.command_is ∙ ap asked_for (aimed_at a f.watch o b.begin aimed asks.by b.starts) in
       resume_polled (left_of f r) b.begin old new log log' wire s (subst (λ (t : Option Tree). ResumesAt f.start t b.begin) (sym knew.token_is) b.resumes)
       is result runs
 
@@ -283,7 +283,7 @@ resumption_to awaited log log' g f r bytes (step.Pending c) leaves m success = a
 resumption_to awaited log log' g f r bytes (step.Done r') (inl unread) m success = subst (λ (x : Remains). Moved log log' g (left_of f x)) (sym unread.1) m.lost
 resumption_to awaited log log' g f r bytes (step.Done r') (inr gave) m success =
     let out = gave.0.0 in
-    let opens = gave.1.opens in
+    let opens = gave.1.opens.opens in
     let c = opened_cursor out opens.batch in
     let h = resumed_with (left_of f r) (batch_as c (unwrap_or (documents_in c.batch) [])) in
     subst (λ (x : Remains). Moved log log' g (left_of f x)) (sym gave.2)

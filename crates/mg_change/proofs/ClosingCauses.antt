@@ -13,22 +13,22 @@ use Rattle.mg_link.specs.declared.action.Step.{Step}
 use Rattle.mg_link.specs.declared.action.Step.TheVariants as step
 use Rattle.mg_link.specs.declared.error.Error.{Error}
 use Rattle.mg_link.specs.declared.error.ErrorKind.TheVariants as kind
-use Rattle.mg_link.proofs.Calls.{keeps_longer, log_grows, request_ran, same_keeps}
+use Rattle.mg_link.proofs.Calls.{keeps_longer, log_grows, request_ran, same_keeps, success_ran}
 use Rattle.mg_link.proofs.Pasts.{fails_anyhow, flies_grows, heard_by, heard_reply, last_grows, last_reply, request_fails_grows}
+use Rattle.mg_ops.proofs.Watching.{manner_read}
 use Rattle.mg_ops.specs.Commands.{kill_command}
-use Rattle.mg_ops.specs.Cursors.{BreaksIn}
+use Rattle.mg_ops.specs.Cursors.{BreaksIn, asking_command}
 use Rattle.mg_ops.specs.Failing.{CannotBeSent, FailsBy}
 use Rattle.mg_ops.specs.declared.cursor_reply.CursorInformation.{CursorInformation}
 use Rattle.mg_ops.specs.declared.get_more.GetMore.{GetMore}
 use Rattle.mg_change.specs.Causes.{TellsNoCursor, cursor_behind}
-use Rattle.mg_change.specs.ClosingCauses.{ClosingCaused, FliesSoFar, KillCame, KillCaused, KillDone, KillFails, Kills, KillsSoFar, LandCame, LandCaused, LandRan, LeftBy, MoreLeft, NotKilled, ResumptionLeft, WantsMemory, asked_more, killed, last_command, none_left, untold, brought, given}
+use Rattle.mg_change.specs.ClosingCauses.{ClosingCaused, FliesSoFar, KillCame, KillCaused, KillDone, KillFails, Kills, KillsSoFar, LandCame, LandCaused, LandRan, LeftBy, MoreLeft, NotKilled, ResumptionLeft, WantsMemory, killed, last_command, none_left, untold, brought, given}
 use Rattle.mg_change.specs.Closings.{FailLeaves, IsLast, IsMore, Leaves, MoreLeaves, ResumeLeaves, flight_ticket, ids_left}
 use Rattle.mg_change.specs.declared.closing.Closing.{Closing}
 use Rattle.mg_change.specs.declared.closing.Flight.{Flight}
 use Rattle.mg_change.specs.declared.closing.Flight.TheVariants as flight
 use Rattle.mg_change.specs.declared.closing.Remains.{Remains}
 use Rattle.mg_change.specs.Phases.{Carries, resuming_command}
-use Rattle.mg_change.proofs.Heeding.{success_ran}
 
 -- ---- the killing of what is left
 
@@ -124,29 +124,29 @@ fail_left r r' e (step.Failed x) is leaves = tt
 
 module _ (awaited : Awaited) (past : Past) (r : Remains) where
   -- behind a getMore
-  more_kept : (bytes : List ℕ) (left : Remains) → HeardLast past (asked_more r.cursor) false (reply bytes) → IsSuccess bytes → MoreLeaves bytes r (step.Done left) → MoreLeft past r left
+  more_kept : (bytes : List ℕ) (left : Remains) → HeardLast past (asking_command r.cursor) false (reply bytes) → IsSuccess bytes → MoreLeaves bytes r (step.Done left) → MoreLeft past r left
   more_kept bytes left heard success (inl x) =
       untold x.0 (was_broken bytes heard success x.2) (not_full (fields bytes) x.0 x.2)
       (x.1 ∙ sym (ap (λ (y : Error). record r { cursor = cursor_behind y r.cursor }) x.2.error))
   more_kept bytes left heard success (inr gave) =
-      given bytes (record r.cursor { id = gave.0.id; ns = gave.0.ns }) gave.0.post_batch_resume_token (heard_by past (asked_more r.cursor) false (reply bytes) heard) success (record { batch = gave.1.batch; says = gave.1.says; size_is = refl }) gave.2
+      given bytes (record r.cursor { id = gave.0.id; ns = gave.0.ns }) gave.0.post_batch_resume_token (heard_by past (asking_command r.cursor) false (reply bytes) heard) success (record { batch = gave.1.batch; says = gave.1.says; manner_is = refl }) gave.2
 
-  more_ends : (get_more : GetMore) (exec : Sending) (bytes : List ℕ) (landing : Step Closing Remains) → MoreLeaves bytes r landing → WantsMemory landing → HeardLast past (asked_more r.cursor) false (reply bytes) → IsSuccess bytes → LandCame awaited past r (flight.More get_more exec) landing
+  more_ends : (get_more : GetMore) (exec : Sending) (bytes : List ℕ) (landing : Step Closing Remains) → MoreLeaves bytes r landing → WantsMemory landing → HeardLast past (asking_command r.cursor) false (reply bytes) → IsSuccess bytes → LandCame awaited past r (flight.More get_more exec) landing
   more_ends get_more exec bytes (step.Pending c) leaves memory heard success = absurd leaves
   more_ends get_more exec bytes (step.Done left) leaves memory heard success = more_kept bytes left heard success leaves
   more_ends get_more exec bytes (step.Failed e) leaves memory heard success = memory
 
-  more_lost : (get_more : GetMore) (exec : Sending) (e : Error) (landing : Step Closing Remains) → FailLeaves e r landing → WantsMemory landing → RequestFails past (asked_more r.cursor) false NoneBroken e → LandCame awaited past r (flight.More get_more exec) landing
+  more_lost : (get_more : GetMore) (exec : Sending) (e : Error) (landing : Step Closing Remains) → FailLeaves e r landing → WantsMemory landing → RequestFails past (asking_command r.cursor) false NoneBroken e → LandCame awaited past r (flight.More get_more exec) landing
   more_lost get_more exec e (step.Pending c) leaves memory failed = absurd leaves
-  more_lost get_more exec e (step.Done left) leaves memory failed = untold e (fails_anyhow past (asked_more r.cursor) false TellsNoCursor e failed) leaves.1 leaves.0
+  more_lost get_more exec e (step.Done left) leaves memory failed = untold e (fails_anyhow past (asking_command r.cursor) false TellsNoCursor e failed) leaves.1 leaves.0
   more_lost get_more exec e (step.Failed x) leaves memory failed = memory
 
   -- behind the aggregate of a resumption
   resumption_kept : (bytes : List ℕ) (left : Remains) → HeardLast past (resuming_command r.aggregate past.wire) true (reply bytes) → IsSuccess bytes → ResumeLeaves bytes r (step.Done left) → ResumptionLeft past r left
   resumption_kept bytes left heard success (inl x) = untold x.0 (was_broken bytes heard success x.2) (not_full (fields bytes) x.0 x.2) x.1
   resumption_kept bytes left heard success (inr gave) =
-      let opens = gave.1.opens in
-      brought bytes gave.0.0.info gave.0.0.post_batch_resume_token heard success (record { batch = opens.batch; says = opens.says; size_is = opens.size_is }) gave.2
+      let opens = gave.1.opens.opens in
+      brought bytes gave.0.0.info gave.0.0.post_batch_resume_token heard success (record { batch = opens.batch; says = opens.says; manner_is = manner_read r.aggregate.args.options bytes gave.0.0 gave.1.opens }) gave.2
 
   resumption_ends : (exec : Sending) (bytes : List ℕ) (landing : Step Closing Remains) → ResumeLeaves bytes r landing → WantsMemory landing → HeardLast past (resuming_command r.aggregate past.wire) true (reply bytes) → IsSuccess bytes → LandCame awaited past r (flight.Resumption exec) landing
   resumption_ends exec bytes (step.Pending c) leaves memory heard success = absurd leaves
@@ -167,9 +167,9 @@ module _ (awaited : Awaited) (past : Past) (r : Remains) where
 module _ (old new : Awaited) (log log' : Told) (wire : ℤ) (r : Remains) (exec : Sending) where
   -- a getMore
   module _ (get_more : GetMore) (is : IsMore r exec) where
-    more_ran : (sent : Step Sending (List ℕ)) (landing : Step Closing Remains) → ((past : Past) → Came new past (asked_more r.cursor) false sent → LandCame new past r (flight.More get_more exec) landing) → Runs old new log log' wire exec sent → LandRan old new log log' wire r (flight.More get_more exec) landing
+    more_ran : (sent : Step Sending (List ℕ)) (landing : Step Closing Remains) → ((past : Past) → Came new past (asking_command r.cursor) false sent → LandCame new past r (flight.More get_more exec) landing) → Runs old new log log' wire exec sent → LandRan old new log log' wire r (flight.More get_more exec) landing
     more_ran sent landing leads runs calls logged places flies =
-        let ran = request_ran old new log log' wire exec (asked_more r.cursor) false sent is.carries.command_is is.carries.retries_is runs calls logged places (length calls) (omega arith) flies in
+        let ran = request_ran old new log log' wire exec (asking_command r.cursor) false sent is.carries.command_is is.carries.retries_is runs calls logged places (length calls) (omega arith) flies in
         (ran.calls', ran.told, ran.grows.keeps, leads (past_of places (length calls) ran.calls' wire) ran.came)
 
     pub more_waits : (get_more' : GetMore) (sent : Sending) → Runs old new log log' wire exec (step.Pending sent) → LandRan old new log log' wire r (flight.More get_more exec) (step.Pending (record { remains = r; flight = flight.More get_more' sent }))
@@ -216,8 +216,8 @@ module _ (old new : Awaited) (log log' : Told) (wire : ℤ) (r : Remains) (exec 
 
 module _ (past past' : Past) (grows : Grows past past') (r left : Remains) where
   more_left_grows : MoreLeft past r left → MoreLeft past' r left
-  more_left_grows (untold e fails room is) = untold e (request_fails_grows past past' grows (asked_more r.cursor) false TellsNoCursor e fails) room is
-  more_left_grows (given bytes c upto heard success tells is) = given bytes c upto (heard_reply past past' grows (asked_more r.cursor) bytes heard) success tells is
+  more_left_grows (untold e fails room is) = untold e (request_fails_grows past past' grows (asking_command r.cursor) false TellsNoCursor e fails) room is
+  more_left_grows (given bytes c upto heard success tells is) = given bytes c upto (heard_reply past past' grows (asking_command r.cursor) bytes heard) success tells is
 
   resumed_last : (seen : Sight) → (seen ≡ waiting → ⊥) → HeardLast past (resuming_command r.aggregate past.wire) true seen → HeardLast past' (resuming_command r.aggregate past'.wire) true seen
   resumed_last seen answer h = subst (λ (w : ℤ). HeardLast past' (resuming_command r.aggregate w) true seen) (sym grows.wire) (last_grows past past' grows (resuming_command r.aggregate past.wire) true seen answer h)

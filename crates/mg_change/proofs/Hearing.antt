@@ -18,12 +18,12 @@ use Rattle.mg_link.specs.declared.error.ErrorKind.TheVariants as kind
 use Rattle.mg_link.proofs.Asking.{MoreAnswered}
 use Rattle.mg_link.proofs.Moves.{moved, stayed}
 use Rattle.mg_link.proofs.Spoiled.{cursor_dropped}
-use Rattle.mg_ops.specs.Cursors.{Cursor, Gave, cursor_of}
+use Rattle.mg_ops.specs.Cursors.{Cursor, Gave, cursor_of, manner_of}
 use Rattle.mg_ops.specs.Resuming.{options_for}
 use Rattle.mg_ops.specs.declared.cursor_reply.CursorSpecification.{CursorSpecification}
 use Rattle.mg_ops.specs.declared.cursor_reply.GetMoreResult.{GetMoreResult}
 use Rattle.mg_ops.specs.declared.get_more.GetMore.{GetMore}
-use Rattle.mg_ops.proofs.Asking.{asks_as_aimed, asks_for_more, asks_to_kill}
+use Rattle.mg_ops.proofs.Asking.{asks_as_aimed_plainly, asks_for_more_plainly, asks_to_kill_plainly}
 use Rattle.mg_ops.specs.Aims.{asked_for}
 use Rattle.mg_change.specs.Batches.{HoldsBatch}
 use Rattle.mg_change.specs.Following.{Asks, Turned, Turns, events_in, follow_in, follow_of, held_by, idle, in_hand}
@@ -188,7 +188,7 @@ module _ (old new : Awaited) (log log' : Told) (wire : ℤ) (s : ChangeStream) (
       → MoreCame (idle w start s opened answered) new log log' (follow_in old (phase.Asking get_more exec) w start s opened answered) result
   more_runs result runs w start opened answered =
       more_polled (idle w start s opened answered) old new log log' wire exec (space s.cursor.ns) result asking.held
-      (asks_for_more exec.command s.cursor.id (space s.cursor.ns) s.cursor.batch_size kept.named asking.carries.command_is) asking.carries.retries_is runs
+      (asks_for_more_plainly exec.command s.cursor.id (space s.cursor.ns) (manner_of s.cursor) kept.named asking.carries.command_is) asking.carries.retries_is runs
 
   pub asking_waits : (next : GetMore) (exec' : Sending) → Runs old new log log' wire exec (step.Pending exec') → Turned old new log log' (phase.Asking get_more exec) s (record s { phase = phase.Asking next exec' }) []
   asking_waits next exec' runs =
@@ -230,7 +230,7 @@ module _ (old new : Awaited) (log log' : Told) (wire : ℤ) (s : ChangeStream) (
       let b = begins_again a.options s.aggregate.resume wire start kept.saved asks.from in
       let aimed = aimed_still (target a.target) a.options s.aggregate.resume wire ∙ asks.aimed in
       let is : asked exec.command ≡ asks_watch w b.begin =
-      asks_as_aimed exec.command (target a.target) a.pipeline.items o carries.command_is ∙ ap asked_for (aimed_at a w o b.begin aimed asks.by b.starts) in
+      asks_as_aimed_plainly exec.command (target a.target) a.pipeline.items o carries.command_is ∙ ap asked_for (aimed_at a w o b.begin aimed asks.by b.starts) in
       resume_polled (idle w start s opened answered) b.begin old new log log' wire exec b.resumes
       is result runs
 
@@ -270,7 +270,7 @@ module _ (old new : Awaited) (log log' : Told) (wire : ℤ) (s : ChangeStream) (
       → Moved log log' (follow_in old (phase.Killing exec id bytes) w start s opened answered) (held_by (events_in bytes) s.batch_token (idle w start s opened answered))
   kill_runs result runs w start opened answered =
       kill_polled (held_by (events_in bytes) s.batch_token (idle w start s opened answered)) id refl refl killing.there old new log log' wire exec result
-      (asks_to_kill exec.command killing.at (id ∷ []) killing.carries.command_is) killing.carries.retries_is runs
+      (asks_to_kill_plainly exec.command killing.at (id ∷ []) killing.carries.command_is) killing.carries.retries_is runs
 
   killed_at_waiting : (f : Follow) (exec' : Sending) → Waits exec' → f ≡ killed_at f id new exec'.stage
   killed_at_waiting f exec' waits = at_waiting (record f { old = id }) (λ place. f) new exec' waits

@@ -20,6 +20,7 @@ use Rattle.mg_link.specs.declared.error.ErrorKind.TheVariants as kind
 use Rattle.mg_link.specs.declared.reply.Verdict.{Verdict}
 use Rattle.mg_link.specs.declared.reply.Verdict.TheVariants as verdict
 use Rattle.mg_link.proofs.Asking.{MoreAnswered, MoreAttempted, asks_at, more_ran}
+use Rattle.mg_link.proofs.Calls.{success_ran}
 use Rattle.mg_link.proofs.Heard.{more_spoiled, no_batch_refused, watch_spoiled}
 use Rattle.mg_link.proofs.Moves.{moved, gave_up, given_with, owed}
 use Rattle.mg_link.proofs.Killing.{kill_begun, kill_gone_on}
@@ -187,10 +188,6 @@ module _ (command : List ℕ) (idle : Follow) (waiting_at : Option ℕ → Follo
       moved log twice.log_between log' g idle bad
       (once_more s.retries s.stage twice.attempt twice.between log twice.log_between g twice.repeated a)
       (spoiled_begun twice.between new twice.log_between log' twice.again twice.gives.0 (subst (λ (c : List ℕ). Begins twice.between new twice.log_between log' c twice.again) is twice.begins))
-
-pub success_ran : (old new : Awaited) (log log' : Told) (wire : ℤ) (s : Sending) (bytes : List ℕ) → Runs old new log log' wire s (step.Done bytes) → IsSuccess bytes
-success_ran old new log log' wire s bytes (inl once) = once.gives.1
-success_ran old new log log' wire s bytes (inr twice) = twice.gives.1
 
 abbrev pub resumes_at : Follow → Option ℕ → Follow
 resumes_at f place = record f { doing = resuming place }

@@ -19,13 +19,14 @@ use Rattle.mg_link.proofs.Moves.{moved}
 use Rattle.mg_link.proofs.Openings.{opened_with, start_heard}
 use Rattle.mg_link.proofs.Retries.{at_stage, opening_request, place_of, ran}
 use Rattle.mg_options.specs.Tokens.{batch_token, first_token, or_else}
-use Rattle.mg_options.specs.Options.{time_value}
+use Rattle.mg_options.specs.Printing.{time_value}
 use Rattle.mg_options.specs.declared.change_stream.ChangeStreamOptions.{ChangeStreamOptions}
+use Rattle.mg_ops.specs.Bodies.{watch_command}
 use Rattle.mg_ops.specs.Cursors.{Cursor}
 use Rattle.mg_ops.specs.Naming.{start_in}
 use Rattle.mg_ops.specs.Resuming.{has_start, options_for, saved_time, times_from}
 use Rattle.mg_ops.specs.declared.change_stream.WatchArgs.{WatchArgs}
-use Rattle.mg_ops.proofs.Asking.{asks_as_aimed}
+use Rattle.mg_ops.proofs.Asking.{asks_as_aimed_plainly}
 use Rattle.mg_change.specs.declared.stream.ChangeStream.{ChangeStream}
 use Rattle.mg_change.specs.declared.stream.Phase.{Phase}
 use Rattle.mg_change.specs.declared.stream.Phase.TheVariants as phase
@@ -33,7 +34,6 @@ use Rattle.mg_change.specs.Following.{Asks, events_in, follow_in, follow_of, not
 use Rattle.mg_change.specs.Openings.{IsNextSent, IsOpened, IsOpening, OpeningKeeps, opening_command}
 use Rattle.mg_change.specs.declared.opening.Opening.{Opening}
 use Rattle.mg_ops.specs.Aims.{aim, aim_of, asked_for}
-use Rattle.mg_ops.specs.Commands.{watch_command}
 use Rattle.mg_ops.specs.declared.aggregate.ChangeStreamAggregate.{ChangeStreamAggregate}
 use Rattle.mg_ops.specs.declared.change_stream.ChangeStreamData.{ChangeStreamData}
 use Rattle.mg_change.specs.Phases.{Carries, IsSound, SavedFor, Sends}
@@ -115,7 +115,7 @@ aimed_at a w o begin aimed by from = rw (by, from, aimed) refl
 
 pub watches : (a : WatchArgs) (w : Watch) (start : Start) (command : List ℕ) → Asks a w start → fields command ≡ opening_command a → asked command ≡ asks_watch w start
 watches a w start command asks is =
-    asks_as_aimed command (target a.target) a.pipeline.items a.options is ∙ ap asked_for (aimed_at a w a.options start asks.aimed asks.by asks.from)
+    asks_as_aimed_plainly command (target a.target) a.pipeline.items a.options is ∙ ap asked_for (aimed_at a w a.options start asks.aimed asks.by asks.from)
 
 -- the watch while its opening waits
 abbrev waits_at : Watch → Start → Option ℕ → Follow

@@ -8,7 +8,7 @@ use Rattle.mg_link.specs.Log.{reply}
 use Rattle.mg_link.specs.declared.action.Step.{Step}
 use Rattle.mg_link.specs.declared.action.Step.TheVariants as step
 use Rattle.mg_link.specs.declared.error.Error.{Error}
-use Rattle.mg_link.proofs.Calls.{request_ran}
+use Rattle.mg_link.proofs.Calls.{request_ran, success_ran}
 use Rattle.mg_link.proofs.Pasts.{fails_anyhow, flies_grows, last_reply, request_fails_grows}
 use Rattle.mg_ops.specs.Cursors.{BreaksIn}
 use Rattle.mg_ops.specs.Failing.{FailsBy}
@@ -24,7 +24,6 @@ use Rattle.mg_change.specs.Phases.{Carries, resuming_command}
 use Rattle.mg_change.specs.declared.opening.Opening.{Opening}
 use Rattle.mg_change.specs.declared.stream.ChangeStream.{ChangeStream}
 use Rattle.mg_change.specs.declared.stream.Phase.{Phase}
-use Rattle.mg_change.proofs.Heeding.{success_ran}
 
 -- ---- its request
 
@@ -37,7 +36,7 @@ opened_by past a version bytes s at is heard success = record {
   in_hand = ap first_in is.phase_is;
   none_yet = ap (λ (p : Phase). unanswered_in p (buffered s)) is.phase_is;
   quits = ap owes_in is.phase_is;
-  tells = record { batch = is.batch; says = is.says; size_is = is.size_is };
+  tells = record { batch = is.batch; says = is.says; manner_is = is.manner_is };
   is_empty = is.is_empty;
   empty = is.empty;
   time = is.time;

@@ -14,7 +14,7 @@ use Rattle.mg_link.specs.Retry.{is_retried, is_retried_as, is_retried_reply}
 use Rattle.mg_link.specs.declared.action.Step.{Step}
 use Rattle.mg_link.specs.declared.action.Step.TheVariants as step
 use Rattle.mg_link.specs.declared.reply.Verdict.{Verdict}
-use Rattle.mg_link.proofs.Calls.{begun, gone_on, keeps_longer, tried}
+use Rattle.mg_link.proofs.Calls.{begun, gone_on, keeps_longer, success_ran, tried}
 use Rattle.mg_link.proofs.Retries.{next_is, next_place}
 use Rattle.mg_ops.specs.declared.aggregate.ChangeStreamAggregate.{ChangeStreamAggregate}
 use Rattle.mg_change.specs.Following.{follow_of}
@@ -23,7 +23,6 @@ use Rattle.mg_change.specs.Openings.{IsNextSent, IsOpened, opening_command}
 use Rattle.mg_change.specs.declared.opening.Opening.{Opening}
 use Rattle.mg_change.specs.declared.stream.ChangeStream.{ChangeStream}
 use Rattle.mg_change.proofs.Garbled.{place_at, place_heard}
-use Rattle.mg_change.proofs.Heeding.{success_ran}
 use Rattle.mg_change.proofs.Opened.{next_follow, next_opening, opening_came}
 use Rattle.mg_change.proofs.OpeningCauses.{next_flies, opened_by}
 

@@ -7,7 +7,7 @@ use Rattle.mg_link.specs.Commands.{as_database, start_by, whole_target}
 use Rattle.mg_link.specs.Follow.{ResumesAt}
 use Rattle.mg_link.specs.Namespace.{Target, database, collection, cluster}
 use Rattle.mg_link.specs.State.{Start, nowhere, after, at_time, time_of}
-use Rattle.mg_options.specs.Options.{time_value}
+use Rattle.mg_options.specs.Printing.{time_value}
 use Rattle.mg_options.specs.declared.change_stream.ChangeStreamOptions.{ChangeStreamOptions}
 use Rattle.mg_ops.specs.Aims.{aim}
 use Rattle.mg_ops.specs.Naming.{start_in, watches_all}

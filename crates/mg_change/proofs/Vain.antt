@@ -27,7 +27,7 @@ use Rattle.mg_ops.specs.Aims.{Aim, aim, asked_for}
 use Rattle.mg_ops.specs.Naming.{start_in}
 use Rattle.mg_ops.specs.declared.aggregate.ChangeStreamAggregate.{ChangeStreamAggregate}
 use Rattle.mg_ops.specs.declared.change_stream.WatchArgs.{WatchArgs}
-use Rattle.mg_ops.proofs.Asking.{asks_as_aimed}
+use Rattle.mg_ops.proofs.Asking.{asks_as_aimed_plainly}
 use Rattle.mg_change.specs.Following.{AsksNothing}
 use Rattle.mg_change.specs.Growths.{HasCommand, IsInFlight, OpensInVain, StandsNowhere}
 use Rattle.mg_change.specs.Openings.{IsNextSent, opening_command}
@@ -47,7 +47,7 @@ none_found (Some c) (Some b) (Some g) never = absurd (never c b g refl refl refl
 
 asks_nothing : (a : WatchArgs) (command : List ℕ) → AsksNothing a → fields command ≡ opening_command a → asked command ≡ asks_other
 asks_nothing a command none is =
-    asks_as_aimed command (target a.target) a.pipeline.items a.options is
+    asks_as_aimed_plainly command (target a.target) a.pipeline.items a.options is
     ∙ ap asked_for (none_found (filter_stages a.pipeline.items) (start_in a.options) (aim a.options (target a.target)) (λ c b g by from aimed. none (record { target = g; filter = c }) b (record { aimed = aimed; by = by; from = from })))
 
 -- ---- it is always refused

@@ -15,8 +15,8 @@ use Rattle.mg_link.specs.declared.error.Error.{Error}
 use Rattle.mg_link.specs.declared.error.ErrorKind.TheVariants as kind
 use Rattle.mg_link.specs.declared.error.Malformed.{Malformed}
 use Rattle.mg_link.specs.declared.error.Malformed.TheVariants as malformed
-use Rattle.mg_ops.specs.Commands.{get_more_command, kill_command}
-use Rattle.mg_ops.specs.Cursors.{BreaksIn, batch_at, cursor_of}
+use Rattle.mg_ops.specs.Commands.{kill_command}
+use Rattle.mg_ops.specs.Cursors.{BreaksIn, batch_at, cursor_of, asking_command, manner_of, watch_manner, Manner}
 use Rattle.mg_ops.specs.Failing.{CannotBeSent, FailsBy, HasBadSize}
 use Rattle.mg_ops.specs.declared.aggregate.ChangeStreamAggregate.{ChangeStreamAggregate}
 use Rattle.mg_ops.specs.declared.cursor_reply.CursorInformation.{CursorInformation}
@@ -112,7 +112,7 @@ cursor_behind e c = record c { id = if ends_cursor (command_code e.kind) then po
 
 -- the getMore of its cursor
 abbrev pub more_command : Standing → Fields
-more_command at = get_more_command at.cursor.id (space at.cursor.ns) at.cursor.batch_size
+more_command at = asking_command at.cursor
 
 -- the aggregate that resumes it
 abbrev pub resume_command : ℤ → Standing → Fields
@@ -136,11 +136,11 @@ pub data BreaksBatch (said : Fields) (e : Error) : Type 0 where
 abbrev pub Breaks : Fields → Error → Type 0
 Breaks said e = BreaksIn said e ⊎ BreaksBatch said e
 
--- the cursor, for batches of this size, and the token behind the batch are those that the reply tells
-pub record TellsCursor (bytes : List ℕ) (size : Option ℕ) (c : CursorInformation) (upto : Option Tree) : Type 0 where
+-- the cursor, which is asked in this manner, and the token behind the batch are those that the reply tells
+pub record TellsCursor (bytes : List ℕ) (manner : Manner) (c : CursorInformation) (upto : Option Tree) : Type 0 where
   pub batch : Items
   pub says : cursor_of (fields bytes) ≡ Ok (record { id = c.id; space = space c.ns; token = upto; batch = batch })
-  pub size_is : c.batch_size ≡ size
+  pub manner_is : manner_of c ≡ manner
 
 -- the reply tells no cursor
 abbrev pub TellsNoCursor : List ℕ → Error → Type 0
@@ -156,7 +156,7 @@ pub data MoreFails (past : Past) (at : Standing) (e : Error) (c : CursorInformat
   -- it failed, or the reply to it tells no cursor
   untold : MayAsk at → RequestFails past (more_command at) false TellsNoCursor e → c ≡ cursor_behind e at.cursor → MoreFails past at e c
   -- or no documents of it
-  broken : (bytes : List ℕ) (upto : Option Tree) → HeardMore past at (reply bytes) → IsSuccess bytes → TellsCursor bytes at.cursor.batch_size c upto → BreaksBatch (fields bytes) e → MoreFails past at e c
+  broken : (bytes : List ℕ) (upto : Option Tree) → HeardMore past at (reply bytes) → IsSuccess bytes → TellsCursor bytes (manner_of at.cursor) c upto → BreaksBatch (fields bytes) e → MoreFails past at e c
 
 -- Why the stream resumes, and the cursor that it leaves, whose id is 0 where the server holds it no longer. No event is in hand then.
 pub data Resumes (past : Past) (at : Standing) (c : CursorInformation) : Type 0 where
@@ -178,14 +178,14 @@ pub record Resumed (past : Past) (at : Standing) (old : CursorInformation) (byte
   pub why : Resumes past at old
   pub heard : HeardBy past (resume_command past.wire at) (reply bytes)
   pub success : IsSuccess bytes
-  pub tells : TellsCursor bytes at.aggregate.args.options.batch_size c upto
+  pub tells : TellsCursor bytes (watch_manner at.aggregate.args.options) c upto
 
 -- a reply with a batch, whether it is that of a resumption, and the cursor of the stream behind it
 pub data Replied (past : Past) (at : Standing) (resumed : Bool) (bytes : List ℕ) (c : CursorInformation) (upto : Option Tree) : Type 0 where
   -- to the opening, in the first call
   opening : resumed ≡ false → at.first ≡ Some bytes → at.events ≡ [] → c ≡ at.cursor → upto ≡ at.upto → Replied past at resumed bytes c upto
   -- to the getMore of the cursor
-  more : resumed ≡ false → HeardMore past at (reply bytes) → IsSuccess bytes → TellsCursor bytes at.cursor.batch_size c upto → Replied past at resumed bytes c upto
+  more : resumed ≡ false → HeardMore past at (reply bytes) → IsSuccess bytes → TellsCursor bytes (manner_of at.cursor) c upto → Replied past at resumed bytes c upto
   -- to the aggregate of a resumption, which kills the cursor before it
   again : resumed ≡ true → (old : CursorInformation) → Resumed past at old bytes c upto → Killed past old → Replied past at resumed bytes c upto
 
@@ -457,7 +457,7 @@ KillCause e held s s' (stepped.Gives p) = (s' ≡ record s { phase = phase.Owing
 -- a reply to a getMore was not kept: it tells no cursor, or no documents of it
 pub data Unkept (s s' : ChangeStream) (bytes : List ℕ) (e : Error) : Type 0 where
   unread : s'.cursor ≡ s.cursor → FailsBy (BreaksIn (fields bytes)) e → Unkept s s' bytes e
-  unheld : (upto : Option Tree) → TellsCursor bytes s.cursor.batch_size s'.cursor upto → FailsBy (BreaksBatch (fields bytes)) e → Unkept s s' bytes e
+  unheld : (upto : Option Tree) → TellsCursor bytes (manner_of s.cursor) s'.cursor upto → FailsBy (BreaksBatch (fields bytes)) e → Unkept s s' bytes e
 
 -- behind the reply to a getMore
 abbrev pub MoreLeads : List ℕ → ChangeStream → ChangeStream → Stepped → Type 0

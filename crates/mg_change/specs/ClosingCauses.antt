@@ -10,7 +10,8 @@ use Rattle.mg_link.specs.declared.action.Step.{Step}
 use Rattle.mg_link.specs.declared.action.Step.TheVariants as step
 use Rattle.mg_link.specs.declared.error.Error.{Error}
 use Rattle.mg_link.specs.declared.error.ErrorKind.TheVariants as kind
-use Rattle.mg_ops.specs.Commands.{get_more_command, kill_command}
+use Rattle.mg_ops.specs.Commands.{kill_command}
+use Rattle.mg_ops.specs.Cursors.{asking_command, manner_of, watch_manner}
 use Rattle.mg_ops.specs.Failing.{CannotBeSent}
 use Rattle.mg_ops.specs.declared.cursor_reply.CursorInformation.{CursorInformation}
 use Rattle.mg_change.specs.Causes.{TellsCursor, TellsNoCursor, cursor_behind}
@@ -65,14 +66,10 @@ KillCaused old new log log' wire r f result = (calls : List Call) → log ≡ So
 
 -- ---- the request of the stream that is in flight as it is closed
 
--- the getMore of its cursor
-abbrev pub asked_more : CursorInformation → Fields
-asked_more c = get_more_command c.id (space c.ns) c.batch_size
-
 -- how far it has come
 abbrev pub FliesSoFar : Awaited → Past → Remains → Flight → Type 0
 FliesSoFar awaited past r flight.Landed = ⊥
-FliesSoFar awaited past r (flight.More get_more exec) = Flies awaited past (asked_more r.cursor) exec.stage
+FliesSoFar awaited past r (flight.More get_more exec) = Flies awaited past (asking_command r.cursor) exec.stage
 FliesSoFar awaited past r (flight.Resumption exec) = Flies awaited past (resuming_command r.aggregate past.wire) exec.stage
 FliesSoFar awaited past r (flight.Older exec id) = Unit {0}
 FliesSoFar awaited past r (flight.Last exec) = ⊥
@@ -80,16 +77,16 @@ FliesSoFar awaited past r (flight.Last exec) = ⊥
 -- what a getMore leaves that has ended
 pub data MoreLeft (past : Past) (r left : Remains) : Type 0 where
   -- it failed, or the reply to it tells no cursor: the cursor as it was, or none where the server says that it holds it no longer
-  untold : (e : Error) → RequestFails past (asked_more r.cursor) false TellsNoCursor e → e.kind ≢ kind.OutOfMemory → left ≡ record r { cursor = cursor_behind e r.cursor } → MoreLeft past r left
+  untold : (e : Error) → RequestFails past (asking_command r.cursor) false TellsNoCursor e → e.kind ≢ kind.OutOfMemory → left ≡ record r { cursor = cursor_behind e r.cursor } → MoreLeft past r left
   -- the cursor that the reply tells
-  given : (bytes : List ℕ) (c : CursorInformation) (upto : Option Tree) → HeardBy past (asked_more r.cursor) (reply bytes) → IsSuccess bytes → TellsCursor bytes r.cursor.batch_size c upto → left ≡ record r { cursor = c } → MoreLeft past r left
+  given : (bytes : List ℕ) (c : CursorInformation) (upto : Option Tree) → HeardBy past (asking_command r.cursor) (reply bytes) → IsSuccess bytes → TellsCursor bytes (manner_of r.cursor) c upto → left ≡ record r { cursor = c } → MoreLeft past r left
 
 -- what the aggregate of a resumption leaves that has ended
 pub data ResumptionLeft (past : Past) (r left : Remains) : Type 0 where
   -- it failed, or the reply to it tells no cursor
   untold : (e : Error) → RequestFails past (resuming_command r.aggregate past.wire) true TellsNoCursor e → e.kind ≢ kind.OutOfMemory → left ≡ r → ResumptionLeft past r left
   -- one cursor more, which the reply tells
-  brought : (bytes : List ℕ) (c : CursorInformation) (upto : Option Tree) → HeardLast past (resuming_command r.aggregate past.wire) true (reply bytes) → IsSuccess bytes → TellsCursor bytes r.aggregate.args.options.batch_size c upto → left ≡ record r { opened = c.id } → ResumptionLeft past r left
+  brought : (bytes : List ℕ) (c : CursorInformation) (upto : Option Tree) → HeardLast past (resuming_command r.aggregate past.wire) true (reply bytes) → IsSuccess bytes → TellsCursor bytes (watch_manner r.aggregate.args.options) c upto → left ≡ record r { opened = c.id } → ResumptionLeft past r left
 
 -- what the request leaves
 abbrev pub LeftBy : Past → Remains → Flight → Remains → Type 0

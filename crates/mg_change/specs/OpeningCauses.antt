@@ -11,7 +11,7 @@ use Rattle.mg_link.specs.State.{Start, Watch}
 use Rattle.mg_link.specs.declared.action.Step.{Step}
 use Rattle.mg_link.specs.declared.action.Step.TheVariants as step
 use Rattle.mg_link.specs.declared.error.Error.{Error}
-use Rattle.mg_ops.specs.Cursors.{operation_time, time_parts}
+use Rattle.mg_ops.specs.Cursors.{operation_time, time_parts, watch_manner}
 use Rattle.mg_ops.specs.declared.aggregate.ChangeStreamAggregate.{ChangeStreamAggregate}
 use Rattle.mg_ops.specs.declared.change_stream.WatchArgs.{WatchArgs}
 use Rattle.mg_bson.specs.declared.tree.Timestamp.{Timestamp}
@@ -39,7 +39,7 @@ pub record Opened (past : Past) (args : WatchArgs) (first : Standing) : Type 0 w
   pub in_hand : first.first ≡ Some bytes
   pub none_yet : first.events ≡ []
   pub quits : first.owes ≡ false
-  pub tells : TellsCursor bytes args.options.batch_size first.cursor first.upto
+  pub tells : TellsCursor bytes (watch_manner args.options) first.cursor first.upto
   pub is_empty : Bool
   pub empty : IsTrue is_empty ↔ (tells.batch ≡ no_items)
   pub time : Option Timestamp

@@ -10,8 +10,8 @@ use Rattle.mg_link.specs.State.{Start, Watch}
 use Rattle.mg_link.specs.declared.action.Step.{Step}
 use Rattle.mg_link.specs.declared.action.Step.TheVariants as step
 use Rattle.mg_options.specs.Tokens.{first_token}
-use Rattle.mg_ops.specs.Commands.{watch_command}
-use Rattle.mg_ops.specs.Cursors.{cursor_of, operation_time, time_parts}
+use Rattle.mg_ops.specs.Bodies.{watch_command}
+use Rattle.mg_ops.specs.Cursors.{cursor_of, operation_time, time_parts, manner_of, watch_manner}
 use Rattle.mg_ops.specs.Resuming.{saved_time}
 use Rattle.mg_ops.specs.declared.aggregate.ChangeStreamAggregate.{ChangeStreamAggregate}
 use Rattle.mg_ops.specs.declared.change_stream.ChangeStreamData.{ChangeStreamData}
@@ -64,7 +64,7 @@ pub record IsOpened (args : WatchArgs) (wire : ℤ) (reply : List ℕ) (s : Chan
   pub args_is : s.aggregate.args ≡ args
   pub batch : Items
   pub says : cursor_of (fields reply) ≡ Ok (record { id = s.cursor.id; space = space s.cursor.ns; token = s.batch_token; batch = batch })
-  pub size_is : s.cursor.batch_size ≡ args.options.batch_size
+  pub manner_is : manner_of s.cursor ≡ watch_manner args.options
   pub is_empty : Bool
   pub empty : IsTrue is_empty ↔ (batch ≡ no_items)
   pub time : Option Timestamp

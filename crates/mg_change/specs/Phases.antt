@@ -5,7 +5,9 @@ use Rattle.mg_bson.specs.Raw.{fields}
 use Rattle.mg_bson.specs.declared.tree.Timestamp.{Timestamp}
 use Rattle.mg_link.specs.Exec.{Sending, ticket_of}
 use Rattle.mg_link.specs.Namespace.{Space, space, target}
-use Rattle.mg_ops.specs.Commands.{get_more_command, kill_command, watch_command}
+use Rattle.mg_ops.specs.Bodies.{watch_command}
+use Rattle.mg_ops.specs.Commands.{kill_command}
+use Rattle.mg_ops.specs.Cursors.{asking_command}
 use Rattle.mg_ops.specs.Naming.{IsNamed}
 use Rattle.mg_ops.specs.Resuming.{has_start, options_for}
 use Rattle.mg_ops.specs.declared.aggregate.ChangeStreamAggregate.{ChangeStreamAggregate}
@@ -97,7 +99,7 @@ left_with s ended = record s { cursor = record s.cursor { id = if ended then pos
 
 -- a getMore of the cursor is in flight, and nothing is in hand
 pub record IsAsking (s : ChangeStream) (exec : Sending) : Type 0 where
-  pub carries : Carries exec (get_more_command s.cursor.id (space s.cursor.ns) s.cursor.batch_size) false
+  pub carries : Carries exec (asking_command s.cursor) false
   pub held : s.cursor.id ≢ pos 0
   pub empty : s.buffer.items ≡ []
 

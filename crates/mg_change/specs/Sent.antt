@@ -6,8 +6,9 @@ use Rattle.mg_link.specs.Exec.{Stage, unsent, first, second}
 use Rattle.mg_link.specs.Link.{Told}
 use Rattle.mg_link.specs.Log.{Call}
 use Rattle.mg_link.specs.Owner.{Onward, nobody}
-use Rattle.mg_link.specs.Namespace.{Space, space}
-use Rattle.mg_ops.specs.Commands.{get_more_command, kill_command}
+use Rattle.mg_link.specs.Namespace.{Space}
+use Rattle.mg_ops.specs.Commands.{kill_command}
+use Rattle.mg_ops.specs.Cursors.{asking_command}
 use Rattle.mg_ops.specs.declared.aggregate.ChangeStreamAggregate.{ChangeStreamAggregate}
 use Rattle.mg_ops.specs.declared.change_stream.WatchArgs.{WatchArgs}
 use Rattle.mg_ops.specs.declared.cursor_reply.CursorInformation.{CursorInformation}
@@ -40,7 +41,7 @@ abbrev pub IsAt : CursorInformation → ChangeStreamAggregate → ℤ → ℕ �
 IsAt c a wire zero command = KillsOne command
 IsAt c a wire (suc zero) command = command ≡ resuming_command a wire
 IsAt c a wire (suc (suc zero)) command = command ≡ resuming_command a wire
-IsAt c a wire (suc (suc (suc zero))) command = command ≡ get_more_command c.id (space c.ns) c.batch_size
+IsAt c a wire (suc (suc (suc zero))) command = command ≡ asking_command c
 IsAt c a wire (suc (suc (suc (suc place)))) command = ⊥
 
 -- the commands stand at places that fall, all below `n` and none below `m`
@@ -119,7 +120,7 @@ Quiet n s s' (stepped.Gives p) = Unit {0}
 
 -- its commands: the getMore of a cursor, the aggregate that resumes the stream, or the killing of one cursor
 pub data IsSought (args : WatchArgs) (wire : ℤ) (command : Fields) : Type 0 where
-  asks : (c : CursorInformation) → command ≡ get_more_command c.id (space c.ns) c.batch_size → IsSought args wire command
+  asks : (c : CursorInformation) → command ≡ asking_command c → IsSought args wire command
   resumes : (a : ChangeStreamAggregate) → a.args ≡ args → command ≡ resuming_command a wire → IsSought args wire command
   kills : KillsOne command → IsSought args wire command
 

@@ -2,7 +2,8 @@
 ghost use Rattle.std.specs.Prelude.{◌≡◌, IfOk, IfErr, [], ◌∷◌, true, false};
 ghost use Rattle.mg_link.specs.Exec.{unsent};
 ghost use Rattle.mg_link.specs.Namespace.{space};
-ghost use Rattle.mg_ops.specs.Commands.{get_more_command, kill_command};
+ghost use Rattle.mg_ops.specs.Commands.{kill_command};
+ghost use Rattle.mg_ops.specs.Cursors.{asking_command};
 ghost use Rattle.mg_ops.specs.Failing.{CannotBeSent, FailsBy};
 ghost use Rattle.mg_change.specs.Causes.{CannotBuild};
 ghost use Rattle.mg_change.specs.Phases.{Carries, resuming_command};
@@ -19,17 +20,11 @@ pub(crate) fn ask(
     wire: i32,
 ) -> Result<(GetMore, Exec), Error>
     ensures stage { IfOk result (λ r. r.1.stage ≡ unsent) }
-    ensures command { IfOk result (λ r. Carries r.1 (get_more_command cursor.now.id (space cursor.now.ns) cursor.now.batch_size) false) }
+    ensures command { IfOk result (λ r. Carries r.1 (asking_command cursor.now) false) }
     ensures err { IfErr result IsNotIo }
-    ensures fails { IfErr result (λ e. FailsBy (CannotBuild cursor.now.batch_size (get_more_command cursor.now.id (space cursor.now.ns) cursor.now.batch_size)) e) }
+    ensures fails { IfErr result (λ e. FailsBy (CannotBuild cursor.now.batch_size (asking_command cursor.now)) e) }
 {
-    let get_more = GetMore {
-        ns: cursor.ns.clone()?,
-        id: cursor.id,
-        batch_size: cursor.batch_size,
-        max_time: None,
-        comment: None,
-    };
+    let get_more = cursor.get_more()?;
     let command = encode(alloc, &get_more, wire, None)?;
     let exec = Exec::start(command, get_more.retry(None));
     Ok((get_more, exec))

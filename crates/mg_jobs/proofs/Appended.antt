@@ -11,7 +11,7 @@ use Rattle.mg_link.specs.Step.{Made, May, documents_of, effect, grown, next, wri
 use Rattle.mg_link.proofs.Collections.{documents_here}
 use Rattle.mg_link.proofs.Fronts.{legal_take}
 use Rattle.mg_link.proofs.Owners.{legal_back, legal_parts, state_one}
-use Rattle.mg_jobs.specs.Appended.{InsertsAt}
+use Rattle.mg_ops.specs.Appended.{InsertsAt}
 use Rattle.mg_link.proofs.Places.{take_more}
 
 written_all : (n : ℕ) (ds : List Fields) → written true [] n ds ≡ ds

@@ -22,14 +22,15 @@ use Rattle.mg_link.specs.declared.reply.Verdict.TheVariants as verdict
 use Rattle.mg_link.proofs.Pasts.{heard_by}
 use Rattle.mg_link.proofs.Places.{get_within}
 use Rattle.mg_options.specs.declared.change_stream.ChangeStreamOptions.{ChangeStreamOptions}
-use Rattle.mg_ops.specs.Commands.{get_more_command, insert_command}
+use Rattle.mg_ops.specs.Bodies.{insert_command}
+use Rattle.mg_ops.specs.Cursors.{Manner, manner_of, next_command}
 use Rattle.mg_ops.specs.Failing.{CannotBeSent}
 use Rattle.mg_ops.specs.Limits.{SizePasses}
 use Rattle.mg_ops.specs.Naming.{IsNamed}
 use Rattle.mg_ops.specs.Writes.{ListsAs}
 use Rattle.mg_ops.specs.declared.change_stream.WatchArgs.{WatchArgs}
 use Rattle.mg_ops.specs.declared.cursor_reply.CursorInformation.{CursorInformation}
-use Rattle.mg_ops.proofs.Asking.{asks_to_insert}
+use Rattle.mg_ops.proofs.Asking.{asks_to_insert_plainly}
 use Rattle.mg_change.specs.Causes.{CallFails, Called, CannotBuild, Standing, TellsNoCursor, more_command, resume_command}
 use Rattle.mg_change.specs.Causes as causes
 use Rattle.mg_change.specs.Closings.{ids_left}
@@ -41,7 +42,7 @@ use Rattle.mg_jobs.specs.Completing.{AllWell, AnswerWell, AnswersAreWell, Answer
 use Rattle.mg_jobs.specs.Counts.{Faultless, LosesNothing}
 use Rattle.mg_jobs.specs.Drawing.{as_sent}
 use Rattle.mg_jobs.specs.Follows.{IsArgsFor, poll_of}
-use Rattle.mg_jobs.specs.InsertCauses.{InsertFails, ListsFor, cannot_encode, cannot_insert, command_fails, no_memory}
+use Rattle.mg_ops.specs.InsertCauses.{InsertFails, ListsFor, cannot_encode, cannot_insert, command_fails, no_memory}
 use Rattle.mg_script.specs.Plan.{Begin, Task, follow, get, insert, put}
 use Rattle.mg_jobs.specs.Progress.{AllPlayed, FollowPlayed, InsertPlayed, IsPlayed, OpenPlayed, pends_last, turns_done}
 use Rattle.mg_script.specs.declared.outcome.Answer.{Answer}
@@ -154,12 +155,12 @@ module _ (watched : ℤ → Type 0) (are_its : WatchArgs → Type 0) (fits : (ar
   fails_well after e (causes.cannot_resume owes why by) =
       inr (resume_command past.wire at, resumes at.aggregate past.wire well.args refl, cannot_build at.aggregate.args.options.batch_size (resume_command past.wire at) e (fits at.aggregate.args well.args) by)
   fails_well after e (causes.refused_more asked fails final is) =
-      inl (request_well watched past (more_command at) false NoneBroken e served (asking_none at.cursor.id (space at.cursor.ns) at.cursor.batch_size) (λ bytes heard success none. absurd none) fails)
+      inl (request_well watched past (more_command at) false NoneBroken e served (asking_none at.cursor.id (space at.cursor.ns) (manner_of at.cursor)) (λ bytes heard success none. absurd none) fails)
   fails_well after e (causes.cannot_ask asked by is) =
       inr (
         more_command at,
-        asks at.aggregate.args well.args at.cursor.id (space at.cursor.ns) (ap (λ (size : Option ℕ). get_more_command at.cursor.id (space at.cursor.ns) size) well.cursor.size_is),
-        cannot_build at.cursor.batch_size (more_command at) e (λ passes. fits at.aggregate.args well.args (subst SizePasses well.cursor.size_is passes)) by,
+        asks at.aggregate.args well.args at.cursor.id (space at.cursor.ns) (ap (next_command at.cursor.id (space at.cursor.ns)) well.cursor.manner_is),
+        cannot_build at.cursor.batch_size (more_command at) e (λ passes. fits at.aggregate.args well.args (subst (λ (manner : Manner). SizePasses manner.size) well.cursor.manner_is passes)) by,
       )
   fails_well after e (causes.no_id event upto next lacks is behind settled) = let id = (next_well watched are_its past served.honest at well (event ∷ after.events) after.cursor upto next).0.0 in let has = id.1 in absurd cc
 
@@ -251,7 +252,7 @@ module _ (awaited : Awaited) (c : Course) (i : ℕ) (begun calls : List Call) (w
     never_listed : (piece : List Fields) (bytes : List ℕ) (k : ErrorKind) → HeardBy (sent_at places calls wire) (insert_command ns piece) (reply bytes) → ListsAs (length piece) (fields bytes) k → ⊥
     never_listed piece bytes k heard lists =
         let t = taken c i 0 begun calls wire places whole faultless well sent (insert_command ns piece) bytes heard in
-        let asks = asks_to_insert t.step.command ns piece named t.command_is in
+        let asks = asks_to_insert_plainly t.step.command ns piece named t.command_is in
         let fresh_there = subst (λ (s : State). AreFresh (documents_of s ns) piece) t.before_is (fresh t.position t.step ns piece t.is_own t.there asks) in
         never_lists t.step t.at_once ns piece asks fresh_there (length piece) k (subst (λ (b : List ℕ). ListsAs (length piece) (fields b) k) t.reply_is lists)
 

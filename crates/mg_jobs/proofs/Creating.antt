@@ -11,8 +11,10 @@ use Rattle.mg_link.specs.Namespace.{Space, Target, target}
 use Rattle.mg_link.specs.Prompt.{AnswersAtOnce}
 use Rattle.mg_link.specs.Query.{Query}
 use Rattle.mg_link.specs.State.{Start, State}
-use Rattle.mg_ops.specs.Commands.{get_more_command, insert_command, kill_command, watch_command}
+use Rattle.mg_ops.specs.Bodies.{watch_command, insert_command}
+use Rattle.mg_ops.specs.Commands.{kill_command}
 use Rattle.mg_change.specs.Phases.{resuming_command}
+use Rattle.mg_ops.specs.Cursors.{Manner, next_command}
 use Rattle.mg_ops.specs.Resuming.{options_for}
 use Rattle.mg_ops.specs.declared.aggregate.ChangeStreamAggregate.{ChangeStreamAggregate}
 use Rattle.mg_options.specs.declared.change_stream.ChangeStreamOptions.{ChangeStreamOptions}
@@ -122,8 +124,8 @@ inserting_none space documents = insert_creates (insert_command space documents)
 pub watching_none : (target : Target) (stages : List Fields) (o : ChangeStreamOptions) → CreatesNone (watch_command target stages o)
 watching_none target stages o = first_creates (watch_of (watch_command target stages o)) (pipeline_query (watch_command target stages o)) (watch_creates (watch_command target stages o)) (pipeline_creates (watch_command target stages o))
 
-pub asking_none : (id : ℤ) (space : Space) (size : Option ℕ) → CreatesNone (get_more_command id space size)
-asking_none id space size = more_creates (get_more_command id space size)
+pub asking_none : (id : ℤ) (space : Space) (manner : Manner) → CreatesNone (next_command id space manner)
+asking_none id space manner = more_creates (next_command id space manner)
 
 pub killing_none : (space : Space) (ids : List ℤ) → CreatesNone (kill_command space ids)
 killing_none space ids = kill_creates (kill_command space ids)

@@ -25,7 +25,7 @@ use Rattle.mg_link.specs.declared.reply.Verdict.TheVariants as verdict
 use Rattle.mg_link.proofs.Pasts.{heard_by}
 use Rattle.mg_options.specs.declared.change_stream.ChangeStreamOptions.{ChangeStreamOptions}
 use Rattle.mg_ops.specs.Aims.{aim_of}
-use Rattle.mg_ops.specs.Commands.{get_more_command, watch_command}
+use Rattle.mg_ops.specs.Bodies.{watch_command}
 use Rattle.mg_ops.specs.Naming.{IsNamed}
 use Rattle.mg_ops.specs.Resuming.{options_for}
 use Rattle.mg_ops.specs.declared.aggregate.ChangeStreamAggregate.{ChangeStreamAggregate}
@@ -33,8 +33,8 @@ use Rattle.mg_ops.specs.declared.change_stream.WatchArgs.{WatchArgs}
 use Rattle.mg_ops.specs.declared.cursor_reply.CursorInformation.{CursorInformation}
 use Rattle.mg_link.proofs.Owners.{same_some}
 use Rattle.mg_link.proofs.Watched.{IsWatched, no_zero, stays_watch}
-use Rattle.mg_ops.specs.Cursors.{Cursor, cursor_of}
-use Rattle.mg_ops.proofs.Asking.{asks_as_aimed, asks_for_more}
+use Rattle.mg_ops.specs.Cursors.{Cursor, cursor_of, Manner, manner_of, watch_manner, next_command}
+use Rattle.mg_ops.proofs.Asking.{asks_as_aimed_plainly, asks_for_more_plainly}
 use Rattle.mg_ops.proofs.Replying.{same_id}
 use Rattle.mg_change.specs.Batches.{HoldsBatch}
 use Rattle.mg_change.specs.Causes.{BreaksBatch, CallEmpty, CallFailed, CallFails, CallGave, CallNone, Called, CannotBuild, HeardMore, MayLose, MoreFails, Next, Replied, Resumed, Resumes, Standing, Stays, TellsCursor, TellsNoCursor, more_command, remembered_empty, resume_command}
@@ -60,7 +60,7 @@ TellsWatch watched bytes = (c : Cursor) → cursor_of (fields bytes) ≡ Ok c �
 -- each reply that is a success has a batch where one was asked for, of a watch where its cursor was a watch's
 pub record IsHonest (watched : ℤ → Type 0) (past : Past) : Type 0 where
   pub watch : (on : Target) (stages : List Fields) (o : ChangeStreamOptions) (bytes : List ℕ) → HeardBy past (watch_command on stages o) (reply bytes) → IsSuccess bytes → Brings bytes × TellsWatch watched bytes
-  pub more : (id : ℤ) (at : Space) (size : Option ℕ) (bytes : List ℕ) → IsNamed at → (id ≢ pos 0 → watched id) → HeardBy past (get_more_command id at size) (reply bytes) → IsSuccess bytes → Brings bytes × TellsWatch watched bytes
+  pub more : (id : ℤ) (at : Space) (manner : Manner) (bytes : List ℕ) → IsNamed at → (id ≢ pos 0 → watched id) → HeardBy past (next_command id at manner) (reply bytes) → IsSuccess bytes → Brings bytes × TellsWatch watched bytes
 
 -- the step of a command whose reply was heard
 record Taken (history : List Step) (command : Fields) (bytes : List ℕ) : Type 0 where
@@ -119,32 +119,32 @@ module _ (history : List Step) (calls : List Call) (legal : IsLegal history) (st
   honest_over = record {
     watch = λ on stages o bytes h success.
         let t = taken (watch_command on stages o) bytes h in
-        opens_watch (watch_command on stages o) bytes t (watch_brings t.step t.lawful (subst IsSuccess t.reply_is success) (aim_of on stages o) (asks_as_aimed t.step.command on stages o t.command_is));
-    more = λ id at size bytes named w h success.
-        let t = taken (get_more_command id at size) bytes h in
-        goes_on (get_more_command id at size) bytes t id w
-        (more_brings t.step t.lawful (subst IsSuccess t.reply_is success) id at (watch_only (get_more_command id at size) bytes t id w) (asks_for_more t.step.command id at size named t.command_is));
+        opens_watch (watch_command on stages o) bytes t (watch_brings t.step t.lawful (subst IsSuccess t.reply_is success) (aim_of on stages o) (asks_as_aimed_plainly t.step.command on stages o t.command_is));
+    more = λ id at manner bytes named w h success.
+        let t = taken (next_command id at manner) bytes h in
+        goes_on (next_command id at manner) bytes t id w
+        (more_brings t.step t.lawful (subst IsSuccess t.reply_is success) id at (watch_only (next_command id at manner) bytes t id w) (asks_for_more_plainly t.step.command id at manner named t.command_is));
   }
 
 -- ---- how a stream stands
 
--- a cursor of a watch, for batches of this size, in a namespace that a server takes
-pub record IsCursor (watched : ℤ → Type 0) (size : Option ℕ) (c : CursorInformation) : Type 0 where
-  pub size_is : c.batch_size ≡ size
+-- a cursor of a watch, which is asked in this manner, in a namespace that a server takes
+pub record IsCursor (watched : ℤ → Type 0) (manner : Manner) (c : CursorInformation) : Type 0 where
+  pub manner_is : manner_of c ≡ manner
   pub named : IsNamed (space c.ns)
   pub watches : c.id ≢ pos 0 → watched c.id
 
 -- the arguments are those of the follow; the reply to the opening has a batch; and the events in hand have an `_id`
 pub record StandsWell (watched : ℤ → Type 0) (are_its : WatchArgs → Type 0) (s : Standing) : Type 0 where
   pub args : are_its s.aggregate.args
-  pub cursor : IsCursor watched s.aggregate.args.options.batch_size s.cursor
+  pub cursor : IsCursor watched (watch_manner s.aggregate.args.options) s.cursor
   pub first : (bytes : List ℕ) → s.first ≡ Some bytes → Brings bytes
   pub events : s.owes ≡ false → s.first ≡ None → HaveIds s.events
 
-cursor_told : (watched : ℤ → Type 0) (bytes : List ℕ) (size : Option ℕ) (c : CursorInformation) (upto : Option Tree) → TellsWatch watched bytes → TellsCursor bytes size c upto → IsCursor watched size c
-cursor_told watched bytes size c upto watches tells =
+cursor_told : (watched : ℤ → Type 0) (bytes : List ℕ) (manner : Manner) (c : CursorInformation) (upto : Option Tree) → TellsWatch watched bytes → TellsCursor bytes manner c upto → IsCursor watched manner c
+cursor_told watched bytes manner c upto watches tells =
     let read : Cursor = record { id = c.id; space = space c.ns; token = upto; batch = tells.batch } in
-    record { size_is = tells.size_is; named = named_read (fields bytes) read tells.says; watches = watches read tells.says }
+    record { manner_is = tells.manner_is; named = named_read (fields bytes) read tells.says; watches = watches read tells.says }
 
 args_empty : (upto : Option Tree) (a : ChangeStreamAggregate) → (remembered_empty upto a).args ≡ a.args
 args_empty (Some token) a = refl
@@ -183,7 +183,7 @@ not_built size command e (inr by) is = other_kind e kind.BsonSerialization (ap (
 
 module _ (watched : ℤ → Type 0) (are_its : WatchArgs → Type 0) (past : Past) (honest : IsHonest watched past) (at : Standing) (well : StandsWell watched are_its at) where
   abbrev pub IsItsCursor : CursorInformation → Type 0
-  IsItsCursor c = IsCursor watched at.aggregate.args.options.batch_size c
+  IsItsCursor c = IsCursor watched (watch_manner at.aggregate.args.options) c
 
   resumed : (bytes : List ℕ) → HeardBy past (resume_command past.wire at) (reply bytes) → IsSuccess bytes → Brings bytes × TellsWatch watched bytes
   resumed bytes heard success = honest.watch (target at.aggregate.args.target) at.aggregate.args.pipeline.items (options_for at.aggregate.args.options at.aggregate.resume past.wire) bytes heard success
@@ -192,13 +192,13 @@ module _ (watched : ℤ → Type 0) (are_its : WatchArgs → Type 0) (past : Pas
   resumed_brings bytes heard success = (resumed bytes heard success).0
 
   cursor_again : (old : CursorInformation) (bytes : List ℕ) (c : CursorInformation) (upto : Option Tree) → Resumed past at old bytes c upto → IsItsCursor c
-  cursor_again old bytes c upto r = cursor_told watched bytes at.aggregate.args.options.batch_size c upto (resumed bytes r.heard r.success).1 r.tells
+  cursor_again old bytes c upto r = cursor_told watched bytes (watch_manner at.aggregate.args.options) c upto (resumed bytes r.heard r.success).1 r.tells
 
   heard_more : (bytes : List ℕ) → HeardMore past at (reply bytes) → IsSuccess bytes → Brings bytes × TellsWatch watched bytes
-  heard_more bytes heard success = honest.more at.cursor.id (space at.cursor.ns) at.cursor.batch_size bytes well.cursor.named well.cursor.watches heard.heard success
+  heard_more bytes heard success = honest.more at.cursor.id (space at.cursor.ns) (manner_of at.cursor) bytes well.cursor.named well.cursor.watches heard.heard success
 
-  cursor_more : (bytes : List ℕ) (c : CursorInformation) (upto : Option Tree) → HeardMore past at (reply bytes) → IsSuccess bytes → TellsCursor bytes at.cursor.batch_size c upto → IsItsCursor c
-  cursor_more bytes c upto heard success tells = subst (λ (size : Option ℕ). IsCursor watched size c) well.cursor.size_is (cursor_told watched bytes at.cursor.batch_size c upto (heard_more bytes heard success).1 tells)
+  cursor_more : (bytes : List ℕ) (c : CursorInformation) (upto : Option Tree) → HeardMore past at (reply bytes) → IsSuccess bytes → TellsCursor bytes (manner_of at.cursor) c upto → IsItsCursor c
+  cursor_more bytes c upto heard success tells = subst (λ (manner : Manner). IsCursor watched manner c) well.cursor.manner_is (cursor_told watched bytes (manner_of at.cursor) c upto (heard_more bytes heard success).1 tells)
 
   cursor_same : (c : CursorInformation) → c ≡ at.cursor → IsItsCursor c
   cursor_same c is = subst (λ (d : CursorInformation). IsItsCursor d) (sym is) well.cursor
@@ -208,7 +208,7 @@ module _ (watched : ℤ → Type 0) (are_its : WatchArgs → Type 0) (past : Pas
   ended_watches false ne = well.cursor.watches ne
 
   cursor_ended : (c : CursorInformation) (ends : Bool) → c ≡ record at.cursor { id = if ends then pos 0 else at.cursor.id } → IsItsCursor c
-  cursor_ended c ends is = subst (λ (d : CursorInformation). IsItsCursor d) (sym is) (record { size_is = well.cursor.size_is; named = well.cursor.named; watches = ended_watches ends })
+  cursor_ended c ends is = subst (λ (d : CursorInformation). IsItsCursor d) (sym is) (record { manner_is = well.cursor.manner_is; named = well.cursor.named; watches = ended_watches ends })
 
   cursor_fails : (e : Error) (c : CursorInformation) → MoreFails past at e c → IsItsCursor c
   cursor_fails e c (causes.untold asked fails is) = cursor_ended c (ends_cursor (command_code e.kind)) is
@@ -237,7 +237,7 @@ module _ (watched : ℤ → Type 0) (are_its : WatchArgs → Type 0) (past : Pas
   stands_on after same cursor looked events =
       record {
         args = subst are_its (sym same) well.args;
-        cursor = subst (λ (a : WatchArgs). IsCursor watched a.options.batch_size after.cursor) (sym same) cursor;
+        cursor = subst (λ (a : WatchArgs). IsCursor watched (watch_manner a.options) after.cursor) (sym same) cursor;
         first = λ bytes is. absurd cc;
         events = λ quits none. events quits;
       }
@@ -310,7 +310,7 @@ module _ (watched : ℤ → Type 0) (are_its : WatchArgs → Type 0) (past : Pas
       let heard = honest.watch (target args.target) args.pipeline.items args.options o.bytes (heard_by past (opening_command args) true (reply o.bytes) o.heard) o.success in
       record {
         args = subst are_its (sym o.args_are) its;
-        cursor = subst (λ (a : WatchArgs). IsCursor watched a.options.batch_size first.cursor) (sym o.args_are) (cursor_told watched o.bytes args.options.batch_size first.cursor first.upto heard.1 o.tells);
+        cursor = subst (λ (a : WatchArgs). IsCursor watched (watch_manner a.options) first.cursor) (sym o.args_are) (cursor_told watched o.bytes (watch_manner args.options) first.cursor first.upto heard.1 o.tells);
         first = λ bytes is. let held = o.in_hand in let same : o.bytes ≡ bytes = cc in subst Brings same heard.0;
         events = λ quits looked. let held = o.in_hand in absurd cc;
       }

@@ -1,7 +1,7 @@
 -- What an insert tells goes on to hold, turn by turn.
-use Rattle.std.proofs.Common.{◌≡◌, ◌⊎◌, ℕ, ℤ, true, List, None, length, Some, refl, sym, ap, ◌∙◌, subst, inl, inr, Bool}
+use Rattle.std.proofs.Common.{◌≡◌, ◌⊎◌, ℕ, ℤ, true, List, length, Some, refl, sym, ap, ◌∙◌, subst, inl, inr, Bool}
 use Rattle.mg_bson.specs.Tree.{Fields}
-use Rattle.mg_link.specs.Calls.{Grows, Past, past_of}
+use Rattle.mg_link.specs.Calls.{Grows, Past, past_of, AddsOnly}
 use Rattle.mg_link.specs.Errors.{plain}
 use Rattle.mg_link.specs.Link.{Awaited, Told}
 use Rattle.mg_link.specs.Log.{Call}
@@ -11,30 +11,29 @@ use Rattle.mg_link.specs.declared.action.Step.TheVariants as step
 use Rattle.mg_link.specs.declared.error.Error.{Error}
 use Rattle.mg_link.specs.declared.error.ErrorKind.TheVariants as kind
 use Rattle.mg_link.proofs.Owners.{same_some}
-use Rattle.mg_jobs.specs.Adds.{AddsOnly}
-use Rattle.mg_jobs.specs.Appended.{Appended}
+use Rattle.mg_ops.specs.Appended.{Appended}
 use Rattle.mg_jobs.specs.Causes.{EndsBy, sent_at}
-use Rattle.mg_jobs.specs.InsertCauses.{InsertCaused, InsertFails, InsertsSoFar, IsInsertOf, no_memory}
+use Rattle.mg_ops.specs.InsertCauses.{HasSent, InsertCaused, InsertFails, IsInsertOf, no_memory}
 use Rattle.mg_jobs.specs.Playing.{end_of, inserts_ended, inserts_ticket}
 use Rattle.mg_jobs.specs.Progress.{InsertAt}
-use Rattle.mg_jobs.specs.Drawing.{with_ids}
+use Rattle.mg_ops.specs.Drawn.{with_ids}
 use Rattle.mg_jobs.specs.Telling.{InsertBegins, InsertTells, InsertTurns, TellsOn}
-use Rattle.mg_jobs.specs.Underway.{HasInserted, Inserts, IsStarted}
-use Rattle.mg_jobs.specs.declared.insert.Inserting.{Inserting}
+use Rattle.mg_ops.specs.Underway.{HasInserted, Inserts, IsStarted}
+use Rattle.mg_ops.specs.declared.inserting.Inserting.{Inserting}
 use Rattle.mg_script.specs.declared.outcome.Ended.{Ended}
 use Rattle.mg_script.specs.declared.outcome.Ended.TheVariants as ended
 use Rattle.mg_jobs.specs.declared.player.InsertStage.{InsertStage}
 use Rattle.mg_jobs.specs.declared.player.InsertStage.TheVariants as inserts
-use Rattle.mg_jobs.proofs.Adding.{adds_none}
-use Rattle.mg_jobs.proofs.Appending.{appended_grown}
-use Rattle.mg_jobs.proofs.InsertCauses.{insert_fails_grow, inserts_begin, inserts_grow}
-use Rattle.mg_jobs.proofs.Sendings.{has_grown, started}
+use Rattle.mg_link.proofs.Adding.{adds_none}
+use Rattle.mg_ops.proofs.Appending.{appended_grown}
+use Rattle.mg_ops.proofs.InsertCauses.{insert_fails_grow, inserts_begin, inserts_grow}
+use Rattle.mg_ops.proofs.Sendings.{has_grown, started}
 
 -- ---- before its first turn
 
 -- an insert that drew its ids
-pub begun_tells : (awaited : Awaited) (past : Past) (at : Space) (ds : List Fields) (i : Inserting) → i.command ≡ None → IsStarted at ds i.batches → InsertTells awaited past at ds (inserts.Goes i)
-begun_tells awaited past at ds i none is = (inserts_begin awaited past at ds i none is, λ named. started awaited past at ds i none is)
+pub begun_tells : (awaited : Awaited) (past : Past) (at : Space) (ds : List Fields) (i : Inserting) → IsStarted at ds i → InsertTells awaited past at ds (inserts.Goes i)
+begun_tells awaited past at ds i is = (inserts_begin awaited past at ds i is, λ named. started awaited past at ds i is)
 
 -- one for whose ids there was no memory
 pub unbegun_tells : (awaited : Awaited) (past : Past) (at : Space) (ds : List Fields) (e : Error) → e ≡ plain kind.OutOfMemory → InsertTells awaited past at ds (inserts.Ended (ended.Failed e))
@@ -53,7 +52,7 @@ module _ (old new : Awaited) (log log' : Told) (wire : ℤ) (at : Space) (ds : L
   pub stage_waits : (i' : Inserting) → InsertCaused old new log log' wire i (step.Pending i') → Inserts old new log log' i (step.Pending i') → InsertTurns old new log log' wire at ds (inserts.Goes i) (inserts.Goes i')
   stage_waits i' caused sends calls calls' told told' places t = (
     (
-      (let x = caused calls told places at ds t.0 in subst (λ (c : List Call). InsertsSoFar new (past_of places (length calls) c wire) at ds i'.batches i'.command) (same_some x.0 calls' (sym x.1 ∙ told')) x.2),
+      (let x = caused calls told places at ds t.0 in subst (λ (c : List Call). HasSent new (past_of places (length calls) c wire) at ds i') (same_some x.0 calls' (sym x.1 ∙ told')) x.2),
       (λ named. let x = sends calls told places wire at ds named (t.1 named) in subst (λ (c : List Call). HasInserted new (past_of places (length calls) c wire) at ds i') (same_some x.0 calls' (sym x.1 ∙ told')) x.2),
     ),
     stage_adds (step.Pending i') caused calls calls' told told' places t,

@@ -6,11 +6,8 @@ pub mod Turning
 pub mod Watched
 pub mod Vainly
 pub mod Knowing
-pub mod Plainly
 pub mod Advancing
-pub mod Appending
 pub mod Appended
-pub mod Sendings
 pub mod Telling
 pub mod Told
 pub mod Waiting
@@ -20,7 +17,6 @@ pub mod Batches
 pub mod Identified
 pub mod InsertWell
 pub mod Completing
-pub mod InsertCauses
 pub mod InsertTelling
 pub mod Drawing
 pub mod OwnTickets
@@ -29,4 +25,5 @@ pub mod Adding
 pub mod Sends
 pub mod Polling
 pub mod Showing
+pub mod Small
 mod Stepping

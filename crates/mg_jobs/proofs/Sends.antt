@@ -3,14 +3,14 @@ use Rattle.std.proofs.Common.{◌≡◌, ◌+◌, ◌<◌, ◌≤◌, ◌++◌, 
 use Rattle.std.specs.Prelude.{slice_get, if◌then◌else◌}
 use Rattle.mg_bson.specs.Tree.{Tree, Fields}
 use Rattle.mg_bson.specs.Raw.{fields}
-use Rattle.mg_link.specs.Calls.{Keeps, Past}
+use Rattle.mg_link.specs.Calls.{Keeps, Past, AddsOnly}
 use Rattle.mg_link.specs.Exec.{Sending, Stage, unsent, first, second}
 use Rattle.mg_link.specs.Link.{Awaited, Told}
 use Rattle.mg_link.specs.Log.{Call}
 use Rattle.mg_link.specs.Namespace.{space}
 use Rattle.mg_link.specs.declared.action.Step.{Step}
 use Rattle.mg_link.specs.declared.error.Error.{Error}
-use Rattle.mg_ops.specs.Commands.{get_more_command}
+use Rattle.mg_ops.specs.Cursors.{manner_of, watch_manner, next_command}
 use Rattle.mg_ops.specs.declared.aggregate.ChangeStreamAggregate.{ChangeStreamAggregate}
 use Rattle.mg_ops.specs.declared.change_stream.WatchArgs.{WatchArgs}
 use Rattle.mg_ops.specs.declared.cursor_reply.CursorInformation.{CursorInformation}
@@ -31,7 +31,6 @@ use Rattle.mg_change.specs.declared.stream.ChangeStream.{ChangeStream}
 use Rattle.mg_change.specs.declared.stream.Phase.{Phase}
 use Rattle.mg_change.specs.declared.stream.Phase.TheVariants as phase
 use Rattle.mg_link.specs.Errors.{command_code}
-use Rattle.mg_jobs.specs.Adds.{AddsOnly}
 use Rattle.mg_jobs.specs.Causes.{Answered, Course, SentIn, sent_at}
 use Rattle.mg_jobs.specs.Completing.{IsCommandOf, asks, kills, opens, resumes}
 use Rattle.mg_jobs.specs.Drawing.{has_turn}
@@ -41,80 +40,81 @@ use Rattle.mg_script.specs.declared.outcome.Answer.{Answer}
 use Rattle.mg_script.specs.declared.outcome.Answer.TheVariants as answers
 use Rattle.mg_script.specs.declared.outcome.Turned.{Turned}
 use Rattle.mg_link.proofs.Places.{get_some}
-use Rattle.mg_jobs.proofs.Adding.{adds_sent, all_falling, same_command_at}
+use Rattle.mg_link.proofs.Adding.{same_command_at}
+use Rattle.mg_jobs.proofs.Adding.{adds_sent, all_falling}
 use Rattle.mg_jobs.proofs.Drawing.{turn_within}
 use Rattle.mg_jobs.proofs.Newest.{none_sent, sent_before, sent_below, started_in}
 
 -- ---- how a stream stands
 
--- the arguments are these, and so is the size of the batches of its cursor
+-- the arguments are these, and its cursor is asked in the manner of their options
 pub record IsFor (args : WatchArgs) (s : Standing) : Type 0 where
   pub args_are : s.aggregate.args ≡ args
-  pub size_is : s.cursor.batch_size ≡ args.options.batch_size
+  pub manner_is : manner_of s.cursor ≡ watch_manner args.options
 
 args_empty : (upto : Option Tree) (a : ChangeStreamAggregate) → (remembered_empty upto a).args ≡ a.args
 args_empty (Some token) a = refl
 args_empty None a = refl
 
 module _ (args : WatchArgs) (past : Past) (at : Standing) (fit : IsFor args at) where
-  abbrev IsSized : CursorInformation → Type 0
-  IsSized c = c.batch_size ≡ args.options.batch_size
+  abbrev IsAsked : CursorInformation → Type 0
+  IsAsked c = manner_of c ≡ watch_manner args.options
 
-  sized_same : (c : CursorInformation) → c ≡ at.cursor → IsSized c
-  sized_same c is = ap (λ (d : CursorInformation). d.batch_size) is ∙ fit.size_is
+  asked_same : (c : CursorInformation) → c ≡ at.cursor → IsAsked c
+  asked_same c is = ap manner_of is ∙ fit.manner_is
 
-  sized_ended : (c : CursorInformation) (ends : Bool) → c ≡ record at.cursor { id = if ends then pos 0 else at.cursor.id } → IsSized c
-  sized_ended c ends is = ap (λ (d : CursorInformation). d.batch_size) is ∙ fit.size_is
+  asked_ended : (c : CursorInformation) (ends : Bool) → c ≡ record at.cursor { id = if ends then pos 0 else at.cursor.id } → IsAsked c
+  asked_ended c ends is = ap manner_of is ∙ fit.manner_is
 
-  sized_again : (c : CursorInformation) → c.batch_size ≡ at.aggregate.args.options.batch_size → IsSized c
-  sized_again c is = is ∙ ap (λ (a : WatchArgs). a.options.batch_size) fit.args_are
+  asked_again : (c : CursorInformation) → manner_of c ≡ watch_manner at.aggregate.args.options → IsAsked c
+  asked_again c is = is ∙ ap (λ (a : WatchArgs). watch_manner a.options) fit.args_are
 
-  sized_fails : (e : Error) (c : CursorInformation) → MoreFails past at e c → IsSized c
-  sized_fails e c (causes.untold asked fails is) = sized_ended c (ends_cursor (command_code e.kind)) is
-  sized_fails e c (causes.broken bytes upto heard success tells breaks) = tells.size_is ∙ fit.size_is
+  asked_fails : (e : Error) (c : CursorInformation) → MoreFails past at e c → IsAsked c
+  asked_fails e c (causes.untold asked fails is) = asked_ended c (ends_cursor (command_code e.kind)) is
+  asked_fails e c (causes.broken bytes upto heard success tells breaks) = tells.manner_is ∙ fit.manner_is
 
-  sized_left : (c : CursorInformation) → Resumes past at c → IsSized c
-  sized_left c (causes.owed owes is) = sized_same c is
-  sized_left c (causes.more_failed e why is) = sized_fails e c why
-  sized_left c (causes.first_broken bytes e hand empty breaks is) = sized_same c is
+  asked_left : (c : CursorInformation) → Resumes past at c → IsAsked c
+  asked_left c (causes.owed owes is) = asked_same c is
+  asked_left c (causes.more_failed e why is) = asked_fails e c why
+  asked_left c (causes.first_broken bytes e hand empty breaks is) = asked_same c is
 
-  sized_replied : (resumed : Bool) (bytes : List ℕ) (c : CursorInformation) (upto : Option Tree) → Replied past at resumed bytes c upto → IsSized c
-  sized_replied resumed bytes c upto (causes.opening new hand empty is behind) = sized_same c is
-  sized_replied resumed bytes c upto (causes.more new heard success tells) = tells.size_is ∙ fit.size_is
-  sized_replied resumed bytes c upto (causes.again new old r killed) = sized_again c r.tells.size_is
+  asked_replied : (resumed : Bool) (bytes : List ℕ) (c : CursorInformation) (upto : Option Tree) → Replied past at resumed bytes c upto → IsAsked c
+  asked_replied resumed bytes c upto (causes.opening new hand empty is behind) = asked_same c is
+  asked_replied resumed bytes c upto (causes.more new heard success tells) = tells.manner_is ∙ fit.manner_is
+  asked_replied resumed bytes c upto (causes.again new old r killed) = asked_again c r.tells.manner_is
 
-  sized_next : (events : List Fields) (c : CursorInformation) (upto : Option Tree) → Next past at events c upto → IsSized c
-  sized_next events c upto (causes.left settled are is behind) = sized_same c is
-  sized_next events c upto (causes.came empty resumed bytes r holds) = sized_replied resumed bytes c upto r
+  asked_next : (events : List Fields) (c : CursorInformation) (upto : Option Tree) → Next past at events c upto → IsAsked c
+  asked_next events c upto (causes.left settled are is behind) = asked_same c is
+  asked_next events c upto (causes.came empty resumed bytes r holds) = asked_replied resumed bytes c upto r
 
   for_none : (after : Standing) (resumed : Bool) → CallNone past at after resumed → IsFor args after
-  for_none after resumed (causes.came_empty empty bytes upto r holds is) = record { args_are = ap (λ (a : ChangeStreamAggregate). a.args) is ∙ args_empty upto at.aggregate ∙ fit.args_are; size_is = sized_replied resumed bytes after.cursor upto r }
-  for_none after resumed (causes.none_left new settled empty gone is same) = record { args_are = ap (λ (a : ChangeStreamAggregate). a.args) is ∙ fit.args_are; size_is = sized_same after.cursor same }
+  for_none after resumed (causes.came_empty empty bytes upto r holds is) = record { args_are = ap (λ (a : ChangeStreamAggregate). a.args) is ∙ args_empty upto at.aggregate ∙ fit.args_are; manner_is = asked_replied resumed bytes after.cursor upto r }
+  for_none after resumed (causes.none_left new settled empty gone is same) = record { args_are = ap (λ (a : ChangeStreamAggregate). a.args) is ∙ fit.args_are; manner_is = asked_same after.cursor same }
 
-  sized_stays : (after : Standing) → causes.Stays past at after → IsSized after.cursor
-  sized_stays after (causes.as_it_was settled is) = sized_same after.cursor (ap (λ (x : Standing). x.cursor) is)
-  sized_stays after (causes.in_hand resumed bytes r holds some settled) = sized_replied resumed bytes after.cursor after.upto r
+  asked_stays : (after : Standing) → causes.Stays past at after → IsAsked after.cursor
+  asked_stays after (causes.as_it_was settled is) = asked_same after.cursor (ap (λ (x : Standing). x.cursor) is)
+  asked_stays after (causes.in_hand resumed bytes r holds some settled) = asked_replied resumed bytes after.cursor after.upto r
 
-  sized_lost : (c : CursorInformation) → MayLose past at c → IsSized c
-  sized_lost c (causes.asking asked is) = sized_same c is
-  sized_lost c (causes.resuming why) = sized_left c why
-  sized_lost c (causes.killing old bytes upto r held) = sized_again c r.tells.size_is
-  sized_lost c (causes.keeping resumed bytes upto r) = sized_replied resumed bytes c upto r
+  asked_lost : (c : CursorInformation) → MayLose past at c → IsAsked c
+  asked_lost c (causes.asking asked is) = asked_same c is
+  asked_lost c (causes.resuming why) = asked_left c why
+  asked_lost c (causes.killing old bytes upto r held) = asked_again c r.tells.manner_is
+  asked_lost c (causes.keeping resumed bytes upto r) = asked_replied resumed bytes c upto r
 
-  sized_failed : (after : Standing) (e : Error) → CallFails past at after e → IsSized after.cursor
-  sized_failed after e (causes.may_lose room owes may) = sized_lost after.cursor may
-  sized_failed after e (causes.no_memory room stays) = sized_stays after stays
-  sized_failed after e (causes.not_resumed owes why fails) = sized_left after.cursor why
-  sized_failed after e (causes.broken bytes upto owes r breaks) = sized_replied true bytes after.cursor upto r
-  sized_failed after e (causes.cannot_resume owes why by) = sized_left after.cursor why
-  sized_failed after e (causes.refused_more asked fails final is) = sized_ended after.cursor (ends_cursor (command_code e.kind)) (ap (λ (x : Standing). x.cursor) is)
-  sized_failed after e (causes.cannot_ask asked by is) = sized_same after.cursor (ap (λ (x : Standing). x.cursor) is)
-  sized_failed after e (causes.no_id event upto next lacks is behind settled) = sized_next (event ∷ after.events) after.cursor upto next
+  asked_failed : (after : Standing) (e : Error) → CallFails past at after e → IsAsked after.cursor
+  asked_failed after e (causes.may_lose room owes may) = asked_lost after.cursor may
+  asked_failed after e (causes.no_memory room stays) = asked_stays after stays
+  asked_failed after e (causes.not_resumed owes why fails) = asked_left after.cursor why
+  asked_failed after e (causes.broken bytes upto owes r breaks) = asked_replied true bytes after.cursor upto r
+  asked_failed after e (causes.cannot_resume owes why by) = asked_left after.cursor why
+  asked_failed after e (causes.refused_more asked fails final is) = asked_ended after.cursor (ends_cursor (command_code e.kind)) (ap (λ (x : Standing). x.cursor) is)
+  asked_failed after e (causes.cannot_ask asked by is) = asked_same after.cursor (ap (λ (x : Standing). x.cursor) is)
+  asked_failed after e (causes.no_id event upto next lacks is behind settled) = asked_next (event ∷ after.events) after.cursor upto next
 
   for_called : (answer : Answer) (after : Standing) → Called past at after (poll_of answer) → IsFor args after
-  for_called (answers.Event event) after g = record { args_are = ap (λ (a : ChangeStreamAggregate). a.args) g.remembers ∙ fit.args_are; size_is = sized_next (fields event ∷ after.events) after.cursor g.upto g.next }
+  for_called (answers.Event event) after g = record { args_are = ap (λ (a : ChangeStreamAggregate). a.args) g.remembers ∙ fit.args_are; manner_is = asked_next (fields event ∷ after.events) after.cursor g.upto g.next }
   for_called answers.Nothing after called = for_none after called.0 called.1.why
-  for_called (answers.Failed e) after f = record { args_are = ap (λ (a : ChangeStreamAggregate). a.args) f.token ∙ fit.args_are; size_is = sized_failed after e f.why }
+  for_called (answers.Failed e) after f = record { args_are = ap (λ (a : ChangeStreamAggregate). a.args) f.token ∙ fit.args_are; manner_is = asked_failed after e f.why }
 
   -- ---- what a call sends
 
@@ -129,16 +129,16 @@ module _ (args : WatchArgs) (past : Past) (at : Standing) (fit : IsFor args at) 
   few_killing (second ticket) = omega arith
 
   -- a getMore is sent only of the cursor that was there as the call began
-  sized_asking : (awaited : Awaited) (s : ChangeStream) (p : Phase) → 3 < places p → ByPhase awaited past at false p s → IsSized s.cursor
-  sized_asking awaited s phase.Taken less by = sized_same s.cursor by.1.cursor
-  sized_asking awaited s phase.Rest less by = sized_same s.cursor by.1.cursor
-  sized_asking awaited s (phase.First bytes) less by = absurd (omega (arith, less))
-  sized_asking awaited s phase.Fresh less by = absurd (omega (arith, less))
-  sized_asking awaited s (phase.Asking get_more exec) less by = sized_same s.cursor by.1.cursor
-  sized_asking awaited s phase.Owing less by = absurd (omega (arith, less))
-  sized_asking awaited s (phase.Resuming exec) less by = let few = few_resuming exec.stage in absurd (omega (arith, less, few))
-  sized_asking awaited s (phase.Killing exec old bytes) less by = let few = few_killing exec.stage in absurd (omega (arith, less, few))
-  sized_asking awaited s (phase.Resumed bytes) less by = absurd (omega (arith, less))
+  asked_asking : (awaited : Awaited) (s : ChangeStream) (p : Phase) → 3 < places p → ByPhase awaited past at false p s → IsAsked s.cursor
+  asked_asking awaited s phase.Taken less by = asked_same s.cursor by.1.cursor
+  asked_asking awaited s phase.Rest less by = asked_same s.cursor by.1.cursor
+  asked_asking awaited s (phase.First bytes) less by = absurd (omega (arith, less))
+  asked_asking awaited s phase.Fresh less by = absurd (omega (arith, less))
+  asked_asking awaited s (phase.Asking get_more exec) less by = asked_same s.cursor by.1.cursor
+  asked_asking awaited s phase.Owing less by = absurd (omega (arith, less))
+  asked_asking awaited s (phase.Resuming exec) less by = let few = few_resuming exec.stage in absurd (omega (arith, less, few))
+  asked_asking awaited s (phase.Killing exec old bytes) less by = let few = few_killing exec.stage in absurd (omega (arith, less, few))
+  asked_asking awaited s (phase.Resumed bytes) less by = absurd (omega (arith, less))
 
   module _ (are_its : WatchArgs → Type 0) (its : are_its args) (awaited : Awaited) (s : ChangeStream) (so : SoFar awaited past at false s.phase s) (wire : ℤ) where
     resumes_its : (command : Fields) → command ≡ resuming_command s.aggregate wire → IsCommandOf are_its command
@@ -149,7 +149,7 @@ module _ (args : WatchArgs) (past : Past) (at : Standing) (fit : IsFor args at) 
     call_may (suc zero) command less is = resumes_its command is
     call_may (suc (suc zero)) command less is = resumes_its command is
     call_may (suc (suc (suc zero))) command less is =
-        asks args its s.cursor.id (space s.cursor.ns) (is ∙ ap (λ (size : Option ℕ). get_more_command s.cursor.id (space s.cursor.ns) size) (sized_asking awaited s s.phase less so.by))
+        asks args its s.cursor.id (space s.cursor.ns) (is ∙ ap (next_command s.cursor.id (space s.cursor.ns)) (asked_asking awaited s s.phase less so.by))
     call_may (suc (suc (suc (suc place)))) command less is = absurd is
 
 for_answered : (args : WatchArgs) (calls : List Call) (wire : ℤ) (at : Standing) (owns : List (List ℕ)) (said : List Answer) (last : Standing) → Answered calls wire at owns said last → IsFor args at → IsFor args last
@@ -159,7 +159,7 @@ for_answered args calls wire at [] (answer ∷ said) last a fit = absurd a
 for_answered args calls wire at (own ∷ owns) [] last a fit = absurd a
 
 for_opened : (args : WatchArgs) (past : Past) (opened : Standing) → Opened past args opened → IsFor args opened
-for_opened args past opened o = record { args_are = o.args_are; size_is = o.tells.size_is }
+for_opened args past opened o = record { args_are = o.args_are; manner_is = o.tells.manner_is }
 
 -- ---- what a follow sends
 

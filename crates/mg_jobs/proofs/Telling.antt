@@ -2,7 +2,7 @@
 use Rattle.std.proofs.Common.{◌≡◌, ◌⊎◌, ◌+◌, ◌-◌, ◌≤◌, ◌<◌, ℕ, zero, suc, ℤ, pos, Bool, true, false, List, [], ◌∷◌, ◌++◌, length, Option, Some, None, refl, sym, ap, ◌∙◌, subst, inl, inr, arith, length-append}
 use Rattle.std.specs.Prelude.{◌≢◌, ◌↔◌, IsTrue, slice_get}
 use Rattle.mg_bson.specs.Tree.{Tree}
-use Rattle.mg_link.specs.Calls.{Grows, Keeps, Past, Stays, past_of}
+use Rattle.mg_link.specs.Calls.{Grows, Keeps, Past, Stays, past_of, AddsOnly}
 use Rattle.mg_link.specs.Exec.{Sending}
 use Rattle.mg_link.specs.Link.{Awaited, Told}
 use Rattle.mg_link.specs.Log.{Call}
@@ -39,7 +39,6 @@ use Rattle.mg_change.proofs.Growing.{called_grows, so_far_grows}
 use Rattle.mg_change.proofs.Causes.{begins}
 use Rattle.mg_change.proofs.ClosingCauses.{kill_done_grows, kill_fails_grows, kills_grows}
 use Rattle.mg_change.proofs.OpeningCauses.{opened_grows, opening_fails_grows, opens_grows}
-use Rattle.mg_jobs.specs.Adds.{AddsOnly}
 use Rattle.mg_jobs.specs.Causes.{Answered, ClosedBy, IsAlive, sent_at}
 use Rattle.mg_jobs.specs.Completing.{IsCommandOf}
 use Rattle.mg_jobs.specs.Follows.{HasGiven, Placing, poll_of, same_place}
@@ -52,7 +51,7 @@ use Rattle.mg_script.specs.declared.outcome.Ended.TheVariants as ended
 use Rattle.mg_jobs.specs.declared.player.Stage.{Stage}
 use Rattle.mg_jobs.specs.declared.player.Stage.TheVariants as stage
 use Rattle.mg_jobs.specs.declared.player.Watched.{Watched}
-use Rattle.mg_jobs.proofs.Adding.{adds_none, adds_on}
+use Rattle.mg_link.proofs.Adding.{adds_none, adds_on}
 use Rattle.mg_jobs.proofs.Sends.{call_adds, closing_adds, opening_adds}
 
 -- ---- places

@@ -1,19 +1,18 @@
 -- What the jobs of a run tell of their causes, turn by turn and at its end.
 use Rattle.std.proofs.Common.{◌≡◌, ◌⊎◌, ◌+◌, ◌≤◌, ℕ, suc, ℤ, pos, Bool, true, false, List, [], ◌∷◌, ◌++◌, length, Option, Some, None, Result, Ok, Err, refl, sym, ap, ◌∙◌, subst, inl, inr, take, arith, append_assoc}
-use Rattle.std.specs.Prelude.{slice_get, slice_set, IfOk, IsSome}
+use Rattle.std.specs.Prelude.{slice_get, slice_set, IfOk}
 use Rattle.std.specs.List.{sum_by}
 use Rattle.std.proofs.lemmas.List.{take_all}
 use Rattle.std.proofs.lemmas.List.Sums.{sum_by-append}
 use Rattle.mg_bson.specs.Tree.{Fields, Tree}
 use Rattle.mg_bson.specs.Raw.{fields}
-use Rattle.mg_link.specs.Calls.{Keeps, Past, Stays, past_of}
+use Rattle.mg_link.specs.Calls.{Keeps, Past, Stays, past_of, AddsOnly}
 use Rattle.mg_link.specs.Link.{Awaited, Told}
 use Rattle.mg_link.specs.Log.{Call}
 use Rattle.mg_link.specs.Namespace.{Space, Target, space, target}
 use Rattle.mg_link.specs.Owner.{NamesItsOwn, Owner}
 use Rattle.mg_link.specs.State.{Start, Watch}
 use Rattle.mg_link.specs.declared.error.Error.{Error}
-use Rattle.mg_link.proofs.Calls.{awaited_by}
 use Rattle.mg_link.proofs.Places.{get_within}
 use Rattle.mg_ops.specs.declared.change_stream.WatchArgs.{WatchArgs}
 use Rattle.mg_change.specs.Causes.{Standing}
@@ -21,16 +20,14 @@ use Rattle.mg_change.specs.Following.{token_of}
 use Rattle.mg_change.specs.Phases.{ticket_in}
 use Rattle.mg_change.specs.declared.stream.ChangeStream.{ChangeStream}
 use Rattle.mg_change.proofs.Awaiting.{call_awaits, kill_awaits, opening_awaits}
-use Rattle.mg_ops.specs.Commands.{insert_command}
-use Rattle.mg_jobs.specs.Adds.{AddsOnly}
-use Rattle.mg_jobs.specs.InsertCauses.{InsertFlies, IsInsertOf}
-use Rattle.mg_jobs.specs.Inserts.{held}
-use Rattle.mg_jobs.specs.declared.insert.Command.{Command}
-use Rattle.mg_jobs.specs.Causes.{AllCaused, AllSentIn, ClosedBy, CloseCaused, Course, EndsBy, FollowCaused, OpenStands, InsertEnds, InsertWaits, InsertWaits, OpenCaused, OpenWaits, OutcomeCaused, SentIn, SentNoneBehind, at_rest, course, in_call, in_closing, sent_at}
+use Rattle.mg_ops.specs.InsertCauses.{InsertWaits, IsInsertOf}
+use Rattle.mg_ops.proofs.InsertCauses.{insert_waits}
+use Rattle.mg_jobs.specs.Causes.{AllCaused, AllSentIn, ClosedBy, CloseCaused, Course, EndsBy, FollowCaused, OpenStands, InsertEnds, OpenCaused, OpenWaits, OutcomeCaused, SentIn, SentNoneBehind, at_rest, course, in_call, in_closing, sent_at}
 use Rattle.mg_jobs.specs.Completing.{IsCommandOf}
 use Rattle.mg_jobs.specs.Completing as completing
 use Rattle.mg_jobs.specs.Counts.{HoldsNewest, NewestAt, StartedBy}
-use Rattle.mg_jobs.specs.Drawing.{AreLater, HadTurn, HaveDrawn, JobHadTurn, JobHasIds, as_sent, drawn_in, first_id, has_turn, with_ids}
+use Rattle.mg_ops.specs.Drawn.{AreLater, with_ids}
+use Rattle.mg_jobs.specs.Drawing.{HadTurn, HaveDrawn, JobHadTurn, JobHasIds, as_sent, drawn_in, first_id, has_turn}
 use Rattle.mg_jobs.specs.Follows.{Followed, FollowedFrom, HasGiven, IsArgsFor, IsUnfinished, Placing, events_of, filter_in, same_place, token_at}
 use Rattle.mg_jobs.specs.Headline.{AllFollowed, AllKnow, AreFirst, DoTasks, Does, FollowedOr, IsFirst, Knowing, OutcomeFollowed, OutcomeOf, OutcomesOf, Plays, Took}
 use Rattle.mg_script.specs.Plan as plan
@@ -57,7 +54,8 @@ use Rattle.mg_jobs.specs.declared.run.Player.{Player}
 use Rattle.mg_jobs.specs.declared.run.Player.TheVariants as player
 use Rattle.mg_jobs.proofs.Apart.{stays, which}
 use Rattle.mg_jobs.proofs.Knowing.{get_length, know_first, knowing_turn, one_more, place_here, place_other, take_next}
-use Rattle.mg_jobs.proofs.Drawing.{id_had, id_next, id_own, ids_from, none_had, turn_other}
+use Rattle.mg_ops.proofs.Drawn.{ids_from}
+use Rattle.mg_jobs.proofs.Drawing.{id_had, id_next, id_own, none_had, turn_other}
 use Rattle.mg_jobs.proofs.Identified.{calls_identified, honest_over, opened_well}
 use Rattle.mg_jobs.proofs.InsertTelling.{ends_of, insert_tells_grow, none_done, ready_begins, ready_turns, stage_stays}
 use Rattle.mg_jobs.proofs.Newest.{newest_other, newest_own, none_sent}
@@ -580,13 +578,9 @@ insert_ends awaited past at ds false (inserts.Goes i) had tells = absurd cc
 insert_ends awaited past at ds false (inserts.Ended e) had tells = absurd cc
 
 -- what an insert waits for
-insert_holds : (awaited : Awaited) (past : Past) (at : Space) (ds : List Fields) (waiting : Option Command) → InsertFlies awaited past at ds waiting → IsSome (held waiting) → InsertWaits awaited past at ds
-insert_holds awaited past at ds None flies holds = absurd cc
-insert_holds awaited past at ds (Some c) flies holds = record { piece = c.insert.documents.items; part = flies.part; waits = awaited_by awaited past (insert_command at c.insert.documents.items) c.exec.stage flies.flies holds }
-
 insert_awaits : (awaited : Awaited) (past : Past) (at : Space) (ds : List Fields) (b : Bool) (s : InsertStage) (k : ℕ) (last : Bool) → HadTurn b s → (b ≡ true → InsertTells awaited past at ds s) → InsertAt s k last → last ≡ true → IsUnfinished (end_of s) → InsertWaits awaited past at ds
 insert_awaits awaited past at ds b inserts.Unsent k last had tells is_at pended is = absurd (not_both is_at.1 pended)
-insert_awaits awaited past at ds true (inserts.Goes i) k last had tells is_at pended is = insert_holds awaited past at ds i.command (tells refl).0.flies (is_at.1 ∙ pended)
+insert_awaits awaited past at ds true (inserts.Goes i) k last had tells is_at pended is = insert_waits awaited past at ds i (tells refl).0 (is_at.1 ∙ pended)
 insert_awaits awaited past at ds false (inserts.Goes i) k last had tells is_at pended is = absurd cc
 insert_awaits awaited past at ds b (inserts.Ended ended.Unfinished) k last had tells is_at pended is = absurd is_at.1
 insert_awaits awaited past at ds b (inserts.Ended (ended.Gave n)) k last had tells is_at pended is = absurd is

@@ -1,5 +1,5 @@
 -- Whose call it is that waits for its reply.
-use Rattle.std.proofs.Common.{◌≡◌, ◌⊎◌, ◌+◌, ◌<◌, ◌≤◌, ℕ, ℤ, pos, Bool, true, List, [], ◌∷◌, ◌++◌, length, Option, Some, None, Result, Ok, Err, IfOk, sym, ap, ◌∙◌, subst, inl, inr, arith}
+use Rattle.std.proofs.Common.{◌≡◌, ◌⊎◌, ◌+◌, ◌<◌, ◌≤◌, ℕ, ℤ, pos, Bool, true, List, [], ◌∷◌, ◌++◌, length, Option, Some, Result, Ok, Err, IfOk, sym, ap, ◌∙◌, subst, inl, inr, arith}
 use Rattle.std.specs.Prelude.{is_some, slice_get, slice_set}
 use Rattle.std.proofs.lemmas.Bool.{cases_eq, cases_order}
 use Rattle.std.proofs.lemmas.List.Sums.{sum_by-cons}
@@ -10,15 +10,13 @@ use Rattle.mg_link.specs.Link.{Awaited, Told}
 use Rattle.mg_link.specs.Log.{Call}
 use Rattle.mg_link.specs.Namespace.{Space, space}
 use Rattle.mg_link.specs.declared.error.Error.{Error}
-use Rattle.mg_link.proofs.Calls.{HoldsOwn, own_by}
+use Rattle.mg_link.proofs.Calls.{HoldsOwn}
 use Rattle.mg_link.proofs.Owners.{same_some}
 use Rattle.mg_link.proofs.Places.{get_past_other, get_seam, get_set_same}
-use Rattle.mg_ops.specs.Commands.{insert_command}
 use Rattle.mg_change.proofs.Awaiting.{call_own, kill_own, opening_own}
 use Rattle.mg_jobs.specs.Causes.{AllSentIn, AllWaitAlone, Course, WaitsAlone, SentIn, course, sent_at}
 use Rattle.mg_jobs.specs.Drawing.{HadTurn, HaveDrawn, JobHadTurn, first_id, has_turn}
-use Rattle.mg_jobs.specs.InsertCauses.{InsertFlies}
-use Rattle.mg_jobs.specs.Inserts.{held}
+use Rattle.mg_ops.proofs.InsertCauses.{insert_own}
 use Rattle.mg_jobs.specs.Playing.{inserts_ticket, job_ticket, stage_ticket}
 use Rattle.mg_jobs.specs.Progress.{AllAt, Came, FollowAt, InsertAt, IsAt, calls_of, came, pends_last, turns_done}
 use Rattle.mg_jobs.specs.Runs.{AreHeld, HeldBy}
@@ -26,7 +24,6 @@ use Rattle.mg_jobs.specs.Telling.{AllTell, AllTold, FollowTold, InsertTells, Job
 use Rattle.mg_script.specs.Plan.{Task}
 use Rattle.mg_script.specs.declared.outcome.Played.{Played}
 use Rattle.mg_script.specs.declared.outcome.Turned.{Turned}
-use Rattle.mg_jobs.specs.declared.insert.Command.{Command}
 use Rattle.mg_jobs.specs.declared.player.InsertStage.{InsertStage}
 use Rattle.mg_jobs.specs.declared.player.InsertStage.TheVariants as inserts
 use Rattle.mg_jobs.specs.declared.player.Stage.{Stage}
@@ -144,18 +141,14 @@ follow_own awaited calls wire c i (stage.Closes closing) k at ticket t holds =
     sent_own awaited c i (number (stage.Closes closing) k) t.places.now calls wire ticket t.sent.now (kill_own awaited (sent_at t.places.now calls wire) t.tells.0.cursor (pos 0) closing.flight ticket t.tells.5 holds)
 follow_own awaited calls wire c i stage.Ended k at ticket t holds = absurd cc
 
-command_own : (awaited : Awaited) (past : Past) (at : Space) (sent : List Fields) (waiting : Option Command) (ticket : ℕ) → InsertFlies awaited past at sent waiting → held waiting ≡ Some ticket → HoldsOwn awaited past ticket
-command_own awaited past at sent None ticket flies holds = absurd cc
-command_own awaited past at sent (Some c) ticket flies holds = own_by awaited past (insert_command at c.insert.documents.items) c.exec.stage ticket flies.flies holds
-
-insert_own : (awaited : Awaited) (past : Past) (at : Space) (sent : List Fields) (had : Bool) (s : InsertStage) (ticket : ℕ) → HadTurn had s → (had ≡ true → InsertTells awaited past at sent s) → inserts_ticket s ≡ Some ticket → HoldsOwn awaited past ticket
-insert_own awaited past at sent had inserts.Unsent ticket turn tells holds = absurd cc
-insert_own awaited past at sent had (inserts.Goes i) ticket turn tells holds = command_own awaited past at sent i.command ticket (tells turn).0.flies holds
-insert_own awaited past at sent had (inserts.Ended e) ticket turn tells holds = absurd cc
+stage_own : (awaited : Awaited) (past : Past) (at : Space) (sent : List Fields) (had : Bool) (s : InsertStage) (ticket : ℕ) → HadTurn had s → (had ≡ true → InsertTells awaited past at sent s) → inserts_ticket s ≡ Some ticket → HoldsOwn awaited past ticket
+stage_own awaited past at sent had inserts.Unsent ticket turn tells holds = absurd cc
+stage_own awaited past at sent had (inserts.Goes i) ticket turn tells holds = insert_own awaited past at sent i ticket (tells turn).0 holds
+stage_own awaited past at sent had (inserts.Ended e) ticket turn tells holds = absurd cc
 
 pub job_own : (ids : ℕ → List ℕ) (first : ℕ) (awaited : Awaited) (calls : List Call) (wire : ℤ) (c : Course) (i : ℕ) (p : Player) (at : Option ℕ) (ticket : ℕ) → JobHadTurn (has_turn i c.order) p → JobTold ids first awaited calls wire c i p at → job_ticket p ≡ Some ticket → SentOwn awaited c i ticket
 job_own ids first awaited calls wire c i (player.Insert job) at ticket had t holds =
-    sent_own awaited c i 0 t.places calls wire ticket t.sent (insert_own awaited (sent_at t.places calls wire) (space job.ns.now) _ (has_turn i c.order) job.stage ticket had t.tells holds)
+    sent_own awaited c i 0 t.places calls wire ticket t.sent (stage_own awaited (sent_at t.places calls wire) (space job.ns.now) _ (has_turn i c.order) job.stage ticket had t.tells holds)
 job_own ids first awaited calls wire c i (player.Follow job) at ticket had t holds = follow_own awaited calls wire c i job.stage (kept job) at ticket t holds
 job_own ids first awaited calls wire c i player.Put at ticket had t holds = absurd cc
 job_own ids first awaited calls wire c i player.Get at ticket had t holds = absurd cc

@@ -11,7 +11,6 @@ use Rattle.mg_link.specs.Owner.{IsOf}
 use Rattle.mg_link.specs.Standing.{Stands}
 use Rattle.mg_link.specs.declared.error.Error.{Error}
 use Rattle.mg_link.specs.declared.error.ErrorKind.TheVariants as kind
-use Rattle.mg_ops.specs.Commands.{insert_command}
 use Rattle.mg_ops.specs.Naming.{IsNamed}
 use Rattle.mg_ops.specs.declared.change_stream.WatchArgs.{WatchArgs}
 use Rattle.mg_change.specs.Causes.{CallWaits, Called, Standing}
@@ -19,11 +18,11 @@ use Rattle.mg_change.specs.ClosingCauses.{KillDone, KillFails, KillWaits}
 use Rattle.mg_change.specs.Following.{token_of}
 use Rattle.mg_change.specs.OpeningCauses.{Opened, OpeningFails}
 use Rattle.mg_change.specs.Openings.{opening_command}
-use Rattle.mg_jobs.specs.Appended.{Appended}
+use Rattle.mg_ops.specs.Appended.{Appended}
 use Rattle.mg_jobs.specs.Counts.{PolledBy, one_if}
 use Rattle.mg_jobs.specs.Drawing.{as_sent}
 use Rattle.mg_jobs.specs.Follows.{FollowedFrom, IsArgsFor, IsUnfinished, poll_of}
-use Rattle.mg_jobs.specs.InsertCauses.{InsertFails, IsPiece}
+use Rattle.mg_ops.specs.InsertCauses.{InsertFails, InsertWaits}
 use Rattle.mg_script.specs.Plan.{Begin, Task, insert, follow, put, get}
 use Rattle.mg_jobs.specs.Progress.{pends_last, turns_done}
 use Rattle.mg_script.specs.declared.outcome.Answer.{Answer}
@@ -73,12 +72,6 @@ abbrev pub EndsBy : Past → Space → List Fields → Ended ℕ → Type 0
 EndsBy past at sent ended.Unfinished = Unit {0}
 EndsBy past at sent (ended.Gave n) = IsNamed at → Appended past at sent n
 EndsBy past at sent (ended.Failed e) = InsertFails past at sent e
-
--- it waits for the reply to a command that inserts some of the documents
-pub record InsertWaits (awaited : Awaited) (past : Past) (at : Space) (sent : List Fields) : Type 0 where
-  pub piece : List Fields
-  pub part : IsPiece sent piece
-  pub waits : IsAwaited awaited past (insert_command at piece)
 
 -- it sent its commands in its turns up to the first that did not pend
 pub record InsertEnds (awaited : Awaited) (c : Course) (i : ℕ) (calls : List Call) (wire : ℤ) (at : Space) (documents : List Fields) (end : Ended ℕ) : Type 0 where

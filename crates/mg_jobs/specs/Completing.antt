@@ -12,7 +12,9 @@ use Rattle.mg_link.specs.Standing.{Stands}
 use Rattle.mg_link.specs.Step.{documents_of}
 use Rattle.mg_link.specs.declared.error.Error.{Error}
 use Rattle.mg_link.specs.declared.error.ErrorKind.TheVariants as kind
-use Rattle.mg_ops.specs.Commands.{get_more_command, insert_command, kill_command}
+use Rattle.mg_ops.specs.Bodies.{insert_command}
+use Rattle.mg_ops.specs.Commands.{kill_command}
+use Rattle.mg_ops.specs.Cursors.{watch_manner, next_command}
 use Rattle.mg_ops.specs.Failing.{CannotBeInserted, CannotBeSent}
 use Rattle.mg_ops.specs.Limits.{SizePasses}
 use Rattle.mg_ops.specs.Naming.{IsNamed}
@@ -23,7 +25,7 @@ use Rattle.mg_change.specs.Phases.{resuming_command}
 use Rattle.mg_jobs.specs.Causes.{Course, SentIn, course}
 use Rattle.mg_jobs.specs.Drawing.{as_sent}
 use Rattle.mg_jobs.specs.Follows.{IsArgsFor}
-use Rattle.mg_jobs.specs.InsertCauses.{IsPiece}
+use Rattle.mg_ops.specs.InsertCauses.{IsPiece}
 use Rattle.mg_script.specs.Plan.{Task, insert, follow, put, get}
 use Rattle.mg_jobs.specs.Progress.{turns_done}
 use Rattle.mg_script.specs.declared.outcome.Answer.{Answer}
@@ -78,7 +80,7 @@ InsertWell at sent (ended.Failed e) = IsExcusedInsert at sent e
 pub data IsCommandOf (are_its : WatchArgs → Type 0) (command : Fields) : Type 0 where
   opens : (args : WatchArgs) → are_its args → command ≡ opening_command args → IsCommandOf are_its command
   resumes : (a : ChangeStreamAggregate) (wire : ℤ) → are_its a.args → command ≡ resuming_command a wire → IsCommandOf are_its command
-  asks : (args : WatchArgs) → are_its args → (id : ℤ) (space : Space) → command ≡ get_more_command id space args.options.batch_size → IsCommandOf are_its command
+  asks : (args : WatchArgs) → are_its args → (id : ℤ) (space : Space) → command ≡ next_command id space (watch_manner args.options) → IsCommandOf are_its command
   kills : (space : Space) (ids : List ℤ) → command ≡ kill_command space ids → IsCommandOf are_its command
 
 -- memory ran out, or a command that was to be sent passes the limits of documents

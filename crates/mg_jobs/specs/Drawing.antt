@@ -1,7 +1,7 @@
--- Which ids inserts draw, and what they send for their documents.
-use Rattle.std.specs.Prelude.{◌≡◌, ◌+◌, ℕ, Bool, true, false, cond, nat_eq, List, [], ◌∷◌, length, Option, Some, None, codes, slice_get}
-use Rattle.mg_bson.specs.Tree.{Tree, object_id, Fields, field}
-use Rattle.mg_bson.specs.Find.{get}
+-- Which ids the inserts of a run draw, and what they send with them.
+use Rattle.std.specs.Prelude.{◌≡◌, ◌+◌, ℕ, Bool, true, false, cond, nat_eq, List, [], ◌∷◌, length, Option, Some, None, slice_get}
+use Rattle.mg_bson.specs.Tree.{Fields}
+use Rattle.mg_ops.specs.Drawn.{AreLater, lacking, with_ids}
 use Rattle.mg_script.specs.Plan as plan
 use Rattle.mg_script.specs.Plan.{Task}
 use Rattle.mg_jobs.specs.Playing.{HasIds}
@@ -9,35 +9,6 @@ use Rattle.mg_jobs.specs.declared.player.InsertStage.{InsertStage}
 use Rattle.mg_jobs.specs.declared.player.InsertStage.TheVariants as inserts
 use Rattle.mg_jobs.specs.declared.run.Player.{Player}
 use Rattle.mg_jobs.specs.declared.run.Player.TheVariants as player
-
--- ---- documents and their ids
-
--- one where there is no `_id`
-abbrev pub one_unless_there : Option Tree → ℕ
-one_unless_there None = 1
-one_unless_there (Some id) = 0
-
--- one where the document has no `_id`
-abbrev pub lacks : Fields → ℕ
-lacks d = one_unless_there (get (codes "_id") d)
-
--- how many of the documents have no `_id`
-abbrev pub lacking : List Fields → ℕ
-lacking [] = 0
-lacking (d ∷ ds) = lacks d + lacking ds
-
-abbrev pub sent_by : Option Tree → List ℕ → Fields → Fields
-sent_by None id d = field (codes "_id") (object_id id) d
-sent_by (Some own) id d = d
-
--- what is sent for a document: the document itself where it has an `_id`, and otherwise this one as its first field, and the document behind it
-abbrev pub sent_for : List ℕ → Fields → Fields
-sent_for id d = sent_by (get (codes "_id") d) id d
-
--- What is sent for documents: each that has no `_id` gets the next of these ids, from the one of this number on.
-abbrev pub with_ids : (ℕ → List ℕ) → ℕ → List Fields → List Fields
-with_ids ids n [] = []
-with_ids ids n (d ∷ ds) = sent_for (ids n) d ∷ with_ids ids (n + lacks d) ds
 
 -- ---- the ids of a run
 
@@ -100,10 +71,6 @@ JobHasIds (player.Insert job) = HasIds job.stage
 JobHasIds (player.Follow job) = Unit {0}
 JobHasIds player.Put = Unit {0}
 JobHasIds player.Get = Unit {0}
-
--- the ids that a source gives later are those that it gives now, but for the first so many
-abbrev pub AreLater : (ℕ → List ℕ) → ℕ → (ℕ → List ℕ) → Type 0
-AreLater now n later = (k : ℕ) → later k ≡ now (n + k)
 
 -- an insert has its ids just where it had a turn
 abbrev pub HadTurn : Bool → InsertStage → Type 0

@@ -16,6 +16,7 @@ use Rattle.mg_link.specs.State as state
 use Rattle.mg_ops.specs.Aims.{aim}
 use Rattle.mg_ops.specs.Naming.{IsNamed, start_in}
 use Rattle.mg_ops.specs.declared.change_stream.WatchArgs.{WatchArgs}
+use Rattle.mg_options.specs.Options.{no_options}
 use Rattle.mg_options.specs.declared.change_stream.ChangeStreamOptions.{ChangeStreamOptions}
 use Rattle.mg_change.specs.Closings.{closing_of}
 use Rattle.mg_change.specs.declared.event_poll.EventPoll.{EventPoll}
@@ -92,10 +93,10 @@ all_changes_of cluster = Some true
 
 -- the options of a watch that begins there, and says nothing else
 abbrev pub begun_options : Begin → ChangeStreamOptions
-begun_options nowhere = record { resume_after = None; start_at_operation_time = None; start_after = None; all_changes_for_cluster = None; batch_size = None }
-begun_options (resume_after token) = record { resume_after = Some token; start_at_operation_time = None; start_after = None; all_changes_for_cluster = None; batch_size = None }
-begun_options (start_after token) = record { resume_after = None; start_at_operation_time = None; start_after = Some token; all_changes_for_cluster = None; batch_size = None }
-begun_options (at_time seconds increment) = record { resume_after = None; start_at_operation_time = Some (record { time = seconds; increment = increment }); start_after = None; all_changes_for_cluster = None; batch_size = None }
+begun_options nowhere = no_options
+begun_options (resume_after token) = record no_options { resume_after = Some token }
+begun_options (start_after token) = record no_options { start_after = Some token }
+begun_options (at_time seconds increment) = record no_options { start_at_operation_time = Some (record { time = seconds; increment = increment }) }
 
 -- the options of a watch: where it starts, and the size of its batches
 abbrev pub options_of : Target → Begin → Option ℕ → ChangeStreamOptions

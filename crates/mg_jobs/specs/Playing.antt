@@ -3,7 +3,7 @@ use Rattle.std.specs.Prelude.{◌≡◌, ◌<◌, ℕ, ℤ, Bool, true, false, O
 use Rattle.mg_change.specs.Phases.{IsSound, ticket_in}
 use Rattle.mg_change.specs.Openings.{opening_ticket}
 use Rattle.mg_change.specs.Closings.{IsClosing, IsQuiet, closing_ticket}
-use Rattle.mg_jobs.specs.Inserts.{SendsPlain, insert_ticket}
+use Rattle.mg_ops.specs.Inserts.{SendsPlain, insert_ticket}
 use Rattle.mg_jobs.specs.declared.player.InsertPlayer.{InsertPlayer}
 use Rattle.mg_jobs.specs.declared.player.InsertStage.{InsertStage}
 use Rattle.mg_jobs.specs.declared.player.InsertStage.TheVariants as inserts

@@ -4,7 +4,7 @@ use Rattle.mg_jobs.specs.Counts.{RoseIf}
 use Rattle.mg_change.specs.Closings.{closing_ticket}
 use Rattle.mg_change.specs.Openings.{opening_ticket}
 use Rattle.mg_change.specs.Phases.{ticket_in}
-use Rattle.mg_jobs.specs.Inserts.{insert_ticket}
+use Rattle.mg_ops.specs.Inserts.{insert_ticket}
 use Rattle.mg_jobs.specs.Follows.{HasGiven, IsFailed, IsUnfinished}
 use Rattle.mg_script.specs.Plan.{Task, insert, follow, put, get}
 use Rattle.mg_script.specs.declared.outcome.Ended.{Ended}

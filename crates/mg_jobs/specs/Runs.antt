@@ -5,7 +5,8 @@ use Rattle.mg_link.specs.Link.{Awaited, Told}
 use Rattle.mg_jobs.specs.Follows.{Placing}
 use Rattle.mg_jobs.specs.Headline.{IsSameTask, Turns}
 use Rattle.mg_jobs.specs.Playing.{HasRoom, IsSameFollow, StageHolds, follow_ended, insert_ended, job_ticket}
-use Rattle.mg_jobs.specs.Drawing.{AreLater, JobHasIds, turn_draws}
+use Rattle.mg_ops.specs.Drawn.{AreLater}
+use Rattle.mg_jobs.specs.Drawing.{JobHasIds, turn_draws}
 use Rattle.mg_jobs.specs.Telling.{FirstTells, JobTells}
 use Rattle.mg_script.specs.declared.outcome.Turned.{Turned}
 use Rattle.mg_jobs.specs.declared.player.FollowPlayer.{FollowPlayer}

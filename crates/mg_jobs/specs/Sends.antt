@@ -8,7 +8,7 @@ use Rattle.mg_jobs.specs.Causes.{Course, SentIn, course}
 use Rattle.mg_jobs.specs.Completing.{IsCommandOf}
 use Rattle.mg_jobs.specs.Drawing.{as_sent}
 use Rattle.mg_jobs.specs.Follows.{IsArgsFor}
-use Rattle.mg_jobs.specs.InsertCauses.{IsInsertOf}
+use Rattle.mg_ops.specs.InsertCauses.{IsInsertOf}
 use Rattle.mg_script.specs.Plan.{Task, insert, follow, put, get}
 use Rattle.mg_script.specs.declared.outcome.Turned.{Turned}
 

@@ -2,7 +2,7 @@
 use Rattle.std.specs.Prelude.{◌≡◌, ◌↔◌, ◌⊎◌, ◌+◌, ◌<◌, ◌≤◌, IsTrue, Bool, true, false, ℕ, suc, ℤ, pos, List, [], length, Option, Some, slice_get}
 use Rattle.std.specs.List.{sum_by}
 use Rattle.mg_bson.specs.Tree.{Fields, Tree}
-use Rattle.mg_link.specs.Calls.{Past, past_of}
+use Rattle.mg_link.specs.Calls.{Past, past_of, AddsOnly}
 use Rattle.mg_link.specs.Link.{Awaited, Told}
 use Rattle.mg_link.specs.Log.{Call}
 use Rattle.mg_link.specs.Namespace.{Space, space, target}
@@ -17,17 +17,17 @@ use Rattle.mg_change.specs.OpeningCauses.{Opened, OpeningFails, OpensSoFar}
 use Rattle.mg_change.specs.Following.{token_of}
 use Rattle.mg_change.specs.Openings.{IsOpening}
 use Rattle.mg_change.specs.declared.stream.ChangeStream.{ChangeStream}
-use Rattle.mg_jobs.specs.Adds.{AddsOnly}
 use Rattle.mg_jobs.specs.Causes.{Answered, ClosedBy, Course, EndsBy, IsAlive, AllSentIn, SentNoneBehind, course, sent_at}
 use Rattle.mg_jobs.specs.Completing.{IsCommandOf}
 use Rattle.mg_jobs.specs.Follows.{FollowTurns, HasGiven, IsArgsFor, Placing, filter_in}
 use Rattle.mg_jobs.specs.Headline.{AllKnow}
-use Rattle.mg_jobs.specs.InsertCauses.{InsertsSoFar, IsInsertOf}
+use Rattle.mg_ops.specs.InsertCauses.{HasSent, IsInsertOf}
 use Rattle.mg_script.specs.Plan.{Task, begin}
-use Rattle.mg_jobs.specs.Drawing.{first_id, has_turn, with_ids}
+use Rattle.mg_ops.specs.Drawn.{with_ids}
+use Rattle.mg_jobs.specs.Drawing.{first_id, has_turn}
 use Rattle.mg_jobs.specs.Playing.{IsSameInsert, job_ticket}
 use Rattle.mg_jobs.specs.Sends.{SendsOnly}
-use Rattle.mg_jobs.specs.Underway.{HasInserted}
+use Rattle.mg_ops.specs.Underway.{HasInserted}
 use Rattle.mg_script.specs.declared.outcome.Answer.{Answer}
 use Rattle.mg_script.specs.declared.outcome.Ended.{Ended}
 use Rattle.mg_script.specs.declared.outcome.Ended.TheVariants as ended
@@ -148,7 +148,7 @@ pub record FollowGoesOn (old new : Awaited) (log log' : Told) (wire : ℤ) (s : 
 -- what an insert that drew its ids, and sends these documents, can tell at each stage
 abbrev pub InsertTells : Awaited → Past → Space → List Fields → InsertStage → Type 0
 InsertTells awaited past at sent inserts.Unsent = ⊥
-InsertTells awaited past at sent (inserts.Goes i) = InsertsSoFar awaited past at sent i.batches i.command × (IsNamed at → HasInserted awaited past at sent i)
+InsertTells awaited past at sent (inserts.Goes i) = HasSent awaited past at sent i × (IsNamed at → HasInserted awaited past at sent i)
 InsertTells awaited past at sent (inserts.Ended end) = EndsBy past at sent end
 
 -- A turn led an insert of these documents to a stage: it tells what it should, at whatever places it had sent before.

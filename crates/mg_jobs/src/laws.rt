@@ -10,7 +10,7 @@ ghost use Rattle.mg_link.specs.Namespace.{Space};
 ghost use Rattle.mg_link.specs.Standing.{Stands};
 ghost use Rattle.mg_link.specs.State.{documents_at};
 ghost use Rattle.mg_link.specs.Step.{documents_of};
-ghost use Rattle.mg_jobs.specs.Appended.{Appended, InsertsAt};
+ghost use Rattle.mg_ops.specs.Appended.{Appended, InsertsAt};
 ghost use Rattle.mg_jobs.specs.Causes.{Course, OutcomeCaused};
 ghost use Rattle.mg_jobs.specs.Completing.{OutcomeWell};
 ghost use Rattle.mg_jobs.specs.Counts.{Faultless};

@@ -3,7 +3,7 @@
 
 mod counting;
 mod fated;
-mod insert;
+mod fates;
 pub mod laws;
 mod player;
 mod program;

@@ -15,15 +15,15 @@ ghost use Rattle.mg_link.proofs.Killing.{PassesPlain};
 ghost use Rattle.mg_ops.specs.Naming.{start_in};
 ghost use Rattle.mg_script.specs.Plan.{begin};
 ghost use Rattle.mg_jobs.specs.Progress.{CloseGoes, FollowAt, FollowGoes, InsertAt, InsertGoes, InsertReady, RestGoes, came};
-ghost use Rattle.mg_jobs.specs.Drawing.{AreLater, lacking, next_draws, with_ids};
+ghost use Rattle.mg_ops.specs.Drawn.{AreLater, lacking, with_ids};
+ghost use Rattle.mg_jobs.specs.Drawing.{next_draws};
 ghost use Rattle.mg_jobs.specs.Playing.{HasIds, HasRoom, IsPlainInsert, IsPlainJob, IsSameFollow, IsSameInsert, StageHolds, end_of, follow_ended, insert_ended, inserts_ticket, player_ticket, stage_ticket};
 ghost use Rattle.mg_jobs.specs.Telling.{FollowGoesOn, FollowTells, InsertTells, InsertTurns, IsWatchArgs, RestTells, TellsOn, kept};
 
-use crate::insert::Inserting;
 use mg_bson::{Bson, Document};
 use mg_change::{ChangeStream, Closing, EventPoll, Opening};
 use mg_link::{Action, Error, IdSource, Link, Namespace, OperationTarget, Step, push_reserved};
-use mg_ops::WatchArgs;
+use mg_ops::{Inserting, WatchArgs};
 use mg_options::{ChangeStreamOptions, ResumeToken};
 use mg_script::{Answer, Ended, Outcome, Start};
 use std::alloc::Global;
@@ -220,7 +220,7 @@ fn begun_at(start: &Start) -> Result<ChangeStreamOptions, Error>
     ensures begun { IfOk result (λ o. o ≡ begun_options (begin start.now)) }
     ensures err { IfErr result (λ e. e ≡ plain kinds.OutOfMemory) }
 {
-    let mut options = ChangeStreamOptions::default();
+    let mut options = ChangeStreamOptions::builder();
     match start {
         Start::Nowhere => {}
         Start::ResumeAfter(token) => options.resume_after = Some(token.clone()?),

@@ -13,9 +13,10 @@ ghost use Rattle.mg_script.specs.Text.{line, text_of};
 ghost use Rattle.mg_jobs.specs.Program.{Caused, HasJobs, Ran, ReadMissing, ReadNoScript, ReadTooMuch, RunFollowed, Told, ending_text, is_run, run_of, status_of};
 
 use crate::fated::{Fated, FatedLink};
+use crate::fates::small_copies;
 use crate::run::run_jobs;
 use mg_link::{CountedIds, Error, InputError, Sink, Source, read_all, write_all};
-use mg_script::{Place, Run, Script, ScriptError, missing, parse_script, small_copies, text_of};
+use mg_script::{Place, Run, Script, ScriptError, missing, parse_script, text_of};
 use mg_store::{MemLink, Store};
 use std::alloc::Global;
 use std::marker::Brand;

@@ -2,4 +2,3 @@ pub mod Steps
 pub mod Digits
 pub mod Printed
 pub mod Lines
-pub mod Small

@@ -1,7 +1,6 @@
 //! Scripts, from their bytes on, and the text of what became of their jobs.
 #![tactic(auto)]
 
-mod fates;
 mod fault;
 mod json;
 mod outcome;
@@ -13,7 +12,6 @@ mod print;
 mod script;
 mod value;
 
-pub use fates::small_copies;
 pub use fault::{Place, ScriptError};
 pub use json::json_text;
 pub use outcome::{Answer, Ended, Outcome, Played, Run, Turned};

@@ -13,6 +13,7 @@ ghost use Rattle.mg_change.specs.Polls.{Falls, IsNotIo, IsStepAtOnce, StepLoses,
 ghost use Rattle.mg_change.specs.Sent.{Quiet, StepSent};
 ghost use Rattle.mg_change.specs.Causes.{FailCause, FailLeads, MoreLeads, StepCaused, StepLeads, TellsCursor, Unkept};
 ghost use Rattle.mg_change.specs.Replies.{FailTurns, MoreTurns};
+ghost use Rattle.mg_ops.specs.Cursors.{manner_of};
 
 use super::{ChangeStream, Phase};
 use crate::batch::batch_of;
@@ -115,7 +116,7 @@ impl ChangeStream {
         ensures lost_turned { OnErr result (MoreTurns reply self.old (record self.new { phase = Phase.Owing }) []) }
         ensures aggregate { self.new.aggregate ≡ self.old.aggregate }
         ensures lost { IfErr result (λ e. Unkept self.old self.new reply e) }
-        ensures tells { OnOk result (TellsCursor reply self.old.cursor.batch_size self.new.cursor self.new.batch_token) }
+        ensures tells { OnOk result (TellsCursor reply (manner_of self.old.cursor) self.new.cursor self.new.batch_token) }
         ensures gave { OnOk result (HoldsBatch (fields reply) (buffered self.new)) }
     {
         let gave = get_more.read(self.alloc, reply)?;

@@ -1,16 +1,15 @@
 use Rattle.std.proofs.Common.{refl, false}
-use Rattle.mg_link.specs.Namespace.{space}
 use Rattle.mg_link.proofs.Staying.{stays_ran}
-use Rattle.mg_ops.specs.Commands.{get_more_command}
 use Rattle.mg_change.proofs.Garbled.{carries_on, still_waits}
 use Rattle.mg_change.proofs.Closed.{fail_lands, fail_to, more_flown, more_lands, more_to}
+use Rattle.mg_ops.specs.Cursors.{asking_command}
 use Rattle.mg_change.proofs.ClosingCauses as causes
 use Rattle.mg_change.proofs.closing.land_more.Goals as goal
 
 pub returns-in-Pending-clause-lands : goal.returns-in-Pending-clause-lands
 returns-in-Pending-clause-lands g c = λ kept is.
     let r = c.args.remains in
-    let command = get_more_command r.cursor.id (space r.cursor.ns) r.cursor.batch_size in
+    let command = asking_command r.cursor in
     let carries = carries_on c.args.exec c.in-Pending.exec command false (still_waits _ _ _ _ _ c.args.exec c.in-Pending.exec c.in-Pending.ensures.runs) is.carries in
     (record { kept = kept; flies = record { carries = carries; held = is.held; alone = is.alone } }, refl)
 

@@ -10,12 +10,13 @@ use Rattle.mg_change.proofs.Opened.{known_by, saved_for}
 use Rattle.mg_change.specs.Openings.{first_known}
 use Rattle.mg_ops.specs.declared.change_stream.ChangeStreamData.{ChangeStreamData}
 use Rattle.std.specs.Prelude.{Some}
+use Rattle.mg_ops.proofs.Watching.{manner_read}
 use Rattle.mg_change.proofs.Reading.{named_read}
 use Rattle.mg_change.proofs.opening.stream_of.Goals as goal
 
 pub returns-clause-ok : goal.returns-clause-ok
 returns-clause-ok c =
-    let o = c.in_ok-opened.ensures.ok.opens in
+    let o = c.in_ok-opened.ensures.ok.opens.opens in
     let fits : SFits w32 c.args.wire = search rules in
     let time : c.in_ok-data.data.initial_operation_time ≡ saved_time c.args.aggregate.args.options c.args.wire c.in_ok-opened.opened.is_empty (is_some c.in_ok-opened.opened.post_batch_resume_token) c.in_ok-opened.time =
     c.in_ok-data.ensures.time ∙ ap (λ (w : ℤ). saved_time c.args.aggregate.args.options w c.in_ok-opened.opened.is_empty (is_some c.in_ok-opened.opened.post_batch_resume_token) c.in_ok-opened.time) (to_z-of_z w32 c.args.wire fits) in
@@ -24,7 +25,7 @@ returns-clause-ok c =
       args_is = refl;
       batch = o.batch;
       says = o.says;
-      size_is = o.size_is;
+      manner_is = manner_read c.args.aggregate.args.options c.args.reply c.in_ok-opened.opened c.in_ok-opened.ensures.ok.opens;
       is_empty = c.in_ok-opened.opened.is_empty;
       empty = o.first;
       time = c.in_ok-opened.time;

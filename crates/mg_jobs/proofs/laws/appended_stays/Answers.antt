@@ -1,4 +1,4 @@
-use Rattle.mg_jobs.proofs.Appending.{appended_grown}
+use Rattle.mg_ops.proofs.Appending.{appended_grown}
 use Rattle.mg_jobs.proofs.laws.appended_stays.Goals as goal
 
 pub returns : goal.returns

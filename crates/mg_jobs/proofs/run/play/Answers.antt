@@ -9,7 +9,8 @@ use Rattle.mg_jobs.specs.Telling.{AllTell}
 use Rattle.mg_script.specs.declared.outcome.Turned.{Turned}
 use Rattle.std.proofs.lemmas.Option.{slice_get-get_or}
 use Rattle.mg_jobs.proofs.Advancing.{at_next}
-use Rattle.mg_jobs.specs.Drawing.{AreLater, drawn_in}
+use Rattle.mg_ops.specs.Drawn.{AreLater}
+use Rattle.mg_jobs.specs.Drawing.{drawn_in}
 use Rattle.mg_jobs.proofs.Drawing.{drawn_next, drawn_whole}
 use Rattle.mg_jobs.proofs.Knowing.{length_take}
 use Rattle.mg_jobs.proofs.Polling.{polls_next, polls_whole}

@@ -6,11 +6,11 @@ use Rattle.mg_change.proofs.Causes as causes
 use Rattle.mg_change.proofs.stream.ChangeStream.resumption_came.Goals as goal
 
 pub replace-requires-clause-named : goal.replace-requires-clause-named
-replace-requires-clause-named c = reading.named_read (fields c.args.reply) _ c.in-Ok.ensures.ok.opens.says
+replace-requires-clause-named c = reading.named_read (fields c.args.reply) _ c.in-Ok.ensures.ok.opens.opens.says
 
 pub returns-in-Ok-clause-turned : goal.returns-in-Ok-clause-turned
 returns-in-Ok-clause-turned c =
-    hearing.resume_read c.args.self.now.aggregate.args.options.batch_size c.args.reply c.args.self.now c.replace.new.self c.in-Ok.opened (step_told c.replace.result) c.in-Ok.ensures.ok.opens.batch c.in-Ok.ensures.ok.opens.says c.in-Ok.ensures.ok.opens.whole c.replace.ensures.turned
+    hearing.resume_read c.args.self.now.aggregate.args.options.batch_size c.args.reply c.args.self.now c.replace.new.self c.in-Ok.opened (step_told c.replace.result) c.in-Ok.ensures.ok.opens.opens.batch c.in-Ok.ensures.ok.opens.opens.says c.in-Ok.ensures.ok.opens.opens.whole c.replace.ensures.turned
 
 pub returns-in-Ok-clause-caused : goal.returns-in-Ok-clause-caused
 returns-in-Ok-clause-caused c = λ awaited past at kept why heard success.

@@ -37,7 +37,7 @@ fn kind_of(alloc: Global, kind: &FateKind) -> Result<FateKind, AllocError>
     }
 }
 
-/// A copy of a fate. Of one whose refusal no reply can hold there is none.
+// A copy of a fate. Of one whose refusal no reply can hold there is none.
 fn small_copy(alloc: Global, fate: &Fate) -> Result<Fate, OutOfMemory>
     ensures same { IfOk result (λ f. fated f ≡ fated fate.now) }
     ensures small { IfOk result (λ f. IsSmall f.kind) }
@@ -53,7 +53,7 @@ fn small_copy(alloc: Global, fate: &Fate) -> Result<Fate, OutOfMemory>
 }
 
 /// Copies of fates, for a link. Want of memory comes also where no reply can hold a refusal.
-pub fn small_copies(alloc: Global, fates: &[Fate]) -> Result<Vec<Fate>, Error>
+pub(crate) fn small_copies(alloc: Global, fates: &[Fate]) -> Result<Vec<Fate>, Error>
     ensures same { IfOk result (λ v. plan.fates v.items ≡ plan.fates fates.now) }
     ensures small { IfOk result (λ v. AreSmall v.items) }
     ensures err { IfErr result (λ e. e ≡ plain kinds.OutOfMemory) }

@@ -1,7 +1,7 @@
 use Rattle.std.proofs.Common.{arith}
 use Rattle.std.proofs.lemmas.Grind.{common_steps}
-use Rattle.mg_script.proofs.Small.{small_more}
-use Rattle.mg_script.proofs.fates.small_copies.Goals as goal
+use Rattle.mg_jobs.proofs.Small.{small_more}
+use Rattle.mg_jobs.proofs.fates.small_copies.Goals as goal
 
 pub loop-fate-preserved : goal.loop-fate-preserved
 loop-fate-preserved c = record {
