@@ -22,6 +22,7 @@ mod runs;
 mod sessions;
 mod store;
 mod streams;
+mod unprinted;
 mod words;
 
 use mg_bson::{Bson, BsonError, Document, to_bytes};

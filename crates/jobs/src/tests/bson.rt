@@ -200,10 +200,9 @@ fn digits_of(alloc: Global, document: &Document) -> Result<String, BsonError> {
     Ok(hex::encode(alloc, bytes)?)
 }
 
-// How the value of the name `x` prints, behind the digits of its document written again.
-fn vector_of(alloc: Global, bytes: Vec<u8>) -> Result<String, BsonError> {
-    let document = document_of(alloc, bytes)?;
-    let digits = digits_of(alloc, &document)?;
+// How the value of the name `x` prints, behind the digits of its document.
+fn vector_of(alloc: Global, document: &Document) -> Result<String, BsonError> {
+    let digits = digits_of(alloc, document)?;
     Ok(format!(in alloc; "{digits} {:?}", document.get("x"))?)
 }
 
@@ -212,8 +211,12 @@ fn encoding_vectors(rt: HostRuntime) -> Result<(), Fail> {
     let alloc = rt.alloc();
     for line in VECTORS.lines() {
         let (digits, _) = parted(line);
-        let found = vector_of(alloc, hex::decode(alloc, digits)?)?;
+        let bytes = hex::decode(alloc, digits)?;
+        let len = bytes.len();
+        let document = document_of(alloc, bytes)?;
+        let found = vector_of(alloc, &document)?;
         expect(&rt, digits, found.as_str(), line);
+        assert_eq!(rt; document.encoded_len(), Ok(len), "{digits}");
     }
     Ok(())
 }
@@ -271,12 +274,13 @@ fn nested_bytes(alloc: Global, kind: u8, levels: u32) -> Result<Vec<u8>, BsonErr
     Ok(bytes)
 }
 
-// Whether a document of 100 levels is written as it was read, why one of 101 is not written, and why it is not read.
+// Whether a document of 100 levels is written as it was read, why one of 101 is not written and has no length, and why it
+// is not read.
 fn levels_of(alloc: Global, kind: u8) -> Result<String, BsonError> {
     let bytes = nested_bytes(alloc, kind, 100)?;
     let deepest = document_of(alloc, bytes.clone()?)?;
     let is_same = to_bytes(alloc, &deepest)?.as_bytes() == bytes.as_slice();
-    let deeper = fault_of(alloc, "0", Bson::Document(deepest))?;
+    let deeper = faults_of(alloc, "0", Bson::Document(deepest))?;
     let unread = RawDocumentBuf::from_bytes(nested_bytes(alloc, kind, 101)?).err();
     Ok(format!(in alloc; "{is_same} {deeper:?} {unread:?}")?)
 }
@@ -289,31 +293,34 @@ fn limits_of_levels(rt: HostRuntime) -> Result<(), Fail> {
             &rt,
             name,
             found.as_str(),
-            "true Some(TooDeep) Some(Malformed)",
+            "true [Some(TooDeep), Some(TooDeep)] Some(Malformed)",
         );
     }
     Ok(())
 }
 
-// Why a document of a binary of so many bytes is not written. It takes 13 bytes more than it holds.
-fn fault_of_size(alloc: Global, len: usize) -> Result<Option<BsonError>, BsonError> {
+// Why a document of a binary of so many bytes is not written, and why it has no length. It takes 13 bytes more than it holds.
+fn faults_of_size(alloc: Global, len: usize) -> Result<[Option<BsonError>; 2], BsonError> {
     let bytes = vec![in alloc; 0; len]?;
-    fault_of(alloc, "x", Bson::Binary(Binary { subtype: 0, bytes }))
+    faults_of(alloc, "x", Bson::Binary(Binary { subtype: 0, bytes }))
 }
 
 #[test]
 fn limits_of_size(rt: HostRuntime) -> Result<(), Fail> {
     for (len, error) in [(47_999_987, None), (47_999_988, Some(BsonError::TooLarge))] {
-        let found = fault_of_size(rt.alloc(), len)?;
-        assert_eq!(rt; found, error, "{len}");
+        let found = faults_of_size(rt.alloc(), len)?;
+        assert_eq!(rt; found, [error, error], "{len}");
     }
     Ok(())
 }
 
-// Why a document of one field is not written.
-fn fault_of(alloc: Global, name: &str, value: Bson) -> Result<Option<BsonError>, BsonError> {
+// Why a document of one field is not written, and why it has no length.
+fn faults_of(alloc: Global, name: &str, value: Bson) -> Result<[Option<BsonError>; 2], BsonError> {
     let document = one_field(alloc, name, value)?;
-    Ok(to_bytes(alloc, &document).err())
+    Ok([
+        to_bytes(alloc, &document).err(),
+        document.encoded_len().err(),
+    ])
 }
 
 // A regular expression whose pattern holds the character 0.
@@ -323,10 +330,10 @@ fn bad_regex(alloc: Global) -> Result<Bson, BsonError> {
     Ok(Bson::Regex(Box::new(alloc, Regex { pattern, options })?))
 }
 
-// Why neither a bad name nor a bad pattern is written.
+// Why neither a bad name nor a bad pattern is written or has a length.
 fn faults_of_zeros(alloc: Global) -> Result<String, BsonError> {
-    let name = fault_of(alloc, "a\0b", Bson::Null)?;
-    let pattern = fault_of(alloc, "x", bad_regex(alloc)?)?;
+    let name = faults_of(alloc, "a\0b", Bson::Null)?;
+    let pattern = faults_of(alloc, "x", bad_regex(alloc)?)?;
     Ok(format!(in alloc; "{name:?} {pattern:?} {}", BsonError::BadName)?)
 }
 
@@ -337,7 +344,7 @@ fn bad_names(rt: HostRuntime) -> Result<(), Fail> {
         &rt,
         "zeros",
         found.as_str(),
-        "Some(BadName) Some(BadName) BadName",
+        "[Some(BadName), Some(BadName)] [Some(BadName), Some(BadName)] BadName",
     );
     Ok(())
 }

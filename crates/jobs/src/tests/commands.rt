@@ -2,46 +2,45 @@ use super::records::is_shown;
 use super::{namespace, one_field, parted, text, with};
 use mg_bson::{Bson, Document};
 use mg_link::{
-    Error, OperationTarget, ReadConcern, ReadConcernLevel, ReadPreference, SelectionCriteria,
-    WriteConcern,
+    Error, Namespace, OperationTarget, ReadConcern, ReadConcernLevel, ReadPreference,
+    SelectionCriteria, WriteConcern,
 };
 use mg_ops::{
     Aggregate, Create, CreateIndexes, Delete, DropCollection, Find, GetMore, Insert,
     ListCollections, ListIndexes, Operation, RunCommand, RunCursorCommand, Update,
 };
 use mg_options::{
-    AggregateOptions, CreateIndexOptions, CursorType, DeleteOptions, DropCollectionOptions,
-    FindOptions, Hint, InsertManyOptions, ListCollectionsOptions, ListIndexesOptions,
-    RunCommandOptions, RunCursorCommandOptions, UpdateModifications,
+    AggregateOptions, Collation, CreateIndexOptions, CursorType, DeleteOptions,
+    DropCollectionOptions, FindOptions, Hint, InsertManyOptions, ListCollectionsOptions,
+    ListIndexesOptions, RunCommandOptions, RunCursorCommandOptions, UpdateModifications,
 };
-use std::alloc::Global;
+use std::alloc::{AllocError, Global};
 use std::test::Fail;
 
 // Each line is an operation, how it is built, and what is built: the names of its fields in order, and its JSON text.
 const COMMANDS: &str =
     r#"find awaited find singleBatch tailable awaitData batchSize comment limit filter $db readConcern $readPreference {"$db":"db","$readPreference":{"mode":"nearest"},"awaitData":true,"batchSize":5,"comment":"c","filter":{"x":1},"find":"coll","limit":{"$int64":"7"},"readConcern":{"level":"local"},"singleBatch":true,"tailable":true}
-find limited find tailable batchSize limit filter $db {"$db":"db","batchSize":6,"filter":{"x":1},"find":"coll","limit":{"$int64":"5"},"tailable":true}
-find empty find tailable batchSize limit filter $db {"$db":"db","batchSize":1,"filter":{"x":1},"find":"coll","limit":{"$int64":"0"},"tailable":true}
-find excessive invalid batch size
-aggregate collection aggregate pipeline cursor allowDiskUse maxTimeMS $db readConcern writeConcern {"$db":"db","aggregate":"coll","allowDiskUse":true,"cursor":{"batchSize":5},"maxTimeMS":6,"pipeline":[{"$skip":1}],"readConcern":{"level":"local"},"writeConcern":{"j":true}}
-aggregate merge aggregate pipeline cursor allowDiskUse maxTimeMS $db readConcern writeConcern {"$db":"db","aggregate":"coll","allowDiskUse":true,"cursor":{},"maxTimeMS":6,"pipeline":[{"$merge":1}],"readConcern":{"level":"local"},"writeConcern":{"j":true}}
-aggregate cluster aggregate pipeline cursor allowDiskUse maxTimeMS $db readConcern writeConcern {"$db":"admin","aggregate":1,"allowDiskUse":true,"cursor":{"batchSize":5},"maxTimeMS":6,"pipeline":[{"$skip":1}],"readConcern":{"level":"local"},"writeConcern":{"j":true}}
-list names listCollections nameOnly filter cursor $db {"$db":"db","cursor":{"batchSize":5},"filter":{"name":1},"listCollections":1,"nameOnly":true}
-list types listCollections nameOnly filter cursor $db {"$db":"db","cursor":{"batchSize":5},"filter":{"type":1},"listCollections":1,"nameOnly":false}
+find tailable find tailable batchSize limit filter $db {"$db":"db","batchSize":6,"filter":{"x":1},"find":"coll","limit":{"$int64":"5"},"tailable":true}
+aggregate collection aggregate pipeline cursor allowDiskUse maxTimeMS $db readConcern writeConcern $readPreference {"$db":"db","$readPreference":{"mode":"nearest"},"aggregate":"coll","allowDiskUse":true,"cursor":{"batchSize":5},"maxTimeMS":6,"pipeline":[{"$skip":1}],"readConcern":{"level":"local"},"writeConcern":{"j":true}}
+aggregate merge aggregate pipeline cursor allowDiskUse maxTimeMS $db readConcern writeConcern $readPreference {"$db":"db","$readPreference":{"mode":"nearest"},"aggregate":"coll","allowDiskUse":true,"cursor":{},"maxTimeMS":6,"pipeline":[{"$merge":1}],"readConcern":{"level":"local"},"writeConcern":{"j":true}}
+aggregate cluster aggregate pipeline cursor allowDiskUse maxTimeMS $db readConcern writeConcern $readPreference {"$db":"admin","$readPreference":{"mode":"nearest"},"aggregate":1,"allowDiskUse":true,"cursor":{"batchSize":5},"maxTimeMS":6,"pipeline":[{"$skip":1}],"readConcern":{"level":"local"},"writeConcern":{"j":true}}
+list names listCollections nameOnly filter cursor comment $db {"$db":"db","comment":"c","cursor":{"batchSize":5},"filter":{"name":1},"listCollections":1,"nameOnly":true}
+list types listCollections nameOnly filter cursor comment $db {"$db":"db","comment":"c","cursor":{"batchSize":5},"filter":{"type":1},"listCollections":1,"nameOnly":false}
 list indexes listIndexes cursor maxTimeMS comment $db {"$db":"db","comment":"c","cursor":{"batchSize":5},"listIndexes":"coll","maxTimeMS":6}
 given command x $db $readPreference {"$db":"db","$readPreference":{"mode":"nearest"},"x":1}
-given cursor x $db {"$db":"db","x":1}
+given cursor x $db $readPreference {"$db":"db","$readPreference":{"mode":"nearest"},"x":1}
 given excessive invalid batch size
 given more getMore collection batchSize maxTimeMS comment $db {"$db":"db","batchSize":5,"collection":"coll","comment":"c","getMore":{"$int64":"9"},"maxTimeMS":2147483647}
 write insert insert documents ordered bypassDocumentValidation comment $db writeConcern {"$db":"db","bypassDocumentValidation":true,"comment":"c","documents":[{"x":1}],"insert":"coll","ordered":false,"writeConcern":{"j":true}}
 write none no documents to insert
 write slow number out of range
-write delete delete deletes ordered let comment $db writeConcern {"$db":"db","comment":"c","delete":"coll","deletes":[{"hint":{"x":2},"limit":1,"q":{"x":1}}],"let":{"x":3},"ordered":true,"writeConcern":{"j":true}}
+write delete delete deletes ordered let comment $db writeConcern {"$db":"db","comment":4,"delete":"coll","deletes":[{"collation":{"locale":"en"},"hint":{"x":2},"limit":1,"q":{"x":1}}],"let":{"x":3},"ordered":true,"writeConcern":{"j":true}}
 write update update updates ordered $db writeConcern {"$db":"db","ordered":true,"update":"coll","updates":[{"multi":true,"q":{"x":1},"u":{"x":2}}],"writeConcern":{"j":true}}
 write one update updates ordered $db writeConcern {"$db":"db","ordered":true,"update":"coll","updates":[{"q":{"x":1},"u":{"x":2}}],"writeConcern":{"j":true}}
+write pipeline update updates ordered $db writeConcern {"$db":"db","ordered":true,"update":"coll","updates":[{"q":{"x":1},"u":[{"x":2}]}],"writeConcern":{"j":true}}
 space create create $db writeConcern {"$db":"db","create":"coll","writeConcern":{"j":true}}
-space drop drop $db {"$db":"db","drop":"coll"}
-space indexes createIndexes indexes maxTimeMS $db {"$db":"db","createIndexes":"coll","indexes":[{"key":{"filename":1,"uploadDate":{"$int64":"-1"}},"name":"filename_1_uploadDate_-1"}],"maxTimeMS":6}
+space drop drop $db writeConcern {"$db":"db","drop":"coll","writeConcern":{"j":true}}
+space indexes createIndexes indexes maxTimeMS $db writeConcern {"$db":"db","createIndexes":"coll","indexes":[{"key":{"filename":1,"uploadDate":{"$int64":"-1"}},"name":"filename_1_uploadDate_-1"}],"maxTimeMS":6,"writeConcern":{"j":true}}
 space nameless number out of range"#;
 
 // The document `{ x: n }`.
@@ -50,7 +49,7 @@ fn x(alloc: Global, n: i32) -> Result<Document, Error> {
 }
 
 // A write is to be in the journal.
-fn journaled() -> WriteConcern {
+pub(super) fn journaled() -> WriteConcern {
     WriteConcern {
         w: None,
         w_timeout: None,
@@ -58,13 +57,13 @@ fn journaled() -> WriteConcern {
     }
 }
 
-fn local() -> ReadConcern {
+pub(super) fn local() -> ReadConcern {
     ReadConcern {
         level: ReadConcernLevel::Local,
     }
 }
 
-fn nearest() -> SelectionCriteria {
+pub(super) fn nearest() -> SelectionCriteria {
     SelectionCriteria::ReadPreference(ReadPreference::Nearest)
 }
 
@@ -91,10 +90,10 @@ fn awaited(alloc: Global) -> Result<Document, Error> {
 }
 
 // A find whose limit is the size of its batches.
-fn limited(alloc: Global, n: u32) -> Result<Document, Error> {
+fn tailable(alloc: Global) -> Result<Document, Error> {
     let options = FindOptions::builder()
-        .limit(i64::from(n))
-        .batch_size(n)
+        .limit(5)
+        .batch_size(5)
         .cursor_type(CursorType::Tailable);
     find(alloc, options)
 }
@@ -102,9 +101,7 @@ fn limited(alloc: Global, n: u32) -> Result<Document, Error> {
 fn finds(alloc: Global, way: &str) -> Result<Document, Error> {
     match way {
         "awaited" => awaited(alloc),
-        "limited" => limited(alloc, 5),
-        "empty" => limited(alloc, 0),
-        _ => limited(alloc, 2_147_483_647),
+        _ => tailable(alloc),
     }
 }
 
@@ -115,8 +112,10 @@ fn aggregate(alloc: Global, target: OperationTarget, stage: &str) -> Result<Docu
         .allow_disk_use(true)
         .batch_size(5)
         .max_time(6)
+        .max_await_time(9)
         .read_concern(local())
-        .write_concern(journaled());
+        .write_concern(journaled())
+        .selection_criteria(nearest());
     let aggregate = Aggregate {
         target,
         pipeline,
@@ -141,13 +140,15 @@ fn aggregates(alloc: Global, way: &str) -> Result<Document, Error> {
 // A list of the names of collections that a filter of this name selects.
 fn list_collections(alloc: Global, name: &str) -> Result<Document, Error> {
     let filter = one_field(alloc, name, Bson::Int32(1))?;
+    let comment = text(alloc, "c")?;
     let db = String::from_str(alloc, "db")?;
     let list = ListCollections {
         db,
         name_only: true,
         options: ListCollectionsOptions::builder()
             .filter(filter)
-            .batch_size(5),
+            .batch_size(5)
+            .comment(comment),
     };
     list.build(alloc, 21, None)
 }
@@ -175,10 +176,14 @@ fn lists(alloc: Global, way: &str) -> Result<Document, Error> {
 
 fn run(alloc: Global) -> Result<Document, Error> {
     let db = String::from_str(alloc, "db")?;
+    let command = x(alloc, 1)?;
+    let options = RunCommandOptions::builder()
+        .selection_criteria(nearest())
+        .build();
     let run = RunCommand {
         db,
-        command: x(alloc, 1)?,
-        options: RunCommandOptions::builder().selection_criteria(nearest()),
+        command,
+        options: options.clone()?,
     };
     run.build(alloc, 21, None)
 }
@@ -188,7 +193,9 @@ fn run_cursor(alloc: Global, batch_size: u32) -> Result<Document, Error> {
     let run = RunCursorCommand {
         db,
         command: x(alloc, 1)?,
-        options: RunCursorCommandOptions::builder().batch_size(batch_size),
+        options: RunCursorCommandOptions::builder()
+            .selection_criteria(nearest())
+            .batch_size(batch_size),
     };
     run.build(alloc, 21, None)
 }
@@ -248,24 +255,29 @@ fn delete(alloc: Global, many: bool) -> Result<Document, Error> {
     let filter = x(alloc, 1)?;
     let hint = x(alloc, 2)?;
     let let_vars = x(alloc, 3)?;
-    let comment = text(alloc, "c")?;
+    let locale = String::from_str(alloc, "en")?;
     let delete = Delete {
         ns,
         filter,
         many,
         options: DeleteOptions::builder()
+            .collation(Collation::builder(locale))
             .hint(Hint::Keys(hint))
             .let_vars(let_vars)
-            .comment(comment)
+            .comment(Bson::Int32(4))
             .write_concern(journaled()),
     };
     delete.build(alloc, 21, None)
 }
 
-fn update(alloc: Global, many: bool) -> Result<Document, Error> {
+fn update(
+    alloc: Global,
+    modifications: UpdateModifications,
+    many: bool,
+) -> Result<Document, Error> {
     let ns = namespace(alloc)?;
     let filter = x(alloc, 1)?;
-    let modifications = UpdateModifications::from(x(alloc, 2)?);
+    let modifications = modifications.clone()?;
     let update = Update {
         ns,
         filter,
@@ -282,8 +294,12 @@ fn writes(alloc: Global, way: &str) -> Result<Document, Error> {
         "none" => insert(alloc, Vec::new(alloc), journaled()),
         "slow" => insert(alloc, vec![in alloc; x(alloc, 1)?]?, slow()),
         "delete" => delete(alloc, false),
-        "update" => update(alloc, true),
-        _ => update(alloc, false),
+        "update" => update(alloc, UpdateModifications::from(x(alloc, 2)?), true),
+        "one" => update(alloc, UpdateModifications::from(x(alloc, 2)?), false),
+        _ => {
+            let stages = vec![in alloc; x(alloc, 2)?]?;
+            update(alloc, UpdateModifications::from(stages), false)
+        }
     }
 }
 
@@ -296,9 +312,13 @@ fn create(alloc: Global) -> Result<Document, Error> {
 }
 
 fn drop_collection(alloc: Global) -> Result<Document, Error> {
+    let ns = namespace(alloc)?;
+    let options = DropCollectionOptions::builder()
+        .write_concern(journaled())
+        .build();
     let dropped = DropCollection {
-        ns: namespace(alloc)?,
-        options: DropCollectionOptions::builder(),
+        ns,
+        options: options.clone()?,
     };
     dropped.build(alloc, 21, None)
 }
@@ -311,7 +331,9 @@ fn create_indexes(alloc: Global, value: Bson) -> Result<Document, Error> {
     let create = CreateIndexes {
         ns,
         keys,
-        options: CreateIndexOptions::builder().max_time(6),
+        options: CreateIndexOptions::builder()
+            .max_time(6)
+            .write_concern(journaled()),
     };
     create.build(alloc, 21, None)
 }
@@ -344,5 +366,89 @@ fn commands_of_operations(rt: HostRuntime) -> Result<(), Fail> {
         let (way, wanted) = parted(rest);
         is_shown(&rt, alloc, line, built(alloc, operation, way), wanted)?;
     }
+    Ok(())
+}
+
+// Each line is how a find is limited, and what is built.
+const LIMITS: &str =
+    r#"raised find batchSize limit filter $db {"$db":"db","batchSize":6,"filter":{},"find":"c","limit":{"$int64":"5"}}
+single find singleBatch limit filter $db {"$db":"db","filter":{},"find":"c","limit":{"$int64":"1"},"singleBatch":true}
+excessive invalid batch size
+least invalid limit
+zero find batchSize limit filter $db {"$db":"db","batchSize":1,"filter":{},"find":"c","limit":{"$int64":"0"}}"#;
+
+// The namespace `db.c`.
+fn short_namespace(alloc: Global) -> Result<Namespace, AllocError> {
+    let db = String::from_str(alloc, "db")?;
+    let coll = String::from_str(alloc, "c")?;
+    Ok(Namespace { db, coll })
+}
+
+// A find of all documents, with a limit and a size of its batches.
+fn find_up_to(alloc: Global, limit: &str) -> Result<Document, Error> {
+    let ns = short_namespace(alloc)?;
+    let options = match limit {
+        "raised" => FindOptions::builder().limit(5).batch_size(5),
+        "single" => FindOptions::builder().limit(-1),
+        "excessive" => FindOptions::builder()
+            .limit(2_147_483_647)
+            .batch_size(2_147_483_647),
+        "least" => FindOptions::builder().limit(i64::MIN),
+        _ => FindOptions::builder().limit(0).batch_size(0),
+    };
+    let find = Find {
+        ns,
+        filter: Document::new(alloc),
+        options,
+    };
+    find.build(alloc, 21, None)
+}
+
+#[test]
+fn find_limits(rt: HostRuntime) -> Result<(), Fail> {
+    let alloc = rt.alloc();
+    for line in LIMITS.lines() {
+        let (limit, wanted) = parted(line);
+        is_shown(&rt, alloc, line, find_up_to(alloc, limit), wanted)?;
+    }
+    Ok(())
+}
+
+// A getMore without a size, and with more milliseconds than an Int32 counts.
+fn patient_get_more(alloc: Global) -> Result<Document, Error> {
+    let get_more = GetMore {
+        ns: short_namespace(alloc)?,
+        id: 9,
+        batch_size: Some(0),
+        max_time: Some(2_147_483_648),
+        comment: None,
+    };
+    get_more.build(alloc, 21, None)
+}
+
+// An aggregate that writes its documents into another collection.
+fn aggregate_out(alloc: Global) -> Result<Document, Error> {
+    let ns = short_namespace(alloc)?;
+    let name = text(alloc, "d")?;
+    let pipeline = vec![in alloc; one_field(alloc, "$out", name)?]?;
+    let aggregate = Aggregate {
+        target: OperationTarget::Collection(ns),
+        pipeline,
+        options: AggregateOptions::builder().batch_size(5),
+    };
+    aggregate.build(alloc, 21, None)
+}
+
+const GET_MORE: &str =
+    r#"getMore collection maxTimeMS $db {"$db":"db","collection":"c","getMore":{"$int64":"9"},"maxTimeMS":2147483647}"#;
+
+const OUT: &str =
+    r#"aggregate pipeline cursor $db {"$db":"db","aggregate":"c","cursor":{},"pipeline":[{"$out":"d"}]}"#;
+
+#[test]
+fn get_more_and_out(rt: HostRuntime) -> Result<(), Fail> {
+    let alloc = rt.alloc();
+    is_shown(&rt, alloc, "getMore", patient_get_more(alloc), GET_MORE)?;
+    is_shown(&rt, alloc, "$out", aggregate_out(alloc), OUT)?;
     Ok(())
 }

@@ -44,13 +44,7 @@ fn watch_behind(alloc: Global, start_after: ResumeToken) -> WatchArgs {
     WatchArgs {
         pipeline: Vec::new(alloc),
         target: OperationTarget::Cluster,
-        options: ChangeStreamOptions {
-            resume_after: None,
-            start_at_operation_time: None,
-            start_after: Some(start_after),
-            all_changes_for_cluster: None,
-            batch_size: None,
-        },
+        options: ChangeStreamOptions::builder().start_after(start_after),
     }
 }
 

@@ -1,58 +1,106 @@
-use super::one_field;
+use super::records::is_shown;
+use super::{namespace, one_field, text};
 use mg_bson::{Bson, Document, Timestamp};
-use mg_link::Error;
-use mg_options::{ChangeStreamOptions, ResumeToken};
+use mg_link::{
+    Error, OperationTarget, ReadConcern, ReadConcernLevel, ReadPreference, SelectionCriteria,
+};
+use mg_ops::{ChangeStreamAggregate, Operation, WatchArgs};
+use mg_options::{
+    ChangeStreamOptions, Collation, FullDocumentBeforeChangeType, FullDocumentType, ResumeToken,
+};
 use std::alloc::Global;
 use std::test::Fail;
 
-fn token(alloc: Global, n: i32) -> Result<ResumeToken, Fail> {
+fn token(alloc: Global, n: i32) -> Result<ResumeToken, Error> {
     let data = one_field(alloc, "_data", Bson::Int32(n))?;
-    match ResumeToken::from_value(&Bson::Document(data)) {
-        Ok(token) => Ok(token),
-        Err(_) => Err(Fail::from("token")),
-    }
+    ResumeToken::from_value(&Bson::Document(data))
 }
 
-// Options of which each is given.
-fn all_given(alloc: Global) -> Result<ChangeStreamOptions, Fail> {
+// Options of which each that stands in the stage is given.
+fn staged(alloc: Global) -> Result<ChangeStreamOptions, Error> {
     let time = Timestamp {
         time: 2,
         increment: 3,
     };
     let resume_after = token(alloc, 1)?;
     let start_after = token(alloc, 4)?;
-    Ok(ChangeStreamOptions {
-        resume_after: Some(resume_after),
-        start_at_operation_time: Some(time),
-        start_after: Some(start_after),
-        all_changes_for_cluster: Some(true),
-        batch_size: Some(5),
-    })
+    let comment = text(alloc, "c")?;
+    Ok(
+        ChangeStreamOptions::builder()
+            .full_document(FullDocumentType::UpdateLookup)
+            .full_document_before_change(FullDocumentBeforeChangeType::Required)
+            .resume_after(resume_after)
+            .start_at_operation_time(time)
+            .start_after(start_after)
+            .all_changes_for_cluster(true)
+            .show_expanded_events(true)
+            .comment(comment),
+    )
+}
+
+// A copy of options of the aggregate as well.
+fn all_given(alloc: Global) -> Result<ChangeStreamOptions, Error> {
+    let local = ReadConcern {
+        level: ReadConcernLevel::Local,
+    };
+    let locale = String::from_str(alloc, "en")?;
+    let options = staged(alloc)?;
+    let options = options
+        .max_await_time(9)
+        .batch_size(5)
+        .collation(Collation::builder(locale))
+        .read_concern(local)
+        .selection_criteria(SelectionCriteria::ReadPreference(ReadPreference::Nearest))
+        .build();
+    Ok(options.clone()?)
 }
 
 // The body that the options are put into.
-fn body_of(alloc: Global, options: &ChangeStreamOptions) -> Result<Document, Error> {
+fn body_of(alloc: Global) -> Result<Document, Error> {
+    let options = all_given(alloc)?;
     let mut body = Document::new(alloc);
-    options.append_fields(&mut body)?;
+    options.append_fields(alloc, &mut body)?;
     Ok(body)
 }
 
-fn are_in_order(body: &Document) -> bool {
-    let mut names = body.keys();
-    names.next() == Some("resumeAfter")
-        && names.next() == Some("startAtOperationTime")
-        && names.next() == Some("startAfter")
-        && names.next() == Some("allChangesForCluster")
-        && names.next().is_none()
+// The body that those of its aggregate are put into.
+fn aggregate_body(alloc: Global) -> Result<Document, Error> {
+    let options = all_given(alloc)?;
+    let options = options.aggregate_options()?;
+    let mut body = Document::new(alloc);
+    options.append_fields(alloc, &mut body)?;
+    Ok(body)
 }
+
+// The command of a watch with these options, which passes over one event.
+fn watch(alloc: Global) -> Result<Document, Error> {
+    let ns = namespace(alloc)?;
+    let pipeline = vec![in alloc; one_field(alloc, "$skip", Bson::Int32(1))?]?;
+    let aggregate = ChangeStreamAggregate {
+        args: WatchArgs {
+            pipeline,
+            target: OperationTarget::Collection(ns),
+            options: all_given(alloc)?,
+        },
+        resume: None,
+    };
+    aggregate.build(alloc, 21, None)
+}
+
+const STAGE: &str =
+    r#"fullDocument fullDocumentBeforeChange resumeAfter startAtOperationTime startAfter allChangesForCluster showExpandedEvents comment {"allChangesForCluster":true,"comment":"c","fullDocument":"updateLookup","fullDocumentBeforeChange":"required","resumeAfter":{"_data":1},"showExpandedEvents":true,"startAfter":{"_data":4},"startAtOperationTime":{"$timestamp":{"i":3,"t":2}}}"#;
+
+const AGGREGATE: &str =
+    r#"cursor collation comment {"collation":{"locale":"en"},"comment":"c","cursor":{"batchSize":5}}"#;
+
+const WATCH: &str =
+    r#"aggregate pipeline cursor collation comment $db readConcern $readPreference {"$db":"db","$readPreference":{"mode":"nearest"},"aggregate":"coll","collation":{"locale":"en"},"comment":"c","cursor":{"batchSize":5},"pipeline":[{"$changeStream":{"allChangesForCluster":true,"comment":"c","fullDocument":"updateLookup","fullDocumentBeforeChange":"required","resumeAfter":{"_data":1},"showExpandedEvents":true,"startAfter":{"_data":4},"startAtOperationTime":{"$timestamp":{"i":3,"t":2}}}},{"$skip":1}],"readConcern":{"level":"local"}}"#;
 
 #[test]
 fn options_print_their_fields(rt: HostRuntime) -> Result<(), Fail> {
     let alloc = rt.alloc();
-    let options = all_given(alloc)?;
-    let Ok(body) = body_of(alloc, &options) else {
-        return Err(Fail::from("body"));
-    };
-    assert!(rt; are_in_order(&body));
+    is_shown(&rt, alloc, "stage", body_of(alloc), STAGE)?;
+    is_shown(&rt, alloc, "aggregate", aggregate_body(alloc), AGGREGATE)?;
+    is_shown(&rt, alloc, "watch", watch(alloc), WATCH)?;
     Ok(())
 }

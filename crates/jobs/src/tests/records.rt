@@ -1,3 +1,4 @@
+use super::commands::{journaled, local, nearest};
 use super::{expect, one_field, parted, text};
 use mg_bson::{Bson, Document};
 use mg_jobs::json_text;
@@ -7,8 +8,8 @@ use mg_link::{
 use mg_options::{
     AggregateOptions, Collation, CollationAlternate, CollationCaseFirst, CollationMaxVariable,
     CollationStrength, CommitQuorum, CreateIndexOptions, DeleteOptions, FindOneOptions,
-    FindOptions, GridFsFindOptions, Hint, InsertManyOptions, InsertOneOptions,
-    ListCollectionsOptions, ListIndexesOptions, append_concerns,
+    FindOptions, GridFsFindOneOptions, GridFsFindOptions, Hint, InsertManyOptions,
+    InsertOneOptions, ListCollectionsOptions, ListIndexesOptions, append_concerns,
 };
 use mg_records::{DistinctOptions, DropIndexOptions, EstimatedDocumentCountOptions};
 use std::alloc::{AllocError, Global};
@@ -17,17 +18,18 @@ use std::test::Fail;
 
 // Each line is a record of options, how it is given, and what it puts into a body: the names in order, and the JSON text.
 const RECORDS: &str =
-    r#"find all allowDiskUse allowPartialResults batchSize comment hint limit max maxScan maxTimeMS min noCursorTimeout projection returnKey showRecordId skip sort let {"allowDiskUse":true,"allowPartialResults":false,"batchSize":5,"comment":"c","hint":"h","let":{"x":5},"limit":{"$int64":"7"},"max":{"x":1},"maxScan":{"$int64":"8"},"maxTimeMS":2147483647,"min":{"x":2},"noCursorTimeout":true,"projection":{"x":3},"returnKey":false,"showRecordId":true,"skip":{"$int64":"9"},"sort":{"x":4}}
-find one limit skip {"limit":{"$int64":"1"},"skip":{"$int64":"2"}}
-find files limit skip {"limit":{"$int64":"3"},"skip":{"$int64":"2"}}
+    r#"find all allowDiskUse allowPartialResults batchSize comment hint limit max maxScan maxTimeMS min noCursorTimeout projection returnKey showRecordId skip sort collation let {"allowDiskUse":true,"allowPartialResults":false,"batchSize":5,"collation":{"locale":"en"},"comment":"c","hint":"h","let":{"x":5},"limit":{"$int64":"7"},"max":{"x":1},"maxScan":{"$int64":"8"},"maxTimeMS":2147483647,"min":{"x":2},"noCursorTimeout":true,"projection":{"x":3},"returnKey":false,"showRecordId":true,"skip":{"$int64":"9"},"sort":{"x":4}}
+find one allowPartialResults comment hint limit max maxScan maxTimeMS min projection returnKey showRecordId skip sort collation let {"allowPartialResults":true,"collation":{"locale":"en"},"comment":6,"hint":{},"let":{"x":5},"limit":{"$int64":"1"},"max":{"x":1},"maxScan":{"$int64":"8"},"maxTimeMS":7,"min":{"x":2},"projection":{"x":3},"returnKey":true,"showRecordId":false,"skip":{"$int64":"9"},"sort":{"x":4}}
+find file limit maxTimeMS skip sort {"limit":{"$int64":"1"},"maxTimeMS":6,"skip":{"$int64":"2"},"sort":{}}
+find files allowDiskUse batchSize limit maxTimeMS skip sort {"allowDiskUse":true,"batchSize":5,"limit":{"$int64":"3"},"maxTimeMS":6,"skip":{"$int64":"2"},"sort":{}}
 find least invalid limit
 find long maxTimeMS {"maxTimeMS":{"$int64":"2147483648"}}
 find longest number out of range
 find large invalid batch size
 write aggregate allowDiskUse cursor bypassDocumentValidation collation comment hint maxTimeMS let {"allowDiskUse":true,"bypassDocumentValidation":false,"collation":{"locale":"en"},"comment":"c","cursor":{"batchSize":5},"hint":{"x":1},"let":{"x":2},"maxTimeMS":6}
 write insert bypassDocumentValidation ordered comment {"bypassDocumentValidation":true,"comment":"c","ordered":false}
-write delete hint let comment {"comment":"c","hint":{"x":1},"let":{"x":2}}
-write collation collation {"collation":{"alternate":"non-ignorable","backwards":false,"caseFirst":"off","caseLevel":true,"locale":"en","maxVariable":"space","normalization":true,"numericOrdering":false,"strength":2}}
+write delete collation hint let comment {"collation":{"alternate":"non-ignorable","backwards":false,"caseFirst":"off","caseLevel":true,"locale":"en","maxVariable":"space","normalization":true,"numericOrdering":false,"strength":2},"comment":3,"hint":{"x":1},"let":{"x":2}}
+write collation locale strength caseLevel caseFirst numericOrdering alternate maxVariable normalization backwards {"alternate":"non-ignorable","backwards":false,"caseFirst":"off","caseLevel":true,"locale":"en","maxVariable":"space","normalization":true,"numericOrdering":false,"strength":2}
 index nodes commitQuorum maxTimeMS comment {"comment":"c","commitQuorum":3,"maxTimeMS":6}
 index word commitQuorum maxTimeMS comment {"comment":"c","commitQuorum":"votingMembers","maxTimeMS":6}
 index many number out of range
@@ -78,7 +80,7 @@ pub(super) fn is_shown(
 }
 
 // The document `{ x: n }`.
-fn keys(alloc: Global, n: i32) -> Result<Document, Error> {
+pub(super) fn keys(alloc: Global, n: i32) -> Result<Document, Error> {
     Ok(one_field(alloc, "x", Bson::Int32(n))?)
 }
 
@@ -86,7 +88,8 @@ fn keys(alloc: Global, n: i32) -> Result<Document, Error> {
 fn collation(alloc: Global) -> Result<Collation, Error> {
     let locale = String::from_str(alloc, "en")?;
     Ok(
-        Collation::builder(locale)
+        Collation::builder(String::new(alloc))
+            .locale(locale)
             .strength(CollationStrength::Secondary)
             .case_level(true)
             .case_first(CollationCaseFirst::Off)
@@ -99,15 +102,11 @@ fn collation(alloc: Global) -> Result<Collation, Error> {
     )
 }
 
-fn put_delete(alloc: Global, options: DeleteOptions) -> Result<Document, Error> {
-    let mut body = Document::new(alloc);
-    options.clone()?.append_fields(alloc, &mut body)?;
-    Ok(body)
-}
-
-fn delete_of_collation(alloc: Global) -> Result<Document, Error> {
+fn rules(alloc: Global) -> Result<Document, Error> {
     let rules = collation(alloc)?;
-    put_delete(alloc, DeleteOptions::builder().collation(rules).build())
+    let mut body = Document::new(alloc);
+    rules.clone()?.append_fields(alloc, &mut body)?;
+    Ok(body)
 }
 
 fn put_find(alloc: Global, options: FindOptions) -> Result<Document, Error> {
@@ -138,6 +137,7 @@ fn find(alloc: Global) -> Result<Document, Error> {
     let projection = keys(alloc, 3)?;
     let sort = keys(alloc, 4)?;
     let let_vars = keys(alloc, 5)?;
+    let locale = String::from_str(alloc, "en")?;
     let options = find_bounds(alloc)?
         .max_scan(8)
         .max_time(2_147_483_647)
@@ -147,16 +147,68 @@ fn find(alloc: Global) -> Result<Document, Error> {
         .show_record_id(true)
         .skip(9)
         .sort(sort)
+        .collation(Collation::builder(locale))
         .let_vars(let_vars)
         .build();
     put_find(alloc, options)
 }
 
+// A find of one document, of which everything is given.
+fn find_one(alloc: Global) -> Result<FindOneOptions, Error> {
+    let max = keys(alloc, 1)?;
+    let min = keys(alloc, 2)?;
+    let projection = keys(alloc, 3)?;
+    let sort = keys(alloc, 4)?;
+    let let_vars = keys(alloc, 5)?;
+    let locale = String::from_str(alloc, "en")?;
+    let options = FindOneOptions::builder()
+        .allow_partial_results(true)
+        .collation(Collation::builder(locale))
+        .comment(Bson::Int32(6))
+        .hint(Hint::Keys(Document::new(alloc)))
+        .max(max)
+        .max_scan(8)
+        .max_time(7)
+        .min(min)
+        .projection(projection)
+        .read_concern(local())
+        .return_key(true)
+        .selection_criteria(nearest())
+        .show_record_id(false)
+        .skip(9)
+        .sort(sort)
+        .let_vars(let_vars)
+        .build();
+    Ok(options.clone()?)
+}
+
+fn find_file(alloc: Global) -> Result<GridFsFindOneOptions, Error> {
+    let options = GridFsFindOneOptions::builder()
+        .max_time(6)
+        .skip(2)
+        .sort(Document::new(alloc))
+        .build();
+    Ok(options.clone()?)
+}
+
+fn find_files(alloc: Global) -> Result<GridFsFindOptions, Error> {
+    let options = GridFsFindOptions::builder()
+        .allow_disk_use(true)
+        .batch_size(5)
+        .limit(3)
+        .max_time(6)
+        .skip(2)
+        .sort(Document::new(alloc))
+        .build();
+    Ok(options.clone()?)
+}
+
 fn finds(alloc: Global, way: &str) -> Result<Document, Error> {
     let options = match way {
         "all" => return find(alloc),
-        "one" => FindOptions::from(FindOneOptions::builder().skip(2)),
-        "files" => FindOptions::from(GridFsFindOptions::builder().skip(2).limit(3)),
+        "one" => FindOptions::from(find_one(alloc)?),
+        "file" => FindOptions::from(FindOneOptions::from(find_file(alloc)?)),
+        "files" => FindOptions::from(find_files(alloc)?),
         "least" => FindOptions::builder().limit(i64::MIN),
         "long" => FindOptions::builder().max_time(2_147_483_648),
         "longest" => FindOptions::builder().max_time(u64::MAX),
@@ -179,6 +231,10 @@ fn aggregate(alloc: Global) -> Result<Document, Error> {
         .hint(Hint::Keys(hint))
         .max_time(6)
         .let_vars(let_vars)
+        .max_await_time(9)
+        .read_concern(local())
+        .selection_criteria(nearest())
+        .write_concern(journaled())
         .build();
     let mut body = Document::new(alloc);
     options.clone()?.append_fields(alloc, &mut body)?;
@@ -189,8 +245,10 @@ fn insert(alloc: Global) -> Result<Document, Error> {
     let comment = text(alloc, "c")?;
     let one = InsertOneOptions::builder()
         .bypass_document_validation(true)
-        .comment(comment);
-    let options = InsertManyOptions::from_insert_one_options(one).ordered(false);
+        .write_concern(journaled())
+        .comment(comment)
+        .build();
+    let options = InsertManyOptions::from_insert_one_options(one.clone()?).ordered(false);
     let mut body = Document::new(alloc);
     options.clone()?.append_fields(alloc, &mut body)?;
     Ok(body)
@@ -199,12 +257,17 @@ fn insert(alloc: Global) -> Result<Document, Error> {
 fn delete(alloc: Global) -> Result<Document, Error> {
     let hint = keys(alloc, 1)?;
     let let_vars = keys(alloc, 2)?;
-    let comment = text(alloc, "c")?;
+    let rules = collation(alloc)?;
     let options = DeleteOptions::builder()
+        .collation(rules)
         .hint(Hint::Keys(hint))
         .let_vars(let_vars)
-        .comment(comment);
-    put_delete(alloc, options)
+        .comment(Bson::Int32(3))
+        .write_concern(journaled())
+        .build();
+    let mut body = Document::new(alloc);
+    options.clone()?.append_fields(alloc, &mut body)?;
+    Ok(body)
 }
 
 fn writes(alloc: Global, way: &str) -> Result<Document, Error> {
@@ -212,7 +275,7 @@ fn writes(alloc: Global, way: &str) -> Result<Document, Error> {
         "aggregate" => aggregate(alloc),
         "insert" => insert(alloc),
         "delete" => delete(alloc),
-        _ => delete_of_collation(alloc),
+        _ => rules(alloc),
     }
 }
 
@@ -229,7 +292,11 @@ fn create_index(alloc: Global, quorum: CommitQuorum) -> Result<Document, Error> 
 
 fn drop_index(alloc: Global) -> Result<Document, Error> {
     let comment = text(alloc, "c")?;
-    let options = DropIndexOptions::builder().max_time(6).comment(comment);
+    let options = DropIndexOptions::builder()
+        .max_time(6)
+        .comment(comment)
+        .write_concern(journaled())
+        .build();
     let mut body = Document::new(alloc);
     options.clone()?.append_fields(alloc, &mut body)?;
     Ok(body)
@@ -272,7 +339,10 @@ fn estimate(alloc: Global) -> Result<Document, Error> {
     let comment = text(alloc, "c")?;
     let options = EstimatedDocumentCountOptions::builder()
         .max_time(6)
-        .comment(comment);
+        .comment(comment)
+        .selection_criteria(nearest())
+        .read_concern(local())
+        .build();
     let mut body = Document::new(alloc);
     options.clone()?.append_fields(alloc, &mut body)?;
     Ok(body)
@@ -286,7 +356,10 @@ fn distinct(alloc: Global) -> Result<Document, Error> {
         .max_time(6)
         .collation(Collation::builder(locale))
         .comment(comment)
-        .hint(Hint::Keys(hint));
+        .hint(Hint::Keys(hint))
+        .selection_criteria(nearest())
+        .read_concern(local())
+        .build();
     let mut body = Document::new(alloc);
     options.clone()?.append_fields(alloc, &mut body)?;
     Ok(body)

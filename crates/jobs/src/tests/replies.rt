@@ -1,8 +1,14 @@
 use super::{namespace, one_field, text, with, with_text};
 use mg_bson::{Array, Bson, BsonError, Document, RawDocumentBuf, to_bytes};
-use mg_link::{Error, ErrorKind, Malformed, OperationTarget};
-use mg_ops::{Aggregate, Create, Delete, Find, Operation, RawOutput, Update};
-use mg_options::{AggregateOptions, DeleteOptions, FindOptions, UpdateModifications};
+use mg_link::{Error, ErrorKind, Malformed, OperationTarget, ReadPreference, SelectionCriteria};
+use mg_ops::{
+    Aggregate, ChangeStreamAggregate, Create, Delete, Find, Operation, RawOutput, RunCursorCommand,
+    Update, WatchArgs,
+};
+use mg_options::{
+    AggregateOptions, ChangeStreamOptions, CursorType, DeleteOptions, FindOptions,
+    RunCursorCommandOptions, UpdateModifications,
+};
 use std::alloc::Global;
 use std::test::Fail;
 
@@ -138,6 +144,51 @@ fn found(alloc: Global) -> Result<(Option<u32>, Option<u64>, bool), Error> {
     Ok((info.batch_size, info.max_time, info.comment.is_some()))
 }
 
+// The same of a watch.
+fn watched(alloc: Global) -> Result<(Option<u32>, Option<u64>, bool), Error> {
+    let reply = to_bytes(alloc, &cursor(alloc, Bson::Int64(7))?)?;
+    let comment = text(alloc, "c")?;
+    let aggregate = ChangeStreamAggregate {
+        args: WatchArgs {
+            pipeline: Vec::new(alloc),
+            target: OperationTarget::Cluster,
+            options: ChangeStreamOptions::builder()
+                .max_await_time(9)
+                .batch_size(5)
+                .comment(comment),
+        },
+        resume: None,
+    };
+    let (specification, _) = aggregate.read(alloc, reply)?;
+    let get_more = specification.info.get_more()?;
+    Ok((
+        get_more.batch_size,
+        get_more.max_time,
+        get_more.comment.is_some(),
+    ))
+}
+
+// The same of a command that gives a cursor.
+fn ran(alloc: Global) -> Result<(Option<u32>, Option<u64>, bool), Error> {
+    let reply = to_bytes(alloc, &cursor(alloc, Bson::Int64(7))?)?;
+    let db = String::from_str(alloc, "db")?;
+    let options = RunCursorCommandOptions::builder()
+        .selection_criteria(SelectionCriteria::ReadPreference(ReadPreference::Nearest))
+        .cursor_type(CursorType::TailableAwait)
+        .batch_size(5)
+        .max_time(6)
+        .comment(Bson::Int32(1))
+        .build();
+    let run = RunCursorCommand {
+        db,
+        command: Document::new(alloc),
+        options: options.clone()?,
+    };
+    let specification = run.read(alloc, reply)?;
+    let info = &specification.info;
+    Ok((info.batch_size, info.max_time, info.comment.is_some()))
+}
+
 // Whether a find refuses a cursor whose id is no Int64.
 fn refuses_short_id(alloc: Global) -> Result<bool, Error> {
     let reply = to_bytes(alloc, &cursor(alloc, Bson::Int32(7))?)?;
@@ -157,9 +208,11 @@ fn hands_on(alloc: Global) -> Result<bool, Error> {
 }
 
 #[test]
-fn cursors_of_finds(rt: HostRuntime) -> Result<(), Fail> {
+fn cursors_of_openings(rt: HostRuntime) -> Result<(), Fail> {
     let alloc = rt.alloc();
     assert!(rt; matches!(&found(alloc), Ok((Some(6), Some(9), true))));
+    assert!(rt; matches!(&watched(alloc), Ok((Some(5), Some(9), true))));
+    assert!(rt; matches!(&ran(alloc), Ok((Some(5), Some(6), true))));
     assert!(rt; matches!(&refuses_short_id(alloc), Ok(true)));
     assert!(rt; matches!(&hands_on(alloc), Ok(true)));
     Ok(())

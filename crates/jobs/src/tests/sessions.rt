@@ -109,7 +109,7 @@ fn watch(alloc: Global) -> Result<ChangeStreamAggregate, Error> {
         args: WatchArgs {
             pipeline: Vec::new(alloc),
             target: OperationTarget::Collection(ns),
-            options: ChangeStreamOptions::default(),
+            options: ChangeStreamOptions::builder(),
         },
         resume: None,
     })

@@ -230,7 +230,7 @@ fn token_word(alloc: Global, stream: &ChangeStream) -> Result<String, Fail> {
 // ---- runs
 
 fn options_of(start: &str) -> Result<ChangeStreamOptions, Fail> {
-    let mut options = ChangeStreamOptions::default();
+    let mut options = ChangeStreamOptions::builder();
     if start == "at" {
         options.start_at_operation_time = Some(Timestamp {
             time: 9,

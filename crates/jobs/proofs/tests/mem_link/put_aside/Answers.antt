@@ -4,7 +4,7 @@ use Rattle.mg_link.specs.Namespace.{space}
 use Rattle.mg_options.specs.Fields.{fields_in}
 use Rattle.mg_options.specs.declared.writes.InsertManyOptions.{InsertManyOptions}
 use Rattle.mg_ops.specs.Bodies.{insert_body}
-use Rattle.mg_jobs.proofs.Plainly.{insert_names_none}
+use Rattle.mg_ops.proofs.Plainly.{insert_names_none}
 use Rattle.jobs.proofs.tests.mem_link.put_aside.Goals as goal
 
 pub aside-requires : goal.aside-requires
