@@ -15,3 +15,5 @@ pub mod Counts
 pub mod Depths
 pub mod Plain
 pub mod Measuring
+pub mod Scanning
+pub mod Malforming

@@ -1,14 +1,14 @@
 -- Measuring fields and items one after the other.
-use Rattle.std.proofs.Common.{◌≡◌, ◌≢◌, ℕ, suc, ◌+◌, ◌^◌, ◌<◌, ◌≤◌, List, ◌∷◌, ◌++◌, length, Bool, true, arith, length-append}
+use Rattle.std.proofs.Common.{◌≡◌, ◌≢◌, ℕ, suc, ◌+◌, ◌/◌, ◌%◌, ◌^◌, ◌<◌, ◌≤◌, List, [], ◌∷◌, ◌++◌, length, Bool, true, false, ap, ◌∙◌, arith, length-append}
 use Rattle.std.specs.Prelude.{decimal}
+use Rattle.std.proofs.lemmas.Bool.{or_left, or_right}
+use Rattle.std.proofs.lemmas.Fmt.{decimal_step}
 use Rattle.mg_bson.specs.Tree.{Tree, Fields, field, Items, item}
 use Rattle.mg_bson.specs.declared.error.BsonError.{BsonError}
 use Rattle.mg_bson.specs.declared.error.BsonError.TheVariants.{OutOfMemory, Malformed, TooLarge, TooDeep, BadName}
 use Rattle.mg_bson.specs.Bytes.{bytes, levels, value_bytes, fields_bytes, items_bytes, tree_depth, fields_depth, items_depth}
 use Rattle.mg_bson.specs.Writable.{IsName, IsSound, AreSound, AreSoundItems, Refuses, max_levels, has_zero, has_bad_name, fields_have_bad_name, items_have_bad_name}
 use Rattle.mg_bson.specs.Writing.{StopsAt}
-use Rattle.mg_bson.proofs.Along.{or_left, or_right}
-use Rattle.mg_bson.proofs.RoundTrip.{IsName-decimal}
 
 pub stops_more : (e : BsonError) (n m l l' d d' : ℕ) (b b' : Bool) → StopsAt e n l d b → n ≤ m → (l < d → l' < d') → (b ≡ true → b' ≡ true) → StopsAt e m l' d' b'
 stops_more OutOfMemory n m l l' d d' b b' h len deep bad = h
@@ -62,6 +62,9 @@ measured_value e l old new head all rest k t a h r = stops_more e _ _ l l _ _ _ 
 
 -- ---- items, from the n-th on
 
+pub digits_more : (n : ℕ) → 10 ≤ n → n < 2 ^ 64 → length (decimal n) ≡ length (decimal (n / 10)) + 1
+digits_more n h lt = ap length (decimal_step n h lt) ∙ omega (arith, length-append (decimal (n / 10)) ((48 + n % 10) ∷ []))
+
 pub record MeasuredItems (l n old new : ℕ) (all rest : Items) : Type 0 where
   pub length_is : new + length (items_bytes n rest) ≡ old + length (items_bytes 0 all)
   pub deeper : items_depth rest ≤ items_depth all
@@ -81,8 +84,8 @@ measured_items_step l n old new head next all rest t a h e sound deep = record {
   sound = λ q. a.sound (sound, q);
 }
 
-pub measured_items_head : (e : BsonError) (l n old new : ℕ) (all rest : Items) (t : Tree) → n < 2 ^ 64 → MeasuredItems l n old new all (item t rest) → StopsAt e (new + (length (decimal n) + 2)) 0 0 (has_zero (decimal n)) → StopsAt e (old + length (items_bytes 0 all)) l (items_depth all) (items_have_bad_name all)
-measured_items_head e l n old new all rest t lt a h = stops_more e _ _ 0 l 0 _ _ _ h (omega (arith, item_len n t rest, a.length_is)) (λ q. absurd (omega arith)) (λ q. absurd (cc (q, (IsName-decimal n lt).no_zero)))
+pub measured_items_head : (e : BsonError) (l n old new : ℕ) (all rest : Items) (t : Tree) → MeasuredItems l n old new all (item t rest) → StopsAt e (new + (length (decimal n) + 2)) 0 0 false → StopsAt e (old + length (items_bytes 0 all)) l (items_depth all) (items_have_bad_name all)
+measured_items_head e l n old new all rest t a h = stops_more e _ _ 0 l 0 _ _ _ h (omega (arith, item_len n t rest, a.length_is)) (λ q. absurd (omega arith)) (λ q. absurd cc)
 
 pub measured_items_value : (e : BsonError) (l n old new head : ℕ) (all rest : Items) (t : Tree) → MeasuredItems l n old new all (item t rest) → head ≡ new + (length (decimal n) + 2) → StopsAt e (head + length (value_bytes t)) l (tree_depth t) (has_bad_name t) → StopsAt e (old + length (items_bytes 0 all)) l (items_depth all) (items_have_bad_name all)
 measured_items_value e l n old new head all rest t a h r = stops_more e _ _ l l _ _ _ _ r (omega (arith, item_len n t rest, a.length_is, h)) (λ q. omega (arith, a.deeper)) (λ q. a.bad (or_left (has_bad_name t) _ q))

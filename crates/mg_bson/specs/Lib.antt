@@ -17,3 +17,5 @@ pub mod Same
 pub mod Literal
 pub mod Name
 pub mod RawView
+pub mod Scan
+pub mod Malformed

@@ -9,6 +9,12 @@ use crate::tree::{Array, Binary, DateTime, Document, Timestamp};
 use thiserror::Error;
 
 /// Why a document has no value of a name and a kind. Its text is the name of the variant.
+///
+///     match document.get_i32("n") {
+///         Ok(n) => ..,
+///         Err(ValueAccessError::NotPresent) => ..,
+///         Err(ValueAccessError::UnexpectedType) => ..,
+///     }
 #[derive(Clone, Copy, Debug, PartialEq, Eq, Error)]
 pub enum ValueAccessError {
     /// The name does not stand in the document.

@@ -44,7 +44,7 @@ fn are_fields(bytes: &[u8], levels: u32) -> bool
 
 // Whether the bytes are one value of the kind.
 #[cycle(check)]
-fn is_value(kind: Kind, bytes: &[u8], levels: u32) -> bool
+pub(crate) fn is_value(kind: Kind, bytes: &[u8], levels: u32) -> bool
     ensures { result ≡ is_some (value_at (doc_at levels) kind bytes.now) }
 {
     match kind {

@@ -6,12 +6,19 @@ use std::alloc::{AllocError, AllocFailed};
 use thiserror::Error;
 
 /// Why a document is not read, written or changed. Its text is the name of the variant.
+///
+///     match to_bytes(alloc, &document) {
+///         Ok(raw) => ..,
+///         Err(BsonError::TooLarge) => ..,
+///         Err(error) => ..,
+///     }
 #[derive(Clone, Copy, Debug, PartialEq, Eq, Error)]
 pub enum BsonError {
     /// Memory ran out.
     #[error("OutOfMemory")]
     OutOfMemory,
     /// The bytes are no document, or one of more than [`MAX_LEVELS`](crate::MAX_LEVELS) levels.
+    /// [`Malformation::of`](crate::Malformation::of) tells where and why.
     #[error("Malformed")]
     Malformed,
     /// The document takes more than [`MAX_DOCUMENT_BYTES`](crate::MAX_DOCUMENT_BYTES) bytes.

@@ -4,6 +4,8 @@ ghost use Rattle.mg_bson.specs.Kind.{kind_byte, kind_at};
 
 /// The kind of a value, which one byte tells in the bytes of a document ("element" of the BSON
 /// specification).
+///
+///     let is_number = matches!(value.kind(), Kind::Double | Kind::Int32 | Kind::Int64);
 #[derive(Clone, Copy, Debug, PartialEq, Eq)]
 pub enum Kind {
     /// `01`: a floating point number.

@@ -9,6 +9,10 @@ use crate::tree::{Bson, Document, place_of};
 
 impl Document {
     /// The first value of the name, to be changed in its place.
+    ///
+    ///     if let Some(value) = document.get_mut("n") {
+    ///         *value = Bson::from(2);
+    ///     }
     pub fn get_mut(&mut self, name: &str) -> Option<&mut Bson>
         ensures* writes_back { sem 𝓛 (LendsValue self.entry name.now result) }
         ensures value { option_map (λ v. tree v.now) result ≡ get name.now self.old }

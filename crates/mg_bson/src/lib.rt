@@ -1,8 +1,9 @@
 //! BSON documents, after the specification at <https://bsonspec.org/spec.html>.
 //!
 //! A [`Document`] is a tree that owns its parts. [`to_bytes`] encodes it as a [`RawDocumentBuf`],
-//! the bytes of a document. [`RawDocumentBuf::from_bytes`] checks received bytes once, at all
-//! levels, and from then on a [`RawDocument`] lends their values with no memory and no refusal.
+//! the bytes of a document. [`RawDocumentBuf::from_bytes`] and [`RawDocument::from_bytes`] check
+//! received bytes once, at all levels and not just their frame, so they take the time of a walk.
+//! From then on a [`RawDocument`] lends their values with no memory and no refusal.
 //! [`to_document`] decodes them.
 //!
 //! In a contract a [`Document`] is its list of names and values, and the bytes of a document are a
@@ -23,11 +24,13 @@ pub mod laws;
 mod lend;
 mod levels;
 mod limits;
+mod malformed;
 mod measure;
 mod name;
 mod object_id;
 mod raw;
 mod read;
+mod scan;
 mod tree;
 mod write;
 
@@ -36,6 +39,7 @@ pub use decode::to_document;
 pub use error::BsonError;
 pub use kind::Kind;
 pub use limits::{MAX_DOCUMENT_BYTES, MAX_LEVELS};
+pub use malformed::{Malformation, MalformedReason};
 pub use object_id::ObjectId;
 pub use raw::{RawArray, RawDocument, RawDocumentBuf, RawItems, RawIter, RawValue};
 pub use tree::{

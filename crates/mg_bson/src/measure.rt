@@ -1,5 +1,4 @@
-//! How many bytes documents are encoded in, found without encoding them. A document is gone through as it is written, and
-//! refused at the same place.
+//! How many bytes documents are encoded in, found without encoding them. What cannot be encoded is refused here.
 ghost use Rattle.std.specs.Prelude.{◌≡◌, ◌≢◌, ◌+◌, ◌<◌, ◌≤◌, ◌^◌, ◌++◌, ◌∷◌, [], ◌||◌, length, OnOk, IfOk, IfErr, false, true, decimal, string_bytes};
 ghost use Rattle.std.specs.Str.{IsUtf8};
 ghost use Rattle.mg_bson.specs.Bytes.{framed, measured, text_bytes, value_bytes, fields_bytes, items_bytes, bytes, tree_depth, fields_depth, items_depth, levels as levels_of};
@@ -11,8 +10,6 @@ ghost use Rattle.mg_bson.specs.View.{tree, fields_of, items_of};
 use crate::error::BsonError;
 use crate::limits::{MAX_DOCUMENT_BYTES, MAX_LEVELS};
 use crate::tree::{Array, Bson, CodeWithScope, DbPointer, Document, Field, Regex, Timestamp};
-use crate::write::holds_zero;
-use itoa::Buffer;
 
 // So many bytes more, where they are within the limit.
 fn more(len: usize, bytes: usize) -> Result<usize, BsonError>
@@ -31,6 +28,13 @@ fn measure_bytes(len: usize, bytes: &[u8]) -> Result<usize, BsonError>
     ensures err { IfErr result (λ e. StopsAt e (len + length bytes.now) 0 0 false) }
 {
     more(len, bytes.len())
+}
+
+// Whether the text holds the character 0.
+fn holds_zero(text: &str) -> bool
+    ensures { result ≡ has_zero text.now }
+{
+    text.as_bytes().contains(&0)
 }
 
 #[tactic(auto, using(crate::proofs::Numbers::lengths))]
@@ -53,13 +57,26 @@ fn measure_head(len: usize, name: &str) -> Result<usize, BsonError>
     more(len, name.len() + 2)
 }
 
+// How many digits the number is written with.
+fn digits_len(n: usize) -> usize
+    ensures value { result ≡ length (decimal n) }
+    ensures short { result ≤ 20 }
+{
+    let mut len = 1;
+    let mut front = n;
+    while front >= 10 {
+        front /= 10;
+        len += 1;
+    }
+    len
+}
+
 // The kind and the name of an element of an array, whose name is its number.
 fn measure_numbered(len: usize, i: usize) -> Result<usize, BsonError>
     ensures ok { IfOk result (λ n. n ≡ len + (length (decimal i) + 2)) }
-    ensures err { IfErr result (λ e. StopsAt e (len + (length (decimal i) + 2)) 0 0 (has_zero (decimal i))) }
+    ensures err { IfErr result (λ e. StopsAt e (len + (length (decimal i) + 2)) 0 0 false) }
 {
-    let mut digits = Buffer::new();
-    measure_head(len, digits.format(i))
+    more(len, digits_len(i) + 2)
 }
 
 // A text that a 0 ends.
@@ -95,6 +112,7 @@ fn measure_pointer(len: usize, pointer: &DbPointer) -> Result<usize, BsonError>
     measure_bytes(behind, &pointer.id.0)
 }
 
+// A number is counted by its bytes, for what is ensured of them tells that it fits its type.
 fn measure_timestamp(len: usize, t: Timestamp) -> Result<usize, BsonError>
     ensures ok { IfOk result (λ n. n ≡ len + 8) }
     ensures err { IfErr result (λ e. StopsAt e (len + 8) 0 0 false) }
@@ -104,7 +122,7 @@ fn measure_timestamp(len: usize, t: Timestamp) -> Result<usize, BsonError>
     measure_bytes(behind, &t.time.to_le_bytes())
 }
 
-// A value that holds no others.
+// A value that holds no others. Numbers are counted as in `measure_timestamp`.
 #[tactic(auto, using(crate::proofs::Numbers::lengths))]
 fn measure_plain(len: usize, value: &Bson) -> Result<usize, BsonError>
     requires { is_plain (tree value.now) ≡ true }
@@ -114,15 +132,16 @@ fn measure_plain(len: usize, value: &Bson) -> Result<usize, BsonError>
 {
     match value {
         Bson::Double(v) => measure_bytes(len, v),
-        Bson::String(text) => measure_text(len, text.as_str()),
+        Bson::String(text) | Bson::Code(text) | Bson::Symbol(text) => measure_text(
+            len,
+            text.as_str(),
+        ),
         Bson::Binary(b) => more(len, b.bytes.len() + 5),
         Bson::ObjectId(id) => measure_bytes(len, &id.0),
         Bson::Boolean(_) => more(len, 1),
         Bson::DateTime(t) => measure_bytes(len, &t.millis.to_le_bytes()),
         Bson::Regex(r) => measure_regex(len, r),
         Bson::DbPointer(p) => measure_pointer(len, p),
-        Bson::Code(text) => measure_text(len, text.as_str()),
-        Bson::Symbol(text) => measure_text(len, text.as_str()),
         Bson::Int32(n) => measure_bytes(len, &n.to_le_bytes()),
         Bson::Timestamp(t) => measure_timestamp(len, *t),
         Bson::Int64(n) => measure_bytes(len, &n.to_le_bytes()),
@@ -229,6 +248,8 @@ fn measure_scoped(len: usize, value: &CodeWithScope, levels: u32) -> Result<usiz
 impl Document {
     /// How many bytes the document is encoded in. It takes no memory, and fails where [`to_bytes`](crate::to_bytes) does with
     /// ample memory, with the same error.
+    ///
+    ///     let len = document.encoded_len()?;
     pub fn encoded_len(&self) -> Result<usize, BsonError>
         ensures length { IfOk result (λ n. n ≡ length (bytes self.now)) }
         ensures writable { OnOk result (IsWritable self.now) }

@@ -9,6 +9,9 @@ use std::{fmt, str};
 
 /// The twelve bytes of an object id, as they stand in a document. It prints as 24 hexadecimal
 /// digits in lower case.
+///
+///     let Some(id) = ObjectId::parse_str("0123456789abcdef01234567") else { .. };
+///     document.append("_id", Bson::from(id))?;
 #[derive(Clone, Copy, Debug, PartialEq, Eq, PartialOrd, Ord, Hash)]
 pub struct ObjectId(pub [u8; 12]);
 

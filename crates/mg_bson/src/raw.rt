@@ -1,5 +1,5 @@
 //! Documents as bytes that were checked once, and what is lent of them.
-ghost use Rattle.std.specs.Prelude.{◌≡◌, ◌↔◌, drop, length, IsTrue, IfOk, IfErr, IfSome, MatchOption, MatchResult, None, option_map};
+ghost use Rattle.std.specs.Prelude.{◌≡◌, ◌↔◌, drop, length, IsTrue, IfOk, IfErr, IfSome, MatchOption, MatchResult, None, option_map, ⊤};
 ghost use Rattle.std.specs.Cmp.{partial_equiv_from_equiv};
 ghost use Rattle.std.specs.Cmp.Lexicographic.{nat_list_eq_equiv};
 ghost use Rattle.std.specs.Str.{bytes_eq};
@@ -71,6 +71,8 @@ impl<'a> Model for RawDocument<'a> {
 
 /// The elements of a lent document that are left, in order. In a contract it is their bytes, and
 /// `fields_left` is what they spell.
+///
+///     for (name, value) in document.iter() { .. }
 #[derive(Drop)]
 pub struct RawIter<'a> {
     rest: &'a [u8],
@@ -97,7 +99,7 @@ impl<'a> Model for RawIter<'a> {
 ///     }
 #[derive(Debug)]
 pub enum RawValue<'a> {
-    /// A floating point number, as its eight bytes.
+    /// A floating point number, as its eight bytes, the lowest first.
     Double([u8; 8]),
     /// A text in UTF-8.
     String(&'a str),
@@ -133,7 +135,7 @@ pub enum RawValue<'a> {
     Timestamp(Timestamp),
     /// A whole number of 64 bits.
     Int64(i64),
-    /// A decimal floating point number, as its 16 bytes.
+    /// A decimal floating point number, as its 16 bytes, the lowest first.
     Decimal128([u8; 16]),
     /// The value below all others.
     MinKey,
@@ -192,6 +194,8 @@ impl<'a> Model for RawArray<'a> {
 
 /// The values of a lent array that are left, in order. In a contract it is the bytes of their
 /// elements, and `items_left` is what they spell.
+///
+///     for value in array.iter() { .. }
 #[derive(Drop)]
 pub struct RawItems<'a> {
     left: RawIter<'a>,
@@ -256,6 +260,10 @@ impl RawDocumentBuf {
     /// Checks that the bytes are one document, at all its levels, and keeps them. They are
     /// malformed exactly where they are none, or have more than
     /// [`MAX_LEVELS`](crate::MAX_LEVELS) levels. It takes no memory but the bytes.
+    ///
+    /// Bytes that are refused are let go. Who wants to know where they are at fault, or to keep
+    /// them, asks [`RawDocument::from_bytes`] and [`Malformation::of`](crate::Malformation::of)
+    /// first.
     pub fn from_bytes(bytes: Vec<u8>) -> Result<RawDocumentBuf, BsonError>
         ensures { MatchResult result
             (λ r. (r ≡ bytes.items) × IsDocument bytes.items)
@@ -322,7 +330,45 @@ impl Eq for RawDocumentBuf {
     ghost laws = { nat_list_eq_equiv };
 }
 
+impl<'a> Clone for RawDocument<'a> {
+    ghost is_clone = { λ v w. w ≡ v };
+
+    ghost is_infallible = { λ _. ⊤ };
+
+    /// Lends the same bytes. It takes no memory: its `Result` is never an error.
+    fn clone(&self) -> Result<RawDocument<'a>, AllocError> {
+        Ok(RawDocument { bytes: self.bytes })
+    }
+}
+
+impl<'a> Clone for RawArray<'a> {
+    ghost is_clone = { λ v w. w ≡ v };
+
+    ghost is_infallible = { λ _. ⊤ };
+
+    /// Lends the same bytes. It takes no memory: its `Result` is never an error.
+    fn clone(&self) -> Result<RawArray<'a>, AllocError> {
+        Ok(RawArray { bytes: self.bytes })
+    }
+}
+
 impl<'a> RawDocument<'a> {
+    /// Checks that the bytes are one document, at all its levels, and lends it where they stand. They are malformed exactly
+    /// where [`RawDocumentBuf::from_bytes`] finds them so. It takes no memory.
+    ///
+    ///     let raw = RawDocument::from_bytes(&bytes)?;
+    pub fn from_bytes(bytes: &'a [u8]) -> Result<RawDocument<'a>, BsonError>
+        ensures { MatchResult result
+            (λ r. (r ≡ bytes.now) × IsDocument bytes.now)
+            (λ e. (e ≡ Malformed) × (doc bytes.now ≡ None)) }
+    {
+        if is_document(bytes, MAX_LEVELS) {
+            Ok(RawDocument { bytes })
+        } else {
+            Err(BsonError::Malformed)
+        }
+    }
+
     /// Lends the bytes of the document, those of its length and its end included.
     pub fn as_bytes(&self) -> &'a [u8]
         ensures bytes { result.now ≡ self.now }

@@ -1,13 +1,14 @@
 //! Bytes, taken apart one level at a time. Nothing is known of them beforehand.
-ghost use Rattle.std.specs.Prelude.{◌≡◌, ◌≤◌, ◌<◌, ◌==◌, length, option_map, is_some, IfSome, IsTrue, Some, true};
+ghost use Rattle.std.specs.Prelude.{◌≡◌, ◌≤◌, ◌<◌, length, option_map, is_some, IfSome, IsTrue, Some, true};
 ghost use Rattle.std.specs.Str.{IsUtf8};
-ghost use Rattle.mg_bson.specs.Raw.{AreFields};
-ghost use Rattle.mg_bson.specs.Reading.{le32_at, le64_at, cut, utf8_of, ahead, two_texts, extent, element_at, body_at, text_at, boolean_at, binary_at, regex_at, pointer_at, text_and_rest, scope_parts};
 ghost use Rattle.std.specs.Int.{w32, w64, cast_signed};
+ghost use Rattle.mg_bson.specs.Raw.{AreFields};
+ghost use Rattle.mg_bson.specs.Reading.{le32_at, le64_at, utf8_of, ahead, two_texts, extent, element_at, body_at, text_at, boolean_at, binary_at, regex_at, pointer_at, text_and_rest, scope_parts};
 ghost use Rattle.mg_bson.specs.Tree.{boolean, binary, regex, db_pointer};
 ghost use Rattle.mg_bson.specs.ReadView.{element_view};
 
 use crate::kind::Kind;
+use crate::scan::cut_at_zero;
 use std::str;
 
 // An element, and the bytes behind it. The kind stands last, so that a move copies whole words.
@@ -55,22 +56,6 @@ pub(crate) fn i64_at(bytes: &[u8]) -> i64
     u64_at(bytes).cast_signed()
 }
 
-// The bytes before the first 0, those behind it, and whether the former are all ASCII.
-#[inline(always)]
-fn cut_at_zero(bytes: &[u8]) -> Option<(&[u8], &[u8], bool)>
-    ensures cut { option_map (λ p. (p.0.now, p.1.now)) result ≡ cut bytes.now }
-    ensures ascii { IfSome result (λ p. IsTrue p.2 → IsUtf8 p.0.now) }
-{
-    let mut is_ascii = true;
-    for (i, byte) in bytes.iter().enumerate() {
-        if *byte == 0 {
-            return Some((&bytes[..i], &bytes[i + 1..], is_ascii));
-        }
-        is_ascii = is_ascii && *byte < 128;
-    }
-    None
-}
-
 // The text of bytes that are known to be one, and are not tested again.
 #[inline(always)]
 fn known_text(bytes: &[u8]) -> &str
@@ -89,10 +74,7 @@ fn checked_text(bytes: &[u8], is_known: bool) -> Option<&str>
     if is_known {
         return Some(known_text(bytes));
     }
-    match str::from_utf8(bytes) {
-        Ok(text) => Some(text),
-        Err(_) => None,
-    }
+    str::from_utf8(bytes).ok()
 }
 
 // The number in front, and some more: how long a value is that its length begins.
@@ -124,27 +106,17 @@ fn extent_of(kind: Kind, bytes: &[u8]) -> Option<usize>
     ensures { result ≡ extent kind bytes.now }
 {
     match kind {
-        Kind::Double => Some(8),
-        Kind::String => number_ahead(4, bytes),
-        Kind::Document => number_ahead(0, bytes),
-        Kind::Array => number_ahead(0, bytes),
-        Kind::Binary => number_ahead(5, bytes),
-        Kind::Undefined => Some(0),
-        Kind::ObjectId => Some(12),
+        Kind::Undefined | Kind::Null | Kind::MinKey | Kind::MaxKey => Some(0),
         Kind::Boolean => Some(1),
-        Kind::DateTime => Some(8),
-        Kind::Null => Some(0),
-        Kind::Regex => two_texts_of(bytes),
-        Kind::DbPointer => number_ahead(16, bytes),
-        Kind::Code => number_ahead(4, bytes),
-        Kind::Symbol => number_ahead(4, bytes),
-        Kind::CodeWithScope => number_ahead(0, bytes),
         Kind::Int32 => Some(4),
-        Kind::Timestamp => Some(8),
-        Kind::Int64 => Some(8),
+        Kind::Double | Kind::DateTime | Kind::Timestamp | Kind::Int64 => Some(8),
+        Kind::ObjectId => Some(12),
         Kind::Decimal128 => Some(16),
-        Kind::MinKey => Some(0),
-        Kind::MaxKey => Some(0),
+        Kind::String | Kind::Code | Kind::Symbol => number_ahead(4, bytes),
+        Kind::Document | Kind::Array | Kind::CodeWithScope => number_ahead(0, bytes),
+        Kind::Binary => number_ahead(5, bytes),
+        Kind::DbPointer => number_ahead(16, bytes),
+        Kind::Regex => two_texts_of(bytes),
     }
 }
 

@@ -377,6 +377,8 @@ impl Bson {
 }
 
 /// The pairs of a document that are left, in order. In a contract it is the document of them.
+///
+///     for (name, value) in document.iter() { .. }
 #[derive(Drop)]
 pub struct DocumentIter<'a> {
     rest: &'a [Field],
@@ -412,6 +414,8 @@ impl<'a> DocumentIter<'a> {
 }
 
 /// The names of a document that are left, in order. In a contract it is the list of them.
+///
+///     for name in document.keys() { .. }
 #[derive(Drop)]
 pub struct DocumentKeys<'a> {
     left: DocumentIter<'a>,
@@ -541,6 +545,8 @@ pub(crate) fn place_of(fields: &[Field], name: &str) -> Option<usize>
 }
 
 /// The values of an array that are left, in order. In a contract it is the list of them.
+///
+///     for value in array.iter() { .. }
 #[derive(Drop)]
 pub struct ArrayIter<'a> {
     rest: &'a [Bson],

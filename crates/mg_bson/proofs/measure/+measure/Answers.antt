@@ -46,7 +46,7 @@ measure_items-returns-in_err-head-clause-err t c =
     let here = items_here ts i x (omega arith) c.index-items-i.is in
     let a = subst (MeasuredItems c.args.levels i c.args.len c.loop-i.end (items_of ts)) here c.loop-i.invariant in
     let p = err_from_is_err_and c.from_residual.result c.from_residual.ensures.1 in
-    rw (p.1, p.2) (measured_items_head _ c.args.levels i c.args.len c.loop-i.end (items_of ts) rest (tree x) (omega arith) a c.in_err-head.ensures.err)
+    rw (p.1, p.2) (measured_items_head _ c.args.levels i c.args.len c.loop-i.end (items_of ts) rest (tree x) a c.in_err-head.ensures.err)
 
 pub measure_items-returns-in_err-end-clause-err : goal.measure_items-returns-in_err-end-clause-err
 measure_items-returns-in_err-end-clause-err t c =
