@@ -7,7 +7,7 @@ use Rattle.mg_bson.specs.Tree.{Fields, no_fields}
 use Rattle.mg_link.specs.Namespace.{Space}
 use Rattle.mg_link.specs.State.{Start}
 use Rattle.mg_link.specs.Commands.{Batch, asks_kill, asks_more, asks_watch, asked, batch_of, documents_in}
-use Rattle.mg_link.specs.Exec.{Stage, unsent, first, second, Sending, Attempt, not_sent, waits, answered, Begins, FailsAs, FailsBy, FailsByReply, Gives, IsSuccess, Runs, Tries, holding as held_at, is_repeated, ticket_at}
+use Rattle.mg_link.specs.Exec.{Stage, unsent, first, second, Sending, Attempt, not_sent, waits, answered, Begins, FailsAs, AttemptFails, FailsByReply, Gives, IsSuccess, Runs, Tries, holding as held_at, is_repeated, ticket_at}
 use Rattle.mg_link.specs.Follow.{Follow, holding, resting, resuming, IsOpen, Moved, ResumesAt}
 use Rattle.mg_link.specs.Link.{Awaited, Told, Sees}
 use Rattle.mg_link.specs.Log.{waiting, reply, fault, memory}
@@ -73,7 +73,7 @@ module _ (f : Follow) (new : Awaited) (log log' : Told) (g : Follow) (is_open : 
   quit m = subst (λ (h : Follow). Moved log log' g h) owes (moved log log' log' g g (owed g) m (gave_up log' log' g is_open refl))
 
   -- where the stream is behind an attempt that failed
-  pub more_failed : (attempt : Attempt) → FailsBy attempt wire e → MoreAttempted f new log log' g attempt → MoreFailed f log log' g e
+  pub more_failed : (attempt : Attempt) → AttemptFails attempt wire e → MoreAttempted f new log log' g attempt → MoreFailed f log log' g e
   more_failed not_sent fails m =
       record { lost = quit m; rests = λ final room. absurd (room (ap (λ (x : Error). x.kind) fails)) }
   more_failed (waits ticket) fails m = absurd fails

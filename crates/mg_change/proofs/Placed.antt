@@ -18,7 +18,7 @@ use Rattle.mg_link.proofs.Calls.{begun, gone_on, keeps_longer, success_ran, trie
 use Rattle.mg_link.proofs.Retries.{next_is, next_place}
 use Rattle.mg_ops.specs.declared.aggregate.ChangeStreamAggregate.{ChangeStreamAggregate}
 use Rattle.mg_change.specs.Following.{follow_of}
-use Rattle.mg_change.specs.OpeningCauses.{OpenedAt, OpensAt}
+use Rattle.mg_change.specs.OpeningCauses.{OpenedAt, PollOpensAt}
 use Rattle.mg_change.specs.Openings.{IsNextSent, IsOpened, opening_command}
 use Rattle.mg_change.specs.declared.opening.Opening.{Opening}
 use Rattle.mg_change.specs.declared.stream.ChangeStream.{ChangeStream}
@@ -87,7 +87,7 @@ opening_placed a old new log log' wire exec version bytes s same is runs =
     }
 
 -- what is sent next was not sent yet, or is in flight
-pub next_placed : (a : ChangeStreamAggregate) (old new : Awaited) (log log' : Told) (wire wire' : ℤ) (exec : Option Sending) (e : Sending) (result : Step Opening ChangeStream) → IsNextSent a wire' exec e → OpensAt old new log log' wire a (Some e) result → OpensAt old new log log' wire a exec result
+pub next_placed : (a : ChangeStreamAggregate) (old new : Awaited) (log log' : Told) (wire wire' : ℤ) (exec : Option Sending) (e : Sending) (result : Step Opening ChangeStream) → IsNextSent a wire' exec e → PollOpensAt old new log log' wire a (Some e) result → PollOpensAt old new log log' wire a exec result
 next_placed a old new log log' wire wire' exec e (step.Pending o) next h = tt
 next_placed a old new log log' wire wire' exec e (step.Done s) next h =
     record {

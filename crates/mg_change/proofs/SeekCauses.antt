@@ -24,7 +24,7 @@ use Rattle.mg_change.specs.Causes.{BreaksBatch, CallEmpty, CallFailed, CallFails
 use Rattle.mg_change.specs.Following.{IsSpent, StepSpends}
 use Rattle.mg_change.specs.Phases.{AtRest}
 use Rattle.mg_change.specs.Rows.{CountsBy, KeptBy, Seeks, TooManyBy, in_row, looking}
-use Rattle.mg_change.specs.SeekCauses.{Goes, IsNotEmptyBatches, IsTooMany, Part, PartCame, PartSteps, Row, SeekCaused, SeekSteps, begins, emptied, on, one_more, part_past}
+use Rattle.mg_change.specs.SeekCauses.{Goes, IsNotEmptyBatches, IsTooMany, CallPart, PartCame, PartSteps, Row, SeekCaused, SeekSteps, begins, emptied, on, one_more, part_past}
 use Rattle.mg_change.specs.declared.counts.Counts.{Counts}
 use Rattle.mg_change.specs.declared.event_poll.EventPoll.{EventPoll}
 use Rattle.mg_change.specs.declared.event_poll.EventPoll.TheVariants as poll
@@ -68,7 +68,7 @@ many_in_row false c h = h
 
 -- ---- a row
 
-row_keeps : (calls calls' : List Call) (wire : ℤ) (start p : Part) → Keeps calls calls' → Row calls wire start p → Row calls' wire start p
+row_keeps : (calls calls' : List Call) (wire : ℤ) (start p : CallPart) → Keeps calls calls' → Row calls wire start p → Row calls' wire start p
 row_keeps calls calls' wire start p keeps begins = begins
 row_keeps calls calls' wire start p keeps (one_more q then after d by_resumption row room kept empty holds counted) =
     one_more q then after d by_resumption (row_keeps calls calls' wire start q keeps row) room (keeps_on then calls calls' kept keeps) empty holds counted
@@ -78,10 +78,10 @@ part_begins : (awaited : Awaited) (past : Past) (s : ChangeStream) → IsSpent s
 part_begins awaited past s spent = causes.begins awaited past s (subst AtRest (sym spent.rests) tt)
 
 -- where a call has come to, with what was counted: a row, and a part that goes on
-pub record RowSought (awaited : Awaited) (log : Told) (wire : ℤ) (start : Part) (d : Counts) (s : ChangeStream) : Type 0 where
+pub record RowSought (awaited : Awaited) (log : Told) (wire : ℤ) (start : CallPart) (d : Counts) (s : ChangeStream) : Type 0 where
   pub calls : List Call
   pub told : log ≡ Some calls
-  pub part : Part
+  pub part : CallPart
   pub room : part.since ≤ length calls
   pub counts : part.counts ≡ in_row d
   pub row : Row calls wire start part
@@ -105,10 +105,10 @@ sought_start old log wire s none calls told places at so =
     }
 
 -- what a step comes to of a call that has come so far
-record RowSteps (awaited : Awaited) (log : Told) (wire : ℤ) (start : Part) (d d' : Counts) (s : ChangeStream) (r : Stepped) : Type 0 where
+record RowSteps (awaited : Awaited) (log : Told) (wire : ℤ) (start : CallPart) (d d' : Counts) (s : ChangeStream) (r : Stepped) : Type 0 where
   calls : List Call
   told : log ≡ Some calls
-  part : Part
+  part : CallPart
   room : part.since ≤ length calls
   counts : part.counts ≡ in_row d
   row : Row calls wire start part
@@ -118,15 +118,15 @@ same_calls : (xs ys : List Call) → Some xs ≡ Some ys → xs ≡ ys
 same_calls xs ys h = cc
 
 row_steps : (now then : Awaited) (log log' : Told) (wire : ℤ) (s s' : ChangeStream) (d d' : Counts) (r : Stepped) → Stays log log' → SeekSteps now then log log' wire s d s' d' r
-    → (start : Part) → RowSought now log wire start d s → RowSteps then log' wire start (looking (is_resumed s.phase) d) d' s' r
+    → (start : CallPart) → RowSought now log wire start d s → RowSteps then log' wire start (looking (is_resumed s.phase) d) d' s' r
 row_steps now then log log' wire s s' d d' r stays steps start h =
     let x = steps h.calls h.told h.part.places h.part.since h.part.at h.room h.so_far in
     let y = stays h.calls h.told in
     let keeps : Keeps h.calls x.calls = subst (λ (l : List Call). Keeps h.calls l) (same_calls y.0 x.calls (sym y.1 ∙ x.told)) y.2 in
     record { calls = x.calls; told = x.told; part = h.part; room = x.room; counts = h.counts; row = row_keeps h.calls x.calls wire start h.part keeps h.row; came = x.came }
 
-module _ (awaited : Awaited) (log : Told) (wire : ℤ) (start : Part) (d d' : Counts) (s : ChangeStream) where
-  goes_by : (calls : List Call) → log ≡ Some calls → (p : Part) → p.since ≤ length calls → p.counts ≡ in_row d → Row calls wire start p → Goes awaited (part_past p calls wire) p.at d d' s → RowSought awaited log wire start d' s
+module _ (awaited : Awaited) (log : Told) (wire : ℤ) (start : CallPart) (d d' : Counts) (s : ChangeStream) where
+  goes_by : (calls : List Call) → log ≡ Some calls → (p : CallPart) → p.since ≤ length calls → p.counts ≡ in_row d → Row calls wire start p → Goes awaited (part_past p calls wire) p.at d d' s → RowSought awaited log wire start d' s
   goes_by calls told p room counts row (on so same) =
       record {
         calls = calls;
@@ -139,7 +139,7 @@ module _ (awaited : Awaited) (log : Told) (wire : ℤ) (start : Part) (d d' : Co
       }
   goes_by calls told p room counts row (emptied empty holds counted spent) =
       let next = counted_in_row d.resumed d d' refl counted in
-      let q : Part = record { at = standing_of s; counts = in_row d'; places = []; since = length calls } in
+      let q : CallPart = record { at = standing_of s; counts = in_row d'; places = []; since = length calls } in
       record {
         calls = calls;
         told = told;
@@ -216,13 +216,13 @@ module _ (old now then : Awaited) (log log' log'' : Told) (wire wire' : ℤ) (s 
 
   pub sought_on : SeekSteps now then log' log'' wire' s' d u d' stepped.Goes → Sought old then log log'' wire s u d'
   sought_on steps none calls told places at begun =
-      let start : Part = record { at = at; counts = s.counts; places = places; since = length calls } in
+      let start : CallPart = record { at = at; counts = s.counts; places = places; since = length calls } in
       goes_on then log'' wire start (looking (is_resumed s'.phase) d) d' u
       (row_steps now then log' log'' wire s' u d d' stepped.Goes stays (steps_here stepped.Goes steps) start (so none calls told places at begun))
 
   pub sought_last : (v : ChangeStream) (r : EventPoll) → v ≡ record u { counts = v.counts } → KeptBy r d' v.counts → SeekSteps now then log' log'' wire' s' d u d' (stepped.Gives r) → SeekCaused old then log log'' wire s v r
   sought_last v r is kept steps none calls told places at begun =
-      let start : Part = record { at = at; counts = s.counts; places = places; since = length calls } in
+      let start : CallPart = record { at = at; counts = s.counts; places = places; since = length calls } in
       let x = row_steps now then log' log'' wire s' u d d' (stepped.Gives r) stays (steps_here (stepped.Gives r) steps) start (so none calls told places at begun) in
       let last = last_by then (part_past x.part x.calls wire) x.part.at (looking (is_resumed s'.phase) d) d' u v r is kept x.came in
       (x.calls, x.told, record { part = x.part; room = x.room; row = x.row; came = subst (λ (c : Counts). PartCame then (part_past x.part x.calls wire) x.part.at c v r) (sym x.counts) last })

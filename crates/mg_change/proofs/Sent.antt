@@ -18,7 +18,7 @@ use Rattle.mg_ops.specs.declared.cursor_reply.CursorInformation.{CursorInformati
 use Rattle.mg_ops.specs.declared.get_more.GetMore.{GetMore}
 use Rattle.mg_change.specs.Phases.{Carries, IsAsking, IsKilling, resuming_command}
 use Rattle.mg_change.specs.Polls.{IsStepAtOnce}
-use Rattle.mg_change.specs.Sent.{AreSought, Falling, IsAt, IsSought, Keeps, KillsOne, Quiet, SeekSent, Sent, StepKeeps, StepSent, asking_places, asks, commands_of, killing_places, kills, places, resumes, resuming_places, step_places}
+use Rattle.mg_change.specs.Sent.{AreSought, Falling, IsAt, IsSought, Keeps, KillsOne, Quiet, SeekSent, Sent, StepKeeps, StepSent, asking_places, asks, commands_sent, killing_places, kills, places, resumes, resuming_places, step_places}
 use Rattle.mg_change.specs.declared.event_poll.EventPoll.TheVariants as poll
 use Rattle.mg_change.specs.declared.event_poll.Stepped.{Stepped}
 use Rattle.mg_change.specs.declared.event_poll.Stepped.TheVariants as stepped
@@ -29,13 +29,13 @@ use Rattle.mg_change.specs.declared.stream.Phase.TheVariants as phase
 -- ---- logs
 
 sent_none : (log log' : Told) → log' ≡ log → Sent log log' []
-sent_none log log' same calls told = (calls, same ∙ told, sym (append-nil (commands_of calls)), onward_refl calls nobody)
+sent_none log log' same calls told = (calls, same ∙ told, sym (append-nil (commands_sent calls)), onward_refl calls nobody)
 
 sent_on : (log mid log' : Told) (cs ds : List Fields) → Sent log mid cs → Sent mid log' ds → Sent log log' (cs ++ ds)
 sent_on log mid log' cs ds p q calls told =
     let x = p calls told in
     let y = q x.0 x.1 in
-    (y.0, y.1, y.2 ∙ ap (λ (l : List Fields). l ++ ds) x.2 ∙ append_assoc (commands_of calls) cs ds, onward_on calls x.0 y.0 nobody x.3 y.3)
+    (y.0, y.1, y.2 ∙ ap (λ (l : List Fields). l ++ ds) x.2 ∙ append_assoc (commands_sent calls) cs ds, onward_on calls x.0 y.0 nobody x.3 y.3)
 
 sent_adds : (log log' : Told) (command : List ℕ) (seen : Sight) → Adds log log' command seen → Sent log log' (fields command ∷ [])
 sent_adds log log' command seen adds calls told =
@@ -43,7 +43,7 @@ sent_adds log log' command seen adds calls told =
     let call : Call = record { command = command; position = add.0; seen = seen } in
     (calls ++ call ∷ [], add.1, map-append (λ (c : Call). fields c.command) calls (call ∷ []), onward_foreign calls call nobody (nobody_named calls call))
 
-commands_seen : (place : ℕ) (seen : Sight) (calls : List Call) → commands_of (see place seen calls) ≡ commands_of calls
+commands_seen : (place : ℕ) (seen : Sight) (calls : List Call) → commands_sent (see place seen calls) ≡ commands_sent calls
 commands_seen place seen [] = refl
 commands_seen zero seen (call ∷ calls) = refl
 commands_seen (suc place) seen (call ∷ calls) = ap (λ (l : List Fields). fields call.command ∷ l) (commands_seen place seen calls)
@@ -51,7 +51,7 @@ commands_seen (suc place) seen (call ∷ calls) = ap (λ (l : List Fields). fiel
 sent_sees : (log log' : Told) (place : Option ℕ) (seen : Sight) → Sees log log' place seen → Sent log log' []
 sent_sees log log' place seen sees calls told =
     let s = sees calls told in
-    (see s.0 seen calls, s.5, commands_seen s.0 seen calls ∙ sym (append-nil (commands_of calls)), onward_seen s.0 seen calls s.1 nobody s.3 s.4)
+    (see s.0 seen calls, s.5, commands_seen s.0 seen calls ∙ sym (append-nil (commands_sent calls)), onward_seen s.0 seen calls s.1 nobody s.3 s.4)
 
 -- ---- places
 

@@ -12,7 +12,7 @@ use Rattle.mg_link.specs.declared.error.Error.{Error}
 use Rattle.mg_link.specs.declared.error.ErrorKind.TheVariants as kind
 use Rattle.mg_link.proofs.Retries.{at_stage}
 use Rattle.mg_ops.specs.Commands.{kill_command}
-use Rattle.mg_ops.specs.Cursors.{BreaksIn, Gave, OpensAt, asking_command}
+use Rattle.mg_ops.specs.Cursors.{BreaksIn, Gave, OpensWithTime, asking_command}
 use Rattle.mg_ops.specs.declared.aggregate.ChangeStreamAggregate.{ChangeStreamAggregate}
 use Rattle.mg_ops.specs.declared.cursor_reply.CursorSpecification.{CursorSpecification}
 use Rattle.mg_ops.specs.declared.cursor_reply.GetMoreResult.{GetMoreResult}
@@ -222,7 +222,7 @@ FailLeaves e r (step.Failed x) = Unit {0}
 -- behind the reply to the aggregate of a resumption: with one cursor more, or none where the reply tells none
 abbrev pub ResumeLeaves : List ℕ → Remains → Step Closing Remains → Type 0
 ResumeLeaves bytes r (step.Pending c) = ⊥
-ResumeLeaves bytes r (step.Done r') = ((e : Error) × (r' ≡ r) × BreaksIn (fields bytes) e) ⊎ ((out : CursorSpecification × Option Timestamp) × OpensAt r.aggregate.args.options.batch_size r.aggregate.args.options.max_await_time r.aggregate.args.options.comment bytes out × (r' ≡ record r { opened = out.0.info.id }))
+ResumeLeaves bytes r (step.Done r') = ((e : Error) × (r' ≡ r) × BreaksIn (fields bytes) e) ⊎ ((out : CursorSpecification × Option Timestamp) × OpensWithTime r.aggregate.args.options.batch_size r.aggregate.args.options.max_await_time r.aggregate.args.options.comment bytes out × (r' ≡ record r { opened = out.0.info.id }))
 ResumeLeaves bytes r (step.Failed e) = Unit {0}
 
 -- a failure that is passed over

@@ -67,7 +67,7 @@ pub record OpenedAt (old new : Awaited) (log log' : Told) (wire : ℤ) (a : Chan
       → (calls' : List Call) × (log' ≡ Some calls') × (opened : Opened (past_of places (length calls) calls' wire) a.args (standing_of s)) × (place ≡ Some opened.heard.place)
 
 -- so does each poll that opens one
-abbrev pub OpensAt : Awaited → Awaited → Told → Told → ℤ → ChangeStreamAggregate → Option Sending → Step Opening ChangeStream → Type 0
-OpensAt old new log log' wire a exec (step.Pending o) = Unit {0}
-OpensAt old new log log' wire a exec (step.Done s) = OpenedAt old new log log' wire a exec s
-OpensAt old new log log' wire a exec (step.Failed e) = Unit {0}
+abbrev pub PollOpensAt : Awaited → Awaited → Told → Told → ℤ → ChangeStreamAggregate → Option Sending → Step Opening ChangeStream → Type 0
+PollOpensAt old new log log' wire a exec (step.Pending o) = Unit {0}
+PollOpensAt old new log log' wire a exec (step.Done s) = OpenedAt old new log log' wire a exec s
+PollOpensAt old new log log' wire a exec (step.Failed e) = Unit {0}

@@ -19,21 +19,21 @@ use Rattle.mg_change.specs.declared.stream.ChangeStream.{ChangeStream}
 
 -- A part of a call: how its stream stood as it began, what was got in vain before it, the places in the log of what it sent in earlier polls, and
 -- the place from which on it sends in this one.
-pub record Part : Type 0 where
+pub record CallPart : Type 0 where
   pub at : Standing
   pub counts : Counts
   pub places : List ℕ
   pub since : ℕ
 
 -- with this log behind it
-abbrev pub part_past : Part → List Call → ℤ → Past
+abbrev pub part_past : CallPart → List Call → ℤ → Past
 part_past p calls wire = past_of p.places p.since calls wire
 
 -- From one part to another by empty batches, none of them one too many, while the cursor stayed open. Each was heard in its own part: the next one
 -- sends behind the log that stood as it came.
-pub data Row (calls : List Call) (wire : ℤ) (start : Part) : Part → Type 0 where
+pub data Row (calls : List Call) (wire : ℤ) (start : CallPart) : CallPart → Type 0 where
   begins : Row calls wire start start
-  one_more : (p : Part) (then : List Call) (after : Standing) (d : Counts) (resumed : Bool) → Row calls wire start p → p.since ≤ length then → Keeps then calls → CallEmpty (part_past p then wire) p.at after resumed → after.cursor.id ≢ pos 0 → CountsBy resumed p.counts d
+  one_more : (p : CallPart) (then : List Call) (after : Standing) (d : Counts) (resumed : Bool) → Row calls wire start p → p.since ≤ length then → Keeps then calls → CallEmpty (part_past p then wire) p.at after resumed → after.cursor.id ≢ pos 0 → CountsBy resumed p.counts d
       → Row calls wire start (record { at = after; counts = d; places = []; since = length then })
 
 -- An empty batch that is one too many: the thousandth in a row, or that of the thousandth resumption in the call.
@@ -56,8 +56,8 @@ PartCame awaited past mid d s (poll.Ready (Some event)) = CallGave past mid (sta
 PartCame awaited past mid d s (poll.Failed e) = (CallFailed past mid (standing_of s) e × IsNotEmptyBatches e) ⊎ IsTooMany past mid (standing_of s) d e
 
 -- what a poll comes to of a call that had begun with this part
-pub record SeekCame (awaited : Awaited) (calls : List Call) (wire : ℤ) (start : Part) (s : ChangeStream) (r : EventPoll) : Type 0 where
-  pub part : Part
+pub record SeekCame (awaited : Awaited) (calls : List Call) (wire : ℤ) (start : CallPart) (s : ChangeStream) (r : EventPoll) : Type 0 where
+  pub part : CallPart
   pub room : part.since ≤ length calls
   pub row : Row calls wire start part
   pub came : PartCame awaited (part_past part calls wire) part.at part.counts s r

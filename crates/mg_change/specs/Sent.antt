@@ -22,12 +22,12 @@ use Rattle.mg_change.specs.declared.stream.Phase.{Phase}
 use Rattle.mg_change.specs.declared.stream.Phase.TheVariants as phase
 
 -- the commands of a log, in their order
-abbrev pub commands_of : List Call → List Fields
-commands_of calls = map (λ (c : Call). fields c.command) calls
+abbrev pub commands_sent : List Call → List Fields
+commands_sent calls = map (λ (c : Call). fields c.command) calls
 
 -- these commands, and no others, were added to a log that is told, and what it had seen it has seen still
 abbrev pub Sent : Told → Told → List Fields → Type 0
-Sent log log' commands = (calls : List Call) → log ≡ Some calls → (calls' : List Call) × (log' ≡ Some calls') × (commands_of calls' ≡ commands_of calls ++ commands) × Onward calls calls' nobody
+Sent log log' commands = (calls : List Call) → log ≡ Some calls → (calls' : List Call) × (log' ≡ Some calls') × (commands_sent calls' ≡ commands_sent calls ++ commands) × Onward calls calls' nobody
 
 -- the killing of one cursor
 pub record KillsOne (command : Fields) : Type 0 where

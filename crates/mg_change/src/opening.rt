@@ -12,7 +12,7 @@ ghost use Rattle.mg_change.specs.Following.{Asks, AsksNothing, opening_in};
 ghost use Rattle.mg_change.specs.Growths.{OpensInVain};
 ghost use Rattle.mg_change.specs.Polls.{IsNotIo};
 ghost use Rattle.mg_change.specs.OpeningSends.{OpeningSent};
-ghost use Rattle.mg_change.specs.OpeningCauses.{OpeningCaused, OpensAt};
+ghost use Rattle.mg_change.specs.OpeningCauses.{OpeningCaused, PollOpensAt};
 ghost use Rattle.mg_change.specs.Causes.{CannotBuild};
 ghost use Rattle.mg_change.specs.Phases.{resuming_command};
 ghost use Rattle.mg_bson.specs.Raw.{fields};
@@ -145,7 +145,7 @@ fn wait<L: Link>(
     ensures vain { IsOpening aggregate (Some exec) → AsksNothing aggregate.args → OpensInVain (L.awaited link.old) (L.awaited link.new) (L.log link.old) (L.log link.new) (Some exec) result }
     ensures stays { Stays (L.log link.old) (L.log link.new) }
     ensures caused { IsOpening aggregate (Some exec) → OpeningCaused (L.awaited link.old) (L.awaited link.new) (L.log link.old) (L.log link.new) (L.wire link.old) aggregate.args (Some exec) result }
-    ensures placed { OpensAt (L.awaited link.old) (L.awaited link.new) (L.log link.old) (L.log link.new) (L.wire link.old) aggregate (Some exec) result }
+    ensures placed { PollOpensAt (L.awaited link.old) (L.awaited link.new) (L.log link.old) (L.log link.new) (L.wire link.old) aggregate (Some exec) result }
 {
     match exec.poll(link) {
         Step::Pending(exec) => Step::Pending(Opening {
@@ -209,7 +209,7 @@ impl Action for Opening {
         ensures vain { IsOpening self.aggregate self.exec → AsksNothing self.aggregate.args → OpensInVain (L.awaited link.old) (L.awaited link.new) (L.log link.old) (L.log link.new) self.exec result }
         ensures stays { Stays (L.log link.old) (L.log link.new) }
         ensures caused { IsOpening self.aggregate self.exec → OpeningCaused (L.awaited link.old) (L.awaited link.new) (L.log link.old) (L.log link.new) (L.wire link.old) self.aggregate.args self.exec result }
-        ensures placed { OpensAt (L.awaited link.old) (L.awaited link.new) (L.log link.old) (L.log link.new) (L.wire link.old) self.aggregate self.exec result }
+        ensures placed { PollOpensAt (L.awaited link.old) (L.awaited link.new) (L.log link.old) (L.log link.new) (L.wire link.old) self.aggregate self.exec result }
     {
         let Opening {
             alloc,

@@ -4,7 +4,7 @@ use Rattle.std.specs.Prelude.{◌<◌, IsSome, slice_get}
 use Rattle.mg_bson.specs.Tree.{Fields}
 use Rattle.mg_bson.specs.Raw.{fields}
 use Rattle.mg_link.specs.Calls.{Came, Flies, Grows, HeardAt, HeardLast, IsAwaited, IsOwn, IsRetried, Keeps, NoneBroken, Past, RequestFails, WaitsAt, out_of_memory, past_of, was_lost, was_refused}
-use Rattle.mg_link.specs.Exec.{Attempt, not_sent, waits, answered, Stage, unsent, first, second, Sending, Begins, FailsBy, Gives, GoesOn, IsSuccess, Once, Runs, Tries, Twice, holding, is_repeated, is_retried_attempt, ticket_at}
+use Rattle.mg_link.specs.Exec.{Attempt, not_sent, waits, answered, Stage, unsent, first, second, Sending, Begins, AttemptFails, Gives, GoesOn, IsSuccess, Once, Runs, Tries, Twice, holding, is_repeated, is_retried_attempt, ticket_at}
 use Rattle.mg_link.specs.Link.{Awaited, Told}
 use Rattle.mg_link.specs.Log.{Sight, waiting, reply, fault, memory, Call, see}
 use Rattle.mg_link.specs.Retry.{is_retried}
@@ -137,7 +137,7 @@ tried old new log log' calls told places since wire command (second ticket) atte
 
 -- ---- a poll
 
-failed_by : (past : Past) (command : Fields) (retries : Bool) (e : Error) (attempt : Attempt) → ((seen : Sight) → attempt ≡ answered seen → HeardLast past command retries seen) → FailsBy attempt past.wire e → RequestFails past command retries NoneBroken e
+failed_by : (past : Past) (command : Fields) (retries : Bool) (e : Error) (attempt : Attempt) → ((seen : Sight) → attempt ≡ answered seen → HeardLast past command retries seen) → AttemptFails attempt past.wire e → RequestFails past command retries NoneBroken e
 failed_by past command retries e not_sent heard by = out_of_memory (ap (λ (x : Error). x.kind) by)
 failed_by past command retries e (waits ticket) heard by = absurd by
 failed_by past command retries e (answered waiting) heard by = absurd by

@@ -19,7 +19,7 @@ use Rattle.mg_link.specs.Log.{waiting, reply, fault, memory}
 use Rattle.mg_link.specs.Reply.{Refusal, refusal_of, verdict_of}
 use Rattle.mg_link.specs.Link.{Awaited, Told}
 use Rattle.mg_link.specs.Acts.{IsOut, Tickets, ticket_after, Pended, FailsByFault, EndsAtOnce}
-use Rattle.mg_link.specs.Exec.{Stage, unsent, first, second, Sending, Attempt, not_sent, waits, answered, ticket_at, ticket_of, Begins, GoesOn, Tries, is_retried_attempt, is_repeated, FailsAs, FailsByReply, FailsBy, Gives, holding, Once, Twice, Runs}
+use Rattle.mg_link.specs.Exec.{Stage, unsent, first, second, Sending, Attempt, not_sent, waits, answered, ticket_at, ticket_of, Begins, GoesOn, Tries, is_retried_attempt, is_repeated, FailsAs, FailsByReply, AttemptFails, Gives, holding, Once, Twice, Runs}
 use Rattle.mg_link.specs.Attempts.{HasCounts, IsAtOnce, held, Stops, Repeats}
 use Rattle.mg_link.proofs.Onward.{tickets_on}
 
@@ -45,7 +45,7 @@ fails_by_reply_other None wire e f io = not_io e kind.BsonDeserialization f (λ 
 fails_by_reply_other (Some said) wire e f io = fails_as_other (verdict_of said) said wire e f io
 
 -- an attempt that failed by the link saw a fault
-fault_seen : (a : Attempt) (wire : ℤ) (e : Error) (f f' p p' : ℕ) → FailsBy a wire e → HasCounts a f f' p p' → e.kind ≡ kind.Io → Rose f f'
+fault_seen : (a : Attempt) (wire : ℤ) (e : Error) (f f' p p' : ℕ) → AttemptFails a wire e → HasCounts a f f' p p' → e.kind ≡ kind.Io → Rose f f'
 fault_seen not_sent wire e f f' p p' fails counts io = absurd (not_io e kind.OutOfMemory fails (λ bad. cc) io)
 fault_seen (waits ticket) wire e f f' p p' fails counts io = absurd fails
 fault_seen (answered waiting) wire e f f' p p' fails counts io = absurd fails
@@ -53,7 +53,7 @@ fault_seen (answered (reply bytes)) wire e f f' p p' fails counts io = absurd (f
 fault_seen (answered fault) wire e f f' p p' fails counts io = counts.0
 fault_seen (answered memory) wire e f f' p p' fails counts io = absurd (not_io e kind.OutOfMemory fails (λ bad. cc) io)
 
-no_fault_at_once : (a : Attempt) (wire : ℤ) (e : Error) → FailsBy a wire e → IsAtOnce a → e.kind ≡ kind.Io → ⊥
+no_fault_at_once : (a : Attempt) (wire : ℤ) (e : Error) → AttemptFails a wire e → IsAtOnce a → e.kind ≡ kind.Io → ⊥
 no_fault_at_once not_sent wire e fails at io = not_io e kind.OutOfMemory fails (λ bad. cc) io
 no_fault_at_once (waits ticket) wire e fails at io = fails
 no_fault_at_once (answered waiting) wire e fails at io = fails
@@ -62,7 +62,7 @@ no_fault_at_once (answered fault) wire e fails at io = at
 no_fault_at_once (answered memory) wire e fails at io = not_io e kind.OutOfMemory fails (λ bad. cc) io
 
 -- an attempt that failed left the count of pending replies as it was
-failed_calm : (a : Attempt) (wire : ℤ) (e : Error) (f f' p p' : ℕ) → FailsBy a wire e → HasCounts a f f' p p' → p' ≡ p
+failed_calm : (a : Attempt) (wire : ℤ) (e : Error) (f f' p p' : ℕ) → AttemptFails a wire e → HasCounts a f f' p p' → p' ≡ p
 failed_calm not_sent wire e f f' p p' fails counts = counts
 failed_calm (waits ticket) wire e f f' p p' fails counts = absurd fails
 failed_calm (answered waiting) wire e f f' p p' fails counts = counts
@@ -105,7 +105,7 @@ ticket_in not_sent = None
 ticket_in (waits ticket) = Some ticket
 ticket_in (answered seen) = None
 
-fails_without : (a : Attempt) (wire : ℤ) (e : Error) → FailsBy a wire e → None ≡ ticket_in a
+fails_without : (a : Attempt) (wire : ℤ) (e : Error) → AttemptFails a wire e → None ≡ ticket_in a
 fails_without not_sent wire e f = refl
 fails_without (waits ticket) wire e f = absurd f
 fails_without (answered seen) wire e f = refl
@@ -200,18 +200,18 @@ module _ (old new : Awaited) (log log' : Told) (wire : ℤ) (s : Sending) (resul
 again_gives : (a : Attempt) (wire wire1 : ℤ) (s : Sending) (r : Step Sending (List ℕ)) → wire1 ≡ wire → Gives a wire1 (held s.command s.retries true) r → Gives a wire (λ n. record s { stage = second n }) r
 again_gives a wire wire1 s (step.Pending x) same g = g
 again_gives a wire wire1 s (step.Done bytes) same g = g
-again_gives a wire wire1 s (step.Failed e) same g = subst (λ w. FailsBy a w e) same g
+again_gives a wire wire1 s (step.Failed e) same g = subst (λ w. AttemptFails a w e) same g
 
 held_gives : (a : Attempt) (wire wire1 : ℤ) (s : Sending) (r : Step Sending (List ℕ)) → wire1 ≡ wire → ((n : ℕ) → holding s.stage n ≡ first n) → Gives a wire1 (held s.command s.retries false) r → Gives a wire (λ n. record s { stage = holding s.stage n }) r
 held_gives a wire wire1 s (step.Pending x) same hold g = (g.0, g.1, g.2 ∙ ap (λ st. record s { stage = st }) (sym (hold g.0)))
 held_gives a wire wire1 s (step.Done bytes) same hold g = g
-held_gives a wire wire1 s (step.Failed e) same hold g = subst (λ w. FailsBy a w e) same g
+held_gives a wire wire1 s (step.Failed e) same hold g = subst (λ w. AttemptFails a w e) same g
 
 -- a poll of a second attempt
 second_gives : (a : Attempt) (wire wire1 : ℤ) (s : Sending) (n : ℕ) (r : Step Sending (List ℕ)) → s.stage ≡ second n → wire1 ≡ wire → Gives a wire1 (held s.command s.retries true) r → Gives a wire (λ n. record s { stage = holding s.stage n }) r
 second_gives a wire wire1 s n (step.Pending x) at same g = (g.0, g.1, g.2 ∙ ap (λ st. record s { stage = holding st g.0 }) (sym at))
 second_gives a wire wire1 s n (step.Done bytes) at same g = g
-second_gives a wire wire1 s n (step.Failed e) at same g = subst (λ w. FailsBy a w e) same g
+second_gives a wire wire1 s n (step.Failed e) at same g = subst (λ w. AttemptFails a w e) same g
 
 pub runs_second : (old new : Awaited) (log log' : Told) (wire wire1 : ℤ) (s : Sending) (n : ℕ) (attempt : Attempt) (result : Step Sending (List ℕ)) → s.stage ≡ second n → GoesOn old new log log' n attempt → wire1 ≡ wire → Gives attempt wire1 (held s.command s.retries true) result → Runs old new log log' wire s result
 runs_second old new log log' wire wire1 s n attempt result at goes_on same gives =

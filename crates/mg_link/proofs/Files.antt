@@ -66,15 +66,15 @@ chunks_sized size bytes some = sized_behind size [] bytes some
 
 -- ---- the documents of collections
 
-abbrev documents_in : List Collection → Space → List Fields
-documents_in cs space = unwrap_or (option_map (λ (c : Collection). c.documents) (collection_in cs space)) []
+abbrev documents_under : List Collection → Space → List Fields
+documents_under cs space = unwrap_or (option_map (λ (c : Collection). c.documents) (collection_in cs space)) []
 
 found_or : (b : Bool) (c : Collection) (o : Option Collection)
     → unwrap_or (option_map (λ (c : Collection). c.documents) (if b then Some c else o)) [] ≡ (if b then c.documents else unwrap_or (option_map (λ (c : Collection). c.documents) o) [])
 found_or true c o = refl
 found_or false c o = refl
 
-put_documents : (c : Collection) (cs : List Collection) (space : Space) → documents_in (put_collection c cs) space ≡ (if is_space space c.space then c.documents else documents_in cs space)
+put_documents : (c : Collection) (cs : List Collection) (space : Space) → documents_under (put_collection c cs) space ≡ (if is_space space c.space then c.documents else documents_under cs space)
 put_documents c cs space = ap (λ (o : Option Collection). unwrap_or (option_map (λ (c : Collection). c.documents) o) []) (put_is c cs space) ∙ found_or (is_space space c.space) c (collection_in cs space)
 
 -- two names of which one is that of a third are the same
@@ -84,47 +84,47 @@ apart_from s t u differs here there =
     let bad : true ≡ false = sym (is_space_self t) ∙ ap (is_space t) e ∙ differs in
     absurd cc
 
-removed_documents : (at : Space) (cs : List Collection) (space : Space) → is_space space at ≡ false → documents_in (without_collection at cs) space ≡ documents_in cs space
+removed_documents : (at : Space) (cs : List Collection) (space : Space) → is_space space at ≡ false → documents_under (without_collection at cs) space ≡ documents_under cs space
 removed_documents at [] space other = refl
 removed_documents at (c ∷ cs) space other =
     elim (cases_Bool (is_space at c.space)) [
       | inl its ↦
           let e : at ≡ c.space = same_space at c.space its in
           let no_it : is_space space c.space ≡ false = ap (is_space space) (sym e) ∙ other in
-          ap (λ (b : Bool). documents_in (if b then without_collection at cs else c ∷ without_collection at cs) space) its
+          ap (λ (b : Bool). documents_under (if b then without_collection at cs else c ∷ without_collection at cs) space) its
           ∙ removed_documents at cs space other
           ∙ sym (ap (λ (b : Bool). unwrap_or (option_map (λ (c : Collection). c.documents) (if b then Some c else collection_in cs space)) []) no_it)
       | inr others ↦
-          ap (λ (b : Bool). documents_in (if b then without_collection at cs else c ∷ without_collection at cs) space) others
+          ap (λ (b : Bool). documents_under (if b then without_collection at cs else c ∷ without_collection at cs) space) others
           ∙ found_or (is_space space c.space) c (collection_in (without_collection at cs) space)
           ∙ ap (λ (l : List Fields). if is_space space c.space then c.documents else l) (removed_documents at cs space other)
           ∙ sym (found_or (is_space space c.space) c (collection_in cs space))
     ]
 
 -- a change that leaves no documents as they were, and what it leaves of documents of other collections
-changed_documents : (at : Space) (g : List Fields → List Fields) (cs : List Collection) (space : Space) → g [] ≡ [] → documents_in (change_documents at g cs) space ≡ (if is_space space at then g (documents_in cs space) else documents_in cs space)
+changed_documents : (at : Space) (g : List Fields → List Fields) (cs : List Collection) (space : Space) → g [] ≡ [] → documents_under (change_documents at g cs) space ≡ (if is_space space at then g (documents_under cs space) else documents_under cs space)
 changed_documents at g [] space none = elim (is_space space at) as (λ b. [] ≡ (if b then g [] else [])) [ true ↦ sym none | false ↦ refl ]
 changed_documents at g (c ∷ cs) space none =
     elim (cases_Bool (is_space at c.space)) [
       | inl its ↦
           let e : at ≡ c.space = same_space at c.space its in
-          ap (λ (b : Bool). documents_in (if b then record c { documents = g c.documents } ∷ cs else c ∷ change_documents at g cs) space) its
+          ap (λ (b : Bool). documents_under (if b then record c { documents = g c.documents } ∷ cs else c ∷ change_documents at g cs) space) its
           ∙ found_or (is_space space c.space) (record c { documents = g c.documents }) (collection_in cs space)
           ∙ here (is_space space c.space)
-          ∙ ap (λ (b : Bool). if b then g (documents_in (c ∷ cs) space) else documents_in (c ∷ cs) space) (ap (is_space space) (sym e))
+          ∙ ap (λ (b : Bool). if b then g (documents_under (c ∷ cs) space) else documents_under (c ∷ cs) space) (ap (is_space space) (sym e))
       | inr others ↦
-          ap (λ (b : Bool). documents_in (if b then record c { documents = g c.documents } ∷ cs else c ∷ change_documents at g cs) space) others
+          ap (λ (b : Bool). documents_under (if b then record c { documents = g c.documents } ∷ cs else c ∷ change_documents at g cs) space) others
           ∙ found_or (is_space space c.space) c (collection_in (change_documents at g cs) space)
           ∙ ap (λ (l : List Fields). if is_space space c.space then c.documents else l) (changed_documents at g cs space none)
           ∙ there (is_space space c.space) (is_space space at) (λ h k. apart_from space at c.space others h k)
     ]
   where
-    here : (b : Bool) → (if b then g c.documents else documents_in cs space) ≡ (if b then g (unwrap_or (option_map (λ (c : Collection). c.documents) (if b then Some c else collection_in cs space)) []) else unwrap_or (option_map (λ (c : Collection). c.documents) (if b then Some c else collection_in cs space)) [])
+    here : (b : Bool) → (if b then g c.documents else documents_under cs space) ≡ (if b then g (unwrap_or (option_map (λ (c : Collection). c.documents) (if b then Some c else collection_in cs space)) []) else unwrap_or (option_map (λ (c : Collection). c.documents) (if b then Some c else collection_in cs space)) [])
     here true = refl
     here false = refl
 
     there : (b d : Bool) → (b ≡ true → d ≡ true → ⊥)
-        → (if b then c.documents else (if d then g (documents_in cs space) else documents_in cs space)) ≡ (if d then g (unwrap_or (option_map (λ (c : Collection). c.documents) (if b then Some c else collection_in cs space)) []) else unwrap_or (option_map (λ (c : Collection). c.documents) (if b then Some c else collection_in cs space)) [])
+        → (if b then c.documents else (if d then g (documents_under cs space) else documents_under cs space)) ≡ (if d then g (unwrap_or (option_map (λ (c : Collection). c.documents) (if b then Some c else collection_in cs space)) []) else unwrap_or (option_map (λ (c : Collection). c.documents) (if b then Some c else collection_in cs space)) [])
     there true true apart = absurd (apart refl refl)
     there true false apart = refl
     there false d apart = refl
@@ -182,38 +182,38 @@ chosen_stays : (c : Condition) (b : Bool) (new old : List Fields) → (b ≡ tru
 chosen_stays c true new old h = h refl
 chosen_stays c false new old h = refl
 
-put_stays : (c : Condition) (s : State) (col : Collection) (at : Space) → (is_space at col.space ≡ true → MeetsSame c col.documents (documents_in s.collections at)) → MeetsSame c (documents_in (put_collection col s.collections) at) (documents_in s.collections at)
-put_stays c s col at same = ap (filter (meets c)) (put_documents col s.collections at) ∙ chosen_stays c (is_space at col.space) col.documents (documents_in s.collections at) same
+put_stays : (c : Condition) (s : State) (col : Collection) (at : Space) → (is_space at col.space ≡ true → MeetsSame c col.documents (documents_under s.collections at)) → MeetsSame c (documents_under (put_collection col s.collections) at) (documents_under s.collections at)
+put_stays c s col at same = ap (filter (meets c)) (put_documents col s.collections at) ∙ chosen_stays c (is_space at col.space) col.documents (documents_under s.collections at) same
 
 change_stays : (c : Condition) (s : State) (space at : Space) (g : List Fields → List Fields) → g [] ≡ [] → (is_space at space ≡ true → (ds : List Fields) → MeetsSame c (g ds) ds)
-    → MeetsSame c (documents_in (change_documents space g s.collections) at) (documents_in s.collections at)
+    → MeetsSame c (documents_under (change_documents space g s.collections) at) (documents_under s.collections at)
 change_stays c s space at g none same =
     ap (filter (meets c)) (changed_documents space g s.collections at none)
-    ∙ chosen_stays c (is_space at space) (g (documents_in s.collections at)) (documents_in s.collections at) (λ here. same here (documents_in s.collections at))
+    ∙ chosen_stays c (is_space at space) (g (documents_under s.collections at)) (documents_under s.collections at) (λ here. same here (documents_under s.collections at))
 
 insert_stays : (c : Condition) (s : State) (space : Space) (ds : List Fields) (ordered : Bool) (failures : List Failure) (at : Space) → (is_space at space ≡ true → NoneMeets c ds) → is_space at space ≡ true
-    → MeetsSame c (documents_of s space ++ written ordered failures 0 ds) (documents_in s.collections at)
+    → MeetsSame c (documents_of s space ++ written ordered failures 0 ds) (documents_under s.collections at)
 insert_stays c s space ds ordered failures at spares here =
     filter-append (meets c) (documents_of s space) (written ordered failures 0 ds)
     ∙ ap (λ (l : List Fields). filter (meets c) (documents_of s space) ++ l) (written_none c ordered failures 0 ds (spares here))
     ∙ append-nil (filter (meets c) (documents_of s space))
     ∙ ap (λ (sp : Space). filter (meets c) (documents_of s sp)) (sym (same_space at space here))
 
-cursor_stays : (c : Condition) (b : Bool) (s t : State) (at : Space) → t.collections ≡ s.collections → MeetsSame c (documents_in (if b then s else t).collections at) (documents_in s.collections at)
+cursor_stays : (c : Condition) (b : Bool) (s t : State) (at : Space) → t.collections ≡ s.collections → MeetsSame c (documents_under (if b then s else t).collections at) (documents_under s.collections at)
 cursor_stays c true s t at same = refl
-cursor_stays c false s t at same = ap (λ (cs : List Collection). filter (meets c) (documents_in cs at)) same
+cursor_stays c false s t at same = ap (λ (cs : List Collection). filter (meets c) (documents_under cs at)) same
 
-closed_stays : (c : Condition) (b : Bool) (s t : State) (at : Space) → t.collections ≡ s.collections → MeetsSame c (documents_in (if b then t else s).collections at) (documents_in s.collections at)
-closed_stays c true s t at same = ap (λ (cs : List Collection). filter (meets c) (documents_in cs at)) same
+closed_stays : (c : Condition) (b : Bool) (s t : State) (at : Space) → t.collections ≡ s.collections → MeetsSame c (documents_under (if b then t else s).collections at) (documents_under s.collections at)
+closed_stays c true s t at same = ap (λ (cs : List Collection). filter (meets c) (documents_under cs at)) same
 closed_stays c false s t at same = refl
 
-none_created : (s : State) (space at : Space) → collection_in s.collections space ≡ None → is_space at space ≡ true → [] ≡ documents_in s.collections at
+none_created : (s : State) (space at : Space) → collection_in s.collections space ≡ None → is_space at space ≡ true → [] ≡ documents_under s.collections at
 none_created s space at none here =
     sym (ap (λ (o : Option Collection). unwrap_or (option_map (λ (c : Collection). c.documents) o) []) (ap (collection_in s.collections) (same_space at space here) ∙ none))
 
 -- what a command spares stays behind it
 effect_spares : (c : Condition) (s s' : State) (command : Asked) (reply : Told) (made : Made) (at : Space) → s'.collections ≡ s.collections → MayTell s s' command reply made → Spares command at c
-    → MeetsSame c (documents_in (effect s' command reply).collections at) (documents_in s'.collections at)
+    → MeetsSame c (documents_under (effect s' command reply).collections at) (documents_under s'.collections at)
 unfolding effect
 effect_spares c s s' (asks_insert space ds ordered) (inserted n failures) made at same may spares =
     put_stays c s' (record { space = space; documents = documents_of s' space ++ written ordered failures 0 ds; indexes = indexes_of s' space }) at (insert_stays c s' space ds ordered failures at spares)
@@ -242,7 +242,7 @@ grown_collections s made = refl
 pub spared_stay : (s : State) (step : Step) (space : Space) (c : Condition) → May s (asked step.command) (told_at step) step.made → Spares (asked step.command) space c → LeavesThose s step space c
 spared_stay s step space c may spares =
     effect_spares c s (grown s step.made) (asked step.command) (told_at step) step.made space (grown_collections s step.made) may.tells spares
-    ∙ ap (λ (cs : List Collection). filter (meets c) (documents_in cs space)) (grown_collections s step.made)
+    ∙ ap (λ (cs : List Collection). filter (meets c) (documents_under cs space)) (grown_collections s step.made)
 
 -- a file stays where its record and its chunks do
 pub parts_stay : (s : State) (step : Step) (b : Bucket) (id : Tree) → LeavesThose s step (files_space b) (has_value (codes "_id") id) → LeavesThose s step (chunks_space b) (has_value (codes "files_id") id) → LeavesFile s step b id

@@ -3,7 +3,7 @@ use Rattle.std.proofs.Common.{◌≡◌, ℕ, zero, suc, ◌-◌, Bool, true, fa
 use Rattle.std.specs.Prelude.{slice_get, if◌then◌else◌}
 use Rattle.std.specs.List.{filter}
 use Rattle.mg_bson.specs.Tree.{Fields}
-use Rattle.mg_link.specs.State.{Entry, State, Watch, query, watching, nothing, events_between, sees}
+use Rattle.mg_link.specs.State.{Entry, State, Watch, query, watching, nothing, events_between, IsBatchBetween, sees}
 use Rattle.mg_link.specs.Commands.{Asked, asks_watch, asks_more, Batch, Told, refuses, opened, gave, opened_by, gave_by, asked}
 use Rattle.mg_link.specs.Step.{Made, grown, May, MayTell}
 use Rattle.mg_link.specs.History.{Step, IsLegal, state_of, told_at}
@@ -65,7 +65,7 @@ grown_none : (s : State) (made : Made) → made.entries ≡ [] → (grown s made
 unfolding grown
 grown_none s made none = ap (λ (es : List Entry). s.changes ++ es) none ∙ append-nil s.changes
 
-ids_given : (s : State) (made : Made) (w : Watch) (from upto : ℕ) (events : List Fields) → AreNumbered s → made.entries ≡ [] → events ≡ events_between w (grown s made).changes from upto → HaveIds events
+ids_given : (s : State) (made : Made) (w : Watch) (from upto : ℕ) (events : List Fields) → AreNumbered s → made.entries ≡ [] → IsBatchBetween w (grown s made).changes from upto events → HaveIds events
 ids_given s made w from upto events numbered none these =
     subst HaveIds (sym these) (subst (λ (cs : List Entry). HaveIds (events_between w cs from upto)) (sym (grown_none s made none)) (ids_between s w from upto numbered))
 

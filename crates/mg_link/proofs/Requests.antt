@@ -12,7 +12,7 @@ use Rattle.mg_bson.specs.Find.{get, as_string, as_boolean, as_document}
 use Rattle.mg_link.specs.Namespace.{Space, Target, database, collection, cluster}
 use Rattle.mg_link.specs.Filter.{Condition, has_dot}
 use Rattle.mg_link.specs.State.{Start, Index}
-use Rattle.mg_link.specs.Commands.{Asked, asks_insert, asks_watch, asks_more, asks_kill, asks_other, asked_by, asked, text_of, as_database, as_collection, database_at, space_at, as_integer, documents_in, integers_in, flag_or, insert_of, filter_stages, start_of, whole_target, target_by, target_of, watch_from, watch_of, more_of, kill_of, or_asks, pipeline_query, has_only, optional_count, batch_size, pipeline_fields, stages_in, asks_create, asks_indexes, create_fields, create_of, indexing_fields, indexing_of, indexes_in, further_by, asks_query, find_fields, find_stages, find_query, find_of, query_by, pipeline_of, piped, stage_by, stage_of, watch_by, watch_stage, asks_update, asks_delete, update_fields, update_of, update_parts, update_by, delete_fields, delete_of, delete_parts, delete_by, one_at, filter_at, modification_of, many_by, count_of, begin_without_dollar, may_set, setting, asks_drop, drop_fields, drop_of, collections_fields, collections_query, listing_of, indexes_fields, indexes_query, indexes_listed, optional_size, stages_by, selecting, KeepsId}
+use Rattle.mg_link.specs.Commands.{Asked, asks_insert, asks_watch, asks_more, asks_kill, asks_other, asked_by, asked, text_of, as_database, as_collection, database_at, space_at, as_integer, documents_in, integers_in, flag_or, insert_of, filter_stages, start_of, whole_target, target_by, target_of, watch_from, watch_of, more_of, kill_of, or_asks, pipeline_query, has_only, optional_count, batch_size, pipeline_fields, stages_in, asks_create, asks_indexes, create_fields, create_of, indexing_fields, indexing_of, indexes_in, further_by, asks_query, find_fields, find_stages, find_query, find_of, query_by, pipeline_of, piped, stage_by, stage_of, watch_by, watch_stage_options, asks_update, asks_delete, update_fields, update_of, update_parts, update_by, delete_fields, delete_of, delete_parts, delete_by, one_at, filter_at, modification_of, many_by, count_of, begin_without_dollar, may_set, setting, asks_drop, drop_fields, drop_of, collections_fields, collections_query, listing_of, indexes_fields, indexes_query, indexes_listed, optional_size, stages_by, selecting, KeepsId}
 use Rattle.mg_link.specs.Rules.{Request, insert, watch, more, kill, max_name, as_name, name_at, without_dot, named_space, as_id, id_of, array_at, insert_request, watch_options, behind_first, named_database, target_at, option_names, watch_with, watch_request, watch_space, some_size, more_request, ids_in, kill_request, bad_request, unknown_command, or_code, request_of, create_collection, create_indexes, create_request, indexes_request, find, find_request, query_space, pipeline_request, or_request, aggregate_request, update, delete, update_request, delete_request, drop_collection, drop_request, list_collections_request, list_indexes_request}
 use Rattle.mg_link.specs.Query.{Query, Source, of_collection, Stage, of_database, of_indexes}
 use Rattle.mg_link.specs.Write.{Modification, sets, puts}
@@ -551,7 +551,7 @@ stage_by_none k t a h same =
     none_some : (a : List Stage) → ◌≡◌ {A = Option (List Stage)} None (Some a) → ⊥
     none_some a e = absurd cc
 
-no_watch_stage : (stage : Fields) (a : List Stage) → stage_of stage ≡ Some a → watch_stage stage ≡ None
+no_watch_stage : (stage : Fields) (a : List Stage) → stage_of stage ≡ Some a → watch_stage_options stage ≡ None
 no_watch_stage no_fields a h = refl
 no_watch_stage (field k t no_fields) a h =
     elim (cases_Bool (bytes_eq k (codes "$changeStream"))) [

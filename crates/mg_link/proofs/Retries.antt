@@ -6,7 +6,7 @@ use Rattle.mg_link.specs.State.{Start}
 use Rattle.mg_link.specs.declared.action.Step.{Step}
 use Rattle.mg_link.specs.declared.action.Step.TheVariants as step
 use Rattle.mg_link.specs.declared.error.Error.{Error}
-use Rattle.mg_link.specs.Exec.{Stage, unsent, first, second, Sending, Attempt, not_sent, waits, answered, Begins, GoesOn, Tries, is_repeated, FailsBy, Gives, holding, Runs}
+use Rattle.mg_link.specs.Exec.{Stage, unsent, first, second, Sending, Attempt, not_sent, waits, answered, Begins, GoesOn, Tries, is_repeated, AttemptFails, Gives, holding, Runs}
 use Rattle.mg_link.specs.Log.{Sight, waiting, reply, Call, see}
 use Rattle.mg_link.specs.Link.{Awaited, Told, Adds, Sees}
 use Rattle.mg_link.specs.Follow.{unopened, starting, owing, resuming, Follow, owner_of, ResumesAt, Reads, Moved}
@@ -113,7 +113,7 @@ module _ (command : List ℕ) (idle : Follow) (waiting_at : Option ℕ → Follo
   Ran new log log' f (step.Done bytes) = Answered log log' f (reply bytes)
   Ran new log log' f (step.Failed e) = Moved log log' f idle
 
-  failed_by : (new : Awaited) (log log' : Told) (f : Follow) (wire : ℤ) (e : Error) (attempt : Attempt) → FailsBy attempt wire e → Attempted new log log' f attempt → Moved log log' f idle
+  failed_by : (new : Awaited) (log log' : Told) (f : Follow) (wire : ℤ) (e : Error) (attempt : Attempt) → AttemptFails attempt wire e → Attempted new log log' f attempt → Moved log log' f idle
   failed_by new log log' f wire e not_sent fails a = a
   failed_by new log log' f wire e (waits ticket) fails a = absurd fails
   failed_by new log log' f wire e (answered seen) fails a = a.0

@@ -44,7 +44,7 @@ Reads a (judged.Waits ticket) = a ≡ exec.waits ticket
 Reads a (judged.Success bytes) = (a ≡ exec.answered (reply bytes)) × IsDocument bytes × (verdict_of (fields bytes) ≡ verdict.Success)
 Reads a (judged.Refusal r) = (a ≡ exec.answered (reply r.reply)) × IsDocument r.reply × (verdict_of (fields r.reply) ≡ verdict.Refusal)
 Reads a judged.Lost = a ≡ exec.answered fault
-Reads a (judged.Failed e) = ((wire : ℤ) → exec.FailsBy a wire e) × (exec.is_retried_attempt a ≡ false)
+Reads a (judged.Failed e) = ((wire : ℤ) → exec.AttemptFails a wire e) × (exec.is_retried_attempt a ≡ false)
 
 -- the stage of an attempt that waits, the first or the second
 abbrev pub stage_held : Bool → ℕ → exec.Stage

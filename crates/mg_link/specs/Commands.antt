@@ -78,10 +78,10 @@ insert_of fs = option_and_then (λ space. option_and_then (λ ds. option_map (as
 -- ---- the aggregate that opens a watch
 
 -- the options of a stage, where it is the one that opens a watch
-abbrev pub watch_stage : Fields → Option Fields
-watch_stage no_fields = None
-watch_stage (field k t no_fields) = if bytes_eq k (codes "$changeStream") then as_document t else None
-watch_stage (field k t (field l u fs)) = None
+abbrev pub watch_stage_options : Fields → Option Fields
+watch_stage_options no_fields = None
+watch_stage_options (field k t no_fields) = if bytes_eq k (codes "$changeStream") then as_document t else None
+watch_stage_options (field k t (field l u fs)) = None
 
 -- the conditions of the stages behind it: none, or one `$match`
 abbrev pub match_stage : Fields → Option (List Condition)
@@ -133,7 +133,7 @@ watch_by fs options stages = option_and_then (λ filter. option_and_then (λ sta
 
 abbrev pub watch_from : Fields → List Fields → Option Asked
 watch_from fs [] = None
-watch_from fs (stage ∷ stages) = option_and_then (λ options. watch_by fs options stages) (watch_stage stage)
+watch_from fs (stage ∷ stages) = option_and_then (λ options. watch_by fs options stages) (watch_stage_options stage)
 
 unfoldable pub watch_of : Fields → Option Asked
 watch_of fs = option_and_then (watch_from fs) (option_and_then documents_in (option_and_then as_array (get (codes "pipeline") fs)))

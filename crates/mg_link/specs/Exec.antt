@@ -88,19 +88,19 @@ FailsByReply None wire e = e ≡ plain kind.BsonDeserialization
 FailsByReply (Some said) wire e = FailsAs (verdict_of said) said wire e
 
 -- why an attempt failed
-abbrev pub FailsBy : Attempt → ℤ → Error → Type 0
-FailsBy not_sent wire e = e ≡ plain kind.OutOfMemory
-FailsBy (waits ticket) wire e = ⊥
-FailsBy (answered waiting) wire e = ⊥
-FailsBy (answered (reply bytes)) wire e = FailsByReply (doc bytes) wire e
-FailsBy (answered fault) wire e = e ≡ plain kind.Io
-FailsBy (answered memory) wire e = e ≡ plain kind.OutOfMemory
+abbrev pub AttemptFails : Attempt → ℤ → Error → Type 0
+AttemptFails not_sent wire e = e ≡ plain kind.OutOfMemory
+AttemptFails (waits ticket) wire e = ⊥
+AttemptFails (answered waiting) wire e = ⊥
+AttemptFails (answered (reply bytes)) wire e = FailsByReply (doc bytes) wire e
+AttemptFails (answered fault) wire e = e ≡ plain kind.Io
+AttemptFails (answered memory) wire e = e ≡ plain kind.OutOfMemory
 
 -- what a poll answers by what came of its last attempt
 abbrev pub Gives : Attempt → ℤ → (ℕ → Sending) → Step Sending (List ℕ) → Type 0
 Gives attempt wire holding (step.Pending s) = (ticket : ℕ) × (attempt ≡ waits ticket) × (s ≡ holding ticket)
 Gives attempt wire holding (step.Done bytes) = (attempt ≡ answered (reply bytes)) × IsSuccess bytes
-Gives attempt wire holding (step.Failed e) = FailsBy attempt wire e
+Gives attempt wire holding (step.Failed e) = AttemptFails attempt wire e
 
 -- the stage of an attempt that waits still, or waits now
 abbrev pub holding : Stage → ℕ → Stage

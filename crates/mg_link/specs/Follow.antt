@@ -3,7 +3,7 @@ use Rattle.std.specs.Prelude.{◌≡◌, ◌≢◌, ◌≤◌, ◌⊎◌, ℕ, �
 use Rattle.mg_bson.specs.Tree.{Tree, Fields}
 use Rattle.mg_bson.specs.Raw.{fields}
 use Rattle.mg_link.specs.Namespace.{Space}
-use Rattle.mg_link.specs.State.{State, Watch, Cursor, watching, Start, nowhere, after, at_time, count_before, events_between}
+use Rattle.mg_link.specs.State.{State, Watch, Cursor, watching, Start, nowhere, after, at_time, count_before, events_between, IsBatchBetween}
 use Rattle.mg_link.specs.Commands.{Batch, batch_of, asks_watch, asks_more, Told, refuses, inserted, opened, gave, killed, garbled, asked, updated, deleted, done}
 use Rattle.mg_link.specs.Step.{IsNamed}
 use Rattle.mg_link.specs.History.{Step, IsLegal, state_of, told_at, opening, Answers, Reached}
@@ -114,7 +114,7 @@ pub record Brings (s : State) (w : Watch) (place : ℕ) (id : ℤ) (events : Lis
   pub upto : ℕ
   pub forward : place ≤ upto
   pub within : upto ≤ length s.changes
-  pub these : events ≡ events_between w s.changes place upto
+  pub these : IsBatchBetween w s.changes place upto events
   pub named : IsNamed s token upto
   pub stands : CursorAt s w id upto
 

@@ -55,11 +55,13 @@ abbrev pub view_of : List Step → Watch → ℕ → List Fields
 view_of history w from = events_between w (state_of history).changes from (length (state_of history).changes)
 
 -- the events are, in order, the first of the view from the opening place on
+-- (change streams: a stream gives the changes in the order in which they were made)
 pub record Answers (s : State) (w : Watch) (from : ℕ) (events : List Fields) : Type 0 where
   pub rest : List Fields
   pub these : events_between w s.changes from (length s.changes) ≡ events ++ rest
 
 -- the token names a place not before the opening place, and the events are just the view from there up to it
+-- (change streams: a stream that resumes with a token goes on with the change behind it)
 pub record Reached (s : State) (w : Watch) (from : ℕ) (events : List Fields) (token : Tree) : Type 0 where
   pub place : ℕ
   pub forward : from ≤ place

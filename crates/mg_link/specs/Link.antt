@@ -97,11 +97,11 @@ StartsAtOnce (Ok number) = Unit {0}
 StartsAtOnce (Err error.Fault) = ⊥
 StartsAtOnce (Err error.Memory) = Unit {0}
 
-abbrev pub AnswersAtOnce : Polled → Type 0
-AnswersAtOnce (polled.Pending given) = ⊥
-AnswersAtOnce (polled.Reply bytes) = Unit {0}
-AnswersAtOnce polled.Failed = ⊥
-AnswersAtOnce polled.Memory = Unit {0}
+abbrev pub ComesAtOnce : Polled → Type 0
+ComesAtOnce (polled.Pending given) = ⊥
+ComesAtOnce (polled.Reply bytes) = Unit {0}
+ComesAtOnce polled.Failed = ⊥
+ComesAtOnce polled.Memory = Unit {0}
 
 -- a link that is prompt stays so, and neither of its counts rises
 pub record StaysPrompt (prompts' : Type 0) (faulted faulted' pended pended' : ℕ) : Type 0 where

@@ -29,7 +29,7 @@ pub record HoldsNothingBack (size : Option ℕ) (id : ℤ) (given left : List Fi
   pub ends : left ≡ [] → id ≡ pos 0
 
 -- The first batch of a watch may be empty, and later ones not while an entry is left. Nothing is refused but a create of a collection that is there,
--- and a write fails only as the store's rules have it.
+-- and a write fails only as the store's rules have it. This is our own: no public standard says when a server holds nothing back.
 abbrev pub AnswersAtOnce : State → State → Asked → Told → Type 0
 AnswersAtOnce s s' (asks_create space) (refuses code labels) = code ≡ collection_exists
 AnswersAtOnce s s' command (refuses code labels) = ⊥

@@ -3,10 +3,10 @@ use Rattle.std.specs.Prelude.{◌≡◌, ℤ, pos, true, false, Some, None, Resu
 use Rattle.mg_bson.specs.Tree.{Tree, document, array, int32, int64, timestamp, Fields, Items, no_items}
 use Rattle.mg_bson.specs.Literal.{◌⇒◌⨾◌, ◌⨟◌, empty, word}
 use Rattle.mg_link.specs.Namespace.{Space}
-use Rattle.mg_link.specs.State.{Change, updates, replaces, deletes, drops, invalidates, Entry, Index, State, nothing, time_of}
+use Rattle.mg_link.specs.State.{Change, inserts, updates, replaces, deletes, drops, invalidates, Entry, Index, State, nothing, time_of}
 use Rattle.mg_link.specs.Query.{Query, Stage, of_collection, of_database, of_indexes, skips, sorts, limits, hides_id}
 use Rattle.mg_link.specs.Write.{sets, puts, with_indexes}
-use Rattle.mg_link.specs.Rules.{Answer, answer_create, answer_delete, answer_drop, answer_indexes, answer_query, answer_update, query_more_reply}
+use Rattle.mg_link.specs.Rules.{Answer, answer_create, answer_delete, answer_drop, answer_indexes, answer_insert, answer_query, answer_update, query_more_reply}
 use Rattle.mg_link.specs.Example.{app_c, entry_1, entry_2, id_0, id_1, x_1, x_2}
 
 -- a server with the two documents of the first script and an index
@@ -59,6 +59,17 @@ deleted_first = third deletes ("_id" ⇒ token_3 ⨾ "operationType" ⇒ word "d
 abbrev pub deleted_second : Entry
 deleted_second = fourth deletes ("_id" ⇒ token_4 ⨾ "operationType" ⇒ word "delete" ⨾ "clusterTime" ⇒ timestamp 4 1 ⨾ "ns" ⇒ names ⨾ "documentKey" ⇒ document ("_id" ⇒ id_1 ⨾ empty) ⨾ empty)
 
+-- a document with another id, and one without any
+abbrev pub x_7 : Fields
+x_7 = "_id" ⇒ int32 (pos 7) ⨾ empty
+
+abbrev pub of_no_id : Fields
+of_no_id = "x" ⇒ int32 (pos 1) ⨾ empty
+
+abbrev pub inserted_third : Entry
+inserted_third = third inserts ("_id" ⇒ token_3 ⨾ "operationType" ⇒ word "insert" ⨾ "clusterTime" ⇒ timestamp 3 1 ⨾ "ns" ⇒ names ⨾ "documentKey" ⇒ document ("_id" ⇒ int32 (pos 7) ⨾ empty)
+    ⨾ "fullDocument" ⇒ document x_7 ⨾ empty)
+
 abbrev pub dropped : Entry
 dropped = third drops ("_id" ⇒ token_3 ⨾ "operationType" ⇒ word "drop" ⨾ "clusterTime" ⇒ timestamp 3 1 ⨾ "ns" ⇒ names ⨾ empty)
 
@@ -79,6 +90,13 @@ n_changed n changed = "n" ⇒ int32 n ⨾ "nModified" ⇒ int32 changed ⨾ done
 abbrev pub n_only : ℤ → Fields
 n_only n = "n" ⇒ int32 n ⨾ done_1
 
+-- so many documents were inserted, and these are the write errors
+abbrev pub n_but : ℤ → Items → Fields
+n_but n errors = "n" ⇒ int32 n ⨾ "writeErrors" ⇒ array errors ⨾ done_1
+
+abbrev pub refused_at : ℤ → ℤ → Tree
+refused_at index code = document ("index" ⇒ int32 index ⨾ "code" ⇒ int32 code ⨾ "errmsg" ⇒ word "refused" ⨾ empty)
+
 abbrev pub batch_of_c : ℤ → Items → Fields
 batch_of_c id items = "cursor" ⇒ document ("id" ⇒ int64 id ⨾ "ns" ⇒ word "app.c" ⨾ "firstBatch" ⇒ array items ⨾ empty) ⨾ done_1
 
@@ -91,6 +109,15 @@ finds stages = record { source = of_collection app_c; stages = stages; single = 
 
 abbrev pub falling_x : Stage
 falling_x = sorts (record { name = codes "x"; rising = false } ∷ [])
+
+pub record AreInserts : Type 0 where
+  -- an id that is there stops an insert that is ordered
+  pub stopped : answer_insert two_there app_c (x_1 ∷ x_7 ∷ []) true ≡ record { reply = n_but (pos 0) (refused_at (pos 0) (pos 11000) ⨟ no_items); entries = [] }
+  -- one that is not goes on behind it, and behind a document without an id
+  pub went_on : answer_insert two_there app_c (x_1 ∷ of_no_id ∷ x_7 ∷ []) false
+      ≡ record { reply = n_but (pos 1) (refused_at (pos 0) (pos 11000) ⨟ refused_at (pos 1) (pos 9) ⨟ no_items); entries = inserted_third ∷ [] }
+  -- an id that the same insert brings is there too
+  pub twice_in_one : answer_insert two_there app_c (x_7 ∷ x_7 ∷ []) true ≡ record { reply = n_but (pos 1) (refused_at (pos 1) (pos 11000) ⨟ no_items); entries = inserted_third ∷ [] }
 
 pub record AreWrites : Type 0 where
   -- of two documents the update leaves one equal

@@ -15,18 +15,20 @@ use Rattle.mg_link.specs.Filter.{Condition, is_same, has_dot}
 use Rattle.mg_link.specs.State.{inserts, deletes, drops, invalidates, Change, Entry, Watch, Cursor, query, watching, State, Index, Start, nowhere, after, at_time, is_space, sees, seen_between, events_between, count_before, time_of, is_invalidate, collection_in, indexes_of}
 use Rattle.mg_link.specs.Query.{Query, Source, of_collection, of_database, of_indexes, id_alone, index_listed, read, through}
 use Rattle.mg_link.specs.Write.{Modification, sets, puts, modified, with_fields, change_of, chosen, changing, with_indexes}
-use Rattle.mg_link.specs.Commands.{as_integer, documents_in, flag_or, filter_stages, watch_stage, has_only, optional_count, batch_size, start_of, target_by, pipeline_fields, stages_in, create_fields, indexing_fields, indexes_in, find_fields, find_query, piped, update_fields, one_at, update_by, delete_fields, delete_by, drop_fields, collections_fields, listing_of, indexes_fields, indexes_listed}
+use Rattle.mg_link.specs.Commands.{as_integer, documents_in, flag_or, filter_stages, watch_stage_options, has_only, optional_count, batch_size, start_of, target_by, pipeline_fields, stages_in, create_fields, indexing_fields, indexes_in, find_fields, find_query, piped, update_fields, one_at, update_by, delete_fields, delete_by, drop_fields, collections_fields, listing_of, indexes_fields, indexes_listed}
 use Rattle.mg_link.specs.Step.{documents_of}
 
 -- ---- limits
 
+-- the bytes of the name of a database or of a collection, which is our own: servers allow fewer
 abbrev pub max_name : ℕ
 max_name = 65536
 
+-- limits: a BSON document has at most 16 mebibytes
 abbrev pub max_document : ℕ
 max_document = 16777216
 
--- as many levels as fit the event in a reply
+-- as many levels as fit the event in a reply (limits: a BSON document has at most 100 levels of nesting)
 abbrev pub max_stored_levels : ℕ
 max_stored_levels = 96
 
@@ -34,35 +36,45 @@ max_stored_levels = 96
 abbrev pub max_given_levels : ℕ
 max_given_levels = 97
 
+-- cursors: a batch has at most 16 mebibytes
 abbrev pub max_batch : ℕ
 max_batch = 16777216
 
+-- our own, with room for what stands around it in a message (hello command: `maxMessageSizeBytes` is 48,000,000)
 abbrev pub max_reply : ℕ
 max_reply = 47000000
 
+-- find command: the first batch has 101 documents where no size is given; later ones have here, too
 abbrev pub default_batch : ℕ
 default_batch = 101
 
--- ---- codes of refusals
+-- ---- codes of refusals, each by its name in the list of error codes
 
+-- CommandNotFound
 abbrev pub unknown_command : ℤ
 unknown_command = pos 59
 
+-- FailedToParse
 abbrev pub bad_request : ℤ
 bad_request = pos 9
 
+-- CursorNotFound
 abbrev pub no_such_cursor : ℤ
 no_such_cursor = pos 43
 
+-- InvalidResumeToken
 abbrev pub no_such_token : ℤ
 no_such_token = pos 260
 
+-- DuplicateKey
 abbrev pub duplicate_id : ℤ
 duplicate_id = pos 11000
 
+-- NamespaceNotFound
 abbrev pub no_such_collection : ℤ
 no_such_collection = pos 26
 
+-- NamespaceExists
 abbrev pub collection_exists : ℤ
 collection_exists = pos 48
 
@@ -115,7 +127,7 @@ find_request fs = if has_only find_fields fs then (named_space (codes "find") fs
 -- the options of the stage that opens a watch
 abbrev pub watch_options : List Fields → Option Fields
 watch_options [] = None
-watch_options (stage ∷ stages) = watch_stage stage
+watch_options (stage ∷ stages) = watch_stage_options stage
 
 abbrev pub behind_first : List Fields → List Fields
 behind_first [] = []
@@ -521,18 +533,22 @@ id_unless ended id = if ended then pos 0 else id
 abbrev pub ends_watch : Watch → List Entry → ℕ → ℕ → Bool
 ends_watch w changes from place = has_invalidate (seen_between w changes from place)
 
+-- the events of the rules' batch between two places: just those that `IsBatchBetween` asks for
+abbrev pub batch_events : Watch → List Entry → ℕ → ℕ → List Fields
+batch_events w changes from place = events_between w changes from place
+
 abbrev pub batch_id : ℤ → Watch → List Entry → ℕ → ℕ → ℤ
 batch_id id w changes from place = id_unless (ends_watch w changes from place) id
 
 abbrev pub watch_reply : State → ℤ → Watch → ℕ → ℕ → Fields
 watch_reply s id w from size =
     let place = batch_place w s.changes from size in
-    "cursor" ⇒ document (cursor_fields (batch_id id w s.changes from place) (watch_space w.target) (first_batch (events_between w s.changes from place) place)) ⨾ "operationTime" ⇒ stamp_of (length s.changes) ⨾ "ok" ⇒ int32 (pos 1) ⨾ empty
+    "cursor" ⇒ document (cursor_fields (batch_id id w s.changes from place) (watch_space w.target) (first_batch (batch_events w s.changes from place) place)) ⨾ "operationTime" ⇒ stamp_of (length s.changes) ⨾ "ok" ⇒ int32 (pos 1) ⨾ empty
 
 abbrev pub more_reply : State → ℤ → Space → Watch → ℕ → ℕ → Fields
 more_reply s id space w from size =
     let place = batch_place w s.changes from size in
-    "cursor" ⇒ document (cursor_fields (batch_id id w s.changes from place) space (next_batch (events_between w s.changes from place) place)) ⨾ "ok" ⇒ int32 (pos 1) ⨾ empty
+    "cursor" ⇒ document (cursor_fields (batch_id id w s.changes from place) space (next_batch (batch_events w s.changes from place) place)) ⨾ "ok" ⇒ int32 (pos 1) ⨾ empty
 
 abbrev pub is_watch_of : Space → Watch → Bool
 is_watch_of space w = is_space space (watch_space w.target)

@@ -52,6 +52,7 @@ SeenFits (reply bytes) given = bytes ≡ given
 SeenFits fault given = Unit {0}
 SeenFits memory given = Unit {0}
 
+-- a log stands in a history; this is our own, and no public standard has it
 pub record Stands (calls : List Call) (history : List Step) : Type 0 where
   -- the positions rise
   pub rising : (i j : ℕ) (a b : Call) (p q : ℕ) → i < j → slice_get calls i ≡ Some a → slice_get calls j ≡ Some b → a.position ≡ Some p → b.position ≡ Some q → p < q

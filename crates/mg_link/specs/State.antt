@@ -1,5 +1,5 @@
 -- What a server holds (change streams, find, getMore and killCursors specifications).
-use Rattle.std.specs.Prelude.{ℕ, suc, ◌+◌, ◌-◌, ◌*◌, ◌^◌, ◌&&◌, ℤ, Bool, true, false, Option, Some, None, option_map, unwrap_or, List, [], ◌∷◌, length, take, drop, map, nat_lt, if◌then◌else◌}
+use Rattle.std.specs.Prelude.{◌≡◌, ℕ, suc, ◌+◌, ◌-◌, ◌*◌, ◌^◌, ◌&&◌, ℤ, Bool, true, false, Option, Some, None, option_map, unwrap_or, List, [], ◌∷◌, length, take, drop, map, nat_lt, if◌then◌else◌}
 use Rattle.std.specs.declared.cmp.Ordering.{Ordering}
 use Rattle.std.specs.List.{filter}
 use Rattle.std.specs.List.Sorted.{IsStrictlySortedBy}
@@ -23,7 +23,7 @@ pub data Change : Type 0 where
 abbrev pub time_of : ℕ → ℕ → ℕ
 time_of seconds increment = seconds * 2 ^ 32 + increment
 
--- an entry of the list of changes; its event has the token as its `_id`
+-- an entry of the list of changes; its event has the token as its `_id` (change events: the `_id` identifies the event, and is its resume token)
 pub record Entry : Type 0 where
   pub token : Tree
   pub time : ℕ
@@ -37,6 +37,7 @@ pub record Watch : Type 0 where
   pub filter : List Condition
 
 -- an open cursor: the documents that are left of a query and the namespace that it is of, or a watch and its place in the list of changes
+-- (cursors: a cursor points to the result of a query)
 pub data Cursor : Type 0 where
   query : (space : Space) → (left : List Fields) → Cursor
   watching : (watch : Watch) → (place : ℕ) → Cursor
@@ -160,6 +161,11 @@ seen_between w changes from upto = filter (sees w) (between changes from upto)
 -- their events
 abbrev pub events_between : Watch → List Entry → ℕ → ℕ → List Fields
 events_between w changes from upto = map (λ (e : Entry). e.event) (seen_between w changes from upto)
+
+-- a batch from one place up to another gives these events: each that the watch is to see in between, whole, in their order
+-- (change streams: the events come in the order of the changes, those of a batch up to its `postBatchResumeToken`)
+abbrev pub IsBatchBetween : Watch → List Entry → (from upto : ℕ) → List Fields → Type 0
+IsBatchBetween w changes from upto events = events ≡ events_between w changes from upto
 
 -- where a watch begins
 pub data Start : Type 0 where

@@ -5,7 +5,7 @@ use Rattle.mg_bson.specs.Tree.{Tree, Fields}
 use Rattle.mg_bson.specs.Find.{get}
 use Rattle.mg_link.specs.Namespace.{Space}
 use Rattle.mg_link.specs.Filter.{is_same, Condition}
-use Rattle.mg_link.specs.State.{inserts, Entry, Watch, Cursor, watching, State, Start, seen_between, events_between, start_place, is_invalidate, documents_at, collections_with, put_cursor, without_cursors, give, name, Change, deletes, drops, invalidates, Collection, query, collection_in, put_collection, without_collection, change_documents, indexes_of}
+use Rattle.mg_link.specs.State.{inserts, Entry, Watch, Cursor, watching, State, Start, seen_between, IsBatchBetween, start_place, is_invalidate, documents_at, collections_with, put_cursor, without_cursors, give, name, Change, deletes, drops, invalidates, Collection, query, collection_in, put_collection, without_collection, change_documents, indexes_of}
 use Rattle.mg_link.specs.Commands.{Asked, asks_insert, asks_watch, asks_more, asks_kill, Failure, Told, refuses, inserted, opened, gave, killed, asks_update, asks_delete, asks_query, asks_create, asks_indexes, asks_drop, updated, deleted, done}
 use Rattle.mg_link.specs.Query.{Query, result}
 use Rattle.mg_link.specs.Write.{Modification, change_of, chosen, changing, after_update, after_delete, with_indexes}
@@ -63,7 +63,7 @@ watching_at s w token = watching w (unwrap_or (option_and_then s.tokens token) 0
 abbrev pub queried_at : State → Query → Space → List Fields → Cursor
 queried_at s q space given = query space (drop (length given) (unwrap_or (result s q) []))
 
--- a reply with id 0 leaves the server without the cursor
+-- a reply with id 0 leaves the server without the cursor (find and getMore commands: an id of 0 says that the server holds no cursor)
 abbrev pub opened_cursor : State → ℤ → Cursor → State
 opened_cursor s id c = if int_eq id (pos 0) then s else record s { cursors = put_cursor id (Some c) s.cursors; given = give id s.given }
 
@@ -121,6 +121,7 @@ AreWithin from upto [] = Unit {0}
 AreWithin from upto (e ∷ es) = (from ≤ e.time) × (e.time ≤ upto) × AreWithin from upto es
 
 -- what a step adds is new, and the time does not fall
+-- (change events: `clusterTime` is the time of the oplog entry, and each resume token identifies one event)
 pub record MayGrow (s : State) (made : Made) : Type 0 where
   pub later : s.now ≤ made.now
   pub times : AreWithin s.now made.now made.entries
@@ -130,7 +131,8 @@ pub record MayGrow (s : State) (made : Made) : Type 0 where
 abbrev pub AddsNoEntry : Made → Type 0
 AddsNoEntry made = made.entries ≡ []
 
--- a refusal changes nothing but tokens
+-- a refusal adds nothing but tokens, which is our own
+-- (command replies: where a command fails `ok` is 0, beside `code`, `codeName`, `errmsg` and, where there are any, `errorLabels`)
 pub record MayRefuse (s : State) (made : Made) : Type 0 where
   pub no_entry : AddsNoEntry made
   pub same_time : made.now ≡ s.now
@@ -164,22 +166,24 @@ pub record MayInsert (s : State) (space : Space) (documents : List Fields) (orde
   pub ids : HaveNewIds (documents_of s space) (written ordered failures 0 documents)
   pub entries : AreEventsOf space inserts (written ordered failures 0 documents) made.entries
 
--- an update or a delete that lists a write error did nothing
+-- an update or a delete that lists a write error did nothing, which is our own: a server that did a part has no legal history here
 pub record DidNothing (n : ℤ) (made : Made) : Type 0 where
   pub count : n ≡ pos 0
   pub no_entry : AddsNoEntry made
 
 -- one that lists none changed all that it was for
+-- (update command: `n` documents were selected and `nModified` changed; the latter are fewer where one is left as it was)
 pub record MayUpdate (s : State) (space : Space) (conditions : List Condition) (m : Modification) (many : Bool) (n changed : ℤ) (made : Made) : Type 0 where
   pub count : n ≡ pos (length (chosen conditions many (documents_of s space)))
   pub changed_is : changed ≡ pos (length (changing conditions many m (documents_of s space)))
   pub entries : AreEventsOf space (change_of m) (changing conditions many m (documents_of s space)) made.entries
 
+-- the same of a delete (delete command: `n` documents were deleted)
 pub record MayDelete (s : State) (space : Space) (conditions : List Condition) (many : Bool) (n : ℤ) (made : Made) : Type 0 where
   pub count : n ≡ pos (length (chosen conditions many (documents_of s space)))
   pub entries : AreEventsOf space deletes (chosen conditions many (documents_of s space)) made.entries
 
--- a collection is created where none of the name is there
+-- a collection is created where none of the name is there (create command: NamespaceExists where one is)
 pub record MayCreate (s : State) (space : Space) (made : Made) : Type 0 where
   pub no_entry : AddsNoEntry made
   pub is_new : collection_in s.collections space ≡ None
@@ -203,7 +207,7 @@ pub record DropsNothing (s : State) (space : Space) (made : Made) : Type 0 where
 abbrev pub MayEnd : Query → List Fields → List Fields → Type 0
 MayEnd q given left = (left ≡ []) ⊎ ((q.single ≡ true) × ((given ≢ []) ⊎ (q.size ≡ Some 0)))
 
--- the first batch of a query: its result begins with it
+-- the first batch of a query: its result begins with it (find command: it is `firstBatch`, and `singleBatch` closes the cursor behind it)
 pub record MayFind (s s' : State) (q : Query) (id : ℤ) (given : List Fields) (made : Made) : Type 0 where
   pub no_entry : AddsNoEntry made
   pub left : List Fields
@@ -230,11 +234,12 @@ pub record MayGive (s : State) (w : Watch) (from : ℕ) (id : ℤ) (events : Lis
   pub upto : ℕ
   pub forward : from ≤ upto
   pub within : upto ≤ length s.changes
-  pub these : events ≡ events_between w s.changes from upto
+  pub these : IsBatchBetween w s.changes from upto events
   pub named : IsNamed s token upto
   pub ends : EndsAtInvalidate (seen_between w s.changes from upto) id
 
 -- a new watch: s is the state before the step, and after it the tokens and the time of s' hold
+-- (command replies: `operationTime` is the time of the operation; change streams: `startAtOperationTime` begins at such a time)
 pub record MayOpen (s s' : State) (w : Watch) (start : Start) (id : ℤ) (events : List Fields) (token : Option Tree) (time : Option ℕ) (made : Made) : Type 0 where
   pub no_entry : AddsNoEntry made
   pub from : ℕ
@@ -243,7 +248,7 @@ pub record MayOpen (s s' : State) (w : Watch) (start : Start) (id : ℤ) (events
   pub fresh : id ≢ pos 0 → s.given id ≡ false
   pub time_is : time ≡ Some s'.now
 
--- a watch goes on
+-- a watch goes on (getMore command: `nextBatch` follows what was given; the id is the cursor's, or 0 where it is closed)
 pub record MayGoOn (s s' : State) (id left : ℤ) (events : List Fields) (token : Option Tree) (made : Made) : Type 0 where
   pub no_entry : AddsNoEntry made
   pub watch : Watch

@@ -20,7 +20,7 @@ ghost use Rattle.mg_link.specs.NineBytes.{bucket, holds_file, nine_bytes, seven}
 ghost use Rattle.mg_link.specs.Owner.{AreApart, NamesItsOwn, Onward, Owner, Passes};
 ghost use Rattle.mg_link.specs.Query.{Key, sorted};
 ghost use Rattle.mg_link.specs.Rules.{IsFull, answer_of, batch_of_query, batch_place, refusal};
-ghost use Rattle.mg_link.specs.RuleRows.{AreCollections, AreQueries, AreWrites};
+ghost use Rattle.mg_link.specs.RuleRows.{AreCollections, AreInserts, AreQueries, AreWrites};
 ghost use Rattle.mg_link.specs.Sorting.{SortsTo};
 ghost use Rattle.mg_link.specs.Standing.{IsSelfMade, Stands, history_before};
 ghost use Rattle.mg_link.specs.State.{Entry, Start, State, Watch, after, deletes, events_between, updates};
@@ -182,6 +182,7 @@ pub fn sorted_by_keys()
 
 /// What the store's rules answer to updates, deletes, creates, indexes, drops and queries over two documents, as written out.
 pub fn rules_by_rows()
+    ensures inserts { AreInserts }
     ensures writes { AreWrites }
     ensures collections { AreCollections }
     ensures queries { AreQueries }

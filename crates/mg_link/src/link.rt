@@ -2,7 +2,7 @@
 ghost use Rattle.std.specs.Prelude.{◌≡◌, ℕ, ℤ, Option, List, IsErrOf, IsSome};
 ghost use Rattle.mg_link.specs.Causes.{Rose};
 ghost use Rattle.mg_link.specs.Log.{Call};
-ghost use Rattle.mg_link.specs.Link.{AnswersAtOnce, Later, PollMeans, PollPends, SamePolls, StartMeans, StartsAtOnce};
+ghost use Rattle.mg_link.specs.Link.{ComesAtOnce, Later, PollMeans, PollPends, SamePolls, StartMeans, StartsAtOnce};
 
 use mg_bson::RawDocument;
 use std::marker::Model;
@@ -100,7 +100,7 @@ pub trait Link {
         requires { IsSome (awaited self.old ticket) }
         ensures polls { PollMeans (awaited self.old) (awaited self.new) (log self.old) (log self.new) ticket result }
         ensures fault { result ≡ Polled.Failed → Rose (faults self.old) (faults self.new) }
-        ensures prompt { prompt self.old → AnswersAtOnce result }
+        ensures prompt { prompt self.old → ComesAtOnce result }
         ensures pended { PollPends result (awaited self.old ticket) (pends self.old) (pends self.new) (polls self.old) (polls self.new) }
         ensures later { Later (faults self.old) (faults self.new) (pends self.old) (pends self.new)
             (wire self.old) (wire self.new) (prompt self.old) (prompt self.new) };

@@ -12,7 +12,7 @@ use Rattle.mg_link.specs.Filter.{Condition, conditions_of}
 use Rattle.mg_link.specs.Query.{Stage, of_collection, of_database, of_indexes, selects}
 use Rattle.mg_link.specs.Session.{Session}
 use Rattle.mg_link.specs.Write.{Modification}
-use Rattle.mg_link.specs.Commands.{Asked, as_database, asked, asked_by, asks_create, asks_delete, asks_drop, asks_indexes, asks_query, asks_update, collections_fields, collections_query, create_fields, create_of, delete_fields, delete_of, drop_fields, drop_of, find_fields, find_of, has_only, indexes_fields, indexes_query, indexing_fields, indexing_of, modification_of, batch_size, or_asks, pipeline_fields, pipeline_of, pipeline_query, space_at, stage_by, stage_of, update_fields, update_of, watch_by, watch_from, watch_of, watch_stage}
+use Rattle.mg_link.specs.Commands.{Asked, as_database, asked, asked_by, asks_create, asks_delete, asks_drop, asks_indexes, asks_query, asks_update, collections_fields, collections_query, create_fields, create_of, delete_fields, delete_of, drop_fields, drop_of, find_fields, find_of, has_only, indexes_fields, indexes_query, indexing_fields, indexing_of, modification_of, batch_size, or_asks, pipeline_fields, pipeline_of, pipeline_query, space_at, stage_by, stage_of, update_fields, update_of, watch_by, watch_from, watch_of, watch_stage_options}
 use Rattle.mg_link.specs.declared.concern.WriteConcern.{WriteConcern}
 use Rattle.mg_options.specs.Fields.{Line, absent, fields_in, ◌⟼◌⨾◌, nothing}
 use Rattle.mg_options.specs.Shown.{concern_lines, write_concern}
@@ -143,7 +143,7 @@ not_watch : (b : Bool) (k : List ℕ) (t : Tree) (a : List Stage) → bytes_eq k
 not_watch false k t a e h = refl
 not_watch true k t a e h = let none : stage_by k t ≡ None = stage_none k t ((bytes_eq-Decides k (codes "$changeStream")).0 e) in absurd cc
 
-no_watch_stage : (stage : Fields) (a : List Stage) → stage_of stage ≡ Some a → watch_stage stage ≡ None
+no_watch_stage : (stage : Fields) (a : List Stage) → stage_of stage ≡ Some a → watch_stage_options stage ≡ None
 no_watch_stage no_fields a h = refl
 no_watch_stage (field k t no_fields) a h = not_watch (bytes_eq k (codes "$changeStream")) k t a refl h
 no_watch_stage (field k t (field l u fs)) a h = refl

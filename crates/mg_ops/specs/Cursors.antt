@@ -90,7 +90,7 @@ abbrev pub time_parts : Timestamp → ℕ × ℕ
 time_parts t = (t.time, t.increment)
 
 -- and its time
-pub record OpensAt (size wait : Option ℕ) (comment : Option Bson) (reply : List ℕ) (out : CursorSpecification × Option Timestamp) : Type 0 where
+pub record OpensWithTime (size wait : Option ℕ) (comment : Option Bson) (reply : List ℕ) (out : CursorSpecification × Option Timestamp) : Type 0 where
   pub opens : OpensWith size wait comment reply out.0
   pub time : option_map time_parts out.1 ≡ operation_time (fields reply)
 

@@ -116,7 +116,7 @@ impl Operation for ChangeStreamAggregate {
     ghost use Rattle.mg_link.specs.Namespace.{target};
     ghost use Rattle.mg_options.specs.Fields.{fields_in};
     ghost use Rattle.mg_ops.specs.Bodies.{watch_body};
-    ghost use Rattle.mg_ops.specs.Cursors.{BreaksIn, OpensAt};
+    ghost use Rattle.mg_ops.specs.Cursors.{BreaksIn, OpensWithTime};
     ghost use Rattle.mg_ops.specs.Failing.{HasBadSize};
     ghost use Rattle.mg_ops.specs.Limits.{SizeFits};
     ghost use Rattle.mg_ops.specs.Resuming.{options_for};
@@ -130,7 +130,7 @@ impl Operation for ChangeStreamAggregate {
 
     ghost retried = { λ o. read_retry };
 
-    ghost gives = { λ o. OpensAt o.args.options.batch_size o.args.options.max_await_time o.args.options.comment };
+    ghost gives = { λ o. OpensWithTime o.args.options.batch_size o.args.options.max_await_time o.args.options.comment };
 
     ghost fails = { λ o. BreaksIn };
 

@@ -2,7 +2,12 @@ use Rattle.std.proofs.Common.{refl}
 use Rattle.std.specs.Fmt.{digits}
 use Rattle.mg_bson.specs.Bytes.{le32, le64}
 use Rattle.hex.specs.Hex.{encode_with}
+use Rattle.mg_link.specs.Rules.{inserting}
 use Rattle.mg_link.proofs.laws.rules_by_rows.Goals as goal
+
+pub returns-clause-inserts : goal.returns-clause-inserts
+unfolding le32 le64 encode_with digits inserting
+returns-clause-inserts c = record { stopped = refl; went_on = refl; twice_in_one = refl }
 
 pub returns-clause-writes : goal.returns-clause-writes
 unfolding le32 le64 encode_with digits
