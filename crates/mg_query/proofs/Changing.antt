@@ -18,10 +18,10 @@ use Rattle.mg_bson.specs.Tree.{Fields}
 use Rattle.mg_bson.specs.Raw.{fields}
 use Rattle.mg_query.specs.Collecting.{AreDistinct, exchange_document, without_document}
 use Rattle.mg_query.specs.Grouping.{AreGrouped}
-use Rattle.mg_query.specs.Numbering.{IsKeyed, IsNumbered, KeepsIds, holds_id, is_number, is_of_id, number_in, stored, vec_cmp}
+use Rattle.mg_query.specs.Numbering.{IsExact, IsKeyed, IsNumbered, KeepsIds, holds_id, is_number, is_of_id, number_in, stored, vec_cmp}
 use Rattle.mg_query.specs.declared.collection.Collection.{Collection}
 use Rattle.mg_query.proofs.Ids.{of_id_then, of_key}
-use Rattle.mg_query.proofs.Numbers.{Entry, at_is, fields_of, none_holds}
+use Rattle.mg_query.proofs.Numbers.{Entry, HoldExact, at_is, fields_of, none_holds}
 
 -- ---- documents of another id
 
@@ -118,6 +118,14 @@ changed_numbered k l n o w (e ∷ es) keyed h g =
       | inr other ↦ subst (λ (b : Bool). IsNumbered l o (cond b ((e.0, w) ∷ es) (e ∷ set_value (is_at (nat_cmp n)) es w))) (sym other) (g.0, changed_numbered k l n o w es keyed h.1 g.1)
     ]
 
+exact_at : (b : Bool) (w : List ℕ) (e : Entry) (es rest : List Entry) → IsExact w → HoldExact (e ∷ es) → HoldExact rest → HoldExact (cond b ((e.0, w) ∷ es) (e ∷ rest))
+exact_at true w e es rest exact h g = (exact, h.1)
+exact_at false w e es rest exact h g = (h.0, g)
+
+changed_exact : (n : ℕ) (w : List ℕ) (es : List Entry) → IsExact w → HoldExact es → HoldExact (set_value (is_at (nat_cmp n)) es w)
+changed_exact n w [] exact h = tt
+changed_exact n w (e ∷ es) exact h = exact_at (is_eq (nat_cmp n e.0)) w e es (set_value (is_at (nat_cmp n)) es w) exact h (changed_exact n w es exact h.1)
+
 pub numbered_at : (c : Collection) (k : Vec ℕ Global) (n : ℕ) → KeepsIds c → number_in c.ids k.items ≡ Some n → IsNumbered k.items (Some n) c.documents.entries
 numbered_at c k n h e = subst (λ (o : Option ℕ). IsNumbered k.items o c.documents.entries) e (h.numbered k)
 
@@ -125,8 +133,8 @@ pub change_stored : (c w : Collection) (k : Vec ℕ Global) (n : ℕ) (v : List 
 change_stored c w k n v h at docs = ap fields_of docs ∙ changed_fields k.items n v c.documents.entries h.sorted (numbered_at c k n h at)
 
 pub change_keeps : (c w : Collection) (k : Vec ℕ Global) (n : ℕ) (v : List ℕ) → KeepsIds c → number_in c.ids k.items ≡ Some n → w.documents.entries ≡ set_value (is_at (nat_cmp n)) c.documents.entries v
-    → w.ids ≡ c.ids → w.next ≡ c.next → IsKeyed k.items (fields v) → IsOrdered nat_cmp w.documents → AreGrouped w.groups w.documents.entries → KeepsIds w
-change_keeps c w k n v h at docs ids next keyed sorted grouped =
+    → w.ids ≡ c.ids → w.next ≡ c.next → IsKeyed k.items (fields v) → IsExact v → IsOrdered nat_cmp w.documents → AreGrouped w.groups w.documents.entries → KeepsIds w
+change_keeps c w k n v h at docs ids next keyed exact sorted grouped =
     record {
       numbered = λ l. subst (λ m. IsNumbered l.items (number_in m l.items) w.documents.entries) (sym ids)
           (subst (IsNumbered l.items (number_in c.ids l.items)) (sym docs) (changed_numbered k.items l.items n (number_in c.ids l.items) v c.documents.entries keyed (numbered_at c k n h at) (h.numbered l)));
@@ -135,6 +143,7 @@ change_keeps c w k n v h at docs ids next keyed sorted grouped =
           (subst (AllByRecursion (λ (x : ℕ). x < c.next)) (sym (ap keys_of docs ∙ keys-set_value (is_at (nat_cmp n)) c.documents.entries v)) h.below);
       sorted = sorted;
       grouped = grouped;
+      exact = subst HoldExact (sym docs) (changed_exact n v c.documents.entries exact h.exact);
     }
 
 -- ---- a document is removed
@@ -208,6 +217,7 @@ remove_keeps c w k n h at docs updates next sorted grouped =
           (subst (λ (es : List Entry). AllByRecursion (λ (x : ℕ). x < c.next) (keys_of es)) (sym docs) (keys_removed c.next n c.documents.entries h.below));
       sorted = sorted;
       grouped = grouped;
+      exact = subst HoldExact (sym docs) (all_removed (λ (e : Entry). IsExact e.1) (is_at (nat_cmp n)) c.documents.entries h.exact);
     }
 
 -- ---- no two documents have the same id

@@ -1,4 +1,4 @@
--- Which cursor a command goes on with.
+-- Which commands are about cursors, and which cursor one goes on with.
 use Rattle.std.proofs.Common.{◌≡◌, ℕ, ℤ, Bool, true, false, List, [], ◌∷◌, length, Option, Some, None, option_map, option_and_then, codes, is_some, refl, sym, ap, ◌∙◌, arith, if◌then◌else◌}
 use Rattle.std.specs.Prelude.{nat_lt, unwrap_or}
 use Rattle.std.specs.Str.{bytes_eq}
@@ -10,8 +10,8 @@ use Rattle.mg_bson.specs.Raw.{fields}
 use Rattle.mg_link.specs.Namespace.{Space, Target}
 use Rattle.mg_link.specs.Filter.{Condition, has_dot}
 use Rattle.mg_link.specs.State.{Start, Index}
-use Rattle.mg_link.specs.Commands.{Asked, asks_insert, asks_watch, asks_more, asks_kill, asks_other, as_collection, as_database, as_integer, asked, asked_by, documents_in, filter_stages, flag_or, insert_of, integers_in, kill_of, more_of, space_at, start_of, target_of, text_of, watch_by, watch_from, watch_of, watch_stage, or_asks, pipeline_query, update_of, delete_of, find_of, collections_query, indexes_query, create_of, indexing_of, drop_of, further_by, asks_update, asks_delete, asks_create, asks_indexes, asks_drop, has_only, update_parts, update_fields, delete_parts, delete_fields, find_fields, pipeline_fields, collections_fields, indexes_fields, create_fields, indexing_fields, drop_fields, filter_at, one_at, modification_of, update_by, delete_by, many_by, count_of, database_at, asks_query, find_query, piped, stages_in, listing_of, indexes_listed, indexes_in}
-use Rattle.mg_query.specs.Continued.{continued, continued_by}
+use Rattle.mg_link.specs.Commands.{Asked, asks_insert, asks_watch, asks_more, asks_kill, asks_other, as_collection, as_database, as_integer, asked, asked_by, documents_in, filter_stages, flag_or, insert_of, integers_in, kill_of, more_of, space_at, start_of, target_of, text_of, watch_by, watch_from, watch_of, watch_stage_options, or_asks, pipeline_query, update_of, delete_of, find_of, collections_query, indexes_query, create_of, indexing_of, drop_of, further_by, asks_update, asks_delete, asks_create, asks_indexes, asks_drop, has_only, update_parts, update_fields, delete_parts, delete_fields, find_fields, pipeline_fields, collections_fields, indexes_fields, create_fields, indexing_fields, drop_fields, filter_at, one_at, modification_of, update_by, delete_by, many_by, count_of, database_at, asks_query, find_query, piped, stages_in, listing_of, indexes_listed, indexes_in}
+use Rattle.mg_query.specs.Continued.{continued, continued_by, is_about_cursors, is_cursor_command}
 use Rattle.mg_bson.specs.Reading.{◌>>=◌}
 use Rattle.mg_link.specs.Query.{Query}
 use Rattle.mg_link.specs.Write.{Modification}
@@ -19,133 +19,136 @@ use Rattle.mg_link.specs.Write.{Modification}
 abbrev goes_on : Option Asked → Option ℤ
 goes_on found = continued (unwrap_or found asks_other)
 
-by_insert : (s : Option Space) (d : Option (List Fields)) (f : Option Bool) → goes_on (option_and_then (λ space. option_and_then (λ ds. option_map (asks_insert space ds) f) d) s) ≡ None
+abbrev about : Option Asked → Bool
+about found = is_about_cursors (unwrap_or found asks_other)
+
+by_insert : (s : Option Space) (d : Option (List Fields)) (f : Option Bool) → about (option_and_then (λ space. option_and_then (λ ds. option_map (asks_insert space ds) f) d) s) ≡ false
 by_insert None d f = refl
 by_insert (Some s) None f = refl
 by_insert (Some s) (Some d) None = refl
 by_insert (Some s) (Some d) (Some f) = refl
 
-insert_not : (fs : Fields) → goes_on (insert_of fs) ≡ None
+insert_not : (fs : Fields) → about (insert_of fs) ≡ false
 unfolding insert_of
 insert_not fs = by_insert (space_at (codes "insert") fs) (option_and_then documents_in (option_and_then as_array (get (codes "documents") fs))) (flag_or true (get (codes "ordered") fs))
 
-by_watch : (c : Option (List Condition)) (s : Option Start) (t : Option Target) → goes_on (option_and_then (λ filter. option_and_then (λ start. option_map (λ target. asks_watch (record { target = target; filter = filter }) start) t) s) c) ≡ None
+by_watch : (c : Option (List Condition)) (s : Option Start) (t : Option Target) → about (option_and_then (λ filter. option_and_then (λ start. option_map (λ target. asks_watch (record { target = target; filter = filter }) start) t) s) c) ≡ false
 by_watch None s t = refl
 by_watch (Some c) None t = refl
 by_watch (Some c) (Some s) None = refl
 by_watch (Some c) (Some s) (Some t) = refl
 
-by_options : (fs : Fields) (stages : List Fields) (o : Option Fields) → goes_on (option_and_then (λ options. watch_by fs options stages) o) ≡ None
+by_options : (fs : Fields) (stages : List Fields) (o : Option Fields) → about (option_and_then (λ options. watch_by fs options stages) o) ≡ false
 by_options fs stages None = refl
 by_options fs stages (Some options) = by_watch (filter_stages stages) (start_of options) (target_of options fs)
 
-by_stages : (fs : Fields) (o : Option (List Fields)) → goes_on (option_and_then (watch_from fs) o) ≡ None
+by_stages : (fs : Fields) (o : Option (List Fields)) → about (option_and_then (watch_from fs) o) ≡ false
 by_stages fs None = refl
 by_stages fs (Some []) = refl
-by_stages fs (Some (stage ∷ stages)) = by_options fs stages (watch_stage stage)
+by_stages fs (Some (stage ∷ stages)) = by_options fs stages (watch_stage_options stage)
 
-watch_not : (fs : Fields) → goes_on (watch_of fs) ≡ None
+watch_not : (fs : Fields) → about (watch_of fs) ≡ false
 unfolding watch_of
 watch_not fs = by_stages fs (option_and_then documents_in (option_and_then as_array (get (codes "pipeline") fs)))
 
 -- ---- those that name no cursor
 
-either_not : (b : Bool) (o p : Option Asked) → goes_on o ≡ None → goes_on p ≡ None → goes_on (if b then o else p) ≡ None
+either_not : (b : Bool) (o p : Option Asked) → about o ≡ false → about p ≡ false → about (if b then o else p) ≡ false
 either_not true o p h g = h
 either_not false o p h g = g
 
-first_not : (o p : Option Asked) → goes_on o ≡ None → goes_on p ≡ None → goes_on (or_asks o p) ≡ None
+first_not : (o p : Option Asked) → about o ≡ false → about p ≡ false → about (or_asks o p) ≡ false
 first_not None p h g = g
 first_not (Some a) p h g = h
 
-by_change : (space : Space) (q : List Condition) (m : Option Modification) (f : Option Bool) → goes_on (m >>= λ m. f >>= λ many. Some (asks_update space q m many)) ≡ None
+by_change : (space : Space) (q : List Condition) (m : Option Modification) (f : Option Bool) → about (m >>= λ m. f >>= λ many. Some (asks_update space q m many)) ≡ false
 by_change space q None f = refl
 by_change space q (Some m) None = refl
 by_change space q (Some m) (Some many) = refl
 
-by_update_parts : (space : Space) (b : Bool) (q : Option (List Condition)) (d : Option Fields) (f : Option Bool) → goes_on (if b then (q >>= λ q. d >>= λ d. modification_of d >>= λ m. f >>= λ many. Some (asks_update space q m many)) else None) ≡ None
+by_update_parts : (space : Space) (b : Bool) (q : Option (List Condition)) (d : Option Fields) (f : Option Bool) → about (if b then (q >>= λ q. d >>= λ d. modification_of d >>= λ m. f >>= λ many. Some (asks_update space q m many)) else None) ≡ false
 by_update_parts space false q d f = refl
 by_update_parts space true None d f = refl
 by_update_parts space true (Some q) None f = refl
 by_update_parts space true (Some q) (Some d) f = by_change space q (modification_of d) f
 
-update_by_not : (space : Space) (u : Fields) → goes_on (update_by (asks_update space) u) ≡ None
+update_by_not : (space : Space) (u : Fields) → about (update_by (asks_update space) u) ≡ false
 update_by_not space u = by_update_parts space (has_only update_parts u) (filter_at (codes "q") u) (option_and_then as_document (get (codes "u") u)) (flag_or false (get (codes "multi") u))
 
-by_update : (b : Bool) (s : Option Space) (u : Option Fields) → goes_on (if b then (s >>= λ space. u >>= update_by (asks_update space)) else None) ≡ None
+by_update : (b : Bool) (s : Option Space) (u : Option Fields) → about (if b then (s >>= λ space. u >>= update_by (asks_update space)) else None) ≡ false
 by_update false s u = refl
 by_update true None u = refl
 by_update true (Some s) None = refl
 by_update true (Some s) (Some u) = update_by_not s u
 
-update_not : (fs : Fields) → goes_on (update_of fs) ≡ None
+update_not : (fs : Fields) → about (update_of fs) ≡ false
 unfolding update_of
 update_not fs = by_update (has_only update_fields fs) (space_at (codes "update") fs) (one_at (codes "updates") fs)
 
-by_delete_parts : (space : Space) (b : Bool) (q : Option (List Condition)) (f : Option Bool) → goes_on (if b then (q >>= λ q. f >>= λ many. Some (asks_delete space q many)) else None) ≡ None
+by_delete_parts : (space : Space) (b : Bool) (q : Option (List Condition)) (f : Option Bool) → about (if b then (q >>= λ q. f >>= λ many. Some (asks_delete space q many)) else None) ≡ false
 by_delete_parts space false q f = refl
 by_delete_parts space true None f = refl
 by_delete_parts space true (Some q) None = refl
 by_delete_parts space true (Some q) (Some many) = refl
 
-delete_by_not : (space : Space) (d : Fields) → goes_on (delete_by (asks_delete space) d) ≡ None
+delete_by_not : (space : Space) (d : Fields) → about (delete_by (asks_delete space) d) ≡ false
 delete_by_not space d = by_delete_parts space (has_only delete_parts d) (filter_at (codes "q") d) (option_and_then count_of (get (codes "limit") d) >>= many_by)
 
-by_delete : (b : Bool) (s : Option Space) (d : Option Fields) → goes_on (if b then (s >>= λ space. d >>= delete_by (asks_delete space)) else None) ≡ None
+by_delete : (b : Bool) (s : Option Space) (d : Option Fields) → about (if b then (s >>= λ space. d >>= delete_by (asks_delete space)) else None) ≡ false
 by_delete false s d = refl
 by_delete true None d = refl
 by_delete true (Some s) None = refl
 by_delete true (Some s) (Some d) = delete_by_not s d
 
-delete_not : (fs : Fields) → goes_on (delete_of fs) ≡ None
+delete_not : (fs : Fields) → about (delete_of fs) ≡ false
 unfolding delete_of
 delete_not fs = by_delete (has_only delete_fields fs) (space_at (codes "delete") fs) (one_at (codes "deletes") fs)
 
-by_query : (b : Bool) (q : Option Query) → goes_on (if b then option_map asks_query q else None) ≡ None
+by_query : (b : Bool) (q : Option Query) → about (if b then option_map asks_query q else None) ≡ false
 by_query false q = refl
 by_query true None = refl
 by_query true (Some q) = refl
 
-find_not : (fs : Fields) → goes_on (find_of fs) ≡ None
+find_not : (fs : Fields) → about (find_of fs) ≡ false
 unfolding find_of
 find_not fs = by_query (has_only find_fields fs) (space_at (codes "find") fs >>= find_query fs)
 
-pipeline_not : (fs : Fields) → goes_on (pipeline_query fs) ≡ None
+pipeline_not : (fs : Fields) → about (pipeline_query fs) ≡ false
 unfolding pipeline_query
 pipeline_not fs = by_query (has_only pipeline_fields fs) (space_at (codes "aggregate") fs >>= piped fs (stages_in fs))
 
-collections_not : (fs : Fields) → goes_on (collections_query fs) ≡ None
+collections_not : (fs : Fields) → about (collections_query fs) ≡ false
 unfolding collections_query
 collections_not fs = by_query (has_only collections_fields fs) (database_at fs >>= listing_of fs)
 
-indexes_not : (fs : Fields) → goes_on (indexes_query fs) ≡ None
+indexes_not : (fs : Fields) → about (indexes_query fs) ≡ false
 unfolding indexes_query
 indexes_not fs = by_query (has_only indexes_fields fs) (space_at (codes "listIndexes") fs >>= indexes_listed fs)
 
-by_space : (b : Bool) (asks : Space → Asked) (s : Option Space) → ((space : Space) → continued (asks space) ≡ None) → goes_on (if b then option_map asks s else None) ≡ None
+by_space : (b : Bool) (asks : Space → Asked) (s : Option Space) → ((space : Space) → is_about_cursors (asks space) ≡ false) → about (if b then option_map asks s else None) ≡ false
 by_space false asks s h = refl
 by_space true asks None h = refl
 by_space true asks (Some s) h = h s
 
-create_not : (fs : Fields) → goes_on (create_of fs) ≡ None
+create_not : (fs : Fields) → about (create_of fs) ≡ false
 unfolding create_of
 create_not fs = by_space (has_only create_fields fs) asks_create (space_at (codes "create") fs) (λ space. refl)
 
-by_indexing : (b : Bool) (s : Option Space) (is : Option (List Index)) → goes_on (if b then (s >>= λ space. option_map (asks_indexes space) is) else None) ≡ None
+by_indexing : (b : Bool) (s : Option Space) (is : Option (List Index)) → about (if b then (s >>= λ space. option_map (asks_indexes space) is) else None) ≡ false
 by_indexing false s is = refl
 by_indexing true None is = refl
 by_indexing true (Some s) None = refl
 by_indexing true (Some s) (Some is) = refl
 
-indexing_not : (fs : Fields) → goes_on (indexing_of fs) ≡ None
+indexing_not : (fs : Fields) → about (indexing_of fs) ≡ false
 unfolding indexing_of
 indexing_not fs = by_indexing (has_only indexing_fields fs) (space_at (codes "createIndexes") fs) (indexes_in fs)
 
-drop_not : (fs : Fields) → goes_on (drop_of fs) ≡ None
+drop_not : (fs : Fields) → about (drop_of fs) ≡ false
 unfolding drop_of
 drop_not fs = by_space (has_only drop_fields fs) asks_drop (space_at (codes "drop") fs) (λ space. refl)
 
-further_not : (k : List ℕ) (fs : Fields) → goes_on (further_by k fs) ≡ None
+further_not : (k : List ℕ) (fs : Fields) → about (further_by k fs) ≡ false
 further_not k fs =
     either_not (bytes_eq k (codes "update")) (update_of fs) _ (update_not fs)
     (either_not (bytes_eq k (codes "delete")) (delete_of fs) _ (delete_not fs)
@@ -157,6 +160,40 @@ further_not k fs =
     (either_not (bytes_eq k (codes "drop")) (drop_of fs) None (drop_not fs) refl)))))))
 
 -- ---- any command
+
+about_by : (a b c d : Bool) (i w m k f : Option Asked) → about i ≡ false → about w ≡ false → about f ≡ false → (if c then true else d) ≡ false → about (if a then i else (if b then w else (if c then m else (if d then k else f)))) ≡ false
+about_by true b c d i w m k f hi hw hf none = hi
+about_by false true c d i w m k f hi hw hf none = hw
+about_by false false true d i w m k f hi hw hf none = absurd cc
+about_by false false false true i w m k f hi hw hf none = absurd cc
+about_by false false false false i w m k f hi hw hf none = hf
+
+about_fields : (fs : Fields) → is_cursor_command fs ≡ false → about (asked_by fs) ≡ false
+about_fields no_fields h = refl
+about_fields (field k t fs) h =
+    about_by (bytes_eq k (codes "insert")) (bytes_eq k (codes "aggregate")) (bytes_eq k (codes "getMore")) (bytes_eq k (codes "killCursors")) (insert_of (field k t fs)) (or_asks (watch_of (field k t fs)) (pipeline_query (field k t fs))) (more_of (field k t fs)) (kill_of (field k t fs)) (further_by k (field k t fs))
+    (insert_not (field k t fs)) (first_not (watch_of (field k t fs)) (pipeline_query (field k t fs)) (watch_not (field k t fs)) (pipeline_not (field k t fs))) (further_not k (field k t fs)) h
+
+-- one that is no getMore and no killCursors is about no cursor
+pub about_none : (command : List ℕ) → is_cursor_command (fields command) ≡ false → is_about_cursors (asked command) ≡ false
+unfolding asked
+about_none command h = about_fields (fields command) h
+
+not_on : (a : Asked) → is_about_cursors a ≡ false → continued a ≡ None
+not_on (asks_more id space) h = absurd cc
+not_on (asks_insert space documents ordered) h = refl
+not_on (asks_update space conditions modification many) h = refl
+not_on (asks_delete space conditions many) h = refl
+not_on (asks_query query) h = refl
+not_on (asks_create space) h = refl
+not_on (asks_indexes space indexes) h = refl
+not_on (asks_drop space) h = refl
+not_on (asks_watch watch start) h = refl
+not_on (asks_kill ids) h = refl
+not_on asks_other h = refl
+
+stays_off : (o : Option Asked) → about o ≡ false → goes_on o ≡ None
+stays_off o h = not_on (unwrap_or o asks_other) h
 
 by_kill : (ids : Option (List ℤ)) → goes_on (option_map asks_kill ids) ≡ None
 by_kill None = refl
@@ -194,7 +231,9 @@ by_fields no_fields = refl
 by_fields (field k t fs) =
     chosen (bytes_eq k (codes "insert")) (bytes_eq k (codes "aggregate")) (bytes_eq k (codes "getMore")) (bytes_eq k (codes "killCursors")) (insert_of (field k t fs)) (or_asks (watch_of (field k t fs)) (pipeline_query (field k t fs))) (more_of (field k t fs)) (kill_of (field k t fs)) (further_by k (field k t fs))
     (if is_some (space_at (codes "collection") (field k t fs)) then option_and_then as_integer (get (codes "getMore") (field k t fs)) else None)
-    (insert_not (field k t fs)) (first_not (watch_of (field k t fs)) (pipeline_query (field k t fs)) (watch_not (field k t fs)) (pipeline_not (field k t fs))) (kill_not (field k t fs)) (further_not k (field k t fs)) (more_goes (field k t fs))
+    (stays_off (insert_of (field k t fs)) (insert_not (field k t fs)))
+    (stays_off (or_asks (watch_of (field k t fs)) (pipeline_query (field k t fs))) (first_not (watch_of (field k t fs)) (pipeline_query (field k t fs)) (watch_not (field k t fs)) (pipeline_not (field k t fs))))
+    (kill_not (field k t fs)) (stays_off (further_by k (field k t fs)) (further_not k (field k t fs))) (more_goes (field k t fs))
     (not_both k (codes "insert") (codes "getMore") refl) (not_both k (codes "aggregate") (codes "getMore") refl)
 
 pub continued_is : (command : List ℕ) → continued (asked command) ≡ continued_by (fields command)

@@ -11,7 +11,7 @@ use Rattle.mg_bson.specs.Tree.{Tree, Fields}
 use Rattle.mg_bson.specs.Find.{get}
 use Rattle.mg_link.specs.Filter.{key}
 use Rattle.mg_link.specs.Rules.{accept, bad_request, duplicate_id, has_id, id_or_code, is_storable, same_id}
-use Rattle.mg_query.specs.Numbering.{HaveNewIds, IsKeyed, document_of, has_this, holds_id, is_of_id, vec_cmp}
+use Rattle.mg_query.specs.Numbering.{HaveNewIds, IsExact, IsKeyed, document_of, has_this, holds_id, is_of_id, vec_cmp}
 use Rattle.mg_query.specs.declared.collection.KeyedDocument.{KeyedDocument}
 
 -- ---- what the rules accept
@@ -55,10 +55,10 @@ of_id_then k l d h = this_then k l (get (codes "_id") d) h
 -- ---- new documents
 
 -- a document more at the end
-pub new_push : (before : List Fields) (ds : List KeyedDocument) (d : KeyedDocument) → HaveNewIds before ds → IsKeyed d.key.items (document_of d) → holds_id d.key.items (before ++ map document_of ds) ≡ false → HaveNewIds before (ds ++ d ∷ [])
-new_push before [] d h keyed none = (keyed, ap (holds_id d.key.items) (sym (append-nil before)) ∙ none, tt)
-new_push before (x ∷ ds) d h keyed none =
-    (h.0, h.1, new_push (before ++ document_of x ∷ []) ds d h.2 keyed (ap (holds_id d.key.items) (append_assoc before (document_of x ∷ []) (map document_of ds)) ∙ none))
+pub new_push : (before : List Fields) (ds : List KeyedDocument) (d : KeyedDocument) → HaveNewIds before ds → IsKeyed d.key.items (document_of d) → holds_id d.key.items (before ++ map document_of ds) ≡ false → IsExact d.document → HaveNewIds before (ds ++ d ∷ [])
+new_push before [] d h keyed none exact = (keyed, ap (holds_id d.key.items) (sym (append-nil before)) ∙ none, exact, tt)
+new_push before (x ∷ ds) d h keyed none exact =
+    (h.0, h.1, h.2, new_push (before ++ document_of x ∷ []) ds d h.3 keyed (ap (holds_id d.key.items) (append_assoc before (document_of x ∷ []) (map document_of ds)) ∙ none) exact)
 
 either : (a b : Bool) → (b || (a || false)) ≡ cond a true b
 either true true = refl

@@ -19,10 +19,13 @@ use Rattle.std.proofs.lemmas.Map.Entries.{lookup-filter-values, option_filter}
 use Rattle.std.proofs.lemmas.Map.Keys.{IsDistinct-from_sorted}
 use Rattle.std.proofs.lemmas.Map.Lookups.{exact_unsigned}
 use Rattle.std.proofs.lemmas.Map.Text.{is_eq-slice_cmp}
+use denote.Ref.{Bor}
 use Rattle.mg_bson.specs.Tree.{Fields}
+use Rattle.mg_bson.specs.Bytes.{bytes}
 use Rattle.mg_bson.specs.Raw.{fields}
 use Rattle.mg_query.specs.Grouping.{AreGrouped}
-use Rattle.mg_query.specs.Numbering.{GrowsBySome, IsKeyed, IsNumbered, KeepsIds, KeepsAll, Pushes, holds_id, is_number, is_of_id, number_in, stored, vec_cmp}
+use Rattle.mg_query.specs.Querying.{lent}
+use Rattle.mg_query.specs.Numbering.{GrowsBySome, IsExact, IsKeyed, IsNumbered, KeepsIds, KeepsAll, Pushes, holds_id, is_number, is_of_id, number_in, stored, stored_bytes, vec_cmp}
 use Rattle.mg_query.specs.declared.collection.Collection.{Collection}
 use Rattle.mg_query.proofs.Ids.{holds_push, of_key}
 
@@ -31,6 +34,23 @@ Entry = ℕ × List ℕ
 
 abbrev pub fields_of : List Entry → List Fields
 fields_of es = map fields (values_of es)
+
+-- each of these documents is held as its encoding
+abbrev pub HoldExact : List Entry → Type 0
+HoldExact es = AllByRecursion (λ (e : Entry). IsExact e.1) es
+
+exact_bytes : (es : List Entry) → HoldExact es → values_of es ≡ map bytes (fields_of es)
+exact_bytes [] h = refl
+exact_bytes (e ∷ es) h = ap₂ (λ (b : List ℕ) (bs : List (List ℕ)). b ∷ bs) h.0 (exact_bytes es h.1)
+
+-- documents are what their bytes are read as
+pub lent_fields : (ds : List (Bor (List ℕ))) → lent ds ≡ map fields (map (λ d. d.now) ds)
+lent_fields [] = refl
+lent_fields (d ∷ ds) = ap (λ (l : List Fields). fields d.now ∷ l) (lent_fields ds)
+
+-- what is held are the encodings of the documents
+pub bytes_are : (c : Collection) → KeepsIds c → stored_bytes c ≡ map bytes (stored c)
+bytes_are c h = exact_bytes c.documents.entries h.exact
 
 -- ---- numbers
 
@@ -119,9 +139,9 @@ more_below n next [] le h = tt
 more_below n next (k ∷ ks) le h = (omega (arith, h.0), more_below n next ks le h.1)
 
 -- a document behind the others, under the number that comes
-pub push_keeps : (c w : Collection) (k : Vec ℕ Global) (v : List ℕ) → KeepsIds c → IsKeyed k.items (fields v) → holds_id k.items (stored c) ≡ false → w.documents.entries ≡ c.documents.entries ++ (c.next, v) ∷ []
+pub push_keeps : (c w : Collection) (k : Vec ℕ Global) (v : List ℕ) → KeepsIds c → IsKeyed k.items (fields v) → holds_id k.items (stored c) ≡ false → IsExact v → w.documents.entries ≡ c.documents.entries ++ (c.next, v) ∷ []
     → UpdatesBy vec_cmp (vec_cmp k) c.ids w.ids (Some c.next) → c.next < w.next → IsOrdered nat_cmp w.documents → AreGrouped w.groups w.documents.entries → KeepsIds w
-push_keeps c w k v h keyed new docs updates less sorted grouped =
+push_keeps c w k v h keyed new exact docs updates less sorted grouped =
     let number : (l : Vec ℕ Global) → number_in w.ids l.items ≡ cond (bytes_eq k.items l.items) (Some c.next) (number_in c.ids l.items) = λ l. updates.0 l ∙ ap (λ (b : Bool). cond b (Some c.next) (number_in c.ids l.items)) (is_eq-slice_cmp k.items l.items) in
     let fresh : number_in c.ids k.items ≡ None = none_of (number_in c.ids k.items) (h.held k ∙ new) in
     let none : IsNumbered k.items None c.documents.entries = subst (λ (o : Option ℕ). IsNumbered k.items o c.documents.entries) fresh (h.numbered k) in
@@ -137,6 +157,7 @@ push_keeps c w k v h keyed new docs updates less sorted grouped =
           (all_append (λ (m : ℕ). m < w.next) (keys_of c.documents.entries) (c.next ∷ []) (more_below c.next w.next (keys_of c.documents.entries) (omega (arith, less)) h.below) (less, tt));
       sorted = sorted;
       grouped = grouped;
+      exact = subst HoldExact (sym docs) (all_append (λ (e : Entry). IsExact e.1) c.documents.entries ((c.next, v) ∷ []) h.exact (exact, tt));
     }
 
 -- the same documents under the same ids
@@ -149,6 +170,7 @@ same_keeps c w h docs ids next grouped =
       below = subst (λ (n : ℕ). AllByRecursion (λ (m : ℕ). m < n) (keys w.documents)) (sym next) (subst (λ (es : List Entry). AllByRecursion (λ (m : ℕ). m < c.next) (keys_of es)) (sym docs) h.below);
       sorted = subst (λ (es : List Entry). IsStrictlySortedBy nat_cmp (keys_of es)) (sym docs) h.sorted;
       grouped = grouped;
+      exact = subst HoldExact (sym docs) h.exact;
     }
 
 -- nothing stands there
@@ -161,6 +183,7 @@ none_keeps c docs ids =
       below = subst (λ (es : List Entry). AllByRecursion (λ (m : ℕ). m < c.next) (keys_of es)) (sym docs) tt;
       sorted = subst (λ (es : List Entry). IsStrictlySortedBy nat_cmp (keys_of es)) (sym docs) tt;
       grouped = subst (AreGrouped c.groups) (sym docs) (λ w. tt);
+      exact = subst HoldExact (sym docs) tt;
     }
 
 pub all_same : (c w : Collection) → KeepsIds c → w.documents.entries ≡ c.documents.entries → w.ids.entries ≡ c.ids.entries → w.next ≡ c.next → AreGrouped w.groups w.documents.entries → KeepsAll c w
@@ -230,6 +253,14 @@ kept_below n next [] h = tt
 kept_below n next (e ∷ es) h =
     kept_one (nat_lt e.0 n) next e (filter (λ (x : Entry). nat_lt x.0 n) es) h.0 (kept_below n next es h.1)
 
+kept_exact : (b : Bool) (e : Entry) (es : List Entry) → IsExact e.1 → HoldExact es → HoldExact (cond b (e ∷ es) es)
+kept_exact true e es h g = (h, g)
+kept_exact false e es h g = g
+
+exact_below : (n : ℕ) (es : List Entry) → HoldExact es → HoldExact (filter (λ (e : Entry). nat_lt e.0 n) es)
+exact_below n [] h = tt
+exact_below n (e ∷ es) h = kept_exact (nat_lt e.0 n) e (filter (λ (x : Entry). nat_lt x.0 n) es) h.0 (exact_below n es h.1)
+
 key_laws : IsEquivalence (eq_by_cmp vec_cmp)
 key_laws = eq_by_cmp_equiv (on_total (λ (x : Vec ℕ Global). x.items) nat_list_cmp_total)
 
@@ -244,6 +275,7 @@ truncate_keeps c w n h ordered docs ids next sorted grouped =
       below = subst (λ (m : ℕ). AllByRecursion (λ (x : ℕ). x < m) (keys w.documents)) (sym next) (subst (λ (es : List Entry). AllByRecursion (λ (x : ℕ). x < c.next) (keys_of es)) (sym docs) (kept_below n c.next c.documents.entries h.below));
       sorted = sorted;
       grouped = grouped;
+      exact = subst HoldExact (sym docs) (exact_below n c.documents.entries h.exact);
     }
 
 -- the documents from this number on are the last

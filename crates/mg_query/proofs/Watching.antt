@@ -7,16 +7,16 @@ use Rattle.mg_bson.specs.Reading.{◌>>=◌}
 use Rattle.mg_link.specs.Namespace.{Target}
 use Rattle.mg_link.specs.Filter.{Condition, conditions_of}
 use Rattle.mg_link.specs.State.{Start}
-use Rattle.mg_link.specs.Commands.{batch_size, documents_in, filter_stages, flag_or, has_only, match_stage, pipeline_fields, start_of, watch_stage}
+use Rattle.mg_link.specs.Commands.{batch_size, documents_in, filter_stages, flag_or, has_only, match_stage, pipeline_fields, start_of, watch_stage_options}
 use Rattle.mg_link.specs.Rules as rules
 use Rattle.mg_link.specs.Rules.{array_at, behind_first, option_names, target_at, watch_options, watch_request, watch_with}
 use Rattle.mg_query.specs.Asking.{Keyed, keyed, only_document}
 use Rattle.mg_query.specs.Wanted.{wanted, watch, Stages, Opening, conditions_at, opening_of, opening_with, stages_of}
 
-watch_stage-is : (fs : Fields) → watch_stage fs ≡ only_document (codes "$changeStream") fs
-watch_stage-is no_fields = refl
-watch_stage-is (field k t no_fields) = refl
-watch_stage-is (field k t (field l u fs)) = refl
+watch_stage_options-is : (fs : Fields) → watch_stage_options fs ≡ only_document (codes "$changeStream") fs
+watch_stage_options-is no_fields = refl
+watch_stage_options-is (field k t no_fields) = refl
+watch_stage_options-is (field k t (field l u fs)) = refl
 
 match_by : (b : Bool) (o : Option Fields) → (if b then option_and_then conditions_of o else None) ≡ option_and_then conditions_of (if b then o else None)
 match_by true o = refl
@@ -42,7 +42,7 @@ stages_by o behind = o >>= λ stage. only_document (codes "$changeStream") stage
 
 alone : {B : Type 0} (more : Fields → List Condition → Option B) (o : Option Fields) → by_rules more (with_one o (Some [])) ≡ by_stages more (stages_by o (Some None))
 alone more None = refl
-alone more (Some d) = rw watch_stage-is (elim (only_document (codes "$changeStream") d) as (λ v. (v >>= λ options. more options []) ≡ by_stages more (v >>= λ options. Some (record { options = options; filter = None }))) [ None ↦ refl | Some options ↦ refl ])
+alone more (Some d) = rw watch_stage_options-is (elim (only_document (codes "$changeStream") d) as (λ v. (v >>= λ options. more options []) ≡ by_stages more (v >>= λ options. Some (record { options = options; filter = None }))) [ None ↦ refl | Some options ↦ refl ])
 
 paired : {B : Type 0} (more : Fields → List Condition → Option B) (v w : Option Fields) → (v >>= λ options. option_and_then conditions_of w >>= λ filter. more options filter) ≡ by_stages more (v >>= λ options. (w >>= λ f. Some (Some f)) >>= λ filter. Some (record { options = options; filter = filter }))
 paired more None w = refl
@@ -52,7 +52,7 @@ paired more (Some options) (Some f) = refl
 two : {B : Type 0} (more : Fields → List Condition → Option B) (o p : Option Fields) → by_rules more (with_one o (with_one p (Some []))) ≡ by_stages more (stages_by o (p >>= λ stage. only_document (codes "$match") stage >>= λ filter. Some (Some filter)))
 two more None p = refl
 two more (Some d) None = elim (only_document (codes "$changeStream") d) as (λ v. None ≡ by_stages more (v >>= λ options. None)) [ None ↦ refl | Some options ↦ refl ]
-two more (Some d) (Some e) = rw (watch_stage-is, match_stage-is) (paired more (only_document (codes "$changeStream") d) (only_document (codes "$match") e))
+two more (Some d) (Some e) = rw (watch_stage_options-is, match_stage-is) (paired more (only_document (codes "$changeStream") d) (only_document (codes "$match") e))
 
 nothing : {B : Type 0} (more : Fields → List Condition → Option B) (v : Option Fields) → None ≡ by_stages more (v >>= λ options. None)
 nothing more None = refl
@@ -67,7 +67,7 @@ three more None p q r = refl
 three more (Some d) None q r = nothing more (only_document (codes "$changeStream") d)
 three more (Some d) (Some e) None r = nothing more (only_document (codes "$changeStream") d)
 three more (Some d) (Some e) (Some f) None = nothing more (only_document (codes "$changeStream") d)
-three more (Some d) (Some e) (Some f) (Some ds) = stuck (watch_stage d) ∙ nothing more (only_document (codes "$changeStream") d)
+three more (Some d) (Some e) (Some f) (Some ds) = stuck (watch_stage_options d) ∙ nothing more (only_document (codes "$changeStream") d)
 
 pub stages_rules : {B : Type 0} (more : Fields → List Condition → Option B) (ts : Items) → by_rules more (documents_in ts) ≡ by_stages more (stages_of ts)
 unfolding stages_of

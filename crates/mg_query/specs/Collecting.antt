@@ -9,7 +9,7 @@ use Rattle.std.specs.Ordering.{nat_cmp}
 use Rattle.mg_bson.specs.Tree.{Fields}
 use Rattle.mg_bson.specs.Raw.{fields}
 use Rattle.mg_query.specs.Asking.{Keyed, ahead, matches_keys}
-use Rattle.mg_query.specs.Numbering.{holds_id, is_of_id, IsKeyed, document_of}
+use Rattle.mg_query.specs.Numbering.{holds_id, is_of_id, IsExact, IsKeyed, document_of}
 use Rattle.mg_query.specs.declared.collection.Collection.{Collection}
 use Rattle.mg_query.specs.declared.collection.KeyedDocument.{KeyedDocument}
 
@@ -26,10 +26,10 @@ abbrev pub exchange_documents : List KeyedDocument → List Fields → List Fiel
 exchange_documents [] ds = ds
 exchange_documents (k ∷ ks) ds = exchange_documents ks (exchange_document k.key.items (document_of k) ds)
 
--- each has its id under its encoding
+-- each is held as its encoding, with its id under the encoding of that
 abbrev pub AreKeyed : List KeyedDocument → Type 0
 AreKeyed [] = Unit {0}
-AreKeyed (k ∷ ks) = IsKeyed k.key.items (document_of k) × AreKeyed ks
+AreKeyed (k ∷ ks) = IsKeyed k.key.items (document_of k) × IsExact k.document × AreKeyed ks
 
 -- the documents without those with these ids
 abbrev pub without_documents : List (Vec ℕ Global) → List Fields → List Fields

@@ -9,6 +9,7 @@ use Rattle.std.specs.Str.{bytes_eq}
 use Rattle.std.specs.declared.cmp.Ordering.{Ordering}
 use denote.Ref.{Bor}
 use Rattle.mg_bson.specs.Tree.{Tree, Fields}
+use Rattle.mg_bson.specs.Bytes.{bytes}
 use Rattle.mg_bson.specs.Raw.{fields}
 use Rattle.mg_bson.specs.Find.{get}
 use Rattle.mg_link.specs.Filter.{key}
@@ -56,17 +57,27 @@ IsNumbered k found es = AllByRecursion (λ (e : ℕ × List ℕ). is_of_id k (fi
 
 -- ---- collections
 
+-- the bytes are the encoding of the document that they are read as
+abbrev pub IsExact : List ℕ → Type 0
+IsExact written = written ≡ bytes (fields written)
+
+-- the bytes of the documents of a collection
+abbrev pub stored_bytes : Collection → List (List ℕ)
+stored_bytes c = values c.documents
+
 -- the documents of a collection
 abbrev pub stored : Collection → List Fields
-stored c = map fields (values c.documents)
+stored c = map fields (stored_bytes c)
 
--- the map of ids has the number of each document, and so have its groups; the number to come is above those that were given
+-- the map of ids has the number of each document, and so have its groups; the number to come is above those that were
+-- given; each document is held as its encoding
 pub record AreNumbered (documents : BTreeMap ℕ (List ℕ)) (ids : BTreeMap (Vec ℕ Global) ℕ) (groups : Groups) (next : ℕ) : Type 0 where
   pub numbered : (k : Vec ℕ Global) → IsNumbered k.items (number_in ids k.items) documents.entries
   pub held : (k : Vec ℕ Global) → is_some (number_in ids k.items) ≡ holds_id k.items (map fields (values documents))
   pub below : AllByRecursion (λ (n : ℕ). n < next) (keys documents)
   pub sorted : IsOrdered nat_cmp documents
   pub grouped : AreGrouped groups documents.entries
+  pub exact : AllByRecursion (λ (e : ℕ × List ℕ). IsExact e.1) documents.entries
 
 abbrev pub KeepsIds : Collection → Type 0
 KeepsIds c = AreNumbered c.documents c.ids c.groups c.next
@@ -119,7 +130,7 @@ KeepsIdsThere (Some c) = KeepsIds c.now
 abbrev pub document_of : KeyedDocument → Fields
 document_of d = fields d.document
 
--- each has an id, under its encoding, that is neither there nor in front of it
+-- each is held as its encoding and has an id, under the encoding of that, which is neither there nor in front of it
 abbrev pub HaveNewIds : List Fields → List KeyedDocument → Type 0
 HaveNewIds before [] = Unit {0}
-HaveNewIds before (d ∷ ds) = IsKeyed d.key.items (document_of d) × (holds_id d.key.items before ≡ false) × HaveNewIds (before ++ document_of d ∷ []) ds
+HaveNewIds before (d ∷ ds) = IsKeyed d.key.items (document_of d) × (holds_id d.key.items before ≡ false) × IsExact d.document × HaveNewIds (before ++ document_of d ∷ []) ds

@@ -82,18 +82,18 @@ lent_request (requests.ListCollections db plan) = find (of_database db.now) (map
 lent_request (requests.ListIndexes space size) = find (of_indexes (lent_space space)) [] false size
 lent_request (requests.Write write) = lent_write write
 
-abbrev pub code_of : Refusal → ℤ
-code_of refusals.UnknownCommand = rules.unknown_command
-code_of refusals.BadRequest = rules.bad_request
-code_of refusals.NoSuchCursor = rules.no_such_cursor
-code_of refusals.NoSuchToken = rules.no_such_token
-code_of refusals.CollectionExists = rules.collection_exists
-code_of refusals.NoSuchCollection = rules.no_such_collection
+abbrev pub refusal_code : Refusal → ℤ
+refusal_code refusals.UnknownCommand = rules.unknown_command
+refusal_code refusals.BadRequest = rules.bad_request
+refusal_code refusals.NoSuchCursor = rules.no_such_cursor
+refusal_code refusals.NoSuchToken = rules.no_such_token
+refusal_code refusals.CollectionExists = rules.collection_exists
+refusal_code refusals.NoSuchCollection = rules.no_such_collection
 
 -- why there is none: that is the rules' refusal, unless memory ran out
 abbrev pub StopsBy : {A : Type 0} → Stop → Result A ℤ → Type 0
 StopsBy stops.Memory asked = Unit {0}
-StopsBy (stops.Refused refusal) asked = asked ≡ Err (code_of refusal)
+StopsBy (stops.Refused refusal) asked = asked ≡ Err (refusal_code refusal)
 
 -- the request is the one that the rules give
 abbrev pub Asks : Result Request Stop → Result rules.Request ℤ → Type 0

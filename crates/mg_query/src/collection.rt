@@ -7,7 +7,7 @@ ghost use Rattle.std.specs.Ordering.{nat_cmp};
 ghost use Rattle.mg_bson.specs.Raw.{fields};
 ghost use Rattle.mg_query.specs.Collecting.{exchange_document, without_document, AreKeyed, exchange_documents, without_documents};
 ghost use Rattle.mg_query.specs.Grouping.{stands};
-ghost use Rattle.mg_query.specs.Numbering.{HaveNewIds, Grows, GrowsBySome, IsKeyed, KeepsAll, KeepsIds, Pushes, document_of, holds_id, is_number, number_in, stored};
+ghost use Rattle.mg_query.specs.Numbering.{HaveNewIds, Grows, GrowsBySome, IsExact, IsKeyed, KeepsAll, KeepsIds, Pushes, document_of, holds_id, is_number, number_in, stored, stored_bytes};
 
 use crate::groups::Groups;
 use crate::index::Index;
@@ -89,7 +89,7 @@ impl Collection {
 
     /// The documents, in the order in which they came.
     pub fn lent(&self, alloc: Global) -> Result<Vec<&RawDocumentBuf>, OutOfMemory>
-        ensures { IfOk result (λ ds. map (λ d. fields d.now) ds.items ≡ stored self.now) }
+        ensures { IfOk result (λ ds. map (λ d. d.now) ds.items ≡ stored_bytes self.now) }
     {
         let mut lent = Vec::new(alloc);
         for document in self.documents.values() {
@@ -141,7 +141,7 @@ impl Collection {
     /// Puts a document behind the others, none of which has its `_id`. An error changes nothing. More than can be
     /// numbered are want of memory.
     fn push(&mut self, key: Vec<u8>, document: RawDocumentBuf) -> Result<(), OutOfMemory>
-        ensures ok { OnOk result (KeepsIds self.old → IsKeyed key.items (fields document) → holds_id key.items (stored self.old) ≡ false → Pushes document self.old self.new) }
+        ensures ok { OnOk result (KeepsIds self.old → IsKeyed key.items (fields document) → holds_id key.items (stored self.old) ≡ false → IsExact document → Pushes document self.old self.new) }
         ensures err { OnErr result (KeepsIds self.old → KeepsAll self.old self.new) }
         ensures indexes { self.new.indexes ≡ self.old.indexes }
     {
@@ -214,7 +214,7 @@ impl Collection {
     /// Puts a document in the place of the one with the same `_id`. Where there is none nothing changes.
     fn change(&mut self, key: &Vec<u8>, document: RawDocumentBuf)
         ensures documents { KeepsIds self.old → stored self.new ≡ exchange_document key.now.items (fields document) (stored self.old) }
-        ensures ids { KeepsIds self.old → IsKeyed key.now.items (fields document) → KeepsIds self.new }
+        ensures ids { KeepsIds self.old → IsKeyed key.now.items (fields document) → IsExact document → KeepsIds self.new }
         ensures indexes { self.new.indexes ≡ self.old.indexes }
     {
         let Some(number) = self.ids.get(key) else {

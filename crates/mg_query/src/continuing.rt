@@ -1,9 +1,9 @@
-//! The cursor that a command goes on with, and which refusals end one.
-ghost use Rattle.std.specs.Prelude.{◌≡◌, codes, is_some};
+//! Which commands are about cursors, the cursor that one goes on with, and which refusals end it.
+ghost use Rattle.std.specs.Prelude.{◌≡◌, codes, false, is_some};
 ghost use Rattle.mg_bson.specs.Raw.{fields};
 ghost use Rattle.mg_link.specs.Commands.{asked, space_at};
 ghost use Rattle.mg_link.specs.Step.{ends_cursor};
-ghost use Rattle.mg_query.specs.Continued.{continued};
+ghost use Rattle.mg_query.specs.Continued.{continued, is_about_cursors, is_cursor_command};
 
 use crate::reading::{has_dot, integer_of, text_at};
 use mg_bson::RawDocument;
@@ -13,6 +13,18 @@ pub fn ends_cursor(code: i32) -> bool
     ensures { result ≡ ends_cursor code }
 {
     code == 43 || code == 237
+}
+
+/// Whether the command is a `getMore` or a `killCursors`. No other is about cursors.
+#[tactic(auto, using(crate::proofs::Continued::about_none))]
+pub fn is_cursor_command(command: &RawDocument<'_>) -> bool
+    ensures exact { result ≡ is_cursor_command (fields command.now) }
+    ensures others { result ≡ false → is_about_cursors (asked command.now) ≡ false }
+{
+    match command.iter().next() {
+        Some((name, _)) => name == "getMore" || name == "killCursors",
+        None => false,
+    }
 }
 
 /// Whether the command names a collection in a database.

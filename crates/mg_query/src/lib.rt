@@ -29,7 +29,7 @@ mod write;
 
 pub use batch::{Batch, batch_from};
 pub use collection::{Collection, KeyedDocument};
-pub use continuing::{continued_cursor, ends_cursor};
+pub use continuing::{continued_cursor, ends_cursor, is_cursor_command};
 pub use copies::{copy, encoded, owned, tree_of};
 pub use event::{
     deleted_event, dropped_event, insert_event, invalidate_event, replaced_event, updated_event,

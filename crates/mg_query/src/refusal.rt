@@ -1,7 +1,7 @@
 //! Why the store refuses a command.
 ghost use Rattle.mg_query.specs.declared.refusal.Stop.TheVariants.{Memory};
 ghost use Rattle.std.specs.Prelude.{◌≡◌};
-ghost use Rattle.mg_query.specs.Wanted.{code_of};
+ghost use Rattle.mg_query.specs.Wanted.{refusal_code};
 
 use mg_link::OutOfMemory;
 use std::alloc::{AllocError, AllocFailed};
@@ -26,7 +26,7 @@ pub enum Refusal {
 impl Refusal {
     /// The code that a server gives for it.
     pub fn code(self) -> i32
-        ensures { result ≡ code_of self }
+        ensures { result ≡ refusal_code self }
     {
         match self {
             Refusal::UnknownCommand => 59,

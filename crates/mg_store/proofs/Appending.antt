@@ -10,7 +10,7 @@ use Rattle.mg_link.specs.State.{Entry}
 use Rattle.mg_link.specs.Rules.{accept, choose, insert_entry, Inserted, inserting, no_more, with_document, with_error, write_error}
 use Rattle.mg_query.specs.Numbering.{HaveNewIds, document_of, holds_id, vec_cmp}
 use Rattle.mg_store.specs.Holding.{AreExact, entries_from, entry_at, change_told}
-use Rattle.mg_store.specs.Inserting.{Accepts, Appends, Fits, Lists, Refuses, Takes, new_documents}
+use Rattle.mg_store.specs.Inserting.{Accepts, Appends, Fits, Lists, Rejects, Takes, new_documents}
 use Rattle.mg_store.specs.declared.change.ChangeEntry.{ChangeEntry}
 use Rattle.mg_store.specs.declared.insert.Appended.{Appended}
 use Rattle.mg_store.proofs.Entries.{entries-append}
@@ -92,7 +92,7 @@ fits_same before a b e l h =
 
 -- the error was listed, and the others go on
 pub insert_refuses : (s : Space) (entries index next : ℕ) (before : List Fields) (a b : Appended) (d : Fields) (ds : List Fields) (i : Inserted) → next ≡ index + 1
-    → Refuses before index d a b → Going s false entries index before a (d ∷ ds) i → Going s false entries next before b ds i
+    → Rejects before index d a b → Going s false entries index before a (d ∷ ds) i → Going s false entries next before b ds i
 insert_refuses s entries index next before a b d ds i number got h =
     let l = got.lists in
     let later : suc index ≡ next = omega arith in
@@ -119,7 +119,7 @@ insert_goes s true false entries index next before a b d ds i goes_on number got
 insert_goes s false false entries index next before a b d ds i goes_on number got h = insert_refuses s entries index next before a b d ds i number got h
 
 -- the error of an ordered insert ends it
-pub insert_stops : (s : Space) (ordered : Bool) (entries index : ℕ) (before : List Fields) (a b : Appended) (d : Fields) (ds : List Fields) (i : Inserted) → ordered ≡ true → Refuses before index d a b → Going s ordered entries index before a (d ∷ ds) i → Appends before entries i b
+pub insert_stops : (s : Space) (ordered : Bool) (entries index : ℕ) (before : List Fields) (a b : Appended) (d : Fields) (ds : List Fields) (i : Inserted) → ordered ≡ true → Rejects before index d a b → Going s ordered entries index before a (d ∷ ds) i → Appends before entries i b
 insert_stops s ordered entries index before a b d ds i is got h =
     let l = got.lists in
     let rest : Inserted = inserting s ordered (suc index) (entries + length a.entries.items) (before ++ new_documents a) ds in

@@ -12,9 +12,9 @@ use Rattle.mg_link.specs.State.{Entry, Watch, sees, is_invalidate, events_betwee
 use Rattle.mg_link.specs.Rules.{behind_given, behind_other, full_behind, batch_place, documents_of_items, has_invalidate, ends_watch}
 
 -- how many of the entries that are left a batch has
-abbrev count_of : Option ℕ → ℕ → ℕ
-count_of None len = len
-count_of (Some n) len = n
+abbrev count_or : Option ℕ → ℕ → ℕ
+count_or None len = len
+count_or (Some n) len = n
 
 -- the place that a batch ends at, where its last event so far stands behind this place
 abbrev place_now : ℕ → ℕ → ℕ → Option ℕ → ℕ
@@ -34,8 +34,8 @@ full_now w all size room left place = full_behind w left room (nat_lt left size)
 -- the batch so far, and what is left of it
 pub record Stands (w : Watch) (all : List Entry) (from size : ℕ) (events : Items) (behind room left place : ℕ) : Type 0 where
   pub place_is : place_now (length all) behind place (full_now w all size room left place) ≡ batch_place w all from size
-  pub events_are : items_joined events (event_items w (count_of (full_now w all size room left place) (length (drop place all))) (drop place all)) ≡ documents_of_items (events_between w all from (batch_place w all from size))
-  pub ends : ends_within w (count_of (full_now w all size room left place) (length (drop place all))) (drop place all) ≡ ends_watch w all from (batch_place w all from size)
+  pub events_are : items_joined events (event_items w (count_or (full_now w all size room left place) (length (drop place all))) (drop place all)) ≡ documents_of_items (events_between w all from (batch_place w all from size))
+  pub ends : ends_within w (count_or (full_now w all size room left place) (length (drop place all))) (drop place all) ≡ ends_watch w all from (batch_place w all from size)
 
 -- ---- an entry that is not seen
 
@@ -44,12 +44,12 @@ place_other len behind place None = refl
 place_other len behind place (Some zero) = refl
 place_other len behind place (Some (suc n)) = omega arith
 
-items_other : (w : Watch) (e : Entry) (es : List Entry) (o : Option ℕ) → sees w e ≡ false → event_items w (count_of (behind_other o) (suc (length es))) (e ∷ es) ≡ event_items w (count_of o (length es)) es
+items_other : (w : Watch) (e : Entry) (es : List Entry) (o : Option ℕ) → sees w e ≡ false → event_items w (count_or (behind_other o) (suc (length es))) (e ∷ es) ≡ event_items w (count_or o (length es)) es
 items_other w e es None unseen = ap (λ (b : Bool). documents_of_items (map (λ (x : Entry). x.event) (if b then e ∷ filter (sees w) (take (length es) es) else filter (sees w) (take (length es) es)))) unseen
 items_other w e es (Some zero) unseen = refl
 items_other w e es (Some (suc n)) unseen = ap (λ (b : Bool). documents_of_items (map (λ (x : Entry). x.event) (if b then e ∷ filter (sees w) (take (suc n) es) else filter (sees w) (take (suc n) es)))) unseen
 
-ends_other : (w : Watch) (e : Entry) (es : List Entry) (o : Option ℕ) → sees w e ≡ false → ends_within w (count_of (behind_other o) (suc (length es))) (e ∷ es) ≡ ends_within w (count_of o (length es)) es
+ends_other : (w : Watch) (e : Entry) (es : List Entry) (o : Option ℕ) → sees w e ≡ false → ends_within w (count_or (behind_other o) (suc (length es))) (e ∷ es) ≡ ends_within w (count_or o (length es)) es
 ends_other w e es None unseen = ap (λ (b : Bool). has_invalidate (if b then e ∷ filter (sees w) (take (length es) es) else filter (sees w) (take (length es) es))) unseen
 ends_other w e es (Some zero) unseen = refl
 ends_other w e es (Some (suc n)) unseen = ap (λ (b : Bool). has_invalidate (if b then e ∷ filter (sees w) (take (suc n) es) else filter (sees w) (take (suc n) es))) unseen
@@ -68,8 +68,8 @@ batch_passes w all from size events behind room left place e here some unseen h 
     let full : full_now w all size room left place ≡ behind_other o = ap (full_behind w left room (nat_lt left size)) here ∙ full_other w left room (nat_lt left size) e es some unseen in
     record {
       place_is = sym (ap (place_now (length all) behind place) full ∙ place_other (length all) behind place o) ∙ h.place_is;
-      events_are = sym (ap₂ (λ (p : Option ℕ) (l : List Entry). items_joined events (event_items w (count_of p (length l)) l)) full here ∙ ap (items_joined events) (items_other w e es o unseen)) ∙ h.events_are;
-      ends = sym (ap₂ (λ (p : Option ℕ) (l : List Entry). ends_within w (count_of p (length l)) l) full here ∙ ends_other w e es o unseen) ∙ h.ends;
+      events_are = sym (ap₂ (λ (p : Option ℕ) (l : List Entry). items_joined events (event_items w (count_or p (length l)) l)) full here ∙ ap (items_joined events) (items_other w e es o unseen)) ∙ h.events_are;
+      ends = sym (ap₂ (λ (p : Option ℕ) (l : List Entry). ends_within w (count_or p (length l)) l) full here ∙ ends_other w e es o unseen) ∙ h.ends;
     }
 
 -- ---- an entry that is seen
@@ -79,7 +79,7 @@ place_given len behind place None = refl
 place_given len behind place (Some zero) = refl
 place_given len behind place (Some (suc n)) = omega arith
 
-count_given : (o : Option ℕ) (len : ℕ) → count_of (behind_given o) (suc len) ≡ suc (count_of o len)
+count_given : (o : Option ℕ) (len : ℕ) → count_or (behind_given o) (suc len) ≡ suc (count_or o len)
 count_given None len = refl
 count_given (Some n) len = refl
 
@@ -109,13 +109,13 @@ batch_takes w all from size events after behind room left place room' left' e he
     let now : full_behind w left' (room - length (bytes e.event)) true es ≡ o = ap₂ (λ (b : Bool) (r : ℕ). full_behind w left' r b es) (sym (lt-ltb left' size less)) (sym room_is) in
     let full : full_now w all size room left place ≡ behind_given o =
     ap₂ (λ (n : ℕ) (l : List Entry). full_behind w n room (nat_lt left size) l) some here ∙ full_given w left' room (nat_lt left size) e es seen fits goes_on ∙ ap behind_given now in
-    let these : event_items w (count_of (behind_given o) (suc (length es))) (e ∷ es) ≡ item (document e.event) (event_items w (count_of o (length es)) es) =
-    ap (λ (n : ℕ). event_items w n (e ∷ es)) (count_given o (length es)) ∙ items_given w e es (count_of o (length es)) seen in
+    let these : event_items w (count_or (behind_given o) (suc (length es))) (e ∷ es) ≡ item (document e.event) (event_items w (count_or o (length es)) es) =
+    ap (λ (n : ℕ). event_items w n (e ∷ es)) (count_given o (length es)) ∙ items_given w e es (count_or o (length es)) seen in
     record {
       place_is = sym (ap (place_now (length all) behind place) full ∙ place_given (length all) behind place o) ∙ h.place_is;
-      events_are = ap (λ (a : Items). items_joined a (event_items w (count_of o (length es)) es)) is ∙ items_joined_more events (document e.event) (event_items w (count_of o (length es)) es)
-          ∙ sym (ap₂ (λ (p : Option ℕ) (l : List Entry). items_joined events (event_items w (count_of p (length l)) l)) full here ∙ ap (items_joined events) these) ∙ h.events_are;
-      ends = sym (ap₂ (λ (p : Option ℕ) (l : List Entry). ends_within w (count_of p (length l)) l) full here ∙ ap (λ (n : ℕ). ends_within w n (e ∷ es)) (count_given o (length es)) ∙ ends_given w e es (count_of o (length es)) seen goes_on) ∙ h.ends;
+      events_are = ap (λ (a : Items). items_joined a (event_items w (count_or o (length es)) es)) is ∙ items_joined_more events (document e.event) (event_items w (count_or o (length es)) es)
+          ∙ sym (ap₂ (λ (p : Option ℕ) (l : List Entry). items_joined events (event_items w (count_or p (length l)) l)) full here ∙ ap (items_joined events) these) ∙ h.events_are;
+      ends = sym (ap₂ (λ (p : Option ℕ) (l : List Entry). ends_within w (count_or p (length l)) l) full here ∙ ap (λ (n : ℕ). ends_within w n (e ∷ es)) (count_given o (length es)) ∙ ends_given w e es (count_or o (length es)) seen goes_on) ∙ h.ends;
     }
 
 -- ---- the end of a batch
@@ -129,8 +129,8 @@ pub record Ends (w : Watch) (all : List Entry) (from size : ℕ) (events : Items
 abbrev ends_full : (w : Watch) (all : List Entry) (from size : ℕ) (events : Items) (behind room left place : ℕ) → full_now w all size room left place ≡ Some 0 → Stands w all from size events behind room left place → Ends w all from size events behind false
 ends_full w all from size events behind room left place full h = record {
   place_is = sym (ap (place_now (length all) behind place) full) ∙ h.place_is;
-  events_are = sym (ap (λ (o : Option ℕ). items_joined events (event_items w (count_of o (length (drop place all))) (drop place all))) full ∙ items_joined_all events) ∙ h.events_are;
-  ended_is = sym (ap (λ (o : Option ℕ). ends_within w (count_of o (length (drop place all))) (drop place all)) full) ∙ h.ends;
+  events_are = sym (ap (λ (o : Option ℕ). items_joined events (event_items w (count_or o (length (drop place all))) (drop place all))) full ∙ items_joined_all events) ∙ h.events_are;
+  ended_is = sym (ap (λ (o : Option ℕ). ends_within w (count_or o (length (drop place all))) (drop place all)) full) ∙ h.ends;
 }
 
 pub none_left : (w : Watch) (left room : ℕ) (g : Bool) (es : List Entry) → left ≡ 0 → full_behind w left room g es ≡ Some 0
@@ -174,8 +174,8 @@ batch_ended w all from size events after behind room left place left' e here som
     record {
       place_is = sym (ap (place_now (length all) behind place) full) ∙ h.place_is;
       events_are = is ∙ sym (items_joined_all (with_item events (document e.event))) ∙ items_joined_more events (document e.event) no_items
-          ∙ sym (ap₂ (λ (p : Option ℕ) (l : List Entry). items_joined events (event_items w (count_of p (length l)) l)) full here ∙ ap (items_joined events) (items_given w e es 0 seen)) ∙ h.events_are;
-      ended_is = sym (ap₂ (λ (p : Option ℕ) (l : List Entry). ends_within w (count_of p (length l)) l) full here
+          ∙ sym (ap₂ (λ (p : Option ℕ) (l : List Entry). items_joined events (event_items w (count_or p (length l)) l)) full here ∙ ap (items_joined events) (items_given w e es 0 seen)) ∙ h.events_are;
+      ended_is = sym (ap₂ (λ (p : Option ℕ) (l : List Entry). ends_within w (count_or p (length l)) l) full here
           ∙ ap (λ (b : Bool). has_invalidate (if b then e ∷ [] else [])) seen ∙ ap (λ (b : Bool). b || false) last) ∙ h.ends;
     }
 
@@ -191,6 +191,6 @@ batch_at_end w all from size events behind room left place le some h =
     let full : full_now w all size room left place ≡ None = ap (full_behind w left room (nat_lt left size)) here ∙ goes_to_end w left room (nat_lt left size) some in
     record {
       place_is = sym (ap (place_now (length all) behind place) full) ∙ h.place_is;
-      events_are = sym (ap₂ (λ (o : Option ℕ) (l : List Entry). items_joined events (event_items w (count_of o (length l)) l)) full here ∙ items_joined_all events) ∙ h.events_are;
-      ended_is = sym (ap₂ (λ (o : Option ℕ) (l : List Entry). ends_within w (count_of o (length l)) l) full here) ∙ h.ends;
+      events_are = sym (ap₂ (λ (o : Option ℕ) (l : List Entry). items_joined events (event_items w (count_or o (length l)) l)) full here ∙ items_joined_all events) ∙ h.events_are;
+      ended_is = sym (ap₂ (λ (o : Option ℕ) (l : List Entry). ends_within w (count_or o (length l)) l) full here) ∙ h.ends;
     }

@@ -49,15 +49,15 @@ pub exact-append : (es fs : List ChangeEntry) → AreExact es → AreExact fs �
 exact-append [] fs h g = g
 exact-append (e ∷ es) fs h g = (h.0, exact-append es fs h.1 g)
 
-abbrev counted : Bool → ℕ → ℕ
-counted below n = if below then suc n else n
+abbrev suc_if : Bool → ℕ → ℕ
+suc_if below n = if below then suc n else n
 
-counted_from : (time p n : ℕ) (es : List ChangeEntry) → n < length es → count_before time (drop n (entries_from p es)) ≡ counted (nat_lt (now_of (suc (p + n))) time) (count_before time (drop (suc n) (entries_from p es)))
+counted_from : (time p n : ℕ) (es : List ChangeEntry) → n < length es → count_before time (drop n (entries_from p es)) ≡ suc_if (nat_lt (now_of (suc (p + n))) time) (count_before time (drop (suc n) (entries_from p es)))
 counted_from time p n [] lt = absurd (omega arith)
-counted_from time p zero (e ∷ es) lt = let at : p ≡ p + 0 = omega arith in ap (λ (q : ℕ). counted (nat_lt (now_of (suc q)) time) (count_before time (entries_from (suc p) es))) at
+counted_from time p zero (e ∷ es) lt = let at : p ≡ p + 0 = omega arith in ap (λ (q : ℕ). suc_if (nat_lt (now_of (suc q)) time) (count_before time (entries_from (suc p) es))) at
 counted_from time p (suc n) (e ∷ es) lt =
     let at : suc p + n ≡ p + suc n = omega arith in
-    counted_from time (suc p) n es (omega arith) ∙ ap (λ (q : ℕ). counted (nat_lt (now_of (suc q)) time) (count_before time (drop (suc n) (entries_from (suc p) es)))) at
+    counted_from time (suc p) n es (omega arith) ∙ ap (λ (q : ℕ). suc_if (nat_lt (now_of (suc q)) time) (count_before time (drop (suc n) (entries_from (suc p) es)))) at
 
 -- the entry at a place counts where its time is below
 pub counted_at : (time n below bound now : ℕ) (es : List ChangeEntry) → n < length es → now ≡ now_of (n + 1) → (below + count_before time (drop n (entries_from 0 es)) ≡ bound)
@@ -65,9 +65,9 @@ pub counted_at : (time n below bound now : ℕ) (es : List ChangeEntry) → n < 
 counted_at time n below bound now es lt is so_far =
     let at : suc (0 + n) ≡ n + 1 = omega arith in
     let next : suc n ≡ n + 1 = omega arith in
-    let step = counted_from time 0 n es lt ∙ ap₂ (λ (q r : ℕ). counted (nat_lt (now_of q) time) (count_before time (drop r (entries_from 0 es)))) at next ∙ ap (λ (q : ℕ). counted (nat_lt q time) (count_before time (drop (n + 1) (entries_from 0 es)))) (sym is) in (
-      λ less. let e = step ∙ ap (λ (b : Bool). counted b (count_before time (drop (n + 1) (entries_from 0 es)))) (lt-ltb now time less) in omega (arith, so_far, e),
-      λ more. let e = step ∙ ap (λ (b : Bool). counted b (count_before time (drop (n + 1) (entries_from 0 es)))) (le-ltb now time more) in omega (arith, so_far, e),
+    let step = counted_from time 0 n es lt ∙ ap₂ (λ (q r : ℕ). suc_if (nat_lt (now_of q) time) (count_before time (drop r (entries_from 0 es)))) at next ∙ ap (λ (q : ℕ). suc_if (nat_lt q time) (count_before time (drop (n + 1) (entries_from 0 es)))) (sym is) in (
+      λ less. let e = step ∙ ap (λ (b : Bool). suc_if b (count_before time (drop (n + 1) (entries_from 0 es)))) (lt-ltb now time less) in omega (arith, so_far, e),
+      λ more. let e = step ∙ ap (λ (b : Bool). suc_if b (count_before time (drop (n + 1) (entries_from 0 es)))) (le-ltb now time more) in omega (arith, so_far, e),
     )
 
 got_from : (p n : ℕ) (es : List ChangeEntry) (e : ChangeEntry) → n < length es → e ≡ get_or es n e → slice_get (entries_from p es) n ≡ Some (entry_at (p + n) e)

@@ -13,7 +13,7 @@ use Rattle.mg_link.specs.Rules as rules
 use Rattle.mg_link.specs.Rules.{refused}
 use Rattle.mg_query.specs.Asking.{keyed, matches_keys}
 use Rattle.mg_query.specs.Querying.{Doing, Results, all_done, doing, done}
-use Rattle.mg_query.specs.Wanted.{code_of, find}
+use Rattle.mg_query.specs.Wanted.{refusal_code, find}
 use Rattle.mg_query.specs.declared.refusal.Refusal.{Refusal}
 use Rattle.mg_query.specs.declared.refusal.Stop.{Stop}
 use Rattle.mg_query.specs.declared.refusal.Stop.TheVariants as stops
@@ -56,6 +56,6 @@ pub find_stops : (s : State) (given : ℕ) (sp : Space) (stages : List Stage) (s
     → Settles s given (rules.find (query_by (of_collection sp) single stages size)) (Err stop)
 find_stops s given sp stages single size steps rows stops.Memory same there is = tt
 find_stops s given sp stages single size steps rows (stops.Refused refusal) same there is = (
-  find_refused s given (query_by (of_collection sp) single stages size) (documents_of s sp) refl (sym (stages_same stages (documents_of s sp)) ∙ ap₂ all_done (sym same) (sym there) ∙ is.1) ∙ ap (λ (x : Refusal). refused (code_of x)) (sym is.0),
+  find_refused s given (query_by (of_collection sp) single stages size) (documents_of s sp) refl (sym (stages_same stages (documents_of s sp)) ∙ ap₂ all_done (sym same) (sym there) ∙ is.1) ∙ ap (λ (x : Refusal). refused (refusal_code x)) (sym is.0),
   subst (λ (x : Refusal). Misses s x (rules.find (query_by (of_collection sp) single stages size))) (sym is.0) tt,
 )

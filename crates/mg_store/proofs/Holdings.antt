@@ -26,7 +26,7 @@ use Rattle.mg_query.specs.Indexing.{index_held}
 use Rattle.mg_query.specs.declared.index.Index as code_index
 use Rattle.mg_query.specs.Replies.{killed_with, found_with}
 use Rattle.mg_store.specs.Answering.{Answers}
-use Rattle.mg_store.specs.Contents.{IsCursorAt, Represents, Settles, collection_at, moving, opening, GoesOn, IsCursor, beginning, taking}
+use Rattle.mg_store.specs.Contents.{IsCursorAt, Represents, Settles, collection_at, moving, opening_effect, GoesOn, IsCursor, beginning, taking}
 use Rattle.mg_store.specs.Holding.{AreExact, GivesBatch, IsWatch, entries_from}
 use Rattle.mg_store.specs.Inserting.{Appends, Fits, new_documents}
 use Rattle.mg_link.proofs.Cursoring.{not_zero}
@@ -136,7 +136,7 @@ abbrev pub opened_with : ℤ → Space → Items → ℕ → Tree → Fields
 opened_with id sp events place time = "cursor" ⇒ document (cursor_fields id sp ("firstBatch" ⇒ array events ⨾ "postBatchResumeToken" ⇒ token_of place ⨾ empty)) ⨾ "operationTime" ⇒ time ⨾ "ok" ⇒ int32 (pos 1) ⨾ empty
 
 pub watch_settles : (s : State) (given : ℕ) (w : Watch) (start : Start) (resumes : Bool) (size : Option ℕ) (from : ℕ) (batch : Events) (cw : held.Watch) (id : ℤ) (sp : Space) (d : Fields) (e : Effect) (result : Result Answer Stop) → place_at s w start resumes ≡ Ok from
-    → IsWatch cw w → GivesBatch w s.changes from (size_of size) batch → id ≡ id_unless batch.ended (pos (suc given)) → sp ≡ watch_space w.target → e ≡ opening batch.ended (pos (suc given)) (record { source = sources.Watch cw; place = batch.place })
+    → IsWatch cw w → GivesBatch w s.changes from (size_of size) batch → id ≡ id_unless batch.ended (pos (suc given)) → sp ≡ watch_space w.target → e ≡ opening_effect batch.ended (pos (suc given)) (record { source = sources.Watch cw; place = batch.place })
     → d ≡ opened_with id sp batch.events batch.place (stamp_of (length s.changes)) → Answers result d e → Settles s given (rules.watch w start resumes size) result
 watch_settles s given w start resumes size from batch cw id sp d e result at watches got id_is sp_is effect is answered =
     let reply : ℕ → rules.Answer = λ f. rules.answer_with [] (rules.watch_reply s (pos (suc given)) w f (size_of size)) in
@@ -148,7 +148,7 @@ watch_settles s given w start resumes size from batch cw id sp d e result at wat
       cursor = record { source = sources.Watch cw; place = batch.place };
       from = from;
       at = at;
-      is = effect ∙ ap (λ (b : Bool). opening b (pos (suc given)) (record { source = sources.Watch cw; place = batch.place })) got.ended_is;
+      is = effect ∙ ap (λ (b : Bool). opening_effect b (pos (suc given)) (record { source = sources.Watch cw; place = batch.place })) got.ended_is;
       place = batch.place;
       watches = (watches, refl);
       place_is = got.place_is;

@@ -1,5 +1,5 @@
 -- A step more is kept.
-use Rattle.std.proofs.Common.{◌≡◌, ℕ, ℤ, suc, ◌<◌, ◌^◌, Bool, true, false, List, [], ◌∷◌, ◌++◌, length, map, Option, Some, None, is_some, option_map, refl, sym, ap, ap₂, ◌∙◌, subst, arith}
+use Rattle.std.proofs.Common.{◌≡◌, ℕ, ℤ, ◌<◌, ◌^◌, Bool, true, false, List, [], ◌∷◌, ◌++◌, length, map, Option, Some, None, is_some, option_map, refl, sym, ap, ap₂, ◌∙◌, subst, arith}
 use Rattle.std.specs.Prelude.{◌||◌, if◌then◌else◌, unwrap_or}
 use Rattle.std.specs.BTreeMap.{get}
 use Rattle.std.specs.Cmp.{both_ways}
@@ -8,6 +8,7 @@ use Rattle.std.specs.List.Sorted.{IsStrictlySortedBy}
 use Rattle.std.specs.Ordering.{int_cmp, int_eq, is_eq}
 use Rattle.std.proofs.lemmas.Bool.Decides.{Decides-int_eq}
 use Rattle.mg_bson.specs.Tree.{Fields}
+use Rattle.mg_bson.specs.Bytes.{bytes}
 use Rattle.mg_bson.specs.Raw.{fields}
 use Rattle.mg_link.specs.Namespace.{Space}
 use Rattle.mg_link.specs.State.{Cursor, State, nothing, documents_at, indexes_of, put_cursor}
@@ -20,15 +21,15 @@ use Rattle.mg_link.proofs.Behind.{behind_refusal}
 use Rattle.mg_link.proofs.Indexed.{indexes_refused}
 use Rattle.mg_link.proofs.Legal.{by_rules_push, given_push, kept_is_legal, kept_state, state_push}
 use Rattle.mg_query.specs.Continued.{continued}
-use Rattle.mg_query.specs.Numbering.{stored}
+use Rattle.mg_query.specs.Numbering.{KeepsIds, stored, stored_bytes}
 use Rattle.mg_query.specs.declared.collection.Collection.{Collection}
+use Rattle.mg_query.proofs.Numbers.{bytes_are}
 use Rattle.mg_store.specs.Contents.{AnswersBy, Becomes, Does, Keeps, Leads, MayKeep, Represents, closing, collection_at, indexes_behind}
 use Rattle.mg_store.specs.declared.perform.Answer.{Answer}
 use Rattle.mg_store.specs.declared.content.Content.{Content}
 use Rattle.mg_store.specs.declared.content.Effect.{Effect}
 use Rattle.mg_store.specs.Holding.{AreExact, entries_from}
-use Rattle.mg_store.specs.Stored.{AreOpen, Shown, shown, shown_of}
-use Rattle.mg_store.specs.declared.change.ChangeEntry.{ChangeEntry}
+use Rattle.mg_store.specs.Stored.{AreOpen}
 use Rattle.mg_store.proofs.Holdings.{changes-length, held_is}
 use Rattle.mg_store.proofs.Maps.{int_test}
 
@@ -102,12 +103,15 @@ keeps_none c h = record { by_rules = tt; content_is = h }
 pub documents_shown : (c : Content) (history : List Kept) (sp : Space) (o : Option Collection) → Keeps c history → o ≡ collection_at c.collections sp → unwrap_or (option_map stored o) [] ≡ documents_of (state_of_kept history) sp
 documents_shown c history sp o h e = ap (λ (x : Option Collection). unwrap_or (option_map stored x) []) e ∙ sym (ap (λ (x : Option (List Fields)). unwrap_or x []) (h.content_is.documents_are sp))
 
-shown_entries : (p : ℕ) (es : List ChangeEntry) → map shown_of es ≡ map shown (entries_from p es)
-shown_entries p [] = refl
-shown_entries p (e ∷ es) = ap (λ (l : List Shown). shown_of e ∷ l) (shown_entries (suc p) es)
+bytes_there : (o : Option Collection) → ((col : Collection) → o ≡ Some col → KeepsIds col) → unwrap_or (option_map stored_bytes o) [] ≡ map bytes (unwrap_or (option_map stored o) [])
+bytes_there None keeps = refl
+bytes_there (Some col) keeps = bytes_are col (keeps col refl)
 
-pub changes_shown : (c : Content) (history : List Kept) → Keeps c history → map shown_of c.changes.items ≡ map shown (state_of_kept history).changes
-changes_shown c history h = shown_entries 0 c.changes.items ∙ ap (map shown) (sym h.content_is.changes_are)
+pub documents_exact : (c : Content) (history : List Kept) (sp : Space) (o : Option Collection) → Keeps c history → o ≡ collection_at c.collections sp → unwrap_or (option_map stored_bytes o) [] ≡ map bytes (documents_of (state_of_kept history) sp)
+documents_exact c history sp o h e = bytes_there o (λ col is. h.content_is.ids_are sp col (sym e ∙ is)) ∙ ap (map bytes) (documents_shown c history sp o h e)
+
+pub changes_are : (c : Content) (history : List Kept) → Keeps c history → entries_from 0 c.changes.items ≡ (state_of_kept history).changes
+changes_are c history h = sym h.content_is.changes_are
 
 pub changes_exact : (c : Content) (history : List Kept) → Keeps c history → AreExact c.changes.items
 changes_exact c history h = h.content_is.exact

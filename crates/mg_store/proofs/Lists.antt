@@ -20,7 +20,7 @@ use Rattle.mg_link.specs.State.{State, collection_in, is_space, space_cmp, names
 use Rattle.mg_link.proofs.Ordered.{spaces_total, tied_is}
 use Rattle.mg_query.specs.Listing.{name_listed, names_listed}
 use Rattle.mg_query.specs.Querying.{Doing, Results, all_done, doing}
-use Rattle.mg_query.specs.Wanted.{code_of}
+use Rattle.mg_query.specs.Wanted.{refusal_code}
 use Rattle.mg_query.specs.declared.collection.Collection.{Collection}
 use Rattle.mg_query.specs.declared.refusal.Refusal.{Refusal}
 use Rattle.mg_query.specs.declared.refusal.Stop.{Stop}
@@ -84,6 +84,6 @@ pub collections_stop : (c : Content) (s : State) (given : ℕ) (db : List ℕ) (
 collections_stop c s given db stages single size steps rows stops.Memory h order ordered same these is = tt
 collections_stop c s given db stages single size steps rows (stops.Refused refusal) h order ordered same these is =
     let there : List Fields = map collection_listed (filter (λ (c : state.Collection). bytes_eq db c.space.db) s.collections) in (
-      find_refused s given (query_by (of_database db) single stages size) there refl (sym (stages_same stages there) ∙ ap₂ all_done (sym same) (sym (rows_are c s given db rows h order ordered these)) ∙ is.1) ∙ ap (λ (x : Refusal). refused (code_of x)) (sym is.0),
+      find_refused s given (query_by (of_database db) single stages size) there refl (sym (stages_same stages there) ∙ ap₂ all_done (sym same) (sym (rows_are c s given db rows h order ordered these)) ∙ is.1) ∙ ap (λ (x : Refusal). refused (refusal_code x)) (sym is.0),
       subst (λ (x : Refusal). Misses s x (rules.find (query_by (of_database db) single stages size))) (sym is.0) tt,
     )

@@ -6,7 +6,7 @@ use Rattle.mg_bson.specs.Tree.{Fields}
 use Rattle.mg_link.specs.Causes.{Rose, RoseJust}
 use Rattle.mg_link.specs.History.{Step}
 use Rattle.mg_link.specs.Kept.{Kept, steps_of}
-use Rattle.mg_link.specs.Link.{AnswersAtOnce, Ends, OneMoreAt, PollMeans, PollPends, SamePolls, StaysPrompt}
+use Rattle.mg_link.specs.Link.{ComesAtOnce, Ends, OneMoreAt, PollMeans, PollPends, SamePolls, StaysPrompt}
 use Rattle.mg_link.specs.Log.{Sight, waiting, reply, fault, memory, Call, see}
 use Rattle.mg_link.specs.Places.{out_at, polls_in, IsAnswer}
 use Rattle.mg_link.specs.Rules.{refusal}
@@ -14,7 +14,7 @@ use Rattle.mg_link.specs.Standing.{Stands, SeenFits}
 use Rattle.mg_link.specs.declared.link.Polled.{Polled}
 use Rattle.mg_link.specs.declared.link.Polled.TheVariants as polled
 use Rattle.mg_link.proofs.Outs.{is_waiting, ends_at, length-see, polled_once_more}
-use Rattle.mg_store.specs.InMemory.{fate_at, TookStep, by_rules, TookAs, reply_at, coming, SeesWhatComes, PendedAs, fault_by, faults_in, pends_in, one_more, pended_after, Comes, IsPrompt}
+use Rattle.mg_store.specs.InMemory.{fate_at, TookStep, by_rules, TookAs, reply_at, coming, SeesWhatComes, PendedAs, fault_by, faults_in, pends_in, one_more, pended_after, Comes, IsPromptLink}
 use Rattle.mg_store.specs.Sending.{pended_of, IsKept, Honest, Pends, Answered, PolledAt}
 use Rattle.mg_store.specs.declared.fate.Fate.{Fate}
 use Rattle.mg_store.specs.declared.fate.FateKind.{FateKind}
@@ -303,7 +303,7 @@ pended_here [] at w h = cc
 pended_here (v ∷ waits) zero w h = ap (λ (x : Wait). Some x.pended) (same_some v w h)
 pended_here (v ∷ waits) (suc at) w h = pended_here waits at w h
 
-module _ (history : List Kept) (fates : List Fate) (calls calls' : List Call) (waits waits' : List Wait) (at : ℕ) (out : IsSome (out_at calls at)) (honest : Honest history calls waits fates) (p : IsPrompt fates calls (pended_of waits)) where
+module _ (history : List Kept) (fates : List Fate) (calls calls' : List Call) (waits waits' : List Wait) (at : ℕ) (out : IsSome (out_at calls at)) (honest : Honest history calls waits fates) (p : IsPromptLink fates calls (pended_of waits)) where
   -- nothing is left of the fate of a call that waits
   nothing_left : (w : Wait) → slice_get waits at ≡ Some w → Comes (fate_at fates at).kind × ((fate_at fates at).pend ≤ w.pended)
   nothing_left w found = let c = is_waiting calls at out in p.waits at c.call w.pended c.found (pended_here waits at w found) c.waits
@@ -319,13 +319,13 @@ module _ (history : List Kept) (fates : List Fate) (calls calls' : List Call) (w
       let bad : None ≡ Some there.0 = sym none ∙ old.comes c.waits ∙ there.1 in
       cc
 
-  pub at_once_polled : (result : Polled) → PolledAt result (fate_at fates at).pend waits waits' calls calls' at → AnswersAtOnce result
+  pub at_once_polled : (result : Polled) → PolledAt result (fate_at fates at).pend waits waits' calls calls' at → ComesAtOnce result
   at_once_polled (polled.Pending given) h = no_pending h.1.wait h.1.found h.1.early
   at_once_polled (polled.Reply bytes) h = tt
   at_once_polled polled.Failed h = no_failing h.wait h.found h.come_is
   at_once_polled polled.Memory h = tt
 
-  prompt_answered : (come : Option (List ℕ)) (seen : Sight) → IsAnswer seen → Answered (fate_at fates at).pend waits waits' calls calls' at come seen → IsPrompt fates calls' (pended_of waits')
+  prompt_answered : (come : Option (List ℕ)) (seen : Sight) → IsAnswer seen → Answered (fate_at fates at).pend waits waits' calls calls' at come seen → IsPromptLink fates calls' (pended_of waits')
   prompt_answered come seen answer h =
       let same = ap length h.calls_are ∙ length-see at seen calls in
       let pended_is = pended_answered (fate_at fates at).pend calls calls' waits waits' at come seen h in
@@ -337,7 +337,7 @@ module _ (history : List Kept) (fates : List Fate) (calls calls' : List Call) (w
         ];
       }
 
-  stays_answered : (come : Option (List ℕ)) (seen : Sight) → IsAnswer seen → fault_by seen ≡ 0 → Answered (fate_at fates at).pend waits waits' calls calls' at come seen → StaysPrompt (IsPrompt fates calls' (pended_of waits')) (faults_in calls) (faults_in calls') (pends_in (pended_of waits)) (pends_in (pended_of waits'))
+  stays_answered : (come : Option (List ℕ)) (seen : Sight) → IsAnswer seen → fault_by seen ≡ 0 → Answered (fate_at fates at).pend waits waits' calls calls' at come seen → StaysPrompt (IsPromptLink fates calls' (pended_of waits')) (faults_in calls) (faults_in calls') (pends_in (pended_of waits)) (pends_in (pended_of waits'))
   stays_answered come seen answer none h =
       let e = faults_answered (fate_at fates at).pend calls calls' waits waits' at come seen out h in
       record {
@@ -346,7 +346,7 @@ module _ (history : List Kept) (fates : List Fate) (calls calls' : List Call) (w
         no_pend = ap pends_in (pended_answered (fate_at fates at).pend calls calls' waits waits' at come seen h);
       }
 
-  pub stays_polled : (result : Polled) → PolledAt result (fate_at fates at).pend waits waits' calls calls' at → StaysPrompt (IsPrompt fates calls' (pended_of waits')) (faults_in calls) (faults_in calls') (pends_in (pended_of waits)) (pends_in (pended_of waits'))
+  pub stays_polled : (result : Polled) → PolledAt result (fate_at fates at).pend waits waits' calls calls' at → StaysPrompt (IsPromptLink fates calls' (pended_of waits')) (faults_in calls) (faults_in calls') (pends_in (pended_of waits)) (pends_in (pended_of waits'))
   stays_polled (polled.Pending given) h = absurd (no_pending h.1.wait h.1.found h.1.early)
   stays_polled (polled.Reply bytes) h = stays_answered (Some bytes.items) (reply bytes.items) tt refl h
   stays_polled polled.Failed h = absurd (no_failing h.wait h.found h.come_is)

@@ -24,7 +24,7 @@ use Rattle.mg_link.specs.Rules.{deleted_entries, deleted_event, entry_before, ev
 use Rattle.mg_link.specs.Write.{Modification, sets, puts, after_delete, after_update, change_of, changing, chosen, differs, modified, with_fields, with_id}
 use Rattle.mg_query.specs.Asking.{Keyed, keyed, matches_keys}
 use Rattle.mg_query.specs.Collecting.{AreDistinct, exchange_document, without_document, AreKeyed, exchange_documents, without_documents}
-use Rattle.mg_query.specs.Numbering.{IsKeyed, document_of, holds_id, is_of_id}
+use Rattle.mg_query.specs.Numbering.{IsExact, IsKeyed, document_of, holds_id, is_of_id}
 use Rattle.mg_query.specs.Querying.{chosen_by, lent}
 use Rattle.mg_query.specs.Modifying.{AltersOr}
 use Rattle.mg_query.specs.declared.collection.KeyedDocument.{KeyedDocument}
@@ -110,7 +110,7 @@ none_is_of m d ds [] (k ∷ ks) apart among made = absurd made
 none_is_of m d ds (o ∷ olds) [] apart among made = absurd made
 none_is_of m d ds (o ∷ olds) (k ∷ ks) apart among made =
     let b : Bool = is_of_id k.key.items d in
-    (not_of b k.key d ds refl apart (among.0 k.key (of_its_id k.key.items o made.0)), none_is_of m d ds olds ks apart among.1 made.2)
+    (not_of b k.key d ds refl apart (among.0 k.key (of_its_id k.key.items o made.0)), none_is_of m d ds olds ks apart among.1 made.3)
 
 -- a document with the same id is none of them either
 none_is_same : (k : List ℕ) (d e : Fields) (ks : List KeyedDocument) → IsKeyed k d → IsKeyed k e → NoneIsOf ks d → NoneIsOf ks e
@@ -186,7 +186,7 @@ by_difference : (e : Bool) (m : Modification) (d : Fields) (ds after gs : List F
 by_difference false m d ds after gs ks keeps apart among same rest made = passed_over ks d ds after (none_is_of m d ds gs ks apart among made) (rest ks made) ∙ ap (λ (x : Fields). x ∷ after) (sym (same refl))
 by_difference true m d ds after gs [] keeps apart among same rest made = absurd made
 by_difference true m d ds after gs (k ∷ ks) keeps apart among same rest made =
-    changed_first m k ks d ds after keeps made.0 made.1 apart (none_is_of m d ds gs ks apart among made.2) (rest ks made.2)
+    changed_first m k ks d ds after keeps made.0 made.1 apart (none_is_of m d ds gs ks apart among made.3) (rest ks made.3)
 
 by_match : (b : Bool) (m : Modification) (d : Fields) (ds after fs : List Fields) (ks : List KeyedDocument) → KeepsId m → IsApart d ds → AreAmong fs ds
     → ((more : List KeyedDocument) → LeavesEqual m fs → AreMade m (altering m fs) more → exchange_documents more ds ≡ after)
@@ -233,13 +233,13 @@ pub made_keyed : (m : Modification) (ds : List Fields) (ks : List KeyedDocument)
 made_keyed m [] [] keeps made = tt
 made_keyed m [] (k ∷ ks) keeps made = absurd made
 made_keyed m (d ∷ ds) [] keeps made = absurd made
-made_keyed m (d ∷ ds) (k ∷ ks) keeps made = (keyed_modified m d (document_of k) k.key.items keeps made.0 made.1, made_keyed m ds ks keeps made.2)
+made_keyed m (d ∷ ds) (k ∷ ks) keeps made = (keyed_modified m d (document_of k) k.key.items keeps made.0 made.1, made.2, made_keyed m ds ks keeps made.3)
 
 pub made_length : (m : Modification) (ds : List Fields) (ks : List KeyedDocument) → AreMade m ds ks → length ks ≡ length ds
 made_length m [] [] made = refl
 made_length m [] (k ∷ ks) made = absurd made
 made_length m (d ∷ ds) [] made = absurd made
-made_length m (d ∷ ds) (k ∷ ks) made = ap suc (made_length m ds ks made.2)
+made_length m (d ∷ ds) (k ∷ ks) made = ap suc (made_length m ds ks made.3)
 
 -- ---- what a delete leaves
 
@@ -377,11 +377,11 @@ all_push : (P : Fields → Type 0) (ds : List Fields) (d : Fields) → AllByRecu
 all_push P [] d h p = (p, tt)
 all_push P (x ∷ ds) d h p = (h.0, all_push P ds d h.1 p)
 
-made_push : (m : Modification) (ds : List Fields) (ks : List KeyedDocument) (d : Fields) (k : KeyedDocument) → AreMade m ds ks → IsKeyed k.key.items d → document_of k ≡ modified m d → AreMade m (ds ++ d ∷ []) (ks ++ k ∷ [])
-made_push m [] [] d k made keyed is = (keyed, is, tt)
-made_push m [] (x ∷ ks) d k made keyed is = absurd made
-made_push m (x ∷ ds) [] d k made keyed is = absurd made
-made_push m (x ∷ ds) (y ∷ ks) d k made keyed is = (made.0, made.1, made_push m ds ks d k made.2 keyed is)
+made_push : (m : Modification) (ds : List Fields) (ks : List KeyedDocument) (d : Fields) (k : KeyedDocument) → AreMade m ds ks → IsKeyed k.key.items d → document_of k ≡ modified m d → IsExact k.document → AreMade m (ds ++ d ∷ []) (ks ++ k ∷ [])
+made_push m [] [] d k made keyed is exact = (keyed, is, exact, tt)
+made_push m [] (x ∷ ks) d k made keyed is exact = absurd made
+made_push m (x ∷ ds) [] d k made keyed is exact = absurd made
+made_push m (x ∷ ds) (y ∷ ks) d k made keyed is exact = (made.0, made.1, made.2, made_push m ds ks d k made.3 keyed is exact)
 
 ids_push : (ds : List Fields) (ks : List (Vec ℕ Global)) (d : Fields) (k : Vec ℕ Global) → AreIdsOf ds ks → IsKeyed k.items d → AreIdsOf (ds ++ d ∷ []) (ks ++ k ∷ [])
 ids_push [] [] d k ids keyed = (keyed, tt)
@@ -419,7 +419,7 @@ makes_more entries place sp m ds d old new at differ more h =
     let n : place ≡ suc (entries + length (altering m ds)) = at ∙ ap (λ (k : ℕ). suc (entries + k)) count in
     record {
       made = subst (λ (l : List Fields). AreMade m l new.documents.items) more_are
-          (subst (AreMade m (altering m ds ++ d ∷ [])) (sym more.documents_are) (made_push m (altering m ds) old.documents.items d more.document h.made more.keyed more.made));
+          (subst (AreMade m (altering m ds ++ d ∷ [])) (sym more.documents_are) (made_push m (altering m ds) old.documents.items d more.document h.made more.keyed more.made more.exact));
       entries_are = ap (entries_from entries) more.entries_are ∙ entries-append entries old.entries.items (more.entry ∷ [])
           ∙ ap₂ (λ (l : List Entry) (k : ℕ). l ++ entry_at (entries + k) more.entry ∷ []) h.entries_are count
           ∙ ap (λ (e : Entry). modified_entries entries sp m (altering m ds) ++ e ∷ [])

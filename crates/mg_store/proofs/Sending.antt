@@ -1,21 +1,23 @@
 -- A link in memory stays honest: its log stands in the history of its store, and each call is as its fate says.
 use Rattle.std.proofs.Common.{◌≡◌, ℕ, ℤ, zero, suc, ◌+◌, ◌≤◌, List, [], ◌∷◌, ◌++◌, length, map, Option, Some, None, option_map, Bool, true, false, refl, sym, ap, ◌∙◌, subst, inl, inr, append_assoc, arith}
-use Rattle.std.specs.Prelude.{slice_get, is_some, string_bytes, Result, Ok, Err, IfOk, OnErr}
+use Rattle.std.specs.Prelude.{slice_get, is_some, not, string_bytes, Result, Ok, Err, IfOk, OnErr}
 use Rattle.std.proofs.lemmas.List.{length-map}
 use Rattle.std.proofs.lemmas.Option.{slice_get_past}
 use Rattle.mg_bson.specs.Tree.{Fields}
+use Rattle.mg_link.specs.Commands.{Asked, asks_insert, asks_watch, asks_more, asks_kill, asks_update, asks_delete, asks_query, asks_create, asks_indexes, asks_drop, asks_other, asked}
 use Rattle.mg_link.specs.History.{Step}
 use Rattle.mg_link.specs.Kept.{Kept, step_of, state_behind, given_after, steps_from, steps_of, state_of_kept, given_of, is_started}
 use Rattle.mg_link.specs.Link.{SamePolls, Starts}
 use Rattle.mg_link.specs.Log.{waiting, Call}
 use Rattle.mg_link.specs.Places.{waiting_at, out_at, polls_in}
 use Rattle.mg_link.specs.Rules.{refusal}
-use Rattle.mg_link.specs.Standing.{Stands}
+use Rattle.mg_link.specs.Standing.{Names, Stands}
 use Rattle.mg_link.specs.State.{State}
 use Rattle.mg_link.proofs.Legal.{steps_push}
 use Rattle.mg_link.proofs.Outs.{polls_push}
 use Rattle.mg_link.proofs.Places.{get_within}
-use Rattle.mg_store.specs.InMemory.{fate_of, fate_at, TookStep, by_rules, TookAs, reply_at, coming, SeesWhatComes, IsAsFate, AreAsFates, ArePlaced, fault_by, faults_in, pends_in, Performed, Takes, position_behind, sent_call, Started, NamesNone, Comes, IsPrompt, IsSmall, AreSmall}
+use Rattle.mg_query.specs.Continued.{is_about_cursors}
+use Rattle.mg_store.specs.InMemory.{fate_of, fate_at, TookStep, by_rules, TookAs, reply_at, coming, SeesWhatComes, IsAsFate, AreAsFates, ArePlaced, fault_by, faults_in, pends_in, Performed, Takes, position_behind, sent_call, Started, NamesNone, Comes, IsPromptLink, IsSmall, AreSmall}
 use Rattle.mg_store.specs.Sending.{pended_of, IsKept, Honest, Sent}
 use Rattle.mg_link.specs.declared.error.OutOfMemory.{OutOfMemory}
 use Rattle.mg_link.specs.declared.history.Receipt.{Receipt}
@@ -268,7 +270,7 @@ started_sent kind kind' old new command calls calls' waits waits' n is at sent =
 prompt_new : (fate : Fate) (n : ℕ) → fate ≡ fate_of None → Comes fate.kind × (fate.pend ≤ n)
 prompt_new fate n is = subst (λ (f : Fate). Comes f.kind × (f.pend ≤ n)) (sym is) (tt, omega arith)
 
-pub prompt_sent : (fates : List Fate) (kind : FateKind) (old new : Stored) (command : List ℕ) (calls calls' : List Call) (waits waits' : List Wait) → length waits ≡ length calls → Sent kind command old new calls calls' waits waits' → IsPrompt fates calls (pended_of waits) → IsPrompt fates calls' (pended_of waits')
+pub prompt_sent : (fates : List Fate) (kind : FateKind) (old new : Stored) (command : List ℕ) (calls calls' : List Call) (waits waits' : List Wait) → length waits ≡ length calls → Sent kind command old new calls calls' waits waits' → IsPromptLink fates calls (pended_of waits) → IsPromptLink fates calls' (pended_of waits')
 prompt_sent fates kind old new command calls calls' waits waits' counted sent p =
     let call_new = sent_call kind old.history command in
     let a = ap length sent.calls_are ∙ length-joined calls call_new [] in
@@ -296,6 +298,24 @@ honest_stepped fates old new command given calls waits none is honest =
       stands = subst (λ h. Stands calls h) (sym (ap steps_of is ∙ steps_push old.history kept)) (stands_aside calls (steps_of old.history) step none honest.stands);
       each = λ k call wait found found'. subst (λ h. IsKept h (fate_at fates k) call wait) (sym is) (kept_grown old.history kept (fate_at fates k) call wait (honest.each k call wait found found'));
     }
+
+-- a command that is about no cursor names none
+unnamed : (a : Asked) → is_about_cursors a ≡ false → (x : ℤ) → Names a x → ⊥
+unnamed (asks_more id space) h x names = absurd cc
+unnamed (asks_kill ids) h x names = absurd cc
+unnamed (asks_insert space documents ordered) h x names = names
+unnamed (asks_update space conditions modification many) h x names = names
+unnamed (asks_delete space conditions many) h x names = names
+unnamed (asks_query query) h x names = names
+unnamed (asks_create space) h x names = names
+unnamed (asks_indexes space indexes) h x names = names
+unnamed (asks_drop space) h x names = names
+unnamed (asks_watch watch start) h x names = names
+unnamed asks_other h x names = names
+
+pub names_none : (command : List ℕ) (b : Bool) → (b ≡ false → is_about_cursors (asked command) ≡ false) → not b ≡ true → NamesNone command
+names_none command true others aside x names = absurd cc
+names_none command false others aside x names = unnamed (asked command) (others refl) x names
 
 pub honest_aside : (fates : List Fate) (old new : Stored) (command : List ℕ) (calls : List Call) (waits : List Wait) (result : Result Receipt OutOfMemory) → NamesNone command → IfOk result (λ r. Performs old new command r) → OnErr result (new ≡ old) → Honest old.history calls waits fates → Honest new.history calls waits fates
 honest_aside fates old new command calls waits (Ok r) none step err honest = honest_stepped fates old new command r.reply calls waits none step.history honest

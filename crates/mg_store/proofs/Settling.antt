@@ -15,7 +15,7 @@ use Rattle.mg_link.specs.Step.{documents_of, ends_cursor, cursors_refused}
 use Rattle.mg_link.specs.Query.{index_listed}
 use Rattle.mg_link.specs.Write.{with_indexes, after_delete, after_update, changing, chosen, modified}
 use Rattle.mg_link.specs.Rules as rules
-use Rattle.mg_link.specs.Rules.{Inserted, answer, answer_insert, answer_of, and_then, bad_request, batch_place, ends_watch, fitting, inserting, insert_request, kill_request, more_request, or_code, refusal, refused, request_of, size_of, unknown_command, watch_reply, may_stay, create_request, indexes_request, drop_request, list_collections_request, list_indexes_request, dropped_entries, batch_of_query, find_request, first_held, query_id, query_space, aggregate_request, watch_request, update_request, delete_request, modified_entries, deleted_entries, events_may_be_given, updated_reply, deleted_reply}
+use Rattle.mg_link.specs.Rules.{Inserted, answer, answer_insert, answer_of, and_then, bad_request, batch_place, ends_watch, fitting, inserting, insert_request, kill_request, more_request, or_code, refusal, refused, request_of, size_of, unknown_command, watch_reply, may_stay, create_request, indexes_request, drop_request, list_collections_request, list_indexes_request, dropped_entries, batch_of_query, find_request, first_held, query_id, query_space, aggregate_request, update_request, delete_request, modified_entries, deleted_entries, events_may_be_given, updated_reply, deleted_reply}
 use Rattle.mg_link.specs.Kept.{Kept, state_behind, given_after, IsStoreState}
 use Rattle.mg_link.proofs.Requests.{asked_is, asks_of}
 use Rattle.mg_link.proofs.Behind.{Parts, behind_insert, behind_kill, behind_more, behind_refusal, behind_watch, cursor_moved, cursors_opened, given_opened, behind_create, behind_indexes, behind_drop, behind_find, behind_query_more, cursors_found, given_found, rest_of, behind_update, behind_delete}
@@ -25,14 +25,14 @@ use Rattle.mg_link.proofs.Cursoring.{same_int, not_zero}
 use Rattle.mg_link.proofs.Indexed.{HasIndexesOf, LeavesIndexes, indexes_created, indexes_dropped, indexes_refused, indexes_stay}
 use Rattle.mg_query.specs.Querying.{is_none}
 use Rattle.mg_query.specs.Replies.{IsWritten, fits}
-use Rattle.mg_query.specs.Wanted.{code_of}
+use Rattle.mg_query.specs.Wanted.{refusal_code}
 use Rattle.mg_query.specs.declared.refusal.Refusal.{Refusal}
 use Rattle.mg_query.specs.declared.refusal.Refusal.TheVariants as refusals
 use Rattle.mg_query.specs.declared.refusal.Stop.{Stop}
 use Rattle.mg_query.specs.declared.refusal.Stop.TheVariants as stops
 use Rattle.mg_query.specs.Collecting.{exchange_documents, without_documents}
 use Rattle.mg_store.specs.Answering.{Answers, Replies}
-use Rattle.mg_store.specs.Contents.{AnswersBy, AnswersOr, Becomes, Does, EffectOf, LosesNone, Misses, Settled, Settles, moving, opening, indexes_behind, beginning, taking, IsCursor}
+use Rattle.mg_store.specs.Contents.{AnswersBy, AnswersOr, Becomes, Does, EffectOf, LosesNone, Misses, Settled, Settles, moving, opening_effect, indexes_behind, beginning, taking, IsCursor}
 use Rattle.mg_store.specs.Holding.{AreExact, entries_from}
 use Rattle.mg_store.specs.Inserting.{Fits, new_documents}
 use Rattle.mg_store.specs.declared.cursor.Found.{Found}
@@ -46,7 +46,7 @@ pub settles : (s : State) (given : ℕ) (r : rules.Request) (a : rules.Answer) (
 settles s given r a d e (Ok ans) answers is effect got = record { by_rules = a; answers = answers; written = subst (λ (x : Fields). IsWritten x ans.reply) is got.reply; effect = subst (EffectOf s given r) (sym got.effect_is) effect }
 settles s given r a d e (Err stops.Memory) answers is effect got = tt
 settles s given r a d e (Err (stops.Refused refusal)) answers is effect got = (
-  ap fitting answers ∙ ap (λ (b : Bool). if b then a else refused bad_request) (ap fits (sym is) ∙ got.1) ∙ ap (λ (x : Refusal). refused (code_of x)) (sym got.0),
+  ap fitting answers ∙ ap (λ (b : Bool). if b then a else refused bad_request) (ap fits (sym is) ∙ got.1) ∙ ap (λ (x : Refusal). refused (refusal_code x)) (sym got.0),
   subst (λ (x : Refusal). Misses s x r) (sym got.0) tt,
 )
 
@@ -58,7 +58,7 @@ becomes s given documents changes cursors given' p =
 
 -- what the opening of a watch does, by whether that ended
 opening_does : (ended : Bool) (s s' : State) (given given' : ℕ) (w : Watch) (cursor : code.Cursor) (at place : ℕ) → IsCursor cursor (watching w at) → at ≡ place → Parts s' given' (documents_at s) s.changes (cursors_opened ended given (watching w place) s.cursors) (given_opened ended given)
-    → Does (opening ended (pos (suc given)) cursor) s given s' given'
+    → Does (opening_effect ended (pos (suc given)) cursor) s given s' given'
 opening_does true s s' given given' w cursor at place watches same p = becomes _ _ _ _ _ _ p
 opening_does false s s' given given' w cursor at place watches same p =
     (watching w at, watches, refl, subst (λ (n : ℕ). Becomes s' given' (documents_at s) s.changes (put_cursor (pos (suc given)) (Some (watching w n)) s.cursors) (suc given)) (sym same) (becomes _ _ _ _ _ _ p))
@@ -70,7 +70,7 @@ moving_does true s s' given given' id w from place stood p = becomes _ _ _ _ _ _
 moving_does false s s' given given' id w from place stood p = (w, from, stood, becomes _ _ _ _ _ _ p)
 
 -- neither has anything to do with indexes
-opening_leaves : (ended : Bool) (id : ℤ) (cursor : code.Cursor) (s : State) (sp : Space) → indexes_behind (opening ended id cursor) s sp ≡ indexes_of s sp
+opening_leaves : (ended : Bool) (id : ℤ) (cursor : code.Cursor) (s : State) (sp : Space) → indexes_behind (opening_effect ended id cursor) s sp ≡ indexes_of s sp
 opening_leaves true id cursor s sp = refl
 opening_leaves false id cursor s sp = refl
 
@@ -305,7 +305,7 @@ by_missing other sp code cursors id missing =
       | inr stays ↦ ap (λ (b : Bool). (if b then put_cursor other None cursors else cursors) id) stays
     ]
 
-pub loses_none : (s : State) (command : List ℕ) (r : rules.Request) (refusal : Refusal) → request_of (fields command) ≡ Ok r → Misses s refusal r → LosesNone s command (code_of refusal)
+pub loses_none : (s : State) (command : List ℕ) (r : rules.Request) (refusal : Refusal) → request_of (fields command) ≡ Ok r → Misses s refusal r → LosesNone s command (refusal_code refusal)
 loses_none s command r refusals.NoSuchCursor asks missing id =
     let found : asked command ≡ asks_more missing.0 missing.1 = asked_is command (rules.more missing.0 missing.1 missing.2) (asks ∙ ap (λ (x : rules.Request). Ok x) missing.3) in
     ap (λ (x : Asked). cursors_refused x (pos 43) s.cursors id) found ∙ by_missing missing.0 missing.1 (pos 43) s.cursors id missing.4
@@ -359,9 +359,9 @@ answers_or s given command r (Err (stops.Refused refusal)) asks h =
     (ap (λ (x : Result rules.Request ℤ). fitting (and_then (answer s (pos (suc given))) x)) asks ∙ h.0, loses_none s command r refusal asks h.1)
 
 -- what is not read is refused
-pub answers_unread : (s : State) (given : ℕ) (command : List ℕ) (refusal : Refusal) → request_of (fields command) ≡ Err (code_of refusal) → AnswersOr s given command (Err (stops.Refused refusal))
+pub answers_unread : (s : State) (given : ℕ) (command : List ℕ) (refusal : Refusal) → request_of (fields command) ≡ Err (refusal_code refusal) → AnswersOr s given command (Err (stops.Refused refusal))
 unfolding answer_of
-answers_unread s given command refusal asks = (ap (λ (x : Result rules.Request ℤ). fitting (and_then (answer s (pos (suc given))) x)) asks, loses_none_unread s command (code_of refusal) asks)
+answers_unread s given command refusal asks = (ap (λ (x : Result rules.Request ℤ). fitting (and_then (answer s (pos (suc given))) x)) asks, loses_none_unread s command (refusal_code refusal) asks)
 
 -- a refusal by the rules
 pub answers_refused : (s : State) (given : ℕ) (command : List ℕ) (code : ℤ) (a : Answer) → answer_of s (pos (suc given)) (fields command) ≡ refused code → LosesNone s command code → Replies (refusal code []) effects.Nothing a → AnswersBy s given command a

@@ -20,6 +20,6 @@ Answers (Ok answer) d effect = Replies d effect answer
 Answers (Err stops.Memory) d effect = Unit {0}
 Answers (Err (stops.Refused refusal)) d effect = (refusal ≡ BadRequest) × (fits d ≡ false)
 
--- the answer that refuses
-abbrev pub Refuses : Fields → Answer → Type 0
-Refuses d answer = Replies d Nothing answer
+-- the answer with this reply, which does nothing
+abbrev pub AnswersRefusal : Fields → Answer → Type 0
+AnswersRefusal d answer = Replies d Nothing answer

@@ -23,7 +23,7 @@ use Rattle.mg_query.specs.declared.index.Index as code_index
 use Rattle.mg_query.specs.Querying.{is_none}
 use Rattle.mg_query.specs.Replies.{IsWritten}
 use Rattle.mg_query.specs.Collecting.{AreKeyed, exchange_documents, without_documents}
-use Rattle.mg_query.specs.Wanted.{Wanted, code_of, wanted}
+use Rattle.mg_query.specs.Wanted.{Wanted, refusal_code, wanted}
 use Rattle.mg_query.specs.declared.collection.Collection.{Collection}
 use Rattle.mg_query.specs.declared.refusal.Refusal.{Refusal}
 use Rattle.mg_query.specs.declared.refusal.Refusal.TheVariants as refusals
@@ -133,15 +133,15 @@ pub record InsertsBy (s : State) (sp : Space) (ds : List Fields) (ordered : Bool
   pub fits : Fits (documents_of s sp) appended
 
 -- a watch that ended leaves no cursor
-abbrev pub opening : Bool → ℤ → code.Cursor → Effect
-opening true id cursor = effects.Nothing
-opening false id cursor = effects.Open id cursor
+abbrev pub opening_effect : Bool → ℤ → code.Cursor → Effect
+opening_effect true id cursor = effects.Nothing
+opening_effect false id cursor = effects.Open id cursor
 
 pub record OpensBy (s : State) (given : ℕ) (w : Watch) (start : Start) (resumes : Bool) (size : Option ℕ) (e : Effect) : Type 0 where
   pub cursor : code.Cursor
   pub from : ℕ
   pub at : place_at s w start resumes ≡ Ok from
-  pub is : e ≡ opening (ends_watch w s.changes from (batch_place w s.changes from (size_of size))) (pos (suc given)) cursor
+  pub is : e ≡ opening_effect (ends_watch w s.changes from (batch_place w s.changes from (size_of size))) (pos (suc given)) cursor
   pub place : ℕ
   pub watches : IsCursor cursor (watching w place)
   pub place_is : place ≡ batch_place w s.changes from (size_of size)
@@ -260,13 +260,13 @@ Misses s refusals.NoSuchCollection r = Unit {0}
 abbrev pub Settles : State → ℕ → rules.Request → Result Answer Stop → Type 0
 Settles s given r (Ok a) = Settled s given r a
 Settles s given r (Err stops.Memory) = Unit {0}
-Settles s given r (Err (stops.Refused refusal)) = (fitting (answer s (pos (suc given)) r) ≡ refused (code_of refusal)) × Misses s refusal r
+Settles s given r (Err (stops.Refused refusal)) = (fitting (answer s (pos (suc given)) r) ≡ refused (refusal_code refusal)) × Misses s refusal r
 
 -- the place of the rules
-abbrev pub OpensAt : Result ℕ Stop → Result ℕ ℤ → Type 0
-OpensAt (Ok place) by_rules = by_rules ≡ Ok place
-OpensAt (Err stops.Memory) by_rules = Unit {0}
-OpensAt (Err (stops.Refused refusal)) by_rules = by_rules ≡ Err (code_of refusal)
+abbrev pub IsPlaceByRules : Result ℕ Stop → Result ℕ ℤ → Type 0
+IsPlaceByRules (Ok place) by_rules = by_rules ≡ Ok place
+IsPlaceByRules (Err stops.Memory) by_rules = Unit {0}
+IsPlaceByRules (Err (stops.Refused refusal)) by_rules = by_rules ≡ Err (refusal_code refusal)
 
 -- ---- answers to commands
 
@@ -287,7 +287,7 @@ LosesNone s command code = (id : ℤ) → cursors_refused (asked command) code s
 abbrev pub AnswersOr : State → ℕ → List ℕ → Result Answer Stop → Type 0
 AnswersOr s given command (Ok a) = AnswersBy s given command a
 AnswersOr s given command (Err stops.Memory) = Unit {0}
-AnswersOr s given command (Err (stops.Refused refusal)) = (answer_of s (pos (suc given)) (fields command) ≡ refused (code_of refusal)) × LosesNone s command (code_of refusal)
+AnswersOr s given command (Err (stops.Refused refusal)) = (answer_of s (pos (suc given)) (fields command) ≡ refused (refusal_code refusal)) × LosesNone s command (refusal_code refusal)
 
 -- the answer to whatever command asks for this
 abbrev pub AnswersAsked : State → ℕ → Wanted → Result Answer Stop → Type 0

@@ -2,13 +2,13 @@
 use Rattle.std.specs.Prelude.{◌≡◌, ℕ, suc, List, [], ◌∷◌, map, codes, unwrap_or, if◌then◌else◌}
 use Rattle.std.specs.Str.{bytes_eq}
 use Rattle.mg_bson.specs.Tree.{Fields}
-use Rattle.mg_bson.specs.Bytes.{bytes}
 use Rattle.mg_bson.specs.Raw.{fields}
 use Rattle.mg_link.specs.Namespace.{Space, Target, space, target}
 use Rattle.mg_link.specs.Commands.{text_of}
-use Rattle.mg_link.specs.State.{inserts, updates, replaces, deletes, drops, invalidates, Change, Entry, Watch, events_between}
-use Rattle.mg_link.specs.Rules.{token_of, now_of, batch_place, documents_of_items, ends_watch}
+use Rattle.mg_link.specs.State.{inserts, updates, replaces, deletes, drops, invalidates, Change, Entry, Watch}
+use Rattle.mg_link.specs.Rules.{token_of, now_of, batch_place, documents_of_items, ends_watch, batch_events}
 use Rattle.mg_query.specs.Asking.{Keyed, held, keyed, matches_keys}
+use Rattle.mg_query.specs.Numbering.{IsExact}
 use Rattle.mg_store.specs.declared.change.ChangeEntry.{ChangeEntry}
 use Rattle.mg_store.specs.declared.change.Events.{Events}
 use Rattle.mg_store.specs.declared.cursor.Watch as code
@@ -34,16 +34,16 @@ abbrev pub entries_from : ℕ → List ChangeEntry → List Entry
 entries_from place [] = []
 entries_from place (e ∷ es) = entry_at place e ∷ entries_from (suc place) es
 
--- the bytes of each event are those of the document that they are read as
+-- the bytes of each event are the encoding of the document that they are read as
 abbrev pub AreExact : List ChangeEntry → Type 0
 AreExact [] = Unit {0}
-AreExact (e ∷ es) = (e.event ≡ bytes (fields e.event)) × AreExact es
+AreExact (e ∷ es) = IsExact e.event × AreExact es
 
 -- the entry has this event, as its bytes
 pub record IsEntryOf (at : Space) (event : Fields) (e : ChangeEntry) : Type 0 where
   pub at_is : space e.ns ≡ at
   pub event_is : fields e.event ≡ event
-  pub exact : e.event ≡ bytes (fields e.event)
+  pub exact : IsExact e.event
 
 -- the watch, held with the encodings of its values
 pub record IsWatch (c : code.Watch) (w : Watch) : Type 0 where
@@ -58,5 +58,5 @@ pub record IsWatchOf (t : Target) (keys : List Keyed) (w : Watch) : Type 0 where
 -- the batch of the rules from a place on
 pub record GivesBatch (w : Watch) (es : List Entry) (from size : ℕ) (batch : Events) : Type 0 where
   pub place_is : batch.place ≡ batch_place w es from size
-  pub events_are : batch.events ≡ documents_of_items (events_between w es from (batch_place w es from size))
+  pub events_are : batch.events ≡ documents_of_items (batch_events w es from (batch_place w es from size))
   pub ended_is : batch.ended ≡ ends_watch w es from (batch_place w es from size)

@@ -213,7 +213,7 @@ abbrev pub AreKept : ℕ → List Fate → Type 0
 AreKept from fates = (k : ℕ) → from ≤ k → fate_at fates k ≡ fate_of None
 
 -- each later command is performed and answered at once, and so is each that waits for its reply
-pub record IsPrompt (fates : List Fate) (calls : List Call) (pended : List ℕ) : Type 0 where
+pub record IsPromptLink (fates : List Fate) (calls : List Call) (pended : List ℕ) : Type 0 where
   pub later : AreKept (length calls) fates
   pub waits : (k : ℕ) (call : Call) (n : ℕ) → slice_get calls k ≡ Some call → slice_get pended k ≡ Some n → call.seen ≡ waiting
       → Comes (fate_at fates k).kind × ((fate_at fates k).pend ≤ n)

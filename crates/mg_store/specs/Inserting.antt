@@ -81,7 +81,7 @@ pub record Lists (error : Fields) (old new : Appended) : Type 0 where
   pub ids_same : new.ids ≡ old.ids
 
 -- the document was refused, and its error was listed
-pub record Refuses (before : List Fields) (index : ℕ) (d : Fields) (old new : Appended) : Type 0 where
+pub record Rejects (before : List Fields) (index : ℕ) (d : Fields) (old new : Appended) : Type 0 where
   pub code : ℤ
   pub refused : accept (before ++ new_documents old) d ≡ Err code
   pub lists : Lists (write_error index code) old new
@@ -95,7 +95,7 @@ AcceptsOr before place s d old new (Err (rejected.Refused code)) = (accept (befo
 -- whether it was appended, and else its error was listed
 abbrev pub Takes : List Fields → (place index : ℕ) → Space → Fields → Appended → Appended → Bool → Type 0
 Takes before place index s d old new true = Accepts before place s d old new
-Takes before place index s d old new false = Refuses before index d old new
+Takes before place index s d old new false = Rejects before index d old new
 
 -- what an insert appends is that of the rules
 pub record Appends (before : List Fields) (entries : ℕ) (i : Inserted) (a : Appended) : Type 0 where

@@ -6,7 +6,7 @@ use Rattle.mg_bson.specs.Tree.{Fields}
 use Rattle.mg_link.specs.Namespace.{Space}
 use Rattle.mg_link.specs.Rules.{deleted_entries, events_may_be_given, may_be_given, may_stay, modified_entries, modified_event}
 use Rattle.mg_link.specs.Write.{Modification, differs, modified}
-use Rattle.mg_query.specs.Numbering.{IsKeyed, document_of}
+use Rattle.mg_query.specs.Numbering.{IsExact, IsKeyed, document_of}
 use Rattle.mg_query.specs.declared.collection.KeyedDocument.{KeyedDocument}
 use Rattle.mg_query.specs.declared.refusal.Refusal.TheVariants as refusals
 use Rattle.mg_query.specs.declared.refusal.Stop.{Stop}
@@ -34,6 +34,7 @@ pub record ChangesBy (place : ℕ) (sp : Space) (m : Modification) (d : Fields) 
   pub document : KeyedDocument
   pub keyed : IsKeyed document.key.items d
   pub made : document_of document ≡ modified m d
+  pub exact : IsExact document.document
   pub entry : ChangeEntry
   pub entry_is : IsEntryOf sp (modified_event place sp m d) entry
   pub documents_are : new.documents.items ≡ old.documents.items ++ document ∷ []
@@ -50,12 +51,12 @@ ChangesOr place sp m d old new (Err (stops.Refused refusal)) = (refusal ≡ refu
 abbrev pub altering : Modification → List Fields → List Fields
 altering m ds = filter (λ d. differs d (modified m d)) ds
 
--- the new documents, each under the id of the old one
+-- the new documents, each as its encoding and under the id of the old one
 abbrev pub AreMade : Modification → List Fields → List KeyedDocument → Type 0
 AreMade m [] [] = Unit {0}
 AreMade m [] (k ∷ ks) = ⊥
 AreMade m (d ∷ ds) [] = ⊥
-AreMade m (d ∷ ds) (k ∷ ks) = IsKeyed k.key.items d × (document_of k ≡ modified m d) × AreMade m ds ks
+AreMade m (d ∷ ds) (k ∷ ks) = IsKeyed k.key.items d × (document_of k ≡ modified m d) × IsExact k.document × AreMade m ds ks
 
 -- all of them and their entries may stay
 abbrev pub all_fit : ℕ → Space → Modification → List Fields → Bool

@@ -2,15 +2,11 @@
 use Rattle.std.specs.Prelude.{◌≡◌, ℕ, ℤ, is_some, List, [], ◌∷◌, ◌++◌, length, map}
 use Rattle.std.specs.Ordering.{int_cmp}
 use Rattle.std.specs.List.Sorted.{IsStrictlySortedBy}
-use Rattle.mg_bson.specs.Tree.{Fields}
-use Rattle.mg_bson.specs.Raw.{fields}
-use Rattle.mg_link.specs.Namespace.{Space, space}
-use Rattle.mg_link.specs.State.{Entry, State}
+use Rattle.mg_link.specs.State.{State}
 use Rattle.mg_link.specs.Rules.{is_id_among}
 use Rattle.mg_link.specs.Kept.{Kept}
 use Rattle.mg_link.specs.declared.history.HistoryStep.{HistoryStep}
 use Rattle.mg_link.specs.declared.history.Receipt.{Receipt}
-use Rattle.mg_store.specs.declared.change.ChangeEntry.{ChangeEntry}
 
 -- the steps that were taken, and the ids of the cursors that are open, ascending
 pub record Stored : Type 0 where
@@ -29,17 +25,6 @@ pub record Performs (old new : Stored) (command : List ℕ) (receipt : Receipt) 
   pub position : receipt.position ≡ length old.history
   pub command_is : receipt.command ≡ command
   pub history : new.history ≡ old.history ++ record { command = command; reply = receipt.reply } ∷ []
-
--- what is handed out of an entry of the list of changes
-pub record Shown : Type 0 where
-  pub space : Space
-  pub event : Fields
-
-abbrev pub shown : Entry → Shown
-shown e = record { space = e.space; event = e.event }
-
-abbrev pub shown_of : ChangeEntry → Shown
-shown_of e = record { space = space e.ns; event = fields e.event }
 
 -- the ids that have a cursor in the state, ascending
 pub record AreOpen (s : State) (ids : List ℤ) : Type 0 where

@@ -14,7 +14,7 @@ ghost use Rattle.mg_link.specs.State.{State, after, watching};
 ghost use Rattle.mg_query.specs.Asking.{ids_among};
 ghost use Rattle.mg_query.specs.Querying.{doing, held_stage};
 ghost use Rattle.mg_query.specs.Wanted.{lent_start};
-ghost use Rattle.mg_store.specs.Contents.{OpensAt, Represents, Settles, beginning, moving, opening, taking};
+ghost use Rattle.mg_store.specs.Contents.{IsPlaceByRules, Represents, Settles, beginning, moving, opening_effect, taking};
 ghost use Rattle.mg_store.specs.Holding.{IsWatch, entries_from};
 
 use crate::change::{count_before, ended_before, events_from};
@@ -35,8 +35,8 @@ use std::collections::BTreeSet;
 const DEFAULT_BATCH: u64 = 101;
 
 /// What the opening of a watch does: one that ended leaves no cursor.
-fn opening(ended: bool, id: i64, cursor: Cursor) -> Effect
-    ensures { result ≡ opening ended id cursor }
+fn opening_effect(ended: bool, id: i64, cursor: Cursor) -> Effect
+    ensures { result ≡ opening_effect ended id cursor }
 {
     if ended {
         Effect::Nothing
@@ -124,7 +124,7 @@ impl Content {
         token: &RawValue<'_>,
         resumes: bool,
     ) -> Result<u64, Stop>
-        ensures { (s : State) (w : state.Watch) → s.changes ≡ entries_from 0 self.now.changes.items → IsWatch watch.now w → OpensAt result (place_at s w (after (value token.now)) resumes) }
+        ensures { (s : State) (w : state.Watch) → s.changes ≡ entries_from 0 self.now.changes.items → IsWatch watch.now w → IsPlaceByRules result (place_at s w (after (value token.now)) resumes) }
     {
         let Some(place) = place_of(alloc, token, self.changes.len() as u64)? else {
             return Err(Stop::Refused(Refusal::NoSuchToken));
@@ -143,7 +143,7 @@ impl Content {
         start: &LentStart<'_>,
         resumes: bool,
     ) -> Result<u64, Stop>
-        ensures { (s : State) (w : state.Watch) → s.changes ≡ entries_from 0 self.now.changes.items → IsWatch watch.now w → OpensAt result (place_at s w (lent_start start.now) resumes) }
+        ensures { (s : State) (w : state.Watch) → s.changes ≡ entries_from 0 self.now.changes.items → IsWatch watch.now w → IsPlaceByRules result (place_at s w (lent_start start.now) resumes) }
     {
         match start {
             LentStart::Nowhere => Ok(self.changes.len() as u64),
@@ -174,7 +174,7 @@ impl Content {
         let reply_id = id_unless(ended, id);
         let document = reply::opened(alloc, reply_id, &ns, batch.events, place, now)?;
         let source = Source::Watch(watch);
-        let effect = opening(ended, id, Cursor { source, place });
+        let effect = opening_effect(ended, id, Cursor { source, place });
         answered(alloc, document, effect)
     }
 

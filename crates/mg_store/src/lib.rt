@@ -17,5 +17,5 @@ mod token;
 
 pub use change::ChangeEntry;
 pub use fate::{Fate, FateKind};
-pub use link::MemLink;
+pub use link::{MemLink, may_go_aside};
 pub use store::Store;

@@ -1,13 +1,15 @@
 //! A link to a store in this process.
-ghost use Rattle.std.specs.Prelude.{◌≡◌, ◌<◌, ◌≤◌, [], Some, IfOk, IsErrOf, IsSome, OnErr, length, map, string_bytes, vec_len};
+ghost use Rattle.std.specs.Prelude.{◌≡◌, ◌<◌, ◌≤◌, [], Some, IfOk, IsErrOf, IsSome, OnErr, length, map, not, string_bytes, true, vec_len};
+ghost use Rattle.mg_bson.specs.Raw.{fields};
 ghost use Rattle.mg_link.specs.Causes.{Rose};
-ghost use Rattle.mg_link.specs.Kept.{IsReply};
-ghost use Rattle.mg_link.specs.Link.{AnswersAtOnce, Later, PollMeans, PollPends, SamePolls, StartMeans, StartsAtOnce, StaysPrompt};
+ghost use Rattle.mg_link.specs.Kept.{IsReply, state_of_kept};
+ghost use Rattle.mg_link.specs.Link.{ComesAtOnce, Later, PollMeans, PollPends, SamePolls, StartMeans, StartsAtOnce, StaysPrompt};
 ghost use Rattle.mg_link.specs.Places.{out_at, polls_in};
 ghost use Rattle.mg_link.specs.Rules.{refusal};
-ghost use Rattle.mg_store.specs.InMemory.{IsPrompt, IsSmall, NamesNone, Performed, StartedAs, Takes, by_rules, fate_at, faults_in, pended_after, pends_in, position_behind};
+ghost use Rattle.mg_query.specs.Continued.{is_cursor_command};
+ghost use Rattle.mg_store.specs.InMemory.{IsPromptLink, IsSmall, NamesNone, Performed, StartedAs, Takes, by_rules, fate_at, faults_in, pended_after, pends_in, position_behind};
 ghost use Rattle.mg_store.specs.Sending.{HandsOver, HeardAt, Hearing, Honest, PolledAt, Sent, pended_of};
-ghost use Rattle.mg_store.specs.Stored.{Performs};
+ghost use Rattle.mg_store.specs.Stored.{AreOpen, Performs};
 
 use crate::fate::{Fate, FateKind, kind_at, pend_at};
 use crate::store::Store;
@@ -15,7 +17,7 @@ use mg_bson::{RawDocument, RawDocumentBuf};
 use mg_link::{
     Link, LinkError, Log, LoggedCall, OutOfMemory, Polled, Receipt, Seen, Ticket, push_reserved,
 };
-use mg_query::copy;
+use mg_query::{copy, is_cursor_command};
 use std::alloc::Global;
 use std::marker::Model;
 
@@ -172,7 +174,7 @@ fn start_over(
     ensures faults { faults_in log.new ≡ faults_in log.old }
     ensures pends { pends_in (pended_of waits.new.items) ≡ pends_in (pended_of waits.old.items) }
     ensures polls { SamePolls (polls_in (pended_of waits.old.items)) (polls_in (pended_of waits.new.items)) }
-    ensures prompt { IsPrompt fates.now log.old (pended_of waits.old.items) → IsPrompt fates.now log.new (pended_of waits.new.items) }
+    ensures prompt { IsPromptLink fates.now log.old (pended_of waits.old.items) → IsPromptLink fates.now log.new (pended_of waits.new.items) }
 {
     let place = log.len();
     let kept = FateKind::Keep;
@@ -240,15 +242,24 @@ fn poll_over(
     ensures honest { Honest _store.now.history log.new waits.new.items fates.now }
     ensures polls { PollMeans (out_at log.old) (out_at log.new) (Some log.old) (Some log.new) ticket result }
     ensures fault { result ≡ Polled.Failed → Rose (faults_in log.old) (faults_in log.new) }
-    ensures at_once { IsPrompt fates.now log.old (pended_of waits.old.items) → AnswersAtOnce result }
+    ensures at_once { IsPromptLink fates.now log.old (pended_of waits.old.items) → ComesAtOnce result }
     ensures pended { PollPends result (out_at log.old ticket) (pends_in (pended_of waits.old.items)) (pends_in (pended_of waits.new.items))
         (polls_in (pended_of waits.old.items)) (polls_in (pended_of waits.new.items)) }
     ensures counts { pended_of waits.new.items ≡ pended_after result ticket (pended_of waits.old.items) }
     ensures faults_later { faults_in log.old ≤ faults_in log.new }
     ensures pends_later { pends_in (pended_of waits.old.items) ≤ pends_in (pended_of waits.new.items) }
-    ensures prompt { IsPrompt fates.now log.old (pended_of waits.old.items) → StaysPrompt (IsPrompt fates.now log.new (pended_of waits.new.items)) (faults_in log.old) (faults_in log.new) (pends_in (pended_of waits.old.items)) (pends_in (pended_of waits.new.items)) }
+    ensures prompt { IsPromptLink fates.now log.old (pended_of waits.old.items) → StaysPrompt (IsPromptLink fates.now log.new (pended_of waits.new.items)) (faults_in log.old) (faults_in log.new) (pends_in (pended_of waits.old.items)) (pends_in (pended_of waits.new.items)) }
 {
     poll_at(log, waits, fates, ticket)
+}
+
+/// Whether a command may go aside of a link (`MemLink::aside`): it is no `getMore` and no `killCursors`. No other command is
+/// about cursors, and so it names none.
+pub fn may_go_aside(command: &RawDocument<'_>) -> bool
+    ensures exact { result ≡ not (is_cursor_command (fields command.now)) }
+    ensures names { result ≡ true → NamesNone command.now }
+{
+    !is_cursor_command(command)
 }
 
 /// Performs a command for nobody on this link.
@@ -309,14 +320,14 @@ impl MemLink {
     ghost use Rattle.mg_link.specs.History.{IsLegal};
     ghost use Rattle.mg_link.specs.Kept.{IsByRules, steps_of};
     ghost use Rattle.mg_link.specs.Standing.{Stands};
-    ghost use Rattle.mg_store.specs.InMemory.{AreAsFates, AreKept, ArePlaced, AreSmall, IsPrompt};
+    ghost use Rattle.mg_store.specs.InMemory.{AreAsFates, AreKept, ArePlaced, AreSmall, IsPromptLink};
 
     /// A link to this store, over which nothing was sent, with these fates and this wire version. Each refusal that a
     /// fate names is to have at most 47,000,000 bytes as a reply.
     pub fn new(alloc: Global, store: Store, fates: Vec<Fate>, wire: i32) -> MemLink
         requires { AreSmall fates.items }
         ensures new { result ≡ record { stored = store; calls = []; pended = []; fates = fates.items; wire = wire } }
-        ensures prompt { AreKept 0 fates.items → IsPrompt fates.items [] [] }
+        ensures prompt { AreKept 0 fates.items → IsPromptLink fates.items [] [] }
     {
         MemLink {
             alloc,
@@ -339,12 +350,14 @@ impl MemLink {
     /// fate says, except that it may see want of memory in place of its reply.
     pub fn log(&self) -> &Log
         ensures calls { result.now ≡ self.now.calls }
+        ensures by_rules { IsByRules self.now.stored.history }
         ensures legal { IsLegal (steps_of self.now.stored.history) }
+        ensures cursors { AreOpen (state_of_kept self.now.stored.history) self.now.stored.open_ids }
         ensures stands { Stands self.now.calls (steps_of self.now.stored.history) }
         ensures within { ArePlaced self.now.stored.history self.now.calls }
         ensures fates { AreAsFates self.now.stored.history self.now.fates self.now.calls self.now.pended }
     {
-        // For the proof alone: a store tells with its history that it is legal.
+        // For the proof alone: a store tells with its history that it is legal, and which cursors are open.
         self.store.history();
         &self.log
     }
@@ -355,6 +368,7 @@ impl MemLink {
         ensures calls { result.1 ≡ self.calls }
         ensures by_rules { IsByRules self.stored.history }
         ensures legal { IsLegal (steps_of self.stored.history) }
+        ensures cursors { AreOpen (state_of_kept self.stored.history) self.stored.open_ids }
         ensures stands { Stands self.calls (steps_of self.stored.history) }
         ensures within { ArePlaced self.stored.history self.calls }
         ensures fates { AreAsFates self.stored.history self.fates self.calls self.pended }
@@ -367,13 +381,13 @@ impl MemLink {
             fates: _,
             wire: _,
         } = self;
-        // For the proof alone: a store tells with its history that it is by the rules and legal.
+        // For the proof alone: a store tells with its history that it is by the rules and legal, and which cursors are open.
         store.history();
         (store, log)
     }
 
     /// Has the store perform a command that is nobody's on this link: it is a step of the history and no call of the log.
-    /// It is to name no cursor, as a `getMore` and a `killCursors` do. Where memory runs out nothing changes.
+    /// It is to name no cursor, as a `getMore` and a `killCursors` do (`may_go_aside`). Where memory runs out nothing changes.
     pub fn aside(&mut self, command: RawDocument<'_>) -> Result<Receipt, OutOfMemory>
         requires { NamesNone command }
         ensures step { IfOk result (λ r. Performs self.old.stored self.new.stored command.entry r) }
@@ -394,7 +408,7 @@ impl MemLink {
 impl Link for MemLink {
     ghost use Rattle.std.specs.Prelude.{Some};
     ghost use Rattle.mg_link.specs.Places.{out_at, polls_in};
-    ghost use Rattle.mg_store.specs.InMemory.{IsPrompt, faults_in, pends_in};
+    ghost use Rattle.mg_store.specs.InMemory.{IsPromptLink, faults_in, pends_in};
 
     ghost faults = { λ m. faults_in m.calls };
 
@@ -406,18 +420,18 @@ impl Link for MemLink {
 
     ghost awaited = { λ m. out_at m.calls };
 
-    ghost prompt = { λ m. IsPrompt m.fates m.calls m.pended };
+    ghost prompt = { λ m. IsPromptLink m.fates m.calls m.pended };
 
     ghost wire = { λ m. m.wire };
 
     fn start(&mut self, command: RawDocument<'_>) -> Result<Ticket, LinkError>
         ensures starts { StartMeans (out_at self.old.calls) (out_at self.new.calls) (Some self.old.calls) (Some self.new.calls) command.entry result }
         ensures fault { IsErrOf result LinkError.Fault → Rose (faults_in self.old.calls) (faults_in self.new.calls) }
-        ensures prompt { IsPrompt self.old.fates self.old.calls self.old.pended → StartsAtOnce result }
+        ensures prompt { IsPromptLink self.old.fates self.old.calls self.old.pended → StartsAtOnce result }
         ensures pends_same { pends_in self.new.pended ≡ pends_in self.old.pended }
         ensures polls_same { SamePolls (polls_in self.old.pended) (polls_in self.new.pended) }
         ensures later { Later (faults_in self.old.calls) (faults_in self.new.calls) (pends_in self.old.pended) (pends_in self.new.pended)
-            self.old.wire self.new.wire (IsPrompt self.old.fates self.old.calls self.old.pended) (IsPrompt self.new.fates self.new.calls self.new.pended) }
+            self.old.wire self.new.wire (IsPromptLink self.old.fates self.old.calls self.old.pended) (IsPromptLink self.new.fates self.new.calls self.new.pended) }
         ensures sent { StartedAs result (fate_at self.old.fates (length self.old.calls)).kind command.entry self.old.stored self.new.stored self.old.calls self.new.calls self.old.pended self.new.pended }
         ensures rest { (self.new.fates ≡ self.old.fates) × (self.new.wire ≡ self.old.wire) }
     {
@@ -435,10 +449,10 @@ impl Link for MemLink {
         requires { IsSome (out_at self.old.calls ticket) }
         ensures polls { PollMeans (out_at self.old.calls) (out_at self.new.calls) (Some self.old.calls) (Some self.new.calls) ticket result }
         ensures fault { result ≡ Polled.Failed → Rose (faults_in self.old.calls) (faults_in self.new.calls) }
-        ensures prompt { IsPrompt self.old.fates self.old.calls self.old.pended → AnswersAtOnce result }
+        ensures prompt { IsPromptLink self.old.fates self.old.calls self.old.pended → ComesAtOnce result }
         ensures pended { PollPends result (out_at self.old.calls ticket) (pends_in self.old.pended) (pends_in self.new.pended) (polls_in self.old.pended) (polls_in self.new.pended) }
         ensures later { Later (faults_in self.old.calls) (faults_in self.new.calls) (pends_in self.old.pended) (pends_in self.new.pended)
-            self.old.wire self.new.wire (IsPrompt self.old.fates self.old.calls self.old.pended) (IsPrompt self.new.fates self.new.calls self.new.pended) }
+            self.old.wire self.new.wire (IsPromptLink self.old.fates self.old.calls self.old.pended) (IsPromptLink self.new.fates self.new.calls self.new.pended) }
         ensures counts { self.new.pended ≡ pended_after result ticket self.old.pended }
         ensures rest { (self.new.stored ≡ self.old.stored) × (self.new.fates ≡ self.old.fates) × (self.new.wire ≡ self.old.wire) }
     {

@@ -3,7 +3,7 @@ ghost use Rattle.std.specs.Prelude.{◌≡◌, ℕ, IfOk, map, string_bytes};
 ghost use Rattle.mg_link.specs.Rules.{refusal};
 ghost use Rattle.mg_link.specs.State.{State, AreInOrder};
 ghost use Rattle.mg_query.specs.Wanted.{lent_write};
-ghost use Rattle.mg_store.specs.Answering.{Answers, Refuses};
+ghost use Rattle.mg_store.specs.Answering.{Answers, AnswersRefusal};
 ghost use Rattle.mg_store.specs.Contents.{AnswersAsked, AnswersBy, AnswersOr, Represents, closing};
 
 use crate::content::{Content, Effect};
@@ -22,7 +22,7 @@ pub(crate) struct Answer {
 
 /// The answer of a refusal, which does nothing.
 pub(crate) fn refused(alloc: Global, code: i32, labels: &[String]) -> Result<Answer, OutOfMemory>
-    ensures { IfOk result (Refuses (refusal code (map string_bytes labels.now))) }
+    ensures { IfOk result (AnswersRefusal (refusal code (map string_bytes labels.now))) }
 {
     let document = reply::refusal(alloc, code, labels)?;
     match reply::bytes_of(alloc, &document)? {

@@ -8,8 +8,8 @@ ghost use Rattle.mg_link.specs.Namespace.{space};
 ghost use Rattle.mg_link.specs.Rules.{answer_of, refusal};
 ghost use Rattle.mg_link.specs.Step.{documents_of};
 ghost use Rattle.mg_store.specs.Contents.{MayKeep};
-ghost use Rattle.mg_store.specs.Holding.{AreExact};
-ghost use Rattle.mg_store.specs.Stored.{AreOpen, Performs, Stored, kept_of, shown, shown_of};
+ghost use Rattle.mg_store.specs.Holding.{AreExact, entries_from};
+ghost use Rattle.mg_store.specs.Stored.{AreOpen, Performs, Stored, kept_of};
 
 use crate::change::ChangeEntry;
 use crate::content::Content;
@@ -113,9 +113,11 @@ impl Store {
         self.keep(command, Answer { reply, effect })
     }
 
-    /// The documents of a collection, in the order of their inserts; none where the collection is not there.
+    /// The documents of a collection, in the order of their inserts; none where the collection is not there. Each has the
+    /// bytes of its encoding.
     pub fn documents(&self, ns: &Namespace) -> Result<Vec<&RawDocumentBuf>, OutOfMemory>
-        ensures { IfOk result (λ ds. map (λ d. fields d.now) ds.items ≡ documents_of (state_of_kept self.now.history) (space ns.now)) }
+        ensures shown { IfOk result (λ ds. map (λ d. fields d.now) ds.items ≡ documents_of (state_of_kept self.now.history) (space ns.now)) }
+        ensures encoded { IfOk result (λ ds. map (λ d. d.now) ds.items ≡ map bytes (documents_of (state_of_kept self.now.history) (space ns.now))) }
     {
         match self.content.collections.get(ns) {
             Some(collection) => collection.lent(self.alloc),
@@ -123,27 +125,32 @@ impl Store {
         }
     }
 
-    /// The list of changes, in order. The event of each has the bytes of its document.
+    /// The list of changes, in order: each with its kind, its namespace and its event, whose token and time are those of its
+    /// place. The event of each has the bytes of its document.
     pub fn changes(&self) -> &[ChangeEntry]
-        ensures shown { map shown_of result.now ≡ map shown (state_of_kept self.now.history).changes }
-        ensures exact { AreExact result.now }
+        ensures entries { entries_from 0 result.now ≡ (state_of_kept self.now.history).changes }
+        ensures encoded { AreExact result.now }
     {
         self.content.changes.as_slice()
     }
 
-    /// The steps that were taken, in order: a legal history, where each reply is that of the rules or a chosen refusal.
+    /// The steps that were taken, in order: a legal history, where each reply is that of the rules or a chosen refusal. The
+    /// state that it leads to has just the open cursors.
     pub fn history(&self) -> &[HistoryStep]
         ensures steps { map kept_of result.now ≡ self.now.history }
         ensures by_rules { IsByRules self.now.history }
         ensures legal { IsLegal (steps_of self.now.history) }
+        ensures cursors { AreOpen (state_of_kept self.now.history) self.now.open_ids }
     {
+        // For the proof alone: the ids of the open cursors are those of the map.
+        self.content.cursors.keys();
         self.history.as_slice()
     }
 
     /// The ids of the open cursors, ascending.
     pub fn open_cursors(&self) -> Result<Vec<i64>, OutOfMemory>
         ensures ids { IfOk result (λ ids. ids.items ≡ self.now.open_ids) }
-        ensures open { AreOpen (state_of_kept self.now.history) self.now.open_ids }
+        ensures cursors { AreOpen (state_of_kept self.now.history) self.now.open_ids }
     {
         Ok(self.content.cursors.keys().copied().collect(self.alloc)?)
     }

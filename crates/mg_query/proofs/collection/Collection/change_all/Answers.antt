@@ -2,7 +2,7 @@ use Rattle.std.proofs.Common.{◌≡◌, List, [], ◌∷◌, length, refl, sym,
 use Rattle.std.specs.Vec.Iter.{into_iter_items}
 use Rattle.mg_bson.specs.Raw.{fields}
 use Rattle.mg_query.specs.Collecting.{exchange_document, AreKeyed, exchange_documents}
-use Rattle.mg_query.specs.Numbering.{IsKeyed, document_of, stored}
+use Rattle.mg_query.specs.Numbering.{IsExact, IsKeyed, document_of, stored}
 use Rattle.mg_query.specs.declared.collection.KeyedDocument.{KeyedDocument}
 use Rattle.mg_query.proofs.collection.Collection.change_all.Goals as goal
 
@@ -33,8 +33,9 @@ loop-keyed-preserved c =
           let h = c.loop-keyed.invariant.0 keeps all in
           let next = subst AreKeyed steps h.1 in
           let keyed : IsKeyed key.items (fields document) = subst (λ k. IsKeyed k.items (fields document)) (sym parts.key) (subst (λ d. IsKeyed c.in-Some.keyed.key.items (fields d)) (sym parts.document) next.0) in
+          let exact : IsExact document = subst IsExact (sym parts.document) next.1 in
           let new : stored c.change.new.self ≡ exchange_document c.in-Some.keyed.key.items (document_of c.in-Some.keyed) (stored at) = c.change.ensures.documents h.0 ∙ ap₂ (λ k d. exchange_document k.items (fields d) (stored at)) parts.key parts.document in
-          (c.change.ensures.ids h.0 keyed, next.1, ap (exchange_documents left) new ∙ sym (ap (λ (ds : List KeyedDocument). exchange_documents ds (stored at)) steps) ∙ h.2),
+          (c.change.ensures.ids h.0 keyed exact, next.2, ap (exchange_documents left) new ∙ sym (ap (λ (ds : List KeyedDocument). exchange_documents ds (stored at)) steps) ∙ h.2),
       c.change.ensures.indexes ∙ c.loop-keyed.invariant.1,
       (let was = c.loop-keyed.invariant.2 in
           let gone = c.in-Some.ensures.steps.1 in

@@ -8,7 +8,7 @@ use Rattle.mg_query.proofs.Numbers.{all_same, insert_last, push_keeps, undone}
 use Rattle.mg_query.proofs.collection.Collection.push.Goals as goal
 
 pub returns-clause-ok : goal.returns-clause-ok
-returns-clause-ok c keeps keyed new =
+returns-clause-ok c keeps keyed new exact =
     let old : Collection = c.args.self.now in
     let groups = c.put.new.self in
     let grown : Collection = record old { documents = c.insert.new.self; ids = c.insert-2.new.self; groups = groups; next = c.in-Some.next } in
@@ -17,7 +17,7 @@ returns-clause-ok c keeps keyed new =
     let is : IsGrouped groups old.next (fields c.args.document) = subst (λ d. IsGrouped groups old.next (fields d)) c.as_raw.ensures c.in_ok-put.ensures.ok in
     let grouped = subst (AreGrouped groups) (sym docs) (grouped_more old.groups groups old.documents.entries old.next c.args.document c.in_ok-put.ensures.kept is keeps.grouped) in
     record {
-      keeps = push_keeps old grown c.args.key c.args.document keeps keyed new docs c.in-Ok.ensures.updates less c.insert.ensures.ordered grouped;
+      keeps = push_keeps old grown c.args.key c.args.document keeps keyed new exact docs c.in-Ok.ensures.updates less c.insert.ensures.ordered grouped;
       documents_are = docs;
       next_is = less;
     }

@@ -3,7 +3,7 @@ use Rattle.std.specs.Vec.Iter.{into_iter_items}
 use Rattle.std.proofs.lemmas.Result.{err_from_is_err_and}
 use Rattle.mg_bson.specs.Tree.{Fields}
 use Rattle.mg_bson.specs.Raw.{fields}
-use Rattle.mg_query.specs.Numbering.{HaveNewIds, IsKeyed, document_of, holds_id, stored}
+use Rattle.mg_query.specs.Numbering.{HaveNewIds, IsExact, IsKeyed, document_of, holds_id, stored}
 use Rattle.mg_query.specs.declared.collection.KeyedDocument.{KeyedDocument}
 use Rattle.mg_query.proofs.Numbers.{grows_none, grows_more, grows_same, push_stored}
 use Rattle.mg_query.proofs.collection.Collection.push_all.Goals as goal
@@ -36,10 +36,11 @@ loop-keyed-preserved c =
           let next = subst (HaveNewIds (stored at)) steps h.1 in
           let keyed : IsKeyed key.items (fields document) = subst (λ k. IsKeyed k.items (fields document)) (sym parts.key) (subst (λ d. IsKeyed c.in-Some.keyed.key.items (fields d)) (sym parts.document) next.0) in
           let fresh = ap (λ k. holds_id k.items (stored at)) parts.key ∙ next.1 in
-          let pushed = c.in_ok-push.ensures.ok h.0.keeps keyed fresh in
+          let exact : IsExact document = subst IsExact (sym parts.document) next.2 in
+          let pushed = c.in_ok-push.ensures.ok h.0.keeps keyed fresh exact in
           let all : stored c.push.new.self ≡ stored at ++ document_of c.in-Some.keyed ∷ [] = push_stored at c.push.new.self document pushed ∙ ap (λ d. stored at ++ fields d ∷ []) parts.document in (
             grows_more c.args.self.now at c.push.new.self document h.0 pushed,
-            subst (λ (ds : List Fields). HaveNewIds ds left) (sym all) next.2,
+            subst (λ (ds : List Fields). HaveNewIds ds left) (sym all) next.3,
             ap (λ (ds : List Fields). ds ++ map document_of left) all ∙ append_assoc (stored at) (document_of c.in-Some.keyed ∷ []) (map document_of left)
                 ∙ sym (ap (λ (ds : List KeyedDocument). stored at ++ map document_of ds) steps) ∙ h.2,
           ),

@@ -3,7 +3,7 @@ use mir.Val.{SFits}
 use Rattle.std.proofs.lemmas.Int.{to_z-of_z}
 use Rattle.std.specs.Prelude.{IfOk}
 use Rattle.mg_link.specs.Rules.{refusal}
-use Rattle.mg_query.specs.Wanted.{code_of}
+use Rattle.mg_query.specs.Wanted.{refusal_code}
 use Rattle.mg_query.specs.declared.refusal.Stop.{Stop}
 use Rattle.mg_store.specs.Answering.{Replies}
 use Rattle.mg_store.specs.Contents.{AnswersOr}
@@ -16,4 +16,4 @@ returns-in-Err-Refused c s given h order =
     let known = subst (λ (e : Stop). AnswersOr s given c.args.command.now (Err e)) c.in-Err-Refused.field-0-is (c.in-Err-Refused.ensures s given h order) in
     let fits : SFits w32 c.code.result = search rules in
     let back : to_z w32 (of_z w32 c.code.result) ≡ c.code.result = to_z-of_z w32 c.code.result fits in
-    refused_ok s given c.args.command.now (code_of c.in-Err-Refused.refusal) c.refused.result known.0 known.1 (subst (λ code. IfOk c.refused.result (Replies (refusal code []) effects.Nothing)) (back ∙ c.code.ensures) c.refused.ensures)
+    refused_ok s given c.args.command.now (refusal_code c.in-Err-Refused.refusal) c.refused.result known.0 known.1 (subst (λ code. IfOk c.refused.result (Replies (refusal code []) effects.Nothing)) (back ∙ c.code.ensures) c.refused.ensures)

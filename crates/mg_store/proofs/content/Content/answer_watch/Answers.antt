@@ -5,7 +5,7 @@ use Rattle.mg_bson.specs.Tree.{timestamp}
 use Rattle.mg_link.specs.Namespace.{space}
 use Rattle.mg_link.specs.Rules.{id_unless, stamp_of, watch_space}
 use Rattle.mg_query.specs.Wanted.{lent_start}
-use Rattle.mg_store.specs.Contents.{opening}
+use Rattle.mg_store.specs.Contents.{opening_effect}
 use Rattle.mg_store.specs.declared.cursor.Source.TheVariants as sources
 use Rattle.mg_store.proofs.Holdings.{batch_is, changes-length, opened_with, watch_settles}
 use Rattle.mg_store.proofs.content.Content.answer_watch.Goals as goal
@@ -22,8 +22,8 @@ returns c s given w h watches =
     let back' : to_z w64 (of_z w64 c.id_unless-reply_id.result) ≡ c.id_unless-reply_id.result = to_z-of_z w64 c.id_unless-reply_id.result fits' in
     let reply_id : c.id_unless-reply_id.result ≡ id_unless c.in_ok-batch.batch.ended (pos (suc given)) = c.id_unless-reply_id.ensures ∙ ap (id_unless c.in_ok-batch.batch.ended) (back ∙ id) in
     let time : timestamp c.time-now.result.time c.time-now.result.increment ≡ stamp_of (length s.changes) = c.time-now.ensures ∙ ap stamp_of (omega (arith, len, c.len.ensures, c.args.self.now.changes.ok.0)) in
-    watch_settles s given w (lent_start c.args.start.now) c.args.resumes c.args.batch_size c.in_ok-from.from c.in_ok-batch.batch c.args.watch c.id_unless-reply_id.result (space c.in_ok-ns.ns) c.in_ok-document.document c.opening-effect.result c.answered.result
+    watch_settles s given w (lent_start c.args.start.now) c.args.resumes c.args.batch_size c.in_ok-from.from c.in_ok-batch.batch c.args.watch c.id_unless-reply_id.result (space c.in_ok-ns.ns) c.in_ok-document.document c.opening_effect-effect.result c.answered.result
     at watches got reply_id (c.in_ok-ns.ensures ∙ ap watch_space (sym watches.target_is))
-    (c.opening-effect.ensures ∙ ap (λ (x : ℤ). opening c.in_ok-batch.batch.ended x (record { source = sources.Watch c.args.watch; place = c.in_ok-batch.batch.place })) (back ∙ id))
+    (c.opening_effect-effect.ensures ∙ ap (λ (x : ℤ). opening_effect c.in_ok-batch.batch.ended x (record { source = sources.Watch c.args.watch; place = c.in_ok-batch.batch.place })) (back ∙ id))
     (c.in_ok-document.ensures ∙ ap₂ (λ x t. opened_with x (space c.in_ok-ns.ns) c.in_ok-batch.batch.events c.in_ok-batch.batch.place t) back' time)
     c.answered.ensures

@@ -6,9 +6,10 @@ use Rattle.std.proofs.lemmas.Bool.{or_from, or_left, or_right}
 use Rattle.std.proofs.lemmas.List.{map-append}
 use Rattle.std.proofs.lemmas.List.Folds.{list_any-append}
 use Rattle.mg_bson.specs.Tree.{Tree, Fields}
+use Rattle.mg_bson.specs.Bytes.{bytes}
 use Rattle.mg_bson.specs.Find.{get}
 use Rattle.mg_link.specs.Filter.{key}
-use Rattle.mg_query.specs.Numbering.{HaveNewIds, IsKeyed, KeepsIdsThere, document_of, holds_id, is_of_id, there, vec_cmp}
+use Rattle.mg_query.specs.Numbering.{HaveNewIds, IsExact, IsKeyed, KeepsIdsThere, document_of, holds_id, is_of_id, there, vec_cmp}
 use Rattle.mg_query.specs.declared.collection.KeyedDocument.{KeyedDocument}
 use Rattle.mg_query.proofs.Ids.{accept_new, accept_twice, holds_push, new_push}
 use Rattle.mg_store.specs.Holding.{AreExact}
@@ -65,6 +66,7 @@ returns c keeps fits =
     let keyed : KeyedDocument = record { key = c.in_ok-key.key; document = c.in_ok-bytes.bytes } in
     let same : document_of keyed ≡ c.args.document = c.in_ok-bytes.ensures.2 in
     let is : IsKeyed keyed.key.items (document_of keyed) = (id d, ap (get (codes "_id")) same ∙ id_is d, key_is d) in
+    let exact : IsExact keyed.document = c.in_ok-bytes.ensures.0 ∙ ap bytes (sym same) in
     let all : new_documents c.add.new.self ≡ docs d ++ document_of keyed ∷ [] = ap (map document_of) adds.documents_are ∙ map-append document_of c.args.self.now.documents.items (keyed ∷ []) in
     record {
       id = id d;
@@ -77,7 +79,7 @@ returns c keeps fits =
       errors_same = adds.errors_same;
       fits = record {
         ids_are = λ k. adds.ids_are k ∙ ap (cond (bytes_eq keyed.key.items k.items) true) (fits.ids_are k) ∙ sym (ap (holds_id k.items) all ∙ holds_push keyed.key.items k.items (docs d) (document_of keyed) is);
-        new = subst (HaveNewIds (before d)) (sym adds.documents_are) (new_push (before d) c.args.self.now.documents.items keyed fits.new is (ap (λ (k : List ℕ). holds_id k (before d ++ docs d)) (key_is d) ∙ fresh));
+        new = subst (HaveNewIds (before d)) (sym adds.documents_are) (new_push (before d) c.args.self.now.documents.items keyed fits.new is (ap (λ (k : List ℕ). holds_id k (before d ++ docs d)) (key_is d) ∙ fresh) exact);
         exact = subst AreExact (sym adds.entries_are) (exact-append c.args.self.now.entries.items (entry ∷ []) fits.exact (made.exact, tt));
       };
     }

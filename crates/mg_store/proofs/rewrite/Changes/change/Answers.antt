@@ -22,6 +22,7 @@ returns c is =
       document = record { key = c.in_ok-key.key; document = c.into_parts-made.result.1 };
       keyed = c.in_ok-key.ensures;
       made = ap fields c.into_parts-made.ensures.encoded ∙ is.read_back;
+      exact = c.into_parts-made.ensures.encoded ∙ is.encoded_is ∙ ap bytes (sym (ap fields c.into_parts-made.ensures.encoded ∙ is.read_back));
       entry = c.in_ok-entry.entry;
       entry_is = entry.0;
       documents_are = c.in_ok-add.ensures.documents;
