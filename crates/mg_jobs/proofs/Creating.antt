@@ -5,7 +5,7 @@ use Rattle.mg_bson.specs.Tree.{Fields}
 use Rattle.mg_bson.specs.Raw.{fields}
 use Rattle.mg_bson.specs.Find.{as_array, get}
 use Rattle.mg_bson.specs.Reading.{◌>>=◌}
-use Rattle.mg_link.specs.Commands.{Asked, Told, asked, asked_by, asks_create, asks_delete, asks_drop, asks_indexes, asks_insert, asks_kill, asks_more, asks_other, asks_query, asks_update, asks_watch, documents_in, flag_or, filter_stages, has_only, insert_of, integers_in, kill_of, more_of, or_asks, pipeline_fields, pipeline_query, piped, refuses, space_at, stages_in, start_of, target_of, as_integer, watch_by, watch_from, watch_of, watch_stage}
+use Rattle.mg_link.specs.Commands.{Asked, asked, asked_by, asks_create, asks_delete, asks_drop, asks_indexes, asks_insert, asks_kill, asks_more, asks_other, asks_query, asks_update, asks_watch, documents_in, flag_or, filter_stages, has_only, insert_of, integers_in, kill_of, more_of, or_asks, pipeline_fields, pipeline_query, piped, refuses, space_at, stages_in, start_of, target_of, as_integer, watch_by, watch_from, watch_of, watch_stage_options}
 use Rattle.mg_link.specs.Filter.{Condition}
 use Rattle.mg_link.specs.Namespace.{Space, Target, target}
 use Rattle.mg_link.specs.Prompt.{AnswersAtOnce}
@@ -82,7 +82,7 @@ by_options fs stages (Some options) = by_watch (filter_stages stages) (start_of 
 by_stages : (fs : Fields) (o : Option (List Fields)) → found_creates (option_and_then (watch_from fs) o) ≡ false
 by_stages fs None = refl
 by_stages fs (Some []) = refl
-by_stages fs (Some (stage ∷ stages)) = by_options fs stages (watch_stage stage)
+by_stages fs (Some (stage ∷ stages)) = by_options fs stages (watch_stage_options stage)
 
 watch_creates : (fs : Fields) → found_creates (watch_of fs) ≡ false
 unfolding watch_of

@@ -7,7 +7,7 @@ use Rattle.mg_link.specs.Causes.{Rose}
 use Rattle.mg_link.specs.Ends.{ReadWhole, TookFront, longest}
 use Rattle.mg_link.specs.Ids.{counted_id}
 use Rattle.mg_link.specs.History.{IsLegal}
-use Rattle.mg_link.specs.Kept.{IsByRules, steps_of}
+use Rattle.mg_link.specs.Kept.{IsByRules, state_of_kept, steps_of}
 use Rattle.mg_link.specs.Log.{Call}
 use Rattle.mg_link.specs.Owner.{NamesItsOwn}
 use Rattle.mg_link.specs.Places.{out_at, polls_in}
@@ -22,6 +22,7 @@ use Rattle.mg_jobs.specs.Headline.{OutcomeFollowed}
 use Rattle.mg_script.specs.Plan.{Plan, Task, plan, tasks}
 use Rattle.mg_script.specs.Plan as plans
 use Rattle.mg_store.specs.InMemory.{AreAsFates, pends_in}
+use Rattle.mg_store.specs.Stored.{AreOpen}
 use Rattle.mg_store.specs.declared.fate.Fate.{Fate}
 use Rattle.mg_script.specs.declared.outcome.Outcome.{Outcome}
 use Rattle.mg_script.specs.declared.outcome.Turned.{Turned}
@@ -77,7 +78,7 @@ abbrev pub script_ids : Script → ℕ → List ℕ
 script_ids script n = counted_id (script.ids ++ 0 ∷ []) n
 
 -- What the jobs of a run over one link came to. The link's log stands in the history of the run's own store, which is legal and whose steps are by the
--- rules; each of its calls is as the fate of its number in the script says, and each of them names the log's own cursors only. In every legal history in
+-- rules; the ids that are printed as open are those of the cursors in the state that it leads to; each of its calls is as the fate of its number in the script says, and each of them names the log's own cursors only. In every legal history in
 -- which the log stands each follow answered consecutive entries from its own opening place on; each answer of a follow has its cause among the commands of
 -- its own turns; each insert sends its documents with the script's next ids. There is one outcome for each job and one note for each turn, by which it
 -- follows how far each job came. Each note says rightly whether its turn pended: one poll pended in it, or none, and that of the newest command which its
@@ -88,6 +89,7 @@ pub record RunFollowed (run : Run) : Type 0 where
   pub log_is : run.logs.items ≡ calls ∷ []
   pub by_rules : IsByRules run.store.history
   pub legal : IsLegal (steps_of run.store.history)
+  pub cursors : AreOpen (state_of_kept run.store.history) run.store.open_ids
   pub stands : Stands calls (steps_of run.store.history)
   pub alone : AreItsSteps run.store.history calls
   pub turns : Vec Turned Global

@@ -71,7 +71,7 @@ impl<F: Fated> FatedLink<F> {
 impl<F: Fated> Link for FatedLink<F> {
     ghost use Rattle.std.specs.Prelude.{Some};
     ghost use Rattle.mg_link.specs.Places.{out_at, polls_in};
-    ghost use Rattle.mg_store.specs.InMemory.{IsPrompt, faults_in, pends_in};
+    ghost use Rattle.mg_store.specs.InMemory.{IsPromptLink, faults_in, pends_in};
 
     ghost faults = { λ m. faults_in m.calls };
 
@@ -83,7 +83,7 @@ impl<F: Fated> Link for FatedLink<F> {
 
     ghost awaited = { λ m. out_at m.calls };
 
-    ghost prompt = { λ m. IsPrompt m.fates m.calls m.pended };
+    ghost prompt = { λ m. IsPromptLink m.fates m.calls m.pended };
 
     ghost wire = { λ m. m.wire };
 

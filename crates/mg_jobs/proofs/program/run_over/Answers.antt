@@ -2,13 +2,14 @@ use Rattle.std.proofs.Common.{◌≡◌, ◌+◌, ℕ, ℤ, List, [], ◌∷◌,
 use Rattle.std.specs.Prelude.{slice_get}
 use Rattle.mg_link.specs.Ids.{counted_id}
 use Rattle.mg_link.specs.History.{IsLegal}
-use Rattle.mg_link.specs.Kept.{IsByRules, steps_of}
+use Rattle.mg_link.specs.Kept.{IsByRules, state_of_kept, steps_of}
 use Rattle.mg_link.specs.Log.{Call}
 use Rattle.mg_link.specs.Places.{out_at, polls_in}
 use Rattle.mg_link.specs.Standing.{Stands}
 use Rattle.mg_link.proofs.Owners.{same_some}
 use Rattle.mg_link.proofs.Runs.{names_none_at_first}
 use Rattle.mg_store.specs.InMemory.{AreAsFates, pends_in}
+use Rattle.mg_store.specs.Stored.{AreOpen}
 use Rattle.mg_link.specs.Link.{Told}
 use Rattle.mg_jobs.specs.Counts.{AreNoted}
 use Rattle.mg_jobs.specs.Fated.{AreItsSteps}
@@ -53,6 +54,7 @@ returns-clause-followed g c =
       log_is = c.in_ok-logs.ensures.items ∙ ap (λ l. l ∷ []) (c.into_parts-store.ensures.calls ∙ calls);
       by_rules = subst (λ s. IsByRules s.history) stored c.into_parts-store.ensures.by_rules;
       legal = subst (λ s. IsLegal (steps_of s.history)) stored c.into_parts-store.ensures.legal;
+      cursors = subst (λ s. AreOpen (state_of_kept s.history) s.open_ids) stored c.into_parts-store.ensures.cursors;
       stands = subst (λ l. Stands l (steps_of c.into_parts-store.result.0.history)) calls (subst (λ s. Stands link.calls (steps_of s.history)) stored c.into_parts-store.ensures.stands);
       alone = subst (λ l. AreItsSteps c.into_parts-store.result.0.history l) calls (subst (λ s. AreItsSteps s.history link.calls) stored c.into_link.ensures.steps);
       followed = λ i t r ht hr. subst (λ (o : List ℕ). OutcomeFollowed (course [] o c.in_ok-played.played.turns.items) i f.0 t r) c.as_slice-2.ensures.value (f.2 i t r (ap (λ l. slice_get (tasks l) i) jobs ∙ ht) hr);
