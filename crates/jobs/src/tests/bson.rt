@@ -1,7 +1,7 @@
 use super::{bytes_of, expect, one_field, parted, text, with};
 use mg_bson::{
-    Array, Binary, Bson, BsonError, Document, ObjectId, RawDocumentBuf, Regex, to_bytes,
-    to_document,
+    Array, Binary, Bson, BsonError, Document, Malformation, ObjectId, RawDocument, RawDocumentBuf,
+    RawValue, Regex, to_bytes, to_document,
 };
 use std::alloc::{AllocError, Global};
 use std::test::Fail;
@@ -188,6 +188,183 @@ ffffffff00 a length below 0
 1b0000000f780013000000020000006600080000000a7900000000 a byte behind its scope
 ";
 
+// Bytes with the place and the reason of their first fault, and what it is. A fault inside a value is one of the outermost
+// value that holds it.
+const FAULTS: &str = "\
+0500000000 None no elements
+170000000a61000362000c000000106300010000000000 None two elements
+ 0:Frame no bytes
+05000000 0:Frame a length and no end
+0600000000 0:Frame a length one too large
+070000000a610000 0:Frame a length one too small
+050000000000 0:Frame a byte behind the end
+080000000a610001 0:Frame a last byte that is not 0
+0a0000000861000200 0:Frame a wrong length before a boolean of 2
+0800000014610000 4:Element a kind that there is not
+080000000a616100 4:Element a name without its 0
+080000000aff0000 4:Element a name that is not UTF-8
+0b00000010610001000000 4:Element a number cut short
+0f0000000261000400000068690000 4:Element a text that ends behind the document
+0d000000036100060000000000 4:Element a document that ends behind the one around it
+0b0000000b610062006300 4:Element options without their 0
+090000000861000200 4:Value a boolean of 2
+0e00000002610002000000ff0000 4:Value a text that is not UTF-8
+0f0000000261000200000068690000 4:Value a text that its length ends too early
+10000000036100080000000a62000100 4:Value an inner document whose end is not 0
+0c0000000a61000862000200 7:Value a boolean of 2 in the second element
+10000000106263000100000014620000 12:Element a kind that there is not in the second element
+130000000a610010626300010000000aff0000 15:Element a name that is not UTF-8 in the third element
+1800000010626300010000000ac3a9001062630001000000 16:Element a number cut short in the third element
+0f0000000a61000862000214630000 7:Value a boolean of 2 before a kind that there is not
+0f0000000a61001462000863000200 7:Element a kind that there is not before a boolean of 2
+0d000000106100010000000000 11:Element a number one byte too long
+220000000a6100036200170000000a61000363000c0000000a610008640002000000 7:Value a boolean of 2 two levels down
+1b00000010626300010000000462000b0000000a30001431000000 12:Value a kind that there is not in an array
+250000000a610010626300010000000f620012000000020000006600080000000aff000000 15:Value a name that is not UTF-8 in a scope
+";
+
+// Documents of a name of 15 to 17 or 31 to 33 bytes, each in two parts: between these its one letter of two bytes is left out.
+const PARTED_NAMES: &str = "\
+160000000a 6e6e6e6e6e6e6e6e6e6e6e6e6e0000
+160000000a6e 6e6e6e6e6e6e6e6e6e6e6e6e0000
+160000000a6e6e 6e6e6e6e6e6e6e6e6e6e6e0000
+160000000a6e6e6e 6e6e6e6e6e6e6e6e6e6e0000
+160000000a6e6e6e6e 6e6e6e6e6e6e6e6e6e0000
+160000000a6e6e6e6e6e 6e6e6e6e6e6e6e6e0000
+160000000a6e6e6e6e6e6e 6e6e6e6e6e6e6e0000
+160000000a6e6e6e6e6e6e6e 6e6e6e6e6e6e0000
+160000000a6e6e6e6e6e6e6e6e 6e6e6e6e6e0000
+160000000a6e6e6e6e6e6e6e6e6e 6e6e6e6e0000
+160000000a6e6e6e6e6e6e6e6e6e6e 6e6e6e0000
+160000000a6e6e6e6e6e6e6e6e6e6e6e 6e6e0000
+160000000a6e6e6e6e6e6e6e6e6e6e6e6e 6e0000
+160000000a6e6e6e6e6e6e6e6e6e6e6e6e6e 0000
+170000000a 6e6e6e6e6e6e6e6e6e6e6e6e6e6e0000
+170000000a6e 6e6e6e6e6e6e6e6e6e6e6e6e6e0000
+170000000a6e6e 6e6e6e6e6e6e6e6e6e6e6e6e0000
+170000000a6e6e6e 6e6e6e6e6e6e6e6e6e6e6e0000
+170000000a6e6e6e6e 6e6e6e6e6e6e6e6e6e6e0000
+170000000a6e6e6e6e6e 6e6e6e6e6e6e6e6e6e0000
+170000000a6e6e6e6e6e6e 6e6e6e6e6e6e6e6e0000
+170000000a6e6e6e6e6e6e6e 6e6e6e6e6e6e6e0000
+170000000a6e6e6e6e6e6e6e6e 6e6e6e6e6e6e0000
+170000000a6e6e6e6e6e6e6e6e6e 6e6e6e6e6e0000
+170000000a6e6e6e6e6e6e6e6e6e6e 6e6e6e6e0000
+170000000a6e6e6e6e6e6e6e6e6e6e6e 6e6e6e0000
+170000000a6e6e6e6e6e6e6e6e6e6e6e6e 6e6e0000
+170000000a6e6e6e6e6e6e6e6e6e6e6e6e6e 6e0000
+170000000a6e6e6e6e6e6e6e6e6e6e6e6e6e6e 0000
+180000000a 6e6e6e6e6e6e6e6e6e6e6e6e6e6e6e0000
+180000000a6e 6e6e6e6e6e6e6e6e6e6e6e6e6e6e0000
+180000000a6e6e 6e6e6e6e6e6e6e6e6e6e6e6e6e0000
+180000000a6e6e6e 6e6e6e6e6e6e6e6e6e6e6e6e0000
+180000000a6e6e6e6e 6e6e6e6e6e6e6e6e6e6e6e0000
+180000000a6e6e6e6e6e 6e6e6e6e6e6e6e6e6e6e0000
+180000000a6e6e6e6e6e6e 6e6e6e6e6e6e6e6e6e0000
+180000000a6e6e6e6e6e6e6e 6e6e6e6e6e6e6e6e0000
+180000000a6e6e6e6e6e6e6e6e 6e6e6e6e6e6e6e0000
+180000000a6e6e6e6e6e6e6e6e6e 6e6e6e6e6e6e0000
+180000000a6e6e6e6e6e6e6e6e6e6e 6e6e6e6e6e0000
+180000000a6e6e6e6e6e6e6e6e6e6e6e 6e6e6e6e0000
+180000000a6e6e6e6e6e6e6e6e6e6e6e6e 6e6e6e0000
+180000000a6e6e6e6e6e6e6e6e6e6e6e6e6e 6e6e0000
+180000000a6e6e6e6e6e6e6e6e6e6e6e6e6e6e 6e0000
+180000000a6e6e6e6e6e6e6e6e6e6e6e6e6e6e6e 0000
+260000000a 6e6e6e6e6e6e6e6e6e6e6e6e6e6e6e6e6e6e6e6e6e6e6e6e6e6e6e6e6e0000
+260000000a6e 6e6e6e6e6e6e6e6e6e6e6e6e6e6e6e6e6e6e6e6e6e6e6e6e6e6e6e6e0000
+260000000a6e6e 6e6e6e6e6e6e6e6e6e6e6e6e6e6e6e6e6e6e6e6e6e6e6e6e6e6e6e0000
+260000000a6e6e6e 6e6e6e6e6e6e6e6e6e6e6e6e6e6e6e6e6e6e6e6e6e6e6e6e6e6e0000
+260000000a6e6e6e6e 6e6e6e6e6e6e6e6e6e6e6e6e6e6e6e6e6e6e6e6e6e6e6e6e6e0000
+260000000a6e6e6e6e6e 6e6e6e6e6e6e6e6e6e6e6e6e6e6e6e6e6e6e6e6e6e6e6e6e0000
+260000000a6e6e6e6e6e6e 6e6e6e6e6e6e6e6e6e6e6e6e6e6e6e6e6e6e6e6e6e6e6e0000
+260000000a6e6e6e6e6e6e6e 6e6e6e6e6e6e6e6e6e6e6e6e6e6e6e6e6e6e6e6e6e6e0000
+260000000a6e6e6e6e6e6e6e6e 6e6e6e6e6e6e6e6e6e6e6e6e6e6e6e6e6e6e6e6e6e0000
+260000000a6e6e6e6e6e6e6e6e6e 6e6e6e6e6e6e6e6e6e6e6e6e6e6e6e6e6e6e6e6e0000
+260000000a6e6e6e6e6e6e6e6e6e6e 6e6e6e6e6e6e6e6e6e6e6e6e6e6e6e6e6e6e6e0000
+260000000a6e6e6e6e6e6e6e6e6e6e6e 6e6e6e6e6e6e6e6e6e6e6e6e6e6e6e6e6e6e0000
+260000000a6e6e6e6e6e6e6e6e6e6e6e6e 6e6e6e6e6e6e6e6e6e6e6e6e6e6e6e6e6e0000
+260000000a6e6e6e6e6e6e6e6e6e6e6e6e6e 6e6e6e6e6e6e6e6e6e6e6e6e6e6e6e6e0000
+260000000a6e6e6e6e6e6e6e6e6e6e6e6e6e6e 6e6e6e6e6e6e6e6e6e6e6e6e6e6e6e0000
+260000000a6e6e6e6e6e6e6e6e6e6e6e6e6e6e6e 6e6e6e6e6e6e6e6e6e6e6e6e6e6e0000
+260000000a6e6e6e6e6e6e6e6e6e6e6e6e6e6e6e6e 6e6e6e6e6e6e6e6e6e6e6e6e6e0000
+260000000a6e6e6e6e6e6e6e6e6e6e6e6e6e6e6e6e6e 6e6e6e6e6e6e6e6e6e6e6e6e0000
+260000000a6e6e6e6e6e6e6e6e6e6e6e6e6e6e6e6e6e6e 6e6e6e6e6e6e6e6e6e6e6e0000
+260000000a6e6e6e6e6e6e6e6e6e6e6e6e6e6e6e6e6e6e6e 6e6e6e6e6e6e6e6e6e6e0000
+260000000a6e6e6e6e6e6e6e6e6e6e6e6e6e6e6e6e6e6e6e6e 6e6e6e6e6e6e6e6e6e0000
+260000000a6e6e6e6e6e6e6e6e6e6e6e6e6e6e6e6e6e6e6e6e6e 6e6e6e6e6e6e6e6e0000
+260000000a6e6e6e6e6e6e6e6e6e6e6e6e6e6e6e6e6e6e6e6e6e6e 6e6e6e6e6e6e6e0000
+260000000a6e6e6e6e6e6e6e6e6e6e6e6e6e6e6e6e6e6e6e6e6e6e6e 6e6e6e6e6e6e0000
+260000000a6e6e6e6e6e6e6e6e6e6e6e6e6e6e6e6e6e6e6e6e6e6e6e6e 6e6e6e6e6e0000
+260000000a6e6e6e6e6e6e6e6e6e6e6e6e6e6e6e6e6e6e6e6e6e6e6e6e6e 6e6e6e6e0000
+260000000a6e6e6e6e6e6e6e6e6e6e6e6e6e6e6e6e6e6e6e6e6e6e6e6e6e6e 6e6e6e0000
+260000000a6e6e6e6e6e6e6e6e6e6e6e6e6e6e6e6e6e6e6e6e6e6e6e6e6e6e6e 6e6e0000
+260000000a6e6e6e6e6e6e6e6e6e6e6e6e6e6e6e6e6e6e6e6e6e6e6e6e6e6e6e6e 6e0000
+260000000a6e6e6e6e6e6e6e6e6e6e6e6e6e6e6e6e6e6e6e6e6e6e6e6e6e6e6e6e6e 0000
+270000000a 6e6e6e6e6e6e6e6e6e6e6e6e6e6e6e6e6e6e6e6e6e6e6e6e6e6e6e6e6e6e0000
+270000000a6e 6e6e6e6e6e6e6e6e6e6e6e6e6e6e6e6e6e6e6e6e6e6e6e6e6e6e6e6e6e0000
+270000000a6e6e 6e6e6e6e6e6e6e6e6e6e6e6e6e6e6e6e6e6e6e6e6e6e6e6e6e6e6e6e0000
+270000000a6e6e6e 6e6e6e6e6e6e6e6e6e6e6e6e6e6e6e6e6e6e6e6e6e6e6e6e6e6e6e0000
+270000000a6e6e6e6e 6e6e6e6e6e6e6e6e6e6e6e6e6e6e6e6e6e6e6e6e6e6e6e6e6e6e0000
+270000000a6e6e6e6e6e 6e6e6e6e6e6e6e6e6e6e6e6e6e6e6e6e6e6e6e6e6e6e6e6e6e0000
+270000000a6e6e6e6e6e6e 6e6e6e6e6e6e6e6e6e6e6e6e6e6e6e6e6e6e6e6e6e6e6e6e0000
+270000000a6e6e6e6e6e6e6e 6e6e6e6e6e6e6e6e6e6e6e6e6e6e6e6e6e6e6e6e6e6e6e0000
+270000000a6e6e6e6e6e6e6e6e 6e6e6e6e6e6e6e6e6e6e6e6e6e6e6e6e6e6e6e6e6e6e0000
+270000000a6e6e6e6e6e6e6e6e6e 6e6e6e6e6e6e6e6e6e6e6e6e6e6e6e6e6e6e6e6e6e0000
+270000000a6e6e6e6e6e6e6e6e6e6e 6e6e6e6e6e6e6e6e6e6e6e6e6e6e6e6e6e6e6e6e0000
+270000000a6e6e6e6e6e6e6e6e6e6e6e 6e6e6e6e6e6e6e6e6e6e6e6e6e6e6e6e6e6e6e0000
+270000000a6e6e6e6e6e6e6e6e6e6e6e6e 6e6e6e6e6e6e6e6e6e6e6e6e6e6e6e6e6e6e0000
+270000000a6e6e6e6e6e6e6e6e6e6e6e6e6e 6e6e6e6e6e6e6e6e6e6e6e6e6e6e6e6e6e0000
+270000000a6e6e6e6e6e6e6e6e6e6e6e6e6e6e 6e6e6e6e6e6e6e6e6e6e6e6e6e6e6e6e0000
+270000000a6e6e6e6e6e6e6e6e6e6e6e6e6e6e6e 6e6e6e6e6e6e6e6e6e6e6e6e6e6e6e0000
+270000000a6e6e6e6e6e6e6e6e6e6e6e6e6e6e6e6e 6e6e6e6e6e6e6e6e6e6e6e6e6e6e0000
+270000000a6e6e6e6e6e6e6e6e6e6e6e6e6e6e6e6e6e 6e6e6e6e6e6e6e6e6e6e6e6e6e0000
+270000000a6e6e6e6e6e6e6e6e6e6e6e6e6e6e6e6e6e6e 6e6e6e6e6e6e6e6e6e6e6e6e0000
+270000000a6e6e6e6e6e6e6e6e6e6e6e6e6e6e6e6e6e6e6e 6e6e6e6e6e6e6e6e6e6e6e0000
+270000000a6e6e6e6e6e6e6e6e6e6e6e6e6e6e6e6e6e6e6e6e 6e6e6e6e6e6e6e6e6e6e0000
+270000000a6e6e6e6e6e6e6e6e6e6e6e6e6e6e6e6e6e6e6e6e6e 6e6e6e6e6e6e6e6e6e0000
+270000000a6e6e6e6e6e6e6e6e6e6e6e6e6e6e6e6e6e6e6e6e6e6e 6e6e6e6e6e6e6e6e0000
+270000000a6e6e6e6e6e6e6e6e6e6e6e6e6e6e6e6e6e6e6e6e6e6e6e 6e6e6e6e6e6e6e0000
+270000000a6e6e6e6e6e6e6e6e6e6e6e6e6e6e6e6e6e6e6e6e6e6e6e6e 6e6e6e6e6e6e0000
+270000000a6e6e6e6e6e6e6e6e6e6e6e6e6e6e6e6e6e6e6e6e6e6e6e6e6e 6e6e6e6e6e0000
+270000000a6e6e6e6e6e6e6e6e6e6e6e6e6e6e6e6e6e6e6e6e6e6e6e6e6e6e 6e6e6e6e0000
+270000000a6e6e6e6e6e6e6e6e6e6e6e6e6e6e6e6e6e6e6e6e6e6e6e6e6e6e6e 6e6e6e0000
+270000000a6e6e6e6e6e6e6e6e6e6e6e6e6e6e6e6e6e6e6e6e6e6e6e6e6e6e6e6e 6e6e0000
+270000000a6e6e6e6e6e6e6e6e6e6e6e6e6e6e6e6e6e6e6e6e6e6e6e6e6e6e6e6e6e 6e0000
+270000000a6e6e6e6e6e6e6e6e6e6e6e6e6e6e6e6e6e6e6e6e6e6e6e6e6e6e6e6e6e6e 0000
+280000000a 6e6e6e6e6e6e6e6e6e6e6e6e6e6e6e6e6e6e6e6e6e6e6e6e6e6e6e6e6e6e6e0000
+280000000a6e 6e6e6e6e6e6e6e6e6e6e6e6e6e6e6e6e6e6e6e6e6e6e6e6e6e6e6e6e6e6e0000
+280000000a6e6e 6e6e6e6e6e6e6e6e6e6e6e6e6e6e6e6e6e6e6e6e6e6e6e6e6e6e6e6e6e0000
+280000000a6e6e6e 6e6e6e6e6e6e6e6e6e6e6e6e6e6e6e6e6e6e6e6e6e6e6e6e6e6e6e6e0000
+280000000a6e6e6e6e 6e6e6e6e6e6e6e6e6e6e6e6e6e6e6e6e6e6e6e6e6e6e6e6e6e6e6e0000
+280000000a6e6e6e6e6e 6e6e6e6e6e6e6e6e6e6e6e6e6e6e6e6e6e6e6e6e6e6e6e6e6e6e0000
+280000000a6e6e6e6e6e6e 6e6e6e6e6e6e6e6e6e6e6e6e6e6e6e6e6e6e6e6e6e6e6e6e6e0000
+280000000a6e6e6e6e6e6e6e 6e6e6e6e6e6e6e6e6e6e6e6e6e6e6e6e6e6e6e6e6e6e6e6e0000
+280000000a6e6e6e6e6e6e6e6e 6e6e6e6e6e6e6e6e6e6e6e6e6e6e6e6e6e6e6e6e6e6e6e0000
+280000000a6e6e6e6e6e6e6e6e6e 6e6e6e6e6e6e6e6e6e6e6e6e6e6e6e6e6e6e6e6e6e6e0000
+280000000a6e6e6e6e6e6e6e6e6e6e 6e6e6e6e6e6e6e6e6e6e6e6e6e6e6e6e6e6e6e6e6e0000
+280000000a6e6e6e6e6e6e6e6e6e6e6e 6e6e6e6e6e6e6e6e6e6e6e6e6e6e6e6e6e6e6e6e0000
+280000000a6e6e6e6e6e6e6e6e6e6e6e6e 6e6e6e6e6e6e6e6e6e6e6e6e6e6e6e6e6e6e6e0000
+280000000a6e6e6e6e6e6e6e6e6e6e6e6e6e 6e6e6e6e6e6e6e6e6e6e6e6e6e6e6e6e6e6e0000
+280000000a6e6e6e6e6e6e6e6e6e6e6e6e6e6e 6e6e6e6e6e6e6e6e6e6e6e6e6e6e6e6e6e0000
+280000000a6e6e6e6e6e6e6e6e6e6e6e6e6e6e6e 6e6e6e6e6e6e6e6e6e6e6e6e6e6e6e6e0000
+280000000a6e6e6e6e6e6e6e6e6e6e6e6e6e6e6e6e 6e6e6e6e6e6e6e6e6e6e6e6e6e6e6e0000
+280000000a6e6e6e6e6e6e6e6e6e6e6e6e6e6e6e6e6e 6e6e6e6e6e6e6e6e6e6e6e6e6e6e0000
+280000000a6e6e6e6e6e6e6e6e6e6e6e6e6e6e6e6e6e6e 6e6e6e6e6e6e6e6e6e6e6e6e6e0000
+280000000a6e6e6e6e6e6e6e6e6e6e6e6e6e6e6e6e6e6e6e 6e6e6e6e6e6e6e6e6e6e6e6e0000
+280000000a6e6e6e6e6e6e6e6e6e6e6e6e6e6e6e6e6e6e6e6e 6e6e6e6e6e6e6e6e6e6e6e0000
+280000000a6e6e6e6e6e6e6e6e6e6e6e6e6e6e6e6e6e6e6e6e6e 6e6e6e6e6e6e6e6e6e6e0000
+280000000a6e6e6e6e6e6e6e6e6e6e6e6e6e6e6e6e6e6e6e6e6e6e 6e6e6e6e6e6e6e6e6e0000
+280000000a6e6e6e6e6e6e6e6e6e6e6e6e6e6e6e6e6e6e6e6e6e6e6e 6e6e6e6e6e6e6e6e0000
+280000000a6e6e6e6e6e6e6e6e6e6e6e6e6e6e6e6e6e6e6e6e6e6e6e6e 6e6e6e6e6e6e6e0000
+280000000a6e6e6e6e6e6e6e6e6e6e6e6e6e6e6e6e6e6e6e6e6e6e6e6e6e 6e6e6e6e6e6e0000
+280000000a6e6e6e6e6e6e6e6e6e6e6e6e6e6e6e6e6e6e6e6e6e6e6e6e6e6e 6e6e6e6e6e0000
+280000000a6e6e6e6e6e6e6e6e6e6e6e6e6e6e6e6e6e6e6e6e6e6e6e6e6e6e6e 6e6e6e6e0000
+280000000a6e6e6e6e6e6e6e6e6e6e6e6e6e6e6e6e6e6e6e6e6e6e6e6e6e6e6e6e 6e6e6e0000
+280000000a6e6e6e6e6e6e6e6e6e6e6e6e6e6e6e6e6e6e6e6e6e6e6e6e6e6e6e6e6e 6e6e0000
+280000000a6e6e6e6e6e6e6e6e6e6e6e6e6e6e6e6e6e6e6e6e6e6e6e6e6e6e6e6e6e6e 6e0000
+280000000a6e6e6e6e6e6e6e6e6e6e6e6e6e6e6e6e6e6e6e6e6e6e6e6e6e6e6e6e6e6e6e 0000
+";
+
 // The document of these bytes.
 fn document_of(alloc: Global, bytes: Vec<u8>) -> Result<Document, BsonError> {
     let raw = RawDocumentBuf::from_bytes(bytes)?;
@@ -238,9 +415,11 @@ fn renamed_items(rt: HostRuntime) -> Result<(), Fail> {
     Ok(())
 }
 
-// Whether the bytes are taken for no document.
+// Whether the bytes are taken for no document, lent as well as kept.
 pub(super) fn are_malformed(bytes: Vec<u8>) -> bool {
-    matches!(RawDocumentBuf::from_bytes(bytes), Err(BsonError::Malformed))
+    let is_lent = RawDocument::from_bytes(&bytes).is_ok();
+    let is_refused = matches!(RawDocumentBuf::from_bytes(bytes), Err(BsonError::Malformed));
+    is_refused && !is_lent
 }
 
 #[test]
@@ -249,6 +428,45 @@ fn damaged_bytes(rt: HostRuntime) -> Result<(), Fail> {
         let (digits, why) = parted(line);
         let bytes = hex::decode(rt.alloc(), digits)?;
         assert!(rt; are_malformed(bytes), "{why}");
+    }
+    Ok(())
+}
+
+// The place and the reason of the first fault of bytes.
+fn fault_of(alloc: Global, bytes: &[u8]) -> Result<String, AllocError> {
+    match Malformation::of(bytes) {
+        Some(found) => format!(in alloc; "{}:{:?}", found.place, found.reason),
+        None => String::from_str(alloc, "None"),
+    }
+}
+
+#[test]
+fn places_of_faults(rt: HostRuntime) -> Result<(), Fail> {
+    let alloc = rt.alloc();
+    for line in FAULTS.lines() {
+        let (digits, told) = parted(line);
+        let (wanted, why) = parted(told);
+        let bytes = hex::decode(alloc, digits)?;
+        let found = fault_of(alloc, &bytes)?;
+        expect(&rt, why, found.as_str(), wanted);
+    }
+    Ok(())
+}
+
+#[test]
+fn letters_in_names(rt: HostRuntime) -> Result<(), Fail> {
+    let alloc = rt.alloc();
+    for line in PARTED_NAMES.lines() {
+        let (front, behind) = parted(line);
+        let digits = format!(in alloc; "{front}c3a9{behind}")?;
+        let found = rewritten(alloc, hex::decode(alloc, digits.as_str())?)?;
+        expect(&rt, line, found.as_str(), digits.as_str());
+        let cut_short = format!(in alloc; "{front}c36e{behind}")?;
+        let bytes = hex::decode(alloc, cut_short.as_str())?;
+        assert!(rt; are_malformed(bytes), "{cut_short}");
+        let stray = format!(in alloc; "{front}6ea9{behind}")?;
+        let bytes = hex::decode(alloc, stray.as_str())?;
+        assert!(rt; are_malformed(bytes), "{stray}");
     }
     Ok(())
 }
@@ -274,15 +492,17 @@ fn nested_bytes(alloc: Global, kind: u8, levels: u32) -> Result<Vec<u8>, BsonErr
     Ok(bytes)
 }
 
-// Whether a document of 100 levels is written as it was read, why one of 101 is not written and has no length, and why it
-// is not read.
+// Whether a document of 100 levels is written as it was read, why one of 101 is not written and has no length, and why and
+// where it is not read.
 fn levels_of(alloc: Global, kind: u8) -> Result<String, BsonError> {
     let bytes = nested_bytes(alloc, kind, 100)?;
     let deepest = document_of(alloc, bytes.clone()?)?;
     let is_same = to_bytes(alloc, &deepest)?.as_bytes() == bytes.as_slice();
     let deeper = faults_of(alloc, "0", Bson::Document(deepest))?;
-    let unread = RawDocumentBuf::from_bytes(nested_bytes(alloc, kind, 101)?).err();
-    Ok(format!(in alloc; "{is_same} {deeper:?} {unread:?}")?)
+    let too_deep = nested_bytes(alloc, kind, 101)?;
+    let fault = fault_of(alloc, &too_deep)?;
+    let unread = RawDocumentBuf::from_bytes(too_deep).err();
+    Ok(format!(in alloc; "{is_same} {deeper:?} {unread:?} {fault}")?)
 }
 
 #[test]
@@ -293,7 +513,7 @@ fn limits_of_levels(rt: HostRuntime) -> Result<(), Fail> {
             &rt,
             name,
             found.as_str(),
-            "true [Some(TooDeep), Some(TooDeep)] Some(Malformed)",
+            "true [Some(TooDeep), Some(TooDeep)] Some(Malformed) 4:Value",
         );
     }
     Ok(())
@@ -464,19 +684,23 @@ fn copies_of_bytes(rt: HostRuntime) -> Result<(), Fail> {
     Ok(())
 }
 
-// The value of the name `b` in the bytes of a document.
-fn value_of_b(alloc: Global, document: &Document) -> Result<Bson, BsonError> {
+// The list of the name `b` in the bytes of a document, by copies of what these lend.
+fn list_of_b(alloc: Global, document: &Document) -> Result<Bson, BsonError> {
     let raw = to_bytes(alloc, document)?;
-    match raw.as_raw().get("b") {
-        Some(value) => value.to_value(alloc),
-        None => Ok(Bson::Null),
+    let lent = raw.as_raw().clone()?;
+    let Some(value) = lent.get("b") else {
+        return Ok(Bson::Null);
+    };
+    match value.as_array() {
+        Some(list) => RawValue::Array(list.clone()?).to_value(alloc),
+        None => value.to_value(alloc),
     }
 }
 
 // Whether the value is the same that is read of the bytes of a document.
 fn value_is_same(alloc: Global) -> Result<bool, BsonError> {
     let document = sample(alloc)?;
-    let value = value_of_b(alloc, &document)?;
+    let value = list_of_b(alloc, &document)?;
     Ok(document.get("b") == Some(&value))
 }
 

@@ -1,15 +1,20 @@
 use super::{expect, one_field, repeated, text, with, with_text};
-use mg_bson::{Array, Bson, BsonError, Document, RawDocument, to_bytes};
-use mg_link::Error;
+use mg_bson::{Array, Bson, BsonError, Document, RawDocument, Timestamp, to_bytes};
+use mg_link::{Error, Namespace};
 use mg_store::Store;
 use std::alloc::{AllocError, Global};
 use std::test::Fail;
 
+// A text that brings a document to so many bytes, of which so many stand beside it.
+fn padding(alloc: Global, bytes: u32, beside: u32) -> Result<Bson, AllocError> {
+    let text = repeated(alloc, "", "a", bytes.saturating_sub(beside), "")?;
+    Ok(Bson::String(text))
+}
+
 // A document of so many bytes: its `_id`, and a text that brings it there.
 fn padded(alloc: Global, id: i32, bytes: u32) -> Result<Document, BsonError> {
-    let padding = repeated(alloc, "", "a", bytes.saturating_sub(22), "")?;
     let document = one_field(alloc, "_id", Bson::Int32(id))?;
-    with(document, "p", Bson::String(padding))
+    with(document, "p", padding(alloc, bytes, 22)?)
 }
 
 // So many documents of so many bytes.
@@ -77,29 +82,6 @@ fn answer_to(alloc: Global, store: &mut Store, command: &Document) -> Result<Str
     Ok(told(alloc, &receipt.reply.as_raw())?)
 }
 
-// What an insert of one document of so many bytes is answered, into a collection with a name of so many bytes.
-fn stored(alloc: Global, bytes: u32, name_bytes: u32) -> Result<String, Error> {
-    let mut store = Store::new(alloc);
-    let coll = repeated(alloc, "", "c", name_bytes, "")?;
-    let command = insert_of(alloc, coll.as_str(), all_padded(alloc, 1, bytes)?)?;
-    answer_to(alloc, &mut store, &command)
-}
-
-#[test]
-fn sizes_of_documents_and_names(rt: HostRuntime) -> Result<(), Fail> {
-    let alloc = rt.alloc();
-    for (bytes, name_bytes, wanted) in [
-        (16777216, 1, "done"),
-        (16777217, 1, "a write error"),
-        (22, 65536, "done"),
-        (22, 65537, "refused 9"),
-    ] {
-        let found = stored(alloc, bytes, name_bytes)?;
-        expect(&rt, "stored", found.as_str(), wanted);
-    }
-    Ok(())
-}
-
 fn more_of(alloc: Global) -> Result<Document, BsonError> {
     let command = one_field(alloc, "getMore", Bson::Int64(1))?;
     let command = with_text(alloc, command, "collection", "c")?;
@@ -116,67 +98,102 @@ fn find_of(alloc: Global) -> Result<Document, BsonError> {
     )
 }
 
-// An aggregate that watches the collection, with an empty first batch.
-fn watch_of(alloc: Global) -> Result<Document, BsonError> {
-    let options = Bson::Document(Document::new(alloc));
+// An aggregate that watches a collection from its first change on.
+fn watch_of(alloc: Global, coll: &str) -> Result<Document, BsonError> {
+    let first = Timestamp {
+        time: 1,
+        increment: 1,
+    };
+    let start = one_field(alloc, "startAtOperationTime", Bson::Timestamp(first))?;
+    let stage = one_field(alloc, "$changeStream", Bson::Document(start))?;
     let mut pipeline = Array::new(alloc);
-    pipeline.push(Bson::Document(one_field(alloc, "$changeStream", options)?))?;
-    let size = one_field(alloc, "batchSize", Bson::Int32(0))?;
-    let command = command_of(alloc, "aggregate", "c", "pipeline", Bson::Array(pipeline))?;
-    with(command, "cursor", Bson::Document(size))
+    pipeline.push(Bson::Document(stage))?;
+    let command = command_of(alloc, "aggregate", coll, "pipeline", Bson::Array(pipeline))?;
+    with(command, "cursor", Bson::Document(Document::new(alloc)))
 }
 
-// How many documents the next two batches have.
-fn next_two(alloc: Global, store: &mut Store) -> Result<String, Error> {
-    let more = more_of(alloc)?;
-    let second = answer_to(alloc, store, &more)?;
-    let third = answer_to(alloc, store, &more)?;
-    Ok(format!(in alloc; "{second} {third}")?)
+// A command to a database with a name of so many bytes: an insert into a collection with a name of so many, a watch of
+// that, or a list of collections.
+fn named_command(
+    alloc: Global,
+    name: &str,
+    db_bytes: u32,
+    coll_bytes: u32,
+) -> Result<Document, BsonError> {
+    let coll = repeated(alloc, "", "c", coll_bytes, "")?;
+    let mut command = match name {
+        "insert" => insert_of(alloc, coll.as_str(), all_padded(alloc, 1, 22)?)?,
+        "watch" => watch_of(alloc, coll.as_str())?,
+        _ => one_field(alloc, "listCollections", Bson::Int32(1))?,
+    };
+    let db = repeated(alloc, "", "d", db_bytes, "")?;
+    let _old = command.insert("$db", Bson::String(db))?;
+    Ok(command)
 }
 
-// How many of three documents of so many bytes each batch of a query holds.
-fn batches_found(alloc: Global, bytes: u32) -> Result<String, Error> {
-    let mut store = Store::new(alloc);
-    let _done = answer_to(
-        alloc,
-        &mut store,
-        &insert_of(alloc, "c", all_padded(alloc, 3, bytes)?)?,
-    )?;
-    let first = answer_to(alloc, &mut store, &find_of(alloc)?)?;
-    let others = next_two(alloc, &mut store)?;
-    Ok(format!(in alloc; "{first} {others}")?)
-}
+const NAMES: [(&str, u32, u32, &str); 8] = [
+    ("insert", 3, 65536, "done"),
+    ("insert", 3, 65537, "refused 9"),
+    ("insert", 65536, 1, "done"),
+    ("insert", 65537, 1, "refused 9"),
+    ("watch", 65536, 65536, "0"),
+    ("watch", 65536, 65537, "refused 9"),
+    ("list", 65536, 0, "0"),
+    ("list", 65537, 0, "refused 9"),
+];
 
-// How many of the events of their inserts each batch of a watch holds.
-fn batches_watched(alloc: Global, bytes: u32) -> Result<String, Error> {
-    let mut store = Store::new(alloc);
-    let _opened = answer_to(alloc, &mut store, &watch_of(alloc)?)?;
-    let _done = answer_to(
-        alloc,
-        &mut store,
-        &insert_of(alloc, "c", all_padded(alloc, 3, bytes)?)?,
-    )?;
-    let first = answer_to(alloc, &mut store, &more_of(alloc)?)?;
-    let others = next_two(alloc, &mut store)?;
-    Ok(format!(in alloc; "{first} {others}")?)
-}
-
-// Two fit a batch just where they have 16,777,216 bytes together; an event has 164 bytes beside its document.
 #[test]
-fn batches_are_cut_by_their_bytes(rt: HostRuntime) -> Result<(), Fail> {
+fn names_have_65536_bytes_at_most(rt: HostRuntime) -> Result<(), Fail> {
     let alloc = rt.alloc();
-    let fits = batches_found(alloc, 8388608)?;
-    expect(&rt, "documents that fit", fits.as_str(), "2 1 refused 43");
-    let is_over = batches_found(alloc, 8388609)?;
-    expect(&rt, "documents that do not", is_over.as_str(), "1 1 1");
-    let events = batches_watched(alloc, 8388444)?;
-    expect(&rt, "events that fit", events.as_str(), "2 1 0");
-    let is_over = batches_watched(alloc, 8388445)?;
-    expect(&rt, "events that do not", is_over.as_str(), "1 1 1");
+    for (name, db_bytes, coll_bytes, wanted) in NAMES {
+        let command = named_command(alloc, name, db_bytes, coll_bytes)?;
+        let mut store = Store::new(alloc);
+        let found = answer_to(alloc, &mut store, &command)?;
+        expect(&rt, name, found.as_str(), wanted);
+    }
     Ok(())
 }
 
-// A command that names so many cursors, none of which is there.
+// How many of so many documents of so many bytes, or of the events of their inserts, each of three batches has.
+fn batches(alloc: Global, name: &str, count: i32, bytes: u32) -> Result<String, Error> {
+    let mut store = Store::new(alloc);
+    let insert = insert_of(alloc, "c", all_padded(alloc, count, bytes)?)?;
+    let _done = answer_to(alloc, &mut store, &insert)?;
+    let opening = match name {
+        "find" => find_of(alloc)?,
+        _ => watch_of(alloc, "c")?,
+    };
+    let first = answer_to(alloc, &mut store, &opening)?;
+    let more = more_of(alloc)?;
+    let second = answer_to(alloc, &mut store, &more)?;
+    let third = answer_to(alloc, &mut store, &more)?;
+    Ok(format!(in alloc; "{first} {second} {third}")?)
+}
+
+// Some fit a batch just where they have 16,777,216 bytes together; one fits always, and 101 are the most where no size is
+// asked for. An event has 164 bytes beside its document.
+const BATCHES: [(&str, i32, u32, &str); 8] = [
+    ("find", 4, 8388608, "2 2 refused 43"),
+    ("find", 3, 8388609, "1 1 1"),
+    ("find", 2, 16777216, "1 1 refused 43"),
+    ("find", 203, 22, "101 101 1"),
+    ("watch", 4, 8388444, "2 2 0"),
+    ("watch", 3, 8388445, "1 1 1"),
+    ("watch", 2, 16777216, "1 1 0"),
+    ("watch", 203, 22, "101 101 1"),
+];
+
+#[test]
+fn batches_are_cut(rt: HostRuntime) -> Result<(), Fail> {
+    let alloc = rt.alloc();
+    for (name, count, bytes, wanted) in BATCHES {
+        let found = batches(alloc, name, count, bytes)?;
+        expect(&rt, name, found.as_str(), wanted);
+    }
+    Ok(())
+}
+
+// A command that kills the cursors with the first so many ids.
 fn kill_of(alloc: Global, count: i32) -> Result<Document, BsonError> {
     let mut ids = Array::new(alloc);
     for id in 0..count {
@@ -185,13 +202,22 @@ fn kill_of(alloc: Global, count: i32) -> Result<Document, BsonError> {
     command_of(alloc, "killCursors", "c", "cursors", Bson::Array(ids))
 }
 
-// The reply lists each id in 64 bits: of so many it has 46,999,988 bytes, and of one more 17 bytes more.
+// What the command is answered where so many of those cursors are open.
+fn killed(alloc: Global, open: i32, count: i32) -> Result<String, Error> {
+    let mut store = Store::new(alloc);
+    let watch = watch_of(alloc, "c")?;
+    for _ in 0..open {
+        let _opened = answer_to(alloc, &mut store, &watch)?;
+    }
+    answer_to(alloc, &mut store, &kill_of(alloc, count)?)
+}
+
+// The reply lists each id in 64 bits, those of open cursors apart: so it has 47,000,000 bytes, and one more.
 #[test]
 fn replies_have_47_million_bytes_at_most(rt: HostRuntime) -> Result<(), Fail> {
     let alloc = rt.alloc();
-    let mut store = Store::new(alloc);
-    for (count, wanted) in [(2830059, "done"), (2830060, "refused 9")] {
-        let found = answer_to(alloc, &mut store, &kill_of(alloc, count)?)?;
+    for (open, count, wanted) in [(16, 2830065, "done"), (26, 2830068, "refused 9")] {
+        let found = killed(alloc, open, count)?;
         expect(&rt, "a reply", found.as_str(), wanted);
     }
     Ok(())
@@ -206,12 +232,12 @@ fn deep(alloc: Global, levels: u32) -> Result<Document, BsonError> {
     Ok(document)
 }
 
-// A document of so many levels with an `_id`.
+// A document of so many levels with an `_id`, which no other has of these.
 fn deep_with_id(alloc: Global, levels: u32) -> Result<Document, BsonError> {
-    with(deep(alloc, levels)?, "_id", Bson::Int32(1))
+    with(deep(alloc, levels)?, "_id", Bson::Int64(i64::from(levels)))
 }
 
-// An update of every document by this modification.
+// An update of the first document by this modification.
 fn update_of(alloc: Global, modification: Document) -> Result<Document, BsonError> {
     let update = one_field(alloc, "q", Bson::Document(Document::new(alloc)))?;
     let update = with(update, "u", Bson::Document(modification))?;
@@ -220,11 +246,16 @@ fn update_of(alloc: Global, modification: Document) -> Result<Document, BsonErro
     command_of(alloc, "update", "c", "updates", Bson::Array(updates))
 }
 
-// An index by a key of so many levels.
-fn index_of(alloc: Global, levels: u32) -> Result<Document, BsonError> {
-    let index = one_field(alloc, "key", Bson::Document(deep(alloc, levels)?))?;
+// An update that sets one field.
+fn set_of(alloc: Global, name: &str, value: Bson) -> Result<Document, BsonError> {
+    let fields = one_field(alloc, name, value)?;
+    update_of(alloc, one_field(alloc, "$set", Bson::Document(fields))?)
+}
+
+fn index_of(alloc: Global, key: Document, name: Bson) -> Result<Document, BsonError> {
+    let index = one_field(alloc, "key", Bson::Document(key))?;
     let mut indexes = Array::new(alloc);
-    indexes.push(Bson::Document(with_text(alloc, index, "name", "deep")?))?;
+    indexes.push(Bson::Document(with(index, "name", name)?))?;
     command_of(alloc, "createIndexes", "c", "indexes", Bson::Array(indexes))
 }
 
@@ -237,19 +268,18 @@ fn deep_command(alloc: Global, name: &str, levels: u32) -> Result<Document, Bson
             insert_of(alloc, "c", documents)
         }
         "replace" => update_of(alloc, deep(alloc, levels)?),
-        "set" => {
-            let fields = one_field(alloc, "d", Bson::Document(deep(alloc, levels)?))?;
-            update_of(alloc, one_field(alloc, "$set", Bson::Document(fields))?)
-        }
-        _ => index_of(alloc, levels),
+        "set" => set_of(alloc, "d", Bson::Document(deep(alloc, levels)?)),
+        _ => index_of(alloc, deep(alloc, levels)?, text(alloc, "deep")?),
     }
 }
 
 // An event that a document stands in is one level deeper than it, one that tells of set fields three deeper than their
-// values, and a list of indexes one deeper than their keys.
-const LEVELS: [(&str, u32, &str); 10] = [
+// values, and a list of indexes one deeper than their keys. The deepest of each kind makes a command of 100 levels.
+const LEVELS: [(&str, u32, &str); 12] = [
+    ("insert", 98, "a write error"),
     ("insert", 97, "a write error"),
     ("insert", 96, "done"),
+    ("insert", 90, "done"),
     ("replace", 97, "refused 9"),
     ("replace", 96, "done"),
     ("replace", 90, "done"),
@@ -266,6 +296,70 @@ fn levels_of_what_is_stored(rt: HostRuntime) -> Result<(), Fail> {
     let mut store = Store::new(alloc);
     for (name, levels, wanted) in LEVELS {
         let found = answer_to(alloc, &mut store, &deep_command(alloc, name, levels)?)?;
+        expect(&rt, name, found.as_str(), wanted);
+    }
+    Ok(())
+}
+
+// A command that makes a document or an index of so many bytes, or the collection.
+fn sized_command(alloc: Global, name: &str, bytes: u32) -> Result<Document, BsonError> {
+    match name {
+        "insert" => insert_of(alloc, "c", all_padded(alloc, 1, bytes)?),
+        "replace" => update_of(alloc, padded(alloc, 0, bytes)?),
+        "set" => set_of(alloc, "p", padding(alloc, bytes, 22)?),
+        "index" => {
+            let key = one_field(alloc, "a", Bson::Int32(1))?;
+            index_of(alloc, key, padding(alloc, bytes, 40)?)
+        }
+        _ => {
+            let command = one_field(alloc, "create", text(alloc, "c")?)?;
+            with_text(alloc, command, "$db", "app")
+        }
+    }
+}
+
+// What a command is answered, how many changes there are then, and how many bytes the last document of a collection has.
+fn answered(
+    alloc: Global,
+    store: &mut Store,
+    command: &Document,
+    ns: &Namespace,
+) -> Result<String, Error> {
+    let answer = answer_to(alloc, store, command)?;
+    let changes = store.changes().len();
+    let documents = store.documents(ns)?;
+    let bytes = match documents.as_slice().last() {
+        Some(document) => document.as_bytes().len(),
+        None => 0,
+    };
+    Ok(format!(in alloc; "{answer}, {changes} changes, {bytes} bytes")?)
+}
+
+// What a list says of an index has 40 bytes beside its name.
+const SIZES: [(&str, u32, &str); 11] = [
+    ("index", 16777217, "refused 9, 0 changes, 0 bytes"),
+    ("create", 0, "done, 0 changes, 0 bytes"),
+    ("index", 16777216, "done, 0 changes, 0 bytes"),
+    ("insert", 16777217, "a write error, 0 changes, 0 bytes"),
+    ("insert", 16777216, "done, 1 changes, 16777216 bytes"),
+    ("replace", 22, "done, 2 changes, 22 bytes"),
+    ("replace", 16777217, "refused 9, 2 changes, 22 bytes"),
+    ("replace", 16777216, "done, 3 changes, 16777216 bytes"),
+    ("set", 16777217, "refused 9, 3 changes, 16777216 bytes"),
+    ("replace", 22, "done, 4 changes, 22 bytes"),
+    ("set", 16777216, "done, 5 changes, 16777216 bytes"),
+];
+
+#[test]
+fn sizes_of_what_is_stored(rt: HostRuntime) -> Result<(), Fail> {
+    let alloc = rt.alloc();
+    let Some(ns) = Namespace::from_str(alloc, "app.c")? else {
+        return Err(Fail::from("it is a namespace"));
+    };
+    let mut store = Store::new(alloc);
+    for (name, bytes, wanted) in SIZES {
+        let command = sized_command(alloc, name, bytes)?;
+        let found = answered(alloc, &mut store, &command, &ns)?;
         expect(&rt, name, found.as_str(), wanted);
     }
     Ok(())

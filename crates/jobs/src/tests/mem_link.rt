@@ -3,11 +3,11 @@ ghost use Rattle.mg_link.specs.Places.{out_at};
 ghost use Rattle.mg_store.specs.InMemory.{AreSmall};
 
 use super::{namespace, one_field, text, with, with_text};
-use mg_bson::{Array, Bson, BsonError, RawDocumentBuf, to_bytes};
+use mg_bson::{Array, Bson, BsonError, Document, RawDocumentBuf, to_bytes};
 use mg_link::{Error, Link, Namespace, Polled, Ticket};
 use mg_ops::{Insert, encode};
 use mg_options::InsertManyOptions;
-use mg_store::{Fate, FateKind, MemLink, Store};
+use mg_store::{Fate, FateKind, MemLink, Store, may_go_aside};
 use std::alloc::{AllocError, Global};
 use std::test::Fail;
 
@@ -134,8 +134,8 @@ fn each_command_meets_its_fate(rt: HostRuntime) -> Result<(), Fail> {
     Ok(())
 }
 
-/// Inserts a document with this id by nobody's call, and gives where its step stands.
-fn put_aside(alloc: Global, link: &mut MemLink, id: i32) -> Result<u64, Error> {
+/// Inserts a document with this id by nobody's call, and gives where its step stands; none where that may not be.
+fn put_aside(alloc: Global, link: &mut MemLink, id: i32) -> Result<Option<u64>, Error> {
     let ns = namespace(alloc)?;
     let documents = vec![in alloc; one_field(alloc, "_id", Bson::Int32(id))?]?;
     let insert = Insert {
@@ -144,19 +144,44 @@ fn put_aside(alloc: Global, link: &mut MemLink, id: i32) -> Result<u64, Error> {
         options: InsertManyOptions::builder(),
     };
     let command = encode(alloc, &insert, 21, None)?;
-    Ok(link.aside(command.as_raw())?.position)
+    let command = command.as_raw();
+    if !may_go_aside(&command) {
+        return Ok(None);
+    }
+    Ok(Some(link.aside(command)?.position))
 }
 
 #[test]
 fn steps_of_nobodys_call(rt: HostRuntime) -> Result<(), Fail> {
     let alloc = rt.alloc();
     let mut link = MemLink::new(alloc, Store::new(alloc), Vec::new(alloc), 21);
-    assert_eq!(rt; put_aside(alloc, &mut link, 1)?, 0);
-    assert_eq!(rt; put_aside(alloc, &mut link, 2)?, 1);
+    assert_eq!(rt; put_aside(alloc, &mut link, 1)?, Some(0));
+    assert_eq!(rt; put_aside(alloc, &mut link, 2)?, Some(1));
     assert_eq!(rt; link.log().calls().len(), 0);
     let store = link.store();
     let documents = store.documents(&namespace(alloc)?)?.len();
     let counts = (store.history().len(), store.changes().len(), documents);
     assert_eq!(rt; counts, (2, 2, 2));
+    Ok(())
+}
+
+/// Of the first name of a command: whether it may go aside.
+const FIRST_NAMES: [(&str, bool); 5] = [
+    ("getMore", false),
+    ("killCursors", false),
+    ("getmore", true),
+    ("insert", true),
+    ("aggregate", true),
+];
+
+#[test]
+fn which_commands_go_aside(rt: HostRuntime) -> Result<(), Fail> {
+    let alloc = rt.alloc();
+    for (name, aside) in FIRST_NAMES {
+        let command = to_bytes(alloc, &one_field(alloc, name, Bson::Int32(1))?)?;
+        assert_eq!(rt; may_go_aside(&command.as_raw()), aside, "{name}");
+    }
+    let empty = to_bytes(alloc, &Document::new(alloc))?;
+    assert!(rt; may_go_aside(&empty.as_raw()));
     Ok(())
 }

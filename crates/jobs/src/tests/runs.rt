@@ -127,6 +127,12 @@ job 0 insert ok 3|job 1 follow opened|job 1 call 0 event {"_id":{"_data":"000000
 job 0 insert ok 3|job 1 follow opened|job 1 call 0 event {"_id":{"_data":"0000000000000002"},"clusterTime":{"$timestamp":{"i":1,"t":2}},"documentKey":{"_id":2},"fullDocument":{"_id":2},"ns":{"coll":"c","db":"app"},"operationType":"insert"}|job 1 call 1 E2|job 1 call 2 event {"_id":{"_data":"0000000000000003"},"clusterTime":{"$timestamp":{"i":1,"t":3}},"documentKey":{"_id":3},"fullDocument":{"_id":3},"ns":{"coll":"c","db":"app"},"operationType":"insert"}|job 1 token {"_data":"0000000000000003"} alive yes|job 1 follow done|open 2 3|commands 8
 {"fates":[{},{"code":237,"kind":"refuse"}],"jobs":[{"calls":3,"job":"follow","on":"app.c"}],"order":[0,0,0,0]}
 job 0 follow opened|job 0 call 0 nothing|job 0 call 1 E3 237|job 0 call 2 nothing|job 0 token {"_data":"0000000000000000"} alive no|job 0 follow done|open none|commands 2
+{"fates":[{},{},{"code":43,"kind":"refuse"}],"jobs":[{"calls":3,"job":"follow","on":"app.c"},{"docs":[{"_id":1}],"job":"insert","ns":"app.c"}],"order":[0,0,1,0,0]}
+job 0 follow opened|job 0 call 0 nothing|job 0 call 1 event {"_id":{"_data":"0000000000000001"},"clusterTime":{"$timestamp":{"i":1,"t":1}},"documentKey":{"_id":1},"fullDocument":{"_id":1},"ns":{"coll":"c","db":"app"},"operationType":"insert"}|job 0 call 2 nothing|job 0 token {"_data":"0000000000000001"} alive yes|job 0 follow done|job 1 insert ok 1|open none|commands 6
+{"fates":[{},{},{"code":91,"kind":"refuse"}],"jobs":[{"calls":3,"job":"follow","on":"app.c"},{"docs":[{"_id":1}],"job":"insert","ns":"app.c"}],"order":[0,0,1,0,0]}
+job 0 follow opened|job 0 call 0 nothing|job 0 call 1 E3 91|job 0 call 2 event {"_id":{"_data":"0000000000000001"},"clusterTime":{"$timestamp":{"i":1,"t":1}},"documentKey":{"_id":1},"fullDocument":{"_id":1},"ns":{"coll":"c","db":"app"},"operationType":"insert"}|job 0 token {"_data":"0000000000000001"} alive yes|job 0 follow done|job 1 insert ok 1|open none|commands 5
+{"fates":[{},{"code":43,"kind":"refuse"}],"jobs":[{"calls":1,"job":"follow","on":"app.c"}],"order":[0,0]}
+job 0 follow opened|job 0 call 0 nothing|job 0 token {"_data":"0000000000000000"} alive yes|job 0 follow close failed E3 43|open 1|commands 2
 {"fates":[{"pend":1}],"jobs":[{"calls":1,"job":"follow","on":"app.c"}],"order":[0]}
 job 0 follow unopened|open 1|commands 1
 {"fates":[{"pend":1}],"jobs":[{"calls":1,"job":"follow","on":"app.c"}],"order":[0,0,0]}
