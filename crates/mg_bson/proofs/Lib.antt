@@ -17,3 +17,8 @@ pub mod Plain
 pub mod Measuring
 pub mod Scanning
 pub mod Malforming
+pub mod Spans
+pub mod Inside
+pub mod Walking
+pub mod Steps
+pub mod Parts

@@ -19,3 +19,5 @@ pub mod Name
 pub mod RawView
 pub mod Scan
 pub mod Malformed
+pub mod Spans
+pub mod Walks

@@ -210,6 +210,15 @@ impl<'a> Model for RawItems<'a> {
 }
 
 impl<'a> RawArray<'a> {
+    // The bytes, which the caller knows to be a document.
+    #[inline(always)]
+    pub(crate) fn checked(bytes: &'a [u8]) -> RawArray<'a>
+        requires { IsDocument bytes.now }
+        ensures { result ≡ bytes.now }
+    {
+        RawArray { bytes }
+    }
+
     /// Goes through the values in order.
     pub fn iter(&self) -> RawItems<'a>
         ensures { items_left result ≡ items self.now }
@@ -367,6 +376,15 @@ impl<'a> RawDocument<'a> {
         } else {
             Err(BsonError::Malformed)
         }
+    }
+
+    // The bytes, which the caller knows to be a document.
+    #[inline(always)]
+    pub(crate) fn checked(bytes: &'a [u8]) -> RawDocument<'a>
+        requires { IsDocument bytes.now }
+        ensures { result ≡ bytes.now }
+    {
+        RawDocument { bytes }
     }
 
     /// Lends the bytes of the document, those of its length and its end included.
