@@ -19,7 +19,7 @@ use Rattle.mg_link.specs.Log.{waiting, reply, fault, memory}
 use Rattle.mg_link.specs.Reply.{Refusal, refusal_of, verdict_of}
 use Rattle.mg_link.specs.Link.{Awaited, Told}
 use Rattle.mg_link.specs.Acts.{IsOut, Tickets, ticket_after, Pended, FailsByFault, EndsAtOnce}
-use Rattle.mg_link.specs.Exec.{Stage, unsent, first, second, Sending, Attempt, not_sent, waits, answered, ticket_at, ticket_of, Begins, GoesOn, Tries, is_retried_attempt, is_repeated, FailsAs, FailsByReply, AttemptFails, Gives, holding, Once, Twice, Runs}
+use Rattle.mg_link.specs.Exec.{Stage, unsent, first, second, Sending, Attempt, not_sent, waits, answered, ticket_at, ticket_of, Begins, GoesOn, Tries, is_retried_attempt, is_repeated, FailsAs, FailsByReply, AttemptFails, Gives, holding, Once, Twice, Runs, RunsStarting, was_started}
 use Rattle.mg_link.specs.Attempts.{HasCounts, IsAtOnce, held, Stops, Repeats}
 use Rattle.mg_link.proofs.Onward.{tickets_on}
 
@@ -195,6 +195,12 @@ module _ (old new : Awaited) (log log' : Told) (wire : ℤ) (s : Sending) (resul
   pub runs_tickets : Runs old new log log' wire s result → Tickets old new (ticket_of s) (ticket_after ticket_of result)
   runs_tickets r = elim r [ inl one ↦ once_tickets one | inr two ↦ twice_tickets two ]
 
+-- ---- a poll, and whether it started the command
+
+pub runs_of : (old new : Awaited) (log log' : Told) (wire : ℤ) (s : Sending) (result : Step Sending (List ℕ)) (started : Bool) → RunsStarting old new log log' wire s result started → Runs old new log log' wire s result
+runs_of old new log log' wire s result started (inl once) = inl once.0
+runs_of old new log log' wire s result started (inr twice) = inr twice.0
+
 -- ---- a poll of a first attempt
 
 again_gives : (a : Attempt) (wire wire1 : ℤ) (s : Sending) (r : Step Sending (List ℕ)) → wire1 ≡ wire → Gives a wire1 (held s.command s.retries true) r → Gives a wire (λ n. record s { stage = second n }) r
@@ -213,38 +219,47 @@ second_gives a wire wire1 s n (step.Pending x) at same g = (g.0, g.1, g.2 ∙ ap
 second_gives a wire wire1 s n (step.Done bytes) at same g = g
 second_gives a wire wire1 s n (step.Failed e) at same g = subst (λ w. AttemptFails a w e) same g
 
-pub runs_second : (old new : Awaited) (log log' : Told) (wire wire1 : ℤ) (s : Sending) (n : ℕ) (attempt : Attempt) (result : Step Sending (List ℕ)) → s.stage ≡ second n → GoesOn old new log log' n attempt → wire1 ≡ wire → Gives attempt wire1 (held s.command s.retries true) result → Runs old new log log' wire s result
-runs_second old new log log' wire wire1 s n attempt result at goes_on same gives =
-    inl (record {
-      attempt = attempt;
-      tries = subst (λ st. Tries old new log log' s.command st attempt) (sym at) goes_on;
-      last = ap (λ st. is_repeated s.retries st attempt) at;
-      gives = second_gives attempt wire wire1 s n result at same gives;
-    })
+pub starts_second : (old new : Awaited) (log log' : Told) (wire wire1 : ℤ) (s : Sending) (n : ℕ) (attempt : Attempt) (result : Step Sending (List ℕ)) → s.stage ≡ second n → GoesOn old new log log' n attempt → wire1 ≡ wire → Gives attempt wire1 (held s.command s.retries true) result → RunsStarting old new log log' wire s result false
+starts_second old new log log' wire wire1 s n attempt result at goes_on same gives =
+    inl (
+      record {
+        attempt = attempt;
+        tries = subst (λ st. Tries old new log log' s.command st attempt) (sym at) goes_on;
+        last = ap (λ st. is_repeated s.retries st attempt) at;
+        gives = second_gives attempt wire wire1 s n result at same gives;
+      },
+      sym (ap (λ st. was_started st attempt) at),
+    )
 
 module _ (old mid new : Awaited) (log between log' : Told) (wire wire1 : ℤ) (s : Sending) (attempt : Attempt) (f f1 f' p p1 p' : ℕ) (prompts prompts' : Type 0) (result : Step Sending (List ℕ)) where
   abbrev pub Settles : Type 0
   Settles = Stops mid new between log' wire1 s.command s.retries attempt p1 p' result ⊎ Repeats mid new between log' wire1 s.command s.retries attempt f1 f' p1 p' prompts' result
 
-  pub runs_first : Tries old mid log between s.command s.stage attempt → is_repeated s.retries s.stage attempt ≡ (s.retries && is_retried_attempt attempt) → ((n : ℕ) → holding s.stage n ≡ first n) → wire1 ≡ wire → Settles → Runs old new log log' wire s result
-  runs_first t repeats_as hold same settles =
+  pub starts_first : Tries old mid log between s.command s.stage attempt → is_repeated s.retries s.stage attempt ≡ (s.retries && is_retried_attempt attempt) → ((n : ℕ) → holding s.stage n ≡ first n) → wire1 ≡ wire → Settles → (started : Bool) → started ≡ was_started s.stage attempt → RunsStarting old new log log' wire s result started
+  starts_first t repeats_as hold same settles started is =
       elim settles [
-        | inl stops ↦ inl (record {
-          attempt = attempt;
-          tries = subst (λ a. Tries old a log log' s.command s.stage attempt) (sym stops.awaited_same) (subst (λ l. Tries old mid log l s.command s.stage attempt) (sym stops.log_same) t);
-          last = repeats_as ∙ stops.last;
-          gives = held_gives attempt wire wire1 s result same hold stops.gives;
-        })
-        | inr repeats ↦ inr (record {
-          attempt = attempt;
-          between = mid;
-          log_between = between;
-          tries = t;
-          repeated = repeats_as ∙ repeats.repeated;
-          again = repeats.again;
-          begins = repeats.begins;
-          gives = again_gives repeats.again wire wire1 s result same repeats.gives;
-        })
+        | inl stops ↦ inl (
+          record {
+            attempt = attempt;
+            tries = subst (λ a. Tries old a log log' s.command s.stage attempt) (sym stops.awaited_same) (subst (λ l. Tries old mid log l s.command s.stage attempt) (sym stops.log_same) t);
+            last = repeats_as ∙ stops.last;
+            gives = held_gives attempt wire wire1 s result same hold stops.gives;
+          },
+          is,
+        )
+        | inr repeats ↦ inr (
+          record {
+            attempt = attempt;
+            between = mid;
+            log_between = between;
+            tries = t;
+            repeated = repeats_as ∙ repeats.repeated;
+            again = repeats.again;
+            begins = repeats.begins;
+            gives = again_gives repeats.again wire wire1 s result same repeats.gives;
+          },
+          is,
+        )
       ]
 
   pub first_pended : HasCounts attempt f f1 p p1 → Settles → Pended ticket_of result p p'

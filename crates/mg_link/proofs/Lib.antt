@@ -5,6 +5,8 @@ pub mod Onward
 pub mod Replies
 pub mod Attempting
 pub mod Execs
+pub mod Moments
+pub mod Waits
 pub mod Outs
 pub mod Histories
 pub mod Places
@@ -51,6 +53,11 @@ pub mod Retries
 pub mod Spoiled
 pub mod Asking
 pub mod Killing
+pub mod Readers
+pub mod Portions
+pub mod Fetching
+pub mod Fetches
+pub mod Finding
 pub mod Identified
 pub mod Resuming
 pub mod Workings

@@ -18,7 +18,7 @@ use Rattle.mg_link.proofs.Resumes.{resumed_with, resume_sent, resume_heard}
 
 -- ---- sent and answered at once
 
-see_last : (calls : List Call) (call : Call) (seen : Sight) → see (length calls) seen (calls ++ call ∷ []) ≡ calls ++ record call { seen = seen } ∷ []
+pub see_last : (calls : List Call) (call : Call) (seen : Sight) → see (length calls) seen (calls ++ call ∷ []) ≡ calls ++ record call { seen = seen } ∷ []
 see_last [] call seen = refl
 see_last (c ∷ calls) call seen = ap (λ (l : List Call). c ∷ l) (see_last calls call seen)
 

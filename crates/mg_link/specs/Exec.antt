@@ -129,3 +129,22 @@ pub record Twice (old new : Awaited) (log log' : Told) (wire : ℤ) (s : Sending
 -- what a poll does
 abbrev pub Runs : Awaited → Awaited → Told → Told → ℤ → Sending → Step Sending (List ℕ) → Type 0
 Runs old new log log' wire s result = Once old new log log' wire s result ⊎ Twice old new log log' wire s result
+
+-- ---- the start of a command
+
+abbrev pub was_sent : Attempt → Bool
+was_sent not_sent = false
+was_sent (waits ticket) = true
+was_sent (answered seen) = true
+
+-- the first attempt began in this poll, and was sent
+abbrev pub was_started : Stage → Attempt → Bool
+was_started unsent attempt = was_sent attempt
+was_started (first ticket) attempt = false
+was_started (second ticket) attempt = false
+
+-- what a poll does, and whether the command was started in it
+abbrev pub RunsStarting : Awaited → Awaited → Told → Told → ℤ → Sending → Step Sending (List ℕ) → Bool → Type 0
+RunsStarting old new log log' wire s result started =
+    ((once : Once old new log log' wire s result) × (started ≡ was_started s.stage once.attempt))
+    ⊎ ((twice : Twice old new log log' wire s result) × (started ≡ was_started s.stage twice.attempt))

@@ -46,3 +46,5 @@ pub mod Words
 pub mod Concerns
 pub mod Session
 pub mod Pinned
+pub mod Moment
+pub mod Reader

@@ -1,7 +1,7 @@
 //! One attempt to get the reply to a command.
 ghost use Rattle.std.specs.Prelude.{◌≡◌, IsSome};
 ghost use Rattle.mg_link.specs.Link.{Later};
-ghost use Rattle.mg_link.specs.Exec.{Begins, GoesOn, is_retried_attempt};
+ghost use Rattle.mg_link.specs.Exec.{Begins, GoesOn, is_retried_attempt, was_sent};
 ghost use Rattle.mg_link.specs.Exec as exec;
 ghost use Rattle.mg_bson.specs.Raw.{fields};
 ghost use Rattle.mg_link.specs.Codes.{is_among};
@@ -58,6 +58,21 @@ pub(crate) enum Judged {
 const RETRIED_CODES: [i32; 13] = [
     6, 7, 89, 91, 134, 189, 262, 9001, 10107, 11600, 11602, 13435, 13436,
 ];
+
+impl Attempt {
+    // Whether the command was sent.
+    pub(crate) fn was_sent(&self) -> bool
+        ensures { result ≡ was_sent (attempt_of self.now) }
+    {
+        match self {
+            Attempt::NotSent => false,
+            Attempt::Waits(_) => true,
+            Attempt::Reply(_) => true,
+            Attempt::Fault => true,
+            Attempt::Memory => true,
+        }
+    }
+}
 
 // Sends the command, and asks for its reply.
 pub(crate) fn begin<L: Link>(link: &mut L, command: RawDocument<'_>) -> Attempt

@@ -4,7 +4,7 @@ ghost use Rattle.mg_bson.specs.Raw.{fields};
 ghost use Rattle.mg_link.specs.declared.reply.Verdict.TheVariants as verdict;
 ghost use Rattle.mg_link.specs.Acts.{EndsAtOnce, FailsByFault, IsOut, Pended, Tickets, ticket_after};
 ghost use Rattle.mg_link.specs.Link.{Later};
-ghost use Rattle.mg_link.specs.Exec.{FailsAs, Gives, Runs, is_retried_attempt, ticket_of};
+ghost use Rattle.mg_link.specs.Exec.{FailsAs, Gives, Runs, RunsStarting, is_retried_attempt, ticket_of};
 ghost use Rattle.mg_link.specs.Attempts.{Reads, Repeats, Stops, attempt_of, held, stage_held};
 ghost use Rattle.mg_link.specs.Exec as exec;
 ghost use Rattle.mg_link.specs.ExecView.{reads, stage_of};
@@ -83,6 +83,40 @@ impl Exec {
             Stage::Unsent => None,
             Stage::First(ticket) => Some(ticket.number()),
             Stage::Second(ticket) => Some(ticket.number()),
+        }
+    }
+
+    /// A poll, and whether the command was started in it: its session is to be told of that
+    /// ([`ClientSession::command_started`](crate::ClientSession::command_started)).
+    pub fn poll_started<L: Link>(self, link: &mut L) -> (Step<Exec, RawDocumentBuf>, bool)
+        requires { IsOut (L.awaited link.old) (ticket_of self) }
+        ensures runs { RunsStarting (L.awaited link.old) (L.awaited link.new) (L.log link.old) (L.log link.new) (L.wire link.old) self result.0 result.1 }
+        ensures tickets { Tickets (L.awaited link.old) (L.awaited link.new) (ticket_of self) (ticket_after ticket_of result.0) }
+        ensures pended { Pended ticket_of result.0 (L.pends link.old) (L.pends link.new) }
+        ensures lost { FailsByFault result.0 (L.faults link.old) (L.faults link.new) }
+        ensures prompt { L.prompt link.old → EndsAtOnce result.0 }
+        ensures later { Later (L.faults link.old) (L.faults link.new) (L.pends link.old) (L.pends link.new)
+            (L.wire link.old) (L.wire link.new) (L.prompt link.old) (L.prompt link.new) }
+    {
+        let Exec {
+            command,
+            retry,
+            stage,
+        } = self;
+        match stage {
+            Stage::Unsent => {
+                let attempt = begin(link, command.as_raw());
+                let started = attempt.was_sent();
+                (settle(link, command, retry, attempt), started)
+            }
+            Stage::First(ticket) => {
+                let attempt = go_on(link, ticket);
+                (settle(link, command, retry, attempt), false)
+            }
+            Stage::Second(ticket) => {
+                let attempt = go_on(link, ticket);
+                (answer(link, command, retry, true, judge(attempt)), false)
+            }
         }
     }
 }
@@ -180,24 +214,7 @@ impl Action for Exec {
         ensures later { Later (L.faults link.old) (L.faults link.new) (L.pends link.old) (L.pends link.new)
             (L.wire link.old) (L.wire link.new) (L.prompt link.old) (L.prompt link.new) }
     {
-        let Exec {
-            command,
-            retry,
-            stage,
-        } = self;
-        match stage {
-            Stage::Unsent => {
-                let attempt = begin(link, command.as_raw());
-                settle(link, command, retry, attempt)
-            }
-            Stage::First(ticket) => {
-                let attempt = go_on(link, ticket);
-                settle(link, command, retry, attempt)
-            }
-            Stage::Second(ticket) => {
-                let attempt = go_on(link, ticket);
-                answer(link, command, retry, true, judge(attempt))
-            }
-        }
+        let (step, _) = self.poll_started(link);
+        step
     }
 }

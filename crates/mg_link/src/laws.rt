@@ -19,6 +19,7 @@ ghost use Rattle.mg_link.specs.Namespace.{Space};
 ghost use Rattle.mg_link.specs.NineBytes.{bucket, holds_file, nine_bytes, seven};
 ghost use Rattle.mg_link.specs.Owner.{AreApart, NamesItsOwn, Onward, Owner, Passes};
 ghost use Rattle.mg_link.specs.Query.{Key, sorted};
+ghost use Rattle.mg_link.specs.Reader.{HasGiven, KnowsRead, Reader, owner_of_reader};
 ghost use Rattle.mg_link.specs.Rules.{IsFull, answer_of, batch_of_query, batch_place, refusal};
 ghost use Rattle.mg_link.specs.RuleRows.{AreCollections, AreInserts, AreQueries, AreWrites};
 ghost use Rattle.mg_link.specs.Sorting.{SortsTo};
@@ -154,6 +155,17 @@ pub fn streams_follow()
 /// A stream goes on knowing while others call and leave its cursors alone.
 pub fn streams_go_on_knowing()
     ensures { (calls calls' : List Call) (f : Follow) → Onward calls calls' (owner_of f) → Knows calls f → Knows calls' f }
+{}
+
+/// What the reader of a query's result knows says what it gave: in every legal history in which the log stands, the first
+/// documents of the result as it was fixed, without those of at most so many lost batches.
+pub fn readers_give()
+    ensures { (calls : List Call) (r : Reader) → KnowsRead calls r → HasGiven calls r }
+{}
+
+/// A reader goes on knowing while others call and leave its cursor alone.
+pub fn readers_go_on_knowing()
+    ensures { (calls calls' : List Call) (r : Reader) → Onward calls calls' (owner_of_reader r) → KnowsRead calls r → KnowsRead calls' r }
 {}
 
 /// The jobs of a run stay apart: after the turn of one no two own the same cursor.

@@ -1,5 +1,5 @@
 //! Sessions: what the commands of a client have in common, and how far their transaction has come.
-ghost use Rattle.std.specs.Prelude.{◌≡◌, Bool, Option, Some, pos, option_map};
+ghost use Rattle.std.specs.Prelude.{◌≡◌, Bool, Option, Some, None, pos, option_copied, option_map, if◌then◌else◌};
 ghost use Rattle.std.specs.Borrow.{LendsIf, sem};
 ghost use Rattle.mg_link.specs.contracts.session.ClientSession.{the_row};
 ghost use Rattle.mg_link.specs.Session.{Session, after_command, begun, ended, in_transaction, moved_on, next_number, state_at_end, starts_transaction};
@@ -175,6 +175,12 @@ pub trait ClientSessionHandle {
     /// The handle with another session.
     ghost with_session: { Self → Session → Self };
 
+    /// The session that its commands name.
+    ghost asked: { Self → Option Session };
+
+    /// The handle once a command was started.
+    ghost told: { Self → Self };
+
     /// Whether nobody asked for the session. Then no command names it.
     fn is_implicit(&self) -> bool
         ensures { result ≡ implicit self.now };
@@ -183,6 +189,20 @@ pub trait ClientSessionHandle {
     fn borrow_mut(&mut self) -> Option<&mut ClientSession>
         ensures* writes_back { sem 𝓛 (LendsIf Self.row the_row self.entry result (with_session self.old) self.old) }
         ensures value { option_map (λ s. s.now) result ≡ session self.old };
+
+    /// Lends the session that its commands name: the one that was asked for.
+    fn asked(&self) -> Option<&ClientSession>
+        ensures { option_copied result ≡ asked self.now };
+
+    /// Notes that a command was started, which moves on the transaction of the session that it names.
+    fn command_started(&mut self)
+        ensures { self.new ≡ told self.old };
+
+    /// No command names a session that nobody asked for.
+    ghost asks: { (h : Self) → asked h ≡ if implicit h then None else session h };
+
+    /// The session that is asked for moves on, and all else stays.
+    ghost moves: { (h : Self) → asked (told h) ≡ option_map after_command (asked h) };
 
     /// A session that is put into a handle is its session.
     ghost holds: { (h : Self) (s : Session) → session (with_session h s) ≡ Some s };
@@ -202,13 +222,21 @@ impl Drop for ImplicitClientSessionHandle {
 }
 
 impl ClientSessionHandle for ImplicitClientSessionHandle {
-    ghost use Rattle.std.specs.Prelude.{Some, true, refl};
+    ghost use Rattle.std.specs.Prelude.{Some, None, true, refl};
 
     ghost implicit = { λ _. true };
 
     ghost session = { λ h. h.0 };
 
     ghost with_session = { λ h s. record h { 0 = Some s } };
+
+    ghost asked = { λ _. None };
+
+    ghost told = { λ h. h };
+
+    ghost asks = { λ _. refl };
+
+    ghost moves = { λ _. refl };
 
     ghost holds = { λ h s. refl };
 
@@ -221,6 +249,12 @@ impl ClientSessionHandle for ImplicitClientSessionHandle {
     fn borrow_mut(&mut self) -> Option<&mut ClientSession> {
         self.0.as_mut()
     }
+
+    fn asked(&self) -> Option<&ClientSession> {
+        None
+    }
+
+    fn command_started(&mut self) {}
 }
 
 /// The session of a caller, who asked for it.
@@ -229,12 +263,21 @@ pub struct ExplicitClientSessionHandle<'a>(pub &'a mut ClientSession);
 
 impl ClientSessionHandle for ExplicitClientSessionHandle<'_> {
     ghost use Rattle.std.specs.Prelude.{Some, false, refl};
+    ghost use Rattle.mg_link.specs.Session.{after_command};
 
     ghost implicit = { λ _. false };
 
     ghost session = { λ h. Some h.0.now };
 
     ghost with_session = { λ h s. record h { 0 = record h.0 { now = s } } };
+
+    ghost asked = { λ h. Some h.0.now };
+
+    ghost told = { λ h. record h { 0 = record h.0 { now = after_command h.0.now } } };
+
+    ghost asks = { λ _. refl };
+
+    ghost moves = { λ _. refl };
 
     ghost holds = { λ h s. refl };
 
@@ -246,5 +289,13 @@ impl ClientSessionHandle for ExplicitClientSessionHandle<'_> {
 
     fn borrow_mut(&mut self) -> Option<&mut ClientSession> {
         Some(&mut *self.0)
+    }
+
+    fn asked(&self) -> Option<&ClientSession> {
+        Some(&*self.0)
+    }
+
+    fn command_started(&mut self) {
+        self.0.command_started();
     }
 }
