@@ -46,7 +46,7 @@ use Rattle.mg_change.specs.declared.stream.Phase.TheVariants as phase
 use Rattle.mg_change.specs.Replies.{Resumed}
 use Rattle.mg_change.proofs.Garbled.{IsHeld, Waiting, carries_on, runs_once, still_waits}
 use Rattle.mg_change.proofs.Heeding.{MoreCame, ResumeCame, more_polled, more_taken, resume_polled, resume_taken}
-use Rattle.mg_change.proofs.Reading.{batch_as, named_read}
+use Rattle.mg_ops.proofs.Reading.{batch_as, named_read}
 use Rattle.mg_change.proofs.Resumption.{aimed_still, begins_again}
 use Rattle.mg_change.proofs.Opened.{aimed_at}
 

@@ -34,7 +34,8 @@ use Rattle.mg_change.specs.declared.stream.Phase.{Phase}
 use Rattle.mg_change.specs.declared.stream.Phase.TheVariants as phase
 use Rattle.mg_change.proofs.Forgetting.{gives_up}
 use Rattle.mg_change.proofs.Heeding.{MoreCame, ResumeCame, Waits, at_waiting, kill_polled, killed_at, more_polled, more_taken, resume_polled, resume_taken, waits_still}
-use Rattle.mg_change.proofs.Reading.{events_held, events_read, named_read}
+use Rattle.mg_ops.proofs.Reading.{named_read}
+use Rattle.mg_change.proofs.Reading.{events_held, events_read}
 use Rattle.mg_change.proofs.Resumption.{aimed_still, begins_again}
 use Rattle.mg_change.proofs.Turning.{quietly}
 use Rattle.mg_change.proofs.Opened.{aimed_at}

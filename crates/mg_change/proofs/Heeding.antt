@@ -29,7 +29,7 @@ use Rattle.mg_link.proofs.Retries.{Attempted, Request, at_once, at_stage, next_i
 use Rattle.mg_link.proofs.Spoiled.{resume_garbled}
 use Rattle.mg_ops.specs.Cursors.{Cursor, cursor_of}
 use Rattle.mg_change.specs.Replies.{MoreFailed, Resumed}
-use Rattle.mg_change.proofs.Reading.{batch_as, batch_read}
+use Rattle.mg_ops.proofs.Reading.{batch_as, batch_read}
 
 -- ---- the batch that is read, or none that a server may give
 

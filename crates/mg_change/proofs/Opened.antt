@@ -37,7 +37,8 @@ use Rattle.mg_ops.specs.Aims.{aim, aim_of, asked_for}
 use Rattle.mg_ops.specs.declared.aggregate.ChangeStreamAggregate.{ChangeStreamAggregate}
 use Rattle.mg_ops.specs.declared.change_stream.ChangeStreamData.{ChangeStreamData}
 use Rattle.mg_change.specs.Phases.{Carries, IsSound, SavedFor, Sends}
-use Rattle.mg_change.proofs.Reading.{batch_as, batch_read, events_read}
+use Rattle.mg_ops.proofs.Reading.{batch_as, batch_read}
+use Rattle.mg_change.proofs.Reading.{events_read}
 use Rattle.mg_change.proofs.Garbled.{IsHeld, came, place_heard, start_garbled, still_waits}
 
 -- ---- the token of a new stream

@@ -1,5 +1,6 @@
 pub mod Listing
 pub mod Asking
+pub mod Reading
 pub mod Replying
 pub mod AskingMore
 pub mod Composing

@@ -273,8 +273,8 @@ pub(crate) fn read_cursor(
     Ok(specification)
 }
 
-// Reads the reply to a getMore.
-pub(crate) fn read_more(alloc: Global, reply: RawDocumentBuf) -> Result<GetMoreResult, Error>
+/// Reads the reply to a getMore. It answers what the operation [`GetMore`] does.
+pub fn read_more(alloc: Global, reply: RawDocumentBuf) -> Result<GetMoreResult, Error>
     ensures ok { IfOk result (λ out. Gave reply out) }
     ensures err { IfErr result (λ e. FailsBy (BreaksIn (fields reply)) e) }
 {

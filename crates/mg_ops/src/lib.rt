@@ -35,7 +35,7 @@ pub use change_stream::{ChangeStreamData, WatchArgs};
 pub use changes::{Delete, Update, UpdateCounts};
 pub use collections::{Create, CreateIndexes, DropCollection};
 pub use cursor_reply::{
-    CursorInformation, CursorReply, CursorSpecification, GetMoreResult, doc_slices,
+    CursorInformation, CursorReply, CursorSpecification, GetMoreResult, doc_slices, read_more,
 };
 pub use fault::check_reply;
 pub use find::Find;

@@ -11,7 +11,7 @@ use Rattle.mg_change.specs.Openings.{first_known}
 use Rattle.mg_ops.specs.declared.change_stream.ChangeStreamData.{ChangeStreamData}
 use Rattle.std.specs.Prelude.{Some}
 use Rattle.mg_ops.proofs.Watching.{manner_read}
-use Rattle.mg_change.proofs.Reading.{named_read}
+use Rattle.mg_ops.proofs.Reading.{named_read}
 use Rattle.mg_change.proofs.opening.stream_of.Goals as goal
 
 pub returns-clause-ok : goal.returns-clause-ok

@@ -1,7 +1,7 @@
 use Rattle.mg_bson.specs.Raw.{fields}
 use Rattle.mg_change.specs.Following.{step_told}
 use Rattle.mg_change.proofs.Hearing as hearing
-use Rattle.mg_change.proofs.Reading as reading
+use Rattle.mg_ops.proofs.Reading as reading
 use Rattle.mg_change.proofs.Causes as causes
 use Rattle.mg_change.proofs.stream.ChangeStream.resumption_came.Goals as goal
 
