@@ -1,0 +1,16 @@
+pub mod Hearing
+pub mod Keeping
+pub mod Spelled
+pub mod Batching
+pub mod Caused
+pub mod Advancing
+pub mod Giving
+pub mod Sought
+pub mod SeekCaused
+pub mod Fetched
+pub mod Reading
+pub mod Killing
+pub mod ClosedCaused
+pub mod Opening
+pub mod Ended
+pub mod Named

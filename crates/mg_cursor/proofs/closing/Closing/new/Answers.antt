@@ -1,0 +1,4 @@
+use Rattle.mg_cursor.proofs.closing.Closing.new.Goals as goal
+
+pub invariant_of-result : goal.invariant_of-result
+invariant_of-result c = c.requires

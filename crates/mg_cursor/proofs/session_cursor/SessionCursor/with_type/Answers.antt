@@ -1,0 +1,7 @@
+use Rattle.mg_cursor.proofs.session_cursor.SessionCursor.with_type.Goals as goal
+
+pub invariant_of-result : goal.invariant_of-result
+invariant_of-result g c = c.self.invariant
+
+pub returns : goal.returns
+returns g c = c.self.view_is

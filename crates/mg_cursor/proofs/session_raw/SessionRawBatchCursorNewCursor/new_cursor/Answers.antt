@@ -1,0 +1,7 @@
+use Rattle.std.proofs.Common.{false, sym, subst}
+use Rattle.mg_cursor.specs.Client.{IsSound}
+use Rattle.mg_cursor.proofs.session_raw.SessionRawBatchCursorNewCursor.new_cursor.Goals as goal
+
+-- nothing is on its way yet
+pub invariant_of-result : goal.invariant_of-result
+invariant_of-result c = subst (IsSound false) (sym c.new.ensures) tt

@@ -1,0 +1,11 @@
+pub mod Results
+pub mod Batches
+pub mod Client
+pub mod ClientCode
+pub mod Polling
+pub mod Causes
+pub mod Closing
+pub mod Documents
+pub mod Seeking
+pub mod Reading
+pub mod View

@@ -1,0 +1,359 @@
+//! The batches of a cursor, one machine for all cursors.
+ghost use Rattle.std.specs.Prelude.{◌≡◌, ◌↔◌, IfErr, IfOk, IsTrue, Bool, None, false, pos, if◌then◌else◌};
+ghost use Rattle.mg_bson.specs.Tree.{Items};
+ghost use Rattle.mg_link.specs.Acts.{IsOut};
+ghost use Rattle.mg_link.specs.Exec.{ticket_of};
+ghost use Rattle.mg_link.specs.Moment.{LinkKeeps, moment};
+ghost use Rattle.mg_link.specs.Reader.{ReadMoved, Reader};
+ghost use Rattle.mg_ops.specs.Failing.{CannotBeSent, FailsBy};
+ghost use Rattle.mg_ops.specs.Naming.{IsNamed};
+ghost use Rattle.mg_cursor.specs.Causes.{NextCaused};
+ghost use Rattle.mg_cursor.specs.Client.{HasNext, HoldsItems, IsNew, IsOver, IsSound, PlainIf, behind_kind, behind_reply, client_ticket, kill, new_client, pinned_behind, pinned_to};
+ghost use Rattle.mg_cursor.specs.Closing.{LandsIn, closed};
+ghost use Rattle.mg_cursor.specs.Polling.{Hears, PollsNext, ReadsReply, RunsMore, next_ending};
+ghost use Rattle.mg_cursor.specs.Reading.{reader_in, told_next};
+ghost use Rattle.mg_cursor.specs.View.{client_of, doing_of, told_by};
+
+use crate::closing::Closing;
+use crate::commands::{ask, kill};
+use crate::fault::ends_cursor;
+use crate::polls::NextPoll;
+use crate::raw_batch::RawBatch;
+use mg_bson::RawDocumentBuf;
+use mg_link::{Action, ClientSessionHandle, Error, Exec, Link, PinnedConnection, Step};
+use mg_ops::{CursorInformation, CursorSpecification, GetMoreResult, read_more};
+use mg_options::{ResumeToken, TokenRef};
+use std::alloc::Global;
+use std::mem;
+
+// What is in hand, or on its way.
+#[derive(Drop)]
+pub(crate) enum Flight {
+    Nothing,
+    // A reply whose batch was not handed out.
+    Reply(RawBatch),
+    // The getMore of the next batch.
+    More(Exec),
+}
+
+/// The batches of a cursor, which are asked for one by one. All cursors are made of it, and it is public for streams that are to
+/// stand on it; how they hold their session is handed to each call.
+pub struct Batches {
+    alloc: Global,
+    // The cursor, whose id is 0 where the server holds it no longer.
+    cursor: CursorInformation,
+    pinned: PinnedConnection,
+    // The token behind the newest batch.
+    token: Option<ResumeToken>,
+    flight: Flight,
+}
+
+// By hand, so that letting one go is one call.
+impl Drop for Batches {
+    fn drop(self) {
+        let Batches {
+            alloc: _,
+            cursor: _,
+            pinned: _,
+            token: _,
+            flight: _,
+        } = self;
+    }
+}
+
+impl Batches {
+    /// The batches of a cursor that was opened so, the first of which is in hand. It is bound to no connection. It takes no memory.
+    pub fn new(alloc: Global, specification: CursorSpecification) -> Batches
+        ensures { client_of result ≡ new_client specification }
+    {
+        let CursorSpecification {
+            info,
+            initial_reply,
+            is_empty: _,
+            post_batch_resume_token,
+        } = specification;
+        Batches {
+            alloc,
+            cursor: info,
+            pinned: PinnedConnection::Unpinned,
+            token: post_batch_resume_token,
+            flight: Flight::Reply(RawBatch::new(initial_reply)),
+        }
+    }
+
+    /// Binds the cursor to the connection of this number.
+    pub fn pin(&mut self, id: u64)
+        ensures { client_of self.new ≡ pinned_to id (client_of self.old) }
+    {
+        self.pinned = PinnedConnection::Valid(id);
+    }
+
+    /// The next batch. A call goes on over several polls while its reply pends, and sends at most one getMore.
+    ///
+    /// It fails with [`ErrorKind::Io`](mg_link::ErrorKind::Io) where the link did, with the refusal of the server, with what is
+    /// malformed in a reply, with a size of batches or a command that cannot be sent, or for want of memory. Then the batch that was
+    /// asked for may be lost; the next call asks for the one behind it, unless the server holds the cursor no longer or the
+    /// connection that it is bound to was lost.
+    pub fn poll_next<H: ClientSessionHandle, L: Link>(
+        &mut self,
+        handle: &mut H,
+        link: &mut L,
+    ) -> NextPoll
+        requires { IsOut (L.awaited link.old) (client_ticket (client_of self.old)) }
+        // The tickets of others, the counts, the wire version and the promptness of the link.
+        ensures keeps { LinkKeeps (moment (L.awaited link.old) (L.log link.old) (L.faults link.old) (L.pends link.old) (L.wire link.old) (L.prompt link.old))
+            (moment (L.awaited link.new) (L.log link.new) (L.faults link.new) (L.pends link.new) (L.wire link.new) (L.prompt link.new))
+            (client_ticket (client_of self.old)) (client_ticket (client_of self.new)) (next_ending result) }
+        // Which commands it sent, how the cursor stands behind what it heard, and whether the session is told of a command.
+        ensures polls { (started : Bool) × PollsNext (L.awaited link.old) (L.awaited link.new) (L.log link.old) (L.log link.new) (L.wire link.old) (H.asked handle.old) started (client_of self.old) (client_of self.new) result
+            × (handle.new ≡ (if started then H.told handle.old else handle.old)) }
+        // What is on its way is the getMore of this cursor.
+        ensures sound { (plain : Bool) → IsSound plain (client_of self.old) → PlainIf plain (H.asked handle.old) → IsSound plain (client_of self.new) }
+        // What in the log is the cause of the answer, over all polls of a call.
+        ensures caused { (plain : Bool) → IsSound plain (client_of self.old) → NextCaused (L.awaited link.old) (L.awaited link.new) (L.log link.old) (L.log link.new) (L.wire link.old) (H.asked handle.old) (client_of self.old) (client_of self.new) result }
+        // Over an honest link it is a list with a place.
+        ensures list { (plain : Bool) → IsSound plain (client_of self.old) → IsNamed (client_of self.old).space → (r : Reader)
+            → ReadMoved (L.log link.old) (L.log link.new) (reader_in (L.awaited link.old) (client_of self.old) r) (reader_in (L.awaited link.new) (client_of self.new) (told_next result r)) }
+    {
+        match self.take() {
+            Flight::Nothing => self.begin(handle, link),
+            Flight::Reply(batch) => NextPoll::Batch(batch),
+            Flight::More(exec) => self.go_on(handle, link, exec),
+        }
+    }
+
+    /// Whether the server may hold more, or the reply in hand holds documents.
+    pub fn has_next(&self) -> bool
+        ensures { IsTrue result ↔ HasNext (client_of self.now) }
+    {
+        if self.cursor.id == 0 {
+            return self.holds_items();
+        }
+        true
+    }
+
+    /// Whether the server holds the cursor no longer.
+    pub fn is_exhausted(&self) -> bool
+        ensures { IsTrue result ↔ ((client_of self.now).id ≡ pos 0) }
+    {
+        self.cursor.id == 0
+    }
+
+    /// The token behind the newest batch.
+    pub fn token(&self) -> Option<TokenRef<'_>>
+        ensures { result ≡ (client_of self.now).token }
+    {
+        match &self.token {
+            Some(token) => Some(token.as_ref()),
+            None => None,
+        }
+    }
+
+    /// The number of the ticket that it holds, while it waits for a reply.
+    pub fn ticket_number(&self) -> Option<u64>
+        ensures { result ≡ client_ticket (client_of self.now) }
+    {
+        match &self.flight {
+            Flight::Nothing => None,
+            Flight::Reply(_) => None,
+            Flight::More(exec) => exec.ticket_number(),
+        }
+    }
+
+    // Where its memory comes from.
+    pub(crate) fn allocator(&self) -> Global {
+        self.alloc
+    }
+
+    /// Closes the cursor. Nothing is sent until the closing is polled.
+    pub fn close(self) -> Closing
+        requires { IsSound false (client_of self) }
+        ensures { result ≡ closed (client_of self) }
+    {
+        Closing::new(self)
+    }
+
+    // Whether no command of it is sent any more.
+    pub(crate) fn is_over(&self) -> bool
+        ensures { IsTrue result ↔ IsOver (client_of self.now) }
+    {
+        if self.cursor.id == 0 {
+            return true;
+        }
+        self.pinned.is_invalid()
+    }
+
+    // Its killCursors.
+    pub(crate) fn kill_command(&self, wire: i32) -> Result<Exec, Error>
+        ensures ok { IfOk result (λ s. IsNew (kill (client_of self.now)) s) }
+        ensures err { IfErr result (λ e. FailsBy (CannotBeSent (kill (client_of self.now))) e) }
+    {
+        kill(self.alloc, &self.cursor, wire)
+    }
+
+    // Waits for the reply to the getMore that is on its way; where none is, a reply in hand is let go.
+    pub(crate) fn land<L: Link>(&mut self, link: &mut L) -> NextPoll
+        requires { IsOut (L.awaited link.old) (client_ticket (client_of self.old)) }
+        // The tickets of others, the counts, the wire version and the promptness of the link.
+        ensures keeps { LinkKeeps (moment (L.awaited link.old) (L.log link.old) (L.faults link.old) (L.pends link.old) (L.wire link.old) (L.prompt link.old))
+            (moment (L.awaited link.new) (L.log link.new) (L.faults link.new) (L.pends link.new) (L.wire link.new) (L.prompt link.new))
+            (client_ticket (client_of self.old)) (client_ticket (client_of self.new)) (next_ending result) }
+        // What comes of the getMore on its way, and nothing else is sent.
+        ensures lands { LandsIn (L.awaited link.old) (L.awaited link.new) (L.log link.old) (L.log link.new) (L.wire link.old) (client_of self.old) (client_of self.new) result }
+        ensures sound { IsSound false (client_of self.old) → IsSound false (client_of self.new) }
+    {
+        match self.take() {
+            Flight::Nothing => NextPoll::End,
+            Flight::Reply(_) => NextPoll::End,
+            Flight::More(exec) => {
+                let step = exec.poll(link);
+                self.hear(step)
+            }
+        }
+    }
+
+    // Whether a reply in hand holds documents.
+    fn holds_items(&self) -> bool
+        ensures { IsTrue result ↔ HoldsItems (doing_of self.now.flight) }
+    {
+        match &self.flight {
+            Flight::Nothing => false,
+            Flight::Reply(batch) => batch.has_items(),
+            Flight::More(_) => false,
+        }
+    }
+
+    // Takes out what is in hand or on its way.
+    fn take(&mut self) -> Flight
+        ensures taken { result ≡ self.old.flight }
+        ensures rest { self.new ≡ record self.old { flight = Flight.Nothing } }
+    {
+        mem::replace(&mut self.flight, Flight::Nothing)
+    }
+
+    // Asks for the next batch, unless nothing is asked for any more.
+    fn begin<H: ClientSessionHandle, L: Link>(&mut self, handle: &mut H, link: &mut L) -> NextPoll
+        requires { self.old.flight ≡ Flight.Nothing }
+        // The tickets of others, the counts, the wire version and the promptness of the link.
+        ensures keeps { LinkKeeps (moment (L.awaited link.old) (L.log link.old) (L.faults link.old) (L.pends link.old) (L.wire link.old) (L.prompt link.old))
+            (moment (L.awaited link.new) (L.log link.new) (L.faults link.new) (L.pends link.new) (L.wire link.new) (L.prompt link.new))
+            (None) (client_ticket (client_of self.new)) (next_ending result) }
+        ensures polls { (started : Bool) × PollsNext (L.awaited link.old) (L.awaited link.new) (L.log link.old) (L.log link.new) (L.wire link.old) (H.asked handle.old) started (client_of self.old) (client_of self.new) result
+            × (handle.new ≡ (if started then H.told handle.old else handle.old)) }
+    {
+        if self.is_over() {
+            return NextPoll::End;
+        }
+        match ask(
+            self.alloc,
+            &self.cursor,
+            link.wire_version(),
+            handle.asked(),
+        ) {
+            Ok(exec) => self.go_on(handle, link, exec),
+            Err(error) => NextPoll::Failed(error),
+        }
+    }
+
+    // Sends a getMore or waits for its reply, and tells the session of one that was started.
+    fn go_on<H: ClientSessionHandle, L: Link>(
+        &mut self,
+        handle: &mut H,
+        link: &mut L,
+        exec: Exec,
+    ) -> NextPoll
+        requires held { IsOut (L.awaited link.old) (ticket_of exec) }
+        requires idle { self.old.flight ≡ Flight.Nothing }
+        // The tickets of others, the counts, the wire version and the promptness of the link.
+        ensures keeps { LinkKeeps (moment (L.awaited link.old) (L.log link.old) (L.faults link.old) (L.pends link.old) (L.wire link.old) (L.prompt link.old))
+            (moment (L.awaited link.new) (L.log link.new) (L.faults link.new) (L.pends link.new) (L.wire link.new) (L.prompt link.new))
+            (ticket_of exec) (client_ticket (client_of self.new)) (next_ending result) }
+        ensures asks { (started : Bool) × RunsMore (L.awaited link.old) (L.awaited link.new) (L.log link.old) (L.log link.new) (L.wire link.old) started (client_of self.old) exec (client_of self.new) result
+            × (handle.new ≡ (if started then H.told handle.old else handle.old)) }
+    {
+        let (step, started) = exec.poll_started(link);
+        tell(handle, started);
+        self.hear(step)
+    }
+
+    // What came of a poll of its getMore.
+    fn hear(&mut self, step: Step<Exec, RawDocumentBuf>) -> NextPoll
+        requires { self.old.flight ≡ Flight.Nothing }
+        ensures { Hears (client_of self.old) step (client_of self.new) result }
+    {
+        match step {
+            Step::Pending(exec) => {
+                self.flight = Flight::More(exec);
+                NextPoll::Pending
+            }
+            Step::Done(reply) => self.read(reply),
+            Step::Failed(error) => {
+                self.note(&error);
+                NextPoll::Failed(error)
+            }
+        }
+    }
+
+    // Reads the reply to a getMore.
+    fn read(&mut self, reply: RawDocumentBuf) -> NextPoll
+        requires { self.old.flight ≡ Flight.Nothing }
+        ensures { ReadsReply (client_of self.old) reply (client_of self.new) result }
+    {
+        match read_more(self.alloc, reply) {
+            Ok(gave) => NextPoll::Batch(self.keep(gave)),
+            Err(error) => NextPoll::Failed(error),
+        }
+    }
+
+    // Keeps what a reply tells of the cursor.
+    fn keep(&mut self, gave: GetMoreResult) -> RawBatch
+        requires { self.old.flight ≡ Flight.Nothing }
+        ensures batch { result ≡ gave.raw_reply }
+        ensures kept { (batch : Items) → client_of self.new ≡ behind_reply (told_by gave batch) (client_of self.old) }
+    {
+        let GetMoreResult {
+            raw_reply,
+            exhausted: _,
+            post_batch_resume_token,
+            ns,
+            id,
+        } = gave;
+        self.cursor.id = id;
+        self.cursor.ns = ns;
+        self.pinned = pinned_behind(id, self.pinned);
+        drop(mem::replace(&mut self.token, post_batch_resume_token));
+        RawBatch::new(raw_reply)
+    }
+
+    // Notes what an error says of the cursor: that the server holds it no longer, or that its connection was lost.
+    fn note(&mut self, error: &Error)
+        ensures { client_of self.new ≡ behind_kind error.now.kind (client_of self.old) }
+    {
+        if ends_cursor(error) {
+            self.cursor.id = 0;
+            self.pinned = PinnedConnection::Unpinned;
+        } else if error.is_network_error() {
+            self.pinned = self.pinned.invalidated();
+        }
+    }
+}
+
+// Tells the session of a command that was started.
+fn tell<H: ClientSessionHandle>(handle: &mut H, started: bool)
+    ensures { handle.new ≡ (if started then H.told handle.old else handle.old) }
+{
+    if started {
+        handle.command_started();
+    }
+}
+
+// The connection of a cursor with this id. One that the server holds no longer is bound to none.
+fn pinned_behind(id: i64, pinned: PinnedConnection) -> PinnedConnection
+    ensures { result ≡ pinned_behind id pinned }
+{
+    if id == 0 {
+        PinnedConnection::Unpinned
+    } else {
+        pinned
+    }
+}
