@@ -17,8 +17,7 @@ use Rattle.mg_change.specs.declared.opening.Opening.{Opening}
 use Rattle.mg_change.specs.declared.stream.ChangeStream.{ChangeStream}
 use Rattle.mg_jobs.specs.Counts.{RoseIf, one_if}
 use Rattle.mg_jobs.specs.Follows.{HasEnded, HasGiven, IsFailed, IsUnfinished}
-use Rattle.mg_jobs.specs.Headline.{DoTasks, Does, OutcomeOf, OutcomesOf}
-use Rattle.mg_script.specs.Plan as plan
+use Rattle.mg_jobs.specs.Headline.{DoTasks, OutcomeOf, OutcomesOf, task_of}
 use Rattle.mg_script.specs.Plan.{Task, task, tasks}
 use Rattle.mg_jobs.specs.Playing.{IsSameFollow, end_of, follow_ended, inserts_ended}
 use Rattle.mg_jobs.specs.Progress.{AllAt, AllPlayed, Came, CloseGoes, FollowAt, FollowGoes, FollowPlayed, GoesBy, InsertAt, InsertGoes, InsertPlayed, InsertReady, IsAt, IsFinished, IsPlayed, JobGoes, NotOpen, OpenPlayed, RestGoes, TurnsBy, calls_of, came, one_unless, pended_since, pends_last, turns_done}
@@ -28,13 +27,13 @@ use Rattle.mg_script.specs.declared.outcome.Ended.TheVariants as ended
 use Rattle.mg_script.specs.declared.outcome.Outcome.{Outcome}
 use Rattle.mg_script.specs.declared.outcome.Played.{Played}
 use Rattle.mg_script.specs.declared.outcome.Turned.{Turned}
-use Rattle.mg_jobs.specs.declared.player.FollowPlayer.{FollowPlayer}
-use Rattle.mg_jobs.specs.declared.player.InsertStage.{InsertStage}
-use Rattle.mg_jobs.specs.declared.player.InsertStage.TheVariants as inserts
-use Rattle.mg_jobs.specs.declared.player.Stage.{Stage}
-use Rattle.mg_jobs.specs.declared.player.Stage.TheVariants as stage
-use Rattle.mg_jobs.specs.declared.run.Player.{Player}
-use Rattle.mg_jobs.specs.declared.run.Player.TheVariants as player
+use Rattle.mg_jobs.specs.declared.follow.FollowPlayer.{FollowPlayer}
+use Rattle.mg_jobs.specs.declared.insert.InsertStage.{InsertStage}
+use Rattle.mg_jobs.specs.declared.insert.InsertStage.TheVariants as inserts
+use Rattle.mg_jobs.specs.declared.follow.Stage.{Stage}
+use Rattle.mg_jobs.specs.declared.follow.Stage.TheVariants as stage
+use Rattle.mg_jobs.specs.declared.player.Player.{Player}
+use Rattle.mg_jobs.specs.declared.player.Player.TheVariants as player
 use Rattle.mg_script.specs.declared.script.Job.{Job}
 use Rattle.mg_link.proofs.Owners.{same_some}
 use Rattle.mg_change.proofs.Awaiting.{rests_without}
@@ -218,8 +217,8 @@ follow_stays calls k last stage.Ended c over at = ended_on calls k last c at
 pub over_turns : (p : Player) → has_ended p ≡ true → TurnsBy idle p p
 over_turns (player.Insert job) over calls k last at = insert_stays k last job.stage over at
 over_turns (player.Follow job) over calls k last at = follow_stays calls k last job.stage (came job) over at
-over_turns player.Put over calls k last at = tt
-over_turns player.Get over calls k last at = tt
+over_turns (player.Put job) over calls k last at = tt
+over_turns (player.Get job) over calls k last at = tt
 
 counted_so : (pended : Bool) (now : ℕ) → RoseIf pended 0 now → (nat_lt 0 now ≡ pended) × (now ≡ one_if pended)
 counted_so true now h = let some = h.0 in let one = h.1 in (lt-ltb 0 now (omega (arith, some)), omega (arith, some, one))
@@ -338,29 +337,20 @@ follow_played calls k last stage.Ended c at =
       | inr closed ↦ given_so c.opened c.closed calls c.answered c.alive k last closed.opened (closed_so c.closed calls c.answered k last closed.closed (closed.answered, closed.all, at.1))
     ]
 
-played_at : (t : Task) (p : Player) (r : Outcome) (k : ℕ) (last : Bool) → Does t p → OutcomeOf p r → IsAt (calls_of t) p k last → IsPlayed t k last r
-played_at (plan.put db bucket name id chunk pieces) player.Put r k last does of at = subst (λ (x : Outcome). IsPlayed (plan.put db bucket name id chunk pieces) k last x) (sym of) tt
-played_at (plan.put db bucket name id chunk pieces) (player.Insert job) r k last does of at = absurd does
-played_at (plan.put db bucket name id chunk pieces) (player.Follow job) r k last does of at = absurd does
-played_at (plan.put db bucket name id chunk pieces) player.Get r k last does of at = absurd does
-played_at (plan.get db bucket id read) player.Get r k last does of at = subst (λ (x : Outcome). IsPlayed (plan.get db bucket id read) k last x) (sym of.1) (of.2, tt)
-played_at (plan.get db bucket id read) (player.Insert job) r k last does of at = absurd does
-played_at (plan.get db bucket id read) (player.Follow job) r k last does of at = absurd does
-played_at (plan.get db bucket id read) player.Put r k last does of at = absurd does
-played_at (plan.insert ns docs) (player.Insert job) r k last does of at = subst (λ (x : Outcome). IsPlayed (plan.insert ns docs) k last x) (sym of) (insert_played k last job.stage at)
-played_at (plan.insert ns docs) (player.Follow job) r k last does of at = absurd does
-played_at (plan.insert ns docs) player.Put r k last does of at = absurd does
-played_at (plan.insert ns docs) player.Get r k last does of at = absurd does
-played_at (plan.follow on calls start filter batch) (player.Insert job) r k last does of at = absurd does
-played_at (plan.follow on calls start filter batch) (player.Follow job) r k last does of at = subst (λ (x : Outcome). IsPlayed (plan.follow on calls start filter batch) k last x) (sym of) (follow_played calls k last job.stage (came job) at)
-played_at (plan.follow on calls start filter batch) player.Put r k last does of at = absurd does
-played_at (plan.follow on calls start filter batch) player.Get r k last does of at = absurd does
+played_at : (p : Player) (r : Outcome) (k : ℕ) (last : Bool) → OutcomeOf p r → IsAt (calls_of (task_of p)) p k last → IsPlayed (task_of p) k last r
+played_at (player.Insert job) r k last of at = subst (λ (x : Outcome). IsPlayed (task_of (player.Insert job)) k last x) (sym of) (insert_played k last job.stage at)
+played_at (player.Follow job) r k last of at = subst (λ (x : Outcome). IsPlayed (task_of (player.Follow job)) k last x) (sym of) (follow_played job.watched.calls k last job.stage (came job) at)
+played_at (player.Put job) r k last of at = subst (λ (x : Outcome). IsPlayed (task_of (player.Put job)) k last x) (sym of) tt
+played_at (player.Get job) r k last of at = subst (λ (x : Outcome). IsPlayed (task_of (player.Get job)) k last x) (sym of.1) (of.2, tt)
 
 -- where each job is by its turns says what became of it
 pub all_played : (ts : List Task) (order : List ℕ) (players : List Player) (notes : List Turned) (outcomes : List Outcome) → length outcomes ≡ length players → DoTasks ts players → AllAt ts order notes players → OutcomesOf players outcomes → AllPlayed ts order notes outcomes
 all_played ts order players notes outcomes count does all of i t r ht hr =
     let p = get_length players outcomes count i r hr in
-    played_at t p.0 r _ _ (does i t p.0 ht p.1) (of i p.0 r p.1 hr) (all i t p.0 ht p.1)
+    let is : t ≡ task_of p.0 = does i t p.0 ht p.1 in
+    let k : ℕ = turns_done i order notes in
+    let last : Bool = pends_last i order notes in
+    subst (λ (u : Task). IsPlayed u k last r) (sym is) (played_at p.0 r k last (of i p.0 r p.1 hr) (subst (λ (u : Task). IsAt (calls_of u) p.0 k last) is (all i t p.0 ht p.1)))
 
 -- the same of a run, unless memory ran out
 pub rows_so : (ts : List Task) (order : List ℕ) (players : List Player) (notes : List Turned) (result : Result Played Error) → IfOk result (λ p. length p.outcomes.items ≡ length players) → IfOk result (λ p. OutcomesOf players p.outcomes.items) → IfOk result (λ p. p.turns.items ≡ notes) → DoTasks ts players → AllAt ts order notes players → IfOk result (λ p. AllPlayed ts order p.turns.items p.outcomes.items)

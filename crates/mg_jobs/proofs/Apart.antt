@@ -8,14 +8,15 @@ use Rattle.mg_link.proofs.Owners.{same_some}
 use Rattle.mg_link.proofs.Places.{get_set_other, get_set_same}
 use Rattle.mg_jobs.specs.Playing.{IsSameFollow, job_ticket}
 use Rattle.mg_jobs.specs.Runs.{AreApart, AreNew, AreSameJobs, CanGo, Goes, IsNew, IsSameJob}
-use Rattle.mg_jobs.specs.declared.player.FollowPlayer.{FollowPlayer}
-use Rattle.mg_jobs.specs.declared.run.Player.{Player}
-use Rattle.mg_jobs.specs.declared.run.Player.TheVariants as player
+use Rattle.mg_script.specs.Plan.{Task}
+use Rattle.mg_jobs.specs.declared.follow.FollowPlayer.{FollowPlayer}
+use Rattle.mg_jobs.specs.declared.player.Player.{Player}
+use Rattle.mg_jobs.specs.declared.player.Player.TheVariants as player
 
 not_out : (old : Awaited) (m : ℕ) → old m ≡ None → IsSome (old m) → ⊥
 not_out old m none out = let bad : false ≡ true = ap (λ o. is_some o) (sym none) ∙ out in cc
 
-module _ (old new : Awaited) (log log' : Told) (wire : ℤ) (players : List Player) (k : ℕ) (p p' : Player) (at : slice_get players k ≡ Some p) (apart : AreApart old wire players) (goes : Goes old new log log' wire p p') where
+module _ {so : Task → Type 0} (old new : Awaited) (log log' : Told) (wire : ℤ) (players : List Player) (k : ℕ) (p p' : Player) (at : slice_get players k ≡ Some p) (apart : AreApart old wire players) (goes : Goes so old new log log' wire p p') where
   pub which : (i : ℕ) (a : Player) → slice_get (slice_set players k p') i ≡ Some a → ((i ≡ k) × (p' ≡ a)) ⊎ ((i ≡ k → ⊥) × (slice_get players i ≡ Some a))
   which i a h =
       elim (cases_eq i k) [
@@ -63,7 +64,7 @@ module _ (old new : Awaited) (log log' : Told) (wire : ℤ) (players : List Play
   apart_turn = record { each = each_after; distinct = distinct_after }
 
 -- the same over a wire version that is the same
-pub stands_after : (old new : Awaited) (log log' : Told) (wire wire' : ℤ) (players : List Player) (k : ℕ) (p p' : Player) → wire' ≡ wire → slice_get players k ≡ Some p → AreApart old wire players → Goes old new log log' wire' p p' → AreApart new wire' (slice_set players k p')
+pub stands_after : {so : Task → Type 0} (old new : Awaited) (log log' : Told) (wire wire' : ℤ) (players : List Player) (k : ℕ) (p p' : Player) → wire' ≡ wire → slice_get players k ≡ Some p → AreApart old wire players → Goes so old new log log' wire' p p' → AreApart new wire' (slice_set players k p')
 stands_after old new log log' wire wire' players k p p' same at apart goes = apart_turn old new log log' wire' players k p p' at (subst (λ w. AreApart old w players) (sym same) apart) goes
 
 -- jobs that have done nothing are apart over any link
@@ -94,11 +95,11 @@ same_follow f = record { watched_same = refl; stage_same = refl; left_same = ref
 pub same_job : (p : Player) → IsSameJob p p
 same_job (player.Insert insert) = refl
 same_job (player.Follow follow) = (follow, refl, same_follow follow)
-same_job player.Put = refl
-same_job player.Get = refl
+same_job (player.Put job) = refl
+same_job (player.Get job) = refl
 
 -- a follow that found no place is the same
-pub follow_same : (r : Result ⊤ Error) (f f' : FollowPlayer) → IsSameFollow f f' → OnErr r (IsSameJob (player.Follow f) (player.Follow f'))
+pub follow_same : (r : Result ⊤ Error) (f f' : FollowPlayer) → OnErr r (IsSameFollow f f') → OnErr r (IsSameJob (player.Follow f) (player.Follow f'))
 follow_same (Ok x) f f' same = tt
 follow_same (Err e) f f' same = (f', refl, same)
 
@@ -131,6 +132,10 @@ same_jobs players = record {
 pub on_err : {T E P : Type 0} (r : Result T E) → P → OnErr r P
 on_err (Ok x) p = tt
 on_err (Err e) p = p
+
+pub on_err_to : {T E P Q : Type 0} (r : Result T E) → (P → Q) → OnErr r P → OnErr r Q
+on_err_to (Ok x) f p = tt
+on_err_to (Err e) f p = f p
 
 -- jobs are apart over the same wire version, by another name
 pub apart_as : (awaited : Awaited) (wire wire' : ℤ) (players : List Player) → wire' ≡ wire → AreApart awaited wire players → AreApart awaited wire' players

@@ -1,9 +1,13 @@
 -- How jobs end over a link that loses nothing, where their server holds nothing back.
-use Rattle.std.proofs.Common.{◌≡◌, ◌≤◌, ℕ, suc, ℤ, pos, Bool, true, false, List, [], ◌∷◌, length, take, Contains, Option, Some, None, refl, sym, ap, ◌∙◌, subst, inl, inr, arith}
-use Rattle.std.specs.Prelude.{IfOk, Result, Ok, Err, slice_get, unwrap_or}
+use Rattle.std.proofs.Common.{◌≡◌, ◌≢◌, ◌⊎◌, ◌≤◌, ◌+◌, ◌++◌, ℕ, suc, ℤ, pos, Bool, true, false, List, [], ◌∷◌, length, take, Contains, Option, Some, None, refl, sym, ap, ◌∙◌, subst, inl, inr, arith}
+use Rattle.std.specs.Prelude.{IfOk, Result, Ok, Err, slice_get, unwrap_or, if◌then◌else◌}
+use Rattle.std.specs.Ordering.{int_eq}
+use Rattle.std.proofs.lemmas.Bool.{cases_Bool}
+use Rattle.std.proofs.lemmas.Bool.Decides.{Decides-int_eq}
 use Rattle.mg_bson.specs.Tree.{Tree, Fields, no_fields}
 use Rattle.mg_bson.specs.Raw.{fields}
 use Rattle.mg_bson.specs.Reading.{doc}
+use Rattle.mg_bson.specs.Writable.{max_len}
 use Rattle.mg_link.specs.Calls.{HeardAt, HeardBy, NoneBroken, Past, RequestFails, out_of_memory, was_broken, was_lost, was_refused}
 use Rattle.mg_link.specs.Exec.{FailsAs, FailsByReply, IsSuccess}
 use Rattle.mg_link.specs.History.{Step, state_of}
@@ -11,8 +15,10 @@ use Rattle.mg_link.specs.Link.{Awaited, Told}
 use Rattle.mg_link.specs.Log.{Sight, fault, reply, Call}
 use Rattle.mg_link.specs.Namespace.{Space, Target, space, target}
 use Rattle.mg_link.specs.Reply.{verdict_of}
+use Rattle.mg_link.specs.Resumable.{is_resumable}
 use Rattle.mg_link.specs.Standing.{SeenFits}
-use Rattle.mg_link.specs.State.{State}
+use Rattle.mg_link.specs.Commands.{Batch, batch_of}
+use Rattle.mg_link.specs.State.{State, events_between, watching}
 use Rattle.mg_link.specs.Step.{documents_of}
 use Rattle.mg_link.specs.declared.error.Error.{Error}
 use Rattle.mg_link.specs.declared.error.ErrorKind.{ErrorKind}
@@ -23,26 +29,29 @@ use Rattle.mg_link.proofs.Pasts.{heard_by}
 use Rattle.mg_link.proofs.Places.{get_within}
 use Rattle.mg_options.specs.declared.change_stream.ChangeStreamOptions.{ChangeStreamOptions}
 use Rattle.mg_ops.specs.Bodies.{insert_command}
+use Rattle.mg_ops.specs.Commands.{kill_command}
 use Rattle.mg_ops.specs.Cursors.{Manner, manner_of, next_command}
-use Rattle.mg_ops.specs.Failing.{CannotBeSent}
-use Rattle.mg_ops.specs.Limits.{SizePasses}
+use Rattle.mg_ops.specs.Failing.{CannotBeInserted, CannotBeSent}
+use Rattle.mg_ops.specs.Limits.{PassesLimit, SizePasses, SomePassLimit, max_stored}
 use Rattle.mg_ops.specs.Naming.{IsNamed}
 use Rattle.mg_ops.specs.Writes.{ListsAs}
 use Rattle.mg_ops.specs.declared.change_stream.WatchArgs.{WatchArgs}
 use Rattle.mg_ops.specs.declared.cursor_reply.CursorInformation.{CursorInformation}
-use Rattle.mg_ops.proofs.Asking.{asks_to_insert_plainly}
-use Rattle.mg_change.specs.Causes.{CallFails, Called, CannotBuild, Standing, TellsNoCursor, more_command, resume_command}
+use Rattle.mg_ops.proofs.Asking.{asks_for_more_plainly, asks_to_insert_plainly}
+use Rattle.mg_change.specs.Batches.{HoldsBatch}
+use Rattle.mg_change.specs.Causes.{CallFails, CallNone, Called, CannotBuild, MoreFails, Replied, Resumes, Standing, TellsNoCursor, more_command, resume_command}
 use Rattle.mg_change.specs.Causes as causes
-use Rattle.mg_change.specs.Closings.{ids_left}
+use Rattle.mg_change.specs.Closings.{ids_left, unless_none}
 use Rattle.mg_change.specs.ClosingCauses.{NotKilled, last_command}
 use Rattle.mg_change.specs.OpeningCauses.{OpeningFails}
 use Rattle.mg_change.specs.Openings.{opening_command}
 use Rattle.mg_jobs.specs.Causes.{AllCaused, AllSentIn, Answered, Closed, CloseCaused, Course, FollowCaused, InsertEnds, OpenCaused, OpenFailed, OutcomeCaused, SentIn, course, sent_at}
-use Rattle.mg_jobs.specs.Completing.{AllWell, AnswerWell, AnswersAreWell, AnswersWell, AreFresh, CallsWell, EndsWell, FollowWell, InsertWell, IsExcused, IsExcusedInsert, OutcomeWell, SendFresh, asks, kills, opens, resumes}
+use Rattle.mg_jobs.specs.Completing.{AllWell, AnswerWell, AnswersAreWell, AnswersWell, AreFresh, CallsWell, EndsWell, Excuses, FindsNothing, FitsLimits, FollowWell, IsExcused, IsExcusedInsert, IsMemory, IsShort, IsTooLarge, JobWell, NoneLeft, Nothings, OutcomeEnds, OutcomeFits, OutcomeWell, SendFresh, finds_none, is_over, own_excuses, takes_again, takes_first}
 use Rattle.mg_jobs.specs.Counts.{Faultless, LosesNothing}
 use Rattle.mg_jobs.specs.Drawing.{as_sent}
 use Rattle.mg_jobs.specs.Follows.{IsArgsFor, poll_of}
-use Rattle.mg_ops.specs.InsertCauses.{InsertFails, ListsFor, cannot_encode, cannot_insert, command_fails, no_memory}
+use Rattle.mg_jobs.specs.Own.{IsHeard, IsOwnCommand, IsOwnCursor, asks, kills, opens, resumes}
+use Rattle.mg_ops.specs.InsertCauses.{InsertFails, IsPiece, ListsFor, cannot_encode, cannot_insert, command_fails, no_memory}
 use Rattle.mg_script.specs.Plan.{Begin, Task, follow, get, insert, put}
 use Rattle.mg_jobs.specs.Progress.{AllPlayed, FollowPlayed, InsertPlayed, IsPlayed, OpenPlayed, pends_last, turns_done}
 use Rattle.mg_script.specs.declared.outcome.Answer.{Answer}
@@ -50,14 +59,15 @@ use Rattle.mg_script.specs.declared.outcome.Answer.TheVariants as answers
 use Rattle.mg_script.specs.declared.outcome.Ended.{Ended}
 use Rattle.mg_script.specs.declared.outcome.Ended.TheVariants as ended
 use Rattle.mg_script.specs.declared.outcome.Outcome.{Outcome}
-use Rattle.mg_script.specs.declared.outcome.Outcome.TheVariants as outcome
 use Rattle.mg_script.specs.declared.outcome.Played.{Played}
 use Rattle.mg_script.specs.declared.outcome.Turned.{Turned}
-use Rattle.mg_jobs.proofs.Batches.{breaks_not}
+use Rattle.mg_jobs.proofs.Batches.{breaks_not, events_are}
 use Rattle.mg_jobs.proofs.InsertWell.{never_lists}
+use Rattle.mg_jobs.proofs.Own.{HasOwn, StandsOwn, called_own, opened_own}
+use Rattle.mg_jobs.proofs.SaidTwice.{follow_both, insert_both}
 use Rattle.mg_jobs.proofs.Creating.{CreatesNone, asked_creates, asking_none, inserting_none, killing_none, resuming_none, watching_none}
-use Rattle.mg_jobs.proofs.Prompting.{Brings, IsPrompted, prompt_success, prompted}
-use Rattle.mg_jobs.proofs.Identified.{IsHonest, StandsWell, empty_well, failed_well, gave_well, honest_over, next_well, opened_well, replied_well, resumed_brings}
+use Rattle.mg_jobs.proofs.Prompting.{Brings, IsPrompted, IsWatchOnly, more_gives, prompt_success, prompted}
+use Rattle.mg_jobs.proofs.Identified.{IsHonest, StandsWell, empty_well, failed_so, failed_well, gave_well, honest_over, next_well, opened_well, replied_well, resumed_brings, watch_at}
 use Rattle.mg_link.proofs.Watched.{IsWatched}
 
 -- ---- what a call heard
@@ -78,8 +88,9 @@ unfolding fields
 fails_not bytes wire e success fails = fails_as (doc bytes) wire e success fails
 
 -- the step of a command whose reply was heard
-record Taken (own : List ℕ) (history : List Step) (command : Fields) (bytes : List ℕ) : Type 0 where
+record Taken (own : List ℕ) (history : List Step) (command : Fields) (bytes : List ℕ) (call : Call) : Type 0 where
   position : ℕ
+  position_is : call.position ≡ Some position
   step : Step
   is_own : Contains own position
   there : slice_get history position ≡ Some step
@@ -103,7 +114,10 @@ module _ (c : Course) (i k : ℕ) (begun calls : List Call) (wire : ℤ) (places
       let within = get_within begun h.place h.heard.call (faultless h.place h.heard.call h.heard.there h.heard.has_seen) in
       omega arith
 
-  taken : (command : Fields) (bytes : List ℕ) → HeardBy (sent_at places calls wire) command (reply bytes) → Taken well.own well.history command bytes
+  hears : (command : Fields) (bytes : List ℕ) → HeardBy (sent_at places calls wire) command (reply bytes) → IsHeard c i calls bytes
+  hears command bytes h = record { done = k; place = h.place; sent = own_place h.place command (reply bytes) h.heard; call = h.heard.call; there = h.heard.there; has_seen = h.heard.has_seen }
+
+  taken : (command : Fields) (bytes : List ℕ) (h : HeardBy (sent_at places calls wire) command (reply bytes)) → Taken well.own well.history command bytes h.heard.call
   taken command bytes h =
       let own = own_place h.place command (reply bytes) h.heard in
       let p = well.stands.placed h.place h.heard.call bytes h.heard.there h.heard.has_seen in
@@ -111,6 +125,7 @@ module _ (c : Course) (i k : ℕ) (begun calls : List Call) (wire : ℤ) (places
       let is_own = well.positions k h.place h.heard.call p.0 own h.heard.there p.1 in
       record {
         position = p.0;
+        position_is = p.1;
         step = s.0;
         is_own = is_own;
         there = s.1;
@@ -118,6 +133,31 @@ module _ (c : Course) (i k : ℕ) (begun calls : List Call) (wire : ℤ) (places
         before_is = refl;
         command_is = ap fields s.2 ∙ h.heard.command_is;
         reply_is = subst (λ (x : Sight). SeenFits x s.0.reply) h.heard.has_seen s.3;
+      }
+
+  -- a getMore that brought no event
+  none_there : (id : ℤ) (at : Space) (m : Manner) (bytes : List ℕ) (batch : Batch) → IsNamed at → (id ≢ pos 0 → IsWatched well.history id) → HeardBy (sent_at places calls wire) (next_command id at m) (reply bytes) → IsSuccess bytes → batch_of (fields bytes) ≡ Some batch → batch.events ≡ [] → NoneLeft c i calls well.history k
+  none_there id at m bytes batch named watches h success there empty =
+      let t = taken (next_command id at m) bytes h in
+      let asks = asks_for_more_plainly t.step.command id at m named t.command_is in
+      let only : IsWatchOnly t.at_once.before id = λ c stood. watch_at well.history t.position id well.legal watches c (ap (λ (s : State). s.cursors id) t.before_is ∙ stood) in
+      let gives = more_gives t.step t.at_once (subst IsSuccess t.reply_is success) id at batch only asks (subst (λ (b : List ℕ). batch_of (fields b) ≡ Some batch) t.reply_is there) in
+      record {
+        place = h.place;
+        sent = own_place h.place (next_command id at m) (reply bytes) h.heard;
+        call = h.heard.call;
+        there = h.heard.there;
+        position = t.position;
+        position_is = t.position_is;
+        step = t.step;
+        stands = t.there;
+        id = id;
+        space = at;
+        asks = asks;
+        watch = gives.0;
+        from = gives.1;
+        stood = subst (λ (s : State). s.cursors id ≡ Some (watching gives.0 gives.1)) (sym t.before_is) gives.2;
+        none = subst (λ (s : State). events_between gives.0 s.changes gives.1 (length s.changes) ≡ []) (sym t.before_is) (gives.3 empty);
       }
 
   serves : IsServed (IsWatched well.history) (sent_at places calls wire)
@@ -141,65 +181,166 @@ cannot_build size command e fits (inr by) = by
 
 -- ---- a call
 
-module _ (watched : ℤ → Type 0) (are_its : WatchArgs → Type 0) (fits : (args : WatchArgs) → are_its args → SizePasses args.options.batch_size → ⊥) (past : Past) (served : IsServed watched past) (at : Standing) (well : StandsWell watched are_its at) where
-  brings : (bytes : List ℕ) → HeardBy past (resume_command past.wire at) (reply bytes) → IsSuccess bytes → Brings bytes
-  brings bytes heard success = resumed_brings watched are_its past served.honest at well bytes heard success
+-- a call that failed so is excused, and a resumption is owed behind it only where it was short before, or is now
+abbrev FailsSo : (WatchArgs → Type 0) → (List ℕ → Type 0) → Type 0 → Standing → Error → Type 0
+FailsSo are_its heard short after e = IsExcused are_its heard short e × (after.owes ≡ true → short ⊎ (e.kind ≡ kind.OutOfMemory))
+
+fails_short : (are_its : WatchArgs → Type 0) (heard : List ℕ → Type 0) (short : Type 0) (after : Standing) (e : Error) → e.kind ≡ kind.OutOfMemory → FailsSo are_its heard short after e
+fails_short are_its heard short after e room = (inl room, λ owes. inr room)
+
+-- a call ended well
+record EndedWell (watched : ℤ → Type 0) (are_its : WatchArgs → Type 0) (heard : List ℕ → Type 0) (short nothing : Type 0) (after : Standing) (answer : Answer) : Type 0 where
+  stands : StandsWell watched are_its after
+  own : StandsOwn heard after
+  owes : after.owes ≡ true → short ⊎ IsShort answer
+  looked : after.first ≡ None
+  is_well : AnswerWell (IsExcused are_its heard short) nothing answer
+
+module _ (watched : ℤ → Type 0) (are_its : WatchArgs → Type 0) (fits : (args : WatchArgs) → are_its args → SizePasses args.options.batch_size → ⊥) (heard : List ℕ → Type 0) (short : Type 0) (past : Past) (served : IsServed watched past)
+    (hears_own : (command : Fields) (bytes : List ℕ) → HeardBy past command (reply bytes) → heard bytes) (at : Standing) (well : StandsWell watched are_its at) (own : StandsOwn heard at) (owed : at.owes ≡ true → short) where
+  resumption_brings : (bytes : List ℕ) → HeardBy past (resume_command past.wire at) (reply bytes) → IsSuccess bytes → Brings bytes
+  resumption_brings bytes h success = resumed_brings watched are_its past served.honest at well bytes h success
+
+  more_brings : (bytes : List ℕ) → HeardBy past (more_command at) (reply bytes) → IsSuccess bytes → Brings bytes
+  more_brings bytes h success = (served.honest.more at.cursor.id (space at.cursor.ns) (manner_of at.cursor) bytes well.cursor.named well.cursor.watches h success).0
+
+  -- a getMore fails for want of memory alone, by which nothing resumes
+  more_room : (e : Error) → RequestFails past (more_command at) false TellsNoCursor e → e.kind ≡ kind.OutOfMemory
+  more_room e fails =
+      request_well watched past (more_command at) false TellsNoCursor e served (asking_none at.cursor.id (space at.cursor.ns) (manner_of at.cursor)) (λ bytes h success breaks. let b = more_brings bytes h success in breaks_not (fields bytes) b.batch e b.there (inl breaks)) fails
+
+  refused_room : (e : Error) → RequestFails past (more_command at) false NoneBroken e → e.kind ≡ kind.OutOfMemory
+  refused_room e fails = request_well watched past (more_command at) false NoneBroken e served (asking_none at.cursor.id (space at.cursor.ns) (manner_of at.cursor)) (λ bytes h success none. absurd none) fails
+
+  more_fails : (e : Error) (c : CursorInformation) → MoreFails past at e c → is_resumable e.kind e.labels e.wire_version ≡ true → ⊥
+  more_fails e c (causes.untold asked fails is) resumable =
+      let bad : is_resumable kind.OutOfMemory e.labels e.wire_version ≡ true = subst (λ (k : ErrorKind). is_resumable k e.labels e.wire_version ≡ true) (more_room e fails) resumable in cc
+  more_fails e c (causes.broken bytes upto h success tells breaks) resumable = let b = more_brings bytes h.heard success in breaks_not (fields bytes) b.batch e b.there (inr breaks)
+
+  -- so a stream resumes only where that was owed
+  was_short : (c : CursorInformation) → Resumes past at c → short
+  was_short c (causes.owed owes is) = owed owes.owes
+  was_short c (causes.more_failed e why resumable) = absurd (more_fails e c why resumable)
+  was_short c (causes.first_broken bytes e first empty breaks is) = let b = well.first bytes first in absurd (breaks_not (fields bytes) b.batch e b.there (inr breaks))
 
   -- a failure is excused
-  fails_well : (after : Standing) (e : Error) → CallFails past at after e → IsExcused are_its e
-  fails_well after e (causes.may_lose room owes may) = inl room
-  fails_well after e (causes.no_memory room stays) = inl room
+  fails_well : (after : Standing) (e : Error) → CallFails past at after e → FailsSo are_its heard short after e
+  fails_well after e (causes.may_lose room owes may) = fails_short are_its heard short after e room
+  fails_well after e (causes.no_memory room stays) = fails_short are_its heard short after e room
   fails_well after e (causes.not_resumed owes why fails) =
-      inl (request_well watched past (resume_command past.wire at) true TellsNoCursor e served (resuming_none at.aggregate past.wire) (λ bytes heard success breaks. let b = brings bytes heard success in breaks_not (fields bytes) b.batch e b.there (inl breaks)) fails)
+      fails_short are_its heard short after e
+      (request_well watched past (resume_command past.wire at) true TellsNoCursor e served (resuming_none at.aggregate past.wire) (λ bytes h success breaks. let b = resumption_brings bytes h success in breaks_not (fields bytes) b.batch e b.there (inl breaks)) fails)
   fails_well after e (causes.broken bytes upto owes r breaks) = let b = (replied_well watched are_its past served.honest at well true bytes after.cursor upto r).0 in absurd (breaks_not (fields bytes) b.batch e b.there (inr breaks))
   fails_well after e (causes.cannot_resume owes why by) =
-      inr (resume_command past.wire at, resumes at.aggregate past.wire well.args refl, cannot_build at.aggregate.args.options.batch_size (resume_command past.wire at) e (fits at.aggregate.args well.args) by)
-  fails_well after e (causes.refused_more asked fails final is) =
-      inl (request_well watched past (more_command at) false NoneBroken e served (asking_none at.cursor.id (space at.cursor.ns) (manner_of at.cursor)) (λ bytes heard success none. absurd none) fails)
-  fails_well after e (causes.cannot_ask asked by is) =
-      inr (
-        more_command at,
-        asks at.aggregate.args well.args at.cursor.id (space at.cursor.ns) (ap (next_command at.cursor.id (space at.cursor.ns)) well.cursor.manner_is),
-        cannot_build at.cursor.batch_size (more_command at) e (λ passes. fits at.aggregate.args well.args (subst (λ (manner : Manner). SizePasses manner.size) well.cursor.manner_is passes)) by,
+      let is = was_short after.cursor why in (
+        inr (resume_command past.wire at, resumes is at.aggregate past.wire well.args own.known refl, cannot_build at.aggregate.args.options.batch_size (resume_command past.wire at) e (fits at.aggregate.args well.args) by),
+        (λ owing. inl is),
       )
+  fails_well after e (causes.refused_more asked fails final is) = absurd (final.room (refused_room e fails))
+  fails_well after e (causes.cannot_ask asked by is) = (
+    inr (
+      more_command at,
+      asks at.aggregate.args well.args at.cursor.id (space at.cursor.ns) own.cursor (ap (next_command at.cursor.id (space at.cursor.ns)) well.cursor.manner_is),
+      cannot_build at.cursor.batch_size (more_command at) e (λ passes. fits at.aggregate.args well.args (subst (λ (manner : Manner). SizePasses manner.size) well.cursor.manner_is passes)) by,
+    ),
+    (λ owing. inl (owed (subst (λ (x : Standing). x.owes ≡ true) is owing))),
+  )
   fails_well after e (causes.no_id event upto next lacks is behind settled) = let id = (next_well watched are_its past served.honest at well (event ∷ after.events) after.cursor upto next).0.0 in let has = id.1 in absurd cc
 
-  called_well : (answer : Answer) (after : Standing) → Called past at after (poll_of answer) → StandsWell watched are_its after × AnswerWell are_its answer
-  called_well (answers.Event event) after called = (gave_well watched are_its past served.honest at well after (fields event) called, tt)
-  called_well answers.Nothing after called = (empty_well watched are_its past served.honest at well after called.0 called.1, tt)
-  called_well (answers.Failed e) after called = (failed_well watched are_its past served.honest at well after e called, fails_well after e called.why)
+  stands_own : (answer : Answer) (after : Standing) → Called past at after (poll_of answer) → StandsOwn heard after
+  stands_own answer after called = called_own heard past hears_own at more_room refused_room own answer after called
+
+  -- why it finds nothing, by what it comes of
+  module _ (nothing : Type 0) (first : (bytes : List ℕ) → at.first ≡ Some bytes → nothing) (again : (bytes : List ℕ) → short → HeardBy past (resume_command past.wire at) (reply bytes) → nothing) (over : at.cursor.id ≡ pos 0 → nothing)
+      (none : (bytes : List ℕ) (batch : Batch) → HeardBy past (more_command at) (reply bytes) → IsSuccess bytes → batch_of (fields bytes) ≡ Some batch → batch.events ≡ [] → nothing) where
+    empty_by : (resumed : Bool) (bytes : List ℕ) (c : CursorInformation) (upto : Option Tree) → Replied past at resumed bytes c upto → HoldsBatch (fields bytes) [] → nothing
+    empty_by resumed bytes c upto (causes.opening new held empty is behind) holds = first bytes held
+    empty_by resumed bytes c upto (causes.more new h success tells) holds = let b = more_brings bytes h.heard success in none bytes b.batch h.heard success b.there (sym (events_are (fields bytes) b.batch [] b.there holds))
+    empty_by resumed bytes c upto (causes.again new old r killed) holds = again bytes (was_short old r.why) r.heard
+
+    none_by : (after : Standing) (resumed : Bool) → CallNone past at after resumed → nothing
+    none_by after resumed (causes.came_empty empty bytes upto r holds is) = empty_by resumed bytes after.cursor upto r holds
+    none_by after resumed (causes.none_left new settled empty gone is same) = over gone
+
+    called_well : (answer : Answer) (after : Standing) → Called past at after (poll_of answer) → EndedWell watched are_its heard short nothing after answer
+    called_well (answers.Event event) after called =
+        let quits = called.settled.quits in
+        record { stands = gave_well watched are_its past served.honest at well after (fields event) called; own = stands_own (answers.Event event) after called; owes = λ owing. absurd cc; looked = called.settled.looked; is_well = tt }
+    called_well answers.Nothing after called =
+        let quits = called.1.settled.quits in
+        record {
+          stands = empty_well watched are_its past served.honest at well after called.0 called.1;
+          own = stands_own answers.Nothing after called;
+          owes = λ owing. absurd cc;
+          looked = called.1.settled.looked;
+          is_well = none_by after called.0 called.1.why;
+        }
+    called_well (answers.Failed e) after called =
+        let fails = fails_well after e called.why in
+        record {
+          stands = failed_well watched are_its past served.honest at well after e called;
+          own = stands_own (answers.Failed e) after called;
+          owes = fails.1;
+          looked = (failed_so watched are_its past served.honest at well after e called.why).0;
+          is_well = fails.0;
+        }
 
 -- ---- the opening
 
-module _ (watched : ℤ → Type 0) (are_its : WatchArgs → Type 0) (fits : (args : WatchArgs) → are_its args → SizePasses args.options.batch_size → ⊥) (past : Past) (served : IsServed watched past) (args : WatchArgs) (its : are_its args) where
+module _ (watched : ℤ → Type 0) (are_its : WatchArgs → Type 0) (fits : (args : WatchArgs) → are_its args → SizePasses args.options.batch_size → ⊥) (heard : List ℕ → Type 0) (past : Past) (served : IsServed watched past) (args : WatchArgs) (its : are_its args) where
   opening_brings : (bytes : List ℕ) → HeardBy past (opening_command args) (reply bytes) → IsSuccess bytes → Brings bytes
-  opening_brings bytes heard success = (served.honest.watch (target args.target) args.pipeline.items args.options bytes heard success).0
+  opening_brings bytes h success = (served.honest.watch (target args.target) args.pipeline.items args.options bytes h success).0
 
-  opening_well : (e : Error) → OpeningFails past args e → IsExcused are_its e
+  opening_well : (e : Error) → OpeningFails past args e → IsExcused are_its heard ⊥ e
   opening_well e (inl fails) =
-      inl (request_well watched past (opening_command args) true TellsNoCursor e served (watching_none (target args.target) args.pipeline.items args.options) (λ bytes heard success breaks. let b = opening_brings bytes heard success in breaks_not (fields bytes) b.batch e b.there (inl breaks)) fails)
+      inl (request_well watched past (opening_command args) true TellsNoCursor e served (watching_none (target args.target) args.pipeline.items args.options) (λ bytes h success breaks. let b = opening_brings bytes h success in breaks_not (fields bytes) b.batch e b.there (inl breaks)) fails)
   opening_well e (inr by) = inr (opening_command args, opens args its refl, cannot_build args.options.batch_size (opening_command args) e (fits args its) by)
 
 -- ---- the closing
 
-kill_well : (watched : ℤ → Type 0) (are_its : WatchArgs → Type 0) (past : Past) (c : CursorInformation) (e : Error) → IsServed watched past → NotKilled past c (pos 0) e → IsExcused are_its e
-kill_well watched are_its past c e served (inl fails) =
-    inl (request_well watched past (last_command c (pos 0)) false NoneBroken e served (killing_none (space c.ns) (ids_left c.id (pos 0))) (λ bytes heard success none. absurd none) fails)
-kill_well watched are_its past c e served (inr by) = inr (last_command c (pos 0), kills (space c.ns) (ids_left c.id (pos 0)) refl, by)
+no_id_left : (id : ℤ) → id ≡ pos 0 → unless_none id ≡ []
+no_id_left id none = ap (λ (b : Bool). if b then [] else id ∷ []) ((Decides-int_eq id (pos 0)).1 none)
+
+none_left : (id : ℤ) → id ≡ pos 0 → ids_left id (pos 0) ≡ []
+none_left id none = ap (λ (ids : List ℤ). ids ++ unless_none (pos 0)) (no_id_left id none) ∙ no_id_left (pos 0) refl
+
+one_left : (id : ℤ) → id ≢ pos 0 → ids_left id (pos 0) ≡ id ∷ []
+one_left id held =
+    elim (cases_Bool (int_eq id (pos 0))) [
+      | inl none ↦ absurd (held ((Decides-int_eq id (pos 0)).0 none))
+      | inr other ↦ ap (λ (b : Bool). (if b then [] else id ∷ []) ++ unless_none (pos 0)) other ∙ ap (λ (ids : List ℤ). id ∷ ids) (no_id_left (pos 0) refl)
+    ]
+
+kill_well : (watched : ℤ → Type 0) (are_its : WatchArgs → Type 0) (heard : List ℕ → Type 0) (past : Past) (c : CursorInformation) (e : Error) → IsServed watched past → HasOwn heard c → ids_left c.id (pos 0) ≢ [] → NotKilled past c (pos 0) e → IsExcused are_its heard ⊥ e
+kill_well watched are_its heard past c e served own some (inl fails) =
+    inl (request_well watched past (last_command c (pos 0)) false NoneBroken e served (killing_none (space c.ns) (ids_left c.id (pos 0))) (λ bytes h success none. absurd none) fails)
+kill_well watched are_its heard past c e served own some (inr by) =
+    let held : c.id ≢ pos 0 = λ none. some (none_left c.id none) in
+    inr (last_command c (pos 0), kills c.id (space c.ns) own (ap (kill_command (space c.ns)) (one_left c.id held)), by)
 
 -- ---- all calls
 
 module _ (c : Course) (i : ℕ) (begun calls : List Call) (wire : ℤ) (whole : length begun ≡ c.begun) (faultless : Faultless begun calls) (well : AnswersWell c i calls) (are_its : WatchArgs → Type 0) (fits : (args : WatchArgs) → are_its args → SizePasses args.options.batch_size → ⊥) where
-  calls_well : (at : Standing) (owns : List (List ℕ)) (said : List Answer) (last : Standing) → ((k : ℕ) (own : List ℕ) → slice_get owns k ≡ Some own → (n : ℕ) × AllSentIn c i n own) → Answered calls wire at owns said last → StandsWell (IsWatched well.history) are_its at
-      → StandsWell (IsWatched well.history) are_its last × AnswersAreWell are_its said
-  calls_well at [] [] last sent is stands = (subst (StandsWell (IsWatched well.history) are_its) (sym is) stands, tt)
-  calls_well at (places ∷ owns) (answer ∷ said) last sent answered stands =
-      let mine = sent 0 places refl in
-      let one = called_well (IsWatched well.history) are_its fits (sent_at places calls wire) (serves c i mine.0 begun calls wire places whole faultless well mine.1) at stands answer answered.0 answered.1 in
-      let more = calls_well answered.0 owns said last (λ k own there. sent (suc k) own there) answered.2 one.0 in
-      (more.0, (more.1, one.1))
-  calls_well at [] (answer ∷ said) last sent answered stands = absurd answered
-  calls_well at (places ∷ owns) [] last sent answered stands = absurd answered
+  one_well : (short : Type 0) (at after : Standing) (n : ℕ) (places : List ℕ) (answer : Answer) → AllSentIn c i n places → Called (sent_at places calls wire) at after (poll_of answer) → StandsWell (IsWatched well.history) are_its at → StandsOwn (IsHeard c i calls) at → (at.owes ≡ true → short)
+      → ((bytes : List ℕ) → at.first ≡ Some bytes → n ≡ 1) → EndedWell (IsWatched well.history) are_its (IsHeard c i calls) short (FindsNothing c i calls well.history n short) after answer
+  one_well short at after n places answer sent called stands own owed first =
+      called_well (IsWatched well.history) are_its fits (IsHeard c i calls) short (sent_at places calls wire) (serves c i n begun calls wire places whole faultless well sent) (hears c i n begun calls wire places whole faultless well sent) at stands own owed (FindsNothing c i calls well.history n short)
+      (λ bytes held. takes_first (first bytes held))
+      (λ bytes is h. takes_again is h.place (own_place c i n begun calls wire places whole faultless well sent h.place (resume_command wire at) (reply bytes) h.heard) h.heard.call h.heard.there at.aggregate wire h.heard.command_is)
+      (λ gone. is_over (space at.cursor.ns) (subst (λ (id : ℤ). IsOwnCursor (IsHeard c i calls) id (space at.cursor.ns)) gone own.cursor))
+      (λ bytes batch h success there empty. finds_none (none_there c i n begun calls wire places whole faultless well sent at.cursor.id (space at.cursor.ns) (manner_of at.cursor) bytes batch stands.cursor.named stands.cursor.watches h success there empty)) answer after called
+
+  calls_well : (short : Type 0) (n : ℕ) (at : Standing) (owns : List (List ℕ)) (said : List Answer) (last : Standing) → ((k : ℕ) (own : List ℕ) → slice_get owns k ≡ Some own → AllSentIn c i (n + k) own) → Answered calls wire at owns said last → StandsWell (IsWatched well.history) are_its at → StandsOwn (IsHeard c i calls) at → (at.owes ≡ true → short)
+      → ((bytes : List ℕ) → at.first ≡ Some bytes → n ≡ 1) → StandsOwn (IsHeard c i calls) last × AnswersAreWell (IsExcused are_its (IsHeard c i calls)) (FindsNothing c i calls well.history) n short said
+  calls_well short n at [] [] last sent is stands own owed first = (subst (StandsOwn (IsHeard c i calls)) (sym is) own, tt)
+  calls_well short n at (places ∷ owns) (answer ∷ said) last sent answered stands own owed first =
+      let now : n + 0 ≡ n = omega arith in
+      let one = one_well short at answered.0 n places answer (subst (λ (m : ℕ). AllSentIn c i m places) now (sent 0 places refl)) answered.1 stands own owed first in
+      let looked = one.looked in
+      let more = calls_well (short ⊎ IsShort answer) (suc n) answered.0 owns said last (λ k own there. let next : n + suc k ≡ suc n + k = omega arith in subst (λ (m : ℕ). AllSentIn c i m own) next (sent (suc k) own there)) answered.2 one.stands one.own one.owes (λ bytes held. absurd cc) in
+      (more.0, (one.is_well, more.1))
+  calls_well short n at [] (answer ∷ said) last sent answered stands own owed first = absurd answered
+  calls_well short n at (places ∷ owns) [] last sent answered stands own owed first = absurd answered
 
 never_unfinished : (count answered k : ℕ) (pended : Bool) → OpenPlayed {A = Unit {0}} ended.Unfinished count answered k pended → suc count ≤ k → ⊥
 never_unfinished count answered k pended (inl more) turns = omega arith
@@ -209,10 +350,12 @@ module _ (awaited : Awaited) (c : Course) (i : ℕ) (begun calls : List Call) (w
   served_so : {A : Type 0} (k : ℕ) (last : Standing) (closed : Ended A) (close : Closed c i k calls wire last closed) → IsServed (IsWatched well.history) (sent_at close.places calls wire)
   served_so k last closed close = serves c i k begun calls wire close.places whole faultless well close.sent
 
-  closed_well : {A : Type 0} (are_its : WatchArgs → Type 0) (closed : Ended A) (count answered k : ℕ) (pended : Bool) (last : Standing) → OpenPlayed closed count answered k pended → suc count ≤ k → CloseCaused awaited c i count answered calls wire last closed → (answered ≡ count) × EndsWell are_its closed
-  closed_well are_its ended.Unfinished count answered k pended last played turns close = absurd (never_unfinished count answered k pended played turns)
-  closed_well are_its (ended.Gave x) count answered k pended last played turns close = (played.0, tt)
-  closed_well are_its (ended.Failed e) count answered k pended last played turns close = (played.0, kill_well (IsWatched well.history) are_its (sent_at close.places calls wire) last.cursor e (served_so answered last (ended.Failed e) close) close.by.why)
+  closed_well : {A : Type 0} (are_its : WatchArgs → Type 0) (closed : Ended A) (count answered k : ℕ) (pended : Bool) (last : Standing) → StandsOwn (IsHeard c i calls) last → OpenPlayed closed count answered k pended → suc count ≤ k → CloseCaused awaited c i count answered calls wire last closed
+      → (answered ≡ count) × EndsWell (IsExcused are_its (IsHeard c i calls) ⊥) closed
+  closed_well are_its ended.Unfinished count answered k pended last own played turns close = absurd (never_unfinished count answered k pended played turns)
+  closed_well are_its (ended.Gave x) count answered k pended last own played turns close = (played.0, tt)
+  closed_well are_its (ended.Failed e) count answered k pended last own played turns close =
+      (played.0, kill_well (IsWatched well.history) are_its (IsHeard c i calls) (sent_at close.places calls wire) last.cursor e (served_so answered last (ended.Failed e) close) own.cursor close.by.some_left close.by.why)
 
 -- ---- a follow
 
@@ -220,22 +363,26 @@ size_fits : (on : Target) (start : Begin) (filter : Option Fields) (batch : Opti
 size_fits on start filter batch small args are passes = small (subst SizePasses (ap (λ (o : ChangeStreamOptions). o.batch_size) are.options_are) passes)
 
 module _ (awaited : Awaited) (c : Course) (i : ℕ) (begun calls : List Call) (wire : ℤ) (whole : length begun ≡ c.begun) (faultless : Faultless begun calls) (well : AnswersWell c i calls) (on : Target) (start : Begin) (filter : Option Fields) (batch : Option ℕ) (small : SizePasses batch → ⊥) where
-  open_well : {A : Type 0} (count k : ℕ) (pended : Bool) (said : List Answer) (token : Option Tree) (alive : Bool) (closed : Ended A) → OpenCaused awaited c i count calls wire on start filter batch said token alive closed → OpenPlayed closed count (length said) k pended → suc count ≤ k
-      → CallsWell (IsArgsFor on start filter batch) count said closed
+  abbrev its_excuses : Excuses
+  its_excuses = IsExcused (IsArgsFor on start filter batch) (IsHeard c i calls)
+
+  open_well : {A : Type 0} (count k : ℕ) (pended : Bool) (said : List Answer) (token : Option Tree) (alive : Bool) (closed : Ended A) → OpenCaused awaited c i count calls wire on start filter batch said token alive closed → OpenPlayed closed count (length said) k pended → suc count ≤ k → CallsWell its_excuses (FindsNothing c i calls well.history) count said closed
   open_well count k pended said token alive closed o played turns =
       let fits = size_fits on start filter batch small in
       let a = o.answers in
       let stands = opened_well (IsWatched well.history) (IsArgsFor on start filter batch) (sent_at a.places calls wire) (honest_over well.history calls well.legal well.stands a.places wire) o.args o.args_are a.first a.opened in
-      let all = calls_well c i begun calls wire whole faultless well (IsArgsFor on start filter batch) fits a.first a.owns said o.last (λ k own there. (suc k, a.sent_each k own there)) a.answered stands in
-      let end = closed_well awaited c i begun calls wire whole faultless well (IsArgsFor on start filter batch) closed count (length said) k pended o.last played turns o.close in
+      let own = opened_own (IsHeard c i calls) (sent_at a.places calls wire) (hears c i 0 begun calls wire a.places whole faultless well a.sent) o.args a.first a.opened in
+      let quits = a.opened.quits in
+      let all = calls_well c i begun calls wire whole faultless well (IsArgsFor on start filter batch) fits ⊥ 1 a.first a.owns said o.last (λ k own there. let next : suc k ≡ 1 + k = omega arith in subst (λ (m : ℕ). AllSentIn c i m own) next (a.sent_each k own there)) a.answered stands own (λ owing. cc) (λ bytes held. refl) in
+      let end = closed_well awaited c i begun calls wire whole faultless well (IsArgsFor on start filter batch) closed count (length said) k pended o.last all.0 played turns o.close in
       record { all = end.0; answered = all.1; closes = end.1 }
 
-  unopened_well : (e : Error) → OpenFailed c i calls wire on start filter batch e → IsExcused (IsArgsFor on start filter batch) e
+  unopened_well : (e : Error) → OpenFailed c i calls wire on start filter batch e → its_excuses ⊥ e
   unopened_well e f =
-      opening_well (IsWatched well.history) (IsArgsFor on start filter batch) (size_fits on start filter batch small) (sent_at f.places calls wire) (serves c i 0 begun calls wire f.places whole faultless well f.sent) f.args f.args_are e f.fails
+      opening_well (IsWatched well.history) (IsArgsFor on start filter batch) (size_fits on start filter batch small) (IsHeard c i calls) (sent_at f.places calls wire) (serves c i 0 begun calls wire f.places whole faultless well f.sent) f.args f.args_are e f.fails
 
   follow_well : {A : Type 0} (opened : Ended A) (count k : ℕ) (pended : Bool) (said : List Answer) (token : Option Tree) (alive : Bool) (closed : Ended A) → FollowCaused awaited c i count calls wire on start filter batch opened said token alive closed → FollowPlayed opened closed count (length said) alive k pended → suc count ≤ k
-      → FollowWell (IsArgsFor on start filter batch) count opened said closed
+      → FollowWell its_excuses (FindsNothing c i calls well.history) count opened said closed
   follow_well ended.Unfinished count k pended said token alive closed caused played turns = let none_done = played.0 in omega arith
   follow_well (ended.Gave x) count k pended said token alive closed caused played turns = open_well count k pended said token alive closed caused played turns
   follow_well (ended.Failed e) count k pended said token alive closed caused played turns =
@@ -245,6 +392,16 @@ module _ (awaited : Awaited) (c : Course) (i : ℕ) (begun calls : List Call) (w
       ]
 
 -- ---- an insert
+
+-- a piece of documents has some, and no more than one command takes
+too_large : (at : Space) (sent piece : List Fields) (e : Error) → IsPiece sent piece → CannotBeInserted piece e ⊎ CannotBeSent (insert_command at piece) e → IsTooLarge piece e ⊎ CannotBeSent (insert_command at piece) e
+too_large at sent piece e part (inl (inl none)) = let some : 1 ≤ 0 = subst (λ (ds : List Fields). 1 ≤ length ds) none.1 part.some in absurd (omega arith)
+too_large at sent piece e part (inl (inr bad)) =
+    elim bad.1 [
+      | inl many ↦ let few = part.few in absurd (omega arith)
+      | inr some ↦ inl (bad.0, some)
+    ]
+too_large at sent piece e part (inr by) = inr by
 
 module _ (awaited : Awaited) (c : Course) (i : ℕ) (begun calls : List Call) (wire : ℤ) (whole : length begun ≡ c.begun) (faultless : Faultless begun calls) (well : AnswersWell c i calls) (ns : Space) (docs : List Fields) (named : IsNamed ns) (fresh : SendFresh well.own well.history) where
   module _ (places : List ℕ) (sent : AllSentIn c i 0 places) where
@@ -264,38 +421,113 @@ module _ (awaited : Awaited) (c : Course) (i : ℕ) (begun calls : List Call) (w
     insert_fails e (command_fails piece part fails) =
         inl (request_well (IsWatched well.history) (sent_at places calls wire) (insert_command ns piece) false (ListsFor piece) e served (inserting_none ns piece) (λ bytes heard success lists. never_listed piece bytes e.kind heard lists.1) fails)
     insert_fails e (cannot_encode d part by) = inr (inr (d, part, by))
-    insert_fails e (cannot_insert piece part by) = inr (inl (piece, part, by))
+    insert_fails e (cannot_insert piece part by) = inr (inl (piece, part, too_large ns docs piece e part by))
 
-  insert_well : (end : Ended ℕ) (k : ℕ) (last : Bool) → InsertEnds awaited c i calls wire ns docs end → InsertPlayed end k last → 1 ≤ k → InsertWell ns docs end
+  insert_well : (end : Ended ℕ) (k : ℕ) (last : Bool) → InsertEnds awaited c i calls wire ns docs end → InsertPlayed end k last → 1 ≤ k → EndsWell (IsExcusedInsert ns docs) end
   insert_well ended.Unfinished k last ends played turns = omega arith
   insert_well (ended.Gave n) k last ends played turns = tt
   insert_well (ended.Failed e) k last ends played turns = insert_fails ends.places ends.sent e ends.by
 
--- ---- the law
+-- ---- a job
 
-pub jobs_end_well : (awaited : Awaited) (c : Course) (i : ℕ) (begun calls : List Call) (wire : ℤ) (t : Task) (r : Outcome) → length begun ≡ c.begun → Faultless begun calls → OutcomeCaused awaited c i calls wire t r
+jobs_end_well : (awaited : Awaited) (c : Course) (i : ℕ) (begun calls : List Call) (wire : ℤ) (t : Task) (r : Outcome) → length begun ≡ c.begun → Faultless begun calls → OutcomeCaused awaited c i calls wire t r
     → IsPlayed t (turns_done i c.order c.notes) (pends_last i c.order c.notes) r → OutcomeWell c i calls t r
-jobs_end_well awaited c i begun calls wire (follow on count start filter batch) (outcome.Follow opened said token alive closed) whole faultless caused played = λ well small turns.
-    follow_well awaited c i begun calls wire whole faultless well on start filter batch small opened count (turns_done i c.order c.notes) (pends_last i c.order c.notes) said.items token alive closed caused played turns
-jobs_end_well awaited c i begun calls wire (follow on count start filter batch) (outcome.Insert e) whole faultless caused played = caused
-jobs_end_well awaited c i begun calls wire (follow on count start filter batch) (outcome.Put e) whole faultless caused played = caused
-jobs_end_well awaited c i begun calls wire (follow on count start filter batch) (outcome.Get bytes e) whole faultless caused played = caused
-jobs_end_well awaited c i begun calls wire (insert ns docs) (outcome.Insert end) whole faultless caused played = λ well named fresh turns.
-    insert_well awaited c i begun calls wire whole faultless well ns docs named fresh end (turns_done i c.order c.notes) (pends_last i c.order c.notes) caused played turns
-jobs_end_well awaited c i begun calls wire (insert ns docs) (outcome.Follow opened said token alive closed) whole faultless caused played = caused
-jobs_end_well awaited c i begun calls wire (insert ns docs) (outcome.Put e) whole faultless caused played = caused
-jobs_end_well awaited c i begun calls wire (insert ns docs) (outcome.Get bytes e) whole faultless caused played = caused
+jobs_end_well awaited c i begun calls wire (follow on count start filter batch) r whole faultless caused played =
+    let k : ℕ = turns_done i c.order c.notes in
+    let last : Bool = pends_last i c.order c.notes in
+    follow_both (λ opened said token alive closed. FollowCaused awaited c i count calls wire on start filter batch opened said.items token alive closed) (λ opened said token alive closed. FollowPlayed opened closed count (length said.items) alive k last)
+    (λ opened said token alive closed. (by : AnswersWell c i calls) → (SizePasses batch → ⊥) → suc count ≤ k → FollowWell (IsExcused (IsArgsFor on start filter batch) (IsHeard c i calls)) (FindsNothing c i calls by.history) count opened said.items closed)
+    (λ opened said token alive closed why plays well small turns. follow_well awaited c i begun calls wire whole faultless well on start filter batch small opened count k last said.items token alive closed why plays turns)
+    r caused played
+jobs_end_well awaited c i begun calls wire (insert ns docs) r whole faultless caused played =
+    let k : ℕ = turns_done i c.order c.notes in
+    let last : Bool = pends_last i c.order c.notes in
+    insert_both (λ end. InsertEnds awaited c i calls wire ns docs end) (λ end. InsertPlayed end k last) (λ end. (answers : AnswersWell c i calls) → IsNamed ns → SendFresh answers.own answers.history → 1 ≤ k → EndsWell (IsExcusedInsert ns docs) end)
+    (λ end why plays well named fresh turns. insert_well awaited c i begun calls wire whole faultless well ns docs named fresh end k last why plays turns)
+    r caused played
 jobs_end_well awaited c i begun calls wire (put db bucket name id chunk pieces) r whole faultless caused played = tt
 jobs_end_well awaited c i begun calls wire (get db bucket id read) r whole faultless caused played = tt
+
+-- ---- a job that fits the limits
+
+-- by other excuses, each of which is one of these
+module _ (excuses others : Excuses) (each : (short : Type 0) (e : Error) → excuses short e → others short e) where
+  ends_so : {A : Type 0} (end : Ended A) → EndsWell (excuses ⊥) end → EndsWell (others ⊥) end
+  ends_so ended.Unfinished well = well
+  ends_so (ended.Gave x) well = tt
+  ends_so (ended.Failed e) well = each ⊥ e well
+
+  answer_so : (short nothing : Type 0) (answer : Answer) → AnswerWell (excuses short) nothing answer → AnswerWell (others short) nothing answer
+  answer_so short nothing (answers.Event event) well = tt
+  answer_so short nothing answers.Nothing well = well
+  answer_so short nothing (answers.Failed e) well = each short e well
+
+  answers_so : (nothings : Nothings) (n : ℕ) (short : Type 0) (said : List Answer) → AnswersAreWell excuses nothings n short said → AnswersAreWell others nothings n short said
+  answers_so nothings n short [] well = tt
+  answers_so nothings n short (answer ∷ more) well = (answer_so short (nothings n short) answer well.0, answers_so nothings (suc n) (short ⊎ IsShort answer) more well.1)
+
+  follow_so : {A B : Type 0} (nothings : Nothings) (count : ℕ) (opened : Ended A) (said : List Answer) (closed : Ended B) → FollowWell excuses nothings count opened said closed → FollowWell others nothings count opened said closed
+  follow_so nothings count ended.Unfinished said closed well = well
+  follow_so nothings count (ended.Gave x) said closed well = record { all = well.all; answered = answers_so nothings 1 ⊥ said well.answered; closes = ends_so closed well.closes }
+  follow_so nothings count (ended.Failed e) said closed well = each ⊥ e well
+
+  outcome_so : (c : Course) (i : ℕ) (calls : List Call) (t : Task) (r : Outcome) → OutcomeEnds excuses c i calls t r → OutcomeEnds others c i calls t r
+  outcome_so c i calls (follow on count start filter batch) r well =
+      let k : ℕ = turns_done i c.order c.notes in
+      follow_both (λ opened said token alive closed. (by : AnswersWell c i calls) → (SizePasses batch → ⊥) → suc count ≤ k → FollowWell excuses (FindsNothing c i calls by.history) count opened said.items closed)
+      (λ opened said token alive closed. (by : AnswersWell c i calls) → (SizePasses batch → ⊥) → suc count ≤ k → FollowWell excuses (FindsNothing c i calls by.history) count opened said.items closed)
+      (λ opened said token alive closed. (by : AnswersWell c i calls) → (SizePasses batch → ⊥) → suc count ≤ k → FollowWell others (FindsNothing c i calls by.history) count opened said.items closed)
+      (λ opened said token alive closed ends again by small turns. follow_so (FindsNothing c i calls by.history) count opened said.items closed (ends by small turns)) r well well
+  outcome_so c i calls (insert ns docs) r well =
+      let k : ℕ = turns_done i c.order c.notes in
+      insert_both (λ end. (by : AnswersWell c i calls) → IsNamed ns → SendFresh by.own by.history → 1 ≤ k → EndsWell (excuses ⊥) end) (λ end. (by : AnswersWell c i calls) → IsNamed ns → SendFresh by.own by.history → 1 ≤ k → EndsWell (excuses ⊥) end)
+      (λ end. (by : AnswersWell c i calls) → IsNamed ns → SendFresh by.own by.history → 1 ≤ k → EndsWell (others ⊥) end) (λ end ends again by named fresh turns. ends_so end (ends by named fresh turns)) r well well
+  outcome_so c i calls (put db bucket name id chunk pieces) r well = tt
+  outcome_so c i calls (get db bucket id read) r well = tt
+
+-- a command that is sent where it is short
+any_short : (are_its : WatchArgs → Type 0) (heard : List ℕ → Type 0) (short : Type 0) (command : Fields) → IsOwnCommand are_its heard short command → IsOwnCommand are_its heard (Unit {0}) command
+any_short are_its heard short command (opens args its is) = opens args its is
+any_short are_its heard short command (resumes so a wire its known is) = resumes tt a wire its known is
+any_short are_its heard short command (asks args its id at own is) = asks args its id at own is
+any_short are_its heard short command (kills id at own is) = kills id at own is
+
+-- what is too large to be sent is too large to be stored
+stored_passes : (d : Fields) → PassesLimit max_len d → PassesLimit max_stored d
+stored_passes d (inl long) = inl (omega arith)
+stored_passes d (inr other) = inr other
+
+insert_memory : (ns : Space) (docs : List Fields) → ((piece : List Fields) → IsPiece docs piece → (SomePassLimit piece → ⊥) × (PassesLimit max_len (insert_command ns piece) → ⊥)) → (e : Error) → IsExcusedInsert ns docs e → e.kind ≡ kind.OutOfMemory
+insert_memory ns docs fit e (inl room) = room
+insert_memory ns docs fit e (inr (inl by)) =
+    let limits = fit by.0 by.1 in
+    elim by.2 [
+      | inl large ↦ absurd (limits.0 large.1)
+      | inr long ↦ absurd (limits.1 long.1)
+    ]
+insert_memory ns docs fit e (inr (inr by)) = absurd ((fit (by.0 ∷ []) by.1).0 (inl (stored_passes by.0 by.2.1)))
+
+fits_memory : (c : Course) (i : ℕ) (calls : List Call) (t : Task) → FitsLimits c i calls t → (short : Type 0) (e : Error) → own_excuses c i calls t short e → e.kind ≡ kind.OutOfMemory
+fits_memory c i calls (follow on count start filter batch) fit short e excused =
+    elim excused [
+      | inl room ↦ room
+      | inr by ↦ absurd (fit by.0 (any_short (IsArgsFor on start filter batch) (IsHeard c i calls) short by.0 by.1) by.2.1)
+    ]
+fits_memory c i calls (insert ns docs) fit short e excused = insert_memory ns docs fit e excused
+fits_memory c i calls (put db bucket name id chunk pieces) fit short e excused = excused
+fits_memory c i calls (get db bucket id read) fit short e excused = excused
+
+jobs_fit : (c : Course) (i : ℕ) (calls : List Call) (t : Task) (r : Outcome) → OutcomeWell c i calls t r → OutcomeFits c i calls t r
+jobs_fit c i calls t r well fit = outcome_so (own_excuses c i calls t) IsMemory (fits_memory c i calls t fit) c i calls t r well
+
+pub jobs_end : (awaited : Awaited) (c : Course) (i : ℕ) (begun calls : List Call) (wire : ℤ) (t : Task) (r : Outcome) → length begun ≡ c.begun → Faultless begun calls → OutcomeCaused awaited c i calls wire t r → IsPlayed t (turns_done i c.order c.notes) (pends_last i c.order c.notes) r → JobWell c i calls t r
+jobs_end awaited c i begun calls wire t r whole faultless caused played = let well = jobs_end_well awaited c i begun calls wire t r whole faultless caused played in (well, jobs_fit c i calls t r well)
 
 -- ---- a run
 
 -- the documents of an insert do not change how far it comes
 played_as_sent : (ids : ℕ → List ℕ) (ts : List Task) (order : List ℕ) (i : ℕ) (t : Task) (k : ℕ) (last : Bool) (r : Outcome) → IsPlayed t k last r → IsPlayed (as_sent ids ts order i t) k last r
-played_as_sent ids ts order i (insert ns docs) k last (outcome.Insert e) played = played
-played_as_sent ids ts order i (insert ns docs) k last (outcome.Follow opened answers token alive closed) played = played
-played_as_sent ids ts order i (insert ns docs) k last (outcome.Put e) played = played
-played_as_sent ids ts order i (insert ns docs) k last (outcome.Get bytes e) played = played
+played_as_sent ids ts order i (insert ns docs) k last r played = played
 played_as_sent ids ts order i (follow on count start filter batch) k last r played = played
 played_as_sent ids ts order i (put db bucket name id chunk pieces) k last r played = played
 played_as_sent ids ts order i (get db bucket id read) k last r played = played
@@ -309,7 +541,7 @@ all_well ids awaited log log' wire tasks order notes outcomes lossless caused pl
     let same : kept.0 ≡ by.0 = cc in (
       by.0,
       by.1,
-      (λ i t r ht hr. jobs_end_well awaited (course calls order notes) i calls by.0 wire (as_sent ids tasks order i t) r refl (subst (λ (cs : List Call). Faultless calls cs) same kept.2) (by.2 i t r ht hr) (played_as_sent ids tasks order i t (turns_done i order notes) (pends_last i order notes) r (played i t r ht hr))),
+      (λ i t r ht hr. jobs_end awaited (course calls order notes) i calls by.0 wire (as_sent ids tasks order i t) r refl (subst (λ (cs : List Call). Faultless calls cs) same kept.2) (by.2 i t r ht hr) (played_as_sent ids tasks order i t (turns_done i order notes) (pends_last i order notes) r (played i t r ht hr))),
     )
 
 -- the same of a run, unless memory ran out

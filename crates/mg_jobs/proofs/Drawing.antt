@@ -10,16 +10,16 @@ use Rattle.mg_link.specs.declared.error.Error.{Error}
 use Rattle.mg_script.specs.Plan as plan
 use Rattle.mg_script.specs.Plan.{Task}
 use Rattle.mg_ops.specs.Drawn.{AreLater, lacking, with_ids}
-use Rattle.mg_ops.proofs.Drawn.{ids_by, later_on, later_same}
-use Rattle.mg_jobs.specs.Drawing.{HadTurn, HaveDrawn, JobHadTurn, JobHasIds, as_sent, before_first, drawn_behind, drawn_in, draws, first_id, has_turn, next_draws, turn_draws}
-use Rattle.mg_jobs.specs.Headline.{AreFirst, DoTasks, Does, IsFirst}
+use Rattle.mg_ops.proofs.Drawn.{ids_by, ids_from, later_on, later_same}
+use Rattle.mg_jobs.specs.Drawing.{DrawsAs, HadTurn, HaveDrawn, JobHadTurn, JobHasIds, as_sent, before_first, drawn_behind, drawn_in, draws, first_id, has_turn, next_draws, sent_from, turn_draws}
+use Rattle.mg_jobs.specs.Headline.{AreFirst, DoTasks, IsFirst, task_of}
 use Rattle.mg_jobs.specs.Playing.{HasIds, inserts_ended}
 use Rattle.mg_jobs.specs.Runs.{has_ended}
-use Rattle.mg_jobs.specs.declared.player.InsertStage.{InsertStage}
-use Rattle.mg_jobs.specs.declared.player.InsertStage.TheVariants as inserts
-use Rattle.mg_jobs.specs.declared.run.Player.{Player}
+use Rattle.mg_jobs.specs.declared.insert.InsertStage.{InsertStage}
+use Rattle.mg_jobs.specs.declared.insert.InsertStage.TheVariants as inserts
+use Rattle.mg_jobs.specs.declared.player.Player.{Player}
 use Rattle.mg_script.specs.declared.outcome.Played.{Played}
-use Rattle.mg_jobs.specs.declared.run.Player.TheVariants as player
+use Rattle.mg_jobs.specs.declared.player.Player.TheVariants as player
 use Rattle.mg_jobs.proofs.Apart.{length_set}
 use Rattle.mg_jobs.proofs.Knowing.{one_more, take_next}
 
@@ -150,28 +150,11 @@ nothing_drawn : (b : Bool) (n : ℕ) → n ≡ 0 → n ≡ cond b 0 0
 nothing_drawn true n none = none
 nothing_drawn false n none = none
 
-job_draws : (b : Bool) (t : Task) (p : Player) → Does t p → JobHadTurn b p → turn_draws p ≡ cond b 0 (draws (Some t))
-job_draws b (plan.insert ns docs) (player.Insert job) does had = insert_draws b job.stage job.documents.now had ∙ ap (λ ds. cond b 0 (lacking ds)) does.1
-job_draws b (plan.insert ns docs) (player.Follow job) does had = absurd does
-job_draws b (plan.insert ns docs) player.Put does had = absurd does
-job_draws b (plan.insert ns docs) player.Get does had = absurd does
-job_draws b (plan.follow on calls start filter batch) (player.Follow job) does had = nothing_drawn b 0 refl
-job_draws b (plan.follow on calls start filter batch) (player.Insert job) does had = absurd does
-job_draws b (plan.follow on calls start filter batch) player.Put does had = absurd does
-job_draws b (plan.follow on calls start filter batch) player.Get does had = absurd does
-job_draws b (plan.put db bucket name id chunk pieces) player.Put does had = nothing_drawn b 0 refl
-job_draws b (plan.put db bucket name id chunk pieces) (player.Insert job) does had = absurd does
-job_draws b (plan.put db bucket name id chunk pieces) (player.Follow job) does had = absurd does
-job_draws b (plan.put db bucket name id chunk pieces) player.Get does had = absurd does
-job_draws b (plan.get db bucket id read) player.Get does had = nothing_drawn b 0 refl
-job_draws b (plan.get db bucket id read) (player.Insert job) does had = absurd does
-job_draws b (plan.get db bucket id read) (player.Follow job) does had = absurd does
-job_draws b (plan.get db bucket id read) player.Put does had = absurd does
-
-pub none_had : (s : InsertStage) → HadTurn false s → s ≡ inserts.Unsent
-none_had inserts.Unsent had = refl
-none_had (inserts.Goes i) had = absurd cc
-none_had (inserts.Ended e) had = absurd cc
+job_draws : (b : Bool) (p : Player) → JobHadTurn b p → turn_draws p ≡ cond b 0 (draws (Some (task_of p)))
+job_draws b (player.Insert job) had = insert_draws b job.stage job.documents.now had
+job_draws b (player.Follow job) had = nothing_drawn b 0 refl
+job_draws b (player.Put job) had = nothing_drawn b 0 refl
+job_draws b (player.Get job) had = nothing_drawn b 0 refl
 
 insert_over : (ids : ℕ → List ℕ) (s : InsertStage) (ds : List Fields) → inserts_ended s ≡ true → AreLater ids (next_draws s ds) ids
 insert_over ids inserts.Unsent ds ended = absurd cc
@@ -191,21 +174,30 @@ had_ids (inserts.Ended e) has = refl
 job_had : (p : Player) → JobHasIds p → JobHadTurn true p
 job_had (player.Insert job) has = had_ids job.stage has
 job_had (player.Follow job) has = tt
-job_had player.Put has = tt
-job_had player.Get has = tt
+job_had (player.Put job) has = tt
+job_had (player.Get job) has = tt
+
+-- what a job sends that has yet to draw its ids has those that the source gives next
+pub draws_as : (ids given : ℕ → List ℕ) (ts : List Task) (order : List ℕ) (j : ℕ) (p : Player) → AreLater ids (drawn_in ts order) given → JobHadTurn (has_turn j order) p → DrawsAs given p (sent_from ids (first_id ts order j) (task_of p))
+draws_as ids given ts order j (player.Insert job) stands had = λ unsent.
+    let none : has_turn j order ≡ false = subst (HadTurn (has_turn j order)) unsent had in
+    sym (ids_from ids given (drawn_in ts order) job.documents.now stands ∙ ap (λ n. with_ids ids n job.documents.now) (sym (id_next ts j order none)))
+draws_as ids given ts order j (player.Follow job) stands had = tt
+draws_as ids given ts order j (player.Put job) stands had = tt
+draws_as ids given ts order j (player.Get job) stands had = tt
 
 -- a job that has ended draws nothing more
 pub ended_draws : (ids : ℕ → List ℕ) (p : Player) → has_ended p ≡ true → AreLater ids (turn_draws p) ids
 ended_draws ids (player.Insert job) ended = insert_over ids job.stage job.documents.now ended
 ended_draws ids (player.Follow job) ended = later_same ids
-ended_draws ids player.Put ended = later_same ids
-ended_draws ids player.Get ended = later_same ids
+ended_draws ids (player.Put job) ended = later_same ids
+ended_draws ids (player.Get job) ended = later_same ids
 
 pub ended_has : (p : Player) → has_ended p ≡ true → JobHasIds p
 ended_has (player.Insert job) ended = over_has job.stage ended
 ended_has (player.Follow job) ended = tt
-ended_has player.Put ended = tt
-ended_has player.Get ended = tt
+ended_has (player.Put job) ended = tt
+ended_has (player.Get job) ended = tt
 
 -- ---- a run
 
@@ -214,7 +206,7 @@ pub drawn_on : (ids now later : ℕ → List ℕ) (ts : List Task) (order : List
 drawn_on ids now later ts order players k p p' there does draws_it has d =
     let within = get_within players k p there in
     let t = get_some ts k (omega (arith, within, d.jobs)) in
-    let many : turn_draws p ≡ cond (has_turn k order) 0 (draws (slice_get ts k)) = job_draws (has_turn k order) t.0 p (does k t.0 p t.1 there) (d.each k p there) ∙ ap (λ o. cond (has_turn k order) 0 (draws o)) (sym t.1) in
+    let many : turn_draws p ≡ cond (has_turn k order) 0 (draws (slice_get ts k)) = job_draws (has_turn k order) p (d.each k p there) ∙ ap (λ (u : Task). cond (has_turn k order) 0 (draws (Some u))) (sym (does k t.0 p t.1 there)) ∙ ap (λ o. cond (has_turn k order) 0 (draws o)) (sym t.1) in
     record {
       stands = subst (λ n. AreLater ids n later) (sym (drawn_turn ts k order (has_turn k order) (turn_draws p) refl many)) (later_on ids now later (drawn_in ts order) (turn_draws p) d.stands draws_it);
       jobs = length_set players k p' ∙ d.jobs;
@@ -229,8 +221,8 @@ drawn_on ids now later ts order players k p p' there does draws_it has d =
 first_had_none : (p : Player) → IsFirst p → JobHadTurn false p
 first_had_none (player.Insert job) first = subst (HadTurn false) (sym first) refl
 first_had_none (player.Follow job) first = tt
-first_had_none player.Put first = tt
-first_had_none player.Get first = tt
+first_had_none (player.Put job) first = tt
+first_had_none (player.Get job) first = tt
 
 -- Jobs that have done nothing have drawn nothing.
 pub drawn_first : (ids : ℕ → List ℕ) (ts : List Task) (players : List Player) → length players ≡ length ts → AreFirst players → HaveDrawn ids ids ts [] players

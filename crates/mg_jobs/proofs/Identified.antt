@@ -41,7 +41,7 @@ use Rattle.mg_change.specs.Causes.{BreaksBatch, CallEmpty, CallFailed, CallFails
 use Rattle.mg_change.specs.Causes as causes
 use Rattle.mg_change.specs.OpeningCauses.{Opened}
 use Rattle.mg_change.specs.Openings.{opening_command}
-use Rattle.mg_change.proofs.Reading.{named_read}
+use Rattle.mg_ops.proofs.Reading.{named_read}
 use Rattle.mg_jobs.specs.Causes.{Answered, sent_at}
 use Rattle.mg_jobs.specs.Follows.{poll_of}
 use Rattle.mg_script.specs.declared.outcome.Answer.{Answer}
@@ -72,6 +72,14 @@ record Taken (history : List Step) (command : Fields) (bytes : List ℕ) : Type 
   command_is : fields step.command ≡ command
   reply_is : bytes ≡ step.reply
 
+-- a cursor that is a watch's wherever it stands, behind so many steps
+pub watch_at : (history : List Step) (position : ℕ) (id : ℤ) → IsLegal history → (id ≢ pos 0 → IsWatched history id) → IsWatchOnly (state_of (take position history)) id
+watch_at history position id legal w c stood =
+    elim (cases_Bool (int_eq id (pos 0))) [
+      | inl none ↦ absurd (no_zero history position c legal (ap (λ (n : ℤ). (state_of (take position history)).cursors n) (sym ((Decides-int_eq id (pos 0)).0 none)) ∙ stood))
+      | inr some ↦ stays_watch history position id c legal (w (λ z. let is = (Decides-int_eq id (pos 0)).1 z in let bad : true ≡ false = sym is ∙ some in cc)) stood
+    ]
+
 module _ (history : List Step) (calls : List Call) (legal : IsLegal history) (stands : Stands calls history) (places : List ℕ) (wire : ℤ) where
   taken : (command : Fields) (bytes : List ℕ) → HeardBy (sent_at places calls wire) command (reply bytes) → Taken history command bytes
   taken command bytes h =
@@ -89,12 +97,7 @@ module _ (history : List Step) (calls : List Call) (legal : IsLegal history) (st
 
   -- a cursor that is a watch's wherever it stands
   watch_only : (command : Fields) (bytes : List ℕ) (t : Taken history command bytes) (id : ℤ) → (id ≢ pos 0 → IsWatched history id) → IsWatchOnly t.lawful.before id
-  watch_only command bytes t id w c h =
-      let stood : (state_of (take t.position history)).cursors id ≡ Some c = ap (λ (s : State). s.cursors id) (sym t.before_is) ∙ h in
-      elim (cases_Bool (int_eq id (pos 0))) [
-        | inl none ↦ absurd (no_zero history t.position c legal (ap (λ (n : ℤ). (state_of (take t.position history)).cursors n) (sym ((Decides-int_eq id (pos 0)).0 none)) ∙ stood))
-        | inr some ↦ stays_watch history t.position id c legal (w (λ z. let is = (Decides-int_eq id (pos 0)).1 z in let bad : true ≡ false = sym is ∙ some in cc)) stood
-      ]
+  watch_only command bytes t id w c h = watch_at history t.position id legal w c (ap (λ (s : State). s.cursors id) (sym t.before_is) ∙ h)
 
   opens_watch : (command : Fields) (bytes : List ℕ) (t : Taken history command bytes) → Opens t.step → Brings bytes × TellsWatch (IsWatched history) bytes
   opens_watch command bytes t o = (
@@ -271,7 +274,7 @@ module _ (watched : ℤ → Type 0) (are_its : WatchArgs → Type 0) (past : Pas
   cursor_lost c (causes.keeping resumed bytes upto r) = (replied_well resumed bytes c upto r).1
 
   -- how the stream stands behind it
-  failed_so : (after : Standing) (e : Error) → CallFails past at after e → (after.first ≡ None) × (after.owes ≡ false → HaveIds after.events) × IsItsCursor after.cursor
+  pub failed_so : (after : Standing) (e : Error) → CallFails past at after e → (after.first ≡ None) × (after.owes ≡ false → HaveIds after.events) × IsItsCursor after.cursor
   failed_so after e (causes.may_lose room owes may) = (owes.looked, λ quits. let is = owes.owes in absurd cc, cursor_lost after.cursor may)
   failed_so after e (causes.no_memory room stays) = let w = stays_well after stays in (w.0, λ quits. w.1, w.2)
   failed_so after e (causes.not_resumed owes why fails) = (owes.looked, λ quits. let is = owes.owes in absurd cc, cursor_left after.cursor why)

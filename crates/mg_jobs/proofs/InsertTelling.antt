@@ -17,15 +17,16 @@ use Rattle.mg_ops.specs.InsertCauses.{HasSent, InsertCaused, InsertFails, IsInse
 use Rattle.mg_jobs.specs.Playing.{end_of, inserts_ended, inserts_ticket}
 use Rattle.mg_jobs.specs.Progress.{InsertAt}
 use Rattle.mg_ops.specs.Drawn.{with_ids}
-use Rattle.mg_jobs.specs.Telling.{InsertBegins, InsertTells, InsertTurns, TellsOn}
+use Rattle.mg_jobs.specs.Telling.{InsertTells, InsertTurns, TellsOn}
+use Rattle.mg_jobs.specs.Drawing.{HadTurn}
 use Rattle.mg_ops.specs.Underway.{HasInserted, Inserts, IsStarted}
 use Rattle.mg_ops.specs.declared.inserting.Inserting.{Inserting}
 use Rattle.mg_script.specs.declared.outcome.Ended.{Ended}
 use Rattle.mg_script.specs.declared.outcome.Ended.TheVariants as ended
-use Rattle.mg_jobs.specs.declared.player.InsertStage.{InsertStage}
-use Rattle.mg_jobs.specs.declared.player.InsertStage.TheVariants as inserts
+use Rattle.mg_jobs.specs.declared.insert.InsertStage.{InsertStage}
+use Rattle.mg_jobs.specs.declared.insert.InsertStage.TheVariants as inserts
 use Rattle.mg_link.proofs.Adding.{adds_none}
-use Rattle.mg_ops.proofs.Appending.{appended_grown}
+use Rattle.mg_ops.proofs.Appending.{appended_grown, sent_length}
 use Rattle.mg_ops.proofs.InsertCauses.{insert_fails_grow, inserts_begin, inserts_grow}
 use Rattle.mg_ops.proofs.Sendings.{has_grown, started}
 
@@ -58,9 +59,9 @@ module _ (old new : Awaited) (log log' : Told) (wire : ℤ) (at : Space) (ds : L
     stage_adds (step.Pending i') caused calls calls' told told' places t,
   )
 
-  pub stage_done : (n : ℕ) → InsertCaused old new log log' wire i (step.Done n) → Inserts old new log log' i (step.Done n) → InsertTurns old new log log' wire at ds (inserts.Goes i) (inserts.Ended (ended.Gave n))
-  stage_done n caused sends calls calls' told told' places t = (
-    (λ named. let x = sends calls told places wire at ds named (t.1 named) in subst (λ (c : List Call). Appended (past_of places (length calls) c wire) at ds n) (same_some x.0 calls' (sym x.1 ∙ told')) x.2),
+  pub stage_done : (n : ℕ) → n ≡ length i.batches.documents.now → InsertCaused old new log log' wire i (step.Done n) → Inserts old new log log' i (step.Done n) → InsertTurns old new log log' wire at ds (inserts.Goes i) (inserts.Ended (ended.Gave n))
+  stage_done n count caused sends calls calls' told told' places t = (
+    (count ∙ sym (sent_length i.batches.drawn.items i.batches.documents.now) ∙ ap (λ (l : List Fields). length l) t.0.sent_is, λ named. let x = sends calls told places wire at ds named (t.1 named) in subst (λ (c : List Call). Appended (past_of places (length calls) c wire) at ds n) (same_some x.0 calls' (sym x.1 ∙ told')) x.2),
     stage_adds (step.Done n) caused calls calls' told told' places t,
   )
 
@@ -70,17 +71,11 @@ module _ (old new : Awaited) (log log' : Told) (wire : ℤ) (at : Space) (ds : L
     stage_adds (step.Failed e) caused calls calls' told told' places t,
   )
 
--- an insert that found its ids, and then took its turn
-pub ready_turns : (ids : ℕ → List ℕ) (old new : Awaited) (log log' : Told) (wire : ℤ) (at : Space) (ds sent : List Fields) (s other s' : InsertStage) → TellsOn ids at ds s other → InsertTurns old new log log' wire at sent other s' → InsertTurns old new log log' wire at sent s s'
-ready_turns ids old new log log' wire at ds sent inserts.Unsent other s' on turns = λ calls calls' told told' places t. absurd t
-ready_turns ids old new log log' wire at ds sent (inserts.Goes i) other s' on turns = subst (λ (x : InsertStage). InsertTurns old new log log' wire at sent x s') on turns
-ready_turns ids old new log log' wire at ds sent (inserts.Ended end) other s' on turns = subst (λ (x : InsertStage). InsertTurns old new log log' wire at sent x s') on turns
-
--- its first turn
-pub ready_begins : (ids : ℕ → List ℕ) (old new : Awaited) (log log' : Told) (wire : ℤ) (at : Space) (ds : List Fields) (s other s' : InsertStage) → s ≡ inserts.Unsent → TellsOn ids at ds s other → InsertTurns old new log log' wire at (with_ids ids 0 ds) other s' → InsertBegins new log log' wire at (with_ids ids 0 ds) s'
-ready_begins ids old new log log' wire at ds inserts.Unsent other s' is on turns = λ calls calls' told told' places. turns calls calls' told told' places (on old (sent_at places calls wire))
-ready_begins ids old new log log' wire at ds (inserts.Goes i) other s' is on turns = absurd cc
-ready_begins ids old new log log' wire at ds (inserts.Ended end) other s' is on turns = absurd cc
+-- An insert that got ready tells what it told, where these are the documents that it sends with the ids of its source.
+pub stage_on : (ids : ℕ → List ℕ) (at : Space) (ds sent : List Fields) (awaited : Awaited) (past : Past) (s s' : InsertStage) → TellsOn ids at ds s s' → (s ≡ inserts.Unsent → sent ≡ with_ids ids 0 ds) → InsertTells awaited past at sent s → InsertTells awaited past at sent s'
+stage_on ids at ds sent awaited past inserts.Unsent s' on drawn t = subst (λ (l : List Fields). InsertTells awaited past at l s') (sym (drawn refl)) (on awaited past)
+stage_on ids at ds sent awaited past (inserts.Goes i) s' on drawn t = subst (λ (x : InsertStage). InsertTells awaited past at sent x) (sym on) t
+stage_on ids at ds sent awaited past (inserts.Ended end) s' on drawn t = subst (λ (x : InsertStage). InsertTells awaited past at sent x) (sym on) t
 
 -- the same over the same wire version, by another name
 pub turns_over : (old new : Awaited) (log log' : Told) (wire wire' : ℤ) (at : Space) (ds : List Fields) (s s' : InsertStage) → wire' ≡ wire → InsertTurns old new log log' wire at ds s s' → InsertTurns old new log log' wire' at ds s s'
@@ -97,17 +92,23 @@ none_done (inserts.Ended end) done last at = inr refl
 module _ (past past' : Past) (grows : Grows past past') (at : Space) (ds : List Fields) where
   ends_grow : (end : Ended ℕ) → EndsBy past at ds end → EndsBy past' at ds end
   ends_grow ended.Unfinished t = tt
-  ends_grow (ended.Gave n) t = λ named. appended_grown past past' at ds n grows (t named)
+  ends_grow (ended.Gave n) t = (t.0, λ named. appended_grown past past' at ds n grows (t.1 named))
   ends_grow (ended.Failed e) t = insert_fails_grow past past' grows at ds e t
 
   pub insert_tells_grow : (old new : Awaited) (s : InsertStage) → ((m : ℕ) → inserts_ticket s ≡ Some m → new m ≡ old m) → InsertTells old past at ds s → InsertTells new past' at ds s
-  insert_tells_grow old new inserts.Unsent same t = absurd t
+  insert_tells_grow old new inserts.Unsent same t = tt
   insert_tells_grow old new (inserts.Goes i) same t = (inserts_grow past past' grows at ds old new i same t.0, λ named. has_grown old new past past' grows at ds i same (t.1 named))
   insert_tells_grow old new (inserts.Ended end) same t = ends_grow end t
+
+-- It tells the same of other documents before it had a turn.
+pub stage_of_others : (awaited : Awaited) (past : Past) (at : Space) (ds ds' : List Fields) (had : Bool) (s : InsertStage) → HadTurn had s → (had ≡ true → ds' ≡ ds) → InsertTells awaited past at ds s → InsertTells awaited past at ds' s
+stage_of_others awaited past at ds ds' had inserts.Unsent turn same t = tt
+stage_of_others awaited past at ds ds' had (inserts.Goes i) turn same t = subst (λ (l : List Fields). InsertTells awaited past at l (inserts.Goes i)) (sym (same turn)) t
+stage_of_others awaited past at ds ds' had (inserts.Ended end) turn same t = subst (λ (l : List Fields). InsertTells awaited past at l (inserts.Ended end)) (sym (same turn)) t
 
 -- ---- at the end
 
 pub ends_of : (awaited : Awaited) (past : Past) (at : Space) (ds : List Fields) (s : InsertStage) → InsertTells awaited past at ds s → EndsBy past at ds (end_of s)
-ends_of awaited past at ds inserts.Unsent t = absurd t
+ends_of awaited past at ds inserts.Unsent t = tt
 ends_of awaited past at ds (inserts.Goes i) t = tt
 ends_of awaited past at ds (inserts.Ended end) t = t

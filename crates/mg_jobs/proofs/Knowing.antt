@@ -7,22 +7,24 @@ use Rattle.mg_link.specs.Owner.{Owner, Holds, Onward, Passes, nobody}
 use Rattle.mg_link.proofs.Apart.{holds_nobody, passes_same}
 use Rattle.mg_link.proofs.Killing.{PassesPlain}
 use Rattle.mg_link.proofs.Runs.{OwnsNothing, apart_after, apart_at_first, others_onward}
-use Rattle.mg_link.specs.Namespace.{space, target}
+use Rattle.mg_bson.specs.Tree.{Fields}
+use Rattle.mg_link.specs.Namespace.{Space, Target, space, target}
 use Rattle.mg_link.specs.State.{Start, Watch}
 use Rattle.mg_link.proofs.Answering.{knows_new}
 use Rattle.mg_change.specs.Following.{not_open}
 use Rattle.mg_script.specs.Plan as plan
-use Rattle.mg_script.specs.Plan.{Task, begin, task, tasks}
+use Rattle.mg_script.specs.Plan.{Begin, Task, begin, task, tasks}
 use Rattle.mg_script.specs.declared.script.Job.{Job}
 use Rattle.mg_jobs.specs.Follows.{FollowKnows, FollowTurns, FollowsNothing, HasNothing, IsUnfinished, IsUnwatched, IsWatched, Placing, filter_in, same_place}
-use Rattle.mg_jobs.specs.Playing.{IsPlainInsert, IsPlainJob, IsSameFollow, IsSameInsert, job_ticket}
-use Rattle.mg_jobs.specs.Headline.{AllKnow, AreFirst, DoTasks, Does, IsFirst, IsSameTask, Knowing, Made, OutcomeOf, OutcomesOf, Plays, PlaysAt, Took, Turns}
-use Rattle.mg_jobs.specs.declared.player.FollowPlayer.{FollowPlayer}
-use Rattle.mg_jobs.specs.declared.player.Stage.{Stage}
-use Rattle.mg_jobs.specs.declared.player.Stage.TheVariants as stage
+use Rattle.mg_jobs.specs.Playing.{IsPlainInsert, IsPlainJob, IsSameFollow, job_ticket}
+use Rattle.mg_jobs.specs.Headline.{AllKnow, AreFirst, DoTasks, Does, IsFirst, IsSameTask, Knowing, Made, OutcomeOf, OutcomesOf, Plays, PlaysAt, Took, Turns, FollowPlays, InsertPlays, insert_task}
+use Rattle.mg_jobs.specs.Plays as words
+use Rattle.mg_jobs.specs.declared.follow.FollowPlayer.{FollowPlayer}
+use Rattle.mg_jobs.specs.declared.follow.Stage.{Stage}
+use Rattle.mg_jobs.specs.declared.follow.Stage.TheVariants as stage
 use Rattle.mg_jobs.specs.Runs.{AreApart, Goes}
-use Rattle.mg_jobs.specs.declared.run.Player.{Player}
-use Rattle.mg_jobs.specs.declared.run.Player.TheVariants as player
+use Rattle.mg_jobs.specs.declared.player.Player.{Player}
+use Rattle.mg_jobs.specs.declared.player.Player.TheVariants as player
 use Rattle.mg_link.proofs.Owners.{same_some}
 use Rattle.mg_link.proofs.Places.{get_past_other, get_set_other, get_set_same}
 use Rattle.mg_jobs.proofs.Apart.{stays, which}
@@ -32,23 +34,23 @@ use Rattle.mg_jobs.proofs.Turning.{SameParts, kept_follow, parts_knows, same_fol
 use Rattle.mg_jobs.proofs.Vainly.{kept_vain, same_vain, vain_parts}
 use Rattle.mg_jobs.proofs.Watched.{watch_or_nothing}
 use Rattle.mg_script.specs.declared.outcome.Outcome.{Outcome}
-use Rattle.mg_jobs.specs.declared.player.InsertPlayer.{InsertPlayer}
+use Rattle.mg_jobs.specs.declared.insert.InsertPlayer.{InsertPlayer}
 
 pub same_player : (old new : Awaited) (calls : List Call) (p : Player) (o : Owner) (at : Option ℕ) → ((m : ℕ) → job_ticket p ≡ Some m → new m ≡ old m) → Plays old calls p o at → Plays new calls p o at
 same_player old new calls (player.Insert job) o at same plays = plays
 same_player old new calls (player.Follow job) o at same (inl knows) = inl (same_follow old new calls job.stage job o at same knows)
 same_player old new calls (player.Follow job) o at same (inr vain) = inr (vain.0, same_vain old new calls job.stage job same vain.1)
-same_player old new calls player.Put o at same plays = plays
-same_player old new calls player.Get o at same plays = plays
+same_player old new calls (player.Put job) o at same plays = plays
+same_player old new calls (player.Get job) o at same plays = plays
 
 pub kept_player : (awaited : Awaited) (calls calls' : List Call) (p : Player) (o : Owner) (at : Option ℕ) → Onward calls calls' o → Plays awaited calls p o at → Plays awaited calls' p o at
 kept_player awaited calls calls' (player.Insert job) o at onward plays = plays
 kept_player awaited calls calls' (player.Follow job) o at onward (inl knows) = inl (kept_follow awaited calls calls' job.stage job o at onward knows)
 kept_player awaited calls calls' (player.Follow job) o at onward (inr vain) = inr (vain.0, kept_vain awaited calls calls' job.stage job (subst (Onward calls calls') vain.0 onward) vain.1)
-kept_player awaited calls calls' player.Put o at onward plays = plays
-kept_player awaited calls calls' player.Get o at onward plays = plays
+kept_player awaited calls calls' (player.Put job) o at onward plays = plays
+kept_player awaited calls calls' (player.Get job) o at onward plays = plays
 
-module _ (old new : Awaited) (log log' : Told) (wire : ℤ) (players : List Player) (k : ℕ) (p p' : Player) (at : slice_get players k ≡ Some p) (apart : AreApart old wire players) (goes : Goes old new log log' wire p p') where
+module _ {so : Task → Type 0} (old new : Awaited) (log log' : Told) (wire : ℤ) (players : List Player) (k : ℕ) (p p' : Player) (at : slice_get players k ≡ Some p) (apart : AreApart old wire players) (goes : Goes so old new log log' wire p p') where
   -- the places where streams were opened, behind the turn
   abbrev pub places_on : (ℕ → Option ℕ) → ℕ → Option ℕ
   places_on places i = cond (nat_eq i k) (goes.next (places k)) (places i)
@@ -94,13 +96,13 @@ module _ (old new : Awaited) (log log' : Told) (wire : ℤ) (players : List Play
 -- ---- turns of each kind
 
 -- an insert names no cursor, and leaves every other job alone
-pub turned_insert : (old new : Awaited) (log log' : Told) (job job' : InsertPlayer) → (IsPlainJob job → PassesPlain log log' × IsPlainJob job') → Turns old new log log' (player.Insert job) (player.Insert job') same_place
+pub turned_insert : (old new : Awaited) (log log' : Told) (job job' : InsertPlayer) → (IsPlainJob job → PassesPlain log log' × IsPlainJob job') → words.Turns InsertPlays old new log log' job job' same_place
 turned_insert old new log log' job job' plain calls told o at plays =
     let on = plain plays.1 in
     let m = on.0 calls told in
     (m.0, m.1, record { owner = nobody; plays = (refl, on.1); passes = subst (λ (x : Owner). Passes calls m.0 x nobody) (sym plays.0) m.2 })
 
-pub turned_follow : (old new : Awaited) (log log' : Told) (job job' : FollowPlayer) (next : Placing) → FollowTurns old new log log' job.stage job job'.stage job' next → Turns old new log log' (player.Follow job) (player.Follow job') next
+pub turned_follow : (old new : Awaited) (log log' : Told) (job job' : FollowPlayer) (next : Placing) → FollowTurns old new log log' job.stage job job'.stage job' next → words.Turns FollowPlays old new log log' job job' next
 turned_follow old new log log' job job' next turned calls told o at (inl knows) =
     let m = turned.watching calls told o at knows in
     (m.0, m.1, record { owner = m.2.owner; plays = inl m.2.knows; passes = m.2.passes })
@@ -112,8 +114,12 @@ holds_player : (awaited : Awaited) (calls : List Call) (p : Player) (o : Owner) 
 holds_player awaited calls (player.Insert job) o at plays = subst (Holds calls) (sym plays.0) (holds_nobody calls)
 holds_player awaited calls (player.Follow job) o at (inl knows) = subst (Holds calls) (sym knows.owns) knows.knows.owned
 holds_player awaited calls (player.Follow job) o at (inr vain) = subst (Holds calls) (sym vain.0) (holds_nobody calls)
-holds_player awaited calls player.Put o at plays = subst (Holds calls) (sym plays) (holds_nobody calls)
-holds_player awaited calls player.Get o at plays = subst (Holds calls) (sym plays) (holds_nobody calls)
+holds_player awaited calls (player.Put job) o at plays = subst (Holds calls) (sym plays) (holds_nobody calls)
+holds_player awaited calls (player.Get job) o at plays = subst (Holds calls) (sym plays) (holds_nobody calls)
+
+-- a job that owns no cursor, and does nothing
+pub turned_nobody : {P : Type 0} (awaited : Awaited) (log : Told) (p : P) → words.Turns (λ (a : Awaited) (cs : List Call) (q : P) (o : Owner) (at : Option ℕ). o ≡ nobody) awaited awaited log log p p same_place
+turned_nobody awaited log p calls told o at is = (calls, told, record { owner = o; plays = is; passes = passes_same calls o (subst (Holds calls) (sym is) (holds_nobody calls)) })
 
 -- a job that does nothing
 pub turned_not : (awaited : Awaited) (log : Told) (p p' : Player) → ((calls : List Call) (o : Owner) (at : Option ℕ) → Plays awaited calls p o at → Plays awaited calls p' o at) → Turns awaited awaited log log p p' same_place
@@ -127,7 +133,7 @@ turned_ready old new log log' p q p' next knows turned calls told o at plays = t
 same_parts : (f f' : FollowPlayer) → IsSameFollow f f' → SameParts f f'
 same_parts f f' same = record { watched = same.watched_same; opened = same.opened_same; answers = same.answers_same; token = same.token_same }
 
-pub same_knows : (f f' : FollowPlayer) → IsSameFollow f f' → (awaited : Awaited) (calls : List Call) (o : Owner) (at : Option ℕ) → Plays awaited calls (player.Follow f) o at → Plays awaited calls (player.Follow f') o at
+pub same_knows : (f f' : FollowPlayer) → IsSameFollow f f' → (awaited : Awaited) (calls : List Call) (o : Owner) (at : Option ℕ) → FollowPlays awaited calls f o at → FollowPlays awaited calls f' o at
 same_knows f f' same awaited calls o at (inl k) = inl (subst (λ s. FollowKnows awaited calls s f' o at) (sym same.stage_same) (parts_knows awaited calls f.stage f f' o at (same_parts f f' same) k))
 same_knows f f' same awaited calls o at (inr v) = inr (v.0, subst (λ s. FollowsNothing awaited calls s f') (sym same.stage_same) (vain_parts awaited calls f.stage f f' (same_parts f f' same) v.1))
 
@@ -155,8 +161,8 @@ owner_by job (inr none) = nobody
 abbrev first_owner : Player → Owner
 first_owner (player.Insert job) = nobody
 first_owner (player.Follow job) = owner_by job (watch_or_nothing (target job.watched.target.now) (begin job.watched.start.now) (filter_in job.watched))
-first_owner player.Put = nobody
-first_owner player.Get = nobody
+first_owner (player.Put job) = nobody
+first_owner (player.Get job) = nobody
 
 owns_none : OwnsNothing nobody
 owns_none = record { ids = λ x of. absurd of; coming = λ k of. absurd of }
@@ -175,8 +181,8 @@ owns_by job (inr none) = owns_none
 pub owns_first : (p : Player) → OwnsNothing (first_owner p)
 owns_first (player.Insert job) = owns_none
 owns_first (player.Follow job) = owns_by job (watch_or_nothing (target job.watched.target.now) (begin job.watched.start.now) (filter_in job.watched))
-owns_first player.Put = owns_none
-owns_first player.Get = owns_none
+owns_first (player.Put job) = owns_none
+owns_first (player.Get job) = owns_none
 
 at_first : (awaited : Awaited) (calls : List Call) (s : Stage) (p : FollowPlayer) (w : Watch) (start : Start) → s ≡ stage.Unopened → IsUnfinished p.opened → HasNothing p → IsWatched p.watched w start → FollowKnows awaited calls s p (record { ids = pos 0 ∷ pos 0 ∷ []; coming = None ∷ [] }) None
 at_first awaited calls stage.Unopened p w start is unfinished nothing watched =
@@ -209,8 +215,8 @@ plays_by awaited calls job (inr none) first = inr (refl, vain_first awaited call
 pub plays_first : (awaited : Awaited) (calls : List Call) (p : Player) → IsFirst p → Plays awaited calls p (first_owner p) None
 plays_first awaited calls (player.Insert job) first = (refl, subst (λ s. IsPlainInsert s) (sym first) tt)
 plays_first awaited calls (player.Follow job) first = plays_by awaited calls job (watch_or_nothing (target job.watched.target.now) (begin job.watched.start.now) (filter_in job.watched)) first
-plays_first awaited calls player.Put first = refl
-plays_first awaited calls player.Get first = refl
+plays_first awaited calls (player.Put job) first = refl
+plays_first awaited calls (player.Get job) first = refl
 
 pub get_length : {A B : Type 0} (xs : List A) (ys : List B) → length ys ≡ length xs → (i : ℕ) (y : B) → slice_get ys i ≡ Some y → (x : A) × (slice_get xs i ≡ Some x)
 get_length xs [] same i y h = absurd cc
@@ -234,18 +240,21 @@ knowing_first awaited log players first calls e = (calls, e, know_first awaited 
 -- ---- tasks
 
 -- an insert does the same task, however far it has come
-pub same_insert : (a b : InsertPlayer) → IsSameInsert a b → IsSameTask (player.Insert a) (player.Insert b)
-same_insert a b same (plan.insert ns docs) does = (ap (λ n. space n.now) same.0 ∙ does.0, ap (λ d. d.now) same.1 ∙ does.1)
-same_insert a b same (plan.follow on calls start filter batch) does = does
-same_insert a b same (plan.put db bucket name id chunk pieces) does = does
-same_insert a b same (plan.get db bucket id read) does = does
+pub same_insert : (a b : InsertPlayer) → b.ns ≡ a.ns → b.documents ≡ a.documents → insert_task b ≡ insert_task a
+same_insert a b ns documents = ap (λ n. plan.insert (space n.now) b.documents.now) ns ∙ ap (λ d. plan.insert (space a.ns.now) d.now) documents
 
-pub same_watch : (a b : FollowPlayer) → b.watched ≡ a.watched → IsSameTask (player.Follow a) (player.Follow b)
-same_watch a b same (plan.insert ns docs) does = does
-same_watch a b same (plan.follow on calls start filter batch) does =
-    subst (λ v. (target v.target.now ≡ on) × (begin v.start.now ≡ start) × (filter_in v ≡ filter) × (v.batch_size ≡ batch)) (sym same) does
-same_watch a b same (plan.put db bucket name id chunk pieces) does = does
-same_watch a b same (plan.get db bucket id read) does = does
+-- an insert of these documents, and a follow of this, do these tasks
+pub does_insert : (ns : Space) (docs : List Fields) (job : InsertPlayer) → space job.ns.now ≡ ns → job.documents.now ≡ docs → Does (plan.insert ns docs) (player.Insert job)
+does_insert ns docs job on these = sym (ap (λ (s : Space). plan.insert s job.documents.now) on ∙ ap (plan.insert ns) these)
+
+pub does_follow : (on : Target) (calls : ℕ) (start : Begin) (filter : Option Fields) (batch : Option ℕ) (job : FollowPlayer) → target job.watched.target.now ≡ on → job.watched.calls ≡ calls → begin job.watched.start.now ≡ start → filter_in job.watched ≡ filter → job.watched.batch_size ≡ batch → Does (plan.follow on calls start filter batch) (player.Follow job)
+does_follow on calls start filter batch job target_is calls_are start_is filter_is batch_is =
+    let v = job.watched in
+    sym (ap (λ (u : Target). plan.follow u v.calls (begin v.start.now) (filter_in v) v.batch_size) target_is
+    ∙ ap (λ (k : ℕ). plan.follow on k (begin v.start.now) (filter_in v) v.batch_size) calls_are
+    ∙ ap (λ (b : Begin). plan.follow on calls b (filter_in v) v.batch_size) start_is
+    ∙ ap (λ (f : Option Fields). plan.follow on calls start f v.batch_size) filter_is
+    ∙ ap (λ (b : Option ℕ). plan.follow on calls start filter b) batch_is)
 
 -- jobs of which one went on do the same tasks
 pub tasks_after : (players : List Player) (k : ℕ) (p p' : Player) → slice_get players k ≡ Some p → IsSameTask p p' → (ts : List Task) → DoTasks ts players → DoTasks ts (slice_set players k p')
@@ -254,7 +263,7 @@ tasks_after players k p p' at same ts does i t a ht ha =
       | inl e ↦
           let here : slice_get players i ≡ Some p = ap (slice_get players) e ∙ at in
           let is : p' ≡ a = same_some p' a (sym (get_set_same players k p p' at) ∙ ap (λ n. slice_get (slice_set players k p') n) (sym e) ∙ ha) in
-          subst (λ (x : Player). Does t x) is (same t (does i t p ht here))
+          subst (λ (x : Player). Does t x) is (does i t p ht here ∙ sym same)
       | inr ne ↦ does i t a ht (get_set_other players k i a p' ne ha)
     ]
 

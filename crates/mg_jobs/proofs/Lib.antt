@@ -1,4 +1,5 @@
 pub mod Endings
+pub mod Statuses
 pub mod Apart
 pub mod Tallies
 pub mod Orders
@@ -16,8 +17,12 @@ pub mod Prompting
 pub mod Batches
 pub mod Identified
 pub mod InsertWell
+pub mod Own
 pub mod Completing
+pub mod SaidTwice
 pub mod InsertTelling
+pub mod JobTelling
+pub mod Going
 pub mod Drawing
 pub mod OwnTickets
 pub mod Newest

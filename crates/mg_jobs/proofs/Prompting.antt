@@ -7,9 +7,9 @@ use Rattle.mg_link.specs.Events.{AsksForEvents, HaveIds}
 use Rattle.mg_link.specs.Exec.{IsSuccess}
 use Rattle.mg_link.specs.History.{Step, IsLegal, state_of, step_after, told_at}
 use Rattle.mg_link.specs.Namespace.{Space}
-use Rattle.mg_link.specs.Prompt.{AnswersAtOnce, IsPrompt, MeetsConcern}
+use Rattle.mg_link.specs.Prompt.{AnswersAtOnce, GivesSome, IsPrompt, MeetsConcern}
 use Rattle.mg_link.specs.Reply.{code_of, labels_of, verdict_of}
-use Rattle.mg_link.specs.State.{Cursor, query, Start, State, Watch, nothing}
+use Rattle.mg_link.specs.State.{Cursor, query, Start, State, Watch, nothing, watching}
 use Rattle.mg_link.specs.Standing.{OpensId}
 use Rattle.mg_link.specs.Step.{May, MayTell, grown}
 use Rattle.mg_link.specs.declared.reply.Verdict.{Verdict}
@@ -147,3 +147,21 @@ module _ (step : Step) (p : IsLawful step) (success : IsSuccess step.reply) wher
 
   pub more_brings : (id : ℤ) (space : Space) → IsWatchOnly p.before id → asked step.command ≡ asks_more id space → GoesOn step id
   more_brings id space only asks = more_by id space (batch_of (fields step.reply)) only asks refl
+
+-- ---- it gives what is there
+
+-- a getMore of a cursor that is a watch's, where it stands, gives no event only where none was left to be seen by that watch
+module _ (step : Step) (p : IsPrompted step) (success : IsSuccess step.reply) (id : ℤ) (space : Space) (batch : Batch) (only : IsWatchOnly p.before id) (asks : asked step.command ≡ asks_more id space) (there : batch_of (fields step.reply) ≡ Some batch) where
+  abbrev Stood : Watch → ℕ → Type 0
+  Stood w from = p.before.cursors id ≡ Some (watching w from)
+
+  stood_by : MayTell p.before (grown p.before step.made) (asks_more id space) (gave_by batch) step.made → (w : Watch) × (from : ℕ) × Stood w from
+  stood_by (inl may) = (may.watch, may.at, may.stood)
+  stood_by (inr may) = absurd (only (query may.space (batch.events ++ may.left)) may.stood)
+
+  pub more_gives : (w : Watch) × (from : ℕ) × Stood w from × GivesSome p.before w from batch.events
+  more_gives =
+      let said = giving_heard step id space step.reply batch asks refl (record { success = success; batch_is = there }) in
+      let stood = stood_by (may_tell step (lawful step p) (asks_more id space) (gave_by batch) asks said) in
+      let prompt = subst (λ (c : Asked). AnswersAtOnce p.before (step_after p.before step) c (gave_by batch)) asks (subst (λ (t : Told). AnswersAtOnce p.before (step_after p.before step) (asked step.command) t) said p.prompt) in
+      (stood.0, stood.1, stood.2, (prompt.0 stood.0 stood.1 stood.2).0)

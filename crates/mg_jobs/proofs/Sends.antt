@@ -32,10 +32,9 @@ use Rattle.mg_change.specs.declared.stream.Phase.{Phase}
 use Rattle.mg_change.specs.declared.stream.Phase.TheVariants as phase
 use Rattle.mg_link.specs.Errors.{command_code}
 use Rattle.mg_jobs.specs.Causes.{Answered, Course, SentIn, sent_at}
-use Rattle.mg_jobs.specs.Completing.{IsCommandOf, asks, kills, opens, resumes}
 use Rattle.mg_jobs.specs.Drawing.{has_turn}
 use Rattle.mg_jobs.specs.Follows.{poll_of}
-use Rattle.mg_jobs.specs.Sends.{SendsOnly}
+use Rattle.mg_jobs.specs.Sends.{IsCommandOf, SendsOnly, asks, kills, opens, resumes}
 use Rattle.mg_script.specs.declared.outcome.Answer.{Answer}
 use Rattle.mg_script.specs.declared.outcome.Answer.TheVariants as answers
 use Rattle.mg_script.specs.declared.outcome.Turned.{Turned}
@@ -217,15 +216,6 @@ module _ (may : Fields → Type 0) (begun : ℕ) (order : List ℕ) (notes : Lis
     each = λ k place call sent there. elim (sent_before begun order notes j note abreast j k place sent) [
       | inl before ↦ (let below = sent_below was j k place before in sent_was j k place call adds.keeps sends before (omega (arith, below, count)) there)
       | inr mine ↦ (let low = mine.1 in adds.added place call (omega (arith, low, count)) there)
-    ];
-  }
-
-  -- one in which nothing was sent
-  pub sends_quiet : note.started ≡ 0 → Keeps calls calls' → SendsOnly may was j calls → SendsOnly may is j calls'
-  sends_quiet quiet keeps sends = record {
-    each = λ k place call sent there. elim (sent_before begun order notes j note abreast j k place sent) [
-      | inl before ↦ (let below = sent_below was j k place before in sent_was j k place call keeps sends before (omega (arith, below, count)) there)
-      | inr mine ↦ (let low = mine.1 in let high = mine.2 in absurd (omega (arith, low, high, quiet)))
     ];
   }
 

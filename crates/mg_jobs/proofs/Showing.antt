@@ -1,27 +1,22 @@
 -- A turn that was shown its own tickets alone is one over all of them.
 use Rattle.std.proofs.Common.{◌≡◌, ◌⊎◌, ℕ, ℤ, List, true, false, Option, Some, None, refl, sym, ap, ◌∙◌, subst, inl, inr}
 use Rattle.std.specs.Prelude.{is_some, IsSome}
-use Rattle.mg_bson.specs.Tree.{Fields}
 use Rattle.mg_link.specs.Acts.{Tickets}
-use Rattle.mg_link.specs.Calls.{Grows, Keeps, Past, past_of}
+use Rattle.mg_link.specs.Calls.{Keeps}
 use Rattle.mg_link.specs.Link.{Awaited, Told}
 use Rattle.mg_link.specs.Log.{Call}
-use Rattle.mg_link.specs.Namespace.{Space, space}
-use Rattle.mg_jobs.specs.Causes.{sent_at}
 use Rattle.mg_jobs.specs.Counts.{OthersStay, is_held, shown}
 use Rattle.mg_jobs.specs.Follows.{Placing}
-use Rattle.mg_jobs.specs.Headline.{Turns}
-use Rattle.mg_jobs.specs.Playing.{inserts_ticket, job_ticket, stage_ticket}
+use Rattle.mg_jobs.specs.Drawing.{sent_from}
+use Rattle.mg_jobs.specs.Headline.{Turns, task_of}
+use Rattle.mg_jobs.specs.Playing.{job_ticket}
 use Rattle.mg_jobs.specs.Runs.{Goes}
-use Rattle.mg_jobs.specs.Telling.{FollowTells, InsertTurns, JobTells, Kept}
-use Rattle.mg_jobs.specs.declared.player.InsertStage.{InsertStage}
-use Rattle.mg_jobs.specs.declared.player.Stage.{Stage}
-use Rattle.mg_jobs.specs.declared.run.Player.{Player}
-use Rattle.mg_jobs.specs.declared.run.Player.TheVariants as player
-use Rattle.mg_jobs.proofs.InsertTelling.{insert_tells_grow}
+use Rattle.mg_jobs.specs.Telling.{TurnTells}
+use Rattle.mg_script.specs.Plan.{Task}
+use Rattle.mg_jobs.specs.declared.player.Player.{Player}
+use Rattle.mg_jobs.proofs.JobTelling.{job_later}
 use Rattle.mg_jobs.proofs.Knowing.{same_player}
 use Rattle.mg_jobs.proofs.OwnTickets.{cases_held, held_is, is_held_so, none_is_not, shown_held, shown_new, shown_out, shown_own}
-use Rattle.mg_jobs.proofs.Telling.{tells_later}
 
 -- ---- other tickets, and the same log
 
@@ -32,9 +27,6 @@ Agree ticket old new = (m : ℕ) → ticket ≡ Some m → new m ≡ old m
 keeps_same : (calls : List Call) → Keeps calls calls
 keeps_same calls place call there = (call, there, refl, λ seen. refl)
 
-grows_same : (past : Past) → Grows past past
-grows_same past = record { own = λ place call there own. own; keeps = keeps_same past.calls; wire = refl }
-
 module _ (old old' new new' : Awaited) (log log' : Told) where
   turns_agree : (p p' : Player) (next : Placing) → Agree (job_ticket p) old old' → Agree (job_ticket p') new new' → Turns old' new log log' p p' next → Turns old new' log log' p p' next
   turns_agree p p' next before after turns calls told o at plays =
@@ -42,27 +34,11 @@ module _ (old old' new new' : Awaited) (log log' : Told) where
       (r.0, r.1, record { owner = r.2.owner; plays = same_player new new' r.0 p' r.2.owner (next at) after r.2.plays; passes = r.2.passes })
 
   module _ (wire : ℤ) where
-    follow_agrees : (s : Stage) (k : Kept) (s' : Stage) (k' : Kept) (next : Placing) → Agree (stage_ticket s) old old' → Agree (stage_ticket s') new new' → FollowTells old' new log log' wire s k s' k' next → FollowTells old new' log log' wire s k s' k' next
-    follow_agrees s k s' k' next before after tells calls calls' is is' q at told =
-        let r = tells calls calls' is is' q at (tells_later old old' calls calls wire q s k at (keeps_same calls) before told) in
-        record { longer = r.longer; places = r.places; tells = tells_later new new' calls' calls' wire r.places s' k' (next at) (keeps_same calls') after r.tells; extends = r.extends; adds = r.adds }
-
-    insert_agrees : (at : Space) (sent : List Fields) (s s' : InsertStage) → Agree (inserts_ticket s) old old' → Agree (inserts_ticket s') new new' → InsertTurns old' new log log' wire at sent s s' → InsertTurns old new' log log' wire at sent s s'
-    insert_agrees at sent s s' before after turns calls calls' is is' places told =
-        let r = turns calls calls' is is' places (insert_tells_grow (sent_at places calls wire) _ (grows_same _) at sent old old' s before told) in
-        (insert_tells_grow (past_of places _ calls' wire) _ (grows_same _) at sent new new' s' after r.0, r.1)
-
-    tells_agree : (p p' : Player) (next : Placing) → Agree (job_ticket p) old old' → Agree (job_ticket p') new new' → JobTells old' new log log' wire p p' next → JobTells old new' log log' wire p p' next
-    tells_agree (player.Follow job) (player.Follow job') next before after told = (told.0, follow_agrees job.stage _ job'.stage _ next before after told.1)
-    tells_agree (player.Follow job) (player.Insert job') next before after told = told
-    tells_agree (player.Follow job) player.Put next before after told = told
-    tells_agree (player.Follow job) player.Get next before after told = told
-    tells_agree (player.Insert job) (player.Insert job') next before after told = (told.0, λ sent. insert_agrees (space job.ns.now) sent job.stage job'.stage before after (told.1 sent))
-    tells_agree (player.Insert job) (player.Follow job') next before after told = told
-    tells_agree (player.Insert job) player.Put next before after told = told
-    tells_agree (player.Insert job) player.Get next before after told = told
-    tells_agree player.Put p' next before after told = told
-    tells_agree player.Get p' next before after told = told
+    tells_agree : (so : Task → Type 0) (p p' : Player) (next : Placing) → Agree (job_ticket p) old old' → Agree (job_ticket p') new new' → TurnTells so old' new log log' wire p p' next → TurnTells so old new' log log' wire p p' next
+    tells_agree so p p' next before after turn calls calls' is is' ids n may q at told =
+        let t : Task = sent_from ids n (task_of p) in
+        let r = turn calls calls' is is' ids n may q at (job_later t old old' calls calls wire q p at (keeps_same calls) before told) in
+        record { longer = r.longer; places = r.places; tells = job_later t new new' calls' calls' wire r.places p' (next at) (keeps_same calls') after r.tells; extends = r.extends; adds = r.adds }
 
 -- ---- the tickets of a turn
 
@@ -113,8 +89,8 @@ module _ (held : Option ℕ) (began new : Awaited) (others : OthersStay held beg
       only = only_shown;
     }
 
-pub goes_shown : (held : Option ℕ) (began new : Awaited) (log log' : Told) (wire : ℤ) (p p' : Player) → job_ticket p ≡ held → OthersStay held began new → Goes (shown held began began) (shown held began new) log log' wire p p' → Goes began new log log' wire p p'
-goes_shown held began new log log' wire p p' mine others goes =
+pub goes_shown : (so : Task → Type 0) (held : Option ℕ) (began new : Awaited) (log log' : Told) (wire : ℤ) (p p' : Player) → job_ticket p ≡ held → OthersStay held began new → Goes so (shown held began began) (shown held began new) log log' wire p p' → Goes so began new log log' wire p p'
+goes_shown so held began new log log' wire p p' mine others goes =
     let t = subst (λ (o : Option ℕ). Tickets (shown held began began) (shown held began new) o (job_ticket p')) mine goes.tickets in
     let before = λ (m : ℕ) (e : job_ticket p ≡ Some m). shown_held held began began m (sym mine ∙ e) in
     let after = λ (m : ℕ) (e : job_ticket p' ≡ Some m). sym (shown_out held began new m (t.held m e)) in
@@ -123,6 +99,7 @@ goes_shown held began new log log' wire p p' mine others goes =
       holds = goes.holds;
       next = goes.next;
       turned = turns_agree began (shown held began began) (shown held began new) new log log' p p' goes.next before after goes.turned;
-      told = tells_agree began (shown held began began) (shown held began new) new log log' wire p p' goes.next before after goes.told;
+      told = tells_agree began (shown held began began) (shown held began new) new log log' wire so p p' goes.next before after goes.told;
       task = goes.task;
+      has = goes.has;
     }

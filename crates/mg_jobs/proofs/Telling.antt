@@ -40,17 +40,18 @@ use Rattle.mg_change.proofs.Causes.{begins}
 use Rattle.mg_change.proofs.ClosingCauses.{kill_done_grows, kill_fails_grows, kills_grows}
 use Rattle.mg_change.proofs.OpeningCauses.{opened_grows, opening_fails_grows, opens_grows}
 use Rattle.mg_jobs.specs.Causes.{Answered, ClosedBy, IsAlive, sent_at}
-use Rattle.mg_jobs.specs.Completing.{IsCommandOf}
+use Rattle.mg_jobs.specs.Sends.{IsCommandOf}
 use Rattle.mg_jobs.specs.Follows.{HasGiven, Placing, poll_of, same_place}
 use Rattle.mg_jobs.specs.Playing.{stage_ticket}
-use Rattle.mg_jobs.specs.Telling.{Extends, FollowTells, IsNow, IsOpened, IsWatchArgs, Kept, Places, RestTells, Tell, Tells, TellsEnd, TellsFailed, TellsOpen, number}
+use Rattle.mg_jobs.specs.Plays.{Extends, IsNow, Places}
+use Rattle.mg_jobs.specs.Telling.{FollowTells, IsOpened, IsWatchArgs, Kept, RestTells, Tell, Tells, TellsEnd, TellsFailed, TellsOpen, number}
 use Rattle.mg_script.specs.declared.outcome.Answer.{Answer}
 use Rattle.mg_script.specs.declared.outcome.Answer.TheVariants as answers
 use Rattle.mg_script.specs.declared.outcome.Ended.{Ended}
 use Rattle.mg_script.specs.declared.outcome.Ended.TheVariants as ended
-use Rattle.mg_jobs.specs.declared.player.Stage.{Stage}
-use Rattle.mg_jobs.specs.declared.player.Stage.TheVariants as stage
-use Rattle.mg_jobs.specs.declared.player.Watched.{Watched}
+use Rattle.mg_jobs.specs.declared.follow.Stage.{Stage}
+use Rattle.mg_jobs.specs.declared.follow.Stage.TheVariants as stage
+use Rattle.mg_jobs.specs.declared.follow.Watched.{Watched}
 use Rattle.mg_link.proofs.Adding.{adds_none, adds_on}
 use Rattle.mg_jobs.proofs.Sends.{call_adds, closing_adds, opening_adds}
 
@@ -235,8 +236,8 @@ tell_on new begun mid calls wire v q q' n s k at room extends adds t =
     }
 
 -- nothing was sent, and what goes on does so
-extends_same : (q : Places) (n from : ℕ) → Extends q q n n from from
-extends_same q n from = record { opened = λ place of. inl of; owns = λ k own there. inl there; now = λ place of. (refl, inl of) }
+pub extends_same : (q : Places) (n n' from : ℕ) → n' ≡ n → Extends q q n n' from from
+extends_same q n n' from same = record { opened = λ place of. inl of; owns = λ k own there. inl there; now = λ place of. (same, inl of) }
 
 -- nothing goes on
 extends_rest : (q : Places) (n n' from : ℕ) → q.now ≡ [] → Extends q q n n' from from
@@ -246,7 +247,7 @@ extends_rest q n n' from none = record { opened = λ place of. inl of; owns = λ
 abbrev pub going_on : Places → ℕ → ℕ → Places
 going_on q from upto = record q { now = sent_since q.now from upto }
 
-extends_going : (q : Places) (n n' from upto : ℕ) → n' ≡ n → from ≤ upto → Extends q (going_on q from upto) n n' from upto
+pub extends_going : (q : Places) (n n' from upto : ℕ) → n' ≡ n → from ≤ upto → Extends q (going_on q from upto) n n' from upto
 extends_going q n n' from upto same room = record { opened = λ place of. inl of; owns = λ k own there. inl there; now = λ place of. (same, since_is q.now from upto place room of) }
 
 -- the opening has ended
@@ -291,7 +292,7 @@ tell_same awaited log wire calls calls' told told' q n s k at v t extends =
     subst (λ (c : List Call). Tell awaited calls c wire v q n s k at) (same_told log calls calls' told told') (record { longer = omega arith; places = q; tells = t; extends = extends; adds = adds_none (IsCommandOf (IsWatchArgs v)) calls })
 
 pub tells_same : (awaited : Awaited) (log : Told) (wire : ℤ) (s : Stage) (k : Kept) → FollowTells awaited awaited log log wire s k s k same_place
-tells_same awaited log wire s k calls calls' told told' q at t = tell_same awaited log wire calls calls' told told' q (number s k) s k at k.watched t (extends_same q (number s k) (length calls))
+tells_same awaited log wire s k calls calls' told told' q at t = tell_same awaited log wire calls calls' told told' q (number s k) s k at k.watched t (extends_same q (number s k) (number s k) (length calls) refl)
 
 -- the same stage by another name
 pub tells_at : (old new : Awaited) (log log' : Told) (wire : ℤ) (s s0 : Stage) (k : Kept) (s' s1 : Stage) (k' : Kept) (next : Placing) → s ≡ s0 → s1 ≡ s' → FollowTells old new log log' wire s k s' k' next → FollowTells old new log log' wire s0 k s1 k' next

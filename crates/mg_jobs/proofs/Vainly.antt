@@ -21,9 +21,9 @@ use Rattle.mg_jobs.specs.Follows.{EndsSo, FollowsNothing, HasGiven, HasNothing, 
 use Rattle.mg_jobs.specs.Playing.{stage_ticket}
 use Rattle.mg_script.specs.declared.outcome.Ended.{Ended}
 use Rattle.mg_script.specs.declared.outcome.Ended.TheVariants as ended
-use Rattle.mg_jobs.specs.declared.player.FollowPlayer.{FollowPlayer}
-use Rattle.mg_jobs.specs.declared.player.Stage.{Stage}
-use Rattle.mg_jobs.specs.declared.player.Stage.TheVariants as stage
+use Rattle.mg_jobs.specs.declared.follow.FollowPlayer.{FollowPlayer}
+use Rattle.mg_jobs.specs.declared.follow.Stage.{Stage}
+use Rattle.mg_jobs.specs.declared.follow.Stage.TheVariants as stage
 use Rattle.mg_jobs.proofs.Turning.{KeepsNothing, KeepsOpen, SameParts, ends_given, never_opened, nothing_kept, parts_order, unfinished_not_given}
 
 -- ---- others

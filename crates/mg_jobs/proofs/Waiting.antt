@@ -15,7 +15,8 @@ use Rattle.mg_link.proofs.Owners.{same_some}
 use Rattle.mg_link.proofs.Places.{get_past_other, get_seam, get_set_same}
 use Rattle.mg_change.proofs.Awaiting.{call_own, kill_own, opening_own}
 use Rattle.mg_jobs.specs.Causes.{AllSentIn, AllWaitAlone, Course, WaitsAlone, SentIn, course, sent_at}
-use Rattle.mg_jobs.specs.Drawing.{HadTurn, HaveDrawn, JobHadTurn, first_id, has_turn}
+use Rattle.mg_ops.specs.Drawn.{with_ids}
+use Rattle.mg_jobs.specs.Drawing.{HaveDrawn, first_id}
 use Rattle.mg_ops.proofs.InsertCauses.{insert_own}
 use Rattle.mg_jobs.specs.Playing.{inserts_ticket, job_ticket, stage_ticket}
 use Rattle.mg_jobs.specs.Progress.{AllAt, Came, FollowAt, InsertAt, IsAt, calls_of, came, pends_last, turns_done}
@@ -24,12 +25,12 @@ use Rattle.mg_jobs.specs.Telling.{AllTell, AllTold, FollowTold, InsertTells, Job
 use Rattle.mg_script.specs.Plan.{Task}
 use Rattle.mg_script.specs.declared.outcome.Played.{Played}
 use Rattle.mg_script.specs.declared.outcome.Turned.{Turned}
-use Rattle.mg_jobs.specs.declared.player.InsertStage.{InsertStage}
-use Rattle.mg_jobs.specs.declared.player.InsertStage.TheVariants as inserts
-use Rattle.mg_jobs.specs.declared.player.Stage.{Stage}
-use Rattle.mg_jobs.specs.declared.player.Stage.TheVariants as stage
-use Rattle.mg_jobs.specs.declared.run.Player.{Player}
-use Rattle.mg_jobs.specs.declared.run.Player.TheVariants as player
+use Rattle.mg_jobs.specs.declared.insert.InsertStage.{InsertStage}
+use Rattle.mg_jobs.specs.declared.insert.InsertStage.TheVariants as inserts
+use Rattle.mg_jobs.specs.declared.follow.Stage.{Stage}
+use Rattle.mg_jobs.specs.declared.follow.Stage.TheVariants as stage
+use Rattle.mg_jobs.specs.declared.player.Player.{Player}
+use Rattle.mg_jobs.specs.declared.player.Player.TheVariants as player
 use Rattle.mg_jobs.proofs.Knowing.{get_length}
 use Rattle.mg_jobs.proofs.Newest.{started_in}
 
@@ -109,8 +110,8 @@ follow_pended calls stage.Ended c k last ticket at holds = absurd cc
 pub job_pended : (calls : ℕ) (p : Player) (k : ℕ) (last : Bool) (ticket : ℕ) → IsAt calls p k last → job_ticket p ≡ Some ticket → last ≡ true
 job_pended calls (player.Insert job) k last ticket at holds = insert_pended job.stage k last ticket at holds
 job_pended calls (player.Follow job) k last ticket at holds = follow_pended calls job.stage (came job) k last ticket at holds
-job_pended calls player.Put k last ticket at holds = absurd cc
-job_pended calls player.Get k last ticket at holds = absurd cc
+job_pended calls (player.Put job) k last ticket at holds = absurd cc
+job_pended calls (player.Get job) k last ticket at holds = absurd cc
 
 -- the call of its ticket is one that it sent
 pub record SentOwn (awaited : Awaited) (c : Course) (i ticket : ℕ) : Type 0 where
@@ -141,17 +142,17 @@ follow_own awaited calls wire c i (stage.Closes closing) k at ticket t holds =
     sent_own awaited c i (number (stage.Closes closing) k) t.places.now calls wire ticket t.sent.now (kill_own awaited (sent_at t.places.now calls wire) t.tells.0.cursor (pos 0) closing.flight ticket t.tells.5 holds)
 follow_own awaited calls wire c i stage.Ended k at ticket t holds = absurd cc
 
-stage_own : (awaited : Awaited) (past : Past) (at : Space) (sent : List Fields) (had : Bool) (s : InsertStage) (ticket : ℕ) → HadTurn had s → (had ≡ true → InsertTells awaited past at sent s) → inserts_ticket s ≡ Some ticket → HoldsOwn awaited past ticket
-stage_own awaited past at sent had inserts.Unsent ticket turn tells holds = absurd cc
-stage_own awaited past at sent had (inserts.Goes i) ticket turn tells holds = insert_own awaited past at sent i ticket (tells turn).0 holds
-stage_own awaited past at sent had (inserts.Ended e) ticket turn tells holds = absurd cc
+stage_own : (awaited : Awaited) (past : Past) (at : Space) (sent : List Fields) (s : InsertStage) (ticket : ℕ) → InsertTells awaited past at sent s → inserts_ticket s ≡ Some ticket → HoldsOwn awaited past ticket
+stage_own awaited past at sent inserts.Unsent ticket tells holds = absurd cc
+stage_own awaited past at sent (inserts.Goes i) ticket tells holds = insert_own awaited past at sent i ticket tells.0 holds
+stage_own awaited past at sent (inserts.Ended e) ticket tells holds = absurd cc
 
-pub job_own : (ids : ℕ → List ℕ) (first : ℕ) (awaited : Awaited) (calls : List Call) (wire : ℤ) (c : Course) (i : ℕ) (p : Player) (at : Option ℕ) (ticket : ℕ) → JobHadTurn (has_turn i c.order) p → JobTold ids first awaited calls wire c i p at → job_ticket p ≡ Some ticket → SentOwn awaited c i ticket
-job_own ids first awaited calls wire c i (player.Insert job) at ticket had t holds =
-    sent_own awaited c i 0 t.places calls wire ticket t.sent (stage_own awaited (sent_at t.places calls wire) (space job.ns.now) _ (has_turn i c.order) job.stage ticket had t.tells holds)
-job_own ids first awaited calls wire c i (player.Follow job) at ticket had t holds = follow_own awaited calls wire c i job.stage (kept job) at ticket t holds
-job_own ids first awaited calls wire c i player.Put at ticket had t holds = absurd cc
-job_own ids first awaited calls wire c i player.Get at ticket had t holds = absurd cc
+pub job_own : (ids : ℕ → List ℕ) (first : ℕ) (awaited : Awaited) (calls : List Call) (wire : ℤ) (c : Course) (i : ℕ) (p : Player) (at : Option ℕ) (ticket : ℕ) → JobTold ids first awaited calls wire c i p at → job_ticket p ≡ Some ticket → SentOwn awaited c i ticket
+job_own ids first awaited calls wire c i (player.Insert job) at ticket t holds =
+    sent_own awaited c i 0 t.places.now calls wire ticket t.sent.now (stage_own awaited (sent_at t.places.now calls wire) (space job.ns.now) (with_ids ids first job.documents.now) job.stage ticket t.tells holds)
+job_own ids first awaited calls wire c i (player.Follow job) at ticket t holds = follow_own awaited calls wire c i job.stage (kept job) at ticket (record { places = t.places; tells = t.tells; sent = t.sent }) holds
+job_own ids first awaited calls wire c i (player.Put job) at ticket t holds = absurd cc
+job_own ids first awaited calls wire c i (player.Get job) at ticket t holds = absurd cc
 
 -- ---- at the end of a run
 
@@ -160,7 +161,7 @@ module _ (ids given : ℕ → List ℕ) (before awaited : Awaited) (calls calls'
   held_own : (ticket place : ℕ) → awaited ticket ≡ Some place → (by : HeldBy players ticket) → (done : ℕ) × SentIn (course calls order notes) by.job done place
   held_own ticket place at by =
       let t = get_length ts players drawn.jobs by.job by.player by.there in
-      let own = job_own ids (first_id ts order by.job) awaited calls' wire (course calls order notes) by.job by.player (places by.job) ticket (drawn.each by.job by.player by.there) (tell.each by.job t.0 by.player t.1 by.there) by.holds in
+      let own = job_own ids (first_id ts order by.job) awaited calls' wire (course calls order notes) by.job by.player (places by.job) ticket (tell.each by.job t.0 by.player t.1 by.there) by.holds in
       (own.done, subst (λ n. SentIn (course calls order notes) by.job own.done n) (same_some own.place place (sym own.at ∙ at)) own.sent)
 
   -- two tickets whose calls a job sent are one, or not of a job

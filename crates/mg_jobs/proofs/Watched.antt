@@ -16,7 +16,7 @@ use Rattle.mg_change.specs.Following.{Asks, AsksNothing}
 use Rattle.mg_script.specs.Plan.{Begin, begin}
 use Rattle.mg_jobs.specs.Follows.{IsArgsOf, all_changes, all_changes_of, begun_options, filter_in, IsTarget, IsUnwatched, IsWatch, IsWatched, WatchesNothing, aimed, stages_of, start_of}
 use Rattle.mg_jobs.specs.Telling.{IsWatchArgs}
-use Rattle.mg_jobs.specs.declared.player.Watched.{Watched}
+use Rattle.mg_jobs.specs.declared.follow.Watched.{Watched}
 
 -- ---- names
 

@@ -22,6 +22,7 @@ use Rattle.mg_ops.specs.Appended.{Appended}
 use Rattle.mg_jobs.specs.Counts.{PolledBy, one_if}
 use Rattle.mg_jobs.specs.Drawing.{as_sent}
 use Rattle.mg_jobs.specs.Follows.{FollowedFrom, IsArgsFor, IsUnfinished, poll_of}
+use Rattle.mg_jobs.specs.Kinds.{OfFollow, OfInsert}
 use Rattle.mg_ops.specs.InsertCauses.{InsertFails, InsertWaits}
 use Rattle.mg_script.specs.Plan.{Begin, Task, insert, follow, put, get}
 use Rattle.mg_jobs.specs.Progress.{pends_last, turns_done}
@@ -30,7 +31,6 @@ use Rattle.mg_script.specs.declared.outcome.Answer.TheVariants as answers
 use Rattle.mg_script.specs.declared.outcome.Ended.{Ended}
 use Rattle.mg_script.specs.declared.outcome.Ended.TheVariants as ended
 use Rattle.mg_script.specs.declared.outcome.Outcome.{Outcome}
-use Rattle.mg_script.specs.declared.outcome.Outcome.TheVariants as outcome
 use Rattle.mg_script.specs.declared.outcome.Turned.{Turned}
 
 -- ---- which call sent what
@@ -67,10 +67,10 @@ sent_at places calls wire = past_of places (length calls) calls wire
 
 -- ---- an insert
 
--- it ended well and its own commands appended the documents that it sends, where its names may name a collection, or it failed
+-- It ended well and tells the number of the documents that it sends, which its own commands appended, where its names may name a collection; or it failed.
 abbrev pub EndsBy : Past → Space → List Fields → Ended ℕ → Type 0
 EndsBy past at sent ended.Unfinished = Unit {0}
-EndsBy past at sent (ended.Gave n) = IsNamed at → Appended past at sent n
+EndsBy past at sent (ended.Gave n) = (n ≡ length sent) × (IsNamed at → Appended past at sent n)
 EndsBy past at sent (ended.Failed e) = InsertFails past at sent e
 
 -- it sent its commands in its turns up to the first that did not pend
@@ -174,16 +174,10 @@ FollowCaused awaited c i count calls wire on start filter batch (ended.Failed e)
 -- ---- all jobs
 
 abbrev pub OutcomeCaused : Awaited → Course → ℕ → List Call → ℤ → Task → Outcome → Type 0
-OutcomeCaused awaited c i calls wire (follow on count start filter batch) (outcome.Follow opened said token alive closed) = FollowCaused awaited c i count calls wire on start filter batch opened said.items token alive closed
-OutcomeCaused awaited c i calls wire (follow on count start filter batch) (outcome.Insert n) = ⊥
-OutcomeCaused awaited c i calls wire (follow on count start filter batch) (outcome.Put n) = ⊥
-OutcomeCaused awaited c i calls wire (follow on count start filter batch) (outcome.Get bytes read) = ⊥
-OutcomeCaused awaited c i calls wire (insert ns docs) (outcome.Insert end) = InsertEnds awaited c i calls wire ns docs end
-OutcomeCaused awaited c i calls wire (insert ns docs) (outcome.Follow opened said token alive closed) = ⊥
-OutcomeCaused awaited c i calls wire (insert ns docs) (outcome.Put n) = ⊥
-OutcomeCaused awaited c i calls wire (insert ns docs) (outcome.Get bytes read) = ⊥
-OutcomeCaused awaited c i calls wire (put db bucket name id chunk pieces) r = Unit {0}
-OutcomeCaused awaited c i calls wire (get db bucket id read) r = Unit {0}
+OutcomeCaused awaited c i calls wire (follow on count start filter batch) = OfFollow (λ opened said token alive closed. FollowCaused awaited c i count calls wire on start filter batch opened said.items token alive closed)
+OutcomeCaused awaited c i calls wire (insert ns docs) = OfInsert (λ end. InsertEnds awaited c i calls wire ns docs end)
+OutcomeCaused awaited c i calls wire (put db bucket name id chunk pieces) = λ r. Unit {0}
+OutcomeCaused awaited c i calls wire (get db bucket id read) = λ r. Unit {0}
 
 -- Over a link that tells its log and awaits these replies, each job's outcome has its causes, and what it waits for, among the commands of its own turns;
 -- inserts draw these ids.

@@ -1,7 +1,10 @@
 -- What jobs come to over a link that loses nothing, where their server holds nothing back.
-use Rattle.std.specs.Prelude.{◌≡◌, ◌⊎◌, ◌≤◌, ◌++◌, Contains, Ok, ℕ, suc, ℤ, true, List, [], ◌∷◌, length, take, Some, slice_get}
+use Rattle.std.specs.Prelude.{◌≡◌, ◌⊎◌, ◌≤◌, ◌++◌, Contains, Ok, ℕ, suc, ℤ, pos, true, List, [], ◌∷◌, length, take, Some, slice_get}
 use Rattle.mg_bson.specs.Tree.{Fields, Tree}
-use Rattle.mg_link.specs.Commands.{asked, asks_insert}
+use Rattle.mg_bson.specs.Raw.{fields}
+use Rattle.mg_bson.specs.Writable.{max_len}
+use Rattle.mg_link.specs.Commands.{asked, asks_insert, asks_more}
+use Rattle.mg_link.specs.Errors.{plain}
 use Rattle.mg_link.specs.History.{Step, IsLegal, state_of}
 use Rattle.mg_link.specs.Link.{Told}
 use Rattle.mg_link.specs.Log.{Call}
@@ -9,23 +12,23 @@ use Rattle.mg_link.specs.Namespace.{Space}
 use Rattle.mg_link.specs.Prompt.{IsPrompt}
 use Rattle.mg_link.specs.Rules.{accept}
 use Rattle.mg_link.specs.Standing.{Stands}
+use Rattle.mg_link.specs.State.{Watch, events_between, watching}
 use Rattle.mg_link.specs.Step.{documents_of}
 use Rattle.mg_link.specs.declared.error.Error.{Error}
 use Rattle.mg_link.specs.declared.error.ErrorKind.TheVariants as kind
 use Rattle.mg_ops.specs.Bodies.{insert_command}
-use Rattle.mg_ops.specs.Commands.{kill_command}
-use Rattle.mg_ops.specs.Cursors.{watch_manner, next_command}
-use Rattle.mg_ops.specs.Failing.{CannotBeInserted, CannotBeSent}
-use Rattle.mg_ops.specs.Limits.{SizePasses}
+use Rattle.mg_ops.specs.Failing.{CannotBeSent}
+use Rattle.mg_ops.specs.Limits.{PassesLimit, SizePasses, SomePassLimit}
 use Rattle.mg_ops.specs.Naming.{IsNamed}
 use Rattle.mg_ops.specs.declared.aggregate.ChangeStreamAggregate.{ChangeStreamAggregate}
 use Rattle.mg_ops.specs.declared.change_stream.WatchArgs.{WatchArgs}
-use Rattle.mg_change.specs.Openings.{opening_command}
 use Rattle.mg_change.specs.Phases.{resuming_command}
 use Rattle.mg_jobs.specs.Causes.{Course, SentIn, course}
 use Rattle.mg_jobs.specs.Drawing.{as_sent}
 use Rattle.mg_jobs.specs.Follows.{IsArgsFor}
+use Rattle.mg_jobs.specs.Kinds.{OfFollow, OfInsert}
 use Rattle.mg_ops.specs.InsertCauses.{IsPiece}
+use Rattle.mg_jobs.specs.Own.{IsHeard, IsOwnCommand, IsOwnCursor}
 use Rattle.mg_script.specs.Plan.{Task, insert, follow, put, get}
 use Rattle.mg_jobs.specs.Progress.{turns_done}
 use Rattle.mg_script.specs.declared.outcome.Answer.{Answer}
@@ -33,7 +36,6 @@ use Rattle.mg_script.specs.declared.outcome.Answer.TheVariants as answers
 use Rattle.mg_script.specs.declared.outcome.Ended.{Ended}
 use Rattle.mg_script.specs.declared.outcome.Ended.TheVariants as ended
 use Rattle.mg_script.specs.declared.outcome.Outcome.{Outcome}
-use Rattle.mg_script.specs.declared.outcome.Outcome.TheVariants as outcome
 use Rattle.mg_script.specs.declared.outcome.Turned.{Turned}
 
 -- ---- a server that holds nothing back
@@ -63,71 +65,135 @@ abbrev pub SendFresh : List ℕ → List Step → Type 0
 SendFresh own history = (position : ℕ) (step : Step) (space : Space) (documents : List Fields) → Contains own position → slice_get history position ≡ Some step → asked step.command ≡ asks_insert space documents true
     → AreFresh (documents_of (state_of (take position history)) space) documents
 
+-- one of these documents passes the limits of a stored one
+abbrev pub IsTooLarge : List Fields → Error → Type 0
+IsTooLarge piece e = (e ≡ plain kind.BsonSerialization) × SomePassLimit piece
+
 -- memory ran out, or some of the documents that it sends, or a command with them, pass the limits
 abbrev pub IsExcusedInsert : Space → List Fields → Error → Type 0
 IsExcusedInsert at sent e = (e.kind ≡ kind.OutOfMemory)
-    ⊎ ((piece : List Fields) × IsPiece sent piece × (CannotBeInserted piece e ⊎ CannotBeSent (insert_command at piece) e))
+    ⊎ ((piece : List Fields) × IsPiece sent piece × (IsTooLarge piece e ⊎ CannotBeSent (insert_command at piece) e))
     ⊎ ((d : Fields) × IsPiece sent (d ∷ []) × CannotBeSent d e)
 
-abbrev pub InsertWell : Space → List Fields → Ended ℕ → Type 0
-InsertWell at sent ended.Unfinished = ⊥
-InsertWell at sent (ended.Gave n) = Unit {0}
-InsertWell at sent (ended.Failed e) = IsExcusedInsert at sent e
+-- it has ended, and a failure is excused
+abbrev pub EndsWell : {A : Type 0} → (Error → Type 0) → Ended A → Type 0
+EndsWell is_excused ended.Unfinished = ⊥
+EndsWell is_excused (ended.Gave x) = Unit {0}
+EndsWell is_excused (ended.Failed e) = is_excused e
 
 -- ---- what a follow comes to
 
--- a command that a follow with such arguments may have to send
-pub data IsCommandOf (are_its : WatchArgs → Type 0) (command : Fields) : Type 0 where
-  opens : (args : WatchArgs) → are_its args → command ≡ opening_command args → IsCommandOf are_its command
-  resumes : (a : ChangeStreamAggregate) (wire : ℤ) → are_its a.args → command ≡ resuming_command a wire → IsCommandOf are_its command
-  asks : (args : WatchArgs) → are_its args → (id : ℤ) (space : Space) → command ≡ next_command id space (watch_manner args.options) → IsCommandOf are_its command
-  kills : (space : Space) (ids : List ℤ) → command ≡ kill_command space ids → IsCommandOf are_its command
+-- what excuses a failure of a job, where it is short: an answer of it before was want of memory
+abbrev pub Excuses : Type 1
+Excuses = Type 0 → Error → Type 0
 
--- memory ran out, or a command that was to be sent passes the limits of documents
-abbrev pub IsExcused : (WatchArgs → Type 0) → Error → Type 0
-IsExcused are_its e = (e.kind ≡ kind.OutOfMemory) ⊎ ((command : Fields) × IsCommandOf are_its command × CannotBeSent command e)
+-- memory ran out, or a command that such a follow, which heard these replies, must send passes the limits of documents
+abbrev pub IsExcused : (WatchArgs → Type 0) → (List ℕ → Type 0) → Excuses
+IsExcused are_its heard short e = (e.kind ≡ kind.OutOfMemory) ⊎ ((command : Fields) × IsOwnCommand are_its heard short command × CannotBeSent command e)
 
-abbrev pub EndsWell : {A : Type 0} → (WatchArgs → Type 0) → Ended A → Type 0
-EndsWell are_its ended.Unfinished = ⊥
-EndsWell are_its (ended.Gave x) = Unit {0}
-EndsWell are_its (ended.Failed e) = IsExcused are_its e
+-- memory ran out
+abbrev pub IsMemory : Excuses
+IsMemory short e = e.kind ≡ kind.OutOfMemory
 
--- each answer is an event, or that nothing is there
-abbrev pub AnswerWell : (WatchArgs → Type 0) → Answer → Type 0
-AnswerWell are_its (answers.Event event) = Unit {0}
-AnswerWell are_its answers.Nothing = Unit {0}
-AnswerWell are_its (answers.Failed e) = IsExcused are_its e
+-- the answer is want of memory
+abbrev pub IsShort : Answer → Type 0
+IsShort (answers.Event event) = ⊥
+IsShort answers.Nothing = ⊥
+IsShort (answers.Failed e) = e.kind ≡ kind.OutOfMemory
 
-abbrev pub AnswersAreWell : (WatchArgs → Type 0) → List Answer → Type 0
-AnswersAreWell are_its [] = Unit {0}
-AnswersAreWell are_its (answer ∷ more) = AnswersAreWell are_its more × AnswerWell are_its answer
+-- The cursor of a getMore stood as a watch's, and nothing was left for it to see, as that took effect in this history, which job i sent in its call of this number.
+pub record NoneLeft (c : Course) (i : ℕ) (calls : List Call) (history : List Step) (k : ℕ) : Type 0 where
+  pub place : ℕ
+  pub sent : SentIn c i k place
+  pub call : Call
+  pub there : slice_get calls place ≡ Some call
+  pub position : ℕ
+  pub position_is : call.position ≡ Some position
+  pub step : Step
+  pub stands : slice_get history position ≡ Some step
+  pub id : ℤ
+  pub space : Space
+  pub asks : asked step.command ≡ asks_more id space
+  pub watch : Watch
+  pub from : ℕ
+  pub stood : (state_of (take position history)).cursors id ≡ Some (watching watch from)
+  pub none : events_between watch (state_of (take position history)).changes from (length (state_of (take position history)).changes) ≡ []
+
+-- why a call of this number answers that nothing is there, where it is short
+pub data FindsNothing (c : Course) (i : ℕ) (calls : List Call) (history : List Step) (k : ℕ) (short : Type 0) : Type 0 where
+  -- it takes the first batch
+  takes_first : k ≡ 1 → FindsNothing c i calls history k short
+  -- or that of a resumption, which it sent
+  takes_again : short → (place : ℕ) → SentIn c i k place → (call : Call) → slice_get calls place ≡ Some call → (a : ChangeStreamAggregate) (wire : ℤ) → fields call.command ≡ resuming_command a wire → FindsNothing c i calls history k short
+  -- the stream has ended, as a reply told
+  is_over : (at : Space) → IsOwnCursor (IsHeard c i calls) (pos 0) at → FindsNothing c i calls history k short
+  finds_none : NoneLeft c i calls history k → FindsNothing c i calls history k short
+
+-- why calls may answer so, by their number, and whether they are short
+abbrev pub Nothings : Type 1
+Nothings = ℕ → Type 0 → Type 0
+
+-- the answer is an event, or that nothing is there, where that is so, or a failure that is excused
+abbrev pub AnswerWell : (Error → Type 0) → Type 0 → Answer → Type 0
+AnswerWell is_excused is_nothing (answers.Event event) = Unit {0}
+AnswerWell is_excused is_nothing answers.Nothing = is_nothing
+AnswerWell is_excused is_nothing (answers.Failed e) = is_excused e
+
+-- so is each of these, of which the first is that of the call of this number
+abbrev pub AnswersAreWell : Excuses → Nothings → ℕ → Type 0 → List Answer → Type 0
+AnswersAreWell excuses nothings k short [] = Unit {0}
+AnswersAreWell excuses nothings k short (answer ∷ more) = AnswerWell (excuses short) (nothings k short) answer × AnswersAreWell excuses nothings (suc k) (short ⊎ IsShort answer) more
 
 -- all calls were answered, and the stream was closed
-pub record CallsWell {A : Type 0} (are_its : WatchArgs → Type 0) (count : ℕ) (said : List Answer) (closed : Ended A) : Type 0 where
+pub record CallsWell {A : Type 0} (excuses : Excuses) (nothings : Nothings) (count : ℕ) (said : List Answer) (closed : Ended A) : Type 0 where
   pub all : length said ≡ count
-  pub answered : AnswersAreWell are_its said
-  pub closes : EndsWell are_its closed
+  pub answered : AnswersAreWell excuses nothings 1 ⊥ said
+  pub closes : EndsWell (excuses ⊥) closed
 
 -- the stream was opened, or that is excused
-abbrev pub FollowWell : {A B : Type 0} → (WatchArgs → Type 0) → ℕ → Ended A → List Answer → Ended B → Type 0
-FollowWell are_its count ended.Unfinished said closed = ⊥
-FollowWell are_its count (ended.Gave x) said closed = CallsWell are_its count said closed
-FollowWell are_its count (ended.Failed e) said closed = IsExcused are_its e
+abbrev pub FollowWell : {A B : Type 0} → Excuses → Nothings → ℕ → Ended A → List Answer → Ended B → Type 0
+FollowWell excuses nothings count ended.Unfinished said closed = ⊥
+FollowWell excuses nothings count (ended.Gave x) said closed = CallsWell excuses nothings count said closed
+FollowWell excuses nothings count (ended.Failed e) said closed = excuses ⊥ e
 
--- A follow with a size of batches that may be, and one turn more than calls that did not pend, ends well; so does an insert of fresh documents with one such turn.
+-- ---- what a job comes to
+
+-- A follow with a size of batches that may be, and one turn more than calls that did not pend, ends well by these excuses; so does an insert of fresh documents
+-- with one such turn.
+abbrev pub OutcomeEnds : Excuses → Course → ℕ → List Call → Task → Outcome → Type 0
+OutcomeEnds excuses c i calls (follow on count start filter batch) =
+    OfFollow (λ opened said token alive closed. (answers : AnswersWell c i calls) → (SizePasses batch → ⊥) → suc count ≤ turns_done i c.order c.notes → FollowWell excuses (FindsNothing c i calls answers.history) count opened said.items closed)
+OutcomeEnds excuses c i calls (insert ns docs) =
+    OfInsert (λ end. (answers : AnswersWell c i calls) → IsNamed ns → SendFresh answers.own answers.history → 1 ≤ turns_done i c.order c.notes → EndsWell (excuses ⊥) end)
+OutcomeEnds excuses c i calls (put db bucket name id chunk pieces) = λ r. Unit {0}
+OutcomeEnds excuses c i calls (get db bucket id read) = λ r. Unit {0}
+
+-- the excuses of a job: those of its own documents and commands
+abbrev pub own_excuses : Course → ℕ → List Call → Task → Excuses
+own_excuses c i calls (follow on count start filter batch) = IsExcused (IsArgsFor on start filter batch) (IsHeard c i calls)
+own_excuses c i calls (insert ns docs) = λ short. IsExcusedInsert ns docs
+own_excuses c i calls (put db bucket name id chunk pieces) = IsMemory
+own_excuses c i calls (get db bucket id read) = IsMemory
+
 abbrev pub OutcomeWell : Course → ℕ → List Call → Task → Outcome → Type 0
-OutcomeWell c i calls (follow on count start filter batch) (outcome.Follow opened said token alive closed) = AnswersWell c i calls → (SizePasses batch → ⊥) → suc count ≤ turns_done i c.order c.notes → FollowWell (IsArgsFor on start filter batch) count opened said.items closed
-OutcomeWell c i calls (follow on count start filter batch) (outcome.Insert n) = ⊥
-OutcomeWell c i calls (follow on count start filter batch) (outcome.Put n) = ⊥
-OutcomeWell c i calls (follow on count start filter batch) (outcome.Get bytes read) = ⊥
-OutcomeWell c i calls (insert ns docs) (outcome.Insert end) = (answers : AnswersWell c i calls) → IsNamed ns → SendFresh answers.own answers.history → 1 ≤ turns_done i c.order c.notes → InsertWell ns docs end
-OutcomeWell c i calls (insert ns docs) (outcome.Follow opened said token alive closed) = ⊥
-OutcomeWell c i calls (insert ns docs) (outcome.Put n) = ⊥
-OutcomeWell c i calls (insert ns docs) (outcome.Get bytes read) = ⊥
-OutcomeWell c i calls (put db bucket name id chunk pieces) r = Unit {0}
-OutcomeWell c i calls (get db bucket id read) r = Unit {0}
+OutcomeWell c i calls t r = OutcomeEnds (own_excuses c i calls t) c i calls t r
 
--- each job of a run in which inserts draw these ids ends well
+-- no command that the job must send, and no document of it, passes the limits
+abbrev pub FitsLimits : Course → ℕ → List Call → Task → Type 0
+FitsLimits c i calls (follow on count start filter batch) = (command : Fields) → IsOwnCommand (IsArgsFor on start filter batch) (IsHeard c i calls) (Unit {0}) command → PassesLimit max_len command → ⊥
+FitsLimits c i calls (insert ns docs) = (piece : List Fields) → IsPiece docs piece → (SomePassLimit piece → ⊥) × (PassesLimit max_len (insert_command ns piece) → ⊥)
+FitsLimits c i calls (put db bucket name id chunk pieces) = Unit {0}
+FitsLimits c i calls (get db bucket id read) = Unit {0}
+
+-- then nothing but want of memory excuses it
+abbrev pub OutcomeFits : Course → ℕ → List Call → Task → Outcome → Type 0
+OutcomeFits c i calls t r = FitsLimits c i calls t → OutcomeEnds IsMemory c i calls t r
+
+-- a job ends well, and by want of memory alone where it fits the limits
+abbrev pub JobWell : Course → ℕ → List Call → Task → Outcome → Type 0
+JobWell c i calls t r = OutcomeWell c i calls t r × OutcomeFits c i calls t r
+
+-- so does each job of a run in which inserts draw these ids
 abbrev pub AllWell : (ℕ → List ℕ) → Told → Told → List Task → List ℕ → List Turned → List Outcome → Type 0
 AllWell ids log log' tasks order notes outcomes = (calls : List Call) → log ≡ Some calls → (calls' : List Call) × (log' ≡ Some calls')
-    × ((i : ℕ) (t : Task) (r : Outcome) → slice_get tasks i ≡ Some t → slice_get outcomes i ≡ Some r → OutcomeWell (course calls order notes) i calls' (as_sent ids tasks order i t) r)
+    × ((i : ℕ) (t : Task) (r : Outcome) → slice_get tasks i ≡ Some t → slice_get outcomes i ≡ Some r → JobWell (course calls order notes) i calls' (as_sent ids tasks order i t) r)

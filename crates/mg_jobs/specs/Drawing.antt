@@ -5,10 +5,11 @@ use Rattle.mg_ops.specs.Drawn.{AreLater, lacking, with_ids}
 use Rattle.mg_script.specs.Plan as plan
 use Rattle.mg_script.specs.Plan.{Task}
 use Rattle.mg_jobs.specs.Playing.{HasIds}
-use Rattle.mg_jobs.specs.declared.player.InsertStage.{InsertStage}
-use Rattle.mg_jobs.specs.declared.player.InsertStage.TheVariants as inserts
-use Rattle.mg_jobs.specs.declared.run.Player.{Player}
-use Rattle.mg_jobs.specs.declared.run.Player.TheVariants as player
+use Rattle.mg_jobs.specs.declared.insert.InsertPlayer.{InsertPlayer}
+use Rattle.mg_jobs.specs.declared.insert.InsertStage.{InsertStage}
+use Rattle.mg_jobs.specs.declared.insert.InsertStage.TheVariants as inserts
+use Rattle.mg_jobs.specs.declared.player.Player.{Player}
+use Rattle.mg_jobs.specs.declared.player.Player.TheVariants as player
 
 -- ---- the ids of a run
 
@@ -43,12 +44,23 @@ drawn_in tasks order = drawn_behind [] tasks order
 abbrev pub first_id : List Task → List ℕ → ℕ → ℕ
 first_id tasks order i = drawn_in tasks (before_first i order)
 
+-- the task with the documents as they are sent, with these ids from the one of this number on
+abbrev pub sent_from : (ℕ → List ℕ) → ℕ → Task → Task
+sent_from ids n (plan.insert ns docs) = plan.insert ns (with_ids ids n docs)
+sent_from ids n (plan.follow on calls start filter batch) = plan.follow on calls start filter batch
+sent_from ids n (plan.put db bucket name id chunk pieces) = plan.put db bucket name id chunk pieces
+sent_from ids n (plan.get db bucket id read) = plan.get db bucket id read
+
+-- the documents that a task sends
+abbrev pub sent_documents : Task → List Fields
+sent_documents (plan.insert ns docs) = docs
+sent_documents (plan.follow on calls start filter batch) = []
+sent_documents (plan.put db bucket name id chunk pieces) = []
+sent_documents (plan.get db bucket id read) = []
+
 -- the task of job i with the documents as it sends them
 abbrev pub as_sent : (ℕ → List ℕ) → List Task → List ℕ → ℕ → Task → Task
-as_sent ids tasks order i (plan.insert ns docs) = plan.insert ns (with_ids ids (first_id tasks order i) docs)
-as_sent ids tasks order i (plan.follow on calls start filter batch) = plan.follow on calls start filter batch
-as_sent ids tasks order i (plan.put db bucket name id chunk pieces) = plan.put db bucket name id chunk pieces
-as_sent ids tasks order i (plan.get db bucket id read) = plan.get db bucket id read
+as_sent ids tasks order i t = sent_from ids (first_id tasks order i) t
 
 -- ---- jobs
 
@@ -62,15 +74,25 @@ next_draws (inserts.Ended ended) documents = 0
 abbrev pub turn_draws : Player → ℕ
 turn_draws (player.Insert job) = next_draws job.stage job.documents.now
 turn_draws (player.Follow job) = 0
-turn_draws player.Put = 0
-turn_draws player.Get = 0
+turn_draws (player.Put job) = 0
+turn_draws (player.Get job) = 0
+
+-- where an insert has yet to draw its ids, this is its task as it sends it with ids from a source that gives these
+abbrev pub InsertDrawsAs : (ℕ → List ℕ) → InsertPlayer → Task → Type 0
+InsertDrawsAs ids job t = job.stage ≡ inserts.Unsent → sent_documents t ≡ with_ids ids 0 job.documents.now
+
+abbrev pub DrawsAs : (ℕ → List ℕ) → Player → Task → Type 0
+DrawsAs ids (player.Insert job) t = InsertDrawsAs ids job t
+DrawsAs ids (player.Follow job) t = Unit {0}
+DrawsAs ids (player.Put job) t = Unit {0}
+DrawsAs ids (player.Get job) t = Unit {0}
 
 -- a job that drew the ids that it needs
 abbrev pub JobHasIds : Player → Type 0
 JobHasIds (player.Insert job) = HasIds job.stage
 JobHasIds (player.Follow job) = Unit {0}
-JobHasIds player.Put = Unit {0}
-JobHasIds player.Get = Unit {0}
+JobHasIds (player.Put job) = Unit {0}
+JobHasIds (player.Get job) = Unit {0}
 
 -- an insert has its ids just where it had a turn
 abbrev pub HadTurn : Bool → InsertStage → Type 0
@@ -81,8 +103,8 @@ HadTurn had (inserts.Ended ended) = had ≡ true
 abbrev pub JobHadTurn : Bool → Player → Type 0
 JobHadTurn had (player.Insert job) = HadTurn had job.stage
 JobHadTurn had (player.Follow job) = Unit {0}
-JobHadTurn had player.Put = Unit {0}
-JobHadTurn had player.Get = Unit {0}
+JobHadTurn had (player.Put job) = Unit {0}
+JobHadTurn had (player.Get job) = Unit {0}
 
 -- The turns of a run took a source from its ids as the run began to those that it gives now, and each insert has its ids from its first turn on.
 pub record HaveDrawn (ids now : ℕ → List ℕ) (tasks : List Task) (order : List ℕ) (players : List Player) : Type 0 where

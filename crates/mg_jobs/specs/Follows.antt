@@ -29,10 +29,10 @@ use Rattle.mg_script.specs.declared.outcome.Answer.{Answer}
 use Rattle.mg_script.specs.declared.outcome.Answer.TheVariants as answers
 use Rattle.mg_script.specs.declared.outcome.Ended.{Ended}
 use Rattle.mg_script.specs.declared.outcome.Ended.TheVariants as ended
-use Rattle.mg_jobs.specs.declared.player.FollowPlayer.{FollowPlayer}
-use Rattle.mg_jobs.specs.declared.player.Stage.{Stage}
-use Rattle.mg_jobs.specs.declared.player.Stage.TheVariants as stage
-use Rattle.mg_jobs.specs.declared.player.Watched.{Watched}
+use Rattle.mg_jobs.specs.declared.follow.FollowPlayer.{FollowPlayer}
+use Rattle.mg_jobs.specs.declared.follow.Stage.{Stage}
+use Rattle.mg_jobs.specs.declared.follow.Stage.TheVariants as stage
+use Rattle.mg_jobs.specs.declared.follow.Watched.{Watched}
 
 -- ---- what is watched
 
@@ -65,7 +65,7 @@ abbrev pub WatchesNothing : Target → Begin → Option Fields → Type 0
 WatchesNothing on start filter = (w : Watch) (from : Start) → IsWatch on start filter w from → ⊥
 
 abbrev pub filter_in : Watched → Option Fields
-filter_in v = option_map (λ d. d.now) v.filter
+filter_in v = v.filter.now
 
 abbrev pub IsWatched : Watched → Watch → Start → Type 0
 IsWatched v w from = IsWatch (target v.target.now) (begin v.start.now) (filter_in v) w from

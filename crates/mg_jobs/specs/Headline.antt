@@ -1,50 +1,63 @@
 -- What the jobs of a run know of their server, and what their answers come to.
-use Rattle.std.specs.Prelude.{◌≡◌, ◌⊎◌, ◌++◌, ℕ, List, [], Option, Some, None, Vec, length, slice_get}
+use Rattle.std.specs.Prelude.{◌≡◌, ◌⊎◌, ◌++◌, ℕ, List, [], Option, Some, None, Vec, length, slice_get, string_bytes}
 use Rattle.std.specs.declared.alloc.Global.{Global}
 use Rattle.mg_bson.specs.Tree.{Fields, Tree}
+use Rattle.mg_bson.specs.View.{tree}
 use Rattle.mg_link.specs.Link.{Awaited, Told}
 use Rattle.mg_link.specs.Log.{Call}
 use Rattle.mg_link.specs.Namespace.{space, target}
-use Rattle.mg_link.specs.Owner.{Owner, AreApart, NamesItsOwn, Passes, nobody}
+use Rattle.mg_link.specs.Owner.{Owner, AreApart, NamesItsOwn, nobody}
 use Rattle.mg_link.specs.State.{Start, Watch}
-use Rattle.mg_script.specs.Plan.{Task, begin, insert, follow, put, get}
+use Rattle.mg_script.specs.Plan.{Task, begin, insert, follow, pieces, put, get}
 use Rattle.mg_jobs.specs.Causes.{Course, SentIn, course}
 use Rattle.mg_jobs.specs.Follows.{FollowKnows, Followed, FollowsNothing, HasNothing, IsUnfinished, IsWatch, NeverFollowed, Placing, WatchesNothing, events_of, filter_in, token_at}
+use Rattle.mg_jobs.specs.Kinds.{OfFollow}
 use Rattle.mg_jobs.specs.Playing.{IsPlainJob, end_of}
-use Rattle.mg_jobs.specs.declared.player.InsertStage.TheVariants as inserts
+use Rattle.mg_jobs.specs.Plays as words
+use Rattle.mg_jobs.specs.declared.insert.InsertStage.TheVariants as inserts
 use Rattle.mg_script.specs.declared.outcome.Ended.{Ended}
 use Rattle.mg_script.specs.declared.outcome.Ended.TheVariants as ended
 use Rattle.mg_script.specs.declared.outcome.Outcome.{Outcome}
 use Rattle.mg_script.specs.declared.outcome.Outcome.TheVariants as outcome
 use Rattle.mg_script.specs.declared.outcome.Turned.{Turned}
-use Rattle.mg_jobs.specs.declared.player.Stage.TheVariants as stage
-use Rattle.mg_jobs.specs.declared.run.Player.{Player}
-use Rattle.mg_jobs.specs.declared.run.Player.TheVariants as player
+use Rattle.mg_jobs.specs.declared.get.GetPlayer.{GetPlayer}
+use Rattle.mg_jobs.specs.declared.follow.FollowPlayer.{FollowPlayer}
+use Rattle.mg_jobs.specs.declared.insert.InsertPlayer.{InsertPlayer}
+use Rattle.mg_jobs.specs.declared.put.PutPlayer.{PutPlayer}
+use Rattle.mg_jobs.specs.declared.follow.Stage.TheVariants as stage
+use Rattle.mg_jobs.specs.declared.follow.Watched.{Watched}
+use Rattle.mg_jobs.specs.declared.player.Player.{Player}
+use Rattle.mg_jobs.specs.declared.player.Player.TheVariants as player
 
 -- ---- the tasks of jobs
 
+-- what follows what is watched
+abbrev pub follow_task : Watched → Task
+follow_task v = follow (target v.target.now) v.calls (begin v.start.now) (filter_in v) v.batch_size
+
+abbrev pub insert_task : InsertPlayer → Task
+insert_task job = insert (space job.ns.now) job.documents.now
+
+abbrev pub put_task : PutPlayer → Task
+put_task job = put (string_bytes job.db.now) (string_bytes job.bucket.now) (string_bytes job.name.now) (tree job.id.now) job.chunk (pieces job.pieces.now.items)
+
+abbrev pub get_task : GetPlayer → Task
+get_task job = get (string_bytes job.db.now) (string_bytes job.bucket.now) (tree job.id.now) job.read
+
+-- what a job is to do
+abbrev pub task_of : Player → Task
+task_of (player.Insert job) = insert_task job
+task_of (player.Follow job) = follow_task job.watched
+task_of (player.Put job) = put_task job
+task_of (player.Get job) = get_task job
+
 -- the job does this task
 abbrev pub Does : Task → Player → Type 0
-Does (insert ns docs) (player.Insert job) = (space job.ns.now ≡ ns) × (job.documents.now ≡ docs)
-Does (follow on calls start filter batch) (player.Follow job) = (target job.watched.target.now ≡ on) × (begin job.watched.start.now ≡ start) × (filter_in job.watched ≡ filter) × (job.watched.batch_size ≡ batch)
-Does (put db bucket name id chunk pieces) player.Put = Unit {0}
-Does (get db bucket id read) player.Get = Unit {0}
-Does (insert ns docs) (player.Follow job) = ⊥
-Does (insert ns docs) player.Put = ⊥
-Does (insert ns docs) player.Get = ⊥
-Does (follow on calls start filter batch) (player.Insert job) = ⊥
-Does (follow on calls start filter batch) player.Put = ⊥
-Does (follow on calls start filter batch) player.Get = ⊥
-Does (put db bucket name id chunk pieces) (player.Insert job) = ⊥
-Does (put db bucket name id chunk pieces) (player.Follow job) = ⊥
-Does (put db bucket name id chunk pieces) player.Get = ⊥
-Does (get db bucket id read) (player.Insert job) = ⊥
-Does (get db bucket id read) (player.Follow job) = ⊥
-Does (get db bucket id read) player.Put = ⊥
+Does t p = t ≡ task_of p
 
 -- the job goes on with the same task
 abbrev pub IsSameTask : Player → Player → Type 0
-IsSameTask p p' = (t : Task) → Does t p → Does t p'
+IsSameTask p p' = task_of p' ≡ task_of p
 
 -- each job does its task
 abbrev pub DoTasks : List Task → List Player → Type 0
@@ -54,20 +67,28 @@ DoTasks tasks players = (i : ℕ) (t : Task) (p : Player) → slice_get tasks i 
 abbrev pub IsFirst : Player → Type 0
 IsFirst (player.Insert job) = job.stage ≡ inserts.Unsent
 IsFirst (player.Follow job) = (job.stage ≡ stage.Unopened) × IsUnfinished job.opened × HasNothing job
-IsFirst player.Put = Unit {0}
-IsFirst player.Get = Unit {0}
+IsFirst (player.Put job) = Unit {0}
+IsFirst (player.Get job) = Unit {0}
 
 abbrev pub AreFirst : List Player → Type 0
 AreFirst players = (i : ℕ) (p : Player) → slice_get players i ≡ Some p → IsFirst p
 
 -- ---- what jobs know
 
+-- an insert owns no cursor, and what it has in flight names none
+abbrev pub InsertPlays : Awaited → List Call → InsertPlayer → Owner → Option ℕ → Type 0
+InsertPlays awaited calls job o at = (o ≡ nobody) × IsPlainJob job
+
+-- a follow that watches something knows what it is doing; any other owns no cursor
+abbrev pub FollowPlays : Awaited → List Call → FollowPlayer → Owner → Option ℕ → Type 0
+FollowPlays awaited calls job o at = FollowKnows awaited calls job.stage job o at ⊎ ((o ≡ nobody) × FollowsNothing awaited calls job.stage job)
+
 -- a job that is this to the others knows of its server what it should
 abbrev pub Plays : Awaited → List Call → Player → Owner → Option ℕ → Type 0
-Plays awaited calls (player.Insert job) o at = (o ≡ nobody) × IsPlainJob job
-Plays awaited calls (player.Follow job) o at = FollowKnows awaited calls job.stage job o at ⊎ ((o ≡ nobody) × FollowsNothing awaited calls job.stage job)
-Plays awaited calls player.Put o at = o ≡ nobody
-Plays awaited calls player.Get o at = o ≡ nobody
+Plays awaited calls (player.Insert job) o at = InsertPlays awaited calls job o at
+Plays awaited calls (player.Follow job) o at = FollowPlays awaited calls job o at
+Plays awaited calls (player.Put job) o at = o ≡ nobody
+Plays awaited calls (player.Get job) o at = o ≡ nobody
 
 pub record PlaysAt (awaited : Awaited) (calls : List Call) (p : Player) (owners : List Owner) (i : ℕ) (at : Option ℕ) : Type 0 where
   pub owner : Owner
@@ -81,15 +102,12 @@ pub record AllKnow (awaited : Awaited) (calls : List Call) (players : List Playe
   pub apart : AreApart calls owners
   pub each : (i : ℕ) (p : Player) → slice_get players i ≡ Some p → PlaysAt awaited calls p owners i (places i)
 
-pub record Took (awaited : Awaited) (calls calls' : List Call) (p : Player) (o : Owner) (at : Option ℕ) : Type 0 where
-  pub owner : Owner
-  pub plays : Plays awaited calls' p owner at
-  pub passes : Passes calls calls' o owner
+-- a job took a turn: it knows what it should, and leaves every other job alone
+abbrev pub Took : Awaited → List Call → List Call → Player → Owner → Option ℕ → Type 0
+Took = words.Took Plays
 
--- A job took a turn: it knows what it should, and leaves every other job alone.
 abbrev pub Turns : Awaited → Awaited → Told → Told → Player → Player → Placing → Type 0
-Turns old new log log' p p' next = (calls : List Call) → log ≡ Some calls → (o : Owner) (at : Option ℕ) → Plays old calls p o at
-    → (calls' : List Call) × (log' ≡ Some calls') × Took new calls calls' p' o (next at)
+Turns = words.Turns Plays
 
 -- how a run stands that began with one log and has another
 abbrev pub Knowing : Awaited → Told → Told → List Player → Type 0
@@ -98,12 +116,16 @@ Knowing awaited log log' players = (calls : List Call) → log ≡ Some calls �
 
 -- ---- what this comes to
 
+-- a get that read nothing
+abbrev pub GetGives : Outcome → Type 0
+GetGives r = (bytes : Vec ℕ Global) × (r ≡ outcome.Get bytes ended.Unfinished) × (bytes.items ≡ [])
+
 -- the outcome is that of the job
 abbrev pub OutcomeOf : Player → Outcome → Type 0
 OutcomeOf (player.Insert job) r = r ≡ outcome.Insert (end_of job.stage)
 OutcomeOf (player.Follow job) r = r ≡ outcome.Follow job.opened job.answers (token_at job.stage job.token) job.alive job.closed
-OutcomeOf player.Put r = r ≡ outcome.Put ended.Unfinished
-OutcomeOf player.Get r = (bytes : Vec ℕ Global) × (r ≡ outcome.Get bytes ended.Unfinished) × (bytes.items ≡ [])
+OutcomeOf (player.Put job) r = r ≡ outcome.Put ended.Unfinished
+OutcomeOf (player.Get job) r = GetGives r
 
 abbrev pub OutcomesOf : List Player → List Outcome → Type 0
 OutcomesOf players outcomes = (i : ℕ) (p : Player) (r : Outcome) → slice_get players i ≡ Some p → slice_get outcomes i ≡ Some r → OutcomeOf p r
@@ -116,15 +138,14 @@ FollowedOr (ended.Failed e) c i calls w start answered token = (answered ≡ [])
 
 -- a follow answered as its task says
 abbrev pub OutcomeFollowed : Course → ℕ → List Call → Task → Outcome → Type 0
-OutcomeFollowed c i calls (follow on count start filter batch) (outcome.Follow opened answers token alive closed) =
-    ((w : Watch) × (from : Start) × IsWatch on start filter w from × FollowedOr opened c i calls w from (events_of answers.items) token)
-    ⊎ (WatchesNothing on start filter × NeverFollowed opened calls (events_of answers.items) token)
-OutcomeFollowed c i calls (follow on count start filter batch) (outcome.Insert n) = ⊥
-OutcomeFollowed c i calls (follow on count start filter batch) (outcome.Put n) = ⊥
-OutcomeFollowed c i calls (follow on count start filter batch) (outcome.Get bytes read) = ⊥
-OutcomeFollowed c i calls (insert ns docs) r = Unit {0}
-OutcomeFollowed c i calls (put db bucket name id chunk pieces) r = Unit {0}
-OutcomeFollowed c i calls (get db bucket id read) r = Unit {0}
+OutcomeFollowed c i calls (follow on count start filter batch) =
+    OfFollow
+    (λ opened said token alive closed.
+    ((w : Watch) × (from : Start) × IsWatch on start filter w from × FollowedOr opened c i calls w from (events_of said.items) token)
+    ⊎ (WatchesNothing on start filter × NeverFollowed opened calls (events_of said.items) token))
+OutcomeFollowed c i calls (insert ns docs) = λ r. Unit {0}
+OutcomeFollowed c i calls (put db bucket name id chunk cut) = λ r. Unit {0}
+OutcomeFollowed c i calls (get db bucket id read) = λ r. Unit {0}
 
 -- the outcomes made so far are those of the jobs gone through
 pub record Made (players rest : List Player) (outcomes : List Outcome) : Type 0 where

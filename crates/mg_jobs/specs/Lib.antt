@@ -6,6 +6,8 @@ pub use Rattle.mg_script.specs.Values
 pub use Rattle.mg_script.specs.Script
 pub use Rattle.mg_script.specs.Json
 pub use Rattle.mg_script.specs.Text
+pub mod Kinds
+pub mod Plays
 pub mod Program
 pub mod Playing
 pub mod Counts
@@ -15,6 +17,7 @@ pub mod Headline
 pub mod Progress
 pub mod Causes
 pub mod Telling
+pub mod Own
 pub mod Completing
 pub mod Drawing
 pub mod Fated

@@ -4,16 +4,16 @@ use Rattle.mg_change.specs.Phases.{IsSound, ticket_in}
 use Rattle.mg_change.specs.Openings.{opening_ticket}
 use Rattle.mg_change.specs.Closings.{IsClosing, IsQuiet, closing_ticket}
 use Rattle.mg_ops.specs.Inserts.{SendsPlain, insert_ticket}
-use Rattle.mg_jobs.specs.declared.player.InsertPlayer.{InsertPlayer}
-use Rattle.mg_jobs.specs.declared.player.InsertStage.{InsertStage}
-use Rattle.mg_jobs.specs.declared.player.InsertStage.TheVariants as inserts
+use Rattle.mg_jobs.specs.declared.insert.InsertPlayer.{InsertPlayer}
+use Rattle.mg_jobs.specs.declared.insert.InsertStage.{InsertStage}
+use Rattle.mg_jobs.specs.declared.insert.InsertStage.TheVariants as inserts
 use Rattle.mg_script.specs.declared.outcome.Ended.{Ended}
 use Rattle.mg_script.specs.declared.outcome.Ended.TheVariants as ended
-use Rattle.mg_jobs.specs.declared.player.FollowPlayer.{FollowPlayer}
-use Rattle.mg_jobs.specs.declared.player.Stage.{Stage}
-use Rattle.mg_jobs.specs.declared.player.Stage.TheVariants as stage
-use Rattle.mg_jobs.specs.declared.run.Player.{Player}
-use Rattle.mg_jobs.specs.declared.run.Player.TheVariants as player
+use Rattle.mg_jobs.specs.declared.follow.FollowPlayer.{FollowPlayer}
+use Rattle.mg_jobs.specs.declared.follow.Stage.{Stage}
+use Rattle.mg_jobs.specs.declared.follow.Stage.TheVariants as stage
+use Rattle.mg_jobs.specs.declared.player.Player.{Player}
+use Rattle.mg_jobs.specs.declared.player.Player.TheVariants as player
 
 -- the ticket that an insert holds
 abbrev pub inserts_ticket : InsertStage → Option ℕ
@@ -101,5 +101,5 @@ IsPlainJob job = IsPlainInsert job.stage
 abbrev pub job_ticket : Player → Option ℕ
 job_ticket (player.Insert insert) = player_ticket insert
 job_ticket (player.Follow follow) = stage_ticket follow.stage
-job_ticket player.Put = None
-job_ticket player.Get = None
+job_ticket (player.Put job) = None
+job_ticket (player.Get job) = None

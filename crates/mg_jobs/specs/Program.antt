@@ -13,6 +13,7 @@ use Rattle.mg_link.specs.Owner.{NamesItsOwn}
 use Rattle.mg_link.specs.Places.{out_at, polls_in}
 use Rattle.mg_link.specs.Standing.{Stands}
 use Rattle.mg_jobs.specs.Causes.{AllPollOwn, AllWaitAlone, OutcomeCaused, course}
+use Rattle.mg_jobs.specs.Completing.{JobWell}
 use Rattle.mg_jobs.specs.Counts.{AreNoted, turns_pended}
 use Rattle.mg_jobs.specs.Fated.{AreItsSteps}
 use Rattle.mg_jobs.specs.Drawing.{as_sent}
@@ -21,7 +22,7 @@ use Rattle.mg_jobs.specs.Sends.{MaySend, SendsOnly}
 use Rattle.mg_jobs.specs.Headline.{OutcomeFollowed}
 use Rattle.mg_script.specs.Plan.{Plan, Task, plan, tasks}
 use Rattle.mg_script.specs.Plan as plans
-use Rattle.mg_store.specs.InMemory.{AreAsFates, pends_in}
+use Rattle.mg_store.specs.InMemory.{AreAsFates, AreKept, pends_in}
 use Rattle.mg_store.specs.Stored.{AreOpen}
 use Rattle.mg_store.specs.declared.fate.Fate.{Fate}
 use Rattle.mg_script.specs.declared.outcome.Outcome.{Outcome}
@@ -83,7 +84,8 @@ script_ids script n = counted_id (script.ids ++ 0 ∷ []) n
 -- its own turns; each insert sends its documents with the script's next ids. There is one outcome for each job and one note for each turn, by which it
 -- follows how far each job came. Each note says rightly whether its turn pended: one poll pended in it, or none, and that of the newest command which its
 -- job sent up to then, by the notes; and each call pended as often as its fate says, or less while it waits. A call that waits was sent in a turn of a job
--- whose newest turn pended by its note, and which waits for no other. Each command that a turn sent, by the notes, is one that its job may send.
+-- whose newest turn pended by its note, and which waits for no other. Each command that a turn sent, by the notes, is one that its job may send. Where every
+-- fate keeps its command, each job ends well whose steps were answered at once.
 pub record RunFollowed (run : Run) : Type 0 where
   pub calls : List Call
   pub log_is : run.logs.items ≡ calls ∷ []
@@ -111,6 +113,8 @@ pub record RunFollowed (run : Run) : Type 0 where
   pub waits_alone : AllWaitAlone (out_at []) (out_at calls) (Some []) run.script.order.items turns.items
   pub sends : (i : ℕ) (t : Task) → slice_get (tasks run.script.jobs.items) i ≡ Some t
       → SendsOnly (MaySend (as_sent (script_ids run.script) (tasks run.script.jobs.items) run.script.order.items i t)) (course [] run.script.order.items turns.items) i calls
+  pub well : AreKept 0 fates → (i : ℕ) (t : Task) (r : Outcome) → slice_get (tasks run.script.jobs.items) i ≡ Some t → slice_get run.outcomes.items i ≡ Some r
+      → JobWell (course [] run.script.order.items turns.items) i calls (as_sent (script_ids run.script) (tasks run.script.jobs.items) run.script.order.items i t) r
 
 -- the run is of the script that was read, over one link
 pub record Ran (old new : Option (List ℕ)) (run : Run) : Type 0 where
@@ -178,6 +182,33 @@ run_of endings.OutOfMemory = None
 run_of (endings.Unprinted run) = Some run
 run_of (endings.Done run) = Some run
 
+-- the words are `run`, and what is left is a script whose order names its jobs only
+abbrev pub IsAsked : List (List ℕ) → Option (List ℕ) → Type 0
+IsAsked words left = (is_run words ≡ true) × ((bytes : List ℕ) × (left ≡ Some bytes) × ((script : Plan) × IsScript bytes script × HasJobs script))
+
+-- where such a run is asked for and no end fails, the jobs are run, and the status says that their text was written, or that memory ran out
+abbrev pub RunsThrough : List (List ℕ) → Option (List ℕ) → (read read' written written' : ℕ) → ℕ → Type 0
+RunsThrough words left read read' written written' status = IsAsked words left → (Rose read read' → ⊥) → (Rose written written' → ⊥) → (status ≡ 0) ⊎ (status ≡ 6)
+
 -- a status was told by its text, whole; or the sink failed, and a front of the text was taken
 abbrev pub Told : ℕ → List ℕ → ℕ → Option (List ℕ) → Option (List ℕ) → ℕ → ℕ → Type 0
 Told meant text status old new before now = ((status ≡ meant) × Appends old new text) ⊎ ((status ≡ 4) × Rose before now × TookFront old new text)
+
+-- as what an ending is told where memory runs out for its text
+abbrev pub short_of : Ending → Ending
+short_of endings.Usage = endings.Usage
+short_of endings.ReadFault = endings.ReadFault
+short_of endings.TooLong = endings.TooLong
+short_of (endings.BadScript p) = endings.OutOfMemory
+short_of (endings.NoSuchJob n) = endings.OutOfMemory
+short_of endings.OutOfMemory = endings.OutOfMemory
+short_of (endings.Unprinted run) = endings.Unprinted run
+short_of (endings.Done run) = endings.Unprinted run
+
+-- the status, the text and the run are those of the ending
+abbrev pub ToldAs : Ending → Option Run → ℕ → Option (List ℕ) → Option (List ℕ) → ℕ → ℕ → Type 0
+ToldAs ending run status old new before now = (run ≡ run_of ending) × Told (status_of ending) (ending_text ending) status old new before now
+
+-- it was told as itself, or memory ran out for its text
+abbrev pub IsToldAs : Ending → Option Run → ℕ → Option (List ℕ) → Option (List ℕ) → ℕ → ℕ → Type 0
+IsToldAs ending run status old new before now = ToldAs ending run status old new before now ⊎ ToldAs (short_of ending) run status old new before now

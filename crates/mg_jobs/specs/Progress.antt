@@ -6,19 +6,19 @@ use Rattle.mg_change.specs.Openings.{opening_ticket}
 use Rattle.mg_change.specs.Phases.{ticket_in}
 use Rattle.mg_ops.specs.Inserts.{insert_ticket}
 use Rattle.mg_jobs.specs.Follows.{HasGiven, IsFailed, IsUnfinished}
+use Rattle.mg_jobs.specs.Kinds.{OfFollow, OfGet, OfInsert, OfPut}
 use Rattle.mg_script.specs.Plan.{Task, insert, follow, put, get}
 use Rattle.mg_script.specs.declared.outcome.Ended.{Ended}
 use Rattle.mg_script.specs.declared.outcome.Ended.TheVariants as ended
 use Rattle.mg_script.specs.declared.outcome.Outcome.{Outcome}
-use Rattle.mg_script.specs.declared.outcome.Outcome.TheVariants as outcome
 use Rattle.mg_script.specs.declared.outcome.Turned.{Turned}
-use Rattle.mg_jobs.specs.declared.player.FollowPlayer.{FollowPlayer}
-use Rattle.mg_jobs.specs.declared.player.InsertStage.{InsertStage}
-use Rattle.mg_jobs.specs.declared.player.InsertStage.TheVariants as inserts
-use Rattle.mg_jobs.specs.declared.player.Stage.{Stage}
-use Rattle.mg_jobs.specs.declared.player.Stage.TheVariants as stage
-use Rattle.mg_jobs.specs.declared.run.Player.{Player}
-use Rattle.mg_jobs.specs.declared.run.Player.TheVariants as player
+use Rattle.mg_jobs.specs.declared.follow.FollowPlayer.{FollowPlayer}
+use Rattle.mg_jobs.specs.declared.insert.InsertStage.{InsertStage}
+use Rattle.mg_jobs.specs.declared.insert.InsertStage.TheVariants as inserts
+use Rattle.mg_jobs.specs.declared.follow.Stage.{Stage}
+use Rattle.mg_jobs.specs.declared.follow.Stage.TheVariants as stage
+use Rattle.mg_jobs.specs.declared.player.Player.{Player}
+use Rattle.mg_jobs.specs.declared.player.Player.TheVariants as player
 
 -- ---- what the notes say
 
@@ -137,15 +137,15 @@ FollowAt calls stage.Ended c k last = (NeverOpen c k ⊎ IsClosed calls c k) × 
 abbrev pub IsAt : ℕ → Player → ℕ → Bool → Type 0
 IsAt calls (player.Insert job) k last = InsertAt job.stage k last
 IsAt calls (player.Follow job) k last = FollowAt calls job.stage (came job) k last
-IsAt calls player.Put k last = Unit {0}
-IsAt calls player.Get k last = Unit {0}
+IsAt calls (player.Put job) k last = Unit {0}
+IsAt calls (player.Get job) k last = Unit {0}
 
 -- the same of a job that got what it needs for a turn
 abbrev pub IsReadyAt : ℕ → Player → ℕ → Bool → Type 0
 IsReadyAt calls (player.Insert job) k last = InsertReady job.stage k
 IsReadyAt calls (player.Follow job) k last = FollowAt calls job.stage (came job) k last
-IsReadyAt calls player.Put k last = Unit {0}
-IsReadyAt calls player.Get k last = Unit {0}
+IsReadyAt calls (player.Put job) k last = Unit {0}
+IsReadyAt calls (player.Get job) k last = Unit {0}
 
 -- the calls of a task
 abbrev pub calls_of : Task → ℕ
@@ -215,22 +215,10 @@ FollowPlayed (ended.Failed e) closed calls answered alive k last = (1 ≤ k) × 
 
 -- a task comes to this outcome by k turns that did not pend, where its newest turn pended or not; puts and gets stay unfinished
 abbrev pub IsPlayed : Task → ℕ → Bool → Outcome → Type 0
-IsPlayed (insert ns docs) k last (outcome.Insert e) = InsertPlayed e k last
-IsPlayed (insert ns docs) k last (outcome.Follow opened answers token alive closed) = ⊥
-IsPlayed (insert ns docs) k last (outcome.Put e) = ⊥
-IsPlayed (insert ns docs) k last (outcome.Get bytes e) = ⊥
-IsPlayed (follow on calls start filter batch) k last (outcome.Follow opened answers token alive closed) = FollowPlayed opened closed calls (length answers.items) alive k last
-IsPlayed (follow on calls start filter batch) k last (outcome.Insert e) = ⊥
-IsPlayed (follow on calls start filter batch) k last (outcome.Put e) = ⊥
-IsPlayed (follow on calls start filter batch) k last (outcome.Get bytes e) = ⊥
-IsPlayed (put db bucket name id chunk pieces) k last (outcome.Put e) = IsUnfinished e
-IsPlayed (put db bucket name id chunk pieces) k last (outcome.Insert e) = ⊥
-IsPlayed (put db bucket name id chunk pieces) k last (outcome.Follow opened answers token alive closed) = ⊥
-IsPlayed (put db bucket name id chunk pieces) k last (outcome.Get bytes e) = ⊥
-IsPlayed (get db bucket id read) k last (outcome.Get bytes e) = (bytes.items ≡ []) × IsUnfinished e
-IsPlayed (get db bucket id read) k last (outcome.Insert e) = ⊥
-IsPlayed (get db bucket id read) k last (outcome.Follow opened answers token alive closed) = ⊥
-IsPlayed (get db bucket id read) k last (outcome.Put e) = ⊥
+IsPlayed (insert ns docs) k last = OfInsert (λ e. InsertPlayed e k last)
+IsPlayed (follow on calls start filter batch) k last = OfFollow (λ opened said token alive closed. FollowPlayed opened closed calls (length said.items) alive k last)
+IsPlayed (put db bucket name id chunk pieces) k last = OfPut (λ e. IsUnfinished e)
+IsPlayed (get db bucket id read) k last = OfGet (λ bytes e. (bytes.items ≡ []) × IsUnfinished e)
 
 -- each job's outcome is what its turns brought
 abbrev pub AllPlayed : List Task → List ℕ → List Turned → List Outcome → Type 0

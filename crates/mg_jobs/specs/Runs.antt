@@ -1,17 +1,17 @@
 -- Jobs that share a link, turn by turn.
 use Rattle.std.specs.Prelude.{◌≡◌, ◌⊎◌, ℕ, ℤ, Bool, true, false, Option, Some, None, IsSome, List, length, slice_get}
-use Rattle.mg_link.specs.Acts.{IsOut, Tickets}
 use Rattle.mg_link.specs.Link.{Awaited, Told}
-use Rattle.mg_jobs.specs.Follows.{Placing}
-use Rattle.mg_jobs.specs.Headline.{IsSameTask, Turns}
+use Rattle.mg_jobs.specs.Headline.{Plays, task_of}
+use Rattle.mg_jobs.specs.Plays as words
 use Rattle.mg_jobs.specs.Playing.{HasRoom, IsSameFollow, StageHolds, follow_ended, insert_ended, job_ticket}
 use Rattle.mg_ops.specs.Drawn.{AreLater}
 use Rattle.mg_jobs.specs.Drawing.{JobHasIds, turn_draws}
-use Rattle.mg_jobs.specs.Telling.{FirstTells, JobTells}
+use Rattle.mg_jobs.specs.Telling.{JobTells, number_of}
+use Rattle.mg_script.specs.Plan.{Task}
 use Rattle.mg_script.specs.declared.outcome.Turned.{Turned}
-use Rattle.mg_jobs.specs.declared.player.FollowPlayer.{FollowPlayer}
-use Rattle.mg_jobs.specs.declared.run.Player.{Player}
-use Rattle.mg_jobs.specs.declared.run.Player.TheVariants as player
+use Rattle.mg_jobs.specs.declared.follow.FollowPlayer.{FollowPlayer}
+use Rattle.mg_jobs.specs.declared.player.Player.{Player}
+use Rattle.mg_jobs.specs.declared.player.Player.TheVariants as player
 use Rattle.mg_jobs.specs.declared.run.Runner.{Runner}
 
 -- ---- one job
@@ -20,51 +20,44 @@ use Rattle.mg_jobs.specs.declared.run.Runner.{Runner}
 abbrev pub has_ended : Player → Bool
 has_ended (player.Insert insert) = insert_ended insert
 has_ended (player.Follow follow) = follow_ended follow.stage
-has_ended player.Put = true
-has_ended player.Get = true
+has_ended (player.Put job) = true
+has_ended (player.Get job) = true
 
 -- what it has in flight is its own command
 abbrev pub JobHolds : ℤ → Player → Type 0
 JobHolds wire (player.Insert insert) = Unit {0}
 JobHolds wire (player.Follow follow) = StageHolds wire follow.stage
-JobHolds wire player.Put = Unit {0}
-JobHolds wire player.Get = Unit {0}
+JobHolds wire (player.Put job) = Unit {0}
+JobHolds wire (player.Get job) = Unit {0}
 
 -- there is a place for what a turn gives
 abbrev pub IsReady : Player → Type 0
 IsReady (player.Insert insert) = Unit {0}
 IsReady (player.Follow follow) = HasRoom follow
-IsReady player.Put = Unit {0}
-IsReady player.Get = Unit {0}
+IsReady (player.Put job) = Unit {0}
+IsReady (player.Get job) = Unit {0}
 
 -- the two differ at most in the room for answers
 abbrev pub IsSameJob : Player → Player → Type 0
 IsSameJob (player.Insert insert) p = p ≡ player.Insert insert
 IsSameJob (player.Follow follow) p = (follow' : FollowPlayer) × (p ≡ player.Follow follow') × IsSameFollow follow follow'
-IsSameJob player.Put p = p ≡ player.Put
-IsSameJob player.Get p = p ≡ player.Get
+IsSameJob (player.Put job) p = p ≡ player.Put job
+IsSameJob (player.Get job) p = p ≡ player.Get job
 
 -- it may be given a turn over a link
-pub record CanGo (awaited : Awaited) (wire : ℤ) (p : Player) : Type 0 where
-  pub out : IsOut awaited (job_ticket p)
-  pub holds : JobHolds wire p
+abbrev pub CanGo : Awaited → ℤ → Player → Type 0
+CanGo = words.CanGo job_ticket JobHolds
 
 -- ---- a turn
 
--- what a turn does to its job, to the link's tickets, and to what the job knows of its server and can tell of its causes
-pub record Goes (old new : Awaited) (log log' : Told) (wire : ℤ) (p p' : Player) : Type 0 where
-  pub tickets : Tickets old new (job_ticket p) (job_ticket p')
-  pub holds : JobHolds wire p'
-  pub next : Placing
-  pub turned : Turns old new log log' p p' next
-  pub told : JobTells old new log log' wire p p' next
-  pub task : IsSameTask p p'
+-- what a turn does to its job
+abbrev pub Goes : (Task → Type 0) → Awaited → Awaited → Told → Told → ℤ → Player → Player → Type 0
+Goes = words.Goes job_ticket JobHolds task_of Plays JobTells number_of JobHasIds
 
--- A turn drew what its job needed from a source that gave these ids, and an insert that had its first turn tells what it sends with them.
-pub record Draws (ids later : ℕ → List ℕ) (new : Awaited) (log log' : Told) (wire : ℤ) (p p' : Player) : Type 0 where
+-- a turn drew what its job needed from a source that gave these ids
+pub record Draws (ids later : ℕ → List ℕ) (p p' : Player) : Type 0 where
   pub drawn : AreLater ids (turn_draws p) later
   pub has : JobHasIds p'
-  pub first : FirstTells ids new log log' wire p p'
 
 -- the note of a turn in which nothing was sent
 abbrev pub idle : Turned

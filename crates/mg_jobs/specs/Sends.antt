@@ -1,24 +1,37 @@
 -- Which commands the jobs of a run send.
-use Rattle.std.specs.Prelude.{◌≡◌, ℕ, List, Some, slice_get}
+use Rattle.std.specs.Prelude.{◌≡◌, ℕ, ℤ, List, Some, slice_get}
 use Rattle.mg_bson.specs.Tree.{Fields}
 use Rattle.mg_bson.specs.Raw.{fields}
 use Rattle.mg_link.specs.Link.{Told}
 use Rattle.mg_link.specs.Log.{Call}
+use Rattle.mg_link.specs.Namespace.{Space}
+use Rattle.mg_ops.specs.Commands.{kill_command}
+use Rattle.mg_ops.specs.Cursors.{next_command, watch_manner}
+use Rattle.mg_ops.specs.declared.aggregate.ChangeStreamAggregate.{ChangeStreamAggregate}
+use Rattle.mg_ops.specs.declared.change_stream.WatchArgs.{WatchArgs}
+use Rattle.mg_change.specs.Openings.{opening_command}
+use Rattle.mg_change.specs.Phases.{resuming_command}
 use Rattle.mg_jobs.specs.Causes.{Course, SentIn, course}
-use Rattle.mg_jobs.specs.Completing.{IsCommandOf}
 use Rattle.mg_jobs.specs.Drawing.{as_sent}
 use Rattle.mg_jobs.specs.Follows.{IsArgsFor}
 use Rattle.mg_ops.specs.InsertCauses.{IsInsertOf}
 use Rattle.mg_script.specs.Plan.{Task, insert, follow, put, get}
 use Rattle.mg_script.specs.declared.outcome.Turned.{Turned}
 
+-- a command that a follow with such arguments may send
+pub data IsCommandOf (are_its : WatchArgs → Type 0) (command : Fields) : Type 0 where
+  opens : (args : WatchArgs) → are_its args → command ≡ opening_command args → IsCommandOf are_its command
+  resumes : (a : ChangeStreamAggregate) (wire : ℤ) → are_its a.args → command ≡ resuming_command a wire → IsCommandOf are_its command
+  asks : (args : WatchArgs) → are_its args → (id : ℤ) (space : Space) → command ≡ next_command id space (watch_manner args.options) → IsCommandOf are_its command
+  kills : (space : Space) (ids : List ℤ) → command ≡ kill_command space ids → IsCommandOf are_its command
+
 -- The command is one that a job with this task may send: an insert of some of these documents; the aggregate that opens the watch or resumes it, or a
 -- getMore or killCursors. A put and a get send none.
 abbrev pub MaySend : Task → Fields → Type 0
-MaySend (insert ns docs) command = IsInsertOf ns docs command
-MaySend (follow on count start filter batch) command = IsCommandOf (IsArgsFor on start filter batch) command
-MaySend (put db bucket name id chunk pieces) command = ⊥
-MaySend (get db bucket id read) command = ⊥
+MaySend (insert ns docs) = IsInsertOf ns docs
+MaySend (follow on count start filter batch) = IsCommandOf (IsArgsFor on start filter batch)
+MaySend (put db bucket name id chunk pieces) = λ command. ⊥
+MaySend (get db bucket id read) = λ command. ⊥
 
 -- Each command that job i sent in these turns is such a one.
 pub record SendsOnly (may : Fields → Type 0) (c : Course) (i : ℕ) (calls : List Call) : Type 0 where

@@ -1,12 +1,11 @@
 -- What a job can tell, turn by turn, of what its answers are caused by.
-use Rattle.std.specs.Prelude.{◌≡◌, ◌↔◌, ◌⊎◌, ◌+◌, ◌<◌, ◌≤◌, IsTrue, Bool, true, false, ℕ, suc, ℤ, pos, List, [], length, Option, Some, slice_get}
+use Rattle.std.specs.Prelude.{◌≡◌, ◌↔◌, ◌⊎◌, ◌+◌, ◌≤◌, IsTrue, Bool, false, ℕ, suc, ℤ, pos, List, [], length, Option, Some, slice_get}
 use Rattle.std.specs.List.{sum_by}
 use Rattle.mg_bson.specs.Tree.{Fields, Tree}
 use Rattle.mg_link.specs.Calls.{Past, past_of, AddsOnly}
 use Rattle.mg_link.specs.Link.{Awaited, Told}
 use Rattle.mg_link.specs.Log.{Call}
 use Rattle.mg_link.specs.Namespace.{Space, space, target}
-use Rattle.mg_link.specs.Owner.{IsOf}
 use Rattle.mg_link.specs.declared.error.Error.{Error}
 use Rattle.mg_link.specs.declared.error.ErrorKind.TheVariants as kind
 use Rattle.mg_ops.specs.Naming.{IsNamed}
@@ -18,35 +17,30 @@ use Rattle.mg_change.specs.Following.{token_of}
 use Rattle.mg_change.specs.Openings.{IsOpening}
 use Rattle.mg_change.specs.declared.stream.ChangeStream.{ChangeStream}
 use Rattle.mg_jobs.specs.Causes.{Answered, ClosedBy, Course, EndsBy, IsAlive, AllSentIn, SentNoneBehind, course, sent_at}
-use Rattle.mg_jobs.specs.Completing.{IsCommandOf}
 use Rattle.mg_jobs.specs.Follows.{FollowTurns, HasGiven, IsArgsFor, Placing, filter_in}
-use Rattle.mg_jobs.specs.Headline.{AllKnow}
+use Rattle.mg_jobs.specs.Headline.{AllKnow, task_of}
 use Rattle.mg_ops.specs.InsertCauses.{HasSent, IsInsertOf}
 use Rattle.mg_script.specs.Plan.{Task, begin}
 use Rattle.mg_ops.specs.Drawn.{with_ids}
-use Rattle.mg_jobs.specs.Drawing.{first_id, has_turn}
-use Rattle.mg_jobs.specs.Playing.{IsSameInsert, job_ticket}
-use Rattle.mg_jobs.specs.Sends.{SendsOnly}
+use Rattle.mg_jobs.specs.Drawing.{first_id, sent_documents, sent_from}
+use Rattle.mg_jobs.specs.Playing.{job_ticket}
+use Rattle.mg_jobs.specs.Plays as words
+use Rattle.mg_jobs.specs.Plays.{Extends, Places}
+use Rattle.mg_jobs.specs.Sends.{IsCommandOf, MaySend, SendsOnly}
 use Rattle.mg_ops.specs.Underway.{HasInserted}
 use Rattle.mg_script.specs.declared.outcome.Answer.{Answer}
 use Rattle.mg_script.specs.declared.outcome.Ended.{Ended}
 use Rattle.mg_script.specs.declared.outcome.Ended.TheVariants as ended
 use Rattle.mg_script.specs.declared.outcome.Turned.{Turned}
-use Rattle.mg_jobs.specs.declared.player.FollowPlayer.{FollowPlayer}
-use Rattle.mg_jobs.specs.declared.player.InsertPlayer.{InsertPlayer}
-use Rattle.mg_jobs.specs.declared.player.InsertStage.{InsertStage}
-use Rattle.mg_jobs.specs.declared.player.InsertStage.TheVariants as inserts
-use Rattle.mg_jobs.specs.declared.player.Stage.{Stage}
-use Rattle.mg_jobs.specs.declared.player.Stage.TheVariants as stage
-use Rattle.mg_jobs.specs.declared.player.Watched.{Watched}
-use Rattle.mg_jobs.specs.declared.run.Player.{Player}
-use Rattle.mg_jobs.specs.declared.run.Player.TheVariants as player
-
--- The places in the log of what a follow sent: for its opening, for each of its calls, and for the call, opening or closing that goes on.
-pub record Places : Type 0 where
-  pub opened : List ℕ
-  pub owns : List (List ℕ)
-  pub now : List ℕ
+use Rattle.mg_jobs.specs.declared.follow.FollowPlayer.{FollowPlayer}
+use Rattle.mg_jobs.specs.declared.insert.InsertPlayer.{InsertPlayer}
+use Rattle.mg_jobs.specs.declared.insert.InsertStage.{InsertStage}
+use Rattle.mg_jobs.specs.declared.insert.InsertStage.TheVariants as inserts
+use Rattle.mg_jobs.specs.declared.follow.Stage.{Stage}
+use Rattle.mg_jobs.specs.declared.follow.Stage.TheVariants as stage
+use Rattle.mg_jobs.specs.declared.follow.Watched.{Watched}
+use Rattle.mg_jobs.specs.declared.player.Player.{Player}
+use Rattle.mg_jobs.specs.declared.player.Player.TheVariants as player
 
 -- what a follow keeps beside its stage
 pub record Kept : Type 0 where
@@ -61,7 +55,7 @@ abbrev pub kept : FollowPlayer → Kept
 kept p = record { watched = p.watched; opened = p.opened; said = p.answers.items; token = p.token; alive = p.alive; closed = p.closed }
 
 abbrev pub IsWatchArgs : Watched → WatchArgs → Type 0
-IsWatchArgs v a = IsArgsFor (target v.target.now) (begin v.start.now) (filter_in v) v.batch_size a
+IsWatchArgs v = IsArgsFor (target v.target.now) (begin v.start.now) (filter_in v) v.batch_size
 
 -- nothing was answered yet
 abbrev pub TellsFirst : Places → Kept → Type 0
@@ -111,16 +105,6 @@ number stage.Ended k = length k.said
 
 -- ---- turns
 
--- the place is one of what went on, or was sent at from one place on, up to another
-abbrev pub IsNow : Places → ℕ → ℕ → ℕ → Type 0
-IsNow q from upto place = IsOf q.now place ⊎ ((from ≤ place) × (place < upto))
-
--- behind a turn that sent at the places from one on, up to another, what was sent for what goes on is told so
-pub record Extends (q q' : Places) (n n' : ℕ) (from upto : ℕ) : Type 0 where
-  pub opened : (place : ℕ) → IsOf q'.opened place → IsOf q.opened place ⊎ ((n ≡ 0) × IsNow q from upto place)
-  pub owns : (k : ℕ) (own : List ℕ) → slice_get q'.owns k ≡ Some own → (slice_get q.owns k ≡ Some own) ⊎ ((suc k ≡ n) × ((place : ℕ) → IsOf own place → IsNow q from upto place))
-  pub now : (place : ℕ) → IsOf q'.now place → (n' ≡ n) × IsNow q from upto place
-
 -- what a follow with such arguments tells behind a log, where it told of these places before
 pub record Tell (awaited : Awaited) (begun calls : List Call) (wire : ℤ) (v : Watched) (q : Places) (n : ℕ) (s : Stage) (k : Kept) (at : Option ℕ) : Type 0 where
   pub longer : length begun ≤ length calls
@@ -145,16 +129,11 @@ pub record FollowGoesOn (old new : Awaited) (log log' : Told) (wire : ℤ) (s : 
 
 -- ---- inserts
 
--- what an insert that drew its ids, and sends these documents, can tell at each stage
+-- what an insert that sends these documents can tell at each stage: nothing before it drew its ids
 abbrev pub InsertTells : Awaited → Past → Space → List Fields → InsertStage → Type 0
-InsertTells awaited past at sent inserts.Unsent = ⊥
+InsertTells awaited past at sent inserts.Unsent = Unit {0}
 InsertTells awaited past at sent (inserts.Goes i) = HasSent awaited past at sent i × (IsNamed at → HasInserted awaited past at sent i)
 InsertTells awaited past at sent (inserts.Ended end) = EndsBy past at sent end
-
--- A turn led an insert of these documents to a stage: it tells what it should, at whatever places it had sent before.
-abbrev pub InsertBegins : Awaited → Told → Told → ℤ → Space → List Fields → InsertStage → Type 0
-InsertBegins new log log' wire at sent stage' = (calls calls' : List Call) → log ≡ Some calls → log' ≡ Some calls' → (places : List ℕ)
-    → InsertTells new (past_of places (length calls) calls' wire) at sent stage' × AddsOnly (IsInsertOf at sent) calls calls'
 
 -- A turn led an insert of these documents, which had sent at some places before, from one stage to another: it goes on telling.
 abbrev pub InsertTurns : Awaited → Awaited → Told → Told → ℤ → Space → List Fields → InsertStage → InsertStage → Type 0
@@ -169,71 +148,55 @@ TellsOn ids at documents (inserts.Ended end) stage' = stage' ≡ inserts.Ended e
 
 -- ---- all jobs
 
--- each command of a follow stands in a turn of it
+-- what an insert tells of what it sent at these places, where its task is sent as this one; a follow, whose stream the call at this place opened
+abbrev pub InsertSays : Awaited → List Call → ℤ → Places → Task → InsertPlayer → Option ℕ → Type 0
+InsertSays awaited calls wire q t job at = InsertTells awaited (sent_at q.now calls wire) (space job.ns.now) (sent_documents t) job.stage
+
+abbrev pub FollowSays : Awaited → List Call → ℤ → Places → Task → FollowPlayer → Option ℕ → Type 0
+FollowSays awaited calls wire q t job at = Tells awaited calls wire q job.stage (kept job) at
+
+abbrev pub JobTells : Awaited → List Call → ℤ → Places → Task → Player → Option ℕ → Type 0
+JobTells awaited calls wire q t (player.Insert job) at = InsertSays awaited calls wire q t job at
+JobTells awaited calls wire q t (player.Follow job) at = FollowSays awaited calls wire q t job at
+JobTells awaited calls wire q t (player.Put job) at = Unit {0}
+JobTells awaited calls wire q t (player.Get job) at = Unit {0}
+
+-- the number of what goes on in a job: how many turns that did not pend come before it
+abbrev pub number_of : Player → ℕ
+number_of (player.Insert job) = 0
+number_of (player.Follow job) = number job.stage (kept job)
+number_of (player.Put job) = 0
+number_of (player.Get job) = 0
+
+-- what a job of any kind tells behind a turn, and in it
+abbrev pub TellsBehind : Awaited → List Call → List Call → ℤ → Task → Places → ℕ → Player → Option ℕ → Type 0
+TellsBehind = words.TellsBehind JobTells number_of
+
+abbrev pub TurnTells : (Task → Type 0) → Awaited → Awaited → Told → Told → ℤ → Player → Player → Placing → Type 0
+TurnTells so = words.TurnTells task_of JobTells number_of so
+
+abbrev pub TellsAs : (Task → Type 0) → Player → Player → Type 0
+TellsAs so = words.TellsAs task_of JobTells number_of so
+
+-- each command of a job stands in a turn of it
 pub record AllSent (c : Course) (i : ℕ) (q : Places) (n : ℕ) : Type 0 where
   pub opened : AllSentIn c i 0 q.opened
   pub owns : (k : ℕ) (own : List ℕ) → slice_get q.owns k ≡ Some own → AllSentIn c i (suc k) own
   pub now : AllSentIn c i n q.now
 
--- a job that tells nothing
-abbrev pub TellsNothing : Player → Type 0
-TellsNothing (player.Insert job) = ⊥
-TellsNothing (player.Follow job) = ⊥
-TellsNothing player.Put = Unit {0}
-TellsNothing player.Get = Unit {0}
-
--- A turn led a job from one state to another: it goes on telling.
-abbrev pub JobTells : Awaited → Awaited → Told → Told → ℤ → Player → Player → Placing → Type 0
-JobTells old new log log' wire (player.Follow job) (player.Follow job') next = (job'.watched ≡ job.watched) × FollowTells old new log log' wire job.stage (kept job) job'.stage (kept job') next
-JobTells old new log log' wire (player.Follow job) (player.Insert job') next = ⊥
-JobTells old new log log' wire (player.Follow job) player.Put next = ⊥
-JobTells old new log log' wire (player.Follow job) player.Get next = ⊥
-JobTells old new log log' wire (player.Insert job) (player.Insert job') next = IsSameInsert job job' × ((sent : List Fields) → InsertTurns old new log log' wire (space job.ns.now) sent job.stage job'.stage)
-JobTells old new log log' wire (player.Insert job) (player.Follow job') next = ⊥
-JobTells old new log log' wire (player.Insert job) player.Put next = ⊥
-JobTells old new log log' wire (player.Insert job) player.Get next = ⊥
-JobTells old new log log' wire player.Put p' next = TellsNothing p'
-JobTells old new log log' wire player.Get p' next = TellsNothing p'
-
--- The first turn of an insert, which drew its ids from a source that gave these, led it to another state: it tells what it should.
-abbrev pub FirstTells : (ℕ → List ℕ) → Awaited → Told → Told → ℤ → Player → Player → Type 0
-FirstTells ids new log log' wire (player.Insert job) p' = (job' : InsertPlayer) → p' ≡ player.Insert job' → job.stage ≡ inserts.Unsent → InsertBegins new log log' wire (space job.ns.now) (with_ids ids 0 job.documents.now) job'.stage
-FirstTells ids new log log' wire (player.Follow job) p' = Unit {0}
-FirstTells ids new log log' wire player.Put p' = Unit {0}
-FirstTells ids new log log' wire player.Get p' = Unit {0}
-
--- the two tell the same, but for an insert that drew its ids from a source that gave these
-abbrev pub IsSameTeller : (ℕ → List ℕ) → Player → Player → Type 0
-IsSameTeller ids (player.Follow job) (player.Follow job') = (job'.stage ≡ job.stage) × (kept job' ≡ kept job)
-IsSameTeller ids (player.Follow job) (player.Insert job') = ⊥
-IsSameTeller ids (player.Follow job) player.Put = ⊥
-IsSameTeller ids (player.Follow job) player.Get = ⊥
-IsSameTeller ids (player.Insert job) (player.Insert job') = IsSameInsert job job' × TellsOn ids (space job.ns.now) job.documents.now job.stage job'.stage
-IsSameTeller ids (player.Insert job) (player.Follow job') = ⊥
-IsSameTeller ids (player.Insert job) player.Put = ⊥
-IsSameTeller ids (player.Insert job) player.Get = ⊥
-IsSameTeller ids player.Put p' = TellsNothing p'
-IsSameTeller ids player.Get p' = TellsNothing p'
-
--- a follow tells what it should, each of its commands stands in a turn of it, and its turns sent no others than it may send
+-- a follow tells what it should, and each of its commands stands in a turn of it
 pub record FollowTold (awaited : Awaited) (calls : List Call) (wire : ℤ) (c : Course) (i : ℕ) (s : Stage) (k : Kept) (at : Option ℕ) : Type 0 where
   pub places : Places
   pub tells : Tells awaited calls wire places s k at
   pub sent : AllSent c i places (number s k)
-  pub sends : SendsOnly (IsCommandOf (IsWatchArgs k.watched)) c i calls
 
--- so does an insert once it had a turn, which sends its documents with the ids from the one of this number on
-pub record InsertTold (ids : ℕ → List ℕ) (first : ℕ) (awaited : Awaited) (calls : List Call) (wire : ℤ) (c : Course) (i : ℕ) (job : InsertPlayer) : Type 0 where
-  pub places : List ℕ
-  pub sent : AllSentIn c i 0 places
-  pub tells : has_turn i c.order ≡ true → InsertTells awaited (sent_at places calls wire) (space job.ns.now) (with_ids ids first job.documents.now) job.stage
-  pub sends : SendsOnly (IsInsertOf (space job.ns.now) (with_ids ids first job.documents.now)) c i calls
-
-abbrev pub JobTold : (ℕ → List ℕ) → ℕ → Awaited → List Call → ℤ → Course → ℕ → Player → Option ℕ → Type 0
-JobTold ids first awaited calls wire c i (player.Follow job) at = FollowTold awaited calls wire c i job.stage (kept job) at
-JobTold ids first awaited calls wire c i (player.Insert job) at = InsertTold ids first awaited calls wire c i job
-JobTold ids first awaited calls wire c i player.Put at = SendsOnly (λ command. ⊥) c i calls
-JobTold ids first awaited calls wire c i player.Get at = SendsOnly (λ command. ⊥) c i calls
+-- A job tells what it should, each of its commands stands in a turn of it, and its turns sent no others than it may send. What it inserts has ids from the one
+-- of this number on.
+pub record JobTold (ids : ℕ → List ℕ) (first : ℕ) (awaited : Awaited) (calls : List Call) (wire : ℤ) (c : Course) (i : ℕ) (p : Player) (at : Option ℕ) : Type 0 where
+  pub places : Places
+  pub tells : JobTells awaited calls wire places (sent_from ids first (task_of p)) p at
+  pub sent : AllSent c i places (number_of p)
+  pub sends : SendsOnly (MaySend (sent_from ids first (task_of p))) c i calls
 
 -- each job that has a task tells what it should, where these calls opened their streams, and the notes count what was sent; the ticket of a job is that of
 -- its newest command

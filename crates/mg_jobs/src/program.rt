@@ -10,7 +10,7 @@ ghost use Rattle.mg_script.specs.Plan.{plan};
 ghost use Rattle.mg_script.specs.Plan as plans;
 ghost use Rattle.mg_script.specs.Places.{place_text};
 ghost use Rattle.mg_script.specs.Text.{line, text_of};
-ghost use Rattle.mg_jobs.specs.Program.{Caused, HasJobs, Ran, ReadMissing, ReadNoScript, ReadTooMuch, RunFollowed, Told, ending_text, is_run, run_of, status_of};
+ghost use Rattle.mg_jobs.specs.Program.{Caused, HasJobs, IsToldAs, Ran, ReadMissing, ReadNoScript, ReadTooMuch, RunFollowed, RunsThrough, Told, ending_text, is_run, run_of, status_of};
 
 use crate::fated::{Fated, FatedLink};
 use crate::fates::small_copies;
@@ -218,6 +218,25 @@ fn refuse_job<K: Sink>(alloc: Global, n: u32, sink: &mut K) -> Finished
     }
 }
 
+/// Writes what came of the words and the input, and hands the run back.
+fn tell<K: Sink>(alloc: Global, ending: Ending, sink: &mut K) -> Finished
+    ensures { IsToldAs ending result.run result.status (K.taken sink.old) (K.taken sink.new) (K.faults sink.old) (K.faults sink.new) }
+{
+    match ending {
+        Ending::Usage => refuse(sink, 1, "usage: jobs run | jobs share | jobs grow N\n"),
+        Ending::ReadFault => refuse(sink, 2, "read fault\n"),
+        Ending::TooLong => refuse(sink, 7, "script too long\n"),
+        Ending::BadScript(place) => refuse_script(alloc, place, sink),
+        Ending::NoSuchJob(n) => refuse_job(alloc, n, sink),
+        Ending::OutOfMemory => refuse(sink, 6, "out of memory\n"),
+        Ending::Unprinted(run) => Finished {
+            status: say(sink, 6, "out of memory\n"),
+            run: Some(run),
+        },
+        Ending::Done(run) => print_run(alloc, run, sink),
+    }
+}
+
 /// The whole program: reads a script from the source, runs its jobs over an empty store in memory, and writes what each
 /// job got to the sink. `words` are the arguments behind the program's name.
 ///
@@ -253,18 +272,8 @@ pub fn run_program<S: Source, K: Sink>(
     // 0: the text of the run was written whole.
     ensures whole { result.status ≡ 0
         → IsSomeAnd result.run (λ r. Appends (K.taken sink.old) (K.taken sink.new) (text_of r)) }
+    // 0 or 6 where the words are `run`, what the source has left is a script whose order names jobs only, and no end fails.
+    ensures through { RunsThrough (map string_bytes words.now) (S.left source.old) (S.faults source.old) (S.faults source.new) (K.faults sink.old) (K.faults sink.new) result.status }
 {
-    match play(alloc, words, source) {
-        Ending::Usage => refuse(sink, 1, "usage: jobs run | jobs share | jobs grow N\n"),
-        Ending::ReadFault => refuse(sink, 2, "read fault\n"),
-        Ending::TooLong => refuse(sink, 7, "script too long\n"),
-        Ending::BadScript(place) => refuse_script(alloc, place, sink),
-        Ending::NoSuchJob(n) => refuse_job(alloc, n, sink),
-        Ending::OutOfMemory => refuse(sink, 6, "out of memory\n"),
-        Ending::Unprinted(run) => Finished {
-            status: say(sink, 6, "out of memory\n"),
-            run: Some(run),
-        },
-        Ending::Done(run) => print_run(alloc, run, sink),
-    }
+    tell(alloc, play(alloc, words, source), sink)
 }

@@ -1,168 +1,34 @@
 //! Jobs, run by a list of turns.
-ghost use Rattle.std.specs.Prelude.{◌≡◌, ◌≤◌, ◌<◌, ◌++◌, ◌∷◌, ◌⊎◌, ℕ, Bool, [], false, true, length, take, List, Option, IfErr, IfOk, IfSome, OnErr, OnOk, Ok, Err, Some};
+ghost use Rattle.std.specs.Prelude.{◌≡◌, ◌≤◌, ◌<◌, ◌++◌, ◌∷◌, ◌⊎◌, ℕ, [], false, true, length, take, List, IfErr, IfOk, IfSome, OnErr, OnOk, Ok, Err, Some};
 ghost use Rattle.std.specs.List.{All, sum_by};
 ghost use Rattle.mg_link.specs.Errors.{plain};
 ghost use Rattle.mg_link.specs.Link.{Awaited, Later, Told};
 ghost use Rattle.mg_link.specs.Causes.{RoseJust};
 ghost use Rattle.mg_jobs.specs.Counts.{AreNoted, IsNoted, LosesNothing, PolledNewest, StartedBy, turns_pended};
 ghost use Rattle.mg_ops.specs.Drawn.{AreLater};
-ghost use Rattle.mg_jobs.specs.Drawing.{HaveDrawn, JobHasIds, drawn_in, turn_draws};
-ghost use Rattle.mg_jobs.specs.Runs.{AreHeld, AreNew, AreSameJobs, CanGo, Draws, Goes, IsNew, IsReady, IsSameJob, JobHolds, Stands, has_ended, idle, job_ended};
-ghost use Rattle.mg_link.specs.Log.{Call};
-ghost use Rattle.mg_link.specs.Owner.{Owner};
-ghost use Rattle.mg_jobs.specs.Headline.{AllFollowed, AreFirst, GoesOnNaming, DoTasks, Does, IsFirst, IsSameTask, Knowing, OutcomeOf, OutcomesOf, Plays};
-ghost use Rattle.mg_script.specs.Plan.{Task, task, tasks};
-ghost use Rattle.mg_jobs.specs.Progress.{AllAt, AllPlayed, GoesBy, IsAt, IsReadyAt, JobGoes, TurnsBy, calls_of};
+ghost use Rattle.mg_jobs.specs.Drawing.{DrawsAs, HaveDrawn, drawn_in};
+ghost use Rattle.mg_jobs.specs.Runs.{AreHeld, AreNew, AreSameJobs, CanGo, Draws, Goes, IsReady, IsSameJob, Stands, has_ended, idle, job_ended};
+ghost use Rattle.mg_jobs.specs.Headline.{AllFollowed, AreFirst, GoesOnNaming, DoTasks, Knowing, OutcomesOf};
+ghost use Rattle.mg_script.specs.Plan.{Task, tasks};
+ghost use Rattle.mg_jobs.specs.Progress.{AllAt, AllPlayed, GoesBy, TurnsBy};
 ghost use Rattle.mg_jobs.specs.Causes.{AllCaused, AllPollOwn, AllWaitAlone, PollsOwn};
 ghost use Rattle.mg_jobs.specs.Completing.{AllWell};
 ghost use Rattle.mg_jobs.specs.Sends.{AllSendOnly};
 ghost use Rattle.mg_script.specs.Script.{first_missing};
 ghost use Rattle.mg_jobs.specs.Playing.{job_ticket};
-ghost use Rattle.mg_jobs.specs.Telling.{AllTell, IsSameTeller};
+ghost use Rattle.mg_jobs.specs.Plays.{AnySent};
+ghost use Rattle.mg_jobs.specs.Telling.{AllTell};
 
 use crate::counting::{Began, Counting};
-use crate::player::{FollowPlayer, InsertPlayer, Watched};
+use crate::kind::Kind;
+use crate::player::Player;
 use core::mem::replace_with;
 use mg_bson::DateTime;
 use mg_link::{Error, ErrorKind, IdSource, Link, plain, push_reserved};
-use mg_script::{Ended, Job, Outcome, Played, Turned, first_missing};
+use mg_script::{Job, Played, Turned, first_missing};
 use std::alloc::Global;
 use std::marker::Brand;
 use std::mem;
-
-/// A job that goes on.
-enum Player<'a> {
-    Insert(InsertPlayer<'a>),
-    Follow(FollowPlayer<'a>),
-    Put,
-    Get,
-}
-
-// By hand, so that letting one go is one call.
-impl Drop for Player<'_> {
-    fn drop(self) {
-        match self {
-            Player::Insert(_) => {}
-            Player::Follow(_) => {}
-            Player::Put => {}
-            Player::Get => {}
-        }
-    }
-}
-
-impl<'a> Player<'a> {
-    fn new(alloc: Global, job: &'a Job) -> Player<'a>
-        ensures new { IsNew result }
-        ensures first { IsFirst result }
-        ensures task { Does (task job.now) result }
-        ensures at { IsAt (calls_of (task job.now)) result 0 false }
-    {
-        match job {
-            Job::Insert { ns, docs } => Player::Insert(InsertPlayer::new(ns, docs.as_slice())),
-            Job::Follow {
-                target,
-                calls,
-                start,
-                filter,
-                batch,
-            } => {
-                let watched = Watched {
-                    target,
-                    start,
-                    filter: filter.as_ref(),
-                    batch_size: *batch,
-                };
-                Player::Follow(FollowPlayer::new(alloc, *calls, watched))
-            }
-            Job::Put { .. } => Player::Put,
-            Job::Get { .. } => Player::Get,
-        }
-    }
-
-    fn has_ended(&self) -> bool
-        ensures { result ≡ has_ended self.now }
-    {
-        match self {
-            Player::Insert(insert) => insert.has_ended(),
-            Player::Follow(follow) => follow.has_ended(),
-            Player::Put => true,
-            Player::Get => true,
-        }
-    }
-
-    /// The number of the ticket that it holds, while it waits for a reply.
-    fn ticket_number(&self) -> Option<u64>
-        ensures { result ≡ job_ticket self.now }
-    {
-        match self {
-            Player::Insert(insert) => insert.ticket_number(),
-            Player::Follow(follow) => follow.ticket_number(),
-            Player::Put => None,
-            Player::Get => None,
-        }
-    }
-
-    /// Gets what a turn needs beside the link. Nothing is sent.
-    fn ready<I: IdSource>(&mut self, alloc: Global, ids: &mut I) -> Result<(), Error>
-        ensures ticket { job_ticket self.new ≡ job_ticket self.old }
-        ensures holds { (wire : _) → JobHolds wire self.old → JobHolds wire self.new }
-        ensures ready { OnOk result (IsReady self.new) }
-        ensures knows { (awaited : Awaited) (calls : List Call) (o : Owner) (at : Option ℕ) → Plays awaited calls self.old o at → Plays awaited calls self.new o at }
-        ensures task { IsSameTask self.old self.new }
-        ensures at { (calls k : ℕ) (last : Bool) → IsAt calls self.old k last → IsReadyAt calls self.new k last }
-        ensures same { OnErr result (IsSameJob self.old self.new) }
-        ensures teller { IsSameTeller (I.ids ids.old) self.old self.new }
-        ensures drawn { OnOk result (AreLater (I.ids ids.old) (turn_draws self.old) (I.ids ids.new)) }
-        ensures has { OnOk result (JobHasIds self.new) }
-        ensures undrawn { OnErr result (ids.new ≡ ids.old) }
-        ensures err { IfErr result (λ e. e ≡ plain ErrorKind.OutOfMemory) }
-    {
-        match self {
-            Player::Insert(insert) => {
-                insert.ready(alloc, ids);
-                Ok(())
-            }
-            Player::Follow(follow) => follow.ready(),
-            Player::Put => Ok(()),
-            Player::Get => Ok(()),
-        }
-    }
-
-    /// One turn.
-    fn go<L: Link>(self, alloc: Global, link: &mut L) -> Player<'a>
-        requires can { CanGo (L.awaited link.old) (L.wire link.old) self }
-        requires ready { IsReady self }
-        ensures goes { Goes (L.awaited link.old) (L.awaited link.new) (L.log link.old) (L.log link.new) (L.wire link.new) self.entry result }
-        ensures comes { JobGoes (L.pends link.old) (L.pends link.new) self.entry result }
-        ensures later { Later (L.faults link.old) (L.faults link.new) (L.pends link.old) (L.pends link.new)
-            (L.wire link.old) (L.wire link.new) (L.prompt link.old) (L.prompt link.new) }
-    {
-        match self {
-            Player::Insert(insert) => Player::Insert(insert.go(link)),
-            Player::Follow(follow) => {
-                let mut follow = follow;
-                follow.go(alloc, link);
-                Player::Follow(follow)
-            }
-            Player::Put => Player::Put,
-            Player::Get => Player::Get,
-        }
-    }
-
-    fn into_outcome(self, alloc: Global) -> Outcome
-        ensures of { OutcomeOf self.entry result }
-    {
-        match self {
-            Player::Insert(insert) => insert.into_outcome(),
-            Player::Follow(follow) => follow.into_outcome(),
-            Player::Put => Outcome::Put(Ended::Unfinished),
-            Player::Get => Outcome::Get {
-                bytes: Vec::new(alloc),
-                ended: Ended::Unfinished,
-            },
-        }
-    }
-}
 
 // ---- one turn
 
@@ -190,7 +56,7 @@ fn counted_since<'a, L: Link, B: Began>(link: L, turn: Turn<'a>) -> (L, Gone<'a>
     requires pends { L.pends link ≡ B.pends }
     requires polls { L.polls link ≡ B.polls }
     requires prompts { B.prompts → L.prompt link }
-    ensures goes { Goes (L.awaited link) (L.awaited result.0) (L.log link) (L.log result.0) (L.wire result.0) turn.entry.player result.1.player }
+    ensures goes { Goes AnySent (L.awaited link) (L.awaited result.0) (L.log link) (L.log result.0) (L.wire result.0) turn.entry.player result.1.player }
     ensures later { Later (L.faults link) (L.faults result.0) (L.pends link) (L.pends result.0)
         (L.wire link) (L.wire result.0) (L.prompt link) (L.prompt result.0) }
     ensures noted { IsNoted result.1.note B.calls (L.log result.0) B.pends (L.pends result.0) B.prompts (L.prompt result.0) }
@@ -204,11 +70,11 @@ fn counted_since<'a, L: Link, B: Began>(link: L, turn: Turn<'a>) -> (L, Gone<'a>
     (link, Gone { player, note })
 }
 
-/// Gives a job its turn.
+/// Gives a job its turn. For the prover alone: it picks what the link began with.
 fn counted<'a, L: Link>(link: L, turn: Turn<'a>) -> (L, Gone<'a>)
     requires can { CanGo (L.awaited link) (L.wire link) turn.player }
     requires ready { IsReady turn.player }
-    ensures goes { Goes (L.awaited link) (L.awaited result.0) (L.log link) (L.log result.0) (L.wire result.0) turn.entry.player result.1.player }
+    ensures goes { Goes AnySent (L.awaited link) (L.awaited result.0) (L.log link) (L.log result.0) (L.wire result.0) turn.entry.player result.1.player }
     ensures later { Later (L.faults link) (L.faults result.0) (L.pends link) (L.pends result.0)
         (L.wire link) (L.wire result.0) (L.prompt link) (L.prompt result.0) }
     ensures noted { IsNoted result.1.note (L.log link) (L.log result.0) (L.pends link) (L.pends result.0) (L.prompt link) (L.prompt result.0) }
@@ -216,26 +82,6 @@ fn counted<'a, L: Link>(link: L, turn: Turn<'a>) -> (L, Gone<'a>)
     ensures comes { GoesBy result.1.note turn.entry.player result.1.player }
 {
     counted_since::<L, Brand>(link, turn)
-}
-
-/// Gives a job its turn over a link that stays where it is.
-fn take_turn<'a, L: Link>(player: &mut Player<'a>, alloc: Global, link: &mut L) -> Turned
-    requires can { CanGo (L.awaited link.old) (L.wire link.old) player.old }
-    requires ready { IsReady player.old }
-    ensures goes { Goes (L.awaited link.old) (L.awaited link.new) (L.log link.old) (L.log link.new) (L.wire link.new) player.old player.new }
-    ensures later { Later (L.faults link.old) (L.faults link.new) (L.pends link.old) (L.pends link.new)
-        (L.wire link.old) (L.wire link.new) (L.prompt link.old) (L.prompt link.new) }
-    ensures noted { IsNoted result (L.log link.old) (L.log link.new) (L.pends link.old) (L.pends link.new) (L.prompt link.old) (L.prompt link.new) }
-    ensures polled { PolledNewest result.pended (job_ticket player.old) (job_ticket player.new) (L.awaited link.old) (L.awaited link.new) (L.log link.old) (L.log link.new) (L.polls link.old) (L.polls link.new) }
-    ensures comes { GoesBy result player.old player.new }
-{
-    let turn = Turn {
-        alloc,
-        player: mem::replace(player, Player::Put),
-    };
-    let Gone { player: gone, note } = replace_with(link, turn, counted);
-    *player = gone;
-    note
 }
 
 /// Gives a job its turn, unless it has ended. An error comes only where no place for an answer was found; then nothing
@@ -247,13 +93,13 @@ fn turn_of<'a, L: Link, I: IdSource>(
     ids: &mut I,
 ) -> Result<Turned, Error>
     requires { CanGo (L.awaited link.old) (L.wire link.old) player.old }
-    ensures goes { Goes (L.awaited link.old) (L.awaited link.new) (L.log link.old) (L.log link.new) (L.wire link.new) player.old player.new }
+    ensures goes { Goes (DrawsAs (I.ids ids.old) player.old) (L.awaited link.old) (L.awaited link.new) (L.log link.old) (L.log link.new) (L.wire link.new) player.old player.new }
     ensures later { Later (L.faults link.old) (L.faults link.new) (L.pends link.old) (L.pends link.new)
         (L.wire link.old) (L.wire link.new) (L.prompt link.old) (L.prompt link.new) }
     ensures noted { IfOk result (λ n. IsNoted n (L.log link.old) (L.log link.new) (L.pends link.old) (L.pends link.new) (L.prompt link.old) (L.prompt link.new)) }
     ensures polled { IfOk result (λ n. PolledNewest n.pended (job_ticket player.old) (job_ticket player.new) (L.awaited link.old) (L.awaited link.new) (L.log link.old) (L.log link.new) (L.polls link.old) (L.polls link.new)) }
     ensures comes { IfOk result (λ n. TurnsBy n player.old player.new) }
-    ensures draws { OnOk result (Draws (I.ids ids.old) (I.ids ids.new) (L.awaited link.new) (L.log link.old) (L.log link.new) (L.wire link.new) player.old player.new) }
+    ensures draws { OnOk result (Draws (I.ids ids.old) (I.ids ids.new) player.old player.new) }
     ensures ended { has_ended player.old ≡ true → (result ≡ Ok idle) × (link.new ≡ link.old) × (player.new ≡ player.old) }
     ensures err { IfErr result (λ e. (e ≡ plain ErrorKind.OutOfMemory) × (link.new ≡ link.old) × (ids.new ≡ ids.old) × IsSameJob player.old player.new) }
 {
@@ -264,7 +110,19 @@ fn turn_of<'a, L: Link, I: IdSource>(
         });
     }
     player.ready(alloc, ids)?;
-    Ok(take_turn(player, alloc, link))
+    let spare = player.anew(alloc);
+    let taken = mem::replace(player, spare);
+    let turn = Turn {
+        alloc,
+        player: taken,
+    };
+    let gone = replace_with(link, turn, counted);
+    let Gone {
+        player: after,
+        note,
+    } = gone;
+    *player = after;
+    Ok(note)
 }
 
 // ---- all turns
@@ -471,7 +329,8 @@ pub fn run_jobs<L: Link, I: IdSource>(
     // Over a link that tells its log, each call that waits for its reply was sent in a turn of a job whose newest turn pended
     // by its note, and that job waits for no other, unless a ticket was out for the same call before the run.
     ensures waits_alone { IfOk result (λ p. AllWaitAlone (L.awaited link.old) (L.awaited link.new) (L.log link.old) order.now p.turns.items) }
-    // Over a prompt link each job ends well, where its server holds nothing back.
+    // Over a prompt link each job ends well, where its server holds nothing back: a follow answers the next event where one
+    // was left, and what fails does so for want of memory, or by a limit that a command or document of the job passes.
     ensures complete { L.prompt link.old → IfOk result (λ p. AllWell (I.ids ids.old) (L.log link.old) (L.log link.new) (tasks jobs.now) order.now p.turns.items p.outcomes.items) }
     // One outcome for each job, and one note for each turn.
     ensures outcomes { IfOk result (λ p. length p.outcomes.items ≡ length jobs.now) }

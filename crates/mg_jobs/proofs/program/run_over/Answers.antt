@@ -8,9 +8,11 @@ use Rattle.mg_link.specs.Places.{out_at, polls_in}
 use Rattle.mg_link.specs.Standing.{Stands}
 use Rattle.mg_link.proofs.Owners.{same_some}
 use Rattle.mg_link.proofs.Runs.{names_none_at_first}
-use Rattle.mg_store.specs.InMemory.{AreAsFates, pends_in}
+use Rattle.mg_store.specs.InMemory.{AreAsFates, AreKept, InMemory, IsPromptLink, pends_in}
 use Rattle.mg_store.specs.Stored.{AreOpen}
+use Rattle.mg_store.specs.declared.fate.Fate.{Fate}
 use Rattle.mg_link.specs.Link.{Told}
+use Rattle.mg_jobs.specs.Completing.{JobWell}
 use Rattle.mg_jobs.specs.Counts.{AreNoted}
 use Rattle.mg_jobs.specs.Fated.{AreItsSteps}
 use Rattle.mg_jobs.specs.Progress.{AllPlayed}
@@ -27,6 +29,10 @@ use Rattle.mg_jobs.proofs.program.run_over.Goals as goal
 
 zero_more : (k : ℕ) → 0 + k ≡ k
 zero_more k = omega arith
+
+-- a link over which nothing was sent is prompt where every fate keeps its command
+prompt_first : (fates : List Fate) → AreKept 0 fates → IsPromptLink fates [] []
+prompt_first fates kept = record { later = kept; waits = λ k call n there pended waits. absurd cc }
 
 pub returns-clause-followed : goal.returns-clause-followed
 returns-clause-followed g c =
@@ -100,4 +106,14 @@ returns-clause-followed g c =
           (subst (λ (l : List Call). SendsOnly (MaySend (as_sent drawn (tasks script.jobs.items) script.order.items i t)) (course [] script.order.items notes) i l) (same_some sent.0 f.0 (sym sent.1 ∙ f.1))
           (subst (λ (js : List Job). SendsOnly (MaySend (as_sent drawn (tasks js) script.order.items i t)) (course [] script.order.items notes) i sent.0) jobs
           (subst (λ (o : List ℕ). SendsOnly (MaySend (as_sent drawn (tasks c.as_slice.result.now) o i t)) (course [] o notes) i sent.0) c.as_slice-2.ensures.value (sent.2 i t (ap (λ l. slice_get (tasks l) i) jobs ∙ ht)))));
+      well = λ kept i t r ht hr.
+          let script = c.args.script in
+          let fates = g.F.Fated.fates in
+          let prompt : IsPromptLink c.new-link.result.fates c.new-link.result.calls c.new-link.result.pended = subst (λ (m : InMemory). IsPromptLink m.fates m.calls m.pended) (sym c.new-link.ensures)
+          (subst (λ (fs : List Fate). IsPromptLink fs c.args.link.calls c.args.link.pended) (sym c.requires.fated) (subst (λ (l : List Call). IsPromptLink fates l c.args.link.pended) (sym c.requires.unused) (subst (λ (ps : List ℕ). IsPromptLink fates [] ps) (sym c.requires.unpolled) (prompt_first fates kept)))) in
+          let ends = c.in_ok-played.ensures.complete prompt [] begins in
+          subst (λ (s : Task). JobWell (course [] script.order.items notes) i f.0 s r) (sent_same (script_ids script) drawn (tasks script.jobs.items) script.order.items i t same_ids)
+          (subst (λ (l : List Call). JobWell (course [] script.order.items notes) i l (as_sent drawn (tasks script.jobs.items) script.order.items i t) r) (same_some ends.0 f.0 (sym ends.1 ∙ f.1))
+          (subst (λ (js : List Job). JobWell (course [] script.order.items notes) i ends.0 (as_sent drawn (tasks js) script.order.items i t) r) jobs
+          (subst (λ (o : List ℕ). JobWell (course [] o notes) i ends.0 (as_sent drawn (tasks c.as_slice.result.now) o i t) r) c.as_slice-2.ensures.value (ends.2 i t r (ap (λ l. slice_get (tasks l) i) jobs ∙ ht) hr))));
     }

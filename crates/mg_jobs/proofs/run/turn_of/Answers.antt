@@ -1,67 +1,95 @@
-use Rattle.std.proofs.Common.{refl, sym, subst, ◌∙◌}
+use Rattle.std.proofs.Common.{refl, sym, ap, subst, ◌∙◌}
 use Rattle.mg_link.specs.Acts.{IsOut, Tickets}
 use Rattle.mg_link.proofs.Onward.{tickets_same}
 use Rattle.mg_jobs.proofs.Knowing.{turned_not, turned_ready}
 use Rattle.mg_jobs.specs.Counts.{PolledNewest, was_held}
+use Rattle.mg_jobs.specs.Drawing.{DrawsAs, JobHasIds}
 use Rattle.mg_jobs.specs.Follows.{same_place}
 use Rattle.mg_jobs.proofs.Advancing.{over_turns}
 use Rattle.mg_jobs.proofs.Drawing.{ended_draws, ended_has}
-use Rattle.mg_jobs.proofs.Told.{ended_first, ready_first, ready_tells, same_tells, stays_telling, turned_has}
+use Rattle.mg_jobs.proofs.JobTelling.{quiet_turn, ready_turn, tells_same_job}
+use Rattle.mg_jobs.specs.Headline.{task_of}
 use Rattle.mg_jobs.specs.Playing.{job_ticket}
+use Rattle.mg_jobs.specs.Plays.{AnySent}
+use Rattle.mg_jobs.specs.Progress.{GoesBy}
+use Rattle.mg_jobs.specs.Runs.{CanGo, Goes, IsReady}
+use Rattle.mg_jobs.specs.Telling.{JobTells, number_of}
+use Rattle.mg_jobs.specs.declared.player.Player.{Player}
 use Rattle.mg_jobs.proofs.run.turn_of.Goals as goal
 
 pub returns-then-has_ended-clause-goes : goal.returns-then-has_ended-clause-goes
-returns-then-has_ended-clause-goes g c = record {
-  tickets = tickets_same _ _ c.requires.out;
-  holds = c.requires.holds;
-  next = same_place;
-  turned = turned_not _ _ c.args.player.now c.args.player.now (λ calls o at plays. plays);
-  told = stays_telling _ _ _ c.args.player.now;
-  task = λ t does. does;
-}
+returns-then-has_ended-clause-goes g c =
+    let so = DrawsAs (g.I.IdSource.ids c.args.ids.now) c.args.player.now in
+    record {
+      tickets = tickets_same _ _ c.requires.out;
+      holds = c.requires.holds;
+      next = same_place;
+      turned = turned_not _ _ c.args.player.now c.args.player.now (λ calls o at plays. plays);
+      told = quiet_turn task_of JobTells number_of so _ _ _ c.args.player.now c.args.player.now (tells_same_job task_of JobTells number_of so c.args.player.now);
+      task = refl;
+      has = λ has. has;
+    }
 
 pub returns-in_err-ready-clause-goes : goal.returns-in_err-ready-clause-goes
-returns-in_err-ready-clause-goes g c = record {
-  tickets = subst (λ t. Tickets (g.L.Link.awaited c.args.link.now) (g.L.Link.awaited c.args.link.now) (job_ticket c.args.player.now) t) (sym c.ready.ensures.ticket) (tickets_same _ _ c.requires.out);
-  holds = c.ready.ensures.holds _ c.requires.holds;
-  next = same_place;
-  turned = turned_not _ _ c.args.player.now c.ready.new.self (c.ready.ensures.knows _);
-  told = same_tells _ _ _ c.args.player.now c.ready.new.self c.in_err-ready.ensures.same;
-  task = c.ready.ensures.task;
-}
+returns-in_err-ready-clause-goes g c =
+    let got = c.ready.ensures.got in
+    record {
+      tickets = subst (λ t. Tickets (g.L.Link.awaited c.args.link.now) (g.L.Link.awaited c.args.link.now) (job_ticket c.args.player.now) t) (sym got.ticket) (tickets_same _ _ c.requires.out);
+      holds = got.holds _ c.requires.holds;
+      next = same_place;
+      turned = turned_not _ _ c.args.player.now c.ready.new.self (got.knows _);
+      told = quiet_turn task_of JobTells number_of (DrawsAs (g.I.IdSource.ids c.args.ids.now) c.args.player.now) _ _ _ c.args.player.now c.ready.new.self got.tells;
+      task = got.task;
+      has = got.has;
+    }
 
-pub take_turn-requires-clause-can : goal.take_turn-requires-clause-can
-take_turn-requires-clause-can g c = record {
-  out = subst (λ t. IsOut (g.L.Link.awaited c.args.link.now) t) (sym c.in_ok-ready.ensures.ticket) c.requires.out;
-  holds = c.in_ok-ready.ensures.holds _ c.requires.holds;
-}
+pub replace_with-gone-requires : goal.replace_with-gone-requires
+replace_with-gone-requires g c =
+    let got = c.in_ok-ready.ensures.got in
+    let can : CanGo (g.L.Link.awaited c.args.link.now) (g.L.Link.wire c.args.link.now) c.ready.new.self = record { out = subst (λ t. IsOut (g.L.Link.awaited c.args.link.now) t) (sym got.ticket) c.requires.out; holds = got.holds _ c.requires.holds } in (
+      subst (λ (p : Player). CanGo (g.L.Link.awaited c.args.link.now) (g.L.Link.wire c.args.link.now) p) (sym c.replace-taken.ensures.value) can,
+      subst (λ (p : Player). IsReady p) (sym c.replace-taken.ensures.value) c.in_ok-ready.ensures.ready,
+    )
 
 pub returns-clause-goes : goal.returns-clause-goes
-returns-clause-goes g c = record {
-  tickets = subst (λ t. Tickets (g.L.Link.awaited c.args.link.now) (g.L.Link.awaited c.take_turn.new.link) t (job_ticket c.take_turn.new.player)) c.in_ok-ready.ensures.ticket c.take_turn.ensures.goes.tickets;
-  holds = c.take_turn.ensures.goes.holds;
-  next = c.take_turn.ensures.goes.next;
-  turned = turned_ready _ _ _ _ c.args.player.now c.ready.new.self c.take_turn.new.player _ c.in_ok-ready.ensures.knows c.take_turn.ensures.goes.turned;
-  told = ready_tells _ _ _ _ _ _ c.args.player.now c.ready.new.self c.take_turn.new.player _ c.in_ok-ready.ensures.teller c.take_turn.ensures.goes.told;
-  task = λ t does. c.take_turn.ensures.goes.task t (c.in_ok-ready.ensures.task t does);
-}
+returns-clause-goes g c =
+    let got = c.in_ok-ready.ensures.got in
+    let link = c.replace_with-gone.new.dest in
+    let after = c.replace_with-gone.result.player in
+    let goes = subst (λ (p : Player). Goes AnySent (g.L.Link.awaited c.args.link.now) (g.L.Link.awaited link) (g.L.Link.log c.args.link.now) (g.L.Link.log link) (g.L.Link.wire link) p after) c.replace-taken.ensures.value c.replace_with-gone.ensures.0 in
+    record {
+      tickets = subst (λ t. Tickets (g.L.Link.awaited c.args.link.now) (g.L.Link.awaited link) t (job_ticket after)) got.ticket goes.tickets;
+      holds = goes.holds;
+      next = goes.next;
+      turned = turned_ready _ _ _ _ c.args.player.now c.ready.new.self after _ got.knows goes.turned;
+      told = ready_turn (DrawsAs (g.I.IdSource.ids c.args.ids.now) c.args.player.now) _ _ _ _ _ c.args.player.now c.ready.new.self after _ got.task got.tells goes.told;
+      task = goes.task ∙ got.task;
+      has = λ has. goes.has (got.has has);
+    }
+
+pub returns-clause-later : goal.returns-clause-later
+returns-clause-later g c = c.replace_with-gone.ensures.1.0
+
+pub returns-clause-noted : goal.returns-clause-noted
+returns-clause-noted g c = c.replace_with-gone.ensures.1.1.0
 
 pub returns-then-has_ended-clause-comes : goal.returns-then-has_ended-clause-comes
 returns-then-has_ended-clause-comes g c = over_turns c.args.player.now (sym c.has_ended.ensures ∙ c.if-has_ended.true)
 
 pub returns-clause-comes : goal.returns-clause-comes
-returns-clause-comes g c = λ calls k last at. c.take_turn.ensures.comes calls k last (c.in_ok-ready.ensures.at calls k last at)
+returns-clause-comes g c = λ calls k last at.
+    let comes = subst (λ (p : Player). GoesBy c.replace_with-gone.result.note p c.replace_with-gone.result.player) c.replace-taken.ensures.value c.replace_with-gone.ensures.1.1.1.1 in
+    comes calls k last (c.in_ok-ready.ensures.got.at calls k last at)
 
 pub returns-then-has_ended-clause-draws : goal.returns-then-has_ended-clause-draws
 returns-then-has_ended-clause-draws g c =
     let ended = sym c.has_ended.ensures ∙ c.if-has_ended.true in
-    record { drawn = ended_draws _ c.args.player.now ended; has = ended_has c.args.player.now ended; first = ended_first _ _ _ _ _ c.args.player.now c.args.player.now ended }
+    record { drawn = ended_draws _ c.args.player.now ended; has = ended_has c.args.player.now ended }
 
 pub returns-clause-draws : goal.returns-clause-draws
 returns-clause-draws g c = record {
   drawn = c.in_ok-ready.ensures.drawn;
-  has = turned_has _ _ _ _ _ c.ready.new.self c.take_turn.new.player _ c.take_turn.ensures.goes.told c.in_ok-ready.ensures.has;
-  first = ready_first _ _ _ _ _ _ c.args.player.now c.ready.new.self c.take_turn.new.player _ c.in_ok-ready.ensures.teller c.take_turn.ensures.goes.told;
+  has = c.replace_with-gone.ensures.0.has (subst (λ (p : Player). JobHasIds p) (sym c.replace-taken.ensures.value) c.in_ok-ready.ensures.has);
 }
 
 pub returns-then-has_ended-clause-polled : goal.returns-then-has_ended-clause-polled
@@ -69,4 +97,7 @@ returns-then-has_ended-clause-polled g c = record { polled = λ place. refl; hol
 
 pub returns-clause-polled : goal.returns-clause-polled
 returns-clause-polled g c =
-    subst (λ t. PolledNewest c.take_turn.result.pended t (job_ticket c.take_turn.new.player) (g.L.Link.awaited c.args.link.now) (g.L.Link.awaited c.take_turn.new.link) (g.L.Link.log c.args.link.now) (g.L.Link.log c.take_turn.new.link) (g.L.Link.polls c.args.link.now) (g.L.Link.polls c.take_turn.new.link)) c.in_ok-ready.ensures.ticket c.take_turn.ensures.polled
+    let link = c.replace_with-gone.new.dest in
+    let gone = c.replace_with-gone.result in
+    subst (λ t. PolledNewest gone.note.pended t (job_ticket gone.player) (g.L.Link.awaited c.args.link.now) (g.L.Link.awaited link) (g.L.Link.log c.args.link.now) (g.L.Link.log link) (g.L.Link.polls c.args.link.now) (g.L.Link.polls link)) (ap job_ticket c.replace-taken.ensures.value ∙ c.in_ok-ready.ensures.got.ticket)
+    c.replace_with-gone.ensures.1.1.1.0

@@ -4,7 +4,7 @@ use Rattle.std.proofs.lemmas.Option.{slice_get_read}
 use Rattle.std.proofs.lemmas.Result.{err_from_is_err_and}
 use Rattle.mg_jobs.specs.Runs.{IsSameJob, ended_at, idle}
 use Rattle.mg_script.specs.declared.outcome.Turned.{Turned}
-use Rattle.mg_jobs.specs.declared.run.Player.{Player}
+use Rattle.mg_jobs.specs.declared.player.Player.{Player}
 use Rattle.mg_jobs.proofs.Apart.{apart_as, on_err, same_at, same_job, same_jobs, stands_after}
 use Rattle.mg_jobs.proofs.Knowing.{knowing_on, tasks_after}
 use Rattle.mg_jobs.proofs.Advancing.{at_after}
@@ -142,10 +142,10 @@ returns-clause-told g c = λ first begun ts order same all drawn tell.
     let at = slice_get_read c.args.self.now.players.items (length c.args.self.now.players.items) c.args.job c.index_mut-player.result.now refl within c.index_mut-player.ensures.value in
     subst (λ (ns : List Turned). AllTell first (g.L.Link.awaited c.turn_of.new.link) begun (g.L.Link.log c.turn_of.new.link) (g.L.Link.wire c.turn_of.new.link) ts (order ++ c.args.job ∷ []) ns (slice_set c.args.self.now.players.items c.args.job c.turn_of.new.player))
     (sym (c.push_reserved.ensures ∙ ap (λ l. l ++ c.in_ok-note.note ∷ []) c.in_ok-reserve.ensures.items))
-    (all_turn (g.L.Link.awaited c.args.link.now) (g.L.Link.awaited c.turn_of.new.link) (g.L.Link.log c.args.link.now) (g.L.Link.log c.turn_of.new.link) (g.L.Link.wire c.turn_of.new.link) c.args.self.now.players.items c.args.job c.index_mut-player.result.now c.turn_of.new.player at
+    (all_turn (g.I.IdSource.ids c.args.ids.now) (g.L.Link.awaited c.args.link.now) (g.L.Link.awaited c.turn_of.new.link) (g.L.Link.log c.args.link.now) (g.L.Link.log c.turn_of.new.link) (g.L.Link.wire c.turn_of.new.link) c.args.self.now.players.items c.args.job c.index_mut-player.result.now c.turn_of.new.player at
     (apart_as _ _ _ c.args.self.now.players.items c.turn_of.ensures.later.wire c.requires) c.turn_of.ensures.goes c.in_ok-note.note c.in_ok-note.ensures.noted.starts c.in_ok-note.ensures.noted.stays
     (λ over. let idles = c.in_ok-note.ensures.ended over in let is : c.in_ok-note.note ≡ idle = cc idles.0 in ap (λ (n : Turned). n.started) is)
-    (g.I.IdSource.ids c.args.ids.now) c.in_ok-note.ensures.draws.first c.in_ok-note.ensures.polled.holds first begun ts order c.args.self.now.turns.items same all drawn (tell_as _ _ _ _ _ _ ts order c.args.self.now.turns.items c.args.self.now.players.items c.turn_of.ensures.later.wire tell))
+    c.in_ok-note.ensures.polled.holds first begun ts order c.args.self.now.turns.items same all drawn (tell_as _ _ _ _ _ _ ts order c.args.self.now.turns.items c.args.self.now.players.items c.turn_of.ensures.later.wire tell))
 
 pub returns-clause-polled : goal.returns-clause-polled
 returns-clause-polled g c =

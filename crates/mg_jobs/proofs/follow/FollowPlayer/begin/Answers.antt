@@ -1,0 +1,47 @@
+use Rattle.std.proofs.Common.{ap, refl, subst, sym}
+use Rattle.mg_link.specs.declared.error.Error.{Error}
+use Rattle.mg_change.specs.Following.{Asks, AsksNothing}
+use Rattle.mg_jobs.specs.Follows.{IsFailed, same_place}
+use Rattle.mg_jobs.specs.declared.follow.Stage.TheVariants as stage
+use Rattle.mg_jobs.proofs.Turning.{begin_failed, begins, took_on}
+use Rattle.mg_jobs.proofs.Vainly.{vain_begin_failed, vain_begins, vain_on}
+use Rattle.mg_jobs.proofs.Watched.{args_ask, args_ask_nothing}
+use Rattle.mg_jobs.proofs.Advancing.{begins_open, never_open}
+use Rattle.mg_jobs.proofs.Telling.{begin_fails, begin_tells}
+use Rattle.mg_jobs.specs.Telling.{IsWatchArgs, kept}
+use Rattle.mg_jobs.proofs.follow.FollowPlayer.begin.Goals as goal
+
+pub returns-in-Ok-clause-turned : goal.returns-in-Ok-clause-turned
+returns-in-Ok-clause-turned g c =
+    record {
+      next = c.open.ensures.turned.next;
+      turned = record {
+        watching =
+            took_on _ _ _ _ _ _ stage.Unopened c.args.self.now (stage.Opens c.new.result) c.args.self.now _ _ same_place c.open.ensures.turned.next
+            (begins _ _ c.args.self.now c.new.result (λ w start watched. subst (λ a. Asks a w start) (sym c.new.ensures.args) (args_ask c.args.self.now.watched c.in-Ok.args c.in-Ok.ensures.asks w start watched)) c.new.ensures.opening c.new.ensures.unsent)
+            c.open.ensures.turned.turned.watching;
+        vainly =
+            vain_on _ _ _ _ _ _ stage.Unopened c.args.self.now (stage.Opens c.new.result) c.args.self.now _ _
+            (vain_begins _ _ c.args.self.now c.new.result (λ none. subst (λ a. AsksNothing a) (sym c.new.ensures.args) (args_ask_nothing c.args.self.now.watched c.in-Ok.args c.in-Ok.ensures.asks none)) c.new.ensures.opening c.new.ensures.unsent)
+            c.open.ensures.turned.turned.vainly;
+      };
+      told =
+          begin_tells _ _ _ _ _ (kept c.args.self.now) c.new.result _ _ c.open.ensures.turned.next (subst (λ a. IsWatchArgs c.args.self.now.watched a) (sym c.new.ensures.args) c.in-Ok.ensures.args) c.new.ensures.opening c.new.ensures.unsent
+          c.open.ensures.turned.told;
+    }
+
+pub returns-in-Err-clause-turned : goal.returns-in-Err-clause-turned
+returns-in-Err-clause-turned g c = record {
+  next = same_place;
+  turned = record {
+    watching = begin_failed _ _ c.args.self.now _ (record { watched = refl; answers = refl; token = refl }) (subst (λ o. IsFailed o) (sym c.note.ensures) tt);
+    vainly = vain_begin_failed _ _ c.args.self.now _ (record { watched = refl; answers = refl; token = refl }) (subst (λ o. IsFailed o) (sym c.note.ensures) tt);
+  };
+  told = begin_fails _ _ _ (kept c.args.self.now) _ c.in-Err.error c.note.ensures (ap (λ (e : Error). e.kind) c.in-Err.ensures.err);
+}
+
+pub returns-in-Ok-clause-comes : goal.returns-in-Ok-clause-comes
+returns-in-Ok-clause-comes g c = begins_open _ _ c.new.result _ _ _ c.new.ensures.ticket c.open.ensures.comes
+
+pub returns-in-Err-clause-comes : goal.returns-in-Err-clause-comes
+returns-in-Err-clause-comes g c = never_open _ _ stage.Unopened _ _ (λ calls k last at. at.0) refl (subst (λ o. IsFailed o) (sym c.note.ensures) tt) refl refl refl

@@ -1,0 +1,87 @@
+//! A job that writes a file: it is not built yet, and stays unfinished.
+use crate::kind::Kind;
+use mg_bson::Bson;
+use mg_link::{Error, IdSource, Link};
+use mg_script::{Ended, Outcome};
+use std::alloc::Global;
+
+/// What is to be written.
+#[derive(Drop)]
+pub(crate) struct PutPlayer<'a> {
+    pub(crate) db: &'a String,
+    pub(crate) bucket: &'a String,
+    pub(crate) name: &'a String,
+    pub(crate) id: &'a Bson,
+    pub(crate) chunk: u32,
+    pub(crate) pieces: &'a Vec<Vec<u8>>,
+}
+
+impl<'a> Kind for PutPlayer<'a> {
+    ghost use Rattle.std.specs.Prelude.{◌≡◌, None, true};
+    ghost use Rattle.mg_link.specs.Owner.{nobody};
+    ghost use Rattle.mg_script.specs.declared.outcome.Ended.TheVariants as ends;
+    ghost use Rattle.mg_script.specs.declared.outcome.Outcome.TheVariants as outcomes;
+    ghost use Rattle.mg_jobs.specs.Headline.{put_task};
+    ghost use Rattle.mg_jobs.specs.Plays.{says_nothing};
+
+    ghost task = { put_task };
+
+    ghost ticket = { λ p. None };
+
+    ghost ended = { λ p. true };
+
+    ghost holds = { λ wire p. Unit {0} };
+
+    ghost is_ready = { λ p. Unit {0} };
+
+    ghost plays = { λ awaited calls p o at. o ≡ nobody };
+
+    ghost tells = { says_nothing };
+
+    ghost number = { λ p. 0 };
+
+    ghost at = { λ calls p k last. Unit {0} };
+
+    ghost ready_at = { λ calls p k last. Unit {0} };
+
+    ghost draws = { λ p. 0 };
+
+    ghost draws_as = { λ ids p t. Unit {0} };
+
+    ghost has_ids = { λ p. Unit {0} };
+
+    ghost is_same = { λ p q. q ≡ p };
+
+    ghost gives = { λ p r. r ≡ outcomes.Put ends.Unfinished };
+
+    fn anew(&self, _alloc: Global) -> PutPlayer<'a> {
+        PutPlayer {
+            db: self.db,
+            bucket: self.bucket,
+            name: self.name,
+            id: self.id,
+            chunk: self.chunk,
+            pieces: self.pieces,
+        }
+    }
+
+    fn has_ended(&self) -> bool {
+        true
+    }
+
+    fn ticket_number(&self) -> Option<u64> {
+        None
+    }
+
+    fn ready<I: IdSource>(&mut self, _alloc: Global, _ids: &mut I) -> Result<(), Error> {
+        Ok(())
+    }
+
+    fn go<L: Link>(self, _alloc: Global, _link: &mut L) -> PutPlayer<'a> {
+        self
+    }
+
+    fn into_outcome(self, _alloc: Global) -> Outcome {
+        Outcome::Put(Ended::Unfinished)
+    }
+}
