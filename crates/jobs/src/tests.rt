@@ -4,6 +4,7 @@ mod bson;
 mod changes;
 mod commands;
 mod corpus;
+mod cursors;
 mod documents;
 mod exec;
 mod files;
@@ -23,10 +24,13 @@ mod sessions;
 mod store;
 mod streams;
 mod unprinted;
+mod walks;
 mod words;
 
-use mg_bson::{Bson, BsonError, Document, to_bytes};
-use mg_link::Namespace;
+use mg_bson::{Bson, BsonError, Document, RawDocumentBuf, to_bytes};
+use mg_jobs::value_from_json;
+use mg_link::{Error, Namespace};
+use serde_json::Value;
 use std::alloc::{AllocError, Global};
 use std::process::Abort;
 
@@ -94,6 +98,25 @@ fn with_text(
 ) -> Result<Document, BsonError> {
     let text = String::from_str(alloc, text)?;
     with(document, name, Bson::String(text))
+}
+
+/// The value that a JSON text stands for. The fields of a document are in the order of their names.
+fn json_value(alloc: Global, text: &str) -> Result<Bson, Error> {
+    let Ok(read) = Value::from_slice(alloc, text.as_bytes()) else {
+        return Err(Error::from(BsonError::Malformed));
+    };
+    match value_from_json(alloc, &read)? {
+        Some(value) => Ok(value),
+        None => Err(Error::from(BsonError::Malformed)),
+    }
+}
+
+/// The bytes of the document that a JSON text stands for.
+fn json_bytes(alloc: Global, text: &str) -> Result<RawDocumentBuf, Error> {
+    match json_value(alloc, text)? {
+        Bson::Document(document) => Ok(to_bytes(alloc, &document)?),
+        _ => Err(Error::from(BsonError::Malformed)),
+    }
 }
 
 /// The bytes of a document.

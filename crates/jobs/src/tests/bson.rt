@@ -4,6 +4,7 @@ use mg_bson::{
     RawValue, Regex, to_bytes, to_document,
 };
 use std::alloc::{AllocError, Global};
+use std::process::Abort;
 use std::test::Fail;
 
 // A document for each kind, a line each: its bytes, and how its value of the name `x` prints.
@@ -398,38 +399,56 @@ fn encoding_vectors(rt: HostRuntime) -> Result<(), Fail> {
     Ok(())
 }
 
-// The digits of a document that is read and written again.
-pub(super) fn rewritten(alloc: Global, bytes: Vec<u8>) -> Result<String, BsonError> {
+// The digits of a document that is read, copied and written again.
+fn rewritten(alloc: Global, bytes: Vec<u8>) -> Result<String, BsonError> {
     let document = document_of(alloc, bytes)?;
-    digits_of(alloc, &document)
+    let copy = document.clone()?;
+    digits_of(alloc, &copy)
 }
 
-#[test]
-fn renamed_items(rt: HostRuntime) -> Result<(), Fail> {
-    let alloc = rt.alloc();
-    for line in RENAMED.lines() {
-        let (digits, renamed) = parted(line);
+/// Fails a test where the bytes of a line are not written as they were read, or, where this is not wanted, as the bytes
+/// behind them.
+pub(super) fn are_rewritten(
+    rt: &impl Abort,
+    alloc: Global,
+    table: &str,
+    as_read: bool,
+) -> Result<(), Fail> {
+    for line in table.lines() {
+        let (digits, rest) = parted(line);
+        let (renamed, _) = parted(rest);
+        let wanted = if as_read { digits } else { renamed };
         let found = rewritten(alloc, hex::decode(alloc, digits)?)?;
-        expect(&rt, digits, found.as_str(), renamed);
+        expect(rt, line, found.as_str(), wanted);
     }
     Ok(())
 }
 
+#[test]
+fn renamed_items(rt: HostRuntime) -> Result<(), Fail> {
+    are_rewritten(&rt, rt.alloc(), RENAMED, false)
+}
+
 // Whether the bytes are taken for no document, lent as well as kept.
-pub(super) fn are_malformed(bytes: Vec<u8>) -> bool {
+fn are_malformed(bytes: Vec<u8>) -> bool {
     let is_lent = RawDocument::from_bytes(&bytes).is_ok();
     let is_refused = matches!(RawDocumentBuf::from_bytes(bytes), Err(BsonError::Malformed));
     is_refused && !is_lent
 }
 
-#[test]
-fn damaged_bytes(rt: HostRuntime) -> Result<(), Fail> {
-    for line in DAMAGED.lines() {
-        let (digits, why) = parted(line);
-        let bytes = hex::decode(rt.alloc(), digits)?;
-        assert!(rt; are_malformed(bytes), "{why}");
+/// Fails a test where the bytes of a line are taken for a document.
+pub(super) fn are_refused(rt: &impl Abort, alloc: Global, table: &str) -> Result<(), Fail> {
+    for line in table.lines() {
+        let (digits, _) = parted(line);
+        let bytes = hex::decode(alloc, digits)?;
+        assert!(rt; are_malformed(bytes), "{line}");
     }
     Ok(())
+}
+
+#[test]
+fn damaged_bytes(rt: HostRuntime) -> Result<(), Fail> {
+    are_refused(&rt, rt.alloc(), DAMAGED)
 }
 
 // The place and the reason of the first fault of bytes.
@@ -458,15 +477,12 @@ fn letters_in_names(rt: HostRuntime) -> Result<(), Fail> {
     let alloc = rt.alloc();
     for line in PARTED_NAMES.lines() {
         let (front, behind) = parted(line);
-        let digits = format!(in alloc; "{front}c3a9{behind}")?;
-        let found = rewritten(alloc, hex::decode(alloc, digits.as_str())?)?;
-        expect(&rt, line, found.as_str(), digits.as_str());
+        let whole = format!(in alloc; "{front}c3a9{behind}")?;
+        are_rewritten(&rt, alloc, whole.as_str(), true)?;
         let cut_short = format!(in alloc; "{front}c36e{behind}")?;
-        let bytes = hex::decode(alloc, cut_short.as_str())?;
-        assert!(rt; are_malformed(bytes), "{cut_short}");
+        are_refused(&rt, alloc, cut_short.as_str())?;
         let stray = format!(in alloc; "{front}6ea9{behind}")?;
-        let bytes = hex::decode(alloc, stray.as_str())?;
-        assert!(rt; are_malformed(bytes), "{stray}");
+        are_refused(&rt, alloc, stray.as_str())?;
     }
     Ok(())
 }
@@ -475,17 +491,18 @@ fn letters_in_names(rt: HostRuntime) -> Result<(), Fail> {
 // with its scope.
 fn nested_bytes(alloc: Global, kind: u8, levels: u32) -> Result<Vec<u8>, BsonError> {
     let mut bytes = Vec::from_slice(alloc, &[5, 0, 0, 0, 0])?;
+    let is_code = kind == 15;
     for _ in 1..levels {
-        let mut value = Vec::new(alloc);
-        if kind == 15 {
-            value.extend_from_slice(&(bytes.len() as u64).wrapping_add(9).to_le_bytes()[..4])?;
-            value.extend_from_slice(&[1, 0, 0, 0, 0])?;
-        }
-        value.extend_from_slice(&bytes)?;
+        let beside: u64 = if is_code { 9 } else { 0 };
+        let value_len = (bytes.len() as u64).wrapping_add(beside);
         let mut outer = Vec::new(alloc);
-        outer.extend_from_slice(&(value.len() as u64).wrapping_add(8).to_le_bytes()[..4])?;
+        outer.extend_from_slice(&value_len.wrapping_add(8).to_le_bytes()[..4])?;
         outer.extend_from_slice(&[kind, 48, 0])?;
-        outer.extend_from_slice(&value)?;
+        if is_code {
+            outer.extend_from_slice(&value_len.to_le_bytes()[..4])?;
+            outer.extend_from_slice(&[1, 0, 0, 0, 0])?;
+        }
+        outer.extend_from_slice(&bytes)?;
         outer.push(0)?;
         bytes = outer;
     }
@@ -579,16 +596,6 @@ const IDS: &str = "\
 00010g107f809fa0abcdefff None
 ";
 
-#[test]
-fn object_ids_of_texts(rt: HostRuntime) -> Result<(), Fail> {
-    for line in IDS.lines() {
-        let (text, shown) = parted(line);
-        let id = format!(in rt.alloc(); "{:?}", ObjectId::parse_str(text))?;
-        expect(&rt, text, id.as_str(), shown);
-    }
-    Ok(())
-}
-
 // An object id as its digits, and as it prints.
 fn texts_of(alloc: Global, id: ObjectId) -> Result<String, AllocError> {
     let digits = id.to_hex(alloc)?;
@@ -596,7 +603,12 @@ fn texts_of(alloc: Global, id: ObjectId) -> Result<String, AllocError> {
 }
 
 #[test]
-fn texts_of_object_ids(rt: HostRuntime) -> Result<(), Fail> {
+fn object_ids(rt: HostRuntime) -> Result<(), Fail> {
+    for line in IDS.lines() {
+        let (text, shown) = parted(line);
+        let id = format!(in rt.alloc(); "{:?}", ObjectId::parse_str(text))?;
+        expect(&rt, text, id.as_str(), shown);
+    }
     let id = ObjectId([0, 1, 15, 16, 127, 128, 159, 160, 171, 205, 239, 255]);
     let found = texts_of(rt.alloc(), id)?;
     let wanted = "00010f107f809fa0abcdefff 00010f107f809fa0abcdefff";
@@ -654,34 +666,18 @@ fn changes_of_a_document(rt: HostRuntime) -> Result<(), Fail> {
 }
 
 // Whether a copy of a document is the same, and what is read of its bytes too.
-fn copies_are_same(alloc: Global) -> Result<bool, BsonError> {
-    let document = sample(alloc)?;
+fn copy_is_same(alloc: Global, document: &Document) -> Result<bool, BsonError> {
     let copy = document.clone()?;
     let read = document_of(alloc, bytes_of(alloc, &copy)?)?;
-    Ok(copy == document && read == document)
-}
-
-#[test]
-fn copies_of_a_document(rt: HostRuntime) -> Result<(), Fail> {
-    let are_same = copies_are_same(rt.alloc())?;
-    assert!(rt; are_same);
-    Ok(())
+    Ok(copy == *document && read == *document)
 }
 
 // Whether a copy of bytes is the same, and has the same bytes.
-fn raw_copies_are_same(alloc: Global) -> Result<bool, BsonError> {
-    let document = sample(alloc)?;
-    let raw = to_bytes(alloc, &document)?;
+fn raw_copy_is_same(alloc: Global, document: &Document) -> Result<bool, BsonError> {
+    let raw = to_bytes(alloc, document)?;
     let lent = raw.as_raw().to_buf(alloc)?;
     let kept = lent.clone()?;
     Ok(kept == raw && kept.into_bytes().as_slice() == raw.as_bytes())
-}
-
-#[test]
-fn copies_of_bytes(rt: HostRuntime) -> Result<(), Fail> {
-    let are_same = raw_copies_are_same(rt.alloc())?;
-    assert!(rt; are_same);
-    Ok(())
 }
 
 // The list of the name `b` in the bytes of a document, by copies of what these lend.
@@ -697,16 +693,23 @@ fn list_of_b(alloc: Global, document: &Document) -> Result<Bson, BsonError> {
     }
 }
 
-// Whether the value is the same that is read of the bytes of a document.
-fn value_is_same(alloc: Global) -> Result<bool, BsonError> {
-    let document = sample(alloc)?;
-    let value = list_of_b(alloc, &document)?;
+// Whether a value is the same that is read of the bytes of a document.
+fn value_is_same(alloc: Global, document: &Document) -> Result<bool, BsonError> {
+    let value = list_of_b(alloc, document)?;
     Ok(document.get("b") == Some(&value))
 }
 
+// Whether the copies of a document, of its bytes and of a value are the same.
+fn copies_are_same(alloc: Global) -> Result<(bool, bool, bool), BsonError> {
+    let document = sample(alloc)?;
+    let copy = copy_is_same(alloc, &document)?;
+    let bytes = raw_copy_is_same(alloc, &document)?;
+    let value = value_is_same(alloc, &document)?;
+    Ok((copy, bytes, value))
+}
+
 #[test]
-fn copies_of_a_value(rt: HostRuntime) -> Result<(), Fail> {
-    let is_same = value_is_same(rt.alloc())?;
-    assert!(rt; is_same);
+fn copies(rt: HostRuntime) -> Result<(), Fail> {
+    assert_eq!(rt; copies_are_same(rt.alloc())?, (true, true, true));
     Ok(())
 }

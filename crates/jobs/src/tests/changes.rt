@@ -1,5 +1,4 @@
-use super::store::{answers, has_open};
-use mg_store::Store;
+use super::store::leaves_open;
 use std::test::Fail;
 
 /// Updates and deletes, and watches that see them: what each command is about, its bytes, and those of its reply.
@@ -102,27 +101,15 @@ from-behind-it 79000000026167677265676174650002000000630004706970656c696e65003f0
 
 #[test]
 fn answers_updates_and_deletes(rt: HostRuntime) -> Result<(), Fail> {
-    let mut store = Store::new(rt.alloc());
-    answers(&rt, rt.alloc(), &mut store, CHANGES)?;
-    let has_three_open = has_open(&store, &[1, 2, 3])?;
-    assert!(rt; has_three_open);
-    Ok(())
+    leaves_open(&rt, rt.alloc(), CHANGES, &[1, 2, 3])
 }
 
 #[test]
 fn lists_collections_and_indexes(rt: HostRuntime) -> Result<(), Fail> {
-    let mut store = Store::new(rt.alloc());
-    answers(&rt, rt.alloc(), &mut store, LISTS)?;
-    let has_none_open = has_open(&store, &[])?;
-    assert!(rt; has_none_open);
-    Ok(())
+    leaves_open(&rt, rt.alloc(), LISTS, &[])
 }
 
 #[test]
 fn drops_end_watches(rt: HostRuntime) -> Result<(), Fail> {
-    let mut store = Store::new(rt.alloc());
-    answers(&rt, rt.alloc(), &mut store, DROPS)?;
-    let has_nine_open = has_open(&store, &[2, 3, 4, 5, 6, 7, 8, 9, 10])?;
-    assert!(rt; has_nine_open);
-    Ok(())
+    leaves_open(&rt, rt.alloc(), DROPS, &[2, 3, 4, 5, 6, 7, 8, 9, 10])
 }

@@ -1,52 +1,67 @@
-use super::records::is_shown;
+use super::records::{is_shown, keys};
+use super::sessions::session_of;
 use super::{namespace, one_field, parted, text, with};
 use mg_bson::{Bson, Document};
 use mg_link::{
-    Error, Namespace, OperationTarget, ReadConcern, ReadConcernLevel, ReadPreference,
-    SelectionCriteria, WriteConcern,
+    ClientSession, Error, Namespace, OperationTarget, ReadConcern, ReadConcernLevel,
+    ReadPreference, SelectionCriteria, WriteConcern,
 };
 use mg_ops::{
-    Aggregate, Create, CreateIndexes, Delete, DropCollection, Find, GetMore, Insert,
-    ListCollections, ListIndexes, Operation, RunCommand, RunCursorCommand, Update,
+    Aggregate, ChangeStreamAggregate, Create, CreateIndexes, Delete, DropCollection, Find, GetMore,
+    Insert, KillCursors, ListCollections, ListIndexes, Operation, RawOutput, RunCommand,
+    RunCursorCommand, Update, WatchArgs,
 };
 use mg_options::{
-    AggregateOptions, Collation, CreateIndexOptions, CursorType, DeleteOptions,
-    DropCollectionOptions, FindOptions, Hint, InsertManyOptions, ListCollectionsOptions,
-    ListIndexesOptions, RunCommandOptions, RunCursorCommandOptions, UpdateModifications,
+    AggregateOptions, ChangeStreamOptions, Collation, CreateIndexOptions, CursorType,
+    DeleteOptions, DropCollectionOptions, FindOptions, Hint, InsertManyOptions,
+    ListCollectionsOptions, ListIndexesOptions, RunCommandOptions, RunCursorCommandOptions,
+    UpdateModifications,
 };
 use std::alloc::{AllocError, Global};
+use std::process::Abort;
 use std::test::Fail;
 
-// Each line is an operation, how it is built, and what is built: the names of its fields in order, and its JSON text.
+// Each line is an operation, how it is built, the state of its session where it has one, and what is built: the names of its
+// fields in order, and its JSON text.
 const COMMANDS: &str =
-    r#"find awaited find singleBatch tailable awaitData batchSize comment limit filter $db readConcern $readPreference {"$db":"db","$readPreference":{"mode":"nearest"},"awaitData":true,"batchSize":5,"comment":"c","filter":{"x":1},"find":"coll","limit":{"$int64":"7"},"readConcern":{"level":"local"},"singleBatch":true,"tailable":true}
-find tailable find tailable batchSize limit filter $db {"$db":"db","batchSize":6,"filter":{"x":1},"find":"coll","limit":{"$int64":"5"},"tailable":true}
-aggregate collection aggregate pipeline cursor allowDiskUse maxTimeMS $db readConcern writeConcern $readPreference {"$db":"db","$readPreference":{"mode":"nearest"},"aggregate":"coll","allowDiskUse":true,"cursor":{"batchSize":5},"maxTimeMS":6,"pipeline":[{"$skip":1}],"readConcern":{"level":"local"},"writeConcern":{"j":true}}
-aggregate merge aggregate pipeline cursor allowDiskUse maxTimeMS $db readConcern writeConcern $readPreference {"$db":"db","$readPreference":{"mode":"nearest"},"aggregate":"coll","allowDiskUse":true,"cursor":{},"maxTimeMS":6,"pipeline":[{"$merge":1}],"readConcern":{"level":"local"},"writeConcern":{"j":true}}
-aggregate cluster aggregate pipeline cursor allowDiskUse maxTimeMS $db readConcern writeConcern $readPreference {"$db":"admin","$readPreference":{"mode":"nearest"},"aggregate":1,"allowDiskUse":true,"cursor":{"batchSize":5},"maxTimeMS":6,"pipeline":[{"$skip":1}],"readConcern":{"level":"local"},"writeConcern":{"j":true}}
-list names listCollections nameOnly filter cursor comment $db {"$db":"db","comment":"c","cursor":{"batchSize":5},"filter":{"name":1},"listCollections":1,"nameOnly":true}
-list types listCollections nameOnly filter cursor comment $db {"$db":"db","comment":"c","cursor":{"batchSize":5},"filter":{"type":1},"listCollections":1,"nameOnly":false}
-list indexes listIndexes cursor maxTimeMS comment $db {"$db":"db","comment":"c","cursor":{"batchSize":5},"listIndexes":"coll","maxTimeMS":6}
-given command x $db $readPreference {"$db":"db","$readPreference":{"mode":"nearest"},"x":1}
-given cursor x $db $readPreference {"$db":"db","$readPreference":{"mode":"nearest"},"x":1}
-given excessive invalid batch size
-given more getMore collection batchSize maxTimeMS comment $db {"$db":"db","batchSize":5,"collection":"coll","comment":"c","getMore":{"$int64":"9"},"maxTimeMS":2147483647}
-write insert insert documents ordered bypassDocumentValidation comment $db writeConcern {"$db":"db","bypassDocumentValidation":true,"comment":"c","documents":[{"x":1}],"insert":"coll","ordered":false,"writeConcern":{"j":true}}
-write none no documents to insert
-write slow number out of range
-write delete delete deletes ordered let comment $db writeConcern {"$db":"db","comment":4,"delete":"coll","deletes":[{"collation":{"locale":"en"},"hint":{"x":2},"limit":1,"q":{"x":1}}],"let":{"x":3},"ordered":true,"writeConcern":{"j":true}}
-write update update updates ordered $db writeConcern {"$db":"db","ordered":true,"update":"coll","updates":[{"multi":true,"q":{"x":1},"u":{"x":2}}],"writeConcern":{"j":true}}
-write one update updates ordered $db writeConcern {"$db":"db","ordered":true,"update":"coll","updates":[{"q":{"x":1},"u":{"x":2}}],"writeConcern":{"j":true}}
-write pipeline update updates ordered $db writeConcern {"$db":"db","ordered":true,"update":"coll","updates":[{"q":{"x":1},"u":[{"x":2}]}],"writeConcern":{"j":true}}
-space create create $db writeConcern {"$db":"db","create":"coll","writeConcern":{"j":true}}
-space drop drop $db writeConcern {"$db":"db","drop":"coll","writeConcern":{"j":true}}
-space indexes createIndexes indexes maxTimeMS $db writeConcern {"$db":"db","createIndexes":"coll","indexes":[{"key":{"filename":1,"uploadDate":{"$int64":"-1"}},"name":"filename_1_uploadDate_-1"}],"maxTimeMS":6,"writeConcern":{"j":true}}
-space nameless number out of range"#;
+    r#"find awaited - find singleBatch tailable awaitData batchSize comment limit filter $db readConcern $readPreference {"$db":"db","$readPreference":{"mode":"nearest"},"awaitData":true,"batchSize":5,"comment":"c","filter":{"x":1},"find":"coll","limit":{"$int64":"7"},"readConcern":{"level":"local"},"singleBatch":true,"tailable":true}
+find tailable - find tailable batchSize limit filter $db {"$db":"db","batchSize":6,"filter":{"x":1},"find":"coll","limit":{"$int64":"5"},"tailable":true}
+aggregate collection - aggregate pipeline cursor allowDiskUse maxTimeMS $db readConcern writeConcern $readPreference {"$db":"db","$readPreference":{"mode":"nearest"},"aggregate":"coll","allowDiskUse":true,"cursor":{"batchSize":5},"maxTimeMS":6,"pipeline":[{"$skip":1}],"readConcern":{"level":"local"},"writeConcern":{"j":true}}
+aggregate merge - aggregate pipeline cursor allowDiskUse maxTimeMS $db readConcern writeConcern $readPreference {"$db":"db","$readPreference":{"mode":"nearest"},"aggregate":"coll","allowDiskUse":true,"cursor":{},"maxTimeMS":6,"pipeline":[{"$merge":1}],"readConcern":{"level":"local"},"writeConcern":{"j":true}}
+aggregate cluster - aggregate pipeline cursor allowDiskUse maxTimeMS $db readConcern writeConcern $readPreference {"$db":"admin","$readPreference":{"mode":"nearest"},"aggregate":1,"allowDiskUse":true,"cursor":{"batchSize":5},"maxTimeMS":6,"pipeline":[{"$skip":1}],"readConcern":{"level":"local"},"writeConcern":{"j":true}}
+list names - listCollections nameOnly filter cursor comment $db {"$db":"db","comment":"c","cursor":{"batchSize":5},"filter":{"name":1},"listCollections":1,"nameOnly":true}
+list types - listCollections nameOnly filter cursor comment $db {"$db":"db","comment":"c","cursor":{"batchSize":5},"filter":{"type":1},"listCollections":1,"nameOnly":false}
+list indexes - listIndexes cursor maxTimeMS comment $db {"$db":"db","comment":"c","cursor":{"batchSize":5},"listIndexes":"coll","maxTimeMS":6}
+given command - x $db $readPreference {"$db":"db","$readPreference":{"mode":"nearest"},"x":1}
+given cursor - x $db $readPreference {"$db":"db","$readPreference":{"mode":"nearest"},"x":1}
+given excessive - invalid batch size
+given more - getMore collection batchSize maxTimeMS comment $db {"$db":"db","batchSize":5,"collection":"coll","comment":"c","getMore":{"$int64":"9"},"maxTimeMS":2147483647}
+given plain-more - getMore collection $db {"$db":"db","collection":"coll","getMore":{"$int64":"9"}}
+given sizeless - getMore collection $db {"$db":"db","collection":"coll","getMore":{"$int64":"9"}}
+write insert - insert documents ordered bypassDocumentValidation comment $db writeConcern {"$db":"db","bypassDocumentValidation":true,"comment":"c","documents":[{"x":1}],"insert":"coll","ordered":false,"writeConcern":{"j":true}}
+write none - no documents to insert
+write slow - number out of range
+write delete - delete deletes ordered let comment $db writeConcern {"$db":"db","comment":4,"delete":"coll","deletes":[{"collation":{"locale":"en"},"hint":{"x":2},"limit":1,"q":{"x":1}}],"let":{"x":3},"ordered":true,"writeConcern":{"j":true}}
+write update - update updates ordered $db writeConcern {"$db":"db","ordered":true,"update":"coll","updates":[{"multi":true,"q":{"x":1},"u":{"x":2}}],"writeConcern":{"j":true}}
+write one - update updates ordered $db writeConcern {"$db":"db","ordered":true,"update":"coll","updates":[{"q":{"x":1},"u":{"x":2}}],"writeConcern":{"j":true}}
+write pipeline - update updates ordered $db writeConcern {"$db":"db","ordered":true,"update":"coll","updates":[{"q":{"x":1},"u":[{"x":2}]}],"writeConcern":{"j":true}}
+space create - create $db writeConcern {"$db":"db","create":"coll","writeConcern":{"j":true}}
+space drop - drop $db writeConcern {"$db":"db","drop":"coll","writeConcern":{"j":true}}
+space indexes - createIndexes indexes maxTimeMS $db writeConcern {"$db":"db","createIndexes":"coll","indexes":[{"key":{"filename":1,"uploadDate":{"$int64":"-1"}},"name":"filename_1_uploadDate_-1"}],"maxTimeMS":6,"writeConcern":{"j":true}}
+space nameless - number out of range"#;
 
-// The document `{ x: n }`.
-fn x(alloc: Global, n: i32) -> Result<Document, Error> {
-    Ok(one_field(alloc, "x", Bson::Int32(n))?)
-}
+// Finds with a limit and a size of their batches.
+const LIMITS: &str =
+    r#"short raised - find batchSize limit filter $db {"$db":"db","batchSize":6,"filter":{},"find":"c","limit":{"$int64":"5"}}
+short single - find singleBatch limit filter $db {"$db":"db","filter":{},"find":"c","limit":{"$int64":"1"},"singleBatch":true}
+short excessive - invalid batch size
+short least - invalid limit
+short zero - find batchSize limit filter $db {"$db":"db","batchSize":1,"filter":{},"find":"c","limit":{"$int64":"0"}}"#;
+
+// A getMore without a size, and with more milliseconds than an Int32 counts; an aggregate that writes into another collection.
+const MORE_AND_OUT: &str =
+    r#"short patient - getMore collection maxTimeMS $db {"$db":"db","collection":"c","getMore":{"$int64":"9"},"maxTimeMS":2147483647}
+short out - aggregate pipeline cursor $db {"$db":"db","aggregate":"c","cursor":{},"pipeline":[{"$out":"d"}]}"#;
 
 // A write is to be in the journal.
 pub(super) fn journaled() -> WriteConcern {
@@ -67,16 +82,15 @@ pub(super) fn nearest() -> SelectionCriteria {
     SelectionCriteria::ReadPreference(ReadPreference::Nearest)
 }
 
-fn find(alloc: Global, options: FindOptions) -> Result<Document, Error> {
-    let find = Find {
+fn find_with(alloc: Global, options: FindOptions) -> Result<Find, Error> {
+    Ok(Find {
         ns: namespace(alloc)?,
-        filter: x(alloc, 1)?,
+        filter: keys(alloc, 1)?,
         options,
-    };
-    find.build(alloc, 21, None)
+    })
 }
 
-fn awaited(alloc: Global) -> Result<Document, Error> {
+fn awaited(alloc: Global) -> Result<Find, Error> {
     let comment = text(alloc, "c")?;
     let options = FindOptions::builder()
         .limit(-7)
@@ -86,97 +100,157 @@ fn awaited(alloc: Global) -> Result<Document, Error> {
         .comment(comment)
         .read_concern(local())
         .selection_criteria(nearest());
-    find(alloc, options)
+    find_with(alloc, options)
 }
 
 // A find whose limit is the size of its batches.
-fn tailable(alloc: Global) -> Result<Document, Error> {
+fn tailable(alloc: Global) -> Result<Find, Error> {
     let options = FindOptions::builder()
         .limit(5)
         .batch_size(5)
         .cursor_type(CursorType::Tailable);
-    find(alloc, options)
+    find_with(alloc, options)
 }
 
-fn finds(alloc: Global, way: &str) -> Result<Document, Error> {
-    match way {
-        "awaited" => awaited(alloc),
-        _ => tailable(alloc),
+// A find that reads what is local at any server.
+pub(super) fn local_find(alloc: Global) -> Result<Find, Error> {
+    let options = FindOptions::builder()
+        .read_concern(local())
+        .selection_criteria(nearest());
+    find_with(alloc, options)
+}
+
+fn finds(alloc: Global, session: Option<&ClientSession>, way: &str) -> Result<Document, Error> {
+    let find = match way {
+        "awaited" => awaited(alloc)?,
+        "tailable" => tailable(alloc)?,
+        _ => local_find(alloc)?,
+    };
+    if way == "raw" {
+        return RawOutput(find).build(alloc, 21, session);
     }
+    find.build(alloc, 21, session)
 }
 
-// An aggregate of one stage, with the concerns that it may have.
-fn aggregate(alloc: Global, target: OperationTarget, stage: &str) -> Result<Document, Error> {
-    let pipeline = vec![in alloc; one_field(alloc, stage, Bson::Int32(1))?]?;
-    let options = AggregateOptions::builder()
+// An aggregate of one stage.
+fn aggregate(
+    alloc: Global,
+    session: Option<&ClientSession>,
+    target: OperationTarget,
+    stage: Document,
+    options: AggregateOptions,
+) -> Result<Document, Error> {
+    let pipeline = vec![in alloc; stage]?;
+    let aggregate = Aggregate {
+        target,
+        pipeline,
+        options,
+    };
+    aggregate.build(alloc, 21, session)
+}
+
+// The options of an aggregate with the concerns that it may have.
+fn concerned() -> AggregateOptions {
+    AggregateOptions::builder()
         .allow_disk_use(true)
         .batch_size(5)
         .max_time(6)
         .max_await_time(9)
         .read_concern(local())
         .write_concern(journaled())
-        .selection_criteria(nearest());
-    let aggregate = Aggregate {
-        target,
-        pipeline,
+        .selection_criteria(nearest())
+}
+
+pub(super) fn watch(alloc: Global) -> Result<ChangeStreamAggregate, Error> {
+    let ns = namespace(alloc)?;
+    Ok(ChangeStreamAggregate {
+        args: WatchArgs {
+            pipeline: Vec::new(alloc),
+            target: OperationTarget::Collection(ns),
+            options: ChangeStreamOptions::builder(),
+        },
+        resume: None,
+    })
+}
+
+fn aggregates(
+    alloc: Global,
+    session: Option<&ClientSession>,
+    way: &str,
+) -> Result<Document, Error> {
+    if way == "watch" {
+        return watch(alloc)?.build(alloc, 21, session);
+    }
+    let name = if way == "merge" { "$merge" } else { "$skip" };
+    let stage = one_field(alloc, name, Bson::Int32(1))?;
+    if way == "cluster" {
+        return aggregate(alloc, session, OperationTarget::Cluster, stage, concerned());
+    }
+    let target = OperationTarget::Collection(namespace(alloc)?);
+    if way == "journaled" {
+        let options = AggregateOptions::builder().write_concern(journaled());
+        return aggregate(alloc, session, target, stage, options);
+    }
+    aggregate(alloc, session, target, stage, concerned())
+}
+
+fn list_collections(
+    alloc: Global,
+    session: Option<&ClientSession>,
+    options: ListCollectionsOptions,
+) -> Result<Document, Error> {
+    let list = ListCollections {
+        db: String::from_str(alloc, "db")?,
+        name_only: true,
         options,
     };
-    aggregate.build(alloc, 21, None)
+    list.build(alloc, 21, session)
 }
 
-fn on_collection(alloc: Global, stage: &str) -> Result<Document, Error> {
-    let ns = namespace(alloc)?;
-    aggregate(alloc, OperationTarget::Collection(ns), stage)
-}
-
-fn aggregates(alloc: Global, way: &str) -> Result<Document, Error> {
-    match way {
-        "collection" => on_collection(alloc, "$skip"),
-        "merge" => on_collection(alloc, "$merge"),
-        _ => aggregate(alloc, OperationTarget::Cluster, "$skip"),
-    }
-}
-
-// A list of the names of collections that a filter of this name selects.
-fn list_collections(alloc: Global, name: &str) -> Result<Document, Error> {
+// The options of a list of the collections that a filter of this name selects.
+fn filtered(alloc: Global, name: &str) -> Result<ListCollectionsOptions, Error> {
     let filter = one_field(alloc, name, Bson::Int32(1))?;
     let comment = text(alloc, "c")?;
-    let db = String::from_str(alloc, "db")?;
-    let list = ListCollections {
-        db,
-        name_only: true,
-        options: ListCollectionsOptions::builder()
+    Ok(
+        ListCollectionsOptions::builder()
             .filter(filter)
             .batch_size(5)
             .comment(comment),
-    };
-    list.build(alloc, 21, None)
+    )
 }
 
-fn list_indexes(alloc: Global) -> Result<Document, Error> {
-    let comment = text(alloc, "c")?;
-    let options = ListIndexesOptions::builder()
-        .max_time(6)
-        .comment(comment)
-        .batch_size(5);
+fn list_indexes(
+    alloc: Global,
+    session: Option<&ClientSession>,
+    options: ListIndexesOptions,
+) -> Result<Document, Error> {
     let list = ListIndexes {
         ns: namespace(alloc)?,
         options,
     };
-    list.build(alloc, 21, None)
+    list.build(alloc, 21, session)
 }
 
-fn lists(alloc: Global, way: &str) -> Result<Document, Error> {
+fn lists(alloc: Global, session: Option<&ClientSession>, way: &str) -> Result<Document, Error> {
     match way {
-        "names" => list_collections(alloc, "name"),
-        "types" => list_collections(alloc, "type"),
-        _ => list_indexes(alloc),
+        "names" => list_collections(alloc, session, filtered(alloc, "name")?),
+        "types" => list_collections(alloc, session, filtered(alloc, "type")?),
+        "all" => list_collections(alloc, session, ListCollectionsOptions::builder()),
+        "indexes" => {
+            let comment = text(alloc, "c")?;
+            let options = ListIndexesOptions::builder()
+                .max_time(6)
+                .comment(comment)
+                .batch_size(5);
+            list_indexes(alloc, session, options)
+        }
+        _ => list_indexes(alloc, session, ListIndexesOptions::builder()),
     }
 }
 
-fn run(alloc: Global) -> Result<Document, Error> {
+fn run(alloc: Global, session: Option<&ClientSession>) -> Result<Document, Error> {
     let db = String::from_str(alloc, "db")?;
-    let command = x(alloc, 1)?;
+    let command = keys(alloc, 1)?;
     let options = RunCommandOptions::builder()
         .selection_criteria(nearest())
         .build();
@@ -185,60 +259,103 @@ fn run(alloc: Global) -> Result<Document, Error> {
         command,
         options: options.clone()?,
     };
-    run.build(alloc, 21, None)
+    run.build(alloc, 21, session)
 }
 
-fn run_cursor(alloc: Global, batch_size: u32) -> Result<Document, Error> {
+fn run_cursor(
+    alloc: Global,
+    session: Option<&ClientSession>,
+    options: RunCursorCommandOptions,
+) -> Result<Document, Error> {
     let db = String::from_str(alloc, "db")?;
+    let command = keys(alloc, 1)?;
     let run = RunCursorCommand {
         db,
-        command: x(alloc, 1)?,
-        options: RunCursorCommandOptions::builder()
-            .selection_criteria(nearest())
-            .batch_size(batch_size),
+        command,
+        options,
     };
-    run.build(alloc, 21, None)
+    run.build(alloc, 21, session)
 }
 
-fn get_more(alloc: Global, max_time: u64) -> Result<Document, Error> {
-    let ns = namespace(alloc)?;
-    let comment = text(alloc, "c")?;
+fn sized(batch_size: u32) -> RunCursorCommandOptions {
+    RunCursorCommandOptions::builder()
+        .selection_criteria(nearest())
+        .batch_size(batch_size)
+}
+
+fn get_more(
+    alloc: Global,
+    session: Option<&ClientSession>,
+    batch_size: Option<u32>,
+    max_time: Option<u64>,
+    ns: Namespace,
+    comment: Option<Bson>,
+) -> Result<Document, Error> {
     let get_more = GetMore {
         ns,
         id: 9,
-        batch_size: Some(5),
-        max_time: Some(max_time),
-        comment: Some(comment),
+        batch_size,
+        max_time,
+        comment,
     };
-    get_more.build(alloc, 21, None)
+    get_more.build(alloc, 21, session)
 }
 
-fn given(alloc: Global, way: &str) -> Result<Document, Error> {
+fn kill(alloc: Global, session: Option<&ClientSession>) -> Result<Document, Error> {
+    let ids = vec![in alloc; 9]?;
+    let ns = namespace(alloc)?;
+    let kill = KillCursors { ns, ids };
+    kill.build(alloc, 21, session)
+}
+
+fn given(alloc: Global, session: Option<&ClientSession>, way: &str) -> Result<Document, Error> {
     match way {
-        "command" => run(alloc),
-        "cursor" => run_cursor(alloc, 5),
-        "excessive" => run_cursor(alloc, 2_147_483_648),
-        _ => get_more(alloc, 2_147_483_648),
+        "command" => run(alloc, session),
+        "cursor" => run_cursor(alloc, session, sized(5)),
+        "excessive" => run_cursor(alloc, session, sized(2_147_483_648)),
+        "plain" => run_cursor(alloc, session, RunCursorCommandOptions::builder()),
+        "kill" => kill(alloc, session),
+        "more" => {
+            let ns = namespace(alloc)?;
+            let comment = text(alloc, "c")?;
+            get_more(
+                alloc,
+                session,
+                Some(5),
+                Some(2_147_483_648),
+                ns,
+                Some(comment),
+            )
+        }
+        "sizeless" => get_more(alloc, session, Some(0), None, namespace(alloc)?, None),
+        _ => get_more(alloc, session, None, None, namespace(alloc)?, None),
     }
 }
 
 fn insert(
     alloc: Global,
+    session: Option<&ClientSession>,
     documents: Vec<Document>,
-    writes: WriteConcern,
+    options: InsertManyOptions,
 ) -> Result<Document, Error> {
-    let ns = namespace(alloc)?;
-    let comment = text(alloc, "c")?;
     let insert = Insert {
-        ns,
+        ns: namespace(alloc)?,
         documents,
-        options: InsertManyOptions::builder()
+        options,
+    };
+    insert.build(alloc, 21, session)
+}
+
+// The options of an insert that is not ordered.
+fn unordered(alloc: Global, writes: WriteConcern) -> Result<InsertManyOptions, Error> {
+    let comment = text(alloc, "c")?;
+    Ok(
+        InsertManyOptions::builder()
             .ordered(false)
             .bypass_document_validation(true)
             .comment(comment)
             .write_concern(writes),
-    };
-    insert.build(alloc, 21, None)
+    )
 }
 
 // A write is to be safe within more milliseconds than an Int64 counts.
@@ -250,132 +367,174 @@ fn slow() -> WriteConcern {
     }
 }
 
-fn delete(alloc: Global, many: bool) -> Result<Document, Error> {
-    let ns = namespace(alloc)?;
-    let filter = x(alloc, 1)?;
-    let hint = x(alloc, 2)?;
-    let let_vars = x(alloc, 3)?;
-    let locale = String::from_str(alloc, "en")?;
+// An insert of one document, or of none.
+fn inserts(alloc: Global, session: Option<&ClientSession>, way: &str) -> Result<Document, Error> {
+    let options = match way {
+        "ordered" => InsertManyOptions::builder().write_concern(journaled()),
+        "slow" => unordered(alloc, slow())?,
+        _ => unordered(alloc, journaled())?,
+    };
+    let mut documents = Vec::new(alloc);
+    if way != "none" {
+        documents.push(keys(alloc, 1)?)?;
+    }
+    insert(alloc, session, documents, options)
+}
+
+fn delete(
+    alloc: Global,
+    session: Option<&ClientSession>,
+    options: DeleteOptions,
+) -> Result<Document, Error> {
     let delete = Delete {
-        ns,
-        filter,
-        many,
-        options: DeleteOptions::builder()
+        ns: namespace(alloc)?,
+        filter: keys(alloc, 1)?,
+        many: false,
+        options,
+    };
+    delete.build(alloc, 21, session)
+}
+
+// The options of a delete of which everything is given.
+fn hinted(alloc: Global) -> Result<DeleteOptions, Error> {
+    let hint = keys(alloc, 2)?;
+    let let_vars = keys(alloc, 3)?;
+    let locale = String::from_str(alloc, "en")?;
+    Ok(
+        DeleteOptions::builder()
             .collation(Collation::builder(locale))
             .hint(Hint::Keys(hint))
             .let_vars(let_vars)
             .comment(Bson::Int32(4))
             .write_concern(journaled()),
-    };
-    delete.build(alloc, 21, None)
+    )
 }
 
-fn update(
+fn update_with(
     alloc: Global,
-    modifications: UpdateModifications,
     many: bool,
-) -> Result<Document, Error> {
-    let ns = namespace(alloc)?;
-    let filter = x(alloc, 1)?;
+    write_concern: Option<WriteConcern>,
+    modifications: UpdateModifications,
+) -> Result<Update, Error> {
     let modifications = modifications.clone()?;
-    let update = Update {
-        ns,
-        filter,
+    Ok(Update {
+        ns: namespace(alloc)?,
+        filter: keys(alloc, 1)?,
         modifications,
         many,
-        write_concern: Some(journaled()),
-    };
-    update.build(alloc, 21, None)
+        write_concern,
+    })
 }
 
-fn writes(alloc: Global, way: &str) -> Result<Document, Error> {
+// An update of one document, which asks for nothing.
+pub(super) fn plain_update(alloc: Global) -> Result<Update, Error> {
+    update_with(
+        alloc,
+        false,
+        None,
+        UpdateModifications::from(keys(alloc, 2)?),
+    )
+}
+
+fn updates(alloc: Global, session: Option<&ClientSession>, way: &str) -> Result<Document, Error> {
+    if way == "plain" {
+        return plain_update(alloc)?.build(alloc, 21, session);
+    }
+    let modification = keys(alloc, 2)?;
+    let modifications = if way == "pipeline" {
+        UpdateModifications::from(vec![in alloc; modification]?)
+    } else {
+        UpdateModifications::from(modification)
+    };
+    let update = update_with(alloc, way == "update", Some(journaled()), modifications)?;
+    update.build(alloc, 21, session)
+}
+
+fn writes(alloc: Global, session: Option<&ClientSession>, way: &str) -> Result<Document, Error> {
     match way {
-        "insert" => insert(alloc, vec![in alloc; x(alloc, 1)?]?, journaled()),
-        "none" => insert(alloc, Vec::new(alloc), journaled()),
-        "slow" => insert(alloc, vec![in alloc; x(alloc, 1)?]?, slow()),
-        "delete" => delete(alloc, false),
-        "update" => update(alloc, UpdateModifications::from(x(alloc, 2)?), true),
-        "one" => update(alloc, UpdateModifications::from(x(alloc, 2)?), false),
-        _ => {
-            let stages = vec![in alloc; x(alloc, 2)?]?;
-            update(alloc, UpdateModifications::from(stages), false)
+        "insert" | "ordered" | "none" | "slow" => inserts(alloc, session, way),
+        "delete" => delete(alloc, session, hinted(alloc)?),
+        "deleted" => {
+            let options = DeleteOptions::builder().write_concern(journaled());
+            delete(alloc, session, options)
         }
+        _ => updates(alloc, session, way),
     }
 }
 
-fn create(alloc: Global) -> Result<Document, Error> {
+fn create(alloc: Global, session: Option<&ClientSession>) -> Result<Document, Error> {
     let create = Create {
         ns: namespace(alloc)?,
         write_concern: Some(journaled()),
     };
-    create.build(alloc, 21, None)
+    create.build(alloc, 21, session)
 }
 
-fn drop_collection(alloc: Global) -> Result<Document, Error> {
-    let ns = namespace(alloc)?;
-    let options = DropCollectionOptions::builder()
-        .write_concern(journaled())
-        .build();
+fn drop_collection(
+    alloc: Global,
+    session: Option<&ClientSession>,
+    options: DropCollectionOptions,
+) -> Result<Document, Error> {
     let dropped = DropCollection {
-        ns,
+        ns: namespace(alloc)?,
         options: options.clone()?,
     };
-    dropped.build(alloc, 21, None)
+    dropped.build(alloc, 21, session)
 }
 
-// An index of two keys, the second with this value.
-fn create_indexes(alloc: Global, value: Bson) -> Result<Document, Error> {
-    let keys = one_field(alloc, "filename", Bson::Int32(1))?;
-    let keys = with(keys, "uploadDate", value)?;
-    let ns = namespace(alloc)?;
+fn create_indexes(
+    alloc: Global,
+    session: Option<&ClientSession>,
+    keys: Document,
+    options: CreateIndexOptions,
+) -> Result<Document, Error> {
     let create = CreateIndexes {
-        ns,
+        ns: namespace(alloc)?,
         keys,
-        options: CreateIndexOptions::builder()
-            .max_time(6)
-            .write_concern(journaled()),
+        options,
     };
-    create.build(alloc, 21, None)
+    create.build(alloc, 21, session)
 }
 
-fn spaces(alloc: Global, way: &str) -> Result<Document, Error> {
+// An index of two keys, the second with the value of one that goes down, or with none.
+fn create_two_keys(
+    alloc: Global,
+    session: Option<&ClientSession>,
+    goes_down: bool,
+) -> Result<Document, Error> {
+    let keys = one_field(alloc, "filename", Bson::Int32(1))?;
+    let value = if goes_down {
+        Bson::Int64(-1)
+    } else {
+        Bson::Null
+    };
+    let keys = with(keys, "uploadDate", value)?;
+    let options = CreateIndexOptions::builder()
+        .max_time(6)
+        .write_concern(journaled());
+    create_indexes(alloc, session, keys, options)
+}
+
+fn spaces(alloc: Global, session: Option<&ClientSession>, way: &str) -> Result<Document, Error> {
     match way {
-        "create" => create(alloc),
-        "drop" => drop_collection(alloc),
-        "indexes" => create_indexes(alloc, Bson::Int64(-1)),
-        _ => create_indexes(alloc, Bson::Null),
+        "create" => create(alloc, session),
+        "drop" => {
+            let options = DropCollectionOptions::builder()
+                .write_concern(journaled())
+                .build();
+            drop_collection(alloc, session, options)
+        }
+        "dropped" => drop_collection(alloc, session, DropCollectionOptions::builder()),
+        "indexes" => create_two_keys(alloc, session, true),
+        "nameless" => create_two_keys(alloc, session, false),
+        _ => create_indexes(
+            alloc,
+            session,
+            keys(alloc, 1)?,
+            CreateIndexOptions::builder(),
+        ),
     }
 }
-
-fn built(alloc: Global, operation: &str, way: &str) -> Result<Document, Error> {
-    match operation {
-        "find" => finds(alloc, way),
-        "aggregate" => aggregates(alloc, way),
-        "list" => lists(alloc, way),
-        "given" => given(alloc, way),
-        "write" => writes(alloc, way),
-        _ => spaces(alloc, way),
-    }
-}
-
-#[test]
-fn commands_of_operations(rt: HostRuntime) -> Result<(), Fail> {
-    let alloc = rt.alloc();
-    for line in COMMANDS.lines() {
-        let (operation, rest) = parted(line);
-        let (way, wanted) = parted(rest);
-        is_shown(&rt, alloc, line, built(alloc, operation, way), wanted)?;
-    }
-    Ok(())
-}
-
-// Each line is how a find is limited, and what is built.
-const LIMITS: &str =
-    r#"raised find batchSize limit filter $db {"$db":"db","batchSize":6,"filter":{},"find":"c","limit":{"$int64":"5"}}
-single find singleBatch limit filter $db {"$db":"db","filter":{},"find":"c","limit":{"$int64":"1"},"singleBatch":true}
-excessive invalid batch size
-least invalid limit
-zero find batchSize limit filter $db {"$db":"db","batchSize":1,"filter":{},"find":"c","limit":{"$int64":"0"}}"#;
 
 // The namespace `db.c`.
 fn short_namespace(alloc: Global) -> Result<Namespace, AllocError> {
@@ -404,51 +563,66 @@ fn find_up_to(alloc: Global, limit: &str) -> Result<Document, Error> {
     find.build(alloc, 21, None)
 }
 
-#[test]
-fn find_limits(rt: HostRuntime) -> Result<(), Fail> {
-    let alloc = rt.alloc();
-    for line in LIMITS.lines() {
-        let (limit, wanted) = parted(line);
-        is_shown(&rt, alloc, line, find_up_to(alloc, limit), wanted)?;
+// An aggregate that writes its documents into another collection.
+fn aggregate_out(alloc: Global) -> Result<Document, Error> {
+    let stage = one_field(alloc, "$out", text(alloc, "d")?)?;
+    let target = OperationTarget::Collection(short_namespace(alloc)?);
+    let options = AggregateOptions::builder().batch_size(5);
+    aggregate(alloc, None, target, stage, options)
+}
+
+fn shorts(alloc: Global, way: &str) -> Result<Document, Error> {
+    match way {
+        "patient" => {
+            let ns = short_namespace(alloc)?;
+            get_more(alloc, None, Some(0), Some(2_147_483_648), ns, None)
+        }
+        "out" => aggregate_out(alloc),
+        _ => find_up_to(alloc, way),
+    }
+}
+
+fn built(
+    alloc: Global,
+    session: Option<&ClientSession>,
+    operation: &str,
+    way: &str,
+) -> Result<Document, Error> {
+    match operation {
+        "find" => finds(alloc, session, way),
+        "aggregate" => aggregates(alloc, session, way),
+        "list" => lists(alloc, session, way),
+        "given" => given(alloc, session, way),
+        "write" => writes(alloc, session, way),
+        "space" => spaces(alloc, session, way),
+        _ => shorts(alloc, way),
+    }
+}
+
+/// Fails a test where an operation of a table is not built as it should.
+pub(super) fn are_built(rt: &impl Abort, alloc: Global, table: &str) -> Result<(), Fail> {
+    for line in table.lines() {
+        let (operation, rest) = parted(line);
+        let (way, rest) = parted(rest);
+        let (state, wanted) = parted(rest);
+        let session = session_of(alloc, state)?;
+        let command = built(alloc, session.as_ref(), operation, way);
+        is_shown(rt, alloc, line, command, wanted)?;
     }
     Ok(())
 }
 
-// A getMore without a size, and with more milliseconds than an Int32 counts.
-fn patient_get_more(alloc: Global) -> Result<Document, Error> {
-    let get_more = GetMore {
-        ns: short_namespace(alloc)?,
-        id: 9,
-        batch_size: Some(0),
-        max_time: Some(2_147_483_648),
-        comment: None,
-    };
-    get_more.build(alloc, 21, None)
+#[test]
+fn commands_of_operations(rt: HostRuntime) -> Result<(), Fail> {
+    are_built(&rt, rt.alloc(), COMMANDS)
 }
 
-// An aggregate that writes its documents into another collection.
-fn aggregate_out(alloc: Global) -> Result<Document, Error> {
-    let ns = short_namespace(alloc)?;
-    let name = text(alloc, "d")?;
-    let pipeline = vec![in alloc; one_field(alloc, "$out", name)?]?;
-    let aggregate = Aggregate {
-        target: OperationTarget::Collection(ns),
-        pipeline,
-        options: AggregateOptions::builder().batch_size(5),
-    };
-    aggregate.build(alloc, 21, None)
+#[test]
+fn find_limits(rt: HostRuntime) -> Result<(), Fail> {
+    are_built(&rt, rt.alloc(), LIMITS)
 }
-
-const GET_MORE: &str =
-    r#"getMore collection maxTimeMS $db {"$db":"db","collection":"c","getMore":{"$int64":"9"},"maxTimeMS":2147483647}"#;
-
-const OUT: &str =
-    r#"aggregate pipeline cursor $db {"$db":"db","aggregate":"c","cursor":{},"pipeline":[{"$out":"d"}]}"#;
 
 #[test]
 fn get_more_and_out(rt: HostRuntime) -> Result<(), Fail> {
-    let alloc = rt.alloc();
-    is_shown(&rt, alloc, "getMore", patient_get_more(alloc), GET_MORE)?;
-    is_shown(&rt, alloc, "$out", aggregate_out(alloc), OUT)?;
-    Ok(())
+    are_built(&rt, rt.alloc(), MORE_AND_OUT)
 }

@@ -1,5 +1,4 @@
-use super::bson::{are_malformed, rewritten};
-use super::{expect, parted};
+use super::bson::{are_refused, are_rewritten};
 use std::test::Fail;
 
 // Cases of the BSON corpus, `bson-corpus/tests` of MongoDB's specifications: the bytes, and behind them the file and the
@@ -271,44 +270,20 @@ const KEPT: &str = "\
 
 #[test]
 fn canonical_documents(rt: HostRuntime) -> Result<(), Fail> {
-    let alloc = rt.alloc();
-    for line in CANONICAL.lines() {
-        let (digits, case) = parted(line);
-        let found = rewritten(alloc, hex::decode(alloc, digits)?)?;
-        expect(&rt, case, found.as_str(), digits);
-    }
-    Ok(())
+    are_rewritten(&rt, rt.alloc(), CANONICAL, true)
 }
 
 #[test]
 fn degenerate_arrays(rt: HostRuntime) -> Result<(), Fail> {
-    let alloc = rt.alloc();
-    for line in DEGENERATE.lines() {
-        let (digits, rest) = parted(line);
-        let (canonical, case) = parted(rest);
-        let found = rewritten(alloc, hex::decode(alloc, digits)?)?;
-        expect(&rt, case, found.as_str(), canonical);
-    }
-    Ok(())
+    are_rewritten(&rt, rt.alloc(), DEGENERATE, false)
 }
 
 #[test]
 fn refused_bytes(rt: HostRuntime) -> Result<(), Fail> {
-    for line in REFUSED.lines() {
-        let (digits, case) = parted(line);
-        let bytes = hex::decode(rt.alloc(), digits)?;
-        assert!(rt; are_malformed(bytes), "{case}");
-    }
-    Ok(())
+    are_refused(&rt, rt.alloc(), REFUSED)
 }
 
 #[test]
 fn kept_documents(rt: HostRuntime) -> Result<(), Fail> {
-    let alloc = rt.alloc();
-    for line in KEPT.lines() {
-        let (digits, case) = parted(line);
-        let found = rewritten(alloc, hex::decode(alloc, digits)?)?;
-        expect(&rt, case, found.as_str(), digits);
-    }
-    Ok(())
+    are_rewritten(&rt, rt.alloc(), KEPT, true)
 }

@@ -72,6 +72,45 @@ fn readers_by_kind(rt: HostRuntime) -> Result<(), Fail> {
     Ok(())
 }
 
+// A document, the reader, and what it lends of the value `x`.
+const LENDERS: &str = "\
+10000000017800000000000000f03f00 double Some([0, 0, 0, 0, 0, 0, 240, 63])
+0f0000000578000200000000010200 binary Some((0, [1, 2]))
+140000000778000102030405060708090a0b0c00 object_id Some(ObjectId([1, 2, 3, 4, 5, 6, 7, 8, 9, 10, 11, 12]))
+0c0000001078000100000000 double None
+0c0000001078000100000000 binary None
+0c0000001078000100000000 object_id None
+";
+
+// How what the reader lends prints.
+fn lent_by(alloc: Global, reader: &str, value: &RawValue<'_>) -> Result<String, AllocError> {
+    match reader {
+        "double" => shown(alloc, value.as_double()),
+        "binary" => shown(alloc, value.as_binary()),
+        _ => shown(alloc, value.as_object_id()),
+    }
+}
+
+fn lent(alloc: Global, bytes: Vec<u8>, reader: &str) -> Result<String, BsonError> {
+    let raw = RawDocumentBuf::from_bytes(bytes)?;
+    match raw.as_raw().get("x") {
+        Some(value) => Ok(lent_by(alloc, reader, &value)?),
+        None => Ok(String::new(alloc)),
+    }
+}
+
+#[test]
+fn lent_by_kind(rt: HostRuntime) -> Result<(), Fail> {
+    let alloc = rt.alloc();
+    for line in LENDERS.lines() {
+        let (digits, rest) = parted(line);
+        let (reader, wanted) = parted(rest);
+        let found = lent(alloc, hex::decode(alloc, digits)?, reader)?;
+        expect(&rt, line, found.as_str(), wanted);
+    }
+    Ok(())
+}
+
 // An array of plain values.
 fn items(alloc: Global) -> Result<Bson, BsonError> {
     let mut items = Array::new(alloc);

@@ -2,8 +2,8 @@ ghost use Rattle.mg_link.specs.Acts.{IsOut};
 ghost use Rattle.mg_link.specs.Exec.{ticket_of};
 ghost use Rattle.mg_link.specs.Places.{out_at};
 
-use super::{bytes_of, expect, one_field, text, with, with_text};
-use mg_bson::{Array, Bson, BsonError, RawDocumentBuf, to_bytes};
+use super::{bytes_of, expect, json_bytes, one_field};
+use mg_bson::{Bson, BsonError, RawDocumentBuf, to_bytes};
 use mg_link::{
     Action, Error, ErrorKind, Exec, Malformed, Retry, ScriptLink, Scripted, ScriptedSeen, Step,
     Verdict, verdict_of,
@@ -16,22 +16,13 @@ fn reply_of(alloc: Global, ok: Bson) -> Result<Vec<u8>, BsonError> {
     bytes_of(alloc, &one_field(alloc, "ok", ok)?)
 }
 
-fn labels_of(alloc: Global) -> Result<Array, BsonError> {
-    let mut labels = Array::new(alloc);
-    labels.push(text(alloc, "RetryableError")?)?;
-    labels.push(Bson::Int32(5))?;
-    Ok(labels)
-}
-
 // A refusal with this code, and a label.
-fn refusal_of(alloc: Global, code: i32) -> Result<Vec<u8>, BsonError> {
-    let reply = one_field(alloc, "ok", Bson::Int32(0))?;
-    let reply = with_text(alloc, reply, "errmsg", "not now")?;
-    let reply = with(reply, "code", Bson::Int32(code))?;
-    let reply = with_text(alloc, reply, "codeName", "Name")?;
-    let labels = labels_of(alloc)?;
-    let reply = with(reply, "errorLabels", Bson::Array(labels))?;
-    bytes_of(alloc, &reply)
+fn refusal_of(alloc: Global, code: i32) -> Result<Vec<u8>, Error> {
+    let before = r#"{"code":"#;
+    let behind =
+        r#","codeName":"Name","errmsg":"not now","errorLabels":["RetryableError",5],"ok":0}"#;
+    let json = format!(in alloc; "{before}{code}{behind}")?;
+    Ok(json_bytes(alloc, json.as_str())?.into_bytes())
 }
 
 fn ping(alloc: Global) -> Result<RawDocumentBuf, BsonError> {
@@ -85,9 +76,9 @@ fn polls_to_end(exec: Exec, link: &mut ScriptLink) -> (u32, Came)
 
 // A link that answers so, and then by a success. Each answer pends so often.
 fn link_of(alloc: Global, pend: u32, seen: ScriptedSeen) -> Result<ScriptLink, BsonError> {
-    let success = ScriptedSeen::Reply(reply_of(alloc, Bson::Int32(1))?);
     let mut list = Vec::new(alloc);
     list.push(Scripted { pend, seen })?;
+    let success = ScriptedSeen::Reply(reply_of(alloc, Bson::Int32(1))?);
     list.push(Scripted {
         pend,
         seen: success,
@@ -104,7 +95,7 @@ enum First {
     Memory,
 }
 
-fn seen_of(alloc: Global, first: First) -> Result<ScriptedSeen, BsonError> {
+fn seen_of(alloc: Global, first: First) -> Result<ScriptedSeen, Error> {
     match first {
         First::Refusal(code) => Ok(ScriptedSeen::Reply(refusal_of(alloc, code)?)),
         First::Bytes(bytes) => Ok(ScriptedSeen::Reply(Vec::from_slice(alloc, &bytes)?)),
@@ -114,7 +105,7 @@ fn seen_of(alloc: Global, first: First) -> Result<ScriptedSeen, BsonError> {
 }
 
 // What comes of a ping whose first answer is this, and how many commands were sent.
-fn answer_to(alloc: Global, first: First, retry: Retry) -> Result<(Came, usize), BsonError> {
+fn answer_to(alloc: Global, first: First, retry: Retry) -> Result<(Came, usize), Error> {
     let mut link = link_of(alloc, 0, seen_of(alloc, first)?)?;
     let exec = Exec::start(ping(alloc)?, retry);
     let came = what_came(exec.run(&mut link, 1));

@@ -1,33 +1,33 @@
-use super::expect;
+use super::read_raw::are_read;
 use mg_link::Error;
 use mg_records::{FilesCollectionDocument, last_number};
-use std::alloc::{AllocError, Global};
+use std::alloc::Global;
 use std::test::Fail;
 
 /// Each line is a question about the chunks of a file, its numbers, and the answer: how many chunks of a size hold so many
 /// bytes, how many bytes the chunk of a number has, and which number the last of some chunks has.
-const CHUNKS: &str = "count 10 4 -> 3
-count 8 4 -> 2
-count 0 4 -> 0
-count 1 4 -> 1
-count 4 0 -> invalid response: chunk size 0
-count 0 0 -> invalid response: chunk size 0
-count 4294967295 1 -> 4294967295
-count 4294967296 1 -> invalid response: too many chunks
-count 18446744073709551615 1 -> invalid response: too many chunks
-count 18446744073709551615 4294967295 -> invalid response: too many chunks
-length 10 4 0 -> 4
-length 10 4 1 -> 4
-length 10 4 2 -> 2
-length 10 4 3 -> 4
-length 8 4 1 -> 4
-length 0 4 0 -> 4
-length 4 0 0 -> invalid response: chunk size 0
-length 18446744073709551615 1 0 -> invalid response: too many chunks
-last 0 1 -> 0
-last 2147483647 1 -> 2147483647
-last 2147483647 2 -> the file has too many chunks
-last 4294967295 4294967295 -> the file has too many chunks";
+const CHUNKS: &str = "chunks count 10 4 -> 3
+chunks count 8 4 -> 2
+chunks count 0 4 -> 0
+chunks count 1 4 -> 1
+chunks count 4 0 -> invalid response: chunk size 0
+chunks count 0 0 -> invalid response: chunk size 0
+chunks count 4294967295 1 -> 4294967295
+chunks count 4294967296 1 -> invalid response: too many chunks
+chunks count 18446744073709551615 1 -> invalid response: too many chunks
+chunks count 18446744073709551615 4294967295 -> invalid response: too many chunks
+chunks length 10 4 0 -> 4
+chunks length 10 4 1 -> 4
+chunks length 10 4 2 -> 2
+chunks length 10 4 3 -> 4
+chunks length 8 4 1 -> 4
+chunks length 0 4 0 -> 4
+chunks length 4 0 0 -> invalid response: chunk size 0
+chunks length 18446744073709551615 1 0 -> invalid response: too many chunks
+chunks last 0 1 -> 0
+chunks last 2147483647 1 -> 2147483647
+chunks last 2147483647 2 -> the file has too many chunks
+chunks last 4294967295 4294967295 -> the file has too many chunks";
 
 fn number_of(digits: Option<&str>) -> u64 {
     match digits {
@@ -63,23 +63,13 @@ fn answer_of(question: &str) -> Result<u32, Error> {
     }
 }
 
-fn answer(alloc: Global, question: &str) -> Result<String, AllocError> {
-    match answer_of(question) {
-        Ok(n) => format!(in alloc; "{n}"),
-        Err(e) => format!(in alloc; "{e}"),
-    }
+/// The answer to a question about chunks.
+pub(super) fn chunks(alloc: Global, question: &str) -> Result<String, Error> {
+    let answer = answer_of(question)?;
+    Ok(format!(in alloc; "{answer}")?)
 }
 
 #[test]
 fn chunks_are_told(rt: HostRuntime) -> Result<(), Fail> {
-    let alloc = rt.alloc();
-    for line in CHUNKS.lines() {
-        let (question, wanted) = match line.split_once(" -> ") {
-            Some(parts) => parts,
-            None => (line, ""),
-        };
-        let found = answer(alloc, question)?;
-        expect(&rt, line, found.as_str(), wanted);
-    }
-    Ok(())
+    are_read(&rt, rt.alloc(), CHUNKS)
 }

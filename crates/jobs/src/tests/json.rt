@@ -1,7 +1,7 @@
 use super::parted;
-use mg_bson::{Bson, RawDocumentBuf};
+use mg_bson::RawDocumentBuf;
 use mg_jobs::json_text;
-use std::alloc::{AllocError, Global};
+use std::alloc::Global;
 use std::test::Fail;
 
 /// A document for each kind, a line each: its bytes, and its value of the name `x` as JSON.

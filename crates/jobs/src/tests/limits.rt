@@ -1,20 +1,19 @@
-use super::{expect, one_field, repeated, text, with, with_text};
-use mg_bson::{Array, Bson, BsonError, Document, RawDocument, Timestamp, to_bytes};
+use super::{expect, json_value, one_field, repeated, text, with, with_text};
+use mg_bson::{Array, Bson, BsonError, Document, RawDocument, to_bytes};
 use mg_link::{Error, Namespace};
 use mg_store::Store;
 use std::alloc::{AllocError, Global};
 use std::test::Fail;
 
 // A text that brings a document to so many bytes, of which so many stand beside it.
-fn padding(alloc: Global, bytes: u32, beside: u32) -> Result<Bson, AllocError> {
-    let text = repeated(alloc, "", "a", bytes.saturating_sub(beside), "")?;
-    Ok(Bson::String(text))
+fn padding(alloc: Global, bytes: u32, beside: u32) -> Result<String, AllocError> {
+    repeated(alloc, "", "a", bytes.saturating_sub(beside), "")
 }
 
 // A document of so many bytes: its `_id`, and a text that brings it there.
 fn padded(alloc: Global, id: i32, bytes: u32) -> Result<Document, BsonError> {
     let document = one_field(alloc, "_id", Bson::Int32(id))?;
-    with(document, "p", padding(alloc, bytes, 22)?)
+    with(document, "p", Bson::String(padding(alloc, bytes, 22)?))
 }
 
 // So many documents of so many bytes.
@@ -26,21 +25,15 @@ fn all_padded(alloc: Global, count: i32, bytes: u32) -> Result<Array, BsonError>
     Ok(documents)
 }
 
-// A command of one more field than its name and its database.
-fn command_of(
-    alloc: Global,
-    name: &str,
-    coll: &str,
-    more: &str,
-    value: Bson,
-) -> Result<Document, BsonError> {
+// A command of this name to a collection.
+fn command_of(alloc: Global, name: &str, coll: &str) -> Result<Document, BsonError> {
     let command = one_field(alloc, name, text(alloc, coll)?)?;
-    let command = with(command, more, value)?;
     with_text(alloc, command, "$db", "app")
 }
 
 fn insert_of(alloc: Global, coll: &str, documents: Array) -> Result<Document, BsonError> {
-    command_of(alloc, "insert", coll, "documents", Bson::Array(documents))
+    let command = command_of(alloc, "insert", coll)?;
+    with(command, "documents", Bson::Array(documents))
 }
 
 // How many items the array of this name has.
@@ -89,27 +82,18 @@ fn more_of(alloc: Global) -> Result<Document, BsonError> {
 }
 
 fn find_of(alloc: Global) -> Result<Document, BsonError> {
-    command_of(
-        alloc,
-        "find",
-        "c",
-        "filter",
-        Bson::Document(Document::new(alloc)),
-    )
+    let command = command_of(alloc, "find", "c")?;
+    with(command, "filter", Bson::Document(Document::new(alloc)))
 }
 
+// The stages of a watch from the first change on.
+const WATCH: &str = r#"[{"$changeStream":{"startAtOperationTime":{"$timestamp":{"i":1,"t":1}}}}]"#;
+
 // An aggregate that watches a collection from its first change on.
-fn watch_of(alloc: Global, coll: &str) -> Result<Document, BsonError> {
-    let first = Timestamp {
-        time: 1,
-        increment: 1,
-    };
-    let start = one_field(alloc, "startAtOperationTime", Bson::Timestamp(first))?;
-    let stage = one_field(alloc, "$changeStream", Bson::Document(start))?;
-    let mut pipeline = Array::new(alloc);
-    pipeline.push(Bson::Document(stage))?;
-    let command = command_of(alloc, "aggregate", coll, "pipeline", Bson::Array(pipeline))?;
-    with(command, "cursor", Bson::Document(Document::new(alloc)))
+fn watch_of(alloc: Global, coll: &str) -> Result<Document, Error> {
+    let command = command_of(alloc, "aggregate", coll)?;
+    let command = with(command, "pipeline", json_value(alloc, WATCH)?)?;
+    Ok(with(command, "cursor", Bson::Document(Document::new(alloc)))?)
 }
 
 // A command to a database with a name of so many bytes: an insert into a collection with a name of so many, a watch of
@@ -119,7 +103,7 @@ fn named_command(
     name: &str,
     db_bytes: u32,
     coll_bytes: u32,
-) -> Result<Document, BsonError> {
+) -> Result<Document, Error> {
     let coll = repeated(alloc, "", "c", coll_bytes, "")?;
     let mut command = match name {
         "insert" => insert_of(alloc, coll.as_str(), all_padded(alloc, 1, 22)?)?,
@@ -154,17 +138,23 @@ fn names_have_65536_bytes_at_most(rt: HostRuntime) -> Result<(), Fail> {
     Ok(())
 }
 
+// A store of so many documents of so many bytes.
+fn filled(alloc: Global, count: i32, bytes: u32) -> Result<Store, Error> {
+    let insert = insert_of(alloc, "c", all_padded(alloc, count, bytes)?)?;
+    let mut store = Store::new(alloc);
+    let _done = answer_to(alloc, &mut store, &insert)?;
+    Ok(store)
+}
+
 // How many of so many documents of so many bytes, or of the events of their inserts, each of three batches has.
 fn batches(alloc: Global, name: &str, count: i32, bytes: u32) -> Result<String, Error> {
-    let mut store = Store::new(alloc);
-    let insert = insert_of(alloc, "c", all_padded(alloc, count, bytes)?)?;
-    let _done = answer_to(alloc, &mut store, &insert)?;
     let opening = match name {
         "find" => find_of(alloc)?,
         _ => watch_of(alloc, "c")?,
     };
-    let first = answer_to(alloc, &mut store, &opening)?;
     let more = more_of(alloc)?;
+    let mut store = filled(alloc, count, bytes)?;
+    let first = answer_to(alloc, &mut store, &opening)?;
     let second = answer_to(alloc, &mut store, &more)?;
     let third = answer_to(alloc, &mut store, &more)?;
     Ok(format!(in alloc; "{first} {second} {third}")?)
@@ -199,7 +189,8 @@ fn kill_of(alloc: Global, count: i32) -> Result<Document, BsonError> {
     for id in 0..count {
         ids.push(Bson::Int32(id))?;
     }
-    command_of(alloc, "killCursors", "c", "cursors", Bson::Array(ids))
+    let command = command_of(alloc, "killCursors", "c")?;
+    with(command, "cursors", Bson::Array(ids))
 }
 
 // What the command is answered where so many of those cursors are open.
@@ -243,7 +234,8 @@ fn update_of(alloc: Global, modification: Document) -> Result<Document, BsonErro
     let update = with(update, "u", Bson::Document(modification))?;
     let mut updates = Array::new(alloc);
     updates.push(Bson::Document(update))?;
-    command_of(alloc, "update", "c", "updates", Bson::Array(updates))
+    let command = command_of(alloc, "update", "c")?;
+    with(command, "updates", Bson::Array(updates))
 }
 
 // An update that sets one field.
@@ -252,11 +244,13 @@ fn set_of(alloc: Global, name: &str, value: Bson) -> Result<Document, BsonError>
     update_of(alloc, one_field(alloc, "$set", Bson::Document(fields))?)
 }
 
-fn index_of(alloc: Global, key: Document, name: Bson) -> Result<Document, BsonError> {
+fn index_of(alloc: Global, key: Document, name: String) -> Result<Document, BsonError> {
     let index = one_field(alloc, "key", Bson::Document(key))?;
+    let index = with(index, "name", Bson::String(name))?;
     let mut indexes = Array::new(alloc);
-    indexes.push(Bson::Document(with(index, "name", name)?))?;
-    command_of(alloc, "createIndexes", "c", "indexes", Bson::Array(indexes))
+    indexes.push(Bson::Document(index))?;
+    let command = command_of(alloc, "createIndexes", "c")?;
+    with(command, "indexes", Bson::Array(indexes))
 }
 
 // A command whose document, modification or key has so many levels.
@@ -269,7 +263,11 @@ fn deep_command(alloc: Global, name: &str, levels: u32) -> Result<Document, Bson
         }
         "replace" => update_of(alloc, deep(alloc, levels)?),
         "set" => set_of(alloc, "d", Bson::Document(deep(alloc, levels)?)),
-        _ => index_of(alloc, deep(alloc, levels)?, text(alloc, "deep")?),
+        _ => index_of(
+            alloc,
+            deep(alloc, levels)?,
+            String::from_str(alloc, "deep")?,
+        ),
     }
 }
 
@@ -306,15 +304,12 @@ fn sized_command(alloc: Global, name: &str, bytes: u32) -> Result<Document, Bson
     match name {
         "insert" => insert_of(alloc, "c", all_padded(alloc, 1, bytes)?),
         "replace" => update_of(alloc, padded(alloc, 0, bytes)?),
-        "set" => set_of(alloc, "p", padding(alloc, bytes, 22)?),
+        "set" => set_of(alloc, "p", Bson::String(padding(alloc, bytes, 22)?)),
         "index" => {
             let key = one_field(alloc, "a", Bson::Int32(1))?;
             index_of(alloc, key, padding(alloc, bytes, 40)?)
         }
-        _ => {
-            let command = one_field(alloc, "create", text(alloc, "c")?)?;
-            with_text(alloc, command, "$db", "app")
-        }
+        _ => command_of(alloc, "create", "c"),
     }
 }
 

@@ -1,4 +1,4 @@
-use super::expect;
+use super::{expect, parted};
 use mg_bson::{Bson, BsonError, Document, ObjectId, to_bytes};
 use mg_link::{
     BadArgument, CommandError, CountedIds, Error, ErrorKind, GridFsErrorKind, GridFsFileIdentifier,
@@ -7,7 +7,6 @@ use mg_link::{
     StdSource, WriteFailed, WriteFailure, plain, read_all, write_all,
 };
 use std::alloc::{AllocError, Global};
-use std::process::Abort;
 use std::test::Fail;
 
 // What a read, a read to the end that meets a fault, and one behind it give.
@@ -22,18 +21,6 @@ fn read_thrice(alloc: Global) -> Result<String, AllocError> {
     format!(in alloc; "{first:?} {is_fault} {rest:?}")
 }
 
-#[test]
-fn source_over_memory(rt: HostRuntime) -> Result<(), Fail> {
-    let found = read_thrice(rt.alloc())?;
-    expect(
-        &rt,
-        "reads",
-        found.as_str(),
-        "Ok(2) true Some([108, 108, 111])",
-    );
-    Ok(())
-}
-
 // What three writes give, of which the second meets a fault, and what was written.
 fn write_thrice(alloc: Global) -> Result<String, AllocError> {
     let failing = Vec::from_slice(alloc, &[3])?;
@@ -45,28 +32,25 @@ fn write_thrice(alloc: Global) -> Result<String, AllocError> {
 }
 
 #[test]
-fn sink_over_memory(rt: HostRuntime) -> Result<(), Fail> {
-    let found = write_thrice(rt.alloc())?;
+fn ends_over_memory(rt: HostRuntime) -> Result<(), Fail> {
+    let read = read_thrice(rt.alloc())?;
+    let wanted = "Ok(2) true Some([108, 108, 111])";
+    expect(&rt, "reads", read.as_str(), wanted);
+    let written = write_thrice(rt.alloc())?;
     let wanted = "Ok(()) Err(WriteFailed) Ok(()) [104, 101, 108, 108, 111, 33]";
-    expect(&rt, "writes", found.as_str(), wanted);
+    expect(&rt, "writes", written.as_str(), wanted);
     Ok(())
 }
 
 #[test]
-fn source_over_a_reader(rt: HostRuntime) -> Result<(), Fail> {
-    let alloc = rt.alloc();
+fn ends_over_slices(rt: HostRuntime) -> Result<(), Fail> {
     let mut source = StdSource::new(b"hello".as_slice());
     let mut buf = [0u8; 2];
     assert_eq!(rt; source.read(&mut buf), Ok(2));
-    match read_all(alloc, &mut source) {
+    match read_all(rt.alloc(), &mut source) {
         Ok(rest) => assert_eq!(rt; rest.as_slice(), b"llo".as_slice()),
         Err(_) => panic!(rt; "a slice has no faults"),
     }
-    Ok(())
-}
-
-#[test]
-fn sink_over_a_writer(rt: HostRuntime) -> Result<(), Fail> {
     let mut written = [0u8; 4];
     let mut sink = StdSink::new(written.as_mut_slice());
     assert_eq!(rt; write_all(&mut sink, b"hi"), Ok(()));
@@ -83,55 +67,54 @@ fn text_of(alloc: Global, kind: ErrorKind) -> Result<String, AllocError> {
     format!(in alloc; "{error}")
 }
 
-// Fails where an error of this kind prints as another text.
-fn prints(rt: &impl Abort, alloc: Global, kind: ErrorKind, wanted: &str) -> Result<(), AllocError> {
-    let printed = text_of(alloc, kind)?;
-    expect(rt, "error", printed.as_str(), wanted);
-    Ok(())
-}
+// Each line is a kind of error, and what it prints as.
+const ERRORS: &str = "\
+memory out of memory
+io the link failed
+garbled received bytes are no document
+unfit the document cannot be written
+nameless the event has no _id
+large the file has too many chunks
+empty 1000 empty replies in a row
+many more than 1048576 documents
+job no such job: 3
+reply invalid response: no ok
+strength invalid collation strength: 6
+nothing no documents to insert
+revision no revision -5
+size chunk 0 has 3 bytes and not 4
+refused refused with code 10107 (NotWritablePrimary): not master
+unwritten write failed with code 9: not master
+uninserted insert failed, with 1 failures
+id no file with this id
+name no file named f
+mismatch receipt mismatch: worker 2 position 5
+aborted the upload was aborted, and its chunks could not be removed (the link failed)
+failed the upload failed (a write is going on), and its chunks could not be removed (the link failed)
+";
 
-// Each kind that has no part of its own.
-fn plain_kinds_print(rt: &impl Abort, alloc: Global) -> Result<(), AllocError> {
-    prints(rt, alloc, ErrorKind::OutOfMemory, "out of memory")?;
-    prints(rt, alloc, ErrorKind::Io, "the link failed")?;
-    let garbled = "received bytes are no document";
-    prints(rt, alloc, ErrorKind::BsonDeserialization, garbled)?;
-    let unfit = "the document cannot be written";
-    prints(rt, alloc, ErrorKind::BsonSerialization, unfit)?;
-    let nameless = "the event has no _id";
-    prints(rt, alloc, ErrorKind::MissingResumeToken, nameless)?;
-    let large = "the file has too many chunks";
-    prints(rt, alloc, ErrorKind::FileTooLarge, large)?;
-    let empty = "1000 empty replies in a row";
-    prints(rt, alloc, ErrorKind::EmptyBatches, empty)?;
-    let many = "more than 1048576 documents";
-    prints(rt, alloc, ErrorKind::TooManyDocuments, many)?;
-    prints(rt, alloc, ErrorKind::NoSuchJob(3), "no such job: 3")
-}
-
-// Kinds with a kind of their own.
-fn nested_kinds_print(rt: &impl Abort, alloc: Global) -> Result<(), AllocError> {
-    let reply = ErrorKind::InvalidResponse(Malformed::NoOk);
-    prints(rt, alloc, reply, "invalid response: no ok")?;
-    let strength = ErrorKind::InvalidArgument(BadArgument::CollationStrength(6));
-    prints(rt, alloc, strength, "invalid collation strength: 6")?;
-    let nothing = ErrorKind::InvalidArgument(BadArgument::NoDocuments);
-    prints(rt, alloc, nothing, "no documents to insert")?;
-    let revision = ErrorKind::GridFs(GridFsErrorKind::RevisionNotFound(-5));
-    prints(rt, alloc, revision, "no revision -5")?;
-    let size = ErrorKind::GridFs(GridFsErrorKind::WrongSizeChunk {
-        n: 0,
-        actual: 3,
-        expected: 4,
-    });
-    prints(rt, alloc, size, "chunk 0 has 3 bytes and not 4")
-}
-
-#[test]
-fn texts_of_plain_errors(rt: HostRuntime) -> Result<(), Fail> {
-    plain_kinds_print(&rt, rt.alloc())?;
-    nested_kinds_print(&rt, rt.alloc())?;
-    Ok(())
+// A kind that has no part of its own, or only a number.
+fn plain_kind(name: &str) -> ErrorKind {
+    match name {
+        "memory" => ErrorKind::OutOfMemory,
+        "io" => ErrorKind::Io,
+        "garbled" => ErrorKind::BsonDeserialization,
+        "unfit" => ErrorKind::BsonSerialization,
+        "nameless" => ErrorKind::MissingResumeToken,
+        "large" => ErrorKind::FileTooLarge,
+        "empty" => ErrorKind::EmptyBatches,
+        "many" => ErrorKind::TooManyDocuments,
+        "reply" => ErrorKind::InvalidResponse(Malformed::NoOk),
+        "strength" => ErrorKind::InvalidArgument(BadArgument::CollationStrength(6)),
+        "nothing" => ErrorKind::InvalidArgument(BadArgument::NoDocuments),
+        "revision" => ErrorKind::GridFs(GridFsErrorKind::RevisionNotFound(-5)),
+        "size" => ErrorKind::GridFs(GridFsErrorKind::WrongSizeChunk {
+            n: 0,
+            actual: 3,
+            expected: 4,
+        }),
+        _ => ErrorKind::NoSuchJob(3),
+    }
 }
 
 fn refused(alloc: Global) -> Result<ErrorKind, BsonError> {
@@ -169,23 +152,16 @@ fn no_file_with_id() -> ErrorKind {
     ErrorKind::GridFs(GridFsErrorKind::FileNotFound(id))
 }
 
-// An upload that was aborted, or that failed so, and the link failed while its chunks were to be removed.
-fn chunks_left(alloc: Global, failed: Option<GridFsErrorKind>) -> Result<ErrorKind, AllocError> {
+// An upload that was aborted, or that failed, and the link failed while its chunks were to be removed.
+fn chunks_left(alloc: Global, has_failed: bool) -> Result<ErrorKind, AllocError> {
     let delete = Box::new(alloc, plain(ErrorKind::Io))?;
-    let original = match failed {
-        None => None,
-        Some(kind) => Some(Box::new(alloc, plain(ErrorKind::GridFs(kind)))?),
+    let original = if has_failed {
+        let failed = plain(ErrorKind::GridFs(GridFsErrorKind::WriteInProgress));
+        Some(Box::new(alloc, failed)?)
+    } else {
+        None
     };
     Ok(ErrorKind::GridFs(GridFsErrorKind::AbortError { original, delete }))
-}
-
-fn uploads_print(rt: &impl Abort, alloc: Global) -> Result<(), AllocError> {
-    let aborted = "the upload was aborted, and its chunks could not be removed (the link failed)";
-    prints(rt, alloc, chunks_left(alloc, None)?, aborted)?;
-    let failed = chunks_left(alloc, Some(GridFsErrorKind::WriteInProgress))?;
-    let both =
-        "the upload failed (a write is going on), and its chunks could not be removed (the link failed)";
-    prints(rt, alloc, failed, both)
 }
 
 fn mismatched(alloc: Global) -> Result<ErrorKind, BsonError> {
@@ -204,24 +180,29 @@ fn mismatched(alloc: Global) -> Result<ErrorKind, BsonError> {
     Ok(ErrorKind::ReceiptMismatch(Box::new(alloc, mismatch)?))
 }
 
-fn kinds_with_parts_print(rt: &impl Abort, alloc: Global) -> Result<(), BsonError> {
-    let refusal = "refused with code 10107 (NotWritablePrimary): not master";
-    prints(rt, alloc, refused(alloc)?, refusal)?;
-    let unwritten = "write failed with code 9: not master";
-    prints(rt, alloc, not_written(alloc)?, unwritten)?;
-    let uninserted = "insert failed, with 1 failures";
-    prints(rt, alloc, not_inserted(alloc)?, uninserted)?;
-    prints(rt, alloc, no_file_with_id(), "no file with this id")?;
-    prints(rt, alloc, no_file_named(alloc)?, "no file named f")?;
-    let mismatch = "receipt mismatch: worker 2 position 5";
-    prints(rt, alloc, mismatched(alloc)?, mismatch)?;
-    Ok(())
+// The kind of this name.
+fn kind_of(alloc: Global, name: &str) -> Result<ErrorKind, BsonError> {
+    match name {
+        "refused" => refused(alloc),
+        "unwritten" => not_written(alloc),
+        "uninserted" => not_inserted(alloc),
+        "id" => Ok(no_file_with_id()),
+        "name" => no_file_named(alloc),
+        "mismatch" => mismatched(alloc),
+        "aborted" => Ok(chunks_left(alloc, false)?),
+        "failed" => Ok(chunks_left(alloc, true)?),
+        _ => Ok(plain_kind(name)),
+    }
 }
 
 #[test]
-fn texts_of_errors_with_parts(rt: HostRuntime) -> Result<(), Fail> {
-    kinds_with_parts_print(&rt, rt.alloc())?;
-    uploads_print(&rt, rt.alloc())?;
+fn texts_of_errors(rt: HostRuntime) -> Result<(), Fail> {
+    let alloc = rt.alloc();
+    for line in ERRORS.lines() {
+        let (name, wanted) = parted(line);
+        let printed = text_of(alloc, kind_of(alloc, name)?)?;
+        expect(&rt, name, printed.as_str(), wanted);
+    }
     Ok(())
 }
 
@@ -242,13 +223,6 @@ fn goes_on(alloc: Global, code: i32, label: &str, wire: i32) -> Result<bool, All
     Ok(error.is_resumable())
 }
 
-// Whether it does below wire version 9, and from it on.
-fn goes_on_at(alloc: Global, code: i32, label: &str) -> Result<(bool, bool), AllocError> {
-    let old = goes_on(alloc, code, label, 8)?;
-    let new = goes_on(alloc, code, label, 9)?;
-    Ok((old, new))
-}
-
 #[test]
 fn resumable_refusals(rt: HostRuntime) -> Result<(), Fail> {
     // code, label, below wire version 9, from it on
@@ -261,8 +235,9 @@ fn resumable_refusals(rt: HostRuntime) -> Result<(), Fail> {
         (91, "RetryableWriteError", true, false),
     ];
     for (code, label, old, new) in cases {
-        let found = goes_on_at(rt.alloc(), code, label)?;
-        assert_eq!(rt; found, (old, new), "{code}");
+        let below = goes_on(rt.alloc(), code, label, 8)?;
+        let from = goes_on(rt.alloc(), code, label, 9)?;
+        assert_eq!(rt; (below, from), (old, new), "{code}");
     }
     Ok(())
 }
@@ -285,7 +260,7 @@ fn errors_that_are_no_refusals(rt: HostRuntime) {
 // The errors inside do not speak for the one around them.
 #[test]
 fn chunks_that_are_left(rt: HostRuntime) -> Result<(), Fail> {
-    let left = plain(chunks_left(rt.alloc(), None)?);
+    let left = plain(chunks_left(rt.alloc(), false)?);
     assert!(rt; !left.is_network_error());
     assert!(rt; !left.is_resumable());
     assert_eq!(rt; left.sdam_code(), None);

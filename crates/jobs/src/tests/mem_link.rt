@@ -2,29 +2,25 @@ ghost use Rattle.std.specs.Prelude.{IfOk, IsSome};
 ghost use Rattle.mg_link.specs.Places.{out_at};
 ghost use Rattle.mg_store.specs.InMemory.{AreSmall};
 
-use super::{namespace, one_field, text, with, with_text};
-use mg_bson::{Array, Bson, BsonError, Document, RawDocumentBuf, to_bytes};
-use mg_link::{Error, Link, Namespace, Polled, Ticket};
+use super::{namespace, one_field};
+use mg_bson::{Bson, BsonError, Document, RawDocumentBuf, to_bytes};
+use mg_link::{Error, Link, Polled, Ticket};
 use mg_ops::{Insert, encode};
 use mg_options::InsertManyOptions;
 use mg_store::{Fate, FateKind, MemLink, Store, may_go_aside};
 use std::alloc::{AllocError, Global};
 use std::test::Fail;
 
-/// The document with this id, alone.
-fn documents_of(alloc: Global, id: i32) -> Result<Array, BsonError> {
-    let mut documents = Array::new(alloc);
-    let document = one_field(alloc, "_id", Bson::Int32(id))?;
-    documents.push(Bson::Document(document))?;
-    Ok(documents)
-}
-
 /// An insert of a document with this id.
-fn insert_of(alloc: Global, id: i32) -> Result<RawDocumentBuf, BsonError> {
-    let command = one_field(alloc, "insert", text(alloc, "c")?)?;
-    let documents = documents_of(alloc, id)?;
-    let command = with(command, "documents", Bson::Array(documents))?;
-    to_bytes(alloc, &with_text(alloc, command, "$db", "app")?)
+fn insert_of(alloc: Global, id: i32) -> Result<RawDocumentBuf, Error> {
+    let ns = namespace(alloc)?;
+    let documents = vec![in alloc; one_field(alloc, "_id", Bson::Int32(id))?]?;
+    let insert = Insert {
+        ns,
+        documents,
+        options: InsertManyOptions::builder(),
+    };
+    encode(alloc, &insert, 21, None)
 }
 
 /// What comes of a command.
@@ -101,7 +97,7 @@ const COMMANDS: [(i32, u32, Came, Option<u64>, usize); 6] = [
 ];
 
 // How many polls of an insert pend, and what comes of it; none where it is not started.
-fn sent(alloc: Global, link: &mut MemLink, id: i32) -> Result<Option<(u32, Came)>, BsonError> {
+fn sent(alloc: Global, link: &mut MemLink, id: i32) -> Result<Option<(u32, Came)>, Error> {
     let command = insert_of(alloc, id)?;
     match link.start(command.as_raw()) {
         Ok(ticket) => Ok(Some(polls_to_end(link, ticket)?)),
@@ -120,9 +116,7 @@ fn last_position(link: &MemLink) -> Option<u64> {
 #[test]
 fn each_command_meets_its_fate(rt: HostRuntime) -> Result<(), Fail> {
     let alloc = rt.alloc();
-    let Some(ns) = Namespace::from_str(alloc, "app.c")? else {
-        return Err(Fail::from("it is a namespace"));
-    };
+    let ns = namespace(alloc)?;
     let mut link = MemLink::new(alloc, Store::new(alloc), fates_of(alloc)?, 21);
     for (id, pends, came, position, documents) in COMMANDS {
         let found = sent(alloc, &mut link, id)?;
@@ -136,14 +130,7 @@ fn each_command_meets_its_fate(rt: HostRuntime) -> Result<(), Fail> {
 
 /// Inserts a document with this id by nobody's call, and gives where its step stands; none where that may not be.
 fn put_aside(alloc: Global, link: &mut MemLink, id: i32) -> Result<Option<u64>, Error> {
-    let ns = namespace(alloc)?;
-    let documents = vec![in alloc; one_field(alloc, "_id", Bson::Int32(id))?]?;
-    let insert = Insert {
-        ns,
-        documents,
-        options: InsertManyOptions::builder(),
-    };
-    let command = encode(alloc, &insert, 21, None)?;
+    let command = insert_of(alloc, id)?;
     let command = command.as_raw();
     if !may_go_aside(&command) {
         return Ok(None);

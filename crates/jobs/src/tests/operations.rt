@@ -1,5 +1,5 @@
-use super::{namespace, one_field, with, with_text};
-use mg_bson::{Array, Binary, Bson, BsonError, Document, to_bytes};
+use super::{json_bytes, namespace, one_field};
+use mg_bson::{Binary, Bson};
 use mg_link::{Error, ErrorKind, OperationTarget};
 use mg_ops::{ChangeStreamData, GetMore, Insert, Operation, WatchArgs, doc_slices, resume_options};
 use mg_options::{ChangeStreamOptions, InsertManyOptions, ResumeToken};
@@ -11,32 +11,6 @@ fn token(n: i32) -> Result<ResumeToken, Fail> {
         return Err(Fail::from("token"));
     };
     Ok(token)
-}
-
-fn sizeless_get_more(alloc: Global) -> Result<Document, BsonError> {
-    let command = one_field(alloc, "getMore", Bson::Int64(9))?;
-    let command = with_text(alloc, command, "collection", "coll")?;
-    with_text(alloc, command, "$db", "db")
-}
-
-#[test]
-fn get_more_without_a_size(rt: HostRuntime) -> Result<(), Fail> {
-    let alloc = rt.alloc();
-    let expected = sizeless_get_more(alloc)?;
-    for batch_size in [None, Some(0)] {
-        let get_more = GetMore {
-            ns: namespace(alloc)?,
-            id: 9,
-            batch_size,
-            max_time: None,
-            comment: None,
-        };
-        let Ok(command) = get_more.build(alloc, 21, None) else {
-            return Err(Fail::from("build"));
-        };
-        assert!(rt; command == expected);
-    }
-    Ok(())
 }
 
 // A watch of everything behind this token.
@@ -104,28 +78,13 @@ fn document_too_large(rt: HostRuntime) -> Result<(), Fail> {
     Ok(())
 }
 
-fn two_documents(alloc: Global) -> Result<Array, BsonError> {
-    let mut documents = Array::new(alloc);
-    for x in [1, 2] {
-        let document = one_field(alloc, "x", Bson::Int32(x))?;
-        documents.push(Bson::Document(document))?;
-    }
-    Ok(documents)
-}
-
 // A success with the last batch of a cursor, of two documents.
-fn last_batch(alloc: Global) -> Result<Document, BsonError> {
-    let cursor = one_field(alloc, "id", Bson::Int64(0))?;
-    let cursor = with_text(alloc, cursor, "ns", "db.coll")?;
-    let batch = two_documents(alloc)?;
-    let cursor = with(cursor, "firstBatch", Bson::Array(batch))?;
-    let reply = one_field(alloc, "ok", Bson::Int32(1))?;
-    with(reply, "cursor", Bson::Document(cursor))
-}
+const LAST_BATCH: &str =
+    r#"{"cursor":{"firstBatch":[{"x":1},{"x":2}],"id":{"$int64":"0"},"ns":"db.coll"},"ok":1}"#;
 
 // The id that a getMore gave, whether the cursor is exhausted and has no token, and how many documents came.
 fn gave(alloc: Global) -> Result<(i64, bool, bool, usize), Error> {
-    let reply = to_bytes(alloc, &last_batch(alloc)?)?;
+    let reply = json_bytes(alloc, LAST_BATCH)?;
     let get_more = GetMore {
         ns: namespace(alloc)?,
         id: 1,

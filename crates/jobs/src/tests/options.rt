@@ -1,4 +1,4 @@
-use super::records::is_shown;
+use super::records::are_put;
 use super::{namespace, one_field, text};
 use mg_bson::{Bson, Document, Timestamp};
 use mg_link::{
@@ -55,52 +55,41 @@ fn all_given(alloc: Global) -> Result<ChangeStreamOptions, Error> {
     Ok(options.clone()?)
 }
 
-// The body that the options are put into.
-fn body_of(alloc: Global) -> Result<Document, Error> {
-    let options = all_given(alloc)?;
-    let mut body = Document::new(alloc);
-    options.append_fields(alloc, &mut body)?;
-    Ok(body)
-}
-
-// The body that those of its aggregate are put into.
-fn aggregate_body(alloc: Global) -> Result<Document, Error> {
-    let options = all_given(alloc)?;
-    let options = options.aggregate_options()?;
-    let mut body = Document::new(alloc);
-    options.append_fields(alloc, &mut body)?;
-    Ok(body)
-}
-
 // The command of a watch with these options, which passes over one event.
-fn watch(alloc: Global) -> Result<Document, Error> {
+fn watch(alloc: Global, options: ChangeStreamOptions) -> Result<Document, Error> {
     let ns = namespace(alloc)?;
     let pipeline = vec![in alloc; one_field(alloc, "$skip", Bson::Int32(1))?]?;
     let aggregate = ChangeStreamAggregate {
         args: WatchArgs {
             pipeline,
             target: OperationTarget::Collection(ns),
-            options: all_given(alloc)?,
+            options,
         },
         resume: None,
     };
     aggregate.build(alloc, 21, None)
 }
 
-const STAGE: &str =
-    r#"fullDocument fullDocumentBeforeChange resumeAfter startAtOperationTime startAfter allChangesForCluster showExpandedEvents comment {"allChangesForCluster":true,"comment":"c","fullDocument":"updateLookup","fullDocumentBeforeChange":"required","resumeAfter":{"_data":1},"showExpandedEvents":true,"startAfter":{"_data":4},"startAtOperationTime":{"$timestamp":{"i":3,"t":2}}}"#;
+/// Puts what stands in the stage into a body, or what stands in its aggregate, or the whole command of a watch.
+pub(super) fn stream(alloc: Global, way: &str, body: &mut Document) -> Result<(), Error> {
+    let options = all_given(alloc)?;
+    match way {
+        "stage" => options.append_fields(alloc, body),
+        "aggregate" => options.aggregate_options()?.append_fields(alloc, body),
+        _ => {
+            *body = watch(alloc, options)?;
+            Ok(())
+        }
+    }
+}
 
-const AGGREGATE: &str =
-    r#"cursor collation comment {"collation":{"locale":"en"},"comment":"c","cursor":{"batchSize":5}}"#;
-
-const WATCH: &str =
-    r#"aggregate pipeline cursor collation comment $db readConcern $readPreference {"$db":"db","$readPreference":{"mode":"nearest"},"aggregate":"coll","collation":{"locale":"en"},"comment":"c","cursor":{"batchSize":5},"pipeline":[{"$changeStream":{"allChangesForCluster":true,"comment":"c","fullDocument":"updateLookup","fullDocumentBeforeChange":"required","resumeAfter":{"_data":1},"showExpandedEvents":true,"startAfter":{"_data":4},"startAtOperationTime":{"$timestamp":{"i":3,"t":2}}}},{"$skip":1}],"readConcern":{"level":"local"}}"#;
+// Each line is where the options stand, and what comes of them.
+const OPTIONS: &str =
+    r#"stream stage fullDocument fullDocumentBeforeChange resumeAfter startAtOperationTime startAfter allChangesForCluster showExpandedEvents comment {"allChangesForCluster":true,"comment":"c","fullDocument":"updateLookup","fullDocumentBeforeChange":"required","resumeAfter":{"_data":1},"showExpandedEvents":true,"startAfter":{"_data":4},"startAtOperationTime":{"$timestamp":{"i":3,"t":2}}}
+stream aggregate cursor collation comment {"collation":{"locale":"en"},"comment":"c","cursor":{"batchSize":5}}
+stream watch aggregate pipeline cursor collation comment $db readConcern $readPreference {"$db":"db","$readPreference":{"mode":"nearest"},"aggregate":"coll","collation":{"locale":"en"},"comment":"c","cursor":{"batchSize":5},"pipeline":[{"$changeStream":{"allChangesForCluster":true,"comment":"c","fullDocument":"updateLookup","fullDocumentBeforeChange":"required","resumeAfter":{"_data":1},"showExpandedEvents":true,"startAfter":{"_data":4},"startAtOperationTime":{"$timestamp":{"i":3,"t":2}}}},{"$skip":1}],"readConcern":{"level":"local"}}"#;
 
 #[test]
 fn options_print_their_fields(rt: HostRuntime) -> Result<(), Fail> {
-    let alloc = rt.alloc();
-    is_shown(&rt, alloc, "stage", body_of(alloc), STAGE)?;
-    is_shown(&rt, alloc, "aggregate", aggregate_body(alloc), AGGREGATE)?;
-    is_shown(&rt, alloc, "watch", watch(alloc), WATCH)?;
-    Ok(())
+    are_put(&rt, rt.alloc(), OPTIONS)
 }

@@ -1,11 +1,13 @@
-use super::{expect, one_field, parted, text, with, with_text};
-use mg_bson::{Array, Bson, BsonError, DateTime, Document, RawDocumentBuf, Timestamp, to_bytes};
+use super::files::chunks;
+use super::{expect, json_value, parted, text};
+use mg_bson::{Bson, DateTime, Document, RawDocumentBuf, to_bytes};
 use mg_link::Error;
 use mg_records::{
     ChangeNamespace, ChangeStreamEvent, CollectionSpecification, FilesCollectionDocument,
     IndexModel, ReadRaw, TruncatedArray, UpdateDescription,
 };
 use std::alloc::{AllocError, Global};
+use std::process::Abort;
 use std::test::Fail;
 
 /// Each line is what a document is read as, its fields, and what comes of it. A number of 32 bits stands behind `i`, one of
@@ -62,31 +64,9 @@ cut field=name newSize=i1 -> name 1
 cut field=name newSize=l1 -> invalid response: bad record
 bytes -> 5";
 
-// The document of a namespace.
-fn place(alloc: Global) -> Result<Bson, BsonError> {
-    let place = with_text(alloc, Document::new(alloc), "db", "db")?;
-    let place = with_text(alloc, place, "coll", "coll")?;
-    Ok(Bson::Document(place))
-}
-
-// An array of one value.
-fn alone(alloc: Global, value: Bson) -> Result<Bson, BsonError> {
-    let mut array = Array::new(alloc);
-    array.push(value)?;
-    Ok(Bson::Array(array))
-}
-
-// The document of an update.
-fn update(alloc: Global) -> Result<Bson, BsonError> {
-    let removed = alone(alloc, text(alloc, "a.b")?)?;
-    let cut = one_field(alloc, "newSize", Bson::Int32(1))?;
-    let cut = with_text(alloc, cut, "field", "c")?;
-    let arrays = alone(alloc, Bson::Document(cut))?;
-    let update = one_field(alloc, "updatedFields", Bson::Document(Document::new(alloc)))?;
-    let update = with(update, "removedFields", removed)?;
-    let update = with(update, "truncatedArrays", arrays)?;
-    Ok(Bson::Document(update))
-}
+// What an update changed.
+const UPDATE: &str =
+    r#"{"removedFields":["a.b"],"truncatedArrays":[{"field":"c","newSize":1}],"updatedFields":{}}"#;
 
 fn number_of(digits: &str) -> i64 {
     match digits.parse::<i64>() {
@@ -96,13 +76,9 @@ fn number_of(digits: &str) -> i64 {
 }
 
 // A number, by the letter of its kind.
-fn numbered(alloc: Global, word: &str) -> Result<Bson, BsonError> {
+fn numbered(alloc: Global, word: &str) -> Result<Bson, Error> {
     if let Some(digits) = word.strip_prefix("i") {
-        let n = match i32::try_from(number_of(digits)) {
-            Ok(n) => n,
-            Err(_) => 0,
-        };
-        return Ok(Bson::Int32(n));
+        return json_value(alloc, digits);
     }
     if let Some(digits) = word.strip_prefix("l") {
         return Ok(Bson::Int64(number_of(digits)));
@@ -115,34 +91,32 @@ fn numbered(alloc: Global, word: &str) -> Result<Bson, BsonError> {
     }
 }
 
-fn value_of(alloc: Global, word: &str) -> Result<Bson, BsonError> {
-    match word {
-        "null" => Ok(Bson::Null),
-        "doc" => Ok(Bson::Document(one_field(alloc, "x", Bson::Int32(1))?)),
-        "place" => place(alloc),
-        "update" => update(alloc),
-        "stamp" => Ok(Bson::Timestamp(Timestamp {
-            time: 6,
-            increment: 7,
-        })),
-        "database" => Ok(Bson::Document(with_text(alloc, Document::new(alloc), "db", "db")?)),
-        "double" => Ok(Bson::Double([0; 8])),
-        "names" => alone(alloc, text(alloc, "a.b")?),
-        "numbers" => alone(alloc, Bson::Int32(1)),
-        "insert" | "name" => Ok(text(alloc, word)?),
-        _ => numbered(alloc, word),
-    }
+fn value_of(alloc: Global, word: &str) -> Result<Bson, Error> {
+    let json = match word {
+        "null" => "null",
+        "doc" => r#"{"x":1}"#,
+        "place" => r#"{"coll":"coll","db":"db"}"#,
+        "update" => UPDATE,
+        "stamp" => r#"{"$timestamp":{"i":7,"t":6}}"#,
+        "database" => r#"{"db":"db"}"#,
+        "names" => r#"["a.b"]"#,
+        "numbers" => "[1]",
+        "double" => return Ok(Bson::Double([0; 8])),
+        "insert" | "name" => return Ok(text(alloc, word)?),
+        _ => return numbered(alloc, word),
+    };
+    json_value(alloc, json)
 }
 
 // The bytes of a document of these fields.
-fn raw_of(alloc: Global, fields: &str) -> Result<RawDocumentBuf, BsonError> {
+fn raw_of(alloc: Global, fields: &str) -> Result<RawDocumentBuf, Error> {
     let mut document = Document::new(alloc);
     for field in fields.split(' ') {
         if let Some((name, word)) = field.split_once('=') {
             document.append(name, value_of(alloc, word)?)?;
         }
     }
-    to_bytes(alloc, &document)
+    Ok(to_bytes(alloc, &document)?)
 }
 
 fn or_dash(word: &Option<String>) -> &str {
@@ -273,8 +247,11 @@ fn bytes(alloc: Global, raw: &RawDocumentBuf) -> Result<String, Error> {
     Ok(format!(in alloc; "{length}")?)
 }
 
-// What a document of these fields is read as.
+// What a document of these fields is read as, or what is answered to a question about chunks.
 fn reading_of(alloc: Global, kind: &str, fields: &str) -> Result<String, Error> {
+    if kind == "chunks" {
+        return chunks(alloc, fields);
+    }
     let raw = raw_of(alloc, fields)?;
     match kind {
         "event" => event(alloc, &raw),
@@ -289,10 +266,9 @@ fn reading_of(alloc: Global, kind: &str, fields: &str) -> Result<String, Error> 
     }
 }
 
-#[test]
-fn documents_are_read(rt: HostRuntime) -> Result<(), Fail> {
-    let alloc = rt.alloc();
-    for line in READINGS.lines() {
+/// Fails a test where what a line is about is read as something else.
+pub(super) fn are_read(rt: &impl Abort, alloc: Global, table: &str) -> Result<(), Fail> {
+    for line in table.lines() {
         let (about, wanted) = match line.split_once(" -> ") {
             Some(parts) => parts,
             None => (line, ""),
@@ -302,7 +278,12 @@ fn documents_are_read(rt: HostRuntime) -> Result<(), Fail> {
             Ok(found) => found,
             Err(e) => format!(in alloc; "{e}")?,
         };
-        expect(&rt, line, found.as_str(), wanted);
+        expect(rt, line, found.as_str(), wanted);
     }
     Ok(())
+}
+
+#[test]
+fn documents_are_read(rt: HostRuntime) -> Result<(), Fail> {
+    are_read(&rt, rt.alloc(), READINGS)
 }

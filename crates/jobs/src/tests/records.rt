@@ -1,4 +1,6 @@
 use super::commands::{journaled, local, nearest};
+use super::options::stream;
+use super::unprinted::{common, copied};
 use super::{expect, one_field, parted, text};
 use mg_bson::{Bson, Document};
 use mg_jobs::json_text;
@@ -102,17 +104,8 @@ fn collation(alloc: Global) -> Result<Collation, Error> {
     )
 }
 
-fn rules(alloc: Global) -> Result<Document, Error> {
-    let rules = collation(alloc)?;
-    let mut body = Document::new(alloc);
-    rules.clone()?.append_fields(alloc, &mut body)?;
-    Ok(body)
-}
-
-fn put_find(alloc: Global, options: FindOptions) -> Result<Document, Error> {
-    let mut body = Document::new(alloc);
-    options.clone()?.append_fields(alloc, &mut body)?;
-    Ok(body)
+fn rules(alloc: Global, body: &mut Document) -> Result<(), Error> {
+    collation(alloc)?.clone()?.append_fields(alloc, body)
 }
 
 fn find_bounds(alloc: Global) -> Result<FindOptions, Error> {
@@ -133,24 +126,26 @@ fn find_bounds(alloc: Global) -> Result<FindOptions, Error> {
     )
 }
 
-fn find(alloc: Global) -> Result<Document, Error> {
+fn find(alloc: Global) -> Result<FindOptions, Error> {
     let projection = keys(alloc, 3)?;
     let sort = keys(alloc, 4)?;
     let let_vars = keys(alloc, 5)?;
     let locale = String::from_str(alloc, "en")?;
-    let options = find_bounds(alloc)?
-        .max_scan(8)
-        .max_time(2_147_483_647)
-        .no_cursor_timeout(true)
-        .projection(projection)
-        .return_key(false)
-        .show_record_id(true)
-        .skip(9)
-        .sort(sort)
-        .collation(Collation::builder(locale))
-        .let_vars(let_vars)
-        .build();
-    put_find(alloc, options)
+    let bounds = find_bounds(alloc)?;
+    Ok(
+        bounds
+            .max_scan(8)
+            .max_time(2_147_483_647)
+            .no_cursor_timeout(true)
+            .projection(projection)
+            .return_key(false)
+            .show_record_id(true)
+            .skip(9)
+            .sort(sort)
+            .collation(Collation::builder(locale))
+            .let_vars(let_vars)
+            .build(),
+    )
 }
 
 // A find of one document, of which everything is given.
@@ -203,9 +198,9 @@ fn find_files(alloc: Global) -> Result<GridFsFindOptions, Error> {
     Ok(options.clone()?)
 }
 
-fn finds(alloc: Global, way: &str) -> Result<Document, Error> {
+fn finds(alloc: Global, way: &str, body: &mut Document) -> Result<(), Error> {
     let options = match way {
-        "all" => return find(alloc),
+        "all" => find(alloc)?,
         "one" => FindOptions::from(find_one(alloc)?),
         "file" => FindOptions::from(FindOneOptions::from(find_file(alloc)?)),
         "files" => FindOptions::from(find_files(alloc)?),
@@ -214,21 +209,19 @@ fn finds(alloc: Global, way: &str) -> Result<Document, Error> {
         "longest" => FindOptions::builder().max_time(u64::MAX),
         _ => FindOptions::builder().batch_size(2_147_483_648),
     };
-    put_find(alloc, options)
+    options.clone()?.append_fields(alloc, body)
 }
 
-fn aggregate(alloc: Global) -> Result<Document, Error> {
-    let locale = String::from_str(alloc, "en")?;
-    let hint = keys(alloc, 1)?;
-    let let_vars = keys(alloc, 2)?;
+fn aggregate(alloc: Global, body: &mut Document) -> Result<(), Error> {
+    let (rules, hint, let_vars, _) = common(alloc)?;
     let comment = text(alloc, "c")?;
     let options = AggregateOptions::builder()
         .allow_disk_use(true)
         .batch_size(5)
         .bypass_document_validation(false)
-        .collation(Collation::builder(locale))
+        .collation(rules)
         .comment(comment)
-        .hint(Hint::Keys(hint))
+        .hint(hint)
         .max_time(6)
         .let_vars(let_vars)
         .max_await_time(9)
@@ -236,12 +229,10 @@ fn aggregate(alloc: Global) -> Result<Document, Error> {
         .selection_criteria(nearest())
         .write_concern(journaled())
         .build();
-    let mut body = Document::new(alloc);
-    options.clone()?.append_fields(alloc, &mut body)?;
-    Ok(body)
+    options.clone()?.append_fields(alloc, body)
 }
 
-fn insert(alloc: Global) -> Result<Document, Error> {
+fn insert(alloc: Global, body: &mut Document) -> Result<(), Error> {
     let comment = text(alloc, "c")?;
     let one = InsertOneOptions::builder()
         .bypass_document_validation(true)
@@ -249,12 +240,10 @@ fn insert(alloc: Global) -> Result<Document, Error> {
         .comment(comment)
         .build();
     let options = InsertManyOptions::from_insert_one_options(one.clone()?).ordered(false);
-    let mut body = Document::new(alloc);
-    options.clone()?.append_fields(alloc, &mut body)?;
-    Ok(body)
+    options.clone()?.append_fields(alloc, body)
 }
 
-fn delete(alloc: Global) -> Result<Document, Error> {
+fn delete(alloc: Global, body: &mut Document) -> Result<(), Error> {
     let hint = keys(alloc, 1)?;
     let let_vars = keys(alloc, 2)?;
     let rules = collation(alloc)?;
@@ -265,90 +254,81 @@ fn delete(alloc: Global) -> Result<Document, Error> {
         .comment(Bson::Int32(3))
         .write_concern(journaled())
         .build();
-    let mut body = Document::new(alloc);
-    options.clone()?.append_fields(alloc, &mut body)?;
-    Ok(body)
+    options.clone()?.append_fields(alloc, body)
 }
 
-fn writes(alloc: Global, way: &str) -> Result<Document, Error> {
+fn writes(alloc: Global, way: &str, body: &mut Document) -> Result<(), Error> {
     match way {
-        "aggregate" => aggregate(alloc),
-        "insert" => insert(alloc),
-        "delete" => delete(alloc),
-        _ => rules(alloc),
+        "aggregate" => aggregate(alloc, body),
+        "insert" => insert(alloc, body),
+        "delete" => delete(alloc, body),
+        _ => rules(alloc, body),
     }
 }
 
-fn create_index(alloc: Global, quorum: CommitQuorum) -> Result<Document, Error> {
-    let comment = text(alloc, "c")?;
+fn create_index(
+    alloc: Global,
+    quorum: CommitQuorum,
+    comment: Bson,
+    body: &mut Document,
+) -> Result<(), Error> {
     let options = CreateIndexOptions::builder()
         .commit_quorum(quorum)
         .max_time(6)
         .comment(comment);
-    let mut body = Document::new(alloc);
-    options.clone()?.append_fields(alloc, &mut body)?;
-    Ok(body)
+    options.clone()?.append_fields(alloc, body)
 }
 
-fn drop_index(alloc: Global) -> Result<Document, Error> {
-    let comment = text(alloc, "c")?;
+fn drop_index(alloc: Global, comment: Bson, body: &mut Document) -> Result<(), Error> {
     let options = DropIndexOptions::builder()
         .max_time(6)
         .comment(comment)
         .write_concern(journaled())
         .build();
-    let mut body = Document::new(alloc);
-    options.clone()?.append_fields(alloc, &mut body)?;
-    Ok(body)
+    options.clone()?.append_fields(alloc, body)
 }
 
-fn list_indexes(alloc: Global) -> Result<Document, Error> {
-    let comment = text(alloc, "c")?;
+fn list_indexes(alloc: Global, comment: Bson, body: &mut Document) -> Result<(), Error> {
     let options = ListIndexesOptions::builder()
         .max_time(6)
         .comment(comment)
         .batch_size(5);
-    let mut body = Document::new(alloc);
-    options.clone()?.append_fields(alloc, &mut body)?;
-    Ok(body)
+    options.clone()?.append_fields(alloc, body)
 }
 
-fn indexes(alloc: Global, way: &str) -> Result<Document, Error> {
-    match way {
-        "nodes" => create_index(alloc, CommitQuorum::Nodes(3)),
-        "word" => create_index(alloc, CommitQuorum::VotingMembers),
-        "many" => create_index(alloc, CommitQuorum::Nodes(2_147_483_648)),
-        "drop" => drop_index(alloc),
-        _ => list_indexes(alloc),
-    }
+fn indexes(alloc: Global, way: &str, body: &mut Document) -> Result<(), Error> {
+    let comment = text(alloc, "c")?;
+    let quorum = match way {
+        "nodes" => CommitQuorum::Nodes(3),
+        "word" => CommitQuorum::VotingMembers,
+        "many" => CommitQuorum::Nodes(2_147_483_648),
+        "drop" => return drop_index(alloc, comment, body),
+        _ => return list_indexes(alloc, comment, body),
+    };
+    create_index(alloc, quorum, comment, body)
 }
 
-fn list_collections(alloc: Global) -> Result<Document, Error> {
+fn list_collections(alloc: Global, body: &mut Document) -> Result<(), Error> {
     let filter = keys(alloc, 1)?;
     let comment = text(alloc, "c")?;
     let options = ListCollectionsOptions::builder()
         .filter(filter)
         .batch_size(5)
         .comment(comment);
-    let mut body = Document::new(alloc);
-    options.clone()?.append_fields(alloc, &mut body)?;
-    Ok(body)
+    options.clone()?.append_fields(alloc, body)
 }
 
-fn estimate(alloc: Global) -> Result<Document, Error> {
-    let comment = text(alloc, "c")?;
+fn estimate(alloc: Global, comment: Bson, body: &mut Document) -> Result<(), Error> {
     let options = EstimatedDocumentCountOptions::builder()
         .max_time(6)
         .comment(comment)
         .selection_criteria(nearest())
         .read_concern(local())
         .build();
-    let mut body = Document::new(alloc);
-    options.clone()?.append_fields(alloc, &mut body)?;
-    Ok(body)
+    options.clone()?.append_fields(alloc, body)
 }
 
-fn distinct(alloc: Global) -> Result<Document, Error> {
+fn distinct(alloc: Global, body: &mut Document) -> Result<(), Error> {
     let locale = String::from_str(alloc, "en")?;
     let hint = keys(alloc, 1)?;
     let comment = text(alloc, "c")?;
@@ -360,21 +340,25 @@ fn distinct(alloc: Global) -> Result<Document, Error> {
         .selection_criteria(nearest())
         .read_concern(local())
         .build();
-    let mut body = Document::new(alloc);
-    options.clone()?.append_fields(alloc, &mut body)?;
-    Ok(body)
+    options.clone()?.append_fields(alloc, body)
 }
 
-fn lists(alloc: Global, way: &str) -> Result<Document, Error> {
+fn lists(alloc: Global, way: &str, body: &mut Document) -> Result<(), Error> {
     match way {
-        "collections" => list_collections(alloc),
-        "estimate" => estimate(alloc),
-        _ => distinct(alloc),
+        "collections" => list_collections(alloc, body),
+        "estimate" => estimate(alloc, text(alloc, "c")?, body),
+        _ => distinct(alloc, body),
     }
 }
 
 // The concerns of a command, by their words.
-fn concerns(alloc: Global, level: &str, w: &str, mode: ReadPreference) -> Result<Document, Error> {
+fn concerns(
+    alloc: Global,
+    level: &str,
+    w: &str,
+    mode: ReadPreference,
+    body: &mut Document,
+) -> Result<(), Error> {
     let reads = Some(ReadConcern::from_word(alloc, level)?);
     let writes = Some(WriteConcern {
         w: Some(Acknowledgment::from_word(alloc, w)?),
@@ -382,48 +366,56 @@ fn concerns(alloc: Global, level: &str, w: &str, mode: ReadPreference) -> Result
         journal: Some(true),
     });
     let asks = Some(SelectionCriteria::ReadPreference(mode));
-    let mut body = Document::new(alloc);
-    append_concerns(alloc, &mut body, &reads, &writes, asks)?;
-    Ok(body)
+    append_concerns(alloc, body, &reads, &writes, asks)
 }
 
 // Nothing of what a command may have is given.
-fn no_concerns(alloc: Global) -> Result<Document, Error> {
+fn no_concerns(alloc: Global, body: &mut Document) -> Result<(), Error> {
+    append_concerns(alloc, body, &None, &None, None)?;
+    FindOptions::builder().append_fields(alloc, body)?;
+    AggregateOptions::builder().append_fields(alloc, body)
+}
+
+fn all_concerns(alloc: Global, way: &str, body: &mut Document) -> Result<(), Error> {
+    match way {
+        "nothing" => no_concerns(alloc, body),
+        "secondary" => {
+            let mode = ReadPreference::SecondaryPreferred;
+            concerns(alloc, "majority", "majority", mode, body)
+        }
+        _ => concerns(alloc, "own", "dc1", ReadPreference::Primary, body),
+    }
+}
+
+fn put(alloc: Global, record: &str, way: &str, body: &mut Document) -> Result<(), Error> {
+    match record {
+        "find" => finds(alloc, way, body),
+        "write" => writes(alloc, way, body),
+        "index" => indexes(alloc, way, body),
+        "list" => lists(alloc, way, body),
+        "stream" => stream(alloc, way, body),
+        "copy" => copied(alloc, way, body),
+        _ => all_concerns(alloc, way, body),
+    }
+}
+
+fn body_of(alloc: Global, record: &str, way: &str) -> Result<Document, Error> {
     let mut body = Document::new(alloc);
-    append_concerns(alloc, &mut body, &None, &None, None)?;
-    FindOptions::builder().append_fields(alloc, &mut body)?;
-    AggregateOptions::builder().append_fields(alloc, &mut body)?;
+    put(alloc, record, way, &mut body)?;
     Ok(body)
 }
 
-fn all_concerns(alloc: Global, way: &str) -> Result<Document, Error> {
-    match way {
-        "nothing" => no_concerns(alloc),
-        "secondary" => {
-            let mode = ReadPreference::SecondaryPreferred;
-            concerns(alloc, "majority", "majority", mode)
-        }
-        _ => concerns(alloc, "own", "dc1", ReadPreference::Primary),
+/// Fails a test where a record of a table puts something else into a body.
+pub(super) fn are_put(rt: &impl Abort, alloc: Global, table: &str) -> Result<(), Fail> {
+    for line in table.lines() {
+        let (record, rest) = parted(line);
+        let (way, wanted) = parted(rest);
+        is_shown(rt, alloc, line, body_of(alloc, record, way), wanted)?;
     }
-}
-
-fn put(alloc: Global, record: &str, way: &str) -> Result<Document, Error> {
-    match record {
-        "find" => finds(alloc, way),
-        "write" => writes(alloc, way),
-        "index" => indexes(alloc, way),
-        "list" => lists(alloc, way),
-        _ => all_concerns(alloc, way),
-    }
+    Ok(())
 }
 
 #[test]
 fn records_print_their_fields(rt: HostRuntime) -> Result<(), Fail> {
-    let alloc = rt.alloc();
-    for line in RECORDS.lines() {
-        let (record, rest) = parted(line);
-        let (way, wanted) = parted(rest);
-        is_shown(&rt, alloc, line, put(alloc, record, way), wanted)?;
-    }
-    Ok(())
+    are_put(&rt, rt.alloc(), RECORDS)
 }

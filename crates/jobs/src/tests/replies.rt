@@ -1,5 +1,5 @@
-use super::{namespace, one_field, text, with, with_text};
-use mg_bson::{Array, Bson, BsonError, Document, RawDocumentBuf, to_bytes};
+use super::{json_bytes, namespace, one_field, text};
+use mg_bson::{Bson, Document};
 use mg_link::{Error, ErrorKind, Malformed, OperationTarget, ReadPreference, SelectionCriteria};
 use mg_ops::{
     Aggregate, ChangeStreamAggregate, Create, Delete, Find, Operation, RawOutput, RunCursorCommand,
@@ -12,39 +12,22 @@ use mg_options::{
 use std::alloc::Global;
 use std::test::Fail;
 
-// An array of one value.
-fn one(alloc: Global, value: Bson) -> Result<Bson, BsonError> {
-    let mut array = Array::new(alloc);
-    array.push(value)?;
-    Ok(Bson::Array(array))
-}
+// The reply to an insert or a delete that met no document, for a key that is there.
+const DUPLICATE: &str =
+    r#"{"n":0,"ok":1,"writeErrors":[{"code":11000,"errmsg":"refused","index":0}]}"#;
 
-// The reply to a write that met no document, with a write error of this code.
-fn failed(alloc: Global, code: i32) -> Result<Document, BsonError> {
-    let error = one_field(alloc, "index", Bson::Int32(0))?;
-    let error = with(error, "code", Bson::Int32(code))?;
-    let error = with_text(alloc, error, "errmsg", "refused")?;
-    let errors = one(alloc, Bson::Document(error))?;
-    let reply = one_field(alloc, "n", Bson::Int32(0))?;
-    let reply = with(reply, "writeErrors", errors)?;
-    with(reply, "ok", Bson::Int32(1))
-}
+// The reply to a collection that is there.
+const THERE: &str = r#"{"n":0,"ok":1,"writeErrors":[{"code":48,"errmsg":"refused","index":0}]}"#;
 
-// A reply with an empty cursor of this id.
-fn cursor(alloc: Global, id: Bson) -> Result<Document, BsonError> {
-    let cursor = one_field(alloc, "id", id)?;
-    let cursor = with_text(alloc, cursor, "ns", "db.coll")?;
-    let cursor = with(cursor, "firstBatch", Bson::Array(Array::new(alloc)))?;
-    one_field(alloc, "cursor", Bson::Document(cursor))
-}
+// A reply with an empty cursor, whose write concern was not met.
+const UNMET: &str =
+    r#"{"cursor":{"firstBatch":[],"id":{"$int64":"0"},"ns":"db.coll"},"writeConcernError":{"code":64}}"#;
 
-// The same, with a write concern error of this code.
-fn unmet(alloc: Global, code: i32) -> Result<RawDocumentBuf, BsonError> {
-    let error = one_field(alloc, "code", Bson::Int32(code))?;
-    let reply = cursor(alloc, Bson::Int64(0))?;
-    let reply = with(reply, "writeConcernError", Bson::Document(error))?;
-    to_bytes(alloc, &reply)
-}
+// A reply with an empty cursor.
+const CURSOR: &str = r#"{"cursor":{"firstBatch":[],"id":{"$int64":"7"},"ns":"db.coll"}}"#;
+
+// The same, whose id has 32 bits.
+const SHORT_ID: &str = r#"{"cursor":{"firstBatch":[],"id":7,"ns":"db.coll"}}"#;
 
 // The code of the failure of a write, and 0 where it did not fail so.
 fn failure_of<T: Drop>(read: Result<T, Error>) -> i32 {
@@ -58,7 +41,7 @@ fn failure_of<T: Drop>(read: Result<T, Error>) -> i32 {
 }
 
 fn deleted(alloc: Global) -> Result<i32, Error> {
-    let reply = to_bytes(alloc, &failed(alloc, 11_000)?)?;
+    let reply = json_bytes(alloc, DUPLICATE)?;
     let delete = Delete {
         ns: namespace(alloc)?,
         filter: Document::new(alloc),
@@ -69,7 +52,7 @@ fn deleted(alloc: Global) -> Result<i32, Error> {
 }
 
 fn created(alloc: Global) -> Result<i32, Error> {
-    let reply = to_bytes(alloc, &failed(alloc, 48)?)?;
+    let reply = json_bytes(alloc, THERE)?;
     let create = Create {
         ns: namespace(alloc)?,
         write_concern: None,
@@ -79,7 +62,7 @@ fn created(alloc: Global) -> Result<i32, Error> {
 
 // An aggregate of one stage, whose write concern was not met.
 fn aggregated(alloc: Global, stage: &str) -> Result<i32, Error> {
-    let reply = unmet(alloc, 64)?;
+    let reply = json_bytes(alloc, UNMET)?;
     let pipeline = vec![in alloc; one_field(alloc, stage, Bson::Int32(1))?]?;
     let aggregate = Aggregate {
         target: OperationTarget::Cluster,
@@ -89,21 +72,9 @@ fn aggregated(alloc: Global, stage: &str) -> Result<i32, Error> {
     Ok(failure_of(aggregate.read(alloc, reply)))
 }
 
-#[test]
-fn failures_of_writes(rt: HostRuntime) -> Result<(), Fail> {
-    let alloc = rt.alloc();
-    assert!(rt; matches!(&deleted(alloc), Ok(11_000)));
-    assert!(rt; matches!(&created(alloc), Ok(48)));
-    assert!(rt; matches!(&aggregated(alloc, "$merge"), Ok(64)));
-    assert!(rt; matches!(&aggregated(alloc, "$match"), Ok(0)));
-    Ok(())
-}
-
 // How many documents an update found, and how many it changed.
 fn updated(alloc: Global) -> Result<(u64, u64), Error> {
-    let reply = one_field(alloc, "n", Bson::Int32(2))?;
-    let reply = with(reply, "nModified", Bson::Int64(1))?;
-    let reply = to_bytes(alloc, &reply)?;
+    let reply = json_bytes(alloc, r#"{"n":2,"nModified":{"$int64":"1"}}"#)?;
     let update = Update {
         ns: namespace(alloc)?,
         filter: Document::new(alloc),
@@ -116,8 +87,13 @@ fn updated(alloc: Global) -> Result<(u64, u64), Error> {
 }
 
 #[test]
-fn counts_of_updates(rt: HostRuntime) -> Result<(), Fail> {
-    assert!(rt; matches!(&updated(rt.alloc()), Ok((2, 1))));
+fn replies_to_writes(rt: HostRuntime) -> Result<(), Fail> {
+    let alloc = rt.alloc();
+    assert_eq!(rt; deleted(alloc)?, 11_000);
+    assert_eq!(rt; created(alloc)?, 48);
+    assert_eq!(rt; aggregated(alloc, "$merge")?, 64);
+    assert_eq!(rt; aggregated(alloc, "$match")?, 0);
+    assert_eq!(rt; updated(alloc)?, (2, 1));
     Ok(())
 }
 
@@ -138,7 +114,7 @@ fn find(alloc: Global) -> Result<Find, Error> {
 
 // The size and time of the getMores of a cursor, and whether they have a comment.
 fn found(alloc: Global) -> Result<(Option<u32>, Option<u64>, bool), Error> {
-    let reply = to_bytes(alloc, &cursor(alloc, Bson::Int64(7))?)?;
+    let reply = json_bytes(alloc, CURSOR)?;
     let specification = find(alloc)?.read(alloc, reply)?;
     let info = &specification.info;
     Ok((info.batch_size, info.max_time, info.comment.is_some()))
@@ -146,7 +122,7 @@ fn found(alloc: Global) -> Result<(Option<u32>, Option<u64>, bool), Error> {
 
 // The same of a watch.
 fn watched(alloc: Global) -> Result<(Option<u32>, Option<u64>, bool), Error> {
-    let reply = to_bytes(alloc, &cursor(alloc, Bson::Int64(7))?)?;
+    let reply = json_bytes(alloc, CURSOR)?;
     let comment = text(alloc, "c")?;
     let aggregate = ChangeStreamAggregate {
         args: WatchArgs {
@@ -170,7 +146,7 @@ fn watched(alloc: Global) -> Result<(Option<u32>, Option<u64>, bool), Error> {
 
 // The same of a command that gives a cursor.
 fn ran(alloc: Global) -> Result<(Option<u32>, Option<u64>, bool), Error> {
-    let reply = to_bytes(alloc, &cursor(alloc, Bson::Int64(7))?)?;
+    let reply = json_bytes(alloc, CURSOR)?;
     let db = String::from_str(alloc, "db")?;
     let options = RunCursorCommandOptions::builder()
         .selection_criteria(SelectionCriteria::ReadPreference(ReadPreference::Nearest))
@@ -191,7 +167,7 @@ fn ran(alloc: Global) -> Result<(Option<u32>, Option<u64>, bool), Error> {
 
 // Whether a find refuses a cursor whose id is no Int64.
 fn refuses_short_id(alloc: Global) -> Result<bool, Error> {
-    let reply = to_bytes(alloc, &cursor(alloc, Bson::Int32(7))?)?;
+    let reply = json_bytes(alloc, SHORT_ID)?;
     match find(alloc)?.read(alloc, reply) {
         Ok(_) => Ok(false),
         Err(error) => Ok(matches!(&error.kind, ErrorKind::InvalidResponse(Malformed::BadId))),
@@ -200,20 +176,21 @@ fn refuses_short_id(alloc: Global) -> Result<bool, Error> {
 
 // Whether a find whose reply is not read hands it on.
 fn hands_on(alloc: Global) -> Result<bool, Error> {
-    let wanted = to_bytes(alloc, &cursor(alloc, Bson::Int32(7))?)?;
-    let reply = to_bytes(alloc, &cursor(alloc, Bson::Int32(7))?)?;
-    let raw = RawOutput(find(alloc)?);
-    let output = raw.read(alloc, reply)?;
-    Ok(output.as_bytes() == wanted.as_bytes())
+    let reply = json_bytes(alloc, SHORT_ID)?;
+    let wanted = reply.clone()?;
+    let output = RawOutput(find(alloc)?).read(alloc, reply)?;
+    Ok(output == wanted)
 }
 
 #[test]
 fn cursors_of_openings(rt: HostRuntime) -> Result<(), Fail> {
     let alloc = rt.alloc();
-    assert!(rt; matches!(&found(alloc), Ok((Some(6), Some(9), true))));
-    assert!(rt; matches!(&watched(alloc), Ok((Some(5), Some(9), true))));
-    assert!(rt; matches!(&ran(alloc), Ok((Some(5), Some(6), true))));
-    assert!(rt; matches!(&refuses_short_id(alloc), Ok(true)));
-    assert!(rt; matches!(&hands_on(alloc), Ok(true)));
+    assert_eq!(rt; found(alloc)?, (Some(6), Some(9), true));
+    assert_eq!(rt; watched(alloc)?, (Some(5), Some(9), true));
+    assert_eq!(rt; ran(alloc)?, (Some(5), Some(6), true));
+    let is_refused = refuses_short_id(alloc)?;
+    assert!(rt; is_refused);
+    let is_handed_on = hands_on(alloc)?;
+    assert!(rt; is_handed_on);
     Ok(())
 }

@@ -1,28 +1,13 @@
-use super::records::is_shown;
-use super::{namespace, one_field};
-use mg_bson::{Bson, Document};
+use super::commands::{are_built, local_find, plain_update, watch};
+use super::one_field;
+use mg_bson::Bson;
 use mg_link::{
     ClientSession, ClientSessionHandle, Error, ExplicitClientSessionHandle,
-    ImplicitClientSessionHandle, OperationTarget, PinnedConnection, ReadConcern, ReadConcernLevel,
-    ReadPreference, Retry, SelectionCriteria, TransactionState, WriteConcern,
+    ImplicitClientSessionHandle, PinnedConnection, Retry, TransactionState,
 };
-use mg_ops::{
-    Aggregate, ChangeStreamAggregate, Create, CreateIndexes, Delete, DropCollection, Find, GetMore,
-    Insert, KillCursors, ListCollections, ListIndexes, Operation, RawOutput, RunCommand,
-    RunCursorCommand, Update, WatchArgs,
-};
-use mg_options::{
-    AggregateOptions, ChangeStreamOptions, CreateIndexOptions, DeleteOptions,
-    DropCollectionOptions, FindOptions, InsertManyOptions, ListCollectionsOptions,
-    ListIndexesOptions, RunCommandOptions, RunCursorCommandOptions, UpdateModifications,
-};
+use mg_ops::Operation;
 use std::alloc::Global;
 use std::test::Fail;
-
-// The document `{ x: n }`.
-fn x(alloc: Global, n: i32) -> Result<Document, Error> {
-    Ok(one_field(alloc, "x", Bson::Int32(n))?)
-}
 
 // A session in this state. Where a transaction starts it is the second one, and otherwise the first.
 fn session_in(alloc: Global, state: TransactionState) -> Result<ClientSession, Error> {
@@ -50,280 +35,41 @@ fn session_in(alloc: Global, state: TransactionState) -> Result<ClientSession, E
     Ok(session)
 }
 
-// The command of an operation in such a session.
-fn built<O: Operation + Drop>(
-    alloc: Global,
-    operation: Result<O, Error>,
-    state: TransactionState,
-) -> Result<Document, Error> {
-    let operation = operation?;
-    let session = session_in(alloc, state)?;
-    operation.build(alloc, 21, Some(&session))
-}
-
-// A write is to be in the journal.
-fn journaled() -> WriteConcern {
-    WriteConcern {
-        w: None,
-        w_timeout: None,
-        journal: Some(true),
-    }
-}
-
-fn nearest() -> SelectionCriteria {
-    SelectionCriteria::ReadPreference(ReadPreference::Nearest)
-}
-
-fn find(alloc: Global) -> Result<Find, Error> {
-    let ns = namespace(alloc)?;
-    let filter = x(alloc, 1)?;
-    let local = ReadConcern {
-        level: ReadConcernLevel::Local,
+/// A session in the state of this name, where it is one.
+pub(super) fn session_of(alloc: Global, state: &str) -> Result<Option<ClientSession>, Error> {
+    let state = match state {
+        "none" => TransactionState::None,
+        "starting" => TransactionState::Starting,
+        "running" => TransactionState::InProgress,
+        "committed" => TransactionState::Committed,
+        "aborted" => TransactionState::Aborted,
+        _ => return Ok(None),
     };
-    Ok(Find {
-        ns,
-        filter,
-        options: FindOptions::builder()
-            .read_concern(local)
-            .selection_criteria(nearest()),
-    })
+    Ok(Some(session_in(alloc, state)?))
 }
 
-fn raw_find(alloc: Global) -> Result<RawOutput<Find>, Error> {
-    Ok(RawOutput(find(alloc)?))
-}
-
-fn aggregate(alloc: Global) -> Result<Aggregate, Error> {
-    let pipeline = vec![in alloc; one_field(alloc, "$skip", Bson::Int32(1))?]?;
-    let ns = namespace(alloc)?;
-    Ok(Aggregate {
-        target: OperationTarget::Collection(ns),
-        pipeline,
-        options: AggregateOptions::builder().write_concern(journaled()),
-    })
-}
-
-fn watch(alloc: Global) -> Result<ChangeStreamAggregate, Error> {
-    let ns = namespace(alloc)?;
-    Ok(ChangeStreamAggregate {
-        args: WatchArgs {
-            pipeline: Vec::new(alloc),
-            target: OperationTarget::Collection(ns),
-            options: ChangeStreamOptions::builder(),
-        },
-        resume: None,
-    })
-}
-
-fn get_more(alloc: Global) -> Result<GetMore, Error> {
-    Ok(GetMore {
-        ns: namespace(alloc)?,
-        id: 9,
-        batch_size: None,
-        max_time: None,
-        comment: None,
-    })
-}
-
-const FIND: &str =
-    r#"find filter $db lsid txnNumber startTransaction autocommit readConcern $readPreference {"$db":"db","$readPreference":{"mode":"nearest"},"autocommit":false,"filter":{"x":1},"find":"coll","lsid":{"id":7},"readConcern":{"level":"local"},"startTransaction":true,"txnNumber":{"$int64":"2"}}"#;
-
-const RAW_FIND: &str =
-    r#"find filter $db lsid readConcern $readPreference {"$db":"db","$readPreference":{"mode":"nearest"},"filter":{"x":1},"find":"coll","lsid":{"id":7},"readConcern":{"level":"local"}}"#;
-
-const AGGREGATE: &str =
-    r#"aggregate pipeline cursor $db lsid txnNumber autocommit writeConcern {"$db":"db","aggregate":"coll","autocommit":false,"cursor":{},"lsid":{"id":7},"pipeline":[{"$skip":1}],"txnNumber":{"$int64":"1"},"writeConcern":{"j":true}}"#;
-
-const WATCH: &str =
-    r#"aggregate pipeline cursor $db lsid txnNumber startTransaction autocommit {"$db":"db","aggregate":"coll","autocommit":false,"cursor":{},"lsid":{"id":7},"pipeline":[{"$changeStream":{}}],"startTransaction":true,"txnNumber":{"$int64":"2"}}"#;
-
-const GET_MORE: &str =
-    r#"getMore collection $db lsid txnNumber autocommit {"$db":"db","autocommit":false,"collection":"coll","getMore":{"$int64":"9"},"lsid":{"id":7},"txnNumber":{"$int64":"1"}}"#;
+// Operations in sessions, as the commands without one.
+const COMMANDS: &str =
+    r#"find local starting find filter $db lsid txnNumber startTransaction autocommit readConcern $readPreference {"$db":"db","$readPreference":{"mode":"nearest"},"autocommit":false,"filter":{"x":1},"find":"coll","lsid":{"id":7},"readConcern":{"level":"local"},"startTransaction":true,"txnNumber":{"$int64":"2"}}
+find raw aborted find filter $db lsid readConcern $readPreference {"$db":"db","$readPreference":{"mode":"nearest"},"filter":{"x":1},"find":"coll","lsid":{"id":7},"readConcern":{"level":"local"}}
+aggregate journaled running aggregate pipeline cursor $db lsid txnNumber autocommit writeConcern {"$db":"db","aggregate":"coll","autocommit":false,"cursor":{},"lsid":{"id":7},"pipeline":[{"$skip":1}],"txnNumber":{"$int64":"1"},"writeConcern":{"j":true}}
+aggregate watch starting aggregate pipeline cursor $db lsid txnNumber startTransaction autocommit {"$db":"db","aggregate":"coll","autocommit":false,"cursor":{},"lsid":{"id":7},"pipeline":[{"$changeStream":{}}],"startTransaction":true,"txnNumber":{"$int64":"2"}}
+given plain-more running getMore collection $db lsid txnNumber autocommit {"$db":"db","autocommit":false,"collection":"coll","getMore":{"$int64":"9"},"lsid":{"id":7},"txnNumber":{"$int64":"1"}}
+list all none listCollections nameOnly $db lsid {"$db":"db","listCollections":1,"lsid":{"id":7},"nameOnly":true}
+list plain-indexes starting listIndexes $db lsid txnNumber startTransaction autocommit {"$db":"db","autocommit":false,"listIndexes":"coll","lsid":{"id":7},"startTransaction":true,"txnNumber":{"$int64":"2"}}
+given command running x $db lsid txnNumber autocommit $readPreference {"$db":"db","$readPreference":{"mode":"nearest"},"autocommit":false,"lsid":{"id":7},"txnNumber":{"$int64":"1"},"x":1}
+given plain committed x $db lsid {"$db":"db","lsid":{"id":7},"x":1}
+given kill none killCursors cursors $db lsid {"$db":"db","cursors":[{"$int64":"9"}],"killCursors":"coll","lsid":{"id":7}}
+write ordered starting insert documents ordered $db lsid txnNumber startTransaction autocommit writeConcern {"$db":"db","autocommit":false,"documents":[{"x":1}],"insert":"coll","lsid":{"id":7},"ordered":true,"startTransaction":true,"txnNumber":{"$int64":"2"},"writeConcern":{"j":true}}
+write deleted running delete deletes ordered $db lsid txnNumber autocommit writeConcern {"$db":"db","autocommit":false,"delete":"coll","deletes":[{"limit":1,"q":{"x":1}}],"lsid":{"id":7},"ordered":true,"txnNumber":{"$int64":"1"},"writeConcern":{"j":true}}
+write plain aborted update updates ordered $db lsid {"$db":"db","lsid":{"id":7},"ordered":true,"update":"coll","updates":[{"q":{"x":1},"u":{"x":2}}]}
+space create starting create $db lsid txnNumber startTransaction autocommit writeConcern {"$db":"db","autocommit":false,"create":"coll","lsid":{"id":7},"startTransaction":true,"txnNumber":{"$int64":"2"},"writeConcern":{"j":true}}
+space plain-indexes running createIndexes indexes $db lsid txnNumber autocommit {"$db":"db","autocommit":false,"createIndexes":"coll","indexes":[{"key":{"x":1},"name":"x_1"}],"lsid":{"id":7},"txnNumber":{"$int64":"1"}}
+space dropped committed drop $db lsid {"$db":"db","drop":"coll","lsid":{"id":7}}"#;
 
 #[test]
-fn reads_in_sessions(rt: HostRuntime) -> Result<(), Fail> {
-    let alloc = rt.alloc();
-    let command = built(alloc, find(alloc), TransactionState::Starting);
-    is_shown(&rt, alloc, "find", command, FIND)?;
-    let command = built(alloc, raw_find(alloc), TransactionState::Aborted);
-    is_shown(&rt, alloc, "raw find", command, RAW_FIND)?;
-    let command = built(alloc, aggregate(alloc), TransactionState::InProgress);
-    is_shown(&rt, alloc, "aggregate", command, AGGREGATE)?;
-    let command = built(alloc, watch(alloc), TransactionState::Starting);
-    is_shown(&rt, alloc, "watch", command, WATCH)?;
-    let command = built(alloc, get_more(alloc), TransactionState::InProgress);
-    is_shown(&rt, alloc, "getMore", command, GET_MORE)?;
-    Ok(())
-}
-
-fn list_collections(alloc: Global) -> Result<ListCollections, Error> {
-    Ok(ListCollections {
-        db: String::from_str(alloc, "db")?,
-        name_only: true,
-        options: ListCollectionsOptions::builder(),
-    })
-}
-
-fn list_indexes(alloc: Global) -> Result<ListIndexes, Error> {
-    Ok(ListIndexes {
-        ns: namespace(alloc)?,
-        options: ListIndexesOptions::builder(),
-    })
-}
-
-fn run(alloc: Global) -> Result<RunCommand, Error> {
-    let db = String::from_str(alloc, "db")?;
-    let command = x(alloc, 1)?;
-    Ok(RunCommand {
-        db,
-        command,
-        options: RunCommandOptions::builder().selection_criteria(nearest()),
-    })
-}
-
-fn run_cursor(alloc: Global) -> Result<RunCursorCommand, Error> {
-    let db = String::from_str(alloc, "db")?;
-    let command = x(alloc, 1)?;
-    Ok(RunCursorCommand {
-        db,
-        command,
-        options: RunCursorCommandOptions::builder(),
-    })
-}
-
-fn kill(alloc: Global) -> Result<KillCursors, Error> {
-    let ids = vec![in alloc; 9]?;
-    let ns = namespace(alloc)?;
-    Ok(KillCursors { ns, ids })
-}
-
-const LIST_COLLECTIONS: &str =
-    r#"listCollections nameOnly $db lsid {"$db":"db","listCollections":1,"lsid":{"id":7},"nameOnly":true}"#;
-
-const LIST_INDEXES: &str =
-    r#"listIndexes $db lsid txnNumber startTransaction autocommit {"$db":"db","autocommit":false,"listIndexes":"coll","lsid":{"id":7},"startTransaction":true,"txnNumber":{"$int64":"2"}}"#;
-
-const RUN: &str =
-    r#"x $db lsid txnNumber autocommit $readPreference {"$db":"db","$readPreference":{"mode":"nearest"},"autocommit":false,"lsid":{"id":7},"txnNumber":{"$int64":"1"},"x":1}"#;
-
-const RUN_CURSOR: &str = r#"x $db lsid {"$db":"db","lsid":{"id":7},"x":1}"#;
-
-const KILL: &str =
-    r#"killCursors cursors $db lsid {"$db":"db","cursors":[{"$int64":"9"}],"killCursors":"coll","lsid":{"id":7}}"#;
-
-#[test]
-fn lists_and_given_commands_in_sessions(rt: HostRuntime) -> Result<(), Fail> {
-    let alloc = rt.alloc();
-    let command = built(alloc, list_collections(alloc), TransactionState::None);
-    is_shown(&rt, alloc, "collections", command, LIST_COLLECTIONS)?;
-    let command = built(alloc, list_indexes(alloc), TransactionState::Starting);
-    is_shown(&rt, alloc, "indexes", command, LIST_INDEXES)?;
-    let command = built(alloc, run(alloc), TransactionState::InProgress);
-    is_shown(&rt, alloc, "run", command, RUN)?;
-    let command = built(alloc, run_cursor(alloc), TransactionState::Committed);
-    is_shown(&rt, alloc, "cursor", command, RUN_CURSOR)?;
-    let command = built(alloc, kill(alloc), TransactionState::None);
-    is_shown(&rt, alloc, "kill", command, KILL)?;
-    Ok(())
-}
-
-fn insert(alloc: Global) -> Result<Insert, Error> {
-    let documents = vec![in alloc; x(alloc, 1)?]?;
-    let ns = namespace(alloc)?;
-    Ok(Insert {
-        ns,
-        documents,
-        options: InsertManyOptions::builder().write_concern(journaled()),
-    })
-}
-
-fn delete(alloc: Global) -> Result<Delete, Error> {
-    let ns = namespace(alloc)?;
-    let filter = x(alloc, 1)?;
-    Ok(Delete {
-        ns,
-        filter,
-        many: false,
-        options: DeleteOptions::builder().write_concern(journaled()),
-    })
-}
-
-fn update(alloc: Global) -> Result<Update, Error> {
-    let ns = namespace(alloc)?;
-    let filter = x(alloc, 1)?;
-    let modifications = UpdateModifications::from(x(alloc, 2)?);
-    Ok(Update {
-        ns,
-        filter,
-        modifications,
-        many: false,
-        write_concern: None,
-    })
-}
-
-const INSERT: &str =
-    r#"insert documents ordered $db lsid txnNumber startTransaction autocommit writeConcern {"$db":"db","autocommit":false,"documents":[{"x":1}],"insert":"coll","lsid":{"id":7},"ordered":true,"startTransaction":true,"txnNumber":{"$int64":"2"},"writeConcern":{"j":true}}"#;
-
-const DELETE: &str =
-    r#"delete deletes ordered $db lsid txnNumber autocommit writeConcern {"$db":"db","autocommit":false,"delete":"coll","deletes":[{"limit":1,"q":{"x":1}}],"lsid":{"id":7},"ordered":true,"txnNumber":{"$int64":"1"},"writeConcern":{"j":true}}"#;
-
-const UPDATE: &str =
-    r#"update updates ordered $db lsid {"$db":"db","lsid":{"id":7},"ordered":true,"update":"coll","updates":[{"q":{"x":1},"u":{"x":2}}]}"#;
-
-#[test]
-fn writes_in_sessions(rt: HostRuntime) -> Result<(), Fail> {
-    let alloc = rt.alloc();
-    let command = built(alloc, insert(alloc), TransactionState::Starting);
-    is_shown(&rt, alloc, "insert", command, INSERT)?;
-    let command = built(alloc, delete(alloc), TransactionState::InProgress);
-    is_shown(&rt, alloc, "delete", command, DELETE)?;
-    let command = built(alloc, update(alloc), TransactionState::Aborted);
-    is_shown(&rt, alloc, "update", command, UPDATE)?;
-    Ok(())
-}
-
-fn create(alloc: Global) -> Result<Create, Error> {
-    Ok(Create {
-        ns: namespace(alloc)?,
-        write_concern: Some(journaled()),
-    })
-}
-
-fn create_indexes(alloc: Global) -> Result<CreateIndexes, Error> {
-    let ns = namespace(alloc)?;
-    let keys = x(alloc, 1)?;
-    Ok(CreateIndexes {
-        ns,
-        keys,
-        options: CreateIndexOptions::builder(),
-    })
-}
-
-fn drop_collection(alloc: Global) -> Result<DropCollection, Error> {
-    Ok(DropCollection {
-        ns: namespace(alloc)?,
-        options: DropCollectionOptions::builder(),
-    })
-}
-
-const CREATE: &str =
-    r#"create $db lsid txnNumber startTransaction autocommit writeConcern {"$db":"db","autocommit":false,"create":"coll","lsid":{"id":7},"startTransaction":true,"txnNumber":{"$int64":"2"},"writeConcern":{"j":true}}"#;
-
-const CREATE_INDEXES: &str =
-    r#"createIndexes indexes $db lsid txnNumber autocommit {"$db":"db","autocommit":false,"createIndexes":"coll","indexes":[{"key":{"x":1},"name":"x_1"}],"lsid":{"id":7},"txnNumber":{"$int64":"1"}}"#;
-
-const DROP: &str = r#"drop $db lsid {"$db":"db","drop":"coll","lsid":{"id":7}}"#;
-
-#[test]
-fn collections_in_sessions(rt: HostRuntime) -> Result<(), Fail> {
-    let alloc = rt.alloc();
-    let command = built(alloc, create(alloc), TransactionState::Starting);
-    is_shown(&rt, alloc, "create", command, CREATE)?;
-    let command = built(alloc, create_indexes(alloc), TransactionState::InProgress);
-    is_shown(&rt, alloc, "indexes", command, CREATE_INDEXES)?;
-    let command = built(alloc, drop_collection(alloc), TransactionState::Committed);
-    is_shown(&rt, alloc, "drop", command, DROP)?;
-    Ok(())
+fn commands_in_sessions(rt: HostRuntime) -> Result<(), Fail> {
+    are_built(&rt, rt.alloc(), COMMANDS)
 }
 
 // How an operation is sent in a session of this state.
@@ -348,9 +94,9 @@ fn retries_in_sessions(rt: HostRuntime) -> Result<(), Fail> {
         (TransactionState::Aborted, Retry::Read),
     ];
     for (state, wanted) in states {
-        assert_eq!(rt; sent(alloc, find(alloc), state)?, wanted);
+        assert_eq!(rt; sent(alloc, local_find(alloc), state)?, wanted);
         assert_eq!(rt; sent(alloc, watch(alloc), state)?, wanted);
-        assert_eq!(rt; sent(alloc, update(alloc), state)?, Retry::None);
+        assert_eq!(rt; sent(alloc, plain_update(alloc), state)?, Retry::None);
     }
     Ok(())
 }

@@ -176,7 +176,7 @@ fn stored_in(alloc: Global, store: &Store, ns: &Namespace) -> Result<String, Err
     Ok(digits)
 }
 
-pub(super) fn has_open(store: &Store, ids: &[i64]) -> Result<bool, OutOfMemory> {
+fn has_open(store: &Store, ids: &[i64]) -> Result<bool, OutOfMemory> {
     let open = store.open_cursors()?;
     Ok(open.as_slice() == ids)
 }
@@ -198,31 +198,33 @@ pub(super) fn answers(
     Ok(())
 }
 
+/// Fails a test where a new store answers steps otherwise, or has other cursors open behind them.
+pub(super) fn leaves_open(
+    rt: &impl Abort,
+    alloc: Global,
+    steps: &str,
+    ids: &[i64],
+) -> Result<(), Fail> {
+    let mut store = Store::new(alloc);
+    answers(rt, alloc, &mut store, steps)?;
+    let has_these_open = has_open(&store, ids)?;
+    assert!(rt; has_these_open);
+    Ok(())
+}
+
 #[test]
 fn answers_commands_in_turn(rt: HostRuntime) -> Result<(), Fail> {
-    let mut store = Store::new(rt.alloc());
-    answers(&rt, rt.alloc(), &mut store, STEPS)?;
-    let has_two_open = has_open(&store, &[2, 3])?;
-    assert!(rt; has_two_open);
-    Ok(())
+    leaves_open(&rt, rt.alloc(), STEPS, &[2, 3])
 }
 
 #[test]
 fn answers_queries_in_turn(rt: HostRuntime) -> Result<(), Fail> {
-    let mut store = Store::new(rt.alloc());
-    answers(&rt, rt.alloc(), &mut store, QUERIES)?;
-    let has_two_open = has_open(&store, &[4, 5])?;
-    assert!(rt; has_two_open);
-    Ok(())
+    leaves_open(&rt, rt.alloc(), QUERIES, &[4, 5])
 }
 
 #[test]
 fn watches_each_target_from_each_start(rt: HostRuntime) -> Result<(), Fail> {
-    let mut store = Store::new(rt.alloc());
-    answers(&rt, rt.alloc(), &mut store, WATCHES)?;
-    let has_four_open = has_open(&store, &[1, 2, 3, 4])?;
-    assert!(rt; has_four_open);
-    Ok(())
+    leaves_open(&rt, rt.alloc(), WATCHES, &[1, 2, 3, 4])
 }
 
 #[test]
@@ -233,11 +235,7 @@ fn finds_chunks_by_their_files(rt: HostRuntime) -> Result<(), Fail> {
 
 #[test]
 fn refuses_and_passes_over(rt: HostRuntime) -> Result<(), Fail> {
-    let mut store = Store::new(rt.alloc());
-    answers(&rt, rt.alloc(), &mut store, FURTHER)?;
-    let has_two_open = has_open(&store, &[1, 2])?;
-    assert!(rt; has_two_open);
-    Ok(())
+    leaves_open(&rt, rt.alloc(), FURTHER, &[1, 2])
 }
 
 #[test]

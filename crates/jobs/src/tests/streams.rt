@@ -5,8 +5,8 @@ ghost use Rattle.mg_change.specs.Closings.{closing_ticket};
 ghost use Rattle.mg_change.specs.Openings.{opening_ticket};
 ghost use Rattle.mg_change.specs.Phases.{IsSound, ticket_in};
 
-use super::{bytes_of, expect, namespace, one_field, repeated, with, with_text};
-use mg_bson::{Array, Bson, BsonError, Document, RawArray, RawDocument, Timestamp};
+use super::{expect, json_bytes, namespace, repeated};
+use mg_bson::{Bson, RawArray, RawDocument, Timestamp};
 use mg_change::{ChangeStream, Closing, EventPoll, Opening};
 use mg_link::{
     Action, Error, ErrorKind, OperationTarget, ScriptLink, Scripted, ScriptedSeen, Step,
@@ -19,50 +19,33 @@ use std::test::Fail;
 
 // ---- replies
 
-fn numbered(alloc: Global, name: &str, n: i32) -> Result<Bson, BsonError> {
-    Ok(Bson::Document(one_field(alloc, name, Bson::Int32(n))?))
-}
+// A success of nothing.
+const DONE: &str = r#"{"code":0,"ok":1}"#;
+
+// A refusal that says that a cursor is not there.
+const GONE: &str = r#"{"code":43,"ok":0}"#;
 
 // The items of a batch: none, an event, an event without `_id` and one behind it, or an item that is no document.
-fn items_of(alloc: Global, kind: u8) -> Result<Array, BsonError> {
-    let mut items = Array::new(alloc);
-    if kind == b'n' {
-        items.push(numbered(alloc, "x", 1)?)?;
+fn items_of(kind: u8) -> &'static str {
+    match kind {
+        b'e' => r#"[{"_id":2}]"#,
+        b'n' => r#"[{"x":1},{"_id":2}]"#,
+        b'm' => "[5]",
+        _ => "[]",
     }
-    if kind == b'e' || kind == b'n' {
-        items.push(numbered(alloc, "_id", 2)?)?;
-    }
-    if kind == b'm' {
-        items.push(Bson::Int32(5))?;
-    }
-    Ok(items)
-}
-
-// A batch of this cursor.
-fn cursor_of(alloc: Global, id: i64, kind: u8) -> Result<Document, BsonError> {
-    let cursor = one_field(alloc, "id", Bson::Int64(id))?;
-    let cursor = with_text(alloc, cursor, "ns", "db.coll")?;
-    let items = items_of(alloc, kind)?;
-    with(cursor, "firstBatch", Bson::Array(items))
 }
 
 // A success at time 7 with a batch of this cursor.
-fn batch(alloc: Global, id: i64, kind: u8) -> Result<Vec<u8>, BsonError> {
-    let time = Timestamp {
-        time: 7,
-        increment: 1,
-    };
-    let reply = one_field(alloc, "ok", Bson::Int32(1))?;
-    let cursor = cursor_of(alloc, id, kind)?;
-    let reply = with(reply, "cursor", Bson::Document(cursor))?;
-    let reply = with(reply, "operationTime", Bson::Timestamp(time))?;
-    bytes_of(alloc, &reply)
+fn batch(alloc: Global, id: i64, kind: u8) -> Result<String, AllocError> {
+    let items = items_of(kind);
+    let before = r#"{"cursor":{"firstBatch":"#;
+    let middle = r#","ns":"db.coll","id":{"$int64":""#;
+    let behind = r#""}},"ok":1,"operationTime":{"$timestamp":{"i":1,"t":7}}}"#;
+    format!(in alloc; "{before}{items}{middle}{id}{behind}")
 }
 
-// A refusal with this code, or a success of nothing.
-fn plain_reply(alloc: Global, ok: i32, code: i32) -> Result<Vec<u8>, BsonError> {
-    let reply = one_field(alloc, "ok", Bson::Int32(ok))?;
-    bytes_of(alloc, &with(reply, "code", Bson::Int32(code))?)
+fn reply_of(alloc: Global, json: &str) -> Result<ScriptedSeen, Fail> {
+    Ok(ScriptedSeen::Reply(json_bytes(alloc, json)?.into_bytes()))
 }
 
 fn seen_of(alloc: Global, word: &str) -> Result<ScriptedSeen, Fail> {
@@ -72,11 +55,12 @@ fn seen_of(alloc: Global, word: &str) -> Result<ScriptedSeen, Fail> {
     }
     if bytes[0] >= b'0' && bytes[0] <= b'9' {
         let id = i64::from(bytes[0] - b'0');
-        return Ok(ScriptedSeen::Reply(batch(alloc, id, bytes[1])?));
+        let json = batch(alloc, id, bytes[1])?;
+        return reply_of(alloc, json.as_str());
     }
     match bytes[0] {
-        b'k' => Ok(ScriptedSeen::Reply(plain_reply(alloc, 1, 0)?)),
-        b'g' => Ok(ScriptedSeen::Reply(plain_reply(alloc, 0, 43)?)),
+        b'k' => reply_of(alloc, DONE),
+        b'g' => reply_of(alloc, GONE),
         b'f' => Ok(ScriptedSeen::Memory),
         _ => Ok(ScriptedSeen::Fault),
     }
@@ -272,31 +256,29 @@ fn open(opening: Opening, link: &mut ScriptLink) -> Result<ChangeStream, Fail>
     Err(Fail::from("not opened yet"))
 }
 
-// Polls to the end of a call.
-fn call(stream: &mut ChangeStream, link: &mut ScriptLink) -> EventPoll
+// One poll of a call, or of one that seeks an event.
+fn poll_once(stream: &mut ChangeStream, link: &mut ScriptLink, seeks: bool) -> EventPoll
     requires out { IsOut (out_at link.old.calls) (ticket_in stream.old.phase) }
     requires sound { IsSound link.old.wire stream.old }
     ensures out { IsOut (out_at link.new.calls) (ticket_in stream.new.phase) }
     ensures sound { IsSound link.new.wire stream.new }
 {
-    'polls: for _count in 1..10 {
-        match stream.poll_next_if_any(link) {
-            EventPoll::Pending => {}
-            poll => return poll,
-        }
+    if seeks {
+        stream.poll_next(link)
+    } else {
+        stream.poll_next_if_any(link)
     }
-    EventPoll::Pending
 }
 
-// Polls to the end of a call that seeks an event.
-fn seek(stream: &mut ChangeStream, link: &mut ScriptLink) -> EventPoll
+// Polls to the end of a call.
+fn call(stream: &mut ChangeStream, link: &mut ScriptLink, seeks: bool) -> EventPoll
     requires out { IsOut (out_at link.old.calls) (ticket_in stream.old.phase) }
     requires sound { IsSound link.old.wire stream.old }
     ensures out { IsOut (out_at link.new.calls) (ticket_in stream.new.phase) }
     ensures sound { IsSound link.new.wire stream.new }
 {
     'polls: for _count in 1..10 {
-        match stream.poll_next(link) {
+        match poll_once(stream, link, seeks) {
             EventPoll::Pending => {}
             poll => return poll,
         }
@@ -317,9 +299,9 @@ fn step_word(
     ensures sound { IsSound link.new.wire stream.new }
 {
     let poll = match step {
-        b'c' => call(stream, link),
-        b'p' => stream.poll_next_if_any(link),
-        b'n' => seek(stream, link),
+        b'c' => call(stream, link, false),
+        b'p' => poll_once(stream, link, false),
+        b'n' => call(stream, link, true),
         _ => return token_word(alloc, stream),
     };
     Ok(answer_word(alloc, &poll)?)
@@ -441,35 +423,34 @@ fn streams_to_their_closing(rt: HostRuntime) -> Result<(), Fail> {
     Ok(())
 }
 
-#[test]
-fn empty_replies_in_a_row(rt: HostRuntime) -> Result<(), Fail> {
-    let alloc = rt.alloc();
-    let script = repeated(alloc, "1-", " 1-", 999, " k.")?;
+// Runs a stream that seeks an event in so many more answers of these, and finds none behind so many commands.
+fn is_given_up(
+    rt: &impl Abort,
+    alloc: Global,
+    answers: &str,
+    commands: &str,
+    times: u32,
+) -> Result<(), Fail> {
+    let script = repeated(alloc, "1-", answers, times, " k.")?;
     let seen = run(alloc, "none", script.as_str(), "n", 0)?;
     let wanted = repeated(
         alloc,
         "/E13/closed/aggregate",
-        "/getMore 1",
-        999,
+        commands,
+        times,
         "/killCursors 1",
     )?;
-    expect(&rt, "999 getMores", seen.as_str(), wanted.as_str());
+    expect(rt, answers, seen.as_str(), wanted.as_str());
     Ok(())
 }
 
 #[test]
+fn empty_replies_in_a_row(rt: HostRuntime) -> Result<(), Fail> {
+    is_given_up(&rt, rt.alloc(), " 1-", "/getMore 1", 999)
+}
+
+#[test]
 fn resumptions_without_an_event(rt: HostRuntime) -> Result<(), Fail> {
-    let alloc = rt.alloc();
-    let script = repeated(alloc, "1-", " l. 1- k.", 1000, " k.")?;
-    let seen = run(alloc, "none", script.as_str(), "n", 0)?;
-    let middle = "/getMore 1/aggregate at 7/killCursors 1";
-    let wanted = repeated(
-        alloc,
-        "/E13/closed/aggregate",
-        middle,
-        1000,
-        "/killCursors 1",
-    )?;
-    expect(&rt, "1000 resumptions", seen.as_str(), wanted.as_str());
-    Ok(())
+    let commands = "/getMore 1/aggregate at 7/killCursors 1";
+    is_given_up(&rt, rt.alloc(), " l. 1- k.", commands, 1000)
 }

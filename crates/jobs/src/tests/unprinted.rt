@@ -1,6 +1,5 @@
 use super::commands::{journaled, local, nearest};
-use super::parted;
-use super::records::{is_shown, keys};
+use super::records::{are_put, keys};
 use mg_bson::{Array, Bson, Document};
 use mg_link::Error;
 use mg_options::{
@@ -16,25 +15,19 @@ use std::test::Fail;
 
 // Each line is a record that puts nothing into a body, and what a copy of it holds: the names in order, and the JSON text.
 const RECORDS: &str =
-    r#"collection selection_criteria read_concern write_concern {"read_concern":{"level":"local"},"selection_criteria":{"mode":"nearest"},"write_concern":{"j":true}}
-update array_filters bypass_document_validation upsert collation hint write_concern let_vars comment sort {"array_filters":[{"x":4}],"bypass_document_validation":true,"collation":{"locale":"en"},"comment":5,"hint":{"x":1},"let_vars":{"x":2},"sort":{"x":3},"upsert":false,"write_concern":{"j":true}}
-replace bypass_document_validation upsert collation hint write_concern let_vars comment sort {"bypass_document_validation":false,"collation":{"locale":"en"},"comment":6,"hint":{"x":1},"let_vars":{"x":2},"sort":{"x":3},"upsert":true,"write_concern":{"j":true}}
-find_and_delete max_time projection sort write_concern collation hint let_vars comment {"collation":{"locale":"en"},"comment":5,"hint":{"x":1},"let_vars":{"x":2},"max_time":6,"projection":{"x":4},"sort":{"x":3},"write_concern":{"j":true}}
-find_and_replace bypass_document_validation max_time projection return_document sort upsert write_concern collation hint let_vars comment {"bypass_document_validation":true,"collation":{"locale":"en"},"comment":5,"hint":{"x":1},"let_vars":{"x":2},"max_time":6,"projection":{"x":4},"return_document":true,"sort":{"x":3},"upsert":false,"write_concern":{"j":true}}
-find_and_update array_filters bypass_document_validation max_time projection return_document sort upsert write_concern collation hint let_vars comment {"array_filters":[{"x":4}],"bypass_document_validation":false,"collation":{"locale":"en"},"comment":5,"hint":{"x":1},"let_vars":{"x":2},"max_time":6,"projection":{"x":7},"return_document":false,"sort":{"x":3},"upsert":true,"write_concern":{"j":true}}
-count hint limit max_time skip collation selection_criteria read_concern comment {"collation":{"locale":"en"},"comment":5,"hint":{"x":1},"limit":{"$int64":"7"},"max_time":6,"read_concern":{"level":"local"},"selection_criteria":{"mode":"nearest"},"skip":{"$int64":"8"}}
-bucket bucket_name chunk_size_bytes write_concern read_concern selection_criteria {"bucket_name":"b","chunk_size_bytes":4,"read_concern":{"level":"local"},"selection_criteria":{"mode":"nearest"},"write_concern":{"j":true}}
-upload chunk_size_bytes metadata {"chunk_size_bytes":4,"metadata":{"x":1}}
-by_name revision {"revision":-2}"#;
-
-fn put(alloc: Global, fields: &[(&str, Value<'_>)]) -> Result<Document, Error> {
-    let mut body = Document::new(alloc);
-    append_given(alloc, &mut body, fields)?;
-    Ok(body)
-}
+    r#"copy collection selection_criteria read_concern write_concern {"read_concern":{"level":"local"},"selection_criteria":{"mode":"nearest"},"write_concern":{"j":true}}
+copy update array_filters bypass_document_validation upsert collation hint write_concern let_vars comment sort {"array_filters":[{"x":4}],"bypass_document_validation":true,"collation":{"locale":"en"},"comment":5,"hint":{"x":1},"let_vars":{"x":2},"sort":{"x":3},"upsert":false,"write_concern":{"j":true}}
+copy replace bypass_document_validation upsert collation hint write_concern let_vars comment sort {"bypass_document_validation":false,"collation":{"locale":"en"},"comment":6,"hint":{"x":1},"let_vars":{"x":2},"sort":{"x":3},"upsert":true,"write_concern":{"j":true}}
+copy find_and_delete max_time projection sort write_concern collation hint let_vars comment {"collation":{"locale":"en"},"comment":5,"hint":{"x":1},"let_vars":{"x":2},"max_time":6,"projection":{"x":4},"sort":{"x":3},"write_concern":{"j":true}}
+copy find_and_replace bypass_document_validation max_time projection return_document sort upsert write_concern collation hint let_vars comment {"bypass_document_validation":true,"collation":{"locale":"en"},"comment":5,"hint":{"x":1},"let_vars":{"x":2},"max_time":6,"projection":{"x":4},"return_document":true,"sort":{"x":3},"upsert":false,"write_concern":{"j":true}}
+copy find_and_update array_filters bypass_document_validation max_time projection return_document sort upsert write_concern collation hint let_vars comment {"array_filters":[{"x":4}],"bypass_document_validation":false,"collation":{"locale":"en"},"comment":5,"hint":{"x":1},"let_vars":{"x":2},"max_time":6,"projection":{"x":7},"return_document":false,"sort":{"x":3},"upsert":true,"write_concern":{"j":true}}
+copy count hint limit max_time skip collation selection_criteria read_concern comment {"collation":{"locale":"en"},"comment":5,"hint":{"x":1},"limit":{"$int64":"7"},"max_time":6,"read_concern":{"level":"local"},"selection_criteria":{"mode":"nearest"},"skip":{"$int64":"8"}}
+copy bucket bucket_name chunk_size_bytes write_concern read_concern selection_criteria {"bucket_name":"b","chunk_size_bytes":4,"read_concern":{"level":"local"},"selection_criteria":{"mode":"nearest"},"write_concern":{"j":true}}
+copy upload chunk_size_bytes metadata {"chunk_size_bytes":4,"metadata":{"x":1}}
+copy by_name revision {"revision":-2}"#;
 
 // How texts are compared, an index, variables, and an order.
-fn common(alloc: Global) -> Result<(Collation, Hint, Document, Document), Error> {
+pub(super) fn common(alloc: Global) -> Result<(Collation, Hint, Document, Document), Error> {
     let locale = String::from_str(alloc, "en")?;
     let hint = keys(alloc, 1)?;
     let let_vars = keys(alloc, 2)?;
@@ -54,15 +47,16 @@ fn listed(alloc: Global, documents: &Option<Vec<Document>>) -> Result<Option<Bso
     Ok(Some(Bson::Array(array)))
 }
 
-fn collection(alloc: Global) -> Result<Document, Error> {
+fn collection(alloc: Global, body: &mut Document) -> Result<(), Error> {
     let options = CollectionOptions::builder()
         .selection_criteria(nearest())
         .read_concern(local())
         .write_concern(journaled())
         .build();
     let options = options.clone()?;
-    put(
+    append_given(
         alloc,
+        body,
         &[
             (
                 "selection_criteria",
@@ -74,16 +68,20 @@ fn collection(alloc: Global) -> Result<Document, Error> {
     )
 }
 
-fn put_filters(alloc: Global, filters: &Option<Vec<Document>>) -> Result<Document, Error> {
+fn put_filters(
+    alloc: Global,
+    filters: &Option<Vec<Document>>,
+    body: &mut Document,
+) -> Result<(), Error> {
     let filters = listed(alloc, filters)?;
-    put(alloc, &[("array_filters", Value::Any(&filters))])
+    append_given(alloc, body, &[("array_filters", Value::Any(&filters))])
 }
 
-fn put_update(alloc: Global, options: &UpdateOptions) -> Result<Document, Error> {
-    let mut body = put_filters(alloc, &options.array_filters)?;
+fn put_update(alloc: Global, options: &UpdateOptions, body: &mut Document) -> Result<(), Error> {
+    put_filters(alloc, &options.array_filters, body)?;
     append_given(
         alloc,
-        &mut body,
+        body,
         &[
             (
                 "bypass_document_validation",
@@ -97,11 +95,10 @@ fn put_update(alloc: Global, options: &UpdateOptions) -> Result<Document, Error>
             ("comment", Value::Any(&options.comment)),
             ("sort", Value::Document(&options.sort)),
         ],
-    )?;
-    Ok(body)
+    )
 }
 
-fn update(alloc: Global) -> Result<Document, Error> {
+fn update(alloc: Global, body: &mut Document) -> Result<(), Error> {
     let filters = vec![in alloc; keys(alloc, 4)?]?;
     let (rules, hint, let_vars, sort) = common(alloc)?;
     let options = UpdateOptions::builder()
@@ -115,11 +112,11 @@ fn update(alloc: Global) -> Result<Document, Error> {
         .comment(Bson::Int32(5))
         .sort(sort)
         .build();
-    put_update(alloc, &options.clone()?)
+    put_update(alloc, &options.clone()?, body)
 }
 
 // A replacement, as the options of an update.
-fn replace(alloc: Global) -> Result<Document, Error> {
+fn replace(alloc: Global, body: &mut Document) -> Result<(), Error> {
     let (rules, hint, let_vars, sort) = common(alloc)?;
     let options = ReplaceOptions::builder()
         .bypass_document_validation(false)
@@ -132,10 +129,10 @@ fn replace(alloc: Global) -> Result<Document, Error> {
         .sort(sort)
         .build();
     let options = UpdateOptions::from_replace_options(options.clone()?);
-    put_update(alloc, &options)
+    put_update(alloc, &options, body)
 }
 
-fn find_and_delete(alloc: Global) -> Result<Document, Error> {
+fn find_and_delete(alloc: Global, body: &mut Document) -> Result<(), Error> {
     let projection = keys(alloc, 4)?;
     let (rules, hint, let_vars, sort) = common(alloc)?;
     let options = FindOneAndDeleteOptions::builder()
@@ -149,8 +146,9 @@ fn find_and_delete(alloc: Global) -> Result<Document, Error> {
         .comment(Bson::Int32(5))
         .build();
     let options = options.clone()?;
-    put(
+    append_given(
         alloc,
+        body,
         &[
             ("max_time", Value::Millis(options.max_time)),
             ("projection", Value::Document(&options.projection)),
@@ -172,9 +170,14 @@ fn gives_new(word: Option<ReturnDocument>) -> Option<bool> {
     }
 }
 
-fn put_replaced(alloc: Global, options: &FindOneAndReplaceOptions) -> Result<Document, Error> {
-    put(
+fn put_replaced(
+    alloc: Global,
+    options: &FindOneAndReplaceOptions,
+    body: &mut Document,
+) -> Result<(), Error> {
+    append_given(
         alloc,
+        body,
         &[
             (
                 "bypass_document_validation",
@@ -197,7 +200,7 @@ fn put_replaced(alloc: Global, options: &FindOneAndReplaceOptions) -> Result<Doc
     )
 }
 
-fn find_and_replace(alloc: Global) -> Result<Document, Error> {
+fn find_and_replace(alloc: Global, body: &mut Document) -> Result<(), Error> {
     let projection = keys(alloc, 4)?;
     let (rules, hint, let_vars, sort) = common(alloc)?;
     let options = FindOneAndReplaceOptions::builder()
@@ -213,14 +216,18 @@ fn find_and_replace(alloc: Global) -> Result<Document, Error> {
         .let_vars(let_vars)
         .comment(Bson::Int32(5))
         .build();
-    put_replaced(alloc, &options.clone()?)
+    put_replaced(alloc, &options.clone()?, body)
 }
 
-fn put_updated(alloc: Global, options: &FindOneAndUpdateOptions) -> Result<Document, Error> {
-    let mut body = put_filters(alloc, &options.array_filters)?;
+fn put_updated(
+    alloc: Global,
+    options: &FindOneAndUpdateOptions,
+    body: &mut Document,
+) -> Result<(), Error> {
+    put_filters(alloc, &options.array_filters, body)?;
     append_given(
         alloc,
-        &mut body,
+        body,
         &[
             (
                 "bypass_document_validation",
@@ -240,11 +247,10 @@ fn put_updated(alloc: Global, options: &FindOneAndUpdateOptions) -> Result<Docum
             ("let_vars", Value::Document(&options.let_vars)),
             ("comment", Value::Any(&options.comment)),
         ],
-    )?;
-    Ok(body)
+    )
 }
 
-fn find_and_update(alloc: Global) -> Result<Document, Error> {
+fn find_and_update(alloc: Global, body: &mut Document) -> Result<(), Error> {
     let filters = vec![in alloc; keys(alloc, 4)?]?;
     let projection = keys(alloc, 7)?;
     let (rules, hint, let_vars, sort) = common(alloc)?;
@@ -262,10 +268,10 @@ fn find_and_update(alloc: Global) -> Result<Document, Error> {
         .let_vars(let_vars)
         .comment(Bson::Int32(5))
         .build();
-    put_updated(alloc, &options.clone()?)
+    put_updated(alloc, &options.clone()?, body)
 }
 
-fn count(alloc: Global) -> Result<Document, Error> {
+fn count(alloc: Global, body: &mut Document) -> Result<(), Error> {
     let locale = String::from_str(alloc, "en")?;
     let hint = keys(alloc, 1)?;
     let options = CountOptions::builder()
@@ -279,8 +285,9 @@ fn count(alloc: Global) -> Result<Document, Error> {
         .comment(Bson::Int32(5))
         .build();
     let options = options.clone()?;
-    put(
+    append_given(
         alloc,
+        body,
         &[
             ("hint", Value::Hint(&options.hint)),
             ("limit", Value::Count(options.limit)),
@@ -297,7 +304,15 @@ fn count(alloc: Global) -> Result<Document, Error> {
     )
 }
 
-fn bucket(alloc: Global) -> Result<Document, Error> {
+fn put_name(alloc: Global, name: &Option<String>, body: &mut Document) -> Result<(), Error> {
+    let name = match name {
+        Some(name) => Some(Bson::String(name.clone()?)),
+        None => None,
+    };
+    append_given(alloc, body, &[("bucket_name", Value::Any(&name))])
+}
+
+fn bucket(alloc: Global, body: &mut Document) -> Result<(), Error> {
     let name = String::from_str(alloc, "b")?;
     let options = GridFsBucketOptions::builder()
         .bucket_name(name)
@@ -307,14 +322,10 @@ fn bucket(alloc: Global) -> Result<Document, Error> {
         .selection_criteria(nearest())
         .build();
     let options = options.clone()?;
-    let name = match &options.bucket_name {
-        Some(name) => Some(Bson::String(name.clone()?)),
-        None => None,
-    };
-    let mut body = put(alloc, &[("bucket_name", Value::Any(&name))])?;
+    put_name(alloc, &options.bucket_name, body)?;
     append_given(
         alloc,
-        &mut body,
+        body,
         &[
             ("chunk_size_bytes", Value::Size(options.chunk_size_bytes)),
             ("write_concern", Value::WriteConcern(&options.write_concern)),
@@ -324,19 +335,19 @@ fn bucket(alloc: Global) -> Result<Document, Error> {
                 Value::Selection(options.selection_criteria),
             ),
         ],
-    )?;
-    Ok(body)
+    )
 }
 
-fn upload(alloc: Global) -> Result<Document, Error> {
+fn upload(alloc: Global, body: &mut Document) -> Result<(), Error> {
     let metadata = keys(alloc, 1)?;
     let options = GridFsUploadOptions::builder()
         .chunk_size_bytes(4)
         .metadata(metadata)
         .build();
     let options = options.clone()?;
-    put(
+    append_given(
         alloc,
+        body,
         &[
             ("chunk_size_bytes", Value::Size(options.chunk_size_bytes)),
             ("metadata", Value::Document(&options.metadata)),
@@ -344,36 +355,32 @@ fn upload(alloc: Global) -> Result<Document, Error> {
     )
 }
 
-fn by_name(alloc: Global) -> Result<Document, Error> {
+fn by_name(alloc: Global, body: &mut Document) -> Result<(), Error> {
     let options = GridFsDownloadByNameOptions::builder().revision(-2).build();
     let revision = match options.clone()?.revision {
         Some(revision) => Some(Bson::Int32(revision)),
         None => None,
     };
-    put(alloc, &[("revision", Value::Any(&revision))])
+    append_given(alloc, body, &[("revision", Value::Any(&revision))])
 }
 
-fn copied(alloc: Global, record: &str) -> Result<Document, Error> {
+/// Puts what a copy of a record holds into a body.
+pub(super) fn copied(alloc: Global, record: &str, body: &mut Document) -> Result<(), Error> {
     match record {
-        "collection" => collection(alloc),
-        "update" => update(alloc),
-        "replace" => replace(alloc),
-        "find_and_delete" => find_and_delete(alloc),
-        "find_and_replace" => find_and_replace(alloc),
-        "find_and_update" => find_and_update(alloc),
-        "count" => count(alloc),
-        "bucket" => bucket(alloc),
-        "upload" => upload(alloc),
-        _ => by_name(alloc),
+        "collection" => collection(alloc, body),
+        "update" => update(alloc, body),
+        "replace" => replace(alloc, body),
+        "find_and_delete" => find_and_delete(alloc, body),
+        "find_and_replace" => find_and_replace(alloc, body),
+        "find_and_update" => find_and_update(alloc, body),
+        "count" => count(alloc, body),
+        "bucket" => bucket(alloc, body),
+        "upload" => upload(alloc, body),
+        _ => by_name(alloc, body),
     }
 }
 
 #[test]
 fn records_hold_their_fields(rt: HostRuntime) -> Result<(), Fail> {
-    let alloc = rt.alloc();
-    for line in RECORDS.lines() {
-        let (record, wanted) = parted(line);
-        is_shown(&rt, alloc, line, copied(alloc, record), wanted)?;
-    }
-    Ok(())
+    are_put(&rt, rt.alloc(), RECORDS)
 }

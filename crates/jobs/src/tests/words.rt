@@ -1,5 +1,5 @@
-use super::expect;
-use mg_bson::Bson;
+use super::{expect, json_value, parted, with_text};
+use mg_bson::{Bson, Document};
 use mg_link::{Acknowledgment, Error, ReadConcern, ReadConcernLevel, ReadPreference};
 use mg_options::{
     CollationAlternate, CollationCaseFirst, CollationMaxVariable, CollationStrength, CommitQuorum,
@@ -62,7 +62,11 @@ type View View
 type view other view
 quorum votingMembers votingMembers
 quorum majority majority
-quorum all other all";
+quorum all other all
+amount 4294967295 4294967295
+amount 4294967296 number out of range
+amount -1 number out of range
+amount true number out of range";
 
 // What an error says.
 fn said(alloc: Global, error: &Error) -> Result<String, AllocError> {
@@ -187,6 +191,14 @@ fn quorum(alloc: Global, word: &str) -> Result<String, AllocError> {
     quorum_of(alloc, &Bson::String(word))
 }
 
+// A quorum of what is no word.
+fn amount(alloc: Global, json: &str) -> Result<String, AllocError> {
+    match json_value(alloc, json) {
+        Ok(value) => quorum_of(alloc, &value),
+        Err(e) => said(alloc, &e),
+    }
+}
+
 /// What a word of a list is read as.
 fn reading_of(alloc: Global, list: &str, word: &str) -> Result<String, AllocError> {
     match list {
@@ -202,15 +214,16 @@ fn reading_of(alloc: Global, list: &str, word: &str) -> Result<String, AllocErro
         "w" => acknowledgment(alloc, word),
         "operation" => operation(alloc, word),
         "type" => namespace_type(alloc, word),
+        "amount" => amount(alloc, word),
         _ => quorum(alloc, word),
     }
 }
 
-// Fails a test where a word of a table is read as something else.
-fn are_read(rt: &impl Abort, alloc: Global, table: &str) -> Result<(), AllocError> {
+/// Fails a test where a word of a table is read as something else.
+fn are_read(rt: &impl Abort, alloc: Global, table: &str) -> Result<(), Fail> {
     for line in table.lines() {
-        let (list, rest) = super::parted(line);
-        let (word, wanted) = super::parted(rest);
+        let (list, rest) = parted(line);
+        let (word, wanted) = parted(rest);
         let found = reading_of(alloc, list, word)?;
         expect(rt, line, found.as_str(), wanted);
     }
@@ -219,8 +232,7 @@ fn are_read(rt: &impl Abort, alloc: Global, table: &str) -> Result<(), AllocErro
 
 #[test]
 fn words_are_read(rt: HostRuntime) -> Result<(), Fail> {
-    are_read(&rt, rt.alloc(), WORDS)?;
-    Ok(())
+    are_read(&rt, rt.alloc(), WORDS)
 }
 
 const COLLATIONS: &str = "strength 5 5
@@ -230,22 +242,7 @@ return AFTER after";
 
 #[test]
 fn collation_words(rt: HostRuntime) -> Result<(), Fail> {
-    are_read(&rt, rt.alloc(), COLLATIONS)?;
-    Ok(())
-}
-
-#[test]
-fn quorums(rt: HostRuntime) -> Result<(), Fail> {
-    let alloc = rt.alloc();
-    let most = quorum_of(alloc, &Bson::Int64(4_294_967_295))?;
-    expect(&rt, "most", most.as_str(), "4294967295");
-    let more = quorum_of(alloc, &Bson::Int64(4_294_967_296))?;
-    expect(&rt, "more", more.as_str(), "number out of range");
-    let less = quorum_of(alloc, &Bson::Int32(-1))?;
-    expect(&rt, "less", less.as_str(), "number out of range");
-    let flag = quorum_of(alloc, &Bson::Boolean(true))?;
-    expect(&rt, "flag", flag.as_str(), "number out of range");
-    Ok(())
+    are_read(&rt, rt.alloc(), COLLATIONS)
 }
 
 /// Each line is two words, and whether the values of these words are equal.
@@ -254,29 +251,51 @@ majority local false
 own own true
 own Own false";
 
-// Whether two words make the same of each kind of value, and all kinds agree on it.
-fn are_equal(alloc: Global, one: &str, other: &str) -> Result<Option<bool>, Error> {
-    let text = Bson::String(String::from_str(alloc, one)?);
-    let next = Bson::String(String::from_str(alloc, other)?);
-    let equal = ResumeToken::from_value(&text)? == ResumeToken::from_value(&next)?;
-    let quorums = CommitQuorum::from_value(&text)? == CommitQuorum::from_value(&next)?;
+// Whether two words make the same of each kind that is read of a word, and all agree on it.
+fn are_equal_words(alloc: Global, one: &str, other: &str) -> Result<Option<bool>, Error> {
     let reads = ReadConcern::from_word(alloc, one)? == ReadConcern::from_word(alloc, other)?;
     let writes = Acknowledgment::from_word(alloc, one)? == Acknowledgment::from_word(alloc, other)?;
     let hint = Hint::Name(String::from_str(alloc, one)?);
     let hints = hint == Hint::Name(String::from_str(alloc, other)?);
-    if quorums == equal && reads == equal && writes == equal && hints == equal {
-        Ok(Some(equal))
+    if reads == writes && hints == writes {
+        Ok(Some(writes))
     } else {
         Ok(None)
     }
+}
+
+// The same of each kind that is read of a value. The two values stand in a document.
+fn are_equal_values(pair: &Document) -> Result<Option<bool>, Error> {
+    let Some(one) = pair.get("one") else {
+        return Ok(None);
+    };
+    let Some(other) = pair.get("other") else {
+        return Ok(None);
+    };
+    let tokens = ResumeToken::from_value(one)? == ResumeToken::from_value(other)?;
+    let quorums = CommitQuorum::from_value(one)? == CommitQuorum::from_value(other)?;
+    if quorums == tokens {
+        Ok(Some(tokens))
+    } else {
+        Ok(None)
+    }
+}
+
+// Whether two words make the same of each kind of value, and all kinds agree on it.
+fn are_equal(alloc: Global, one: &str, other: &str) -> Result<Option<bool>, Error> {
+    let words = are_equal_words(alloc, one, other)?;
+    let pair = with_text(alloc, Document::new(alloc), "one", one)?;
+    let pair = with_text(alloc, pair, "other", other)?;
+    let values = are_equal_values(&pair)?;
+    if values == words { Ok(words) } else { Ok(None) }
 }
 
 #[test]
 fn equal_values(rt: HostRuntime) -> Result<(), Fail> {
     let alloc = rt.alloc();
     for line in EQUAL.lines() {
-        let (one, rest) = super::parted(line);
-        let (other, wanted) = super::parted(rest);
+        let (one, rest) = parted(line);
+        let (other, wanted) = parted(rest);
         let found = match are_equal(alloc, one, other) {
             Ok(Some(true)) => "true",
             Ok(Some(false)) => "false",
