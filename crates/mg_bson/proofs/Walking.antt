@@ -6,7 +6,7 @@ use Rattle.mg_bson.specs.declared.kind.Kind.TheVariants as kind
 use Rattle.mg_bson.specs.Reading.{◌>>=◌, Element, element_at, body_at, fields_at, doc_at}
 use Rattle.mg_bson.specs.Raw.{IsDocument, AreFields, IsValue}
 use Rattle.mg_bson.specs.Spans.{between, document_by, documents_within, documents_left, documents_inside}
-use Rattle.mg_bson.specs.Walks.{Walk, before, advanced, advanced_to, current_at, walk_at, IsWalk}
+use Rattle.mg_bson.specs.Walks.{Walk, before, advanced, advanced_to, current_at, front_of, passed_over, walk_at, without_front, IsWalk}
 use Rattle.mg_bson.proofs.Options.{bind_some, bind_same, some_there}
 use Rattle.mg_bson.proofs.Elements.{element_shorter, fields_at-front}
 use Rattle.mg_bson.proofs.Lending.{some_element, inner_document}
@@ -109,9 +109,9 @@ abbrev walk_of : List ℕ → Option (List ℕ) → List (List ℕ) → Walk
 walk_of whole current behind = record { whole = whole; current = current; behind = behind }
 
 -- what an advance leads to
-pub record WalksTo (whole : List ℕ) (begin next end from to : ℕ) : Type 0 where
-  pub walk : IsWalk whole from to end
-  pub state : walk_at whole from to end ≡ advanced (walk_at whole begin next end)
+pub record WalksTo (whole : List ℕ) (begin upto next end from to behind : ℕ) : Type 0 where
+  pub walk : IsWalk whole from to behind end
+  pub state : walk_at whole from to behind end ≡ advanced (walk_at whole begin upto next end)
 
 -- where the next document lies
 pub record HasRoom (upto value rest : ℕ) : Type 0 where
@@ -124,9 +124,9 @@ has_room whole next end e h is =
     record { behind = omega (arith, l.long, l.short); before = omega (arith, l.long, l.short) }
 
 -- the next document is a part of the bytes, and the current one
-pub walks_on : (whole : List ℕ) (begin next end from to : ℕ) (e : Element) → IsWalk whole begin next end → element_at (between next end whole) ≡ Some e
-    → to + length e.rest ≡ end → from + length e.value ≡ to → WalksTo whole begin next end from to × (is_some (current_at whole from to) ≡ true)
-walks_on whole begin next end from to e w is a b =
+pub walks_on : (whole : List ℕ) (begin upto next end from to : ℕ) (e : Element) → IsWalk whole begin upto next end → element_at (between next end whole) ≡ Some e
+    → to + length e.rest ≡ end → from + length e.value ≡ to → WalksTo whole begin upto next end from to to × (is_some (current_at whole from to) ≡ true)
+walks_on whole begin upto next end from to e w is a b =
     let left = between next end whole in
     let l = lies whole left end e (between_ends whole next end w.inside) is in
     let s = starts_with left e w.elements w.documents is in
@@ -136,15 +136,16 @@ walks_on whole begin next end from to e w is a b =
     let lt : ltb from to ≡ true = lt-ltb from to (omega arith) in
     let now : current_at whole from to ≡ Some e.value = ap (λ (t : Bool). cond t (Some (between from to whole)) None) lt ∙ ap Some here in
     let more : documents_left (between to end whole) ≡ Some s.others = ap documents_left behind ∙ s.left in
-    let walk : IsWalk whole from to end = record {
+    let walk : IsWalk whole from to to end = record {
       forward = omega arith;
+      before_next = omega arith;
       within = omega arith;
       inside = w.inside;
       document = λ _. subst IsDocument (sym here) s.is_document;
       elements = subst AreFields (sym behind) (some_element left e w.elements is).rest;
       documents = ap is_some more;
     } in
-    let state : walk_at whole from to end ≡ advanced (walk_at whole begin next end) =
+    let state : walk_at whole from to to end ≡ advanced (walk_at whole begin upto next end) =
     ap₂ (walk_of whole) now (ap (λ (o : Option (List (List ℕ))). unwrap_or o []) more)
     ∙ sym (ap (λ (o : Option (List (List ℕ))). advanced_to whole (unwrap_or o [])) s.all) in
     (record { walk = walk; state = state }, ap is_some now)
@@ -153,23 +154,73 @@ nothing_between : (whole : List ℕ) (at : ℕ) → current_at whole at at ≡ N
 nothing_between whole at = ap (λ (t : Bool). cond t (Some (between at at whole)) None) (le-ltb at at (omega arith))
 
 -- where none is left, none is current
-pub walks_out : (whole : List ℕ) (begin next end : ℕ) → IsWalk whole begin next end → element_at (between next end whole) ≡ None
-    → WalksTo whole begin next end next next × (is_some (current_at whole next next) ≡ false)
-walks_out whole begin next end w is =
+pub walks_out : (whole : List ℕ) (begin upto next end : ℕ) → IsWalk whole begin upto next end → element_at (between next end whole) ≡ None
+    → WalksTo whole begin upto next end upto upto next × (is_some (current_at whole upto upto) ≡ false)
+walks_out whole begin upto next end w is =
     let none : documents_left (between next end whole) ≡ Some [] = ap documents_left (no_more (between next end whole) w.elements is) ∙ documents_nil in
-    let now = nothing_between whole next in
-    let walk : IsWalk whole next next end = record {
+    let now = nothing_between whole upto in
+    let walk : IsWalk whole upto upto next end = record {
       forward = omega arith;
+      before_next = w.before_next;
       within = w.within;
       inside = w.inside;
       document = λ lt. absurd (omega arith);
       elements = w.elements;
       documents = w.documents;
     } in
-    let state : walk_at whole next next end ≡ advanced (walk_at whole begin next end) =
+    let state : walk_at whole upto upto next end ≡ advanced (walk_at whole begin upto next end) =
     ap₂ (walk_of whole) now (ap (λ (o : Option (List (List ℕ))). unwrap_or o []) none)
     ∙ sym (ap (λ (o : Option (List (List ℕ))). advanced_to whole (unwrap_or o [])) none) in
     (record { walk = walk; state = state }, ap is_some now)
+
+-- ---- the document behind the current one
+
+pub record HasFront (whole : List ℕ) (next end : ℕ) (e : Element) : Type 0 where
+  pub is_document : IsDocument e.value
+  pub front : Some e.value ≡ front_of (unwrap_or (documents_left (between next end whole)) [])
+
+pub has_front : (whole : List ℕ) (begin upto next end : ℕ) (e : Element) → IsWalk whole begin upto next end → element_at (between next end whole) ≡ Some e → HasFront whole next end e
+has_front whole begin upto next end e w is =
+    let s = starts_with (between next end whole) e w.elements w.documents is in
+    record { is_document = s.is_document; front = sym (ap (λ (o : Option (List (List ℕ))). front_of (unwrap_or o [])) s.all) }
+
+pub no_front : (whole : List ℕ) (begin upto next end : ℕ) → IsWalk whole begin upto next end → element_at (between next end whole) ≡ None → None ≡ front_of (unwrap_or (documents_left (between next end whole)) [])
+no_front whole begin upto next end w is =
+    sym (ap (λ (o : Option (List (List ℕ))). front_of (unwrap_or o [])) (ap documents_left (no_more (between next end whole) w.elements is) ∙ documents_nil))
+
+-- what leads past it
+pub record PassesTo (whole : List ℕ) (begin upto next end to : ℕ) : Type 0 where
+  pub walk : IsWalk whole begin upto to end
+  pub state : walk_at whole begin upto to end ≡ passed_over (walk_at whole begin upto next end)
+
+pub passes_on : (whole : List ℕ) (begin upto next end to : ℕ) (e : Element) → IsWalk whole begin upto next end → element_at (between next end whole) ≡ Some e → to + length e.rest ≡ end → PassesTo whole begin upto next end to
+passes_on whole begin upto next end to e w is a =
+    let left = between next end whole in
+    let l = lies whole left end e (between_ends whole next end w.inside) is in
+    let s = starts_with left e w.elements w.documents is in
+    let behind : between to end whole ≡ e.rest = ends_between whole e.rest end to l.rest a in
+    let more : documents_left (between to end whole) ≡ Some s.others = ap documents_left behind ∙ s.left in
+    let long = length-between whole next end w.inside in
+    let further : next ≤ to = omega (arith, l.long, long, w.within) in
+    record {
+      walk = record {
+        forward = w.forward;
+        before_next = omega (arith, w.before_next, further);
+        within = omega arith;
+        inside = w.inside;
+        document = w.document;
+        elements = subst AreFields (sym behind) (some_element left e w.elements is).rest;
+        documents = ap is_some more;
+      };
+      state = ap (walk_of whole (current_at whole begin upto)) (ap (λ (o : Option (List (List ℕ))). unwrap_or o []) more)
+          ∙ sym (ap (λ (o : Option (List (List ℕ))). walk_of whole (current_at whole begin upto) (without_front (unwrap_or o []))) s.all);
+    }
+
+pub passes_none : (whole : List ℕ) (begin upto next end : ℕ) → IsWalk whole begin upto next end → element_at (between next end whole) ≡ None → walk_at whole begin upto next end ≡ passed_over (walk_at whole begin upto next end)
+passes_none whole begin upto next end w is =
+    let none : documents_left (between next end whole) ≡ Some [] = ap documents_left (no_more (between next end whole) w.elements is) ∙ documents_nil in
+    let empty = ap (λ (o : Option (List (List ℕ))). unwrap_or o []) none in
+    ap (walk_of whole (current_at whole begin upto)) empty ∙ sym (ap (λ (ds : List (List ℕ)). walk_of whole (current_at whole begin upto) (without_front ds)) empty)
 
 -- ---- where it begins
 
@@ -186,15 +237,16 @@ begins_nowhere whole o elements e h =
       none (Some ds) h = absurd cc
       none None h = refl
 
-pub begins_at : (whole : List ℕ) (o : Option (List ℕ)) (from upto : ℕ) → Some (between from upto whole) ≡ option_and_then body_at o → is_some (documents_left (between from upto whole)) ≡ true → Some (walk_at whole from from upto) ≡ option_map (before whole) (option_and_then documents_inside o)
+pub begins_at : (whole : List ℕ) (o : Option (List ℕ)) (from upto : ℕ) → Some (between from upto whole) ≡ option_and_then body_at o → is_some (documents_left (between from upto whole)) ≡ true → Some (walk_at whole from from from upto) ≡ option_map (before whole) (option_and_then documents_inside o)
 begins_at whole o from upto e h =
     let there = some_there (documents_left (between from upto whole)) h in
     ap Some (ap₂ (walk_of whole) (nothing_between whole from) (ap (λ (x : Option (List (List ℕ))). unwrap_or x []) there.1))
     ∙ ap (option_map (before whole)) (sym there.1 ∙ ap (λ (x : Option (List ℕ)). x >>= documents_left) e ∙ sym (documents_in o))
 
-pub begins_right : (whole : List ℕ) (from upto : ℕ) → from ≤ upto → upto ≤ length whole → AreFields (between from upto whole) → is_some (documents_left (between from upto whole)) ≡ true → IsWalk whole from from upto
+pub begins_right : (whole : List ℕ) (from upto : ℕ) → from ≤ upto → upto ≤ length whole → AreFields (between from upto whole) → is_some (documents_left (between from upto whole)) ≡ true → IsWalk whole from from from upto
 begins_right whole from upto forward inside elements documents = record {
   forward = omega arith;
+  before_next = omega arith;
   within = forward;
   inside = inside;
   document = λ lt. absurd (omega arith);
@@ -205,8 +257,8 @@ begins_right whole from upto forward inside elements documents = record {
 -- ---- where it ends
 
 -- none is left just where both places are the same
-pub is_over : (whole : List ℕ) (begin next end : ℕ) → IsWalk whole begin next end → IsTrue (next == end) ↔ (unwrap_or (documents_left (between next end whole)) [] ≡ [])
-is_over whole begin next end w =
+pub is_over : (whole : List ℕ) (begin upto next end : ℕ) → IsWalk whole begin upto next end → IsTrue (next == end) ↔ (unwrap_or (documents_left (between next end whole)) [] ≡ [])
+is_over whole begin upto next end w =
     let long = length-between whole next end w.inside in
     let there = some_there (documents_left (between next end whole)) w.documents in
     let unwrapped : unwrap_or (documents_left (between next end whole)) [] ≡ there.0 = ap (λ (o : Option (List (List ℕ))). unwrap_or o []) there.1 in (

@@ -2,7 +2,7 @@
 ghost use Rattle.std.specs.Prelude.{◌≡◌, ◌↔◌, IsTrue, [], option_map, option_and_then, is_some};
 ghost use Rattle.mg_bson.specs.Raw.{fields, items};
 ghost use Rattle.mg_bson.specs.Spans.{array_inside, documents_inside, items_inside};
-ghost use Rattle.mg_bson.specs.Walks.{advanced, before};
+ghost use Rattle.mg_bson.specs.Walks.{advanced, before, front_of, passed_over};
 
 use crate::raw::{RawArray, RawDocument, RawDocumentBuf};
 use crate::read::split_element;
@@ -19,8 +19,9 @@ use std::marker::Model;
 #[derive(Debug)]
 pub struct RawDocuments {
     document: RawDocumentBuf,
-    // Where the current one begins. It ends at `next`, and there is none where both are the same.
+    // Where the current one begins and ends. There is none where both are the same.
     begin: usize,
+    upto: usize,
     // Where the elements behind it begin, and where they end.
     next: usize,
     end: usize,
@@ -32,6 +33,7 @@ impl Drop for RawDocuments {
         let RawDocuments {
             document: _,
             begin: _,
+            upto: _,
             next: _,
             end: _,
         } = self;
@@ -43,9 +45,9 @@ impl Model for RawDocuments {
 
     ghost Value = { Walk };
 
-    ghost view = { λ d. walk_at d.document d.begin d.next d.end };
+    ghost view = { λ d. walk_at d.document d.begin d.upto d.next d.end };
 
-    ghost invariant = { λ d. IsWalk d.document d.begin d.next d.end };
+    ghost invariant = { λ d. IsWalk d.document d.begin d.upto d.next d.end };
 }
 
 impl RawDocuments {
@@ -62,6 +64,7 @@ impl RawDocuments {
         Some(RawDocuments {
             document,
             begin: elements.from,
+            upto: elements.from,
             next: elements.from,
             end: elements.upto,
         })
@@ -75,14 +78,37 @@ impl RawDocuments {
     {
         let bytes = self.document.as_bytes();
         let Some(element) = split_element(&bytes[self.next..self.end], true) else {
-            self.begin = self.next;
+            self.begin = self.upto;
             return false;
         };
         let behind = element.rest.len();
         let len = element.value.len();
         self.next = self.end - behind;
+        self.upto = self.next;
         self.begin = self.next - len;
         true
+    }
+
+    /// The document behind the current one, a part of the document's own bytes.
+    pub fn front(&self) -> Option<RawDocument<'_>>
+        ensures { result ≡ front_of self.now.behind }
+    {
+        let bytes = self.document.as_bytes();
+        match split_element(&bytes[self.next..self.end], true) {
+            Some(element) => Some(RawDocument::checked(element.value)),
+            None => None,
+        }
+    }
+
+    /// Leaves out the document behind the current one, which stays the current one.
+    pub fn pass_over(&mut self)
+        ensures { self.new ≡ passed_over self.old }
+    {
+        let bytes = self.document.as_bytes();
+        if let Some(element) = split_element(&bytes[self.next..self.end], true) {
+            let behind = element.rest.len();
+            self.next = self.end - behind;
+        }
     }
 
     /// The current document, a part of the document's own bytes.
@@ -90,8 +116,8 @@ impl RawDocuments {
     pub fn current(&self) -> Option<RawDocument<'_>>
         ensures { result ≡ self.now.current }
     {
-        if self.begin < self.next {
-            let bytes = &self.document.as_bytes()[self.begin..self.next];
+        if self.begin < self.upto {
+            let bytes = &self.document.as_bytes()[self.begin..self.upto];
             Some(RawDocument::checked(bytes))
         } else {
             None
