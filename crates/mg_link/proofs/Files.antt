@@ -66,7 +66,7 @@ chunks_sized size bytes some = sized_behind size [] bytes some
 
 -- ---- the documents of collections
 
-abbrev documents_under : List Collection → Space → List Fields
+abbrev pub documents_under : List Collection → Space → List Fields
 documents_under cs space = unwrap_or (option_map (λ (c : Collection). c.documents) (collection_in cs space)) []
 
 found_or : (b : Bool) (c : Collection) (o : Option Collection)
@@ -102,7 +102,7 @@ removed_documents at (c ∷ cs) space other =
     ]
 
 -- a change that leaves no documents as they were, and what it leaves of documents of other collections
-changed_documents : (at : Space) (g : List Fields → List Fields) (cs : List Collection) (space : Space) → g [] ≡ [] → documents_under (change_documents at g cs) space ≡ (if is_space space at then g (documents_under cs space) else documents_under cs space)
+pub changed_documents : (at : Space) (g : List Fields → List Fields) (cs : List Collection) (space : Space) → g [] ≡ [] → documents_under (change_documents at g cs) space ≡ (if is_space space at then g (documents_under cs space) else documents_under cs space)
 changed_documents at g [] space none = elim (is_space space at) as (λ b. [] ≡ (if b then g [] else [])) [ true ↦ sym none | false ↦ refl ]
 changed_documents at g (c ∷ cs) space none =
     elim (cases_Bool (is_space at c.space)) [
@@ -131,7 +131,7 @@ changed_documents at g (c ∷ cs) space none =
 
 -- ---- what commands leave of documents
 
-with_no : (c : Condition) (d : Fields) (ds : List Fields) → meets c d ≡ false → filter (meets c) (d ∷ ds) ≡ filter (meets c) ds
+pub with_no : (c : Condition) (d : Fields) (ds : List Fields) → meets c d ≡ false → filter (meets c) (d ∷ ds) ≡ filter (meets c) ds
 with_no c d ds h = ap (λ (b : Bool). if b then d ∷ filter (meets c) ds else filter (meets c) ds) h
 
 with_same : (c : Condition) (d : Fields) (ds es : List Fields) → filter (meets c) ds ≡ filter (meets c) es → filter (meets c) (d ∷ ds) ≡ filter (meets c) (d ∷ es)

@@ -31,6 +31,8 @@ pub mod Later
 pub mod Timed
 pub mod Owners
 pub mod Pasts
+pub mod Spread
+pub mod Finds
 pub mod Calls
 pub mod Staying
 pub mod Adding
@@ -62,6 +64,9 @@ pub mod Identified
 pub mod Resuming
 pub mod Workings
 pub mod Files
+pub mod Filing
+pub mod Chunking
+pub mod Filed
 pub mod Batched
 pub mod Filling
 pub mod Sorting

@@ -106,7 +106,7 @@ pub record BackTo (calls : List Call) (call : Call) (history : List Step) (posit
 
 module _ (calls : List Call) (call : Call) (history : List Step) (stands : Stands (calls ++ call ∷ []) history) where
   -- every position of the log is at most that of its last call
-  highest : (position : ℕ) → call.position ≡ Some position → (k : ℕ) (c : Call) (p : ℕ) → slice_get (calls ++ call ∷ []) k ≡ Some c → c.position ≡ Some p → p ≤ position
+  pub highest : (position : ℕ) → call.position ≡ Some position → (k : ℕ) (c : Call) (p : ℕ) → slice_get (calls ++ call ∷ []) k ≡ Some c → c.position ≡ Some p → p ≤ position
   highest position placed k c p found at =
       elim (get_push calls call k c found) [
         | inl old ↦

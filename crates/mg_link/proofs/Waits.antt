@@ -10,7 +10,7 @@ IsFirstTry unsent = Unit {0}
 IsFirstTry (first ticket) = Unit {0}
 IsFirstTry (second ticket) = ⊥
 
-held_first : (stage : Stage) → IsFirstTry stage → (ticket : ℕ) → holding stage ticket ≡ first ticket
+pub held_first : (stage : Stage) → IsFirstTry stage → (ticket : ℕ) → holding stage ticket ≡ first ticket
 held_first unsent h ticket = refl
 held_first (first old) h ticket = refl
 held_first (second old) h ticket = absurd h

@@ -48,3 +48,4 @@ pub mod Session
 pub mod Pinned
 pub mod Moment
 pub mod Reader
+pub mod Filing

@@ -9,7 +9,8 @@ use Rattle.mg_link.specs.Follow.{CameAs}
 use Rattle.mg_link.specs.History.{Step, IsLegal, state_of, told_at}
 use Rattle.mg_link.specs.Log.{Call, reply}
 use Rattle.mg_link.specs.Link as link
-use Rattle.mg_link.specs.Owner.{Owner, Holds, Passes}
+use Rattle.mg_link.specs.Exec.{Stage, unsent, first, second}
+use Rattle.mg_link.specs.Owner.{Owner, Holds, Passes, nobody}
 use Rattle.mg_link.specs.Standing.{Stands}
 
 -- what it waits for: the number is the place in the log of its getMore, where the log is told
@@ -176,6 +177,17 @@ pub record KnowsFinding (calls : List Call) (q : Query) (place : Option ℕ) : T
   pub owned : Holds calls (finder place)
   pub queries : (k : ℕ) (call : Call) → place ≡ Some k → slice_get calls k ≡ Some call → asked call.command ≡ asks_query q
   pub coming : (history : List Step) → IsLegal history → Stands calls history → (position : ℕ) (step : Step) → CameAs calls history place position step → AfterFind history q position (told_at step)
+
+-- the same, by how far the command has come
+abbrev pub FindingAt : link.Awaited → List Call → Query → Stage → Type 0
+FindingAt awaited calls q unsent = Unit {0}
+FindingAt awaited calls q (first ticket) = KnowsFinding calls q (awaited ticket)
+FindingAt awaited calls q (second ticket) = KnowsFinding calls q (awaited ticket)
+
+abbrev pub finder_at : link.Awaited → Stage → Owner
+finder_at awaited unsent = nobody
+finder_at awaited (first ticket) = finder (awaited ticket)
+finder_at awaited (second ticket) = finder (awaited ticket)
 
 -- the reader behind the first batch, where the command stands at this place of the log
 abbrev pub opened_at : Query → ℕ → Batch → Reader
