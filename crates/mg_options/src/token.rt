@@ -41,10 +41,18 @@ impl Model for ResumeToken {
     ghost view = { λ t. tree t.value };
 }
 
+// Where a lent token lies.
+#[derive(Drop)]
+enum Lent<'a> {
+    Value(&'a Bson),
+    // In a received document, whose copies take their memory from here.
+    Raw(Global, RawValue<'a>),
+}
+
 /// A token that is lent.
 #[derive(Drop)]
 pub struct TokenRef<'a> {
-    value: &'a Bson,
+    lent: Lent<'a>,
 }
 
 impl<'a> Model for TokenRef<'a> {
@@ -55,9 +63,9 @@ impl<'a> Model for TokenRef<'a> {
 
     ghost coded = { coded_tree };
 
-    ghost use Rattle.mg_bson.specs.View.{tree};
+    ghost use Rattle.mg_options.specs.Tokens.{lent_tree};
 
-    ghost view = { λ t. tree t.value.now };
+    ghost view = { λ t. lent_tree t.lent };
 }
 
 impl ResumeToken {
@@ -92,7 +100,9 @@ impl ResumeToken {
     pub fn as_ref(&self) -> TokenRef<'_>
         ensures { result ≡ self.now }
     {
-        TokenRef { value: &self.value }
+        TokenRef {
+            lent: Lent::Value(&self.value),
+        }
     }
 
     /// The token of a new stream: that of its first batch where this is empty and has one, else the one that the
@@ -119,13 +129,24 @@ impl ResumeToken {
 }
 
 impl<'a> TokenRef<'a> {
+    /// The token that has this value of a received document. It takes no memory.
+    pub fn from_raw(alloc: Global, value: RawValue<'a>) -> TokenRef<'a>
+        ensures { result ≡ raw_value value.entry }
+    {
+        TokenRef {
+            lent: Lent::Raw(alloc, value),
+        }
+    }
+
     /// A copy that owns its value. Only memory can fail.
     pub fn to_owned(&self) -> Result<ResumeToken, Error>
         ensures ok { IfOk result (λ t. t ≡ self.now) }
         ensures err { IfErr result (λ e. e ≡ plain kinds.OutOfMemory) }
     {
-        let value = self.value.clone()?;
-        Ok(ResumeToken { value })
+        match &self.lent {
+            Lent::Value(value) => ResumeToken::from_value(value),
+            Lent::Raw(alloc, value) => ResumeToken::from_raw(*alloc, value),
+        }
     }
 }
 
