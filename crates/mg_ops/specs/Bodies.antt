@@ -2,7 +2,7 @@
 use Rattle.std.specs.Prelude.{◌++◌, ℕ, ℤ, pos, true, false, Bool, List, [], ◌∷◌, Option, Some, None, option_map, min, ◌^◌, ◌-◌, ◌+◌, int_lt, ◌&&◌, if◌then◌else◌, codes}
 use Rattle.std.specs.Ordering.{int_eq}
 use Rattle.std.specs.Str.{bytes_eq}
-use Rattle.mg_bson.specs.Tree.{string, document, array, int32, Fields, no_fields, field, item}
+use Rattle.mg_bson.specs.Tree.{string, document, array, int32, Fields, Items, no_fields, field, item}
 use Rattle.mg_bson.specs.Find.{names}
 use Rattle.mg_link.specs.Namespace.{Space, Target}
 use Rattle.mg_link.specs.Session.{Session}
@@ -179,15 +179,19 @@ abbrev pub is_ordered : Option Bool → Bool
 is_ordered None = true
 is_ordered (Some asked) = asked
 
--- inserts documents
-abbrev pub insert_body : Space → List Fields → InsertManyOptions → Option Session → List Line
-insert_body space documents o session =
+-- inserts the documents of an array
+abbrev pub insert_lines : Space → Items → InsertManyOptions → Option Session → List Line
+insert_lines space documents o session =
     "insert" ⟼ text space.coll
-    ⨾ "documents" ⟼ shown (array (listed document documents))
+    ⨾ "documents" ⟼ shown (array documents)
     ⨾ "ordered" ⟼ always (is_ordered o.ordered)
     ⨾ "bypassDocumentValidation" ⟼ flag o.bypass_document_validation
     ⨾ "comment" ⟼ value o.comment
     ⨾ behind_write space.db session o.write_concern
+
+-- inserts documents
+abbrev pub insert_body : Space → List Fields → InsertManyOptions → Option Session → List Line
+insert_body space documents o session = insert_lines space (listed document documents) o session
 
 -- the same without options and a session, which inserts up to the first document that fails
 abbrev pub insert_command : Space → List Fields → Fields

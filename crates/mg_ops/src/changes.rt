@@ -85,8 +85,8 @@ fn counts_of(reply: &RawDocument<'_>) -> Result<UpdateCounts, Fault>
     Ok(UpdateCounts { matched, modified })
 }
 
-// Reads the reply to a deletion.
-fn read_deleted(alloc: Global, reply: &RawDocument<'_>) -> Result<u64, Error>
+/// Reads the reply to a deletion: how many documents were removed, or what failed.
+pub fn read_deleted(alloc: Global, reply: &RawDocument<'_>) -> Result<u64, Error>
     ensures ok { IfOk result (λ n. Wrote (count_of (fields reply.now)) (fields reply.now) n) }
     ensures err { IfErr result (λ e. FailsBy (FailedAs (count_of (fields reply.now)) (fields reply.now)) e) }
 {

@@ -1,18 +1,23 @@
 //! Inserts.
-ghost use Rattle.std.specs.Prelude.{◌≡◌, OnOk, IfErr, length};
+ghost use Rattle.std.specs.Prelude.{◌≡◌, ◌⊎◌, OnOk, IfOk, IfErr, None, length};
 ghost use Rattle.mg_bson.specs.Bytes.{bytes};
+ghost use Rattle.mg_bson.specs.Raw.{fields};
 ghost use Rattle.mg_link.specs.Errors.{plain};
+ghost use Rattle.mg_link.specs.Namespace.{space};
 ghost use Rattle.mg_link.specs.declared.error.ErrorKind.TheVariants as kinds;
-ghost use Rattle.mg_ops.specs.Failing.{CannotBeInserted, FailsBy};
+ghost use Rattle.mg_options.specs.Fields.{Refuses, fields_in, first_unfit};
+ghost use Rattle.mg_ops.specs.Bodies.{insert_body, insert_lines};
+ghost use Rattle.mg_ops.specs.Failing.{CannotBeInserted, CannotBeSent, CannotInsert, FailsBy};
 ghost use Rattle.mg_ops.specs.Limits.{AreStorable, IsStorable, MayInsert, PassesLimit, SomePassLimit, max_stored};
 
-use crate::body::{Listed, body};
+use crate::body::{Listed, append_all, body};
 use crate::entry::Entry;
-use crate::insert_reply::read_reply;
-use crate::operation::Operation;
-use mg_bson::{Document, RawDocumentBuf};
+use crate::insert_reply::read_inserted;
+use crate::operation::{Operation, written};
+use crate::parts::documents_array;
+use mg_bson::{Array, Bson, Document, RawDocumentBuf};
 use mg_link::{BadArgument, ClientSession, Error, ErrorKind, Namespace, Retry, plain};
-use mg_options::{InsertManyOptions, Value};
+use mg_options::{InsertManyOptions, Value, put_given};
 use std::alloc::Global;
 
 /// The most documents of one command.
@@ -40,6 +45,64 @@ impl Drop for Insert {
             options: _,
         } = self;
     }
+}
+
+impl Insert {
+    /// The bytes of its command, without a session. Its documents are used up, and none is copied but into these bytes.
+    pub fn into_bytes(self, alloc: Global) -> Result<RawDocumentBuf, Error>
+        ensures bytes { IfOk result (λ r. r ≡ bytes (fields_in (insert_body (space self.ns) self.documents.items self.options None))) }
+        ensures read_back { IfOk result (λ r. fields r ≡ fields_in (insert_body (space self.ns) self.documents.items self.options None)) }
+        ensures sound { OnOk result (MayInsert self.documents.items) }
+        ensures err { IfErr result (λ e. FailsBy (λ e. CannotInsert (first_unfit (insert_body (space self.ns) self.documents.items self.options None)) self.documents.items e
+            ⊎ CannotBeSent (fields_in (insert_body (space self.ns) self.documents.items self.options None)) e) e) }
+    {
+        check(&self.documents)?;
+        let Insert {
+            ns,
+            documents,
+            options,
+        } = self;
+        let documents = documents_array(alloc, documents)?;
+        array_bytes(alloc, &ns, documents, &options)
+    }
+}
+
+// The bytes of the command that inserts the documents of an array.
+fn array_bytes<'a>(
+    alloc: Global,
+    ns: &'a Namespace,
+    documents: Array,
+    o: &'a InsertManyOptions,
+) -> Result<RawDocumentBuf, Error>
+    ensures bytes { IfOk result (λ r. r ≡ bytes (fields_in (insert_lines (space ns.now) documents o.now None))) }
+    ensures read_back { IfOk result (λ r. fields r ≡ fields_in (insert_lines (space ns.now) documents o.now None)) }
+    ensures err { IfErr result (λ e. FailsBy (λ e. Refuses (first_unfit (insert_lines (space ns.now) documents o.now None)) e
+        ⊎ CannotBeSent (fields_in (insert_lines (space ns.now) documents o.now None)) e) e) }
+{
+    let mut command = Document::new(alloc);
+    put_given(alloc, &mut command, &[("insert", Entry::Text(&ns.coll))])?;
+    command.append("documents", Bson::Array(documents))?;
+    append_all(
+        alloc,
+        &mut command,
+        &Listed {
+            list: &[
+                ("ordered", Entry::Ordered(o.ordered)),
+                (
+                    "bypassDocumentValidation",
+                    Entry::Option(Value::Flag(o.bypass_document_validation)),
+                ),
+                ("comment", Entry::Option(Value::Any(&o.comment))),
+            ],
+        },
+        Entry::Text(&ns.db),
+        None,
+        &[(
+            "writeConcern",
+            Entry::Option(Value::WriteConcern(&o.write_concern)),
+        )],
+    )?;
+    written(alloc, &command)
 }
 
 // Refuses a document that cannot be stored.
@@ -142,6 +205,6 @@ impl Operation for Insert {
     }
 
     fn read(&self, alloc: Global, reply: RawDocumentBuf) -> Result<u64, Error> {
-        read_reply(alloc, &reply.as_raw(), self.documents.len())
+        read_inserted(alloc, &reply.as_raw(), self.documents.len())
     }
 }

@@ -166,8 +166,8 @@ pub(crate) fn failures_of(
     add_concern_error(alloc, failures, index, reply)
 }
 
-// Reads the reply to an insert of so many documents: how many were written, or what failed.
-pub(crate) fn read_reply(alloc: Global, reply: &RawDocument<'_>, count: usize) -> Result<u64, Error>
+/// Reads the reply to an insert of so many documents: how many were written, or what failed.
+pub fn read_inserted(alloc: Global, reply: &RawDocument<'_>, count: usize) -> Result<u64, Error>
     ensures ok { IfOk result (λ n. Inserted count (fields reply.now) n) }
     ensures err { IfErr result (λ e. FailsBy (NotInserted count (fields reply.now)) e) }
 {

@@ -1,5 +1,5 @@
 //! The insert of a list of documents, cut into commands.
-ghost use Rattle.std.specs.Prelude.{◌≡◌, ◌≢◌, ◌<◌, ◌≤◌, ◌+◌, None, length, slice_get, IfErr, IfOk, IfSome};
+ghost use Rattle.std.specs.Prelude.{◌≡◌, ◌≢◌, ◌⊎◌, ◌<◌, ◌≤◌, ◌+◌, ◌*◌, None, length, slice_get, IfErr, IfOk, IfSome};
 ghost use Rattle.std.specs.Option.{option_flatten};
 ghost use Rattle.mg_link.specs.Namespace.{space};
 ghost use Rattle.mg_link.specs.Acts.{EndsAtOnce, FailsByFault, IsOut, Pended, Tickets, ticket_after};
@@ -10,7 +10,7 @@ ghost use Rattle.mg_link.specs.declared.error.ErrorKind.TheVariants as kinds;
 ghost use Rattle.mg_link.proofs.Killing.{PassesPlain};
 ghost use Rattle.mg_ops.specs.Failing.{CannotBeSent, FailsBy};
 ghost use Rattle.mg_ops.specs.Limits.{max_documents};
-ghost use Rattle.mg_ops.specs.InsertCauses.{CannotEncode, CannotGoOn, FitTogether, HearsCaused, InsertCaused, IsBuilt, IsLength, NextCaused};
+ghost use Rattle.mg_ops.specs.InsertCauses.{CannotEncode, CannotGoOn, FitTogether, HearsCaused, InsertCaused, IsBuilt, IsLength, NextCaused, max_batch};
 ghost use Rattle.mg_ops.specs.Inserts.{HeardAtOnce, HeardLost, HeardPends, HeardPlain, HeldPlain, IsPlain, NextFewer, NextNotIo, NextPlain, NextTicket, SendsPlain, StepPlain, heard_ticket, insert_ticket, left_of};
 ghost use Rattle.mg_ops.specs.Drawn.{AreLater, lacking, lacks, sent_for, with_ids};
 ghost use Rattle.mg_ops.specs.Underway.{GivesCount, HearsSent, Inserts, IsBatch, IsNextOf, IsSameList, IsStarted, SendsNext, sent_of, with_id};
@@ -24,6 +24,27 @@ use std::alloc::Global;
 
 /// The most bytes of the documents of one insert command together.
 const MAX_BATCH: usize = 47_000_000;
+
+/// How many documents of so many bytes each one command inserts: at least one, at most 100,000, and else as many as have at most
+/// 47,000,000 bytes together.
+pub fn documents_together(length: usize) -> usize
+    ensures some { 1 ≤ result }
+    ensures few { result ≤ max_documents }
+    ensures together { (result * length ≤ max_batch) ⊎ (result ≡ 1) }
+    ensures most { (max_batch < (result + 1) * length) ⊎ (result ≡ max_documents) }
+{
+    if length == 0 {
+        return MAX_DOCUMENTS;
+    }
+    let fitting = MAX_BATCH / length;
+    if fitting == 0 {
+        return 1;
+    }
+    if fitting > MAX_DOCUMENTS {
+        return MAX_DOCUMENTS;
+    }
+    fitting
+}
 
 /// The documents of one command, and how many of the list it and the earlier ones hold.
 #[derive(Drop)]

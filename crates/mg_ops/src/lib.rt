@@ -32,7 +32,7 @@ mod write_reply;
 
 pub use aggregate::ChangeStreamAggregate;
 pub use change_stream::{ChangeStreamData, WatchArgs};
-pub use changes::{Delete, Update, UpdateCounts};
+pub use changes::{Delete, Update, UpdateCounts, read_deleted};
 pub use collections::{Create, CreateIndexes, DropCollection};
 pub use cursor_reply::{
     CursorInformation, CursorReply, CursorSpecification, GetMoreResult, doc_slices, read_more,
@@ -41,7 +41,8 @@ pub use fault::check_reply;
 pub use find::Find;
 pub use get_more::GetMore;
 pub use insert::Insert;
-pub use inserting::Inserting;
+pub use insert_reply::read_inserted;
+pub use inserting::{Inserting, documents_together};
 pub use kill_cursors::KillCursors;
 pub use lists::{ListCollections, ListIndexes};
 pub use mg_link::OperationTarget;
@@ -50,3 +51,4 @@ pub use pipelines::Aggregate;
 pub use raw_output::RawOutput;
 pub use resuming::{initial_operation_time, resume_options};
 pub use run_commands::{RunCommand, RunCursorCommand};
+pub use write_reply::check_written;

@@ -59,7 +59,7 @@ pub trait Operation {
 }
 
 // The bytes of a command.
-fn written(alloc: Global, command: &Document) -> Result<RawDocumentBuf, Error>
+pub(crate) fn written(alloc: Global, command: &Document) -> Result<RawDocumentBuf, Error>
     ensures bytes { IfOk result (λ r. r ≡ bytes command.now) }
     ensures read_back { IfOk result (λ r. fields r ≡ command.now) }
     ensures writable { OnOk result (IsWritable command.now) }

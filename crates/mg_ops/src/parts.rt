@@ -13,6 +13,7 @@ ghost use Rattle.mg_ops.specs.Limits.{SizeFits};
 use mg_bson::{Array, Bson, Document};
 use mg_link::{BadArgument, Error, ErrorKind, plain};
 use std::alloc::Global;
+use std::collections::VecDeque;
 
 pub(crate) fn text(alloc: Global, text: &str) -> Result<Bson, Error>
     ensures ok { IfOk result (λ v. tree v ≡ string text.now) }
@@ -50,6 +51,19 @@ pub(crate) fn put_documents(array: &mut Array, documents: &[Document]) -> Result
         put_document(array, value)?;
     }
     Ok(())
+}
+
+// The documents as an array. None is copied.
+pub(crate) fn documents_array(alloc: Global, documents: Vec<Document>) -> Result<Array, Error>
+    ensures ok { IfOk result (λ a. a ≡ listed document documents.items) }
+    ensures err { IfErr result (λ e. e ≡ plain kinds.OutOfMemory) }
+{
+    let mut array = Array::new(alloc);
+    let mut left = VecDeque::from_vec(documents);
+    'documents: while let Some(document) = left.pop_front() {
+        array.push(Bson::Document(document))?;
+    }
+    Ok(array)
 }
 
 fn put_id(array: &mut Array, id: i64) -> Result<(), Error>

@@ -10,8 +10,8 @@ use mg_bson::RawDocument;
 use mg_link::{Error, ErrorKind, WriteFailure, plain};
 use std::alloc::Global;
 
-// Refuses a reply that lists a failure: with the first of them.
-pub(crate) fn check_written(alloc: Global, reply: &RawDocument<'_>) -> Result<(), Error>
+/// Refuses the reply to a write that lists a failure: with the first of them.
+pub fn check_written(alloc: Global, reply: &RawDocument<'_>) -> Result<(), Error>
     ensures ok { OnOk result (failures_of 0 (fields reply.now) ≡ Ok []) }
     ensures err { IfErr result (λ e. FailsBy (WriteFails (fields reply.now)) e) }
 {
