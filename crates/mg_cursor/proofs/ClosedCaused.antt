@@ -24,7 +24,7 @@ use Rattle.mg_cursor.proofs.Keeping.{IsPolled, polled_on}
 -- ---- a later time
 
 module _ (past past' : Past) (grows : Grows past past') (k : ClosingCursor) where
-  left_grows : (c : ClientCursor) → LeftBy past k c → LeftBy past' k c
+  pub left_grows : (c : ClientCursor) → LeftBy past k c → LeftBy past' k c
   left_grows c (same landed is) = same landed is
   left_grows c (given bytes said h says is) =
       given bytes said (record { session = h.session; heard = heard_reply past past' grows (get_more k.cursor h.session) bytes h.heard; success = h.success }) says is
@@ -42,7 +42,7 @@ Killed new log' wire k calls places since r = (calls' : List Call) × (log' ≡ 
 
 module _ (new : Awaited) (past : Past) (k : ClosingCursor) (c : ClientCursor) (left : LeftBy past k c) (may : MayAsk c) where
   -- the killCursors came to this
-  kill_came : (old : Awaited) (log log' : Told) (wire : ℤ) (sending : Sending) (came : Step Sending (List ℕ)) (r : Step ClosingCursor (Unit {0})) → Runs old new log log' wire sending came → Came new past (kill c) false came → KillHears c came r → ClosingCame new past k r
+  pub kill_came : (old : Awaited) (log log' : Told) (wire : ℤ) (sending : Sending) (came : Step Sending (List ℕ)) (r : Step ClosingCursor (Unit {0})) → Runs old new log log' wire sending came → Came new past (kill c) false came → KillHears c came r → ClosingCame new past k r
   kill_came old log log' wire sending (step.Pending waiting) r runs came h = subst (ClosingCame new past k) (sym h) (came, inr left)
   kill_came old log log' wire sending (step.Done bytes) r runs came h =
       subst (ClosingCame new past k) (sym h) (killed c left may bytes (heard_by past (kill c) false (reply bytes) came) (success_ran old new log log' wire sending bytes runs))

@@ -4,19 +4,21 @@ use Rattle.std.specs.Prelude.{if◌then◌else◌}
 use Rattle.std.proofs.lemmas.Bool.{iff_false}
 use Rattle.mg_bson.specs.Walks.{Walk, advanced, advanced_to}
 use Rattle.mg_link.specs.Errors.{plain}
+use Rattle.mg_link.specs.Exec.{Sending}
 use Rattle.mg_link.specs.Pinned.{is_invalid}
 use Rattle.mg_link.specs.Session.{Session, after_command}
 use Rattle.mg_link.specs.declared.error.Error.{Error}
 use Rattle.mg_link.specs.declared.error.ErrorKind.TheVariants as kind
 use Rattle.mg_link.specs.declared.error.Malformed.{Malformed}
 use Rattle.mg_records.specs.Readings.{FailsToRead}
-use Rattle.mg_cursor.specs.Client.{ClientCursor, HasNext, HoldsItems, IsOver}
+use Rattle.mg_cursor.specs.Client.{ClientCursor, HasNext, HoldsItems, IsOver, MayAsk, asks, holds, rests}
 use Rattle.mg_cursor.specs.Documents.{DocumentCursor, HasMore, ReadsAs, ReadsBy}
 use Rattle.mg_cursor.specs.Seeking.{CopiesIf, one_if, session_moved, times}
 use Rattle.mg_cursor.specs.View.{AdvancesBy, behind_of, current_in, behind_in}
 use Rattle.mg_cursor.specs.declared.buffer.BatchBuffer.{BatchBuffer}
 use Rattle.mg_cursor.specs.declared.polls.ItemPoll.{ItemPoll}
 use Rattle.mg_cursor.specs.declared.polls.ItemPoll.TheVariants as item
+use Rattle.mg_cursor.proofs.Hearing.{may_ask}
 
 -- ---- an advance inside a batch
 
@@ -97,6 +99,24 @@ over_lost c lost open_still is = (λ t. inr (sym is ∙ t), λ h. is ∙ only h)
     only : IsOver c → is_invalid c.pinned ≡ true
     only (inl ended) = absurd (open_still ended)
     only (inr invalid) = invalid
+
+-- ---- what is asked for next
+
+pub holds_still : (reply : List ℕ) → holds reply ≡ rests → ⊥
+holds_still reply h = cc
+
+pub asks_already : (sending : Sending) → asks sending ≡ rests → ⊥
+asks_already sending h = cc
+
+pub not_to_ask : (c : ClientCursor) → IsOver c → IsTrue false ↔ ((c.doing ≡ rests) × MayAsk c)
+not_to_ask c over = (λ bad. absurd cc, λ h. absurd (may_not h.1 over))
+  where
+    may_not : MayAsk c → IsOver c → ⊥
+    may_not may (inl ended) = may.held ended
+    may_not may (inr lost) = let bad : true ≡ false = sym lost ∙ may.reached in cc
+
+pub to_ask : (c : ClientCursor) (over : Bool) → (IsTrue over ↔ IsOver c) → over ≡ false → c.doing ≡ rests → IsTrue true ↔ ((c.doing ≡ rests) × MayAsk c)
+to_ask c over means not quiet = (λ t. (quiet, may_ask c over means not), λ h. refl)
 
 -- ---- what may follow
 

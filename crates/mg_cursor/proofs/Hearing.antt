@@ -86,7 +86,7 @@ ended_rested : (ended : Bool) (c : ClientCursor) → at_rest (unless_ended ended
 ended_rested true c = refl
 ended_rested false c = refl
 
-behind_rested : (k : ErrorKind) (c : ClientCursor) → at_rest (behind_kind k (at_rest c)) ≡ at_rest (behind_kind k c)
+pub behind_rested : (k : ErrorKind) (c : ClientCursor) → at_rest (behind_kind k (at_rest c)) ≡ at_rest (behind_kind k c)
 behind_rested kind.Io c = refl
 behind_rested (kind.Command refusal) c = ended_rested (ends_cursor refusal.code) c
 behind_rested _ c = refl

@@ -43,6 +43,9 @@ pub record IsPolled (c : ClientCursor) (session : Option Session) (sending : Sen
   pub at : IsFirstTry sending.stage
   pub may : MayAsk c
 
+first_try : (stage : Stage) (ticket : ℕ) → stage ≡ first ticket → IsFirstTry stage
+first_try stage ticket is = subst IsFirstTry (sym is) tt
+
 sound_read : (plain : Bool) (c c' : ClientCursor) (reply : List ℕ) (r : NextPoll) → ReadsReply c reply c' r → IsSound plain c'
 sound_read plain c c' reply r (gave said read is answer) = subst (IsSound plain) (sym is) tt
 sound_read plain c c' reply r (broke e fails is answer) = subst (IsSound plain) (sym is) tt
@@ -50,20 +53,17 @@ sound_read plain c c' reply r (broke e fails is answer) = subst (IsSound plain) 
 pub sound_heard : (plain : Bool) (old new : Awaited) (log log' : Told) (wire : ℤ) (session : Option Session) (c c' : ClientCursor) (sending : Sending) (came : Step Sending (List ℕ)) (r : NextPoll) → PlainIf plain session → IsPolled c session sending → Runs old new log log' wire sending came → Hears c came c' r → IsSound plain c'
 sound_heard plain old new log log' wire session c c' sending (step.Pending next) r plainly is runs h =
     let w = waits_still old new log log' wire sending next is.single is.at runs in
-    let waits_on : WaitsFor (get_more c session) next = record { command_is = ap fields w.same_command ∙ is.command_is; single = w.same_retries ∙ is.single; ticket = w.ticket; waits_by = w.waits_by } in
+    let waits_on : WaitsFor (get_more c session) next = record { command_is = ap fields w.same_command ∙ is.command_is; single = w.same_retries ∙ is.single; first_try = first_try next.stage w.ticket w.waits_by } in
     subst (IsSound plain) (sym h.0) (record { session = session; plainly = plainly; waits_on = waits_on; may = record { held = is.may.held; reached = is.may.reached } })
 sound_heard plain old new log log' wire session c c' sending (step.Done reply) r plainly is runs h = sound_read plain c c' reply r h
 sound_heard plain old new log log' wire session c c' sending (step.Failed e) r plainly is runs h = subst (IsSound plain) (sym h.0) tt
-
-first_try : (stage : Stage) (ticket : ℕ) → stage ≡ first ticket → IsFirstTry stage
-first_try stage ticket is = subst IsFirstTry (sym is) tt
 
 -- a getMore on its way, as it is polled
 pub polled_on : (plain : Bool) (c : ClientCursor) (sending : Sending) (h : IsAsking plain c sending) → IsPolled c h.session sending
 polled_on plain c sending h = record {
   command_is = h.waits_on.command_is;
   single = h.waits_on.single;
-  at = first_try sending.stage h.waits_on.ticket h.waits_on.waits_by;
+  at = h.waits_on.first_try;
   may = h.may;
 }
 
@@ -93,6 +93,12 @@ at_first unsent not = tt
 at_first (first ticket) not = tt
 at_first (second ticket) not = absurd (not ticket refl)
 
+-- nor is one at its first attempt there
+not_second : (stage : Stage) → IsFirstTry stage → (ticket : ℕ) → stage ≢ second ticket
+not_second unsent h ticket e = let bad : unsent ≡ second ticket = e in cc
+not_second (first n) h ticket e = let bad : first n ≡ second ticket = e in cc
+not_second (second n) h ticket e = absurd h
+
 -- a killCursors that was built, or waits, is to be sent
 pub to_kill_new : (c : ClientCursor) (sending : Sending) → c.doing ≡ rests → MayAsk c → IsNew (kill c) sending → IsToKill c sending
 to_kill_new c sending is may h = record {
@@ -107,7 +113,7 @@ pub to_kill : (c : ClientCursor) (sending : Sending) → IsKilling c sending →
 to_kill c sending h = record {
   command_is = h.waits_on.command_is;
   single = h.waits_on.single;
-  first_try = λ ticket e. let bad : first h.waits_on.ticket ≡ second ticket = sym h.waits_on.waits_by ∙ e in cc;
+  first_try = not_second sending.stage h.waits_on.first_try;
   may = h.may;
   at_end = h.at_end;
 }
@@ -117,7 +123,7 @@ pub kills_still : (old new : Awaited) (log log' : Told) (wire : ℤ) (c : Client
 kills_still old new log log' wire c sending next is runs =
     let w = waits_still old new log log' wire sending next is.single (at_first sending.stage is.first_try) runs in
     record {
-      waits_on = record { command_is = ap fields w.same_command ∙ is.command_is; single = w.same_retries ∙ is.single; ticket = w.ticket; waits_by = w.waits_by };
+      waits_on = record { command_is = ap fields w.same_command ∙ is.command_is; single = w.same_retries ∙ is.single; first_try = first_try next.stage w.ticket w.waits_by };
       may = is.may;
       at_end = is.at_end;
     }

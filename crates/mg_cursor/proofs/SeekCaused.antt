@@ -36,7 +36,7 @@ more_rested past c bytes h = record { session = h.session; heard = h.heard; succ
 more_unrested : (past : Past) (c : ClientCursor) (bytes : List ℕ) → HeardMore past (at_rest c) bytes → HeardMore past c bytes
 more_unrested past c bytes h = record { session = h.session; heard = h.heard; success = h.success }
 
-fails_rested : (past : Past) (c : ClientCursor) (e : Error) → MoreFails past c e → MoreFails past (at_rest c) e
+pub fails_rested : (past : Past) (c : ClientCursor) (e : Error) → MoreFails past c e → MoreFails past (at_rest c) e
 fails_rested past c e h = record { session = h.session; fails = h.fails }
 
 heard_unrested : (past : Past) (c : ClientCursor) (replies : List (List ℕ)) (at : ClientCursor) → AreHeard past (at_rest c) replies at → AreHeard past c replies at
@@ -49,29 +49,29 @@ module _ (past past' : Past) (grows : Grows past past') where
   more_grows : (c : ClientCursor) (bytes : List ℕ) → HeardMore past c bytes → HeardMore past' c bytes
   more_grows c bytes h = record { session = h.session; heard = heard_reply past past' grows (get_more c h.session) bytes h.heard; success = h.success }
 
-  fails_grow : (c : ClientCursor) (e : Error) → MoreFails past c e → MoreFails past' c e
+  pub fails_grow : (c : ClientCursor) (e : Error) → MoreFails past c e → MoreFails past' c e
   fails_grow c e h = record { session = h.session; fails = request_fails_grows past past' grows (get_more c h.session) false TellsNoCursor e h.fails }
 
-  heard_grow : (c : ClientCursor) (replies : List (List ℕ)) (at : ClientCursor) → AreHeard past c replies at → AreHeard past' c replies at
+  pub heard_grow : (c : ClientCursor) (replies : List (List ℕ)) (at : ClientCursor) → AreHeard past c replies at → AreHeard past' c replies at
   heard_grow c [] at h = h
   heard_grow c (bytes ∷ more) at h = (h.0, more_grows c bytes h.1, h.2, heard_grow (behind_reply h.0 c) more at h.3)
 
-  last_grow : (c : ClientCursor) (bytes : List ℕ) → LastBatch past c bytes → LastBatch past' c bytes
+  pub last_grow : (c : ClientCursor) (bytes : List ℕ) → LastBatch past c bytes → LastBatch past' c bytes
   last_grow c bytes (in_hand at) = in_hand at
   last_grow c bytes (heard replies at are more) = heard replies at (heard_grow c replies at are) (more_grows at bytes more)
 
-  seek_fails_grow : (session : Option Session) (d : DocumentCursor) (e : Error) → SeekFails past session d e → SeekFails past' session d e
+  pub seek_fails_grow : (session : Option Session) (d : DocumentCursor) (e : Error) → SeekFails past session d e → SeekFails past' session d e
   seek_fails_grow session d e (out_of_memory is) = out_of_memory is
   seek_fails_grow session d e (not_built replies at starts are cannot) = not_built replies at starts (heard_grow d.cursor replies at are) cannot
   seek_fails_grow session d e (no_batch replies at are fails) = no_batch replies at (heard_grow d.cursor replies at are) (fails_grow at e fails)
   seek_fails_grow session d e (broken bytes last breaks) = broken bytes (last_grow d.cursor bytes last) breaks
   seek_fails_grow session d e (too_many bytes last none is) = too_many bytes (last_grow d.cursor bytes last) none is
 
-  passes_grow : (bytes : List ℕ) (c c' : ClientCursor) → Passes (HeardMore past c bytes) bytes c c' → Passes (HeardMore past' c bytes) bytes c c'
+  pub passes_grow : (bytes : List ℕ) (c c' : ClientCursor) → Passes (HeardMore past c bytes) bytes c c' → Passes (HeardMore past' c bytes) bytes c c'
   passes_grow bytes c c' (was_held at is) = was_held at is
   passes_grow bytes c c' (by_reply said h says is) = by_reply said (more_grows c bytes h) says is
 
-  underway_grow : (awaited : Awaited) (c : ClientCursor) (doing : Doing) → UnderwayBy awaited past c doing → UnderwayBy awaited past' c doing
+  pub underway_grow : (awaited : Awaited) (c : ClientCursor) (doing : Doing) → UnderwayBy awaited past c doing → UnderwayBy awaited past' c doing
   underway_grow awaited c rests h = tt
   underway_grow awaited c (holds bytes) h = tt
   underway_grow awaited c (asks sending) h = record { session = h.session; command_is = h.command_is; flies = flies_grows past past' grows awaited awaited (get_more c h.session) sending.stage (λ n e. refl) h.flies }
@@ -82,7 +82,7 @@ module _ (past past' : Past) (grows : Grows past past') where
   came_grows awaited session d d' (failed e) h = seek_fails_grow session d e h
 
 -- a call that is seen from an earlier place on
-since_grows : (places : List ℕ) (since since' : ℕ) (calls : List Call) (wire : ℤ) → since ≤ since' → Grows (past_of places since' calls wire) (past_of places since calls wire)
+pub since_grows : (places : List ℕ) (since since' : ℕ) (calls : List Call) (wire : ℤ) → since ≤ since' → Grows (past_of places since' calls wire) (past_of places since calls wire)
 since_grows places since since' calls wire le = record { own = λ place call there own. earlier place own; keeps = same_keeps calls; wire = refl }
   where
     earlier : (place : ℕ) → IsOwn (past_of places since' calls wire) place → IsOwn (past_of places since calls wire) place
@@ -108,7 +108,7 @@ AdvanceCame awaited past session d d' try.Pending = IsUnderway awaited past d'.c
 AdvanceCame awaited past session d d' (try.Ready a) = AdvanceGave past d d' a
 AdvanceCame awaited past session d d' (try.Failed e) = SeekFails past session d e
 
-last_of : (past : Past) (c : ClientCursor) (bytes : List ℕ) → (c.doing ≡ holds bytes) ⊎ HeardMore past c bytes → LastBatch past c bytes
+pub last_of : (past : Past) (c : ClientCursor) (bytes : List ℕ) → (c.doing ≡ holds bytes) ⊎ HeardMore past c bytes → LastBatch past c bytes
 last_of past c bytes (inl at) = in_hand at
 last_of past c bytes (inr h) = heard [] (at_rest c) refl (more_rested past c bytes h)
 
@@ -161,15 +161,15 @@ tries_caused old new log log' wire session started d d' r sound h = λ calls tol
 -- ---- a call with many
 
 -- what is heard behind a batch that was handed out is heard behind it and that batch
-record HeardBefore (past : Past) (c at : ClientCursor) : Type 0 where
-  replies : List (List ℕ)
-  are : AreHeard past c replies at
+pub record HeardBefore (past : Past) (c at : ClientCursor) : Type 0 where
+  pub replies : List (List ℕ)
+  pub are : AreHeard past c replies at
 
-heard_before : (past : Past) (bytes : List ℕ) (c c' : ClientCursor) (replies : List (List ℕ)) (at : ClientCursor) → Passes (HeardMore past c bytes) bytes c c' → AreHeard past c' replies at → HeardBefore past c at
+pub heard_before : (past : Past) (bytes : List ℕ) (c c' : ClientCursor) (replies : List (List ℕ)) (at : ClientCursor) → Passes (HeardMore past c bytes) bytes c c' → AreHeard past c' replies at → HeardBefore past c at
 heard_before past bytes c c' replies at (was_held held is) are = record { replies = replies; are = heard_unrested past c replies at (subst (λ (x : ClientCursor). AreHeard past x replies at) is are) }
 heard_before past bytes c c' replies at (by_reply said h says is) are = record { replies = bytes ∷ replies; are = (said, h, says, subst (λ (x : ClientCursor). AreHeard past x replies at) is are) }
 
-last_before : (past : Past) (bytes : List ℕ) (c c' : ClientCursor) (b : List ℕ) → Passes (HeardMore past c bytes) bytes c c' → LastBatch past c' b → LastBatch past c b
+pub last_before : (past : Past) (bytes : List ℕ) (c c' : ClientCursor) (b : List ℕ) → Passes (HeardMore past c bytes) bytes c c' → LastBatch past c' b → LastBatch past c b
 last_before past bytes c c' b passes (in_hand held) = let bad : rests ≡ holds b = sym (passes_rest (HeardMore past c bytes) bytes c c' passes) ∙ held in absurd cc
 last_before past bytes c c' b passes (heard replies at are more) = let before = heard_before past bytes c c' replies at passes are in heard before.replies at before.are more
 
@@ -212,7 +212,7 @@ ended_came awaited past session d e d' (try.Failed f) r came ends = subst (λ (x
 sound_rest : (c : ClientCursor) → c.doing ≡ rests → IsSound false c
 sound_rest c is = subst (SoundBy false c) (sym is) tt
 
-underway_rest : (awaited : Awaited) (past : Past) (c : ClientCursor) → c.doing ≡ rests → IsUnderway awaited past c
+pub underway_rest : (awaited : Awaited) (past : Past) (c : ClientCursor) → c.doing ≡ rests → IsUnderway awaited past c
 underway_rest awaited past c is = subst (UnderwayBy awaited past c) (sym is) tt
 
 -- the rest of the polls, seen from where the call was before an empty batch

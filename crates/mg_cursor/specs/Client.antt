@@ -1,10 +1,10 @@
 -- A cursor as its client keeps it (find, getMore and killCursors specification).
-use Rattle.std.specs.Prelude.{◌≡◌, ◌≢◌, ◌⊎◌, ℕ, ℤ, pos, Bool, true, false, List, [], ◌∷◌, Option, None, if◌then◌else◌}
+use Rattle.std.specs.Prelude.{◌≡◌, ◌≢◌, ◌⊎◌, ℕ, ℤ, pos, Bool, true, false, List, [], ◌∷◌, Option, Some, None, if◌then◌else◌}
 use Rattle.std.specs.Ordering.{int_eq}
 use Rattle.mg_bson.specs.Bytes.{bytes}
 use Rattle.mg_bson.specs.Raw.{fields}
 use Rattle.mg_bson.specs.Tree.{Tree, Fields}
-use Rattle.mg_link.specs.Exec.{Sending, unsent, first, ticket_of}
+use Rattle.mg_link.specs.Exec.{Sending, unsent, ticket_of}
 use Rattle.mg_link.specs.Namespace.{Space, space}
 use Rattle.mg_link.specs.Pinned.{invalidated, is_invalid}
 use Rattle.mg_link.specs.Session.{Session}
@@ -14,6 +14,7 @@ use Rattle.mg_link.specs.declared.error.ErrorKind.{ErrorKind}
 use Rattle.mg_link.specs.declared.error.ErrorKind.TheVariants as kind
 use Rattle.mg_link.specs.declared.pinned.PinnedConnection.{PinnedConnection}
 use Rattle.mg_link.specs.declared.pinned.PinnedConnection.TheVariants as connection
+use Rattle.mg_link.proofs.Waits.{IsFirstTry}
 use Rattle.mg_ops.specs.Commands.{kill_command}
 use Rattle.mg_ops.specs.Cursors.{Cursor, Manner, manner_of, next_command}
 use Rattle.mg_ops.specs.Sessions.{in_session}
@@ -122,12 +123,11 @@ pub record IsNew (command : Fields) (sending : Sending) : Type 0 where
   pub single : sending.retries ≡ false
   pub new : sending.stage ≡ unsent
 
--- a command that waits for its reply, and is not sent again (retryable reads: a getMore and a killCursors are not retried)
+-- a command that is built, or waits for its reply, and is not sent again (retryable reads: a getMore and a killCursors are not retried)
 pub record WaitsFor (command : Fields) (sending : Sending) : Type 0 where
   pub command_is : fields sending.command ≡ command
   pub single : sending.retries ≡ false
-  pub ticket : ℕ
-  pub waits_by : sending.stage ≡ first ticket
+  pub first_try : IsFirstTry sending.stage
 
 -- its getMore is on its way
 pub record IsAsking (plain : Bool) (c : ClientCursor) (sending : Sending) : Type 0 where
@@ -144,6 +144,22 @@ SoundBy plain c (asks sending) = IsAsking plain c sending
 -- what is on its way is the getMore of the cursor
 abbrev pub IsSound : Bool → ClientCursor → Type 0
 IsSound plain c = SoundBy plain c c.doing
+
+-- with its getMore, which is built or on its way
+abbrev pub asking_by : Sending → ClientCursor → ClientCursor
+asking_by sending c = record c { doing = asks sending }
+
+-- the reply in hand
+abbrev pub reply_in : Doing → Option (List ℕ)
+reply_in rests = None
+reply_in (holds reply) = Some reply
+reply_in (asks sending) = None
+
+-- without it
+abbrev pub without_reply : Doing → Doing
+without_reply rests = rests
+without_reply (holds reply) = rests
+without_reply (asks sending) = asks sending
 
 -- ---- new cursors
 

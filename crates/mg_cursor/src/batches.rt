@@ -1,16 +1,17 @@
 //! The batches of a cursor, one machine for all cursors.
-ghost use Rattle.std.specs.Prelude.{◌≡◌, ◌↔◌, IfErr, IfOk, IsTrue, Bool, None, false, pos, if◌then◌else◌};
+ghost use Rattle.std.specs.Prelude.{◌≡◌, ◌↔◌, IfErr, IfOk, IsTrue, OnErr, OnOk, Bool, None, false, option_copied, pos, if◌then◌else◌};
 ghost use Rattle.mg_bson.specs.Tree.{Items};
 ghost use Rattle.mg_link.specs.Acts.{IsOut};
-ghost use Rattle.mg_link.specs.Exec.{ticket_of};
+ghost use Rattle.mg_link.specs.Exec.{Sending, ticket_of};
 ghost use Rattle.mg_link.specs.Moment.{LinkKeeps, moment};
+ghost use Rattle.mg_link.specs.Namespace.{space};
 ghost use Rattle.mg_link.specs.Reader.{ReadMoved, Reader};
 ghost use Rattle.mg_ops.specs.Failing.{CannotBeSent, FailsBy};
 ghost use Rattle.mg_ops.specs.Naming.{IsNamed};
 ghost use Rattle.mg_cursor.specs.Causes.{NextCaused};
-ghost use Rattle.mg_cursor.specs.Client.{HasNext, HoldsItems, IsNew, IsOver, IsSound, PlainIf, behind_kind, behind_reply, client_ticket, kill, new_client, pinned_behind, pinned_to};
+ghost use Rattle.mg_cursor.specs.Client.{HasNext, HoldsItems, IsNew, IsOver, IsSound, MayAsk, PlainIf, asking_by, behind_kind, behind_reply, client_ticket, get_more, kill, new_client, pinned_behind, pinned_to, reply_in, rests, without_reply};
 ghost use Rattle.mg_cursor.specs.Closing.{LandsIn, closed};
-ghost use Rattle.mg_cursor.specs.Polling.{Hears, PollsNext, ReadsReply, RunsMore, next_ending};
+ghost use Rattle.mg_cursor.specs.Polling.{CannotAsk, Hears, PollsNext, ReadsReply, RunsMore, next_ending};
 ghost use Rattle.mg_cursor.specs.Reading.{reader_in, told_next};
 ghost use Rattle.mg_cursor.specs.View.{client_of, doing_of, told_by};
 
@@ -20,7 +21,10 @@ use crate::fault::ends_cursor;
 use crate::polls::NextPoll;
 use crate::raw_batch::RawBatch;
 use mg_bson::RawDocumentBuf;
-use mg_link::{Action, ClientSessionHandle, Error, Exec, Link, PinnedConnection, Step};
+use mg_link::{
+    Action, ClientSession, ClientSessionHandle, Error, Exec, Link, Namespace, PinnedConnection,
+    Step,
+};
 use mg_ops::{CursorInformation, CursorSpecification, GetMoreResult, read_more};
 use mg_options::{ResumeToken, TokenRef};
 use std::alloc::Global;
@@ -36,8 +40,8 @@ pub(crate) enum Flight {
     More(Exec),
 }
 
-/// The batches of a cursor, which are asked for one by one. All cursors are made of it, and it is public for streams that are to
-/// stand on it; how they hold their session is handed to each call.
+/// The batches of a cursor, which are asked for one by one. All cursors are made of it, and it is public for streams that stand
+/// on it; how they hold their session is handed to each call.
 pub struct Batches {
     alloc: Global,
     // The cursor, whose id is 0 where the server holds it no longer.
@@ -122,6 +126,49 @@ impl Batches {
         }
     }
 
+    /// Whether a getMore is to be built: nothing is in hand or on its way, the server holds the cursor, and the connection that it is bound to was
+    /// not lost.
+    pub fn is_to_ask(&self) -> bool
+        ensures { IsTrue result ↔ (((client_of self.now).doing ≡ rests) × MayAsk (client_of self.now)) }
+    {
+        if self.is_over() {
+            return false;
+        }
+        match &self.flight {
+            Flight::Nothing => true,
+            Flight::Reply(_) => false,
+            Flight::More(_) => false,
+        }
+    }
+
+    /// Builds the getMore, which the next call of [`poll_next`](Batches::poll_next) or [`land`](Batches::land), or the first poll of a closing,
+    /// sends. It fails with a size of batches or a command that cannot be sent, or for want of memory, and then nothing has changed.
+    pub fn prepare(&mut self, session: Option<&ClientSession>, wire: i32) -> Result<(), Error>
+        requires { ((client_of self.old).doing ≡ rests) × MayAsk (client_of self.old) }
+        ensures built { OnOk result ((sending : Sending) × IsNew (get_more (client_of self.old) (option_copied session.entry)) sending × (client_of self.new ≡ asking_by sending (client_of self.old))) }
+        ensures err { IfErr result (λ e. FailsBy (CannotAsk (client_of self.old) (option_copied session.entry)) e) }
+        ensures stays { OnErr result (client_of self.new ≡ client_of self.old) }
+    {
+        let exec = ask(self.alloc, &self.cursor, wire, session)?;
+        self.flight = Flight::More(exec);
+        Ok(())
+    }
+
+    /// Hands out the reply in hand, where there is one. Nothing is sent.
+    pub fn take_batch(&mut self) -> Option<RawBatch>
+        ensures batch { result ≡ reply_in (client_of self.old).doing }
+        ensures rest { client_of self.new ≡ record (client_of self.old) { doing = without_reply (client_of self.old).doing } }
+    {
+        match self.take() {
+            Flight::Nothing => None,
+            Flight::Reply(batch) => Some(batch),
+            Flight::More(exec) => {
+                self.flight = Flight::More(exec);
+                None
+            }
+        }
+    }
+
     /// Whether the server may hold more, or the reply in hand holds documents.
     pub fn has_next(&self) -> bool
         ensures { IsTrue result ↔ HasNext (client_of self.now) }
@@ -139,6 +186,20 @@ impl Batches {
         self.cursor.id == 0
     }
 
+    /// The id of the cursor, 0 where the server holds it no longer.
+    pub fn id(&self) -> i64
+        ensures { result ≡ (client_of self.now).id }
+    {
+        self.cursor.id
+    }
+
+    /// The namespace that its commands name.
+    pub fn namespace(&self) -> &Namespace
+        ensures { space result.now ≡ (client_of self.now).space }
+    {
+        &self.cursor.ns
+    }
+
     /// The token behind the newest batch.
     pub fn token(&self) -> Option<TokenRef<'_>>
         ensures { result ≡ (client_of self.now).token }
@@ -147,6 +208,14 @@ impl Batches {
             Some(token) => Some(token.as_ref()),
             None => None,
         }
+    }
+
+    /// Takes that token out. It takes no memory.
+    pub fn take_token(&mut self) -> Option<ResumeToken>
+        ensures token { result ≡ (client_of self.old).token }
+        ensures rest { client_of self.new ≡ record (client_of self.old) { token = None } }
+    {
+        self.token.take()
     }
 
     /// The number of the ticket that it holds, while it waits for a reply.
@@ -173,7 +242,7 @@ impl Batches {
         Closing::new(self)
     }
 
-    // Whether no command of it is sent any more.
+    /// Whether no command of it is sent any more: the server holds it no longer, or the connection that it is bound to was lost.
     pub(crate) fn is_over(&self) -> bool
         ensures { IsTrue result ↔ IsOver (client_of self.now) }
     {
@@ -191,8 +260,9 @@ impl Batches {
         kill(self.alloc, &self.cursor, wire)
     }
 
-    // Waits for the reply to the getMore that is on its way; where none is, a reply in hand is let go.
-    pub(crate) fn land<L: Link>(&mut self, link: &mut L) -> NextPoll
+    /// Waits for the reply to the getMore that is on its way, and sends one that was built. Where there is none, a reply in hand is let go, and
+    /// nothing more comes. It fails as [`poll_next`](Batches::poll_next) does.
+    pub fn land<L: Link>(&mut self, link: &mut L) -> NextPoll
         requires { IsOut (L.awaited link.old) (client_ticket (client_of self.old)) }
         // The tickets of others, the counts, the wire version and the promptness of the link.
         ensures keeps { LinkKeeps (moment (L.awaited link.old) (L.log link.old) (L.faults link.old) (L.pends link.old) (L.wire link.old) (L.prompt link.old))

@@ -1,6 +1,7 @@
 //! The documents of the batch in hand.
 ghost use Rattle.std.specs.Prelude.{◌≡◌, ◌↔◌, IfErr, IsTrue, OnErr, OnOk, [], None, Some};
 ghost use Rattle.mg_cursor.specs.Batches.{BreaksBatch, documents_of};
+ghost use Rattle.mg_bson.specs.Walks.{front_of, without_front};
 ghost use Rattle.mg_cursor.specs.View.{AdvancesBy, behind_of, current_of, reply_of};
 
 use crate::raw_batch::RawBatch;
@@ -59,6 +60,28 @@ impl BatchBuffer {
         match &mut self.batch {
             Some(documents) => documents.advance(),
             None => false,
+        }
+    }
+
+    /// The document behind the current one, a part of the reply's own bytes.
+    pub fn front(&self) -> Option<RawDocument<'_>>
+        ensures { result ≡ front_of (behind_of self.now) }
+    {
+        match &self.batch {
+            Some(documents) => documents.front(),
+            None => None,
+        }
+    }
+
+    /// Leaves out the document behind the current one, which stays the current one.
+    pub fn pass_over(&mut self)
+        ensures current { current_of self.new ≡ current_of self.old }
+        ensures behind { behind_of self.new ≡ without_front (behind_of self.old) }
+        ensures reply { reply_of self.new ≡ reply_of self.old }
+    {
+        match &mut self.batch {
+            Some(documents) => documents.pass_over(),
+            None => {}
         }
     }
 

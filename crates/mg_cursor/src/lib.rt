@@ -2,7 +2,7 @@
 //!
 //! A [`RawBatchCursor`] gives the replies to its getMores one by one, a [`Cursor`] the documents in them; a [`SessionRawBatchCursor`]
 //! and a [`SessionCursor`] do the same in a session. A document is lent from the reply that it came in. [`Batches`] and
-//! [`BatchBuffer`] are what these types are made of; they are public for streams that are to stand on them. A [`Closing`] kills a cursor that the server holds still.
+//! [`BatchBuffer`] are what these types are made of; they are public for streams that stand on them. A [`Closing`] kills a cursor that the server holds still.
 #![tactic(auto)]
 
 mod batches;
