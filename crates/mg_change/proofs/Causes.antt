@@ -1,673 +1,493 @@
--- What the answers of a change stream are caused by, step by step.
-use Rattle.std.proofs.Common.{◌≡◌, ℕ, ◌≤◌, ℤ, pos, Bool, true, false, List, [], ◌∷◌, length, map, Option, Some, None, Ok, refl, sym, ap, ◌∙◌, subst, inl, inr, arith}
-use Rattle.std.specs.Prelude.{◌≢◌}
-use Rattle.mg_bson.specs.Tree.{Tree, Fields, Items}
+-- What the steps of a change stream are caused by.
+use Rattle.std.proofs.Common.{◌≡◌, ◌≢◌, ◌⊎◌, ◌≤◌, ℕ, ℤ, pos, Bool, true, false, List, [], length, Option, Some, None, refl, sym, ap, ◌∙◌, subst, inl, inr}
 use Rattle.mg_bson.specs.Raw.{fields}
-use Rattle.mg_link.specs.Calls.{Flies, HeardLast, NoneBroken, Past, RequestFails, out_of_memory, past_of, was_broken, was_lost, was_refused}
-use Rattle.mg_link.specs.Errors.{plain, command_code}
-use Rattle.mg_link.specs.Exec.{IsSuccess, Runs, Sending, Stage, unsent}
-use Rattle.mg_link.specs.Link.{Awaited, Told}
-use Rattle.mg_link.specs.Log.{Sight, reply, fault, Call}
-use Rattle.mg_link.specs.Namespace.{space}
+use Rattle.mg_link.specs.Calls.{Came, Flies, Grows, HeardLast, Keeps, NoneBroken, Past, RequestFails, out_of_memory, past_of, was_broken}
+use Rattle.mg_link.specs.Errors.{plain}
+use Rattle.mg_link.specs.Exec.{IsSuccess, Runs, Sending, Stage}
+use Rattle.mg_link.specs.Link.{Awaited, SendsNothing, Told}
+use Rattle.mg_link.specs.Log.{Call, reply}
 use Rattle.mg_link.specs.Resumable.{is_resumable}
+use Rattle.mg_link.specs.Session.{Session}
 use Rattle.mg_link.specs.declared.action.Step.{Step}
 use Rattle.mg_link.specs.declared.action.Step.TheVariants as step
 use Rattle.mg_link.specs.declared.error.Error.{Error}
-use Rattle.mg_link.specs.declared.error.ErrorKind.{ErrorKind}
 use Rattle.mg_link.specs.declared.error.ErrorKind.TheVariants as kind
-use Rattle.mg_link.specs.declared.error.Malformed.TheVariants as malformed
-use Rattle.mg_link.proofs.Calls.{RequestRan, request_ran, success_ran}
-use Rattle.mg_link.proofs.Pasts.{fails_anyhow, heard_by, heard_last}
-use Rattle.mg_ops.proofs.Watching.{manner_read}
-use Rattle.mg_ops.specs.Cursors.{BreaksIn, Gave, batch_at, asking_command, manner_of, OpensWith, watch_manner}
-use Rattle.mg_ops.specs.Failing.{CannotBeSent, FailsBy}
+use Rattle.mg_link.specs.Pinned.{is_invalid}
+use Rattle.mg_link.specs.declared.pinned.PinnedConnection.TheVariants as connection
+use Rattle.mg_link.proofs.Calls.{request_ran, same_keeps, success_ran}
+use Rattle.mg_link.proofs.Execs.{runs_of}
+use Rattle.mg_link.proofs.Owners.{same_some}
+use Rattle.mg_link.proofs.Pasts.{fails_anyhow, heard_by}
+use Rattle.mg_ops.specs.Failing.{FailsBy}
 use Rattle.mg_ops.specs.declared.aggregate.ChangeStreamAggregate.{ChangeStreamAggregate}
-use Rattle.mg_ops.specs.declared.cursor_reply.CursorInformation.{CursorInformation}
-use Rattle.mg_ops.specs.declared.cursor_reply.CursorSpecification.{CursorSpecification}
-use Rattle.mg_ops.specs.declared.cursor_reply.GetMoreResult.{GetMoreResult}
-use Rattle.mg_ops.specs.declared.get_more.GetMore.{GetMore}
-use Rattle.mg_ops.proofs.Unread.{unread_fails}
-use Rattle.mg_change.specs.Batches.{HoldsBatch}
-use Rattle.mg_change.specs.Causes.{BreaksBatch, ByPhase, CallCame, CallCaused, CallEmpty, CallFailed, CallFails, CannotBuild, FailCause, FailLeads, HasBadItem, HeardMore, IsOwing, IsSettled, IsStart, KillCause, Killed, MayAsk, MayLose, MoreFails, MoreLeads, Next, OweLeads, Replied, Resumed, ResumeLeads, Resumes, SoFar, Standing, Stays, StepCalled, StepCame, StepCaused, StepLeads, TakeCause, TellsCursor, TellsNoCursor, Unkept, Unpopped, again, as_it_was, asking, bad_item, broken, came, came_empty, cannot_ask, cannot_resume, cursor_behind, first_broken, first_in, in_hand, keeping, killing, left, may_lose, more, more_command, more_failed, no_batch, no_id, no_memory, none, none_left, not_resumed, old_command, opening, owed, owes_in, refused_more, remembered_by, remembered_empty, resume_command, resuming, standing_of, token_behind, tried, unanswered_in, unbuilt, unheld, unread, untold}
-use Rattle.mg_change.specs.Following.{buffered}
-use Rattle.mg_change.specs.Phases.{AtRest, Carries, IsAsking, IsKilling, left_with, remembering, resuming_command}
-use Rattle.mg_change.specs.Polls.{ends_cursor}
-use Rattle.mg_change.specs.declared.counts.Counts.{Counts}
-use Rattle.mg_change.specs.declared.event_poll.EventPoll.{EventPoll}
-use Rattle.mg_change.specs.declared.event_poll.EventPoll.TheVariants as poll
+use Rattle.mg_cursor.specs.Batches.{BreaksBatch, bad_item, no_batch}
+use Rattle.mg_cursor.specs.Causes.{HeardMore, MoreFails, TellsNoCursor}
+use Rattle.mg_cursor.specs.Client.{ClientCursor, IsOver, MayAsk, PlainIf, asks, at_rest, behind_failure, behind_reply, get_more, holds, kill, reply_in, rests}
+use Rattle.mg_cursor.specs.Client as cursors
+use Rattle.mg_cursor.specs.Closing.{ClosesBy, ClosingCursor, ClosingPolls, ClosingUnderwayBy, IsClosing, IsClosingUnderway, IsLanded, IsNotAsking, KillHears, KillRuns, KillsCursor, LandedBy, begins as kill_begins, goes_on as kill_goes_on, kills as kill_sends, lands as kill_lands, not_built, nothing_left}
+use Rattle.mg_cursor.specs.Polling.{CannotAsk, Hears, ReadsReply, broke as unread, gave as read}
+use Rattle.mg_cursor.specs.declared.polls.NextPoll.{NextPoll}
+use Rattle.mg_cursor.specs.declared.polls.TryPoll.{TryPoll}
+use Rattle.mg_cursor.specs.declared.polls.TryPoll.TheVariants as try
+use Rattle.mg_cursor.specs.declared.results.AdvanceResult.{AdvanceResult}
+use Rattle.mg_cursor.specs.declared.results.AdvanceResult.TheVariants as result
+use Rattle.mg_cursor.proofs.Hearing.{behind_broken, behind_rested}
+use Rattle.mg_change.specs.Causes.{ByCursor, ByDoing, CallEmpty, CallFailed, CallFails, HoldsFirst, IsRenewed, IsReplaced, IsSettled, IsStart, Killed, MayAskMore, MoreFailed, Next, Replied, Resumed, Resumes, SoFar, as_it_was, asking, batch_broken, broken as more_broken, came, came_empty, cannot_ask, cannot_resume, closing, first_broken, is_lone, left, may_lose, more, more_failed, no_memory as lacks_memory, none_held, none_left, not_resumed as fails_to_resume, once_more, opening, owed, refused_more, resuming, tried, untold, was_killed}
+use Rattle.mg_change.specs.ClientStreams.{ClientStream, Doing, FollowsBy, IsSound, SoundBy, follows, is_read_again, is_renewed, kills, owes, owing_with, remembered_empty, renewed, resumes, resuming_in, with_cursor}
+use Rattle.mg_change.specs.Steps.{AsksMore, CannotResume, DoesStep, FailsMore, HearsClosing, HearsResumption, LooksAt, OpensBy, ReadsResumption, RunsResumption, TakesMore, asks_more, broke, broken, closes, emptied, ends, final, finds, gave, goes_on, looks, no_memory, none as nothing_there, not_asked, not_resumed, renews, replaced_by, resumes_now, some as next_there, waits_more, waits_resumption}
 use Rattle.mg_change.specs.declared.event_poll.Stepped.{Stepped}
 use Rattle.mg_change.specs.declared.event_poll.Stepped.TheVariants as stepped
-use Rattle.mg_change.specs.declared.stream.ChangeStream.{ChangeStream}
-use Rattle.mg_change.specs.declared.stream.Phase.{Phase}
-use Rattle.mg_change.specs.declared.stream.Phase.TheVariants as phase
+use Rattle.mg_change.proofs.Garbled.{still_waits}
 use Rattle.mg_change.proofs.Growing.{resumed_grows, resumes_grows}
+
+-- ---- what a step comes to
+
+-- an event is next
+pub record FoundSo (past : Past) (lone : Bool) (at s : ClientStream) : Type 0 where
+  pub same : s.aggregate ≡ at.aggregate
+  pub next : Next past lone at s.behind s.cursor
+  pub settled : IsSettled s
+  pub some : s.behind ≢ []
+
+abbrev pub AnswerCame : Past → Bool → ClientStream → Bool → ClientStream → AdvanceResult (Unit {0}) → Type 0
+AnswerCame past lone at again s (result.Advanced t) = ⊥
+AnswerCame past lone at again s result.Exhausted = CallEmpty past lone at s false × (at.cursor.id ≡ pos 0) × (again ≡ false)
+AnswerCame past lone at again s result.Waiting = CallEmpty past lone at s again
+
+abbrev pub GivenCame : Awaited → Past → Option Session → ClientStream → Bool → ClientStream → TryPoll → Type 0
+GivenCame awaited past session at again s try.Pending = SoFar awaited past (is_lone session) at s
+GivenCame awaited past session at again s (try.Ready a) = AnswerCame past (is_lone session) at again s a
+GivenCame awaited past session at again s (try.Failed e) = CallFailed past session at s e
+
+abbrev pub StepCame : Awaited → Past → Option Session → ClientStream → Bool → ClientStream → Stepped → Type 0
+StepCame awaited past session at again s stepped.Goes = SoFar awaited past (is_lone session) at s
+StepCame awaited past session at again s stepped.Found = FoundSo past (is_lone session) at s
+StepCame awaited past session at again s (stepped.Gives p) = GivenCame awaited past session at again s p
+
+-- a step of a call that had sent at these places, and from this one on
+pub record StepCalled (new : Awaited) (places : List ℕ) (since : ℕ) (calls : List Call) (log' : Told) (wire : ℤ) (session : Option Session) (at : ClientStream) (again : Bool) (s' : ClientStream) (r : Stepped) : Type 0 where
+  pub calls' : List Call
+  pub told : log' ≡ Some calls'
+  pub room : since ≤ length calls'
+  pub keeps : Keeps calls calls'
+  pub came : StepCame new (past_of places since calls' wire) session at again s' r
+
+came_as : (awaited : Awaited) (past : Past) (session : Option Session) (at : ClientStream) (again : Bool) (s s' : ClientStream) (r r' : Stepped) → s' ≡ s → r' ≡ r → StepCame awaited past session at again s r → StepCame awaited past session at again s' r'
+came_as awaited past session at again s s' r r' is answer h = subst (λ (x : Stepped). StepCame awaited past session at again s' x) (sym answer) (subst (λ (x : ClientStream). StepCame awaited past session at again x r) (sym is) h)
 
 -- ---- errors
 
--- a stream resumes after it
-abbrev resumes : Error → Bool
-resumes e = is_resumable e.kind e.labels e.wire_version
+kind_of_plain : (e : Error) → e ≡ plain kind.OutOfMemory → e.kind ≡ kind.OutOfMemory
+kind_of_plain e is = ap (λ (x : Error). x.kind) is
 
-not_both : (b : Bool) → b ≡ true → b ≡ false → ⊥
-not_both b so not = let bad : true ≡ false = sym so ∙ not in cc
+-- a batch that breaks its grammar is one behind which a stream resumes
+batch_resumes : (bytes : List ℕ) (e : Error) → BreaksBatch bytes e → is_resumable e.kind e.labels e.wire_version ≡ true
+batch_resumes bytes e (no_batch none_in how) = ap (λ (x : Error). is_resumable x.kind x.labels x.wire_version) how.error
+batch_resumes bytes e (bad_item batch at none error) = ap (λ (x : Error). is_resumable x.kind x.labels x.wire_version) error
 
-memory_stays : (e : Error) → e.kind ≡ kind.OutOfMemory → resumes e ≡ false
-memory_stays e is = ap (λ (k : ErrorKind). is_resumable k e.labels e.wire_version) is
-
-plain_resumes : (e : Error) (k : ErrorKind) → e ≡ plain k → is_resumable k [] None ≡ true → resumes e ≡ true
-plain_resumes e k is so = ap (λ (x : Error). is_resumable x.kind x.labels x.wire_version) is ∙ so
-
-kind_of_plain : (e : Error) (k : ErrorKind) → e ≡ plain k → e.kind ≡ k
-kind_of_plain e k is = ap (λ (x : Error). x.kind) is
-
-batch_resumes : (said : Fields) (e : Error) → BreaksBatch said e → resumes e ≡ true
-batch_resumes said e (no_batch how at is) = plain_resumes e (kind.InvalidResponse how) is refl
-batch_resumes said e (bad_item batch at has) = plain_resumes e (kind.InvalidResponse malformed.BadItem) has.1 refl
-
-cursor_resumes : (said : Fields) (e : Error) → BreaksIn said e → resumes e ≡ true
-cursor_resumes said e breaks = plain_resumes e (kind.InvalidResponse breaks.how) breaks.error refl
-
--- an item of a batch that was found is no document
-pub items_break : (said : Fields) (batch : Items) → batch_at said ≡ Ok batch → (e : Error) → FailsBy (HasBadItem batch) e → FailsBy (BreaksBatch said) e
-items_break said batch at e (inl room) = inl room
-items_break said batch at e (inr bad) = inr (bad_item batch at bad)
-
--- the cursor of a reply whose batch was not kept
-pub kept_unheld : (s t : ChangeStream) (bytes : List ℕ) (out : GetMoreResult) (e : Error) → Gave bytes out → (id : ℤ) → id ≡ out.id → t.cursor ≡ record s.cursor { id = id; ns = out.ns } → FailsBy (BreaksBatch (fields out.raw_reply)) e → Unkept s t bytes e
-kept_unheld s t bytes out e gave id same is by =
-    let tells : TellsCursor bytes (manner_of s.cursor) (record s.cursor { id = id; ns = out.ns }) out.post_batch_resume_token = record {
-      batch = gave.batch;
-      says = gave.says ∙ ap (λ (i : ℤ). Ok (record { id = i; space = space out.ns; token = out.post_batch_resume_token; batch = gave.batch })) (sym same);
-      manner_is = refl;
-    } in
-    unheld out.post_batch_resume_token (subst (λ (c : CursorInformation). TellsCursor bytes (manner_of s.cursor) c out.post_batch_resume_token) (sym is) tells)
-    (subst (λ (b : List ℕ). FailsBy (BreaksBatch (fields b)) e) gave.whole by)
-
--- an error that is no want of memory has its cause
-cannot_by : (cause : Error → Type 0) (e : Error) → FailsBy cause e → (e.kind ≡ kind.OutOfMemory → ⊥) → cause e
-cannot_by cause e (inl room) not = absurd (not (kind_of_plain e kind.OutOfMemory room))
-cannot_by cause e (inr by) not = by
-
--- ---- requests
-
--- a killCursors that failed was tried, or memory ran out
-kill_tried : (past : Past) (old : CursorInformation) (e : Error) → old.id ≢ pos 0 → RequestFails past (old_command old) false NoneBroken e → (e.kind ≡ kind.OutOfMemory → ⊥) → Killed past old
-kill_tried past old e held (out_of_memory is) not = absurd (not is)
-kill_tried past old e held (was_lost is heard) not = tried held fault (λ waits. cc) (heard_by past (old_command old) false fault heard)
-kill_tried past old e held (was_refused bytes heard by) not = tried held (reply bytes) (λ waits. cc) (heard_by past (old_command old) false (reply bytes) heard)
-kill_tried past old e held (was_broken bytes heard success never) not = absurd never
-
--- ---- events
-
-next_by : (past : Past) (at : Standing) (es es' : List Fields) (c c' : CursorInformation) (upto upto' : Option Tree) → es' ≡ es → c' ≡ c → upto' ≡ upto → Next past at es c upto → Next past at es' c' upto'
-next_by past at es es' c c' upto upto' events cursor token next =
-    subst (λ (l : List Fields). Next past at l c' upto') (sym events)
-    (subst (λ (d : CursorInformation). Next past at es d upto') (sym cursor)
-    (subst (λ (t : Option Tree). Next past at es c t) (sym token) next))
+-- ---- a batch that is looked at
 
 -- where a batch comes nothing that was received is left
-fails_none : (past : Past) (at : Standing) (e : Error) (c : CursorInformation) → MoreFails past at e c → at.events ≡ []
-fails_none past at e c (untold asked fails is) = asked.none_left
-fails_none past at e c (broken bytes upto heard success tells by) = heard.asked.none_left
-
-resumes_none : (past : Past) (at : Standing) (c : CursorInformation) → Resumes past at c → at.events ≡ []
-resumes_none past at c (owed owes is) = owes.none_left
-resumes_none past at c (more_failed e why is) = fails_none past at e c why
-resumes_none past at c (first_broken bytes e held empty by is) = empty
-
-replied_none : (past : Past) (at : Standing) (resumed : Bool) (bytes : List ℕ) (c : CursorInformation) (upto : Option Tree) → Replied past at resumed bytes c upto → at.events ≡ []
-replied_none past at resumed bytes c upto (opening not held empty cursor token) = empty
-replied_none past at resumed bytes c upto (more not heard success tells) = heard.asked.none_left
-replied_none past at resumed bytes c upto (again is old r killed) = resumes_none past at old r.why
-
--- ---- how a stream stands
-
-settled : (s : ChangeStream) → s.phase ≡ phase.Rest → IsSettled (standing_of s)
-settled s is = record { quits = ap owes_in is; looked = ap first_in is }
-
-events_at : (s : ChangeStream) → s.phase ≡ phase.Rest → (standing_of s).events ≡ buffered s
-events_at s is = ap (λ (p : Phase). unanswered_in p (buffered s)) is
-
-owing : (s : ChangeStream) → IsOwing (standing_of (record s { phase = phase.Owing }))
-owing s = record { owes = refl; looked = refl; none_left = refl }
-
-abbrev stand : ChangeStreamAggregate → CursorInformation → List Fields → Option Tree → Option (List ℕ) → Bool → Standing
-stand a c events upto first owes = record { aggregate = a; cursor = c; events = events; upto = upto; first = first; owes = owes }
-
-same_standing : (x y : Standing) → x.aggregate ≡ y.aggregate → x.cursor ≡ y.cursor → x.events ≡ y.events → x.upto ≡ y.upto → x.first ≡ y.first → x.owes ≡ y.owes → x ≡ y
-same_standing x y a c events upto first owes =
-    ap (λ (z : ChangeStreamAggregate). stand z x.cursor x.events x.upto x.first x.owes) a
-    ∙ ap (λ (z : CursorInformation). stand y.aggregate z x.events x.upto x.first x.owes) c
-    ∙ ap (λ (z : List Fields). stand y.aggregate y.cursor z x.upto x.first x.owes) events
-    ∙ ap (λ (z : Option Tree). stand y.aggregate y.cursor y.events z x.first x.owes) upto
-    ∙ ap (λ (z : Option (List ℕ)). stand y.aggregate y.cursor y.events y.upto z x.owes) first
-    ∙ ap (λ (z : Bool). stand y.aggregate y.cursor y.events y.upto y.first z) owes
-
-some_buffered : (s : ChangeStream) → s.buffer.items ≢ [] → buffered s ≢ []
-some_buffered s some = some_mapped s.buffer.items some
-  where
-    some_mapped : (items : List (List ℕ)) → items ≢ [] → map fields items ≢ []
-    some_mapped [] some = λ empty. some refl
-    some_mapped (x ∷ items) some = λ empty. cc
-
--- ---- steps without a link
-
-module _ (awaited : Awaited) (past : Past) (at : Standing) where
-  -- the next event is not copied
-  unpopped : (s s' : ChangeStream) (e : Error) → s.aggregate ≡ at.aggregate → Next past at (buffered s) s.cursor s.batch_token → buffered s ≢ [] → s'.phase ≡ phase.Rest → Unpopped s s' e → Stays past at (standing_of s')
-  unpopped s s' e kept (left before events cursor upto) some rests h =
-      as_it_was before (same_standing (standing_of s') at (h.aggregate ∙ kept) (h.cursor ∙ cursor) (events_at s' rests ∙ h.events ∙ events) (h.upto ∙ upto) (ap first_in rests ∙ sym before.looked) (ap owes_in rests ∙ sym before.quits))
-  unpopped s s' e kept (came before resumed bytes replied holds) some rests h =
-      let es = events_at s' rests ∙ h.events in
-      in_hand resumed bytes
-      (subst (λ (c : CursorInformation). Replied past at resumed bytes c s'.batch_token) (sym h.cursor) (subst (λ (t : Option Tree). Replied past at resumed bytes s.cursor t) (sym h.upto) replied))
-      (subst (λ (l : List Fields). HoldsBatch (fields bytes) l) (sym es) holds)
-      (λ empty. some (sym es ∙ empty)) (settled s' rests)
-
-  -- the next event is taken
-  took : (resumed : Bool) (s s' : ChangeStream) (r : EventPoll) → s.aggregate ≡ at.aggregate → Next past at (buffered s) s.cursor s.batch_token → buffered s ≢ [] → s'.phase ≡ phase.Rest → TakeCause s s' r → StepCame awaited past at resumed s' (stepped.Gives r)
-  took resumed s s' poll.Pending kept next some rests h = absurd h
-  took resumed s s' (poll.Ready None) kept next some rests h = absurd h
-  took resumed s s' (poll.Ready (Some event)) kept next some rests h =
-      let es = events_at s' rests in
-      let rest = (standing_of s').events in
-      record {
-        upto = s.batch_token;
-        next = next_by past at (buffered s) (fields event ∷ rest) s.cursor s'.cursor s.batch_token s.batch_token (ap (λ (l : List Fields). fields event ∷ l) es ∙ sym h.whole) h.cursor refl next;
-        id = h.id;
-        has = h.has;
-        remembers = h.remembers ∙ ap (λ (l : List Fields). remembered_by (token_behind l s.batch_token h.id) true s.aggregate) (sym es) ∙ ap (remembered_by (token_behind rest s.batch_token h.id) true) kept;
-        behind = λ some_left. h.behind (λ empty. some_left (es ∙ empty));
-        settled = settled s' rests;
-      }
-  took resumed s s' (poll.Failed e) kept next some rests (inl h) = record { why = no_memory h.room (unpopped s s' e kept next some rests h); token = h.aggregate ∙ kept }
-  took resumed s s' (poll.Failed e) kept next some rests (inr h) =
-      let es = events_at s' rests in
-      let rest = (standing_of s').events in
-      record {
-        why = no_id h.event s.batch_token (next_by past at (buffered s) (h.event ∷ rest) s.cursor s'.cursor s.batch_token s.batch_token (ap (λ (l : List Fields). h.event ∷ l) es ∙ sym h.whole) h.cursor refl next) h.lacks h.error h.upto (settled s' rests);
-        token = h.aggregate ∙ kept;
-      }
-
-  -- at rest
-  start_in : (s : ChangeStream) (p : Phase) → IsStart at s → IsStart at (record s { phase = p })
-  start_in s p start = record { settled = start.settled; cursor = start.cursor; events = start.events; upto = start.upto }
-
-  next_at : (s : ChangeStream) → IsStart at s → Next past at (buffered s) s.cursor s.batch_token
-  next_at s start = left start.settled start.events start.cursor start.upto
-
-  none_at : (s : ChangeStream) → s.buffer.items ≡ [] → IsStart at s → at.events ≡ []
-  none_at s empty start = sym start.events ∙ ap (map fields) empty
-
-  may_ask : (s : ChangeStream) → s.buffer.items ≡ [] → s.cursor.id ≢ pos 0 → IsStart at s → MayAsk at
-  may_ask s empty held start = record { settled = start.settled; none_left = none_at s empty start; held = λ over. held (ap (λ (c : CursorInformation). c.id) start.cursor ∙ over) }
-
-  as_before : (s : ChangeStream) → s.aggregate ≡ at.aggregate → IsStart at s → standing_of (record s { phase = phase.Rest }) ≡ at
-  as_before s kept start = same_standing (standing_of (record s { phase = phase.Rest })) at kept start.cursor start.events start.upto (sym start.settled.looked) (sym start.settled.quits)
-
-  module _ (resumed : Bool) (s : ChangeStream) (far : SoFar awaited past at resumed phase.Rest s) where
-    pub rest_takes : (s' : ChangeStream) (r : EventPoll) → s.buffer.items ≢ [] → s'.phase ≡ phase.Rest → TakeCause s s' r → StepCame awaited past at resumed s' (stepped.Gives r)
-    rest_takes s' r some rests h = took resumed s s' r far.same (next_at s far.by.1) (some_buffered s some) rests h
-
-    pub rest_ends : s.buffer.items ≡ [] → s.cursor.id ≡ pos 0 → CallEmpty past at (standing_of (record s { phase = phase.Rest })) resumed
-    rest_ends empty over =
-        let start = far.by.1 in
-        record {
-          why = none_left far.by.0 start.settled (none_at s empty start) (ap (λ (c : CursorInformation). c.id) (sym start.cursor) ∙ over) far.same start.cursor;
-          empty = ap (map fields) empty;
-          settled = record { quits = refl; looked = refl };
-        }
-
-    pub rest_asks : (get_more : GetMore) (exec : Sending) → s.buffer.items ≡ [] → s.cursor.id ≢ pos 0 → exec.stage ≡ unsent → SoFar awaited past at resumed (phase.Asking get_more exec) (record s { phase = phase.Asking get_more exec })
-    rest_asks get_more exec empty held not_sent =
-        record {
-          same = far.same;
-          by = (far.by.0, start_in s (phase.Asking get_more exec) far.by.1, may_ask s empty held far.by.1, subst (λ (stage : Stage). Flies awaited past (more_command at) stage) (sym not_sent) tt);
-        }
-
-    rest_cannot : (e : Error) → s.buffer.items ≡ [] → s.cursor.id ≢ pos 0 → FailsBy (CannotBuild s.cursor.batch_size (asking_command s.cursor)) e → CallFails past at (standing_of (record s { phase = phase.Rest })) e
-    rest_cannot e empty held (inl room) = no_memory (kind_of_plain e kind.OutOfMemory room) (as_it_was far.by.1.settled (as_before s far.same far.by.1))
-    rest_cannot e empty held (inr by) =
-        cannot_ask (may_ask s empty held far.by.1) (subst (λ (c : CursorInformation). CannotBuild c.batch_size (asking_command c) e) far.by.1.cursor by) (as_before s far.same far.by.1)
-
-    pub rest_fails : (e : Error) → s.buffer.items ≡ [] → s.cursor.id ≢ pos 0 → FailsBy (CannotBuild s.cursor.batch_size (asking_command s.cursor)) e → CallFailed past at (standing_of (record s { phase = phase.Rest })) e
-    rest_fails e empty held by = record { why = rest_cannot e empty held by; token = far.same }
-
-  -- a batch is lost
-  owes_so_far : (s : ChangeStream) → s.aggregate ≡ at.aggregate → Resumes past at s.cursor → SoFar awaited past at false phase.Owing (record s { phase = phase.Owing })
-  owes_so_far s kept why = record { same = kept; by = (refl, why) }
-
-  owes_failed : (s : ChangeStream) (e : Error) → s.aggregate ≡ at.aggregate → e.kind ≡ kind.OutOfMemory → MayLose past at s.cursor → CallFailed past at (standing_of (record s { phase = phase.Owing })) e
-  owes_failed s e kept room may = record { why = may_lose room (owing s) may; token = kept }
-
-  loses : (s : ChangeStream) (e : Error) (r : Stepped) → s.aggregate ≡ at.aggregate → (resumes e ≡ true → Resumes past at s.cursor) → (resumes e ≡ false → (e.kind ≡ kind.OutOfMemory) × MayLose past at s.cursor) → FailCause e r → StepCame awaited past at false (record s { phase = phase.Owing }) r
-  loses s e stepped.Goes kept why room h = owes_so_far s kept (why h)
-  loses s e (stepped.Gives poll.Pending) kept why room h = absurd h
-  loses s e (stepped.Gives (poll.Ready event)) kept why room h = absurd h
-  loses s e (stepped.Gives (poll.Failed f)) kept why room h =
-      let x = room (subst (λ (y : Error). resumes y ≡ false) h.0 h.1) in
-      owes_failed s f kept (ap (λ (y : Error). y.kind) h.0 ∙ x.0) x.1
-
-  -- that breaks the grammar
-  broken_loses : (cause : Error → Type 0) (s : ChangeStream) (e : Error) (r : Stepped) → s.aggregate ≡ at.aggregate → MayLose past at s.cursor → (cause e → (resumes e ≡ true) × Resumes past at s.cursor) → FailsBy cause e → FailCause e r → StepCame awaited past at false (record s { phase = phase.Owing }) r
-  broken_loses cause s e r kept may why (inl room) h =
-      loses s e r kept (λ so. absurd (not_both (resumes e) so (memory_stays e (kind_of_plain e kind.OutOfMemory room)))) (λ not. (kind_of_plain e kind.OutOfMemory room, may)) h
-  broken_loses cause s e r kept may why (inr by) h = loses s e r kept (λ so. (why by).1) (λ not. absurd (not_both (resumes e) (why by).0 not)) h
-
-  -- the batch of the opening
-  module _ (resumed : Bool) (s : ChangeStream) (bytes : List ℕ) (far : SoFar awaited past at resumed (phase.First bytes) s) where
-    first_replied : (b : Bool) → b ≡ false → Replied past at b bytes s.cursor s.batch_token
-    first_replied b not = opening not far.by.1.in_hand far.by.1.none_left far.by.1.cursor far.by.1.upto
-
-    pub first_came : (t : ChangeStream) → HoldsBatch (fields bytes) (map fields t.buffer.items) → SoFar awaited past at resumed phase.Fresh (record s { buffer = t.buffer; phase = phase.Fresh })
-    first_came t holds = record { same = far.same; by = record { bytes = bytes; replied = first_replied resumed far.by.0; holds = holds } }
-
-    pub first_lost : (s' : ChangeStream) (e : Error) (r : Stepped) → FailsBy (BreaksBatch (fields bytes)) e → s' ≡ record s { phase = phase.Owing } → FailCause e r → StepCame awaited past at resumed s' r
-    first_lost s' e r by is h =
-        subst (λ (b : Bool). StepCame awaited past at b s' r) (sym far.by.0)
-        (subst (λ (t : ChangeStream). StepCame awaited past at false t r) (sym is)
-        (broken_loses (BreaksBatch (fields bytes)) s e r far.same (keeping false bytes s.batch_token (first_replied false refl))
-        (λ breaks. (batch_resumes (fields bytes) e breaks, first_broken bytes e far.by.1.in_hand far.by.1.none_left breaks far.by.1.cursor)) by h))
-
-  -- a batch is in hand
-  module _ (resumed : Bool) (s : ChangeStream) (far : SoFar awaited past at resumed phase.Fresh s) where
-    none_before : at.events ≡ []
-    none_before = replied_none past at resumed far.by.bytes s.cursor s.batch_token far.by.replied
-
-    pub fresh_takes : (s' : ChangeStream) (r : EventPoll) → s.buffer.items ≢ [] → s'.phase ≡ phase.Rest → TakeCause s s' r → StepCame awaited past at resumed s' (stepped.Gives r)
-    fresh_takes s' r some rests h = took resumed s s' r far.same (came none_before resumed far.by.bytes far.by.replied far.by.holds) (some_buffered s some) rests h
-
-    fresh_ends : (s' : ChangeStream) → s.buffer.items ≡ [] → s'.phase ≡ phase.Rest → s'.cursor ≡ s.cursor → s'.buffer ≡ s.buffer → s'.aggregate ≡ remembered_empty s.batch_token s.aggregate → CallEmpty past at (standing_of s') resumed
-    fresh_ends s' empty rests cursor buffer remembers =
-        record {
-          why = came_empty none_before far.by.bytes s.batch_token (subst (λ (c : CursorInformation). Replied past at resumed far.by.bytes c s.batch_token) (sym cursor) far.by.replied)
-              (subst (λ (es : List (List ℕ)). HoldsBatch (fields far.by.bytes) (map fields es)) empty far.by.holds) (remembers ∙ ap (remembered_empty s.batch_token) far.same);
-          empty = events_at s' rests ∙ ap (λ b. map fields b.items) buffer ∙ ap (map fields) empty;
-          settled = settled s' rests;
-        }
-
-    pub fresh_token : (s' : ChangeStream) (token : Tree) (rest : Option Tree) → s.buffer.items ≡ [] → s.batch_token ≡ Some token → s' ≡ remembering token false (record s { batch_token = rest; phase = phase.Rest }) → CallEmpty past at (standing_of s') resumed
-    fresh_token s' token rest empty has is =
-        subst (λ (t : ChangeStream). CallEmpty past at (standing_of t) resumed) (sym is)
-        (fresh_ends (remembering token false (record s { batch_token = rest; phase = phase.Rest })) empty refl refl refl (ap (λ (o : Option Tree). remembered_empty o s.aggregate) (sym has)))
-
-    pub fresh_none : (s' : ChangeStream) (rest : Option Tree) → s.buffer.items ≡ [] → s.batch_token ≡ None → s' ≡ record s { batch_token = rest; phase = phase.Rest } → CallEmpty past at (standing_of s') resumed
-    fresh_none s' rest empty lacks is =
-        subst (λ (t : ChangeStream). CallEmpty past at (standing_of t) resumed) (sym is)
-        (fresh_ends (record s { batch_token = rest; phase = phase.Rest }) empty refl refl refl (ap (λ (o : Option Tree). remembered_empty o s.aggregate) (sym lacks)))
-
-  -- ---- a getMore
-
-  -- the reply came
-  pub more_kept : (s t : ChangeStream) (bytes : List ℕ) → t.aggregate ≡ s.aggregate → TellsCursor bytes (manner_of s.cursor) t.cursor t.batch_token → HoldsBatch (fields bytes) (buffered t)
-      → s.aggregate ≡ at.aggregate → s.cursor ≡ at.cursor → HeardMore past at (reply bytes) → IsSuccess bytes → SoFar awaited past at false phase.Fresh (record t { phase = phase.Fresh })
-  more_kept s t bytes stays tells holds kept cursor heard success =
-      record {
-        same = stays ∙ kept;
-        by = record {
-          bytes = bytes;
-          replied = more refl heard success (subst (λ (c : CursorInformation). TellsCursor bytes (manner_of c) t.cursor t.batch_token) cursor tells);
-          holds = holds;
-        };
-      }
-
-  unkept_loses : (s t : ChangeStream) (bytes : List ℕ) (e : Error) (r : Stepped) → t.aggregate ≡ at.aggregate → Unkept s t bytes e → s.cursor ≡ at.cursor → HeardMore past at (reply bytes) → IsSuccess bytes → FailCause e r → StepCame awaited past at false (record t { phase = phase.Owing }) r
-  unkept_loses s t bytes e r kept (unread stays by) cursor heard success h =
-      broken_loses (BreaksIn (fields bytes)) t e r kept (asking heard.asked (stays ∙ cursor))
-      (λ breaks. let so = cursor_resumes (fields bytes) e breaks in (so, more_failed e (untold heard.asked (was_broken bytes (heard_last past (more_command at) (reply bytes) heard.heard) success breaks) (stays ∙ cursor ∙ sym (ap (λ (y : Error). cursor_behind y at.cursor) breaks.error))) so)) by h
-  unkept_loses s t bytes e r kept (unheld upto tells by) cursor heard success h =
-      let says = subst (λ (c : CursorInformation). TellsCursor bytes (manner_of c) t.cursor upto) cursor tells in
-      broken_loses (BreaksBatch (fields bytes)) t e r kept (keeping false bytes upto (more refl heard success says))
-      (λ breaks. let so = batch_resumes (fields bytes) e breaks in (so, more_failed e (broken bytes upto heard success says breaks) so)) by h
-
-  pub more_lost : (s t s' : ChangeStream) (bytes : List ℕ) (e : Error) (r : Stepped) → t.aggregate ≡ s.aggregate → Unkept s t bytes e → s' ≡ record t { phase = phase.Owing } → FailCause e r
-      → s.aggregate ≡ at.aggregate → s.cursor ≡ at.cursor → HeardMore past at (reply bytes) → IsSuccess bytes → StepCame awaited past at false s' r
-  more_lost s t s' bytes e r stays unkept is h kept cursor heard success =
-      subst (λ (x : ChangeStream). StepCame awaited past at false x r) (sym is) (unkept_loses s t bytes e r (stays ∙ kept) unkept cursor heard success h)
-
-  -- it failed
-  not_ended : (s : ChangeStream) (e : Error) (k : ErrorKind) → s.cursor ≡ at.cursor → e.kind ≡ k → ends_cursor (command_code k) ≡ false → (left_with s (ends_cursor (command_code e.kind))).cursor ≡ at.cursor
-  not_ended s e k cursor is lives = ap (λ (x : ErrorKind). (left_with s (ends_cursor (command_code x))).cursor) is ∙ ap (λ (b : Bool). (left_with s b).cursor) lives ∙ cursor
-
-  heard_more : (seen : Sight) → MayAsk at → HeardLast past (more_command at) false seen → HeardMore past at seen
-  heard_more seen may heard = record { asked = may; heard = heard_by past (more_command at) false seen heard }
-
-  more_fails : (s : ChangeStream) (e : Error) → s.cursor ≡ at.cursor → MayAsk at → RequestFails past (more_command at) false NoneBroken e → MoreFails past at e (left_with s (ends_cursor (command_code e.kind))).cursor
-  more_fails s e cursor may failed = untold may (fails_anyhow past (more_command at) false TellsNoCursor e failed) (ap (cursor_behind e) cursor)
-
-  pub failed_lost : (s t s' : ChangeStream) (e : Error) (r : Stepped) → t ≡ left_with s (ends_cursor (command_code e.kind)) → s' ≡ record t { phase = phase.Owing } → (resumes e ≡ false → e.kind ≡ kind.OutOfMemory) → FailCause e r
-      → s.aggregate ≡ at.aggregate → IsStart at s → MayAsk at → RequestFails past (more_command at) false NoneBroken e → StepCame awaited past at false s' r
-  failed_lost s t s' e r notes is room h kept start may failed =
-      subst (λ (x : ChangeStream). StepCame awaited past at false x r) (sym (is ∙ ap (λ (x : ChangeStream). record x { phase = phase.Owing }) notes))
-      (loses (left_with s (ends_cursor (command_code e.kind))) e r kept (λ so. more_failed e (more_fails s e start.cursor may failed) so)
-      (λ not. let full = room not in (full, asking may (not_ended s e kind.OutOfMemory start.cursor full refl))) h)
-
-  -- for good
-  more_refused : (s : ChangeStream) (e : Error) → s.aggregate ≡ at.aggregate → IsStart at s → MayAsk at → resumes e ≡ false → (e.kind ≡ kind.OutOfMemory → ⊥) → RequestFails past (more_command at) false NoneBroken e → CallFails past at (standing_of (record (left_with s (ends_cursor (command_code e.kind))) { phase = phase.Rest })) e
-  more_refused s e kept start may not room failed =
-      refused_more may failed (record { stays = not; room = room })
-      (same_standing (standing_of (record (left_with s (ends_cursor (command_code e.kind))) { phase = phase.Rest })) (record at { cursor = cursor_behind e at.cursor })
-      kept (ap (cursor_behind e) start.cursor) start.events start.upto (sym start.settled.looked) (sym start.settled.quits))
-
-  pub failed_rests : (s t : ChangeStream) (e : Error) → t ≡ left_with s (ends_cursor (command_code e.kind)) → resumes e ≡ false → (e.kind ≡ kind.OutOfMemory → ⊥)
-      → s.aggregate ≡ at.aggregate → IsStart at s → MayAsk at → RequestFails past (more_command at) false NoneBroken e → CallFailed past at (standing_of (record t { phase = phase.Rest })) e
-  failed_rests s t e notes not room kept start may failed =
-      subst (λ (x : ChangeStream). CallFailed past at (standing_of (record x { phase = phase.Rest })) e) (sym notes)
-      (record { why = more_refused s e kept start may not room failed; token = kept })
-
-  -- ---- a resumption
-
-  -- its aggregate is to be sent
-  pub owing_asks : (resumed : Bool) (s : ChangeStream) (exec : Sending) → exec.stage ≡ unsent → SoFar awaited past at resumed phase.Owing s → SoFar awaited past at resumed (phase.Resuming exec) (record s { phase = phase.Resuming exec })
-  owing_asks resumed s exec not_sent far =
-      record { same = far.same; by = (far.by.0, far.by.1, subst (λ (stage : Stage). Flies awaited past (resume_command past.wire at) stage) (sym not_sent) tt) }
-
-  cannot_again : (s : ChangeStream) (e : Error) → FailsBy (CannotBuild s.aggregate.args.options.batch_size (resuming_command s.aggregate past.wire)) e → s.aggregate ≡ at.aggregate → Resumes past at s.cursor → CallFails past at (standing_of (record s { phase = phase.Owing })) e
-  cannot_again s e (inl room) kept why = may_lose (kind_of_plain e kind.OutOfMemory room) (owing s) (resuming why)
-  cannot_again s e (inr by) kept why = cannot_resume (owing s) why (subst (λ (a : ChangeStreamAggregate). CannotBuild a.args.options.batch_size (resuming_command a past.wire) e) kept by)
-
-  pub owing_fails : (resumed : Bool) (s : ChangeStream) (e : Error) → FailsBy (CannotBuild s.aggregate.args.options.batch_size (resuming_command s.aggregate past.wire)) e → SoFar awaited past at resumed phase.Owing s → CallFailed past at (standing_of (record s { phase = phase.Owing })) e
-  owing_fails resumed s e by far = record { why = cannot_again s e by far.same far.by.1; token = far.same }
-
-  -- it failed
-  again_fails : (s : ChangeStream) (e : Error) → Resumes past at s.cursor → RequestFails past (resume_command past.wire at) true NoneBroken e → CallFails past at (standing_of (record s { phase = phase.Owing })) e
-  again_fails s e why failed = not_resumed (owing s) why (fails_anyhow past (resume_command past.wire at) true TellsNoCursor e failed)
-
-  -- the reply to it came
-  pub resumed_by : (s : ChangeStream) (bytes : List ℕ) (out : CursorSpecification) → OpensWith s.aggregate.args.options.batch_size s.aggregate.args.options.max_await_time s.aggregate.args.options.comment bytes out → s.aggregate ≡ at.aggregate → Resumes past at s.cursor → HeardLast past (resume_command past.wire at) true (reply bytes) → IsSuccess bytes
-      → Resumed past at s.cursor out.initial_reply out.info out.post_batch_resume_token
-  resumed_by s bytes out read kept why heard success =
-      let opens = read.opens in
-      subst (λ (b : List ℕ). Resumed past at s.cursor b out.info out.post_batch_resume_token) (sym opens.whole)
-      (record { why = why; heard = heard_by past (resume_command past.wire at) true (reply bytes) heard; success = success; tells = record { batch = opens.batch; says = opens.says; manner_is = manner_read s.aggregate.args.options bytes out read ∙ ap (λ (a : ChangeStreamAggregate). watch_manner a.args.options) kept } })
-
-  pub resumption_breaks : (s : ChangeStream) (bytes : List ℕ) (e : Error) → FailsBy (BreaksIn (fields bytes)) e → s.aggregate ≡ at.aggregate → Resumes past at s.cursor → HeardLast past (resume_command past.wire at) true (reply bytes) → IsSuccess bytes → CallFailed past at (standing_of (record s { phase = phase.Owing })) e
-  resumption_breaks s bytes e by kept why heard success = record { why = not_resumed (owing s) why (unread_fails past (resume_command past.wire at) true TellsNoCursor bytes e by heard success); token = kept }
-
-  -- the old cursor is not killed
-  kill_failed : (s s' : ChangeStream) (e : Error) (r : Stepped) (bytes : List ℕ) → s.aggregate ≡ at.aggregate → (old : CursorInformation) → Resumed past at old bytes s.cursor s.batch_token → old.id ≢ pos 0 → ((e.kind ≡ kind.OutOfMemory → ⊥) → Killed past old) → KillCause e bytes s s' r
-      → StepCame awaited past at false s' r
-  kill_failed s s' e stepped.Goes bytes kept old new held killed h =
-      subst (λ (x : ChangeStream). SoFar awaited past at false x.phase x) (sym h.0) (record { same = kept; by = (refl, again refl old new (killed h.1)) })
-  kill_failed s s' e (stepped.Gives poll.Pending) bytes kept old new held killed h = absurd h.1
-  kill_failed s s' e (stepped.Gives (poll.Ready event)) bytes kept old new held killed h = absurd h.1
-  kill_failed s s' e (stepped.Gives (poll.Failed f)) bytes kept old new held killed h =
-      subst (λ (x : ChangeStream). CallFailed past at (standing_of x) f) (sym h.0) (owes_failed s f kept h.1 (killing old bytes s.batch_token new held))
-
-  -- its cursor replaces the old one
-  module _ (s : ChangeStream) (out : CursorSpecification) (d old : CursorInformation) (is : d ≡ out.info) (before : old ≡ s.cursor) (kept : s.aggregate ≡ at.aggregate) (new : Resumed past at s.cursor out.initial_reply out.info out.post_batch_resume_token) where
-    new_by : Resumed past at old out.initial_reply d out.post_batch_resume_token
-    new_by = subst (λ (c : CursorInformation). Resumed past at c out.initial_reply d out.post_batch_resume_token) (sym before) (subst (λ (c : CursorInformation). Resumed past at s.cursor out.initial_reply c out.post_batch_resume_token) (sym is) new)
-
-    pub replace_none : old.id ≡ pos 0 → SoFar awaited past at false (phase.Resumed out.initial_reply) (record s { cursor = d; batch_token = out.post_batch_resume_token; phase = phase.Resumed out.initial_reply })
-    replace_none over = record { same = kept; by = (refl, again refl old new_by (none over)) }
-
-    pub replace_kills : (exec : Sending) (id : ℤ) → old.id ≢ pos 0 → old.id ≡ id → fields exec.command ≡ old_command old → exec.stage ≡ unsent → SoFar awaited past at false (phase.Killing exec id out.initial_reply) (record s { cursor = d; batch_token = out.post_batch_resume_token; phase = phase.Killing exec id out.initial_reply })
-    replace_kills exec id held named command not_sent =
-        record {
-          same = kept;
-          by = (refl, old, record { held = held; named = named; resumed = new_by }, command, subst (λ (stage : Stage). Flies awaited past (old_command old) stage) (sym not_sent) tt);
-        }
-
-    -- or is not killed
-    pub replace_failed : (s' : ChangeStream) (e : Error) (r : Stepped) → old.id ≢ pos 0 → FailsBy (CannotBeSent (old_command old)) e → KillCause e out.initial_reply (record s { cursor = d; batch_token = out.post_batch_resume_token }) s' r → StepCame awaited past at false s' r
-    replace_failed s' e r held by h = kill_failed (record s { cursor = d; batch_token = out.post_batch_resume_token }) s' e r out.initial_reply kept old new_by held (λ not. unbuilt held e (cannot_by (CannotBeSent (old_command old)) e by not)) h
-
-  -- the batch of a resumption
-  module _ (resumed : Bool) (s : ChangeStream) (bytes : List ℕ) (far : SoFar awaited past at resumed (phase.Resumed bytes) s) where
-    pub resumed_came : (t : ChangeStream) → HoldsBatch (fields bytes) (map fields t.buffer.items) → SoFar awaited past at true phase.Fresh (record s { buffer = t.buffer; phase = phase.Fresh })
-    resumed_came t holds = record { same = far.same; by = record { bytes = bytes; replied = far.by.1; holds = holds } }
-
-    batch_unheld : (e : Error) → FailsBy (BreaksBatch (fields bytes)) e → CallFails past at (standing_of (record s { phase = phase.Owing })) e
-    batch_unheld e (inl room) = may_lose (kind_of_plain e kind.OutOfMemory room) (owing s) (keeping true bytes s.batch_token far.by.1)
-    batch_unheld e (inr by) = broken bytes s.batch_token (owing s) far.by.1 by
-
-    pub resumed_breaks : (e : Error) → FailsBy (BreaksBatch (fields bytes)) e → CallFailed past at (standing_of (record s { phase = phase.Owing })) e
-    resumed_breaks e by = record { why = batch_unheld e by; token = far.same }
-
-  -- neither the phase that was taken out nor the counts tell how far a call has come
-  start_by : (s : ChangeStream) (q : Phase) (c : Counts) → IsStart at s → IsStart at (record s { phase = q; counts = c })
-  start_by s q c start = record { settled = start.settled; cursor = start.cursor; events = start.events; upto = start.upto }
-
-  phase_by : (resumed : Bool) (p : Phase) (s : ChangeStream) (q : Phase) (c : Counts) → ByPhase awaited past at resumed p s → ByPhase awaited past at resumed p (record s { phase = q; counts = c })
-  phase_by resumed phase.Taken s q c by = (by.0, start_by s q c by.1)
-  phase_by resumed phase.Rest s q c by = (by.0, start_by s q c by.1)
-  phase_by resumed (phase.First bytes) s q c by = (by.0, record { in_hand = by.1.in_hand; none_left = by.1.none_left; cursor = by.1.cursor; upto = by.1.upto })
-  phase_by resumed phase.Fresh s q c by = record { bytes = by.bytes; replied = by.replied; holds = by.holds }
-  phase_by resumed (phase.Asking get_more exec) s q c by = (by.0, start_by s q c by.1, by.2, by.3)
-  phase_by resumed phase.Owing s q c by = by
-  phase_by resumed (phase.Resuming exec) s q c by = by
-  phase_by resumed (phase.Killing exec id bytes) s q c by = (by.0, by.1, record { held = by.2.held; named = by.2.named; resumed = by.2.resumed }, by.3, by.4)
-  phase_by resumed (phase.Resumed bytes) s q c by = by
-
-  pub so_far_by : (resumed : Bool) (p : Phase) (s : ChangeStream) (q : Phase) (c : Counts) → SoFar awaited past at resumed p s → SoFar awaited past at resumed p (record s { phase = q; counts = c })
-  so_far_by resumed p s q c far = record { same = far.same; by = phase_by resumed p s q c far.by }
-
--- a stream between two calls begins a call
-begins_in : (awaited : Awaited) (past : Past) (p : Phase) (s : ChangeStream) → AtRest p → ByPhase awaited past (standing_of (record s { phase = p })) false p (record s { phase = p })
-begins_in awaited past phase.Taken s rests = absurd rests
-begins_in awaited past phase.Rest s rests = (refl, record { settled = record { quits = refl; looked = refl }; cursor = refl; events = refl; upto = refl })
-begins_in awaited past (phase.First bytes) s rests = (refl, record { in_hand = refl; none_left = refl; cursor = refl; upto = refl })
-begins_in awaited past phase.Fresh s rests = absurd rests
-begins_in awaited past (phase.Asking get_more exec) s rests = absurd rests
-begins_in awaited past phase.Owing s rests = (refl, owed (owing s) refl)
-begins_in awaited past (phase.Resuming exec) s rests = absurd rests
-begins_in awaited past (phase.Killing exec id bytes) s rests = absurd rests
-begins_in awaited past (phase.Resumed bytes) s rests = absurd rests
-
-pub begins : (awaited : Awaited) (past : Past) (s : ChangeStream) → AtRest s.phase → SoFar awaited past (standing_of s) false s.phase s
-begins awaited past s rests = record { same = refl; by = begins_in awaited past s.phase s rests }
-
--- ---- steps with a link
-
--- a command that waits is the one that was sent
-command_stays : (old new : Awaited) (log log' : Told) (wire : ℤ) (s s' : Sending) → Runs old new log log' wire s (step.Pending s') → s'.command ≡ s.command
-command_stays old new log log' wire s s' (inl once) = ap (λ (x : Sending). x.command) once.gives.2
-command_stays old new log log' wire s s' (inr twice) = ap (λ (x : Sending). x.command) twice.gives.2
-
-module _ (old new : Awaited) (log log' : Told) (wire : ℤ) (s : ChangeStream) where
-  -- a getMore
-  module _ (get_more : GetMore) (exec : Sending) (asking : IsAsking s exec) where
-    asked : (result : Step Sending (List ℕ)) → Runs old new log log' wire exec result → (calls : List Call) → log ≡ Some calls → (places : List ℕ) (since : ℕ) (at : Standing) (resumed : Bool) → since ≤ length calls → SoFar old (past_of places since calls wire) at resumed (phase.Asking get_more exec) s
-        → RequestRan new places since calls log' wire (more_command at) false result
-    asked result runs calls logged places since at resumed room far =
-        request_ran old new log log' wire exec (more_command at) false result (asking.carries.command_is ∙ ap asking_command far.by.1.cursor) asking.carries.retries_is runs
-        calls logged places since room far.by.3
-
-    pub asking_waits : (get_more' : GetMore) (exec' : Sending) → Runs old new log log' wire exec (step.Pending exec') → StepCaused old new log log' wire (phase.Asking get_more exec) s (record s { phase = phase.Asking get_more' exec' }) (stepped.Gives poll.Pending)
-    asking_waits get_more' exec' runs = λ calls logged places since at resumed room far.
-        let ran = asked (step.Pending exec') runs calls logged places since at resumed room far in
-        let past = past_of places since ran.calls' wire in
-        record {
-          calls = ran.calls';
-          told = ran.told;
-          room = ran.room;
-          came = record { same = far.same; by = (refl, start_in new past at s (phase.Asking get_more' exec') far.by.1, far.by.2, ran.came) };
-        }
-
-    pub asking_came : (bytes : List ℕ) (s' : ChangeStream) (r : Stepped) → Runs old new log log' wire exec (step.Done bytes) → MoreLeads bytes s s' r → StepCaused old new log log' wire (phase.Asking get_more exec) s s' r
-    asking_came bytes s' r runs leads = λ calls logged places since at resumed room far.
-        let ran = asked (step.Done bytes) runs calls logged places since at resumed room far in
-        let past = past_of places since ran.calls' wire in
-        record {
-          calls = ran.calls';
-          told = ran.told;
-          room = ran.room;
-          came = subst (λ (b : Bool). StepCame new past at b s' r) (sym far.by.0) (leads new past at far.same far.by.1.cursor (heard_more new past at (reply bytes) far.by.2 ran.came) (success_ran old new log log' wire exec bytes runs));
-        }
-
-    pub asking_failed : (e : Error) (s' : ChangeStream) (r : Stepped) → Runs old new log log' wire exec (step.Failed e) → FailLeads e s s' r → StepCaused old new log log' wire (phase.Asking get_more exec) s s' r
-    asking_failed e s' r runs leads = λ calls logged places since at resumed room far.
-        let ran = asked (step.Failed e) runs calls logged places since at resumed room far in
-        let past = past_of places since ran.calls' wire in
-        record {
-          calls = ran.calls';
-          told = ran.told;
-          room = ran.room;
-          came = subst (λ (b : Bool). StepCame new past at b s' r) (sym far.by.0) (leads new past at far.same far.by.1 far.by.2 ran.came);
-        }
-
-  -- a resumption
-  module _ (exec : Sending) (carries : Carries exec (resuming_command s.aggregate wire) true) where
-    asked_again : (result : Step Sending (List ℕ)) → Runs old new log log' wire exec result → (calls : List Call) → log ≡ Some calls → (places : List ℕ) (since : ℕ) (at : Standing) (resumed : Bool) → since ≤ length calls → SoFar old (past_of places since calls wire) at resumed (phase.Resuming exec) s
-        → RequestRan new places since calls log' wire (resume_command wire at) true result
-    asked_again result runs calls logged places since at resumed room far =
-        request_ran old new log log' wire exec (resume_command wire at) true result (carries.command_is ∙ ap (λ (a : ChangeStreamAggregate). resuming_command a wire) far.same) carries.retries_is runs calls logged places since room far.by.2
-
-    pub resuming_waits : (exec' : Sending) → Runs old new log log' wire exec (step.Pending exec') → StepCaused old new log log' wire (phase.Resuming exec) s (record s { phase = phase.Resuming exec' }) (stepped.Gives poll.Pending)
-    resuming_waits exec' runs = λ calls logged places since at resumed room far.
-        let ran = asked_again (step.Pending exec') runs calls logged places since at resumed room far in
-        let before = past_of places since calls wire in
-        let past = past_of places since ran.calls' wire in
-        record {
-          calls = ran.calls';
-          told = ran.told;
-          room = ran.room;
-          came = record { same = far.same; by = (refl, resumes_grows before past ran.grows at s.cursor far.by.1, ran.came) };
-        }
-
-    pub resuming_came : (bytes : List ℕ) (s' : ChangeStream) (r : Stepped) → Runs old new log log' wire exec (step.Done bytes) → ResumeLeads bytes s s' r → StepCaused old new log log' wire (phase.Resuming exec) s s' r
-    resuming_came bytes s' r runs leads = λ calls logged places since at resumed room far.
-        let ran = asked_again (step.Done bytes) runs calls logged places since at resumed room far in
-        let before = past_of places since calls wire in
-        let past = past_of places since ran.calls' wire in
-        record {
-          calls = ran.calls';
-          told = ran.told;
-          room = ran.room;
-          came = subst (λ (b : Bool). StepCame new past at b s' r) (sym far.by.0)
-              (leads new past at far.same (resumes_grows before past ran.grows at s.cursor far.by.1) ran.came (success_ran old new log log' wire exec bytes runs));
-        }
-
-    pub resuming_failed : (e : Error) → Runs old new log log' wire exec (step.Failed e) → StepCaused old new log log' wire (phase.Resuming exec) s (record s { phase = phase.Owing }) (stepped.Gives (poll.Failed e))
-    resuming_failed e runs = λ calls logged places since at resumed room far.
-        let ran = asked_again (step.Failed e) runs calls logged places since at resumed room far in
-        let before = past_of places since calls wire in
-        let past = past_of places since ran.calls' wire in
-        record {
-          calls = ran.calls';
-          told = ran.told;
-          room = ran.room;
-          came = record {
-            why = again_fails new past at s e (resumes_grows before past ran.grows at s.cursor far.by.1) ran.came;
-            token = far.same;
+failed_none : (past : Past) (at : ClientStream) (e : Error) (c : ClientCursor) → MoreFailed past at e c → at.behind ≡ []
+failed_none past at e c (untold may fails is) = may.none_left
+failed_none past at e c (more_broken may bytes said h says is breaks) = may.none_left
+
+resumes_none : (past : Past) (at : ClientStream) (c : ClientCursor) → Resumes past at c → at.behind ≡ []
+resumes_none past at c (owed is cursor) = is.none_left
+resumes_none past at c (more_failed e why is) = failed_none past at e c why
+resumes_none past at c (first_broken bytes e held breaks is) = held.none_left
+
+replied_none : (past : Past) (lone : Bool) (at : ClientStream) (again : Bool) (bytes : List ℕ) (c : ClientCursor) → Replied past lone at again bytes c → at.behind ≡ []
+replied_none past lone at again bytes c (opening not held is) = held.none_left
+replied_none past lone at again bytes c (more not may said h says is) = may.none_left
+replied_none past lone at again bytes c (once_more so old new r gone is) = resumes_none past at old r.why
+
+module _ (awaited : Awaited) (past : Past) (session : Option Session) (at s : ClientStream) (same : s.aggregate ≡ at.aggregate) (c : ClientCursor) (quiet : c.doing ≡ rests) (bytes : List ℕ) where
+  rested : at_rest c ≡ c
+  rested = ap (λ (d : cursors.Doing). record c { doing = d }) (sym quiet)
+
+  looked_came : (again : Bool) → Replied past (is_lone session) at again bytes c → ((e : Error) → BreaksBatch bytes e → again ≡ false → Resumes past at c) → (s' : ClientStream) (r : Stepped) → LooksAt again s c bytes s' r → StepCame awaited past session at again s' r
+  looked_came again replied why s' r (next_there event events there is answer) =
+      came_as awaited past session at again _ s' stepped.Found r is answer
+      (record { same = same; next = came (replied_none past (is_lone session) at again bytes c replied) again bytes replied there; settled = record { follows_on = refl; looked = quiet }; some = λ none. absurd cc })
+  looked_came again replied why s' r (nothing_there there is answer) =
+      came_as awaited past session at again (emptied c s) s' (stepped.Gives (try.Ready result.Waiting)) r is answer
+      (record {
+        why = came_empty (replied_none past (is_lone session) at again bytes c replied) bytes replied there (ap (remembered_empty c.token) same);
+        empty = refl;
+        settled = record { follows_on = refl; looked = quiet };
+      })
+  looked_came true replied why s' r (broken e breaks is answer) =
+      came_as awaited past session at true (owing_with c s) s' (stepped.Gives (try.Failed e)) r is answer
+      (record { why = batch_broken bytes (record { owes_one = refl; none_left = refl }) replied breaks; token = same })
+  looked_came false replied why s' r (broken e breaks is answer) =
+      came_as awaited past session at false (owing_with c s) s' stepped.Goes r is answer
+      (record { same = same; by = subst (Resumes past at) (sym rested) (why e breaks refl) })
+
+-- ---- a getMore
+
+module _ (awaited : Awaited) (past : Past) (session : Option Session) (at s : ClientStream) (same : s.aggregate ≡ at.aggregate) (may : MayAskMore at) (none_here : s.behind ≡ []) (on : s.doing ≡ follows) where
+  -- it failed, or was not read
+  fails_came : (c : ClientCursor) (e : Error) → c.doing ≡ rests → c ≡ behind_failure e at.cursor → MoreFails past at.cursor e ⊎ (e ≡ plain kind.OutOfMemory) → (e.kind ≡ kind.OutOfMemory → c ≡ at.cursor) → (s' : ClientStream) (r : Stepped) → FailsMore s c e s' r → StepCame awaited past session at false s' r
+  fails_came c e quiet is why full s' r (goes_on so at_so answer) =
+      came_as awaited past session at false (owing_with c s) s' stepped.Goes r at_so answer
+      (record { same = same; by = subst (Resumes past at) (ap (λ (d : cursors.Doing). record c { doing = d }) quiet) (more_failed e (untold may why is) so) })
+  fails_came c e quiet is why full s' r (no_memory room at_so answer) =
+      came_as awaited past session at false (owing_with c s) s' (stepped.Gives (try.Failed e)) r at_so answer
+      (record { why = may_lose room (record { owes_one = refl; none_left = refl }) (asking may (full room)); token = same })
+  fails_came c e quiet is why full s' r (final not room at_so answer) =
+      came_as awaited past session at false (with_cursor c s) s' (stepped.Gives (try.Failed e)) r at_so answer
+      (record { why = by_cause why; token = same })
+    where
+      by_cause : MoreFails past at.cursor e ⊎ (e ≡ plain kind.OutOfMemory) → CallFails past session at (with_cursor c s) e
+      by_cause (inl fails) = refused_more may fails (record { stays = not; room = room }) is none_here (record { follows_on = on; looked = quiet })
+      by_cause (inr full_so) = absurd (room (kind_of_plain e full_so))
+
+-- the getMore was polled, and the call had sent it in this session
+module _ (old new : Awaited) (log log' : Told) (wire : ℤ) (now : Option Session) (at s : ClientStream) (same : s.aggregate ≡ at.aggregate) (may : MayAskMore at) (rested_at : at_rest s.cursor ≡ at.cursor) (none_here : s.behind ≡ []) (on : s.doing ≡ follows) (session : Option Session) (sending : Sending) (command_is : fields sending.command ≡ get_more s.cursor session) (single : sending.retries ≡ false) (places : List ℕ) (since : ℕ) where
+  own_command : fields sending.command ≡ get_more at.cursor session
+  own_command = command_is ∙ ap (λ (c : ClientCursor). get_more c session) rested_at
+
+  module _ (past : Past) where
+    read_so : (bytes : List ℕ) (c : ClientCursor) (p : NextPoll) (s' : ClientStream) (r : Stepped) → HeardLast past (get_more at.cursor session) false (reply bytes) → IsSuccess bytes → ReadsReply s.cursor bytes c p → TakesMore s c p s' r → StepCame new past now at false s' r
+    read_so bytes c p s' r heard success (read said says is answer) takes =
+        let looked : LooksAt false s c bytes s' r = subst (λ (x : NextPoll). TakesMore s c x s' r) answer takes in
+        let its : HeardMore past at.cursor bytes = record { session = session; heard = heard_by past (get_more at.cursor session) false (reply bytes) heard; success = success } in
+        let behind : c ≡ behind_reply said at.cursor = is ∙ ap (behind_reply said) rested_at in
+        looked_came new past now at s same c (ap (λ (x : ClientCursor). x.doing) is) bytes false (more refl may said its says behind)
+        (λ e breaks not. more_failed e (more_broken may bytes said its says behind breaks) (batch_resumes bytes e breaks)) s' r looked
+    read_so bytes c p s' r heard success (unread e (inl full) is answer) takes =
+        fails_came new past now at s same may none_here on c e (ap (λ (x : ClientCursor). x.doing) is) (is ∙ rested_at ∙ sym (ap (λ (x : Error). behind_failure x at.cursor) full ∙ at_rest_is)) (inr full) (λ room. is ∙ rested_at) s' r (subst (λ (x : NextPoll). TakesMore s c x s' r) answer takes)
+      where
+        at_rest_is : at_rest at.cursor ≡ at.cursor
+        at_rest_is = ap (λ (d : cursors.Doing). record at.cursor { doing = d }) (sym may.settled.looked)
+    read_so bytes c p s' r heard success (unread e (inr breaks) is answer) takes =
+        let fails : MoreFails past at.cursor e = record { session = session; fails = was_broken bytes heard success breaks } in
+        fails_came new past now at s same may none_here on c e (ap (λ (x : ClientCursor). x.doing) is) (is ∙ sym (behind_broken (fields bytes) e s.cursor breaks) ∙ sym (behind_rested e.kind s.cursor) ∙ ap (behind_failure e) rested_at) (inl fails) (λ room. is ∙ rested_at) s' r
+        (subst (λ (x : NextPoll). TakesMore s c x s' r) answer takes)
+
+    failed_so : (e : Error) (c : ClientCursor) (s' : ClientStream) (r : Stepped) → RequestFails past (get_more at.cursor session) false NoneBroken e → c ≡ behind_failure e s.cursor → FailsMore s c e s' r → StepCame new past now at false s' r
+    failed_so e c s' r fails is h =
+        let behind : c ≡ behind_failure e at.cursor = is ∙ sym (behind_rested e.kind s.cursor) ∙ ap (behind_failure e) rested_at in
+        fails_came new past now at s same may none_here on c e (ap (λ (x : ClientCursor). x.doing) is) behind (inl (record { session = session; fails = fails_anyhow past (get_more at.cursor session) false TellsNoCursor e fails }))
+        (λ room. behind ∙ ap (λ (k : _). at_rest (cursors.behind_kind k at.cursor)) room ∙ ap (λ (d : cursors.Doing). record at.cursor { doing = d }) (sym may.settled.looked)) s' r h
+
+    pending_so : (waiting : Sending) (c : ClientCursor) (s' : ClientStream) (r : Stepped) → fields waiting.command ≡ get_more s.cursor session → Flies new past (get_more at.cursor session) waiting.stage → c ≡ record s.cursor { doing = asks waiting } → s' ≡ with_cursor c s → r ≡ stepped.Gives try.Pending → StepCame new past now at false s' r
+    pending_so waiting c s' r waits flies is at_so answer =
+        came_as new past now at false (with_cursor (record s.cursor { doing = asks waiting }) s) s' (stepped.Gives try.Pending) r (at_so ∙ ap (λ (x : ClientCursor). with_cursor x s) is) answer
+        (record {
+          same = same;
+          by = subst (λ (d : Doing). ByDoing new past (is_lone now) at (with_cursor (record s.cursor { doing = asks waiting }) s) d) (sym on)
+              (may, rested_at, none_here, record { session = session; command_is = waits; flies = subst (λ (x : ClientCursor). Flies new past (get_more x session) waiting.stage) (sym rested_at) flies });
+        })
+
+  pub more_caused : (started : Bool) (s' : ClientStream) (r : Stepped) → AsksMore old new log log' wire started s sending s' r → (calls : List Call) → log ≡ Some calls → since ≤ length calls → Flies old (past_of places since calls wire) (get_more at.cursor session) sending.stage → StepCalled new places since calls log' wire now at false s' r
+  more_caused started s' r h calls told room flies =
+      let runs = runs_of old new log log' wire sending h.runs.came started h.runs.runs in
+      let ran = request_ran old new log log' wire sending (get_more at.cursor session) false h.runs.came own_command single runs calls told places since room flies in
+      record { calls' = ran.calls'; told = ran.told; room = ran.room; keeps = ran.grows.keeps; came = by_came (past_of places since ran.calls' wire) h.runs.came runs ran.came h.left h.poll h.runs.hears h.takes }
+    where
+      by_came : (past : Past) (x : Step Sending (List ℕ)) → Runs old new log log' wire sending x → Came new past (get_more at.cursor session) false x → (c : ClientCursor) (p : NextPoll) → Hears s.cursor x c p → TakesMore s c p s' r → StepCame new past now at false s' r
+      by_came past (step.Pending waiting) runs came_so c p heard takes =
+          let t = subst (λ (x : NextPoll). TakesMore s c x s' r) heard.1 takes in
+          pending_so past waiting c s' r (ap fields (still_waits old new log log' wire sending waiting runs).same_command ∙ command_is) came_so heard.0 t.0 t.1
+      by_came past (step.Done bytes) runs came_so c p heard takes = read_so past bytes c p s' r came_so (success_ran old new log log' wire sending bytes runs) heard takes
+      by_came past (step.Failed e) runs came_so c p heard takes = failed_so past e c s' r came_so heard.0 (subst (λ (x : NextPoll). TakesMore s c x s' r) heard.1 takes)
+
+-- ---- the aggregate of a resumption
+
+underway_quiet : (awaited : Awaited) (past : Past) (c : ClientCursor) (d : cursors.Doing) → IsNotAsking d → ClosingUnderwayBy awaited past c None d
+underway_quiet awaited past c rests quiet = tt
+underway_quiet awaited past c (holds bytes) quiet = tt
+underway_quiet awaited past c (asks sending) quiet = absurd quiet
+
+module _ (new : Awaited) (now : Option Session) (at s : ClientStream) (same : s.aggregate ≡ at.aggregate) (none_here : s.behind ≡ []) (quiet : IsNotAsking s.cursor.doing) (session : Option Session) (plainly : PlainIf (is_lone now) session) where
+  module _ (past : Past) (why : Resumes past at (at_rest s.cursor)) where
+    -- it failed, or was not read
+    resumption_failed : (e : Error) → RequestFails past (resuming_in at.aggregate past.wire session) (is_read_again session) TellsNoCursor e → (s' : ClientStream) (r : Stepped) → s' ≡ record s { doing = owes } → r ≡ stepped.Gives (try.Failed e) → StepCame new past now at false s' r
+    resumption_failed e fails s' r at_so answer =
+        came_as new past now at false (record s { doing = owes }) s' (stepped.Gives (try.Failed e)) r at_so answer
+        (record { why = fails_to_resume (record { owes_one = refl; none_left = none_here }) why (record { session = session; plainly = plainly; fails = fails }); token = same })
+
+    resumption_read : (bytes : List ℕ) → HeardLast past (resuming_in at.aggregate past.wire session) (is_read_again session) (reply bytes) → IsSuccess bytes → (s' : ClientStream) (r : Stepped) → ReadsResumption s bytes s' r → StepCame new past now at false s' r
+    resumption_read bytes heard success s' r (gave out opens at_so answer) =
+        came_as new past now at false (replaced_by out.0 s) s' stepped.Goes r at_so answer
+        (record {
+          same = same;
+          by = record {
+            bytes = bytes;
+            resumed = record {
+              why = why;
+              heard = record { session = session; plainly = plainly; heard = heard; success = success };
+              out = out;
+              opens = subst (λ (a : ChangeStreamAggregate). OpensBy a bytes out) same opens;
+              cursor_is = refl;
+            };
+            underway = underway_quiet new past s.cursor s.cursor.doing quiet;
           };
-        }
+        })
+    resumption_read bytes heard success s' r (broke e (inl full) at_so answer) = resumption_failed e (out_of_memory (kind_of_plain e full)) s' r at_so answer
+    resumption_read bytes heard success s' r (broke e (inr breaks) at_so answer) = resumption_failed e (was_broken bytes heard success breaks) s' r at_so answer
 
-  -- the killing of the cursor before it
-  module _ (exec : Sending) (id : ℤ) (bytes : List ℕ) (killing : IsKilling id exec) where
-    killing_ran : (result : Step Sending (List ℕ)) → Runs old new log log' wire exec result → (calls : List Call) → log ≡ Some calls → (places : List ℕ) (since : ℕ) (at : Standing) (resumed : Bool) → since ≤ length calls → (far : SoFar old (past_of places since calls wire) at resumed (phase.Killing exec id bytes) s)
-        → RequestRan new places since calls log' wire (old_command far.by.1) false result
-    killing_ran result runs calls logged places since at resumed room far = request_ran old new log log' wire exec (old_command far.by.1) false result far.by.3 killing.carries.retries_is runs calls logged places since room far.by.4
+    resumption_waits : (waiting : Sending) (s' : ClientStream) (r : Stepped) → fields waiting.command ≡ resuming_in at.aggregate past.wire session → waiting.retries ≡ is_read_again session → Flies new past (resuming_in at.aggregate past.wire session) waiting.stage
+        → s' ≡ record s { doing = resumes waiting } → r ≡ stepped.Gives try.Pending → StepCame new past now at false s' r
+    resumption_waits waiting s' r command_is retries_is flies at_so answer =
+        came_as new past now at false (record s { doing = resumes waiting }) s' (stepped.Gives try.Pending) r at_so answer
+        (record { same = same; by = (why, record { session = session; plainly = plainly; command_is = command_is; retries_is = retries_is; flies = flies }) })
 
-    pub killing_waits : (exec' : Sending) (id' : ℤ) → id' ≡ id → Runs old new log log' wire exec (step.Pending exec') → StepCaused old new log log' wire (phase.Killing exec id bytes) s (record s { phase = phase.Killing exec' id' bytes }) (stepped.Gives poll.Pending)
-    killing_waits exec' id' is runs = λ calls logged places since at resumed room far.
-        let ran = killing_ran (step.Pending exec') runs calls logged places since at resumed room far in
-        let before = past_of places since calls wire in
-        let past = past_of places since ran.calls' wire in
-        record {
-          calls = ran.calls';
-          told = ran.told;
-          room = ran.room;
-          came = record {
-            same = far.same;
-            by = (
-              refl,
-              far.by.1,
-              record { held = far.by.2.held; named = far.by.2.named ∙ sym is; resumed = resumed_grows before past ran.grows at far.by.1 bytes s.cursor s.batch_token far.by.2.resumed },
-              ap fields (command_stays old new log log' wire exec exec' runs) ∙ far.by.3,
-              ran.came,
-            );
-          };
-        }
+  -- it was polled, and the call had sent it in this session
+  pub resumption_caused : (old : Awaited) (log log' : Told) (wire : ℤ) (started : Bool) (sending : Sending) (s' : ClientStream) (r : Stepped) → RunsResumption old new log log' wire started s sending s' r → (places : List ℕ) (since : ℕ) (calls : List Call) → log ≡ Some calls → since ≤ length calls
+      → Resumes (past_of places since calls wire) at (at_rest s.cursor) → fields sending.command ≡ resuming_in at.aggregate wire session → sending.retries ≡ is_read_again session → Flies old (past_of places since calls wire) (resuming_in at.aggregate wire session) sending.stage
+      → StepCalled new places since calls log' wire now at false s' r
+  resumption_caused old log log' wire started sending s' r h places since calls told room why command_is retries_is flies =
+      let runs = runs_of old new log log' wire sending h.came started h.runs in
+      let ran = request_ran old new log log' wire sending (resuming_in at.aggregate wire session) (is_read_again session) h.came command_is retries_is runs calls told places since room flies in
+      record {
+        calls' = ran.calls';
+        told = ran.told;
+        room = ran.room;
+        keeps = ran.grows.keeps;
+        came = by_came (past_of places since ran.calls' wire) refl (resumes_grows (past_of places since calls wire) (past_of places since ran.calls' wire) ran.grows at (at_rest s.cursor) why) h.came runs ran.came h.hears;
+      }
+    where
+      by_came : (past : Past) → past.wire ≡ wire → Resumes past at (at_rest s.cursor) → (x : Step Sending (List ℕ)) → Runs old new log log' wire sending x → Came new past (resuming_in at.aggregate wire session) (is_read_again session) x → HearsResumption s x s' r → StepCame new past now at false s' r
+      by_came past on why_so (step.Pending waiting) runs came_so heard =
+          let still = still_waits old new log log' wire sending waiting runs in
+          resumption_waits past why_so waiting s' r (ap fields still.same_command ∙ command_is ∙ ap (λ (w : ℤ). resuming_in at.aggregate w session) (sym on)) (still.same_retries ∙ retries_is)
+          (subst (λ (w : ℤ). Flies new past (resuming_in at.aggregate w session) waiting.stage) (sym on) came_so) heard.0 heard.1
+      by_came past on why_so (step.Done bytes) runs came_so heard =
+          resumption_read past why_so bytes (subst (λ (w : ℤ). HeardLast past (resuming_in at.aggregate w session) (is_read_again session) (reply bytes)) (sym on) came_so) (success_ran old new log log' wire sending bytes runs) s' r heard
+      by_came past on why_so (step.Failed e) runs came_so heard =
+          resumption_failed past why_so e
+          (fails_anyhow past (resuming_in at.aggregate past.wire session) (is_read_again session) TellsNoCursor e (subst (λ (w : ℤ). RequestFails past (resuming_in at.aggregate w session) (is_read_again session) NoneBroken e) (sym on) came_so))
+          s' r heard.0 heard.1
 
-    pub killing_came : (said : List ℕ) → Runs old new log log' wire exec (step.Done said) → StepCaused old new log log' wire (phase.Killing exec id bytes) s (record s { phase = phase.Resumed bytes }) stepped.Goes
-    killing_came said runs = λ calls logged places since at resumed room far.
-        let ran = killing_ran (step.Done said) runs calls logged places since at resumed room far in
-        let before = past_of places since calls wire in
-        let past = past_of places since ran.calls' wire in
-        record {
-          calls = ran.calls';
-          told = ran.told;
-          room = ran.room;
-          came = record {
-            same = far.same;
-            by = (
-              far.by.0,
-              again refl far.by.1 (resumed_grows before past ran.grows at far.by.1 bytes s.cursor s.batch_token far.by.2.resumed)
-                  (tried far.by.2.held (reply said) (λ waits. cc) (heard_by past (old_command far.by.1) false (reply said) ran.came)),
-            );
-          };
-        }
+-- ---- the closing of the cursor before
 
-    pub killing_failed : (e : Error) (s' : ChangeStream) (r : Stepped) → Runs old new log log' wire exec (step.Failed e) → KillCause e bytes s s' r → StepCaused old new log log' wire (phase.Killing exec id bytes) s s' r
-    killing_failed e s' r runs h = λ calls logged places since at resumed room far.
-        let ran = killing_ran (step.Failed e) runs calls logged places since at resumed room far in
-        let before = past_of places since calls wire in
-        let past = past_of places since ran.calls' wire in
-        record {
-          calls = ran.calls';
-          told = ran.told;
-          room = ran.room;
-          came = subst (λ (b : Bool). StepCame new past at b s' r) (sym far.by.0)
-              (kill_failed new past at s s' e r bytes far.same far.by.1 (resumed_grows before past ran.grows at far.by.1 bytes s.cursor s.batch_token far.by.2.resumed) far.by.2.held
-              (kill_tried past far.by.1 e far.by.2.held ran.came) h);
-        }
+-- what its killing came to: it waits for that of the same cursor, or was killed so; it fails only where the server held it
+abbrev KillCame : Awaited → Past → ClientCursor → Step ClosingCursor (Unit {0}) → Type 0
+KillCame awaited past c (step.Pending k) = IsClosingUnderway awaited past k × (at_rest k.cursor ≡ at_rest c)
+KillCame awaited past c (step.Done t) = Killed past (at_rest c)
+KillCame awaited past c (step.Failed e) = MayAsk (at_rest c) × (e.kind ≢ kind.OutOfMemory → Killed past (at_rest c))
 
--- ---- steps of a poll
+-- a poll of it, of a call that had sent at these places, and from this one on
+record ClosingRan (new : Awaited) (places : List ℕ) (since : ℕ) (calls : List Call) (log' : Told) (wire : ℤ) (c : ClientCursor) (r : Step ClosingCursor (Unit {0})) : Type 0 where
+  calls' : List Call
+  told : log' ≡ Some calls'
+  room : since ≤ length calls'
+  grows : Grows (past_of places since calls wire) (past_of places since calls' wire)
+  came : KillCame new (past_of places since calls' wire) c r
 
--- from the phase that was taken out
-pub caused_taken : (old new : Awaited) (log log' : Told) (wire : ℤ) (p q : Phase) (s s' : ChangeStream) (r : Stepped) → s.phase ≡ p → StepCaused old new log log' wire p (record s { phase = q }) s' r → StepCaused old new log log' wire s.phase s s' r
-caused_taken old new log log' wire p q s s' r is h =
-    subst (λ (x : Phase). StepCaused old new log log' wire x s s' r) (sym is)
-    (λ calls logged places since at resumed room far. h calls logged places since at resumed room (so_far_by old (past_of places since calls wire) at resumed p s q s.counts far))
+module _ (old new : Awaited) (log log' : Told) (wire : ℤ) (c : ClientCursor) (places : List ℕ) (since : ℕ) (calls : List Call) (told : log ≡ Some calls) (room : since ≤ length calls) where
+  quiet_ran : (r x : Step ClosingCursor (Unit {0})) → SendsNothing old new log log' → r ≡ x → KillCame new (past_of places since calls wire) c x → ClosingRan new places since calls log' wire c r
+  quiet_ran r x none is came_so = record {
+    calls' = calls;
+    told = none.log_same ∙ told;
+    room = room;
+    grows = record { own = λ place call there own. own; keeps = same_keeps calls; wire = refl };
+    came = subst (KillCame new (past_of places since calls wire) c) (sym is) came_so;
+  }
 
--- without a link
-quietly : (old : Awaited) (log : Told) (wire : ℤ) (p : Phase) (s s' : ChangeStream) (r : Stepped) → StepLeads p s s' r → StepCaused old old log log wire p s s' r
-quietly old log wire p s s' r h = λ calls logged places since at resumed room far. record { calls = calls; told = logged; room = room; came = h old (past_of places since calls wire) at resumed far }
+  -- the killCursors came to this
+  kill_came : (past : Past) → MayAsk (at_rest c) → (sending : Sending) (x : Step Sending (List ℕ)) (r : Step ClosingCursor (Unit {0})) → Runs old new log log' wire sending x → Came new past (kill c) false x → KillHears (at_rest c) x r → KillCame new past c r
+  kill_came past may sending (step.Pending waiting) r runs came_so h = subst (KillCame new past c) (sym h) (came_so, refl)
+  kill_came past may sending (step.Done bytes) r runs came_so h =
+      subst (KillCame new past c) (sym h) (was_killed may bytes (heard_by past (kill c) false (reply bytes) came_so) (success_ran old new log log' wire sending bytes runs))
+  kill_came past may sending (step.Failed e) r runs came_so h = subst (KillCame new past c) (sym h) (may, λ room. tried may e room (inl came_so))
 
-pub caused_quietly : (old : Awaited) (log : Told) (wire : ℤ) (p q : Phase) (s s' : ChangeStream) (r : Stepped) → s.phase ≡ p → StepLeads p (record s { phase = q }) s' r → StepCaused old old log log wire s.phase s s' r
-caused_quietly old log wire p q s s' r is h = caused_taken old old log log wire p q s s' r is (quietly old log wire p (record s { phase = q }) s' r h)
+  killing_ran : (sending : Sending) (r : Step ClosingCursor (Unit {0})) → MayAsk (at_rest c) → KillRuns old new log log' wire (at_rest c) sending r → fields sending.command ≡ kill c → sending.retries ≡ false → Flies old (past_of places since calls wire) (kill c) sending.stage → ClosingRan new places since calls log' wire c r
+  killing_ran sending r may runs command_is single flies =
+      let ran = request_ran old new log log' wire sending (kill c) false runs.came command_is single runs.runs calls told places since room flies in
+      record {
+        calls' = ran.calls';
+        told = ran.told;
+        room = ran.room;
+        grows = ran.grows;
+        came = kill_came (past_of places since ran.calls' wire) may sending runs.came r runs.runs ran.came runs.hears;
+      }
 
-pub caused_owing : (old : Awaited) (log : Told) (wire wire' : ℤ) (q : Phase) (s s' : ChangeStream) (r : Stepped) → s.phase ≡ phase.Owing → wire ≡ wire' → OweLeads wire' (record s { phase = q }) s' r → StepCaused old old log log wire s.phase s s' r
-caused_owing old log wire wire' q s s' r is at_wire h =
-    caused_taken old old log log wire phase.Owing q s s' r is
-    (λ calls logged places since at resumed room far. record { calls = calls; told = logged; room = room; came = h old (past_of places since calls wire) at resumed at_wire far })
+  begun_ran : (r : Step ClosingCursor (Unit {0})) → KillsCursor old new log log' wire (at_rest c) r → ClosingRan new places since calls log' wire c r
+  begun_ran r (nothing_left over none is) = quiet_ran r (step.Done tt) none is (none_held over)
+  begun_ran r (not_built may e (inl memory) none is) = quiet_ran r (step.Failed e) none is (may, λ room. absurd (room (kind_of_plain e memory)))
+  begun_ran r (not_built may e (inr cannot) none is) = quiet_ran r (step.Failed e) none is (may, λ room. tried may e room (inr cannot))
+  begun_ran r (kill_sends may sending new_one runs) =
+      killing_ran sending r may runs new_one.command_is new_one.single (subst (λ (stage : Stage). Flies old (past_of places since calls wire) (kill c) stage) (sym new_one.new) tt)
 
--- a phase that was taken out is rest
-pub from_rest : (s s' : ChangeStream) (r : Stepped) → StepLeads phase.Rest s s' r → StepLeads phase.Taken s s' r
-from_rest s s' r h = λ awaited past at resumed far. h awaited past at resumed (record { same = far.same; by = far.by })
+closing_ran : (old new : Awaited) (log log' : Told) (wire : ℤ) (before : ClosingCursor) (places : List ℕ) (since : ℕ) (calls : List Call) (r : Step ClosingCursor (Unit {0})) → log ≡ Some calls → since ≤ length calls → IsClosing before → IsLanded before
+    → IsClosingUnderway old (past_of places since calls wire) before → ClosingPolls old new log log' wire before r → ClosingRan new places since calls log' wire before.cursor r
+closing_ran old new log log' wire before places since calls r told room closing_so landed underway (kill_lands none sending asks_so h) =
+    absurd (subst (λ (d : cursors.Doing). LandedBy None d) asks_so (subst (λ (o : Option Sending). LandedBy o before.cursor.doing) none landed))
+closing_ran old new log log' wire before places since calls r told room closing_so landed underway (kill_begins none quiet h) = begun_ran old new log log' wire before.cursor places since calls told room r h
+closing_ran old new log log' wire before places since calls r told room closing_so landed underway (kill_goes_on sending is runs) =
+    let killing = subst (ClosesBy before.cursor) is closing_so in
+    let still : before.cursor ≡ at_rest before.cursor = sym (ap (λ (d : cursors.Doing). record before.cursor { doing = d }) (sym killing.at_end)) in
+    killing_ran old new log log' wire before.cursor places since calls told room sending r (subst MayAsk still killing.may) (subst (λ (x : ClientCursor). KillRuns old new log log' wire x sending r) still runs)
+    killing.waits_on.command_is killing.waits_on.single
+    (subst (λ (o : Option Sending). ClosingUnderwayBy old (past_of places since calls wire) before.cursor o before.cursor.doing) is underway)
 
--- ---- polls
+module _ (new : Awaited) (past : Past) (now : Option Session) (at s : ClientStream) (same : s.aggregate ≡ at.aggregate) (none_here : s.behind ≡ []) (c : ClientCursor) (bytes : List ℕ) (resumed : Resumed past (is_lone now) at (at_rest c) bytes s.cursor) where
+  closing_came : (x : Step ClosingCursor (Unit {0})) → KillCame new past c x → (s' : ClientStream) (r : Stepped) → HearsClosing s x s' r → StepCame new past now at false s' r
+  closing_came (step.Pending before) h s' r heard =
+      came_as new past now at false (record s { doing = kills before }) s' (stepped.Gives try.Pending) r heard.0 heard.1
+      (record { same = same; by = record { bytes = bytes; resumed = subst (λ (x : ClientCursor). Resumed past (is_lone now) at x bytes s.cursor) (sym h.1) resumed; underway = h.0 } })
+  closing_came (step.Done t) h s' r heard =
+      came_as new past now at false (record s { doing = renewed }) s' stepped.Goes r heard.0 heard.1
+      (record { same = same; by = record { old = at_rest c; bytes = bytes; resumed = resumed; killed = h } })
+  closing_came (step.Failed e) h s' r (inl heard) =
+      came_as new past now at false (record s { doing = owes }) s' (stepped.Gives (try.Failed e)) r heard.1 heard.2
+      (record { why = may_lose heard.0 (record { owes_one = refl; none_left = none_here }) (closing (at_rest c) bytes resumed h.0); token = same })
+  closing_came (step.Failed e) h s' r (inr heard) =
+      came_as new past now at false (record s { doing = renewed }) s' stepped.Goes r heard.1 heard.2
+      (record { same = same; by = record { old = at_rest c; bytes = bytes; resumed = resumed; killed = h.1 heard.0 } })
 
--- how far the steps of a poll have come
-abbrev pub Went : Awaited → Awaited → Told → Told → ℤ → ChangeStream → ChangeStream → Type 0
-Went old new log log' wire s s' = (calls : List Call) → log ≡ Some calls → (places : List ℕ) (at : Standing) → SoFar old (past_of places (length calls) calls wire) at false s.phase s
-    → (resumed : Bool) × StepCalled new places (length calls) log' wire at resumed s' stepped.Goes
+-- it was polled
+pub closing_caused : (old new : Awaited) (log log' : Told) (wire : ℤ) (now : Option Session) (at s : ClientStream) (before : ClosingCursor) → s.aggregate ≡ at.aggregate → s.behind ≡ [] → IsClosing before → IsLanded before → (came_so : Step ClosingCursor (Unit {0})) → ClosingPolls old new log log' wire before came_so → (s' : ClientStream) (r : Stepped) → HearsClosing s came_so s' r
+    → (places : List ℕ) (since : ℕ) (calls : List Call) → log ≡ Some calls → since ≤ length calls → IsReplaced old (past_of places since calls wire) (is_lone now) at s before → StepCalled new places since calls log' wire now at false s' r
+closing_caused old new log log' wire now at s before same none_here closing_so landed came_so polls s' r heard places since calls told room replaced =
+    let ran = closing_ran old new log log' wire before places since calls came_so told room closing_so landed replaced.underway polls in
+    let past' : Past = past_of places since ran.calls' wire in
+    record {
+      calls' = ran.calls';
+      told = ran.told;
+      room = ran.room;
+      keeps = ran.grows.keeps;
+      came = closing_came new past' now at s same none_here before.cursor replaced.bytes
+          (resumed_grows (past_of places since calls wire) past' ran.grows (is_lone now) at (at_rest before.cursor) replaced.bytes s.cursor replaced.resumed) came_so ran.came s' r heard;
+    }
 
-pub went_none : (old : Awaited) (log : Told) (wire : ℤ) (s : ChangeStream) → Went old old log log wire s s
-went_none old log wire s = λ calls logged places at far. (false, record { calls = calls; told = logged; room = omega arith; came = far })
+-- ---- a step
 
-call_came : (awaited : Awaited) (past : Past) (at : Standing) (resumed : Bool) (s : ChangeStream) (c : Counts) (r : EventPoll) → StepCame awaited past at resumed s (stepped.Gives r) → CallCame awaited past at (record s { counts = c }) r
-call_came awaited past at resumed s c poll.Pending h = so_far_by awaited past at false s.phase s s.phase c h
-call_came awaited past at resumed s c (poll.Ready None) h = (resumed, h)
-call_came awaited past at resumed s c (poll.Ready (Some event)) h = h
-call_came awaited past at resumed s c (poll.Failed e) h = h
+over_none : (c : ClientCursor) → c.pinned ≡ connection.Unpinned → IsOver c → c.id ≡ pos 0
+over_none c unbound (inl none) = none
+over_none c unbound (inr bad) = let invalid : false ≡ true = sym (ap is_invalid unbound) ∙ bad in absurd cc
 
-module _ (old between new : Awaited) (log mid log' : Told) (wire wire' : ℤ) (s t s' : ChangeStream) (at_wire : wire' ≡ wire) (before : Went old between log mid wire s t) where
-  stepped_on : (r : Stepped) → StepCaused between new mid log' wire' t.phase t s' r → (calls : List Call) → log ≡ Some calls → (places : List ℕ) (at : Standing) → SoFar old (past_of places (length calls) calls wire) at false s.phase s
-      → (resumed : Bool) × StepCalled new places (length calls) log' wire at resumed s' r
-  stepped_on r h calls logged places at far =
-      let x = before calls logged places at far in
-      let h' = subst (λ (w : ℤ). StepCaused between new mid log' w t.phase t s' r) at_wire h in
-      (_, h' x.1.calls x.1.told places (length calls) at x.0 x.1.room x.1.came)
+holds_same : (d : cursors.Doing) (a b : List ℕ) → d ≡ holds a → d ≡ holds b → a ≡ b
+holds_same d a b one other = same_some a b (ap reply_in (sym one ∙ other))
 
-  pub went_on : StepCaused between new mid log' wire' t.phase t s' stepped.Goes → Went old new log log' wire s s'
-  went_on h = stepped_on stepped.Goes h
+-- of a call that names none its aggregate names none
+plain_if : (now session : Option Session) → (now ≡ None → session ≡ None) → PlainIf (is_lone now) session
+plain_if None session none_then = none_then refl
+plain_if (Some named) session none_then = tt
 
-  -- the call pends, or has ended
-  pub went_last : (t' : ChangeStream) (r : EventPoll) → t' ≡ record s' { counts = t'.counts } → StepCaused between new mid log' wire' t.phase t s' (stepped.Gives r) → CallCaused old new log log' wire s t' r
-  went_last t' r is h = λ calls logged places at far.
-      let x = stepped_on (stepped.Gives r) h calls logged places at far in
-      let past = past_of places (length calls) x.1.calls wire in
-      (x.1.calls, x.1.told, subst (λ (u : ChangeStream). CallCame new past at u r) (sym is) (call_came new past at x.0 s' t'.counts r x.1.came))
+-- how far the call had come, by what is on its way
+so_far_by : (awaited : Awaited) (past : Past) (lone : Bool) (at s : ClientStream) (d : Doing) → s.doing ≡ d → SoFar awaited past lone at s → ByDoing awaited past lone at s d
+so_far_by awaited past lone at s d is so = subst (ByDoing awaited past lone at s) is so.by
+
+by_cursor : (awaited : Awaited) (past : Past) (at s : ClientStream) (d : cursors.Doing) → s.cursor.doing ≡ d → ByCursor awaited past at s s.cursor.doing → ByCursor awaited past at s d
+by_cursor awaited past at s d is h = subst (ByCursor awaited past at s) is h
+
+module _ (new : Awaited) (log log' : Told) (wire : ℤ) (now : Option Session) (at s : ClientStream) (places : List ℕ) (since : ℕ) (calls : List Call) (told : log ≡ Some calls) (room : since ≤ length calls) where
+  abbrev so : Past
+  so = past_of places since calls wire
+
+  quiet_called : (old : Awaited) (again : Bool) (s' : ClientStream) (r : Stepped) → SendsNothing old new log log' → StepCame new so now at again s' r → StepCalled new places since calls log' wire now at again s' r
+  quiet_called old again s' r none h = record { calls' = calls; told = none.log_same ∙ told; room = room; keeps = same_keeps calls; came = h }
+
+  -- nothing was sent yet
+  start_settled : IsStart at s → s.cursor.doing ≡ rests → IsSettled at
+  start_settled h quiet = record { follows_on = h.follows_on; looked = ap (λ (c : ClientCursor). c.doing) (sym h.cursor) ∙ quiet }
+
+  start_found : s.aggregate ≡ at.aggregate → s.doing ≡ follows → IsStart at s → s.cursor.doing ≡ rests → s.behind ≢ [] → FoundSo so (is_lone now) at s
+  start_found same on h quiet some = record { same = same; next = left (start_settled h quiet) h.events h.cursor; settled = record { follows_on = on; looked = quiet }; some = some }
+
+  start_may : IsStart at s → s.cursor.doing ≡ rests → s.behind ≡ [] → MayAsk s.cursor → MayAskMore at
+  start_may h quiet empty may = record { settled = start_settled h quiet; none_left = sym h.events ∙ empty; may = subst MayAsk h.cursor may }
+
+  start_holds : IsStart at s → (bytes : List ℕ) → s.cursor.doing ≡ holds bytes → s.behind ≡ [] → HoldsFirst at bytes
+  start_holds h bytes held empty = record { follows_on = h.follows_on; in_hand = ap (λ (c : ClientCursor). c.doing) (sym h.cursor) ∙ held; none_left = sym h.events ∙ empty }
+
+  start_ends : s.aggregate ≡ at.aggregate → s.doing ≡ follows → IsStart at s → s.cursor.doing ≡ rests → s.behind ≡ [] → s.cursor.id ≡ pos 0 → AnswerCame so (is_lone now) at false s result.Exhausted
+  start_ends same on h quiet empty over =
+      let none : at.cursor.id ≡ pos 0 = ap (λ (c : ClientCursor). c.id) (sym h.cursor) ∙ over in
+      (record { why = none_left refl (start_settled h quiet) (sym h.events ∙ empty) none same h.cursor; empty = empty; settled = record { follows_on = on; looked = quiet } }, none, refl)
+
+  start_fails : s.aggregate ≡ at.aggregate → s.doing ≡ follows → IsStart at s → s.cursor.doing ≡ rests → s.behind ≡ [] → MayAsk s.cursor → (e : Error) → FailsBy (CannotAsk s.cursor now) e → CallFailed so now at s e
+  start_fails same on h quiet empty may e (inl full) = record { why = lacks_memory (kind_of_plain e full) (as_it_was (start_settled h quiet) h.cursor h.events (on ∙ sym h.follows_on)); token = same }
+  start_fails same on h quiet empty may e (inr cannot) =
+      record { why = cannot_ask (start_may h quiet empty may) (subst (λ (c : ClientCursor). CannotAsk c now e) h.cursor cannot) h.cursor empty (record { follows_on = on; looked = quiet }); token = same }
+
+  owing_fails : s.aggregate ≡ at.aggregate → s.doing ≡ owes → s.behind ≡ [] → Resumes so at (at_rest s.cursor) → (session : Option Session) (plainly : now ≡ None → session ≡ None) (e : Error) → FailsBy (CannotResume s.aggregate wire session) e → CallFailed so now at s e
+  owing_fails same on empty why session plainly e (inl full) = record { why = may_lose (kind_of_plain e full) (record { owes_one = on; none_left = empty }) (resuming why); token = same }
+  owing_fails same on empty why session plainly e (inr cannot) =
+      record { why = cannot_resume (record { owes_one = on; none_left = empty }) why session (plainly, subst (λ (a : ChangeStreamAggregate). CannotResume a wire session e) same cannot); token = same }
+
+  renewed_reply : IsRenewed so (is_lone now) at s → (bytes : List ℕ) → s.cursor.doing ≡ holds bytes → Replied so (is_lone now) at true bytes (at_rest s.cursor)
+  renewed_reply h bytes held =
+      let whole : h.bytes ≡ bytes = sym h.resumed.opens.opens.opens.whole ∙ holds_same s.cursor.doing h.resumed.out.0.initial_reply bytes (ap (λ (c : ClientCursor). c.doing) h.resumed.cursor_is) held in
+      once_more refl h.old s.cursor (subst (λ (x : List ℕ). Resumed so (is_lone now) at h.old x s.cursor) whole h.resumed) h.killed refl
+
+-- A step of a call that had sent at these places; its session is this one, but where a step before it told it of a command.
+module _ (old new : Awaited) (log log' : Told) (wire : ℤ) (session now : Option Session) (started : Bool) (at s s' : ClientStream) (r : Stepped) (sound : IsSound false s) (first : s.doing ≡ follows → now ≡ session) (plainly : now ≡ None → session ≡ None) (places : List ℕ) (since : ℕ) (calls : List Call) (told : log ≡ Some calls) (room : since ≤ length calls) (so_far : SoFar old (past_of places since calls wire) (is_lone now) at s) where
+  abbrev past : Past
+  past = past_of places since calls wire
+
+  abbrev Called : Bool → Type 0
+  Called again = StepCalled new places since calls log' wire now at again s' r
+
+  as_doing : (d : Doing) → s.doing ≡ d → Called (is_renewed d) → Called (is_renewed s.doing)
+  as_doing d is h = subst (λ (x : Doing). Called (is_renewed x)) (sym is) h
+
+  sound_by : (d : Doing) → s.doing ≡ d → SoundBy false s d
+  sound_by d is = subst (SoundBy false s) is sound.by
+
+  quiet : (again : Bool) → SendsNothing old new log log' → StepCame new past now at again s' r → Called again
+  quiet again none h = quiet_called new log log' wire now at s places since calls told room old again s' r none h
+
+  cursor_by : s.doing ≡ follows → (d : cursors.Doing) → s.cursor.doing ≡ d → ByCursor old past at s d
+  cursor_by on d is = by_cursor old past at s d is (so_far_by old past (is_lone now) at s follows on so_far)
+
+  found : s.doing ≡ follows → (s.behind ≡ [] → ⊥) → (d : cursors.Doing) → s.cursor.doing ≡ d → FoundSo past (is_lone now) at s
+  found on some rests is = start_found new log log' wire now at s places since calls told room so_far.same on (cursor_by on rests is) is some
+  found on some (holds bytes) is = absurd (some (subst (λ (x : cursors.Doing). FollowsBy x s.behind) is (sound_by follows on)))
+  found on some (asks sending) is = absurd (some (cursor_by on (asks sending) is).2)
+
+  pub step_caused : DoesStep old new log log' wire session started s s' r → Called (is_renewed s.doing)
+  step_caused (finds on some none not_so at_so answer) =
+      as_doing follows on (quiet false none (came_as new past now at false s s' stepped.Found r at_so answer (found on some s.cursor.doing refl)))
+  step_caused (looks on empty bytes held none not_so looked) =
+      let start = cursor_by on (holds bytes) held in
+      let first_held = start_holds new log log' wire now at s places since calls told room start bytes held empty in
+      let is : at_rest s.cursor ≡ at_rest at.cursor = ap at_rest start.cursor in
+      as_doing follows on (quiet false none
+      (looked_came new past now at s so_far.same (at_rest s.cursor) refl bytes false (opening refl first_held is) (λ e breaks not. first_broken bytes e first_held breaks is) s' r looked))
+  step_caused (ends on empty rests_so over none not_so at_so answer) =
+      as_doing follows on (quiet false none (came_as new past now at false s s' (stepped.Gives (try.Ready result.Exhausted)) r at_so answer
+      (start_ends new log log' wire now at s places since calls told room so_far.same on (cursor_by on rests rests_so) rests_so empty (over_none s.cursor sound.unbound over))))
+  step_caused (not_asked on empty rests_so may e fails none not_so at_so answer) =
+      as_doing follows on (quiet false none (came_as new past now at false s s' (stepped.Gives (try.Failed e)) r at_so answer
+      (start_fails new log log' wire now at s places since calls told room so_far.same on (cursor_by on rests rests_so) rests_so empty may e (subst (λ (x : Option Session). FailsBy (CannotAsk s.cursor x) e) (sym (first on)) fails))))
+  step_caused (asks_more on empty rests_so may sending new_one h) =
+      let start = cursor_by on rests rests_so in
+      let may_more = start_may new log log' wire now at s places since calls told room start rests_so empty may in
+      let rested : at_rest s.cursor ≡ at.cursor = ap (λ (d : cursors.Doing). record s.cursor { doing = d }) (sym rests_so) ∙ start.cursor in
+      as_doing follows on
+      (more_caused old new log log' wire now at s so_far.same may_more rested empty on session sending new_one.command_is new_one.single places since started s' r h calls told room
+      (subst (λ (stage : Stage). Flies old past (get_more at.cursor session) stage) (sym new_one.new) tt))
+  step_caused (waits_more on empty sending asks_so h) =
+      let more_so = cursor_by on (asks sending) asks_so in
+      let flies = more_so.3 in
+      let asking_so = subst (λ (d : cursors.Doing). cursors.SoundBy false s.cursor d) asks_so sound.asks_its_own in
+      as_doing follows on
+      (more_caused old new log log' wire now at s so_far.same more_so.0 more_so.1 empty on flies.session sending flies.command_is asking_so.waits_on.single places since started s' r h calls told room
+      (subst (λ (c : ClientCursor). Flies old past (get_more c flies.session) sending.stage) more_so.1 flies.flies))
+  step_caused (not_resumed on e fails none not_so at_so answer) =
+      as_doing owes on (quiet false none (came_as new past now at false s s' (stepped.Gives (try.Failed e)) r at_so answer
+      (owing_fails new log log' wire now at s places since calls told room so_far.same on (sound_by owes on).none_left (so_far_by old past (is_lone now) at s owes on so_far) session plainly e fails)))
+  step_caused (resumes_now on sending new_one h) =
+      let aside = sound_by owes on in
+      as_doing owes on
+      (resumption_caused new now at s so_far.same aside.none_left aside.quiet session (plain_if now session plainly) old log log' wire started sending s' r h places since calls told room (so_far_by old past (is_lone now) at s owes on so_far)
+      (new_one.command_is ∙ ap (λ (a : ChangeStreamAggregate). resuming_in a wire session) so_far.same) new_one.retries_is
+      (subst (λ (stage : Stage). Flies old past (resuming_in at.aggregate wire session) stage) (sym new_one.new) tt))
+  step_caused (waits_resumption sending on h) =
+      let aside = (sound_by (resumes sending) on).0 in
+      let came_so = so_far_by old past (is_lone now) at s (resumes sending) on so_far in
+      as_doing (resumes sending) on
+      (resumption_caused new now at s so_far.same aside.none_left aside.quiet came_so.1.session came_so.1.plainly old log log' wire started sending s' r h places since calls told room came_so.0 came_so.1.command_is came_so.1.retries_is came_so.1.flies)
+  step_caused (closes before on not_so came_so polls heard) =
+      let parts = sound_by (kills before) on in
+      as_doing (kills before) on
+      (closing_caused old new log log' wire now at s before so_far.same parts.0.none_left parts.2 parts.3 came_so polls s' r heard places since calls told room (so_far_by old past (is_lone now) at s (kills before) on so_far))
+  step_caused (renews on bytes held none not_so looked) =
+      as_doing renewed on (quiet true none
+      (looked_came new past now at s so_far.same (at_rest s.cursor) refl bytes true (renewed_reply new log log' wire now at s places since calls told room (so_far_by old past (is_lone now) at s renewed on so_far) bytes held) (λ e breaks not. absurd cc) s' r looked))

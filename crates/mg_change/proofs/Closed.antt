@@ -1,66 +1,54 @@
 -- Where a stream is behind the polls of its closing.
-use Rattle.std.proofs.Common.{◌≡◌, ◌≢◌, ℕ, ℤ, pos, Bool, true, false, List, [], ◌∷◌, ◌++◌, Option, refl, sym, ap, ◌∙◌, subst, inl, inr}
+use Rattle.std.proofs.Common.{◌≡◌, ◌≢◌, ◌⊎◌, ℕ, ℤ, pos, Bool, true, false, List, [], ◌∷◌, ◌++◌, Option, Some, None, refl, sym, ap, ◌∙◌, subst, inl, inr, map}
 use Rattle.std.specs.Prelude.{unwrap_or, if◌then◌else◌}
 use Rattle.std.specs.Ordering.{int_eq}
-use Rattle.mg_bson.specs.Tree.{Tree, Fields, Items}
 use Rattle.mg_bson.specs.Raw.{fields}
-use Rattle.mg_link.specs.Commands.{asks_kill, asks_watch, asked, documents_in}
-use Rattle.mg_link.specs.Exec.{Stage, unsent, first, second, Sending, Attempt, IsSuccess, Runs, Tries}
-use Rattle.mg_link.specs.Follow.{Follow, owner_of, IsOpen, ResumesAt, Moved}
-use Rattle.mg_link.specs.Link.{Awaited, Told}
-use Rattle.mg_link.specs.Log.{reply}
-use Rattle.mg_link.specs.Namespace.{space, target}
+use Rattle.mg_bson.specs.Tree.{Fields, Tree}
+use Rattle.mg_link.specs.Commands.{asks_kill, asked, documents_in}
+use Rattle.mg_link.specs.Exec.{Attempt, Runs, Sending, Stage, Tries, first, second, unsent}
+use Rattle.mg_link.specs.Follow.{Follow, IsOpen, Moved, ResumesAt, owing, owner_of, resting, resuming}
+use Rattle.mg_link.specs.Link.{Awaited, SendsNothing, Told}
 use Rattle.mg_link.specs.Owner.{IsOf, NamesOwn}
 use Rattle.mg_link.specs.State.{Start, Watch}
 use Rattle.mg_link.specs.declared.action.Step.{Step}
 use Rattle.mg_link.specs.declared.action.Step.TheVariants as step
 use Rattle.mg_link.specs.declared.error.Error.{Error}
-use Rattle.mg_link.specs.Errors.{command_code}
-use Rattle.mg_change.specs.Polls.{ends_cursor}
-use Rattle.mg_link.specs.Acts.{Tickets}
-use Rattle.mg_link.proofs.Onward.{tickets_on}
-use Rattle.mg_link.proofs.Moving.{IdsFrom, known, moved_here, same_opened}
-use Rattle.mg_link.proofs.Asking.{MoreAnswered}
-use Rattle.mg_link.proofs.Moves.{moved, owed, given_with, stayed}
+use Rattle.mg_link.proofs.Asking.{asks_at}
 use Rattle.mg_link.proofs.Killing.{close_begun, close_gone_on}
+use Rattle.mg_link.proofs.Moves.{given_with, moved, owed, stayed}
+use Rattle.mg_link.proofs.Moving.{IdsFrom, known, moved_here, same_opened}
 use Rattle.mg_link.proofs.Resumes.{kill_own, resumed_with}
 use Rattle.mg_link.proofs.Retries.{at_stage}
-use Rattle.mg_ops.specs.Commands.{kill_command}
-use Rattle.mg_ops.specs.Cursors.{Cursor, manner_of}
-use Rattle.mg_ops.specs.Resuming.{options_for}
-use Rattle.mg_ops.specs.declared.cursor_reply.CursorSpecification.{CursorSpecification}
-use Rattle.mg_ops.specs.declared.cursor_reply.GetMoreResult.{GetMoreResult}
-use Rattle.mg_ops.specs.declared.get_more.GetMore.{GetMore}
-use Rattle.mg_ops.proofs.Asking.{asks_as_aimed_plainly, asks_for_more_plainly, asks_to_kill_plainly}
-use Rattle.mg_ops.specs.Aims.{asked_for}
-use Rattle.mg_change.specs.Following.{idle_by, in_hand, in_phase}
-use Rattle.mg_change.specs.Phases.{Carries, IsKept, Sends, resuming_command}
-use Rattle.mg_change.specs.Closings.{FailLeaves, FlightCarries, IsLast, IsMore, IsOlder, Knew, Lands, Leaves, MoreLeaves, ResumeLeaves, closed, closes_to, closing_in, flight_in, flight_ticket, ids_left, landing_of, left_as, left_of}
-use Rattle.mg_change.specs.declared.closing.Closing.{Closing}
-use Rattle.mg_change.specs.declared.closing.Flight.{Flight}
-use Rattle.mg_change.specs.declared.closing.Flight.TheVariants as flight
-use Rattle.mg_change.specs.declared.closing.Remains.{Remains}
-use Rattle.mg_change.specs.declared.stream.ChangeStream.{ChangeStream}
-use Rattle.mg_change.specs.declared.stream.Phase.{Phase}
-use Rattle.mg_change.specs.declared.stream.Phase.TheVariants as phase
-use Rattle.mg_change.specs.Replies.{Resumed}
-use Rattle.mg_change.proofs.Garbled.{IsHeld, Waiting, carries_on, runs_once, still_waits}
-use Rattle.mg_change.proofs.Heeding.{MoreCame, ResumeCame, more_polled, more_taken, resume_polled, resume_taken}
-use Rattle.mg_ops.proofs.Reading.{batch_as, named_read}
-use Rattle.mg_change.proofs.Resumption.{aimed_still, begins_again}
-use Rattle.mg_change.proofs.Opened.{aimed_at}
+use Rattle.mg_ops.proofs.Asking.{asks_for_more, asks_to_kill_plainly}
+use Rattle.mg_ops.proofs.Reading.{batch_as}
+use Rattle.mg_cursor.specs.Client.{ClientCursor, IsAsking, asks, at_rest, behind_failure, behind_reply, holds, kill, rests}
+use Rattle.mg_cursor.specs.Client as cursors
+use Rattle.mg_cursor.specs.Closing.{ClosesBy, ClosingCursor, ClosingPolls, IsClosing, IsKilling, IsLanded, IsNotAsking, KillHears, KillsCursor, LandedBy, begins as kill_begins, goes_on as kill_goes_on, kills as kills_it, lands as kill_lands, not_built as kill_not_built, nothing_left as kill_not_needed}
+use Rattle.mg_cursor.specs.Polling.{Hears, ReadsReply, broke, gave}
+use Rattle.mg_cursor.specs.declared.polls.NextPoll.{NextPoll}
+use Rattle.mg_cursor.specs.declared.polls.NextPoll.TheVariants as next
+use Rattle.mg_change.specs.ClientStreams.{Asks, ClientStream, Doing, IsAggregate, IsSound, SoundBy, follows, kills, owes, renewed, resumes, stream_token}
+use Rattle.mg_change.specs.ClosingStreams.{BehindAggregate, BehindMore, BehindOlder, BehindOpening, ClosesStream, ClosingStream, HearsKill, IsLanding, IsSoundStream, KillsLeft, Landing, LandsFor, LandsForBy, LandsSoundly, PassesOver, ResumesWatch, RunsKill, begins, closed_stream, ends, goes_on, ids_left, kill_left, kills_all, landing_of, lands, lands_aggregate, lands_closing, lands_more, lands_older, lands_opening, not_built, nothing_left, opened_none, opened_one}
+use Rattle.mg_change.specs.Following.{OnPending, closing_by, events_in, follow_by, follow_closed, follow_closing, follow_of, held_by, idle_by, in_hand, left_as, older_by, unread, with_landing, with_more, with_older}
+use Rattle.mg_change.proofs.Garbled.{runs_once, still_waits}
+use Rattle.mg_change.proofs.Heeding.{MoreCame, ResumeCame, at_waiting, more_polled, more_taken, resume_polled, resume_taken, waits_still}
+use Rattle.mg_change.proofs.Turning.{ClosesTo, asks_again, at_same, left_id, older_same, up_to}
 
 -- ---- what is let down
 
--- An open stream lets go of all but these of its cursors.
-pub lets_down : (log : Told) (f : Follow) (cursor opened : ℤ) → IsOpen f.doing → IdsFrom f (left_as f cursor opened) → Moved log log f (left_as f cursor opened)
+-- an open stream of which these two cursors are left
+abbrev pub down : Follow → ℤ → ℤ → Follow
+down f cursor opened = record f { doing = owing; cursor = cursor; old = opened; ahead = []; upto = None }
+
+-- it lets go of all others
+pub lets_down : (log : Told) (f : Follow) (cursor opened : ℤ) → IsOpen f.doing → IdsFrom f (down f cursor opened) → Moved log log f (down f cursor opened)
 lets_down log f cursor opened is_open ids calls told = (
   calls,
   told,
-  moved_here calls f (left_as f cursor opened) refl ids (λ k.
+  moved_here calls f (down f cursor opened) refl ids (λ k.
       let kn = known calls f is_open k in
       record {
-        opened = same_opened calls f (left_as f cursor opened) refl refl refl kn.opened;
+        opened = same_opened calls f (down f cursor opened) refl refl refl kn.opened;
         facts = λ history legal stands position placed.
             let facts = kn.facts history legal stands position placed in
             record { from = facts.from; begins = facts.begins; place = facts.place; reached = facts.reached; hand = tt };
@@ -68,7 +56,7 @@ lets_down log f cursor opened is_open ids calls told = (
 )
 
 -- it keeps its cursors
-keeps_down : (log : Told) (f : Follow) → IsOpen f.doing → Moved log log f (left_as f f.cursor f.old)
+keeps_down : (log : Told) (f : Follow) → IsOpen f.doing → Moved log log f (down f f.cursor f.old)
 keeps_down log f is_open = lets_down log f f.cursor f.old is_open (λ x of ne. of)
 
 none_left : (x : ℤ) → IsOf (pos 0 ∷ pos 0 ∷ []) x → x ≢ pos 0 → ⊥
@@ -76,49 +64,27 @@ none_left x (inl e) ne = ne (sym e)
 none_left x (inr (inl e)) ne = ne (sym e)
 none_left x (inr (inr none)) ne = none
 
--- It is closed.
-pub dropped : (log : Told) (f : Follow) (cursor opened : ℤ) → Moved log log (left_as f cursor opened) (closed f)
-dropped log f cursor opened = lets_down log (left_as f cursor opened) (pos 0) (pos 0) tt (λ x of ne. absurd (none_left x of ne))
+-- it is closed
+dropped : (log : Told) (f : Follow) → IsOpen f.doing → Moved log log f (down f (pos 0) (pos 0))
+dropped log f is_open = lets_down log f (pos 0) (pos 0) is_open (λ x of ne. absurd (none_left x of ne))
 
--- ---- from the stream to its closing
+-- all but an older one, where there is none
+only_first : (f : Follow) (cursor opened : ℤ) → f.cursor ≡ cursor → opened ≡ pos 0 → IdsFrom f (down f cursor opened)
+only_first f cursor opened is alone x (inl e) ne = inl (is ∙ e)
+only_first f cursor opened is alone x (inr (inl e)) ne = absurd (ne (sym e ∙ alone))
+only_first f cursor opened is alone x (inr (inr none)) ne = absurd none
 
-hand_down : (log : Told) (events : List Fields) (upto : Option Tree) (w : Watch) (start : Start) (opened : Option ℕ) (cursor : ℤ) (token : Option Tree) (answered : List Fields) → Moved log log (in_hand events upto (idle_by w start opened cursor token answered)) (idle_by w start opened cursor token answered)
-hand_down log [] upto w start opened cursor token answered = keeps_down log (in_hand [] upto (idle_by w start opened cursor token answered)) tt
-hand_down log (e ∷ es) upto w start opened cursor token answered = keeps_down log (in_hand (e ∷ es) upto (idle_by w start opened cursor token answered)) tt
+-- the two the other way round
+turned_round : (f : Follow) (cursor opened : ℤ) → f.cursor ≡ opened → f.old ≡ cursor → IdsFrom f (down f cursor opened)
+turned_round f cursor opened new old x (inl e) ne = inr (inl (old ∙ e))
+turned_round f cursor opened new old x (inr (inl e)) ne = inl (new ∙ e)
+turned_round f cursor opened new old x (inr (inr none)) ne = absurd none
 
-killing_down : (log : Told) (awaited : Awaited) (stage : Stage) (f : Follow) (old : ℤ) → IsOpen f.doing → Moved log log (at_stage (record f { old = old }) (λ place. f) awaited stage) (at_stage (left_as f f.cursor old) (λ place. left_as f f.cursor f.old) awaited stage)
-killing_down log awaited unsent f old is_open = keeps_down log (record f { old = old }) is_open
-killing_down log awaited (first ticket) f old is_open = keeps_down log f is_open
-killing_down log awaited (second ticket) f old is_open = keeps_down log f is_open
-
-stays : (log : Told) (f : Follow) → Moved log log f f
-stays log f = stayed log log f refl
-
--- The stream is to be closed: nothing is sent. Its token may have been handed out.
-pub close_moved : (log : Told) (awaited : Awaited) (events : List Fields) (upto : Option Tree) (w : Watch) (start : Start) (opened : Option ℕ) (cursor : ℤ) (token : Option Tree) (answered : List Fields) (p : Phase)
-    → Moved log log (in_phase awaited p events upto (idle_by w start opened cursor token answered)) (closing_in awaited (flight_in p) (idle_by w start opened cursor token answered))
-close_moved log awaited events upto w start opened cursor token answered phase.Taken = hand_down log events upto w start opened cursor token answered
-close_moved log awaited events upto w start opened cursor token answered phase.Rest = hand_down log events upto w start opened cursor token answered
-close_moved log awaited events upto w start opened cursor token answered (phase.First said) = keeps_down log (in_phase awaited (phase.First said) events upto (idle_by w start opened cursor token answered)) tt
-close_moved log awaited events upto w start opened cursor token answered phase.Fresh = keeps_down log (in_phase awaited phase.Fresh events upto (idle_by w start opened cursor token answered)) tt
-close_moved log awaited events upto w start opened cursor token answered (phase.Asking get_more exec) = stays log (in_phase awaited (phase.Asking get_more exec) events upto (idle_by w start opened cursor token answered))
-close_moved log awaited events upto w start opened cursor token answered phase.Owing = stays log (idle_by w start opened cursor token answered)
-close_moved log awaited events upto w start opened cursor token answered (phase.Resuming exec) = stays log (in_phase awaited (phase.Resuming exec) events upto (idle_by w start opened cursor token answered))
-close_moved log awaited events upto w start opened cursor token answered (phase.Killing exec old said) = killing_down log awaited exec.stage (in_phase awaited (phase.Resumed said) events upto (idle_by w start opened cursor token answered)) old tt
-close_moved log awaited events upto w start opened cursor token answered (phase.Resumed said) = keeps_down log (in_phase awaited (phase.Resumed said) events upto (idle_by w start opened cursor token answered)) tt
-
--- what is in flight stays what it is
-pub close_flies : (wire : ℤ) (s : ChangeStream) (r : Remains) (p : Phase) → r.aggregate ≡ s.aggregate → r.cursor ≡ s.cursor → r.opened ≡ pos 0 → Sends wire s p → FlightCarries wire r (flight_in p)
-close_flies wire s r phase.Taken a c none sends = tt
-close_flies wire s r phase.Rest a c none sends = tt
-close_flies wire s r (phase.First said) a c none sends = tt
-close_flies wire s r phase.Fresh a c none sends = tt
-close_flies wire s r (phase.Asking get_more exec) a c none sends =
-    subst (λ k. FlightCarries wire (record r { cursor = k }) (flight.More get_more exec)) (sym c) (record { carries = sends.carries; held = sends.held; alone = none })
-close_flies wire s r phase.Owing a c none sends = tt
-close_flies wire s r (phase.Resuming exec) a c none sends = subst (λ k. Carries exec (resuming_command k wire) true) (sym a) sends
-close_flies wire s r (phase.Killing exec old said) a c none sends = record { kills = sends; alone = none }
-close_flies wire s r (phase.Resumed said) a c none sends = tt
+-- its cursor may have ended
+perhaps_ended : (f : Follow) (cursor : ℤ) → (cursor ≡ f.cursor) ⊎ (cursor ≡ pos 0) → IdsFrom f (down f cursor f.old)
+perhaps_ended f cursor (inl same) x (inl e) ne = inl (sym same ∙ e)
+perhaps_ended f cursor (inr none) x (inl e) ne = absurd (ne (sym e ∙ none))
+perhaps_ended f cursor which x (inr rest) ne = inr rest
 
 -- ---- a killCursors
 
@@ -139,178 +105,374 @@ own_tried old new log log' g command unsent attempt own t = close_begun old new 
 own_tried old new log log' g command (first ticket) attempt own t = close_gone_on old new log log' g ticket attempt t
 own_tried old new log log' g command (second ticket) attempt own t = close_gone_on old new log log' g ticket attempt t
 
-older_own : (f : Follow) (c old : ℤ) (command : List ℕ) → old ≢ pos 0 → asked command ≡ asks_kill (old ∷ []) → NamesOwn (owner_of (left_as f c old)) (asked command)
-older_own f c old command there asks = kill_own (left_as f c old) command (old ∷ []) asks (λ x of. elim of [ inl e ↦ (inr (inl e), λ z. there (e ∙ z)) | inr none ↦ absurd none ])
+-- ---- from the stream to its closing
 
--- without the older one
-alone_down : (log : Told) (f : Follow) (c old opened : ℤ) → opened ≡ pos 0 → Moved log log (left_as f c old) (left_as f c opened)
-alone_down log f c old opened alone =
-    lets_down log (left_as f c old) c opened tt (λ x of ne. elim of [
-      | inl e ↦ inl e
-      | inr rest ↦ elim rest [ inl e ↦ absurd (ne (sym e ∙ alone)) | inr none ↦ absurd none ]
-    ])
+hand_down : (log : Told) (events : List Fields) (upto : Option Tree) (w : Watch) (start : Start) (opened : Option ℕ) (cursor : ℤ) (token : Option Tree) (answered : List Fields) → Moved log log (in_hand events upto (idle_by w start opened cursor token answered)) (idle_by w start opened cursor token answered)
+hand_down log [] upto w start opened cursor token answered = keeps_down log (in_hand [] upto (idle_by w start opened cursor token answered)) tt
+hand_down log (e ∷ es) upto w start opened cursor token answered = keeps_down log (in_hand (e ∷ es) upto (idle_by w start opened cursor token answered)) tt
 
-older_tried : (old new : Awaited) (log log' : Told) (f : Follow) (c id opened : ℤ) (command : List ℕ) (stage : Stage) (attempt : Attempt) → opened ≡ pos 0 → id ≢ pos 0 → asked command ≡ asks_kill (id ∷ []) → Tries old new log log' command stage attempt
-    → Moved log log' (at_stage (left_as f c id) (λ place. left_as f c opened) old stage) (left_as f c opened)
-older_tried old new log log' f c id opened command unsent attempt alone there asks t =
-    moved log log' log' (left_as f c id) (left_as f c id) (left_as f c opened)
-    (own_tried old new log log' (left_as f c id) command unsent attempt (older_own f c id command there asks) t)
-    (alone_down log' f c id opened alone)
-older_tried old new log log' f c id opened command (first ticket) attempt alone there asks t = close_gone_on old new log log' (left_as f c opened) ticket attempt t
-older_tried old new log log' f c id opened command (second ticket) attempt alone there asks t = close_gone_on old new log log' (left_as f c opened) ticket attempt t
+module _ (log : Told) (awaited : Awaited) (w : Watch) (start : Start) (opened : Option ℕ) (cursor : ℤ) (token : Option Tree) (answered : List Fields) where
+  abbrev from_idle : Follow
+  from_idle = idle_by w start opened cursor token answered
 
--- at a stage that waits the older one was let go
-older_held : (f : Follow) (g : Follow) (awaited : Awaited) (stage : Stage) → IsHeld stage → g ≡ at_stage f (λ place. g) awaited stage
-older_held f g awaited unsent held = absurd held
-older_held f g awaited (first ticket) held = refl
-older_held f g awaited (second ticket) held = refl
+  more_down : (d : cursors.Doing) (events : List Fields) (upto : Option Tree) → Moved log log (with_more awaited d events upto from_idle) (with_landing awaited d from_idle)
+  more_down rests events upto = hand_down log events upto w start opened cursor token answered
+  more_down (holds reply) events upto = keeps_down log (held_by (events_in reply) upto from_idle) tt
+  more_down (asks sending) events upto = stayed log log (with_more awaited (asks sending) events upto from_idle) refl
 
-module _ (old new : Awaited) (log log' : Told) (wire : ℤ) (f : Follow) (r : Remains) (s : Sending) (result : Step Sending (List ℕ)) (runs : Runs old new log log' wire s result) where
-  -- The killing of what is left was polled.
-  pub last_ran : IsLast r s → Moved log log' (left_of f r) (left_of f r)
-  last_ran is =
-      let once = runs_once old new log log' wire s result is.retries_is runs in
-      let ids = ids_left r.cursor.id r.opened in
-      own_tried old new log log' (left_of f r) s.command s.stage once.attempt
-      (kill_own (left_of f r) s.command ids (asks_to_kill_plainly s.command (space r.cursor.ns) ids is.command_is) (λ x of. left_by (int_eq r.cursor.id (pos 0)) (int_eq r.opened (pos 0)) r.cursor.id r.opened x refl refl of))
-      once.tries
+  -- the batch that was not looked at is let go
+  unread_down : (d : cursors.Doing) (upto : Option Tree) → IsNotAsking d → Moved log log (unread d upto from_idle) (with_landing awaited d from_idle)
+  unread_down rests upto quiet = stayed log log from_idle refl
+  unread_down (holds reply) upto quiet = keeps_down log (held_by (events_in reply) upto from_idle) tt
+  unread_down (asks sending) upto quiet = absurd quiet
 
-  -- The killing of an older cursor was polled.
-  pub older_ran : (id : ℤ) → IsOlder r id s → Moved log log' (closing_in old (flight.Older s id) (left_of f r)) (left_of f r)
-  older_ran id is =
-      let once = runs_once old new log log' wire s result is.kills.carries.retries_is runs in
-      older_tried old new log log' f r.cursor.id id r.opened s.command s.stage once.attempt is.alone is.kills.there (asks_to_kill_plainly s.command is.kills.at (id ∷ []) is.kills.carries.command_is) once.tries
+  idle_down : (d : cursors.Doing) → IsNotAsking d → Moved log log from_idle (with_landing awaited d from_idle)
+  idle_down rests quiet = stayed log log from_idle refl
+  idle_down (holds reply) quiet = stayed log log from_idle refl
+  idle_down (asks sending) quiet = absurd quiet
 
-  -- A getMore was polled.
-  pub more_flown : (get_more : GetMore) → IsKept r.aggregate r.cursor → IsMore r s → MoreCame (left_of f r) new log log' (closing_in old (flight.More get_more s) (left_of f r)) result
-  more_flown get_more kept is =
-      more_polled (left_of f r) old new log log' wire s (space r.cursor.ns) result is.held
-      (asks_for_more_plainly s.command r.cursor.id (space r.cursor.ns) (manner_of r.cursor) kept.named is.carries.command_is) is.carries.retries_is runs
+  -- so it is while the cursor before is closed
+  older_stage : (d : cursors.Doing) (upto : Option Tree) (id : ℤ) (stage : Stage) → IsNotAsking d → Moved log log (at_stage (record (unread d upto from_idle) { old = id }) (λ place. unread d upto from_idle) awaited stage) (at_stage (record from_idle { old = id }) (λ place. from_idle) awaited stage)
+  older_stage rests upto id stage quiet = stayed log log (at_stage (record from_idle { old = id }) (λ place. from_idle) awaited stage) refl
+  older_stage (holds reply) upto id unsent quiet = keeps_down log (record (held_by (events_in reply) upto from_idle) { old = id }) tt
+  older_stage (holds reply) upto id (first ticket) quiet = keeps_down log (held_by (events_in reply) upto from_idle) tt
+  older_stage (holds reply) upto id (second ticket) quiet = keeps_down log (held_by (events_in reply) upto from_idle) tt
+  older_stage (asks sending) upto id stage quiet = absurd quiet
 
-  -- The aggregate of a resumption was polled.
-  pub resumption_flown : IsKept r.aggregate r.cursor → Carries s (resuming_command r.aggregate wire) true → Knew r.aggregate f → ResumeCame (left_of f r) new log log' (closing_in old (flight.Resumption s) (left_of f r)) result
-  resumption_flown kept carries knew =
-      let a = r.aggregate.args in
-      let asks = knew.asks in
-      let o = options_for a.options r.aggregate.resume wire in
-      let b = begins_again a.options r.aggregate.resume wire f.start kept.saved asks.from in
-      let aimed = aimed_still (target a.target) a.options r.aggregate.resume wire ∙ asks.aimed in
-      let is : asked s.command ≡ asks_watch f.watch b.begin =
-      asks_as_aimed_plainly s.command (target a.target) a.pipeline.items o carries.command_is ∙ ap asked_for (aimed_at a f.watch o b.begin aimed asks.by b.starts) in
-      resume_polled (left_of f r) b.begin old new log log' wire s (subst (λ (t : Option Tree). ResumesAt f.start t b.begin) (sym knew.token_is) b.resumes)
-      is result runs
+  older_down : (d : cursors.Doing) (upto : Option Tree) (c : ClientCursor) (killing : Option Sending) → IsNotAsking d → Moved log log (older_by awaited c killing (unread d upto from_idle)) (older_by awaited c killing from_idle)
+  older_down d upto c None quiet = older_stage d upto c.id unsent quiet
+  older_down d upto c (Some sending) quiet = older_stage d upto c.id sending.stage quiet
 
--- ---- behind a reply
+close_by : (log : Told) (awaited : Awaited) (w : Watch) (start : Start) (s : ClientStream) (d : Doing) → SoundBy false s d → (events answered : List Fields) (opened : Option ℕ) (token : Option Tree)
+    → Moved log log (follow_by awaited d s.cursor events (idle_by w start opened s.cursor.id token answered)) (closing_by awaited (landing_of d) s.cursor (idle_by w start opened s.cursor.id token answered))
+close_by log awaited w start s follows sound events answered opened token = more_down log awaited w start opened s.cursor.id token answered s.cursor.doing events s.cursor.token
+close_by log awaited w start s owes sound events answered opened token = idle_down log awaited w start opened s.cursor.id token answered s.cursor.doing sound.quiet
+close_by log awaited w start s (resumes sending) sound events answered opened token =
+    stayed log log (follow_by awaited (resumes sending) s.cursor events (idle_by w start opened s.cursor.id token answered)) refl
+close_by log awaited w start s (kills before) sound events answered opened token =
+    older_down log awaited w start opened s.cursor.id token answered s.cursor.doing s.cursor.token before.cursor before.killing sound.0.quiet
+close_by log awaited w start s renewed sound events answered opened token = unread_down log awaited w start opened s.cursor.id token answered s.cursor.doing s.cursor.token sound.0.quiet
 
--- it waits still
-pub older_waits : (old new : Awaited) (log log' : Told) (wire : ℤ) (f : Follow) (r : Remains) (s s' : Sending) (id id' : ℤ) → IsOlder r id s → Runs old new log log' wire s (step.Pending s')
-    → Moved log log' (closing_in old (flight.Older s id) (left_of f r)) (closing_in new (flight.Older s' id') (left_of f r))
-older_waits old new log log' wire f r s s' id id' is runs =
-    subst (λ (g : Follow). Moved log log' (closing_in old (flight.Older s id) (left_of f r)) g)
-    (older_held (record (left_of f r) { old = id' }) (left_of f r) new s'.stage (still_waits old new log log' wire s s' runs).held)
-    (older_ran old new log log' wire f r s (step.Pending s') runs id is)
+-- The stream is to be closed: nothing is sent. Its token may have been handed out.
+pub close_moved : (log : Told) (awaited : Awaited) (w : Watch) (start : Start) (lent : Bool) (s : ClientStream) (opened : Option ℕ) (answered : List Fields) → IsSound false s
+    → Moved log log (follow_of awaited w start s opened answered) (follow_closing awaited w start (stream_token s) (closed_stream lent s) opened answered)
+close_moved log awaited w start lent s opened answered sound = close_by log awaited w start s s.doing sound.by (map fields s.behind) answered opened (stream_token s)
 
-pub older_still : (s s' : Sending) (r : Remains) (id id' : ℤ) → id' ≡ id → Waiting s s' → IsOlder r id s → IsOlder r id' s'
-older_still s s' r id id' same waits is =
-    subst (λ (z : ℤ). IsOlder r z s') (sym same)
-    (record { kills = record { at = is.kills.at; carries = carries_on s s' (kill_command is.kills.at (id ∷ [])) false waits is.kills.carries; there = is.kills.there }; alone = is.alone })
+-- ---- what a new closing keeps
 
--- what is left behind a request that failed
-pub lost_to : (awaited : Awaited) (log log' : Told) (g f : Follow) (r : Remains) (e : Error) (result : Step Closing Remains) → Leaves e r result → Moved log log' g (left_of f r) → Moved log log' g (landing_of awaited f result)
-lost_to awaited log log' g f r e (step.Pending c) leaves m = absurd leaves
-lost_to awaited log log' g f r e (step.Done r') leaves m = subst (λ (x : Remains). Moved log log' g (left_of f x)) (sym leaves.0) m
-lost_to awaited log log' g f r e (step.Failed x) leaves m = moved log log' log' g (left_of f r) (closed f) m (dropped log' f r.cursor.id r.opened)
+sound_by : (lent : Bool) (s : ClientStream) (d : Doing) → IsSound false s → SoundBy false s d → LandsSoundly (closed_stream lent s) (landing_of d)
+sound_by lent s follows sound by = record { asks_its_own = sound.asks_its_own; named = sound.named; alone = refl }
+sound_by lent s owes sound by = record { asks_its_own = sound.asks_its_own; named = sound.named; alone = refl }
+sound_by lent s (resumes sending) sound by = by.0.quiet
+sound_by lent s (kills before) sound by = (by.0.quiet, by.2, by.3, refl)
+sound_by lent s renewed sound by = record { asks_its_own = sound.asks_its_own; named = sound.named; alone = refl }
 
-pub lost_lands : (wire : ℤ) (r : Remains) (e : Error) (result : Step Closing Remains) → Leaves e r result → IsKept r.aggregate r.cursor → Lands wire r.aggregate result
-lost_lands wire r e (step.Pending c) leaves kept = absurd leaves
-lost_lands wire r e (step.Done r') leaves kept = (subst (λ (x : Remains). IsKept x.aggregate x.cursor) (sym leaves.0) kept, ap (λ (x : Remains). x.aggregate) leaves.0)
-lost_lands wire r e (step.Failed x) leaves kept = tt
+-- the closing of a sound stream is sound
+pub closed_sound : (lent : Bool) (s : ClientStream) → IsSound false s → IsSoundStream (closed_stream lent s)
+closed_sound lent s sound = sound_by lent s s.doing sound sound.by
 
--- ---- behind a getMore
+for_by : (w : Watch) (start : Start) (s : ClientStream) (d : Doing) → IsSound false s → SoundBy false s d → Asks s.aggregate.args w start → LandsForBy w start (stream_token s) (landing_of d)
+for_by w start s follows sound by asks_so = tt
+for_by w start s owes sound by asks_so = tt
+for_by w start s (resumes sending) sound by asks_so =
+    let own : IsAggregate false s.aggregate sending = by.1 in
+    record { aggregate = s.aggregate; asks = asks_so; saved = sound.saved; token_is = refl; wire = own.wire; session = own.session; command_is = own.command_is }
+for_by w start s (kills before) sound by asks_so = tt
+for_by w start s renewed sound by asks_so = tt
 
-ended_down : (log : Told) (f : Follow) (c o : ℤ) (ended : Bool) → Moved log log (left_as f c o) (left_as f (if ended then pos 0 else c) o)
-ended_down log f c o true = lets_down log (left_as f c o) (pos 0) o tt (λ x of ne. elim of [ inl e ↦ absurd (ne (sym e)) | inr rest ↦ inr rest ])
-ended_down log f c o false = lets_down log (left_as f c o) c o tt (λ x of ne. of)
+-- what is on its way is of this stream
+pub closed_for : (w : Watch) (start : Start) (lent : Bool) (s : ClientStream) → IsSound false s → Asks s.aggregate.args w start → LandsFor w start (stream_token s) (closed_stream lent s)
+closed_for w start lent s sound asks_so = for_by w start s s.doing sound sound.by asks_so
 
-pub fail_to : (awaited : Awaited) (log log' : Told) (g f : Follow) (r : Remains) (e : Error) (result : Step Closing Remains) → FailLeaves e r result → Moved log log' g (left_of f r) → Moved log log' g (landing_of awaited f result)
-fail_to awaited log log' g f r e (step.Pending c) leaves m = absurd leaves
-fail_to awaited log log' g f r e (step.Done r') leaves m =
-    let ended = ends_cursor (command_code e.kind) in
-    subst (λ (x : Remains). Moved log log' g (left_of f x)) (sym leaves.0)
-    (moved log log' log' g (left_of f r) (left_as f (if ended then pos 0 else r.cursor.id) r.opened) m (ended_down log' f r.cursor.id r.opened ended))
-fail_to awaited log log' g f r e (step.Failed x) leaves m = moved log log' log' g (left_of f r) (closed f) m (dropped log' f r.cursor.id r.opened)
+-- ---- a closing
 
-pub fail_lands : (wire : ℤ) (r : Remains) (e : Error) (result : Step Closing Remains) → FailLeaves e r result → IsKept r.aggregate r.cursor → Lands wire r.aggregate result
-fail_lands wire r e (step.Pending c) leaves kept = absurd leaves
-fail_lands wire r e (step.Done r') leaves kept =
-    (subst (λ (x : Remains). IsKept x.aggregate x.cursor) (sym leaves.0) (record { saved = kept.saved; named = kept.named }), ap (λ (x : Remains). x.aggregate) leaves.0)
-fail_lands wire r e (step.Failed x) leaves kept = tt
+module _ (w : Watch) (start : Start) (token : Option Tree) (opened : Option ℕ) (answered : List Fields) where
+  -- a stream of which these cursors are left
+  abbrev pub at_ids : ℤ → ℤ → Follow
+  at_ids cursor older = left_as w start opened token answered cursor older
 
-abbrev given_cursor : GetMoreResult → Items → Cursor
-given_cursor out batch = record { id = out.id; space = space out.ns; token = out.post_batch_resume_token; batch = batch }
+  -- where it is behind a poll of its closing
+  abbrev pub closed_to : Awaited → Step ClosingStream (Unit {0}) → Follow
+  closed_to awaited r = follow_closed awaited w start token opened answered r
 
-pub more_to : (awaited : Awaited) (log log' : Told) (g f : Follow) (r : Remains) (bytes : List ℕ) (result : Step Closing Remains) → r.opened ≡ pos 0 → MoreLeaves bytes r result → MoreAnswered (left_of f r) log log' g (reply bytes) → IsSuccess bytes → Moved log log' g (landing_of awaited f result)
-more_to awaited log log' g f r bytes (step.Pending c) alone leaves m success = absurd leaves
-more_to awaited log log' g f r bytes (step.Done r') alone (inl unread) m success = subst (λ (x : Remains). Moved log log' g (left_of f x)) (sym unread.1) m.lost
-more_to awaited log log' g f r bytes (step.Done r') alone (inr gave) m success =
-    let out = gave.0 in
-    let c = given_cursor out gave.1.batch in
-    let h = given_with (left_of f r) (batch_as c (unwrap_or (documents_in c.batch) [])) in
-    subst (λ (x : Remains). Moved log log' g (left_of f x)) (sym gave.2)
-    (moved log log' log' g h (left_as f out.id r.opened) (more_taken (left_of f r) log log' g bytes c success gave.1.says m)
-    (lets_down log' h out.id r.opened tt (λ x of ne. elim of [
-      | inl e ↦ inl e
-      | inr rest ↦ elim rest [ inl e ↦ absurd (ne (sym e ∙ alone)) | inr none ↦ absurd none ]
-    ])))
-more_to awaited log log' g f r bytes (step.Failed e) alone leaves m success = moved log log' log' g (left_of f r) (closed f) m.lost (dropped log' f r.cursor.id r.opened)
+  all_dropped : (log log' : Told) (g : Follow) (cursor older : ℤ) → Moved log log' g (at_ids cursor older) → Moved log log' g (at_ids (pos 0) (pos 0))
+  all_dropped log log' g cursor older m = moved log log' log' g (at_ids cursor older) (at_ids (pos 0) (pos 0)) m (dropped log' (at_ids cursor older) tt)
 
-pub more_lands : (wire : ℤ) (r : Remains) (bytes : List ℕ) (result : Step Closing Remains) → MoreLeaves bytes r result → IsKept r.aggregate r.cursor → Lands wire r.aggregate result
-more_lands wire r bytes (step.Pending c) leaves kept = absurd leaves
-more_lands wire r bytes (step.Done r') (inl unread) kept = (subst (λ (x : Remains). IsKept x.aggregate x.cursor) (sym unread.1) kept, ap (λ (x : Remains). x.aggregate) unread.1)
-more_lands wire r bytes (step.Done r') (inr gave) kept = (
-  subst (λ (x : Remains). IsKept x.aggregate x.cursor) (sym gave.2) (record { saved = kept.saved; named = named_read (fields bytes) (given_cursor gave.0 gave.1.batch) gave.1.says }),
-  ap (λ (x : Remains). x.aggregate) gave.2,
-)
-more_lands wire r bytes (step.Failed e) leaves kept = tt
+  module _ (old new : Awaited) (log log' : Told) (wire : ℤ) (k : ClosingStream) (r : Step ClosingStream (Unit {0})) where
+    -- its killCursors was polled
+    last_ran : (sending : Sending) (came : Step Sending (List ℕ)) → fields sending.command ≡ kill_left k → sending.retries ≡ false → Runs old new log log' wire sending came → Moved log log' (at_ids k.cursor.id k.opened) (at_ids k.cursor.id k.opened)
+    last_ran sending came command_is single runs =
+        let once = runs_once old new log log' wire sending came single runs in
+        own_tried old new log log' (at_ids k.cursor.id k.opened) sending.command sending.stage once.attempt
+        (kill_own (at_ids k.cursor.id k.opened) sending.command (ids_left k) (asks_to_kill_plainly sending.command k.cursor.space (ids_left k) command_is)
+        (λ x of. left_by (int_eq k.cursor.id (pos 0)) (int_eq k.opened (pos 0)) k.cursor.id k.opened x refl refl of))
+        once.tries
 
--- ---- behind the aggregate of a resumption
+    last_heard : (came : Step Sending (List ℕ)) → HearsKill k came r → Moved log log' (at_ids k.cursor.id k.opened) (at_ids k.cursor.id k.opened) → Moved log log' (at_ids k.cursor.id k.opened) (closed_to new r)
+    last_heard (step.Pending waiting) h m = subst (λ (x : Step ClosingStream (Unit {0})). Moved log log' (at_ids k.cursor.id k.opened) (closed_to new x)) (sym h) m
+    last_heard (step.Done bytes) h m =
+        subst (λ (x : Step ClosingStream (Unit {0})). Moved log log' (at_ids k.cursor.id k.opened) (closed_to new x)) (sym h) (all_dropped log log' (at_ids k.cursor.id k.opened) k.cursor.id k.opened m)
+    last_heard (step.Failed e) h m =
+        subst (λ (x : Step ClosingStream (Unit {0})). Moved log log' (at_ids k.cursor.id k.opened) (closed_to new x)) (sym h) (all_dropped log log' (at_ids k.cursor.id k.opened) k.cursor.id k.opened m)
 
-abbrev opened_cursor : CursorSpecification → Items → Cursor
-opened_cursor out batch = record { id = out.info.id; space = space out.info.ns; token = out.post_batch_resume_token; batch = batch }
+    kill_moved : (sending : Sending) → fields sending.command ≡ kill_left k → sending.retries ≡ false → RunsKill old new log log' wire k sending r → Moved log log' (at_ids k.cursor.id k.opened) (closed_to new r)
+    kill_moved sending command_is single h = last_heard h.came h.hears (last_ran sending h.came command_is single h.runs)
 
-pub resumption_to : (awaited : Awaited) (log log' : Told) (g f : Follow) (r : Remains) (bytes : List ℕ) (result : Step Closing Remains) → ResumeLeaves bytes r result → Resumed (left_of f r) log log' g bytes → IsSuccess bytes → Moved log log' g (landing_of awaited f result)
-resumption_to awaited log log' g f r bytes (step.Pending c) leaves m success = absurd leaves
-resumption_to awaited log log' g f r bytes (step.Done r') (inl unread) m success = subst (λ (x : Remains). Moved log log' g (left_of f x)) (sym unread.1) m.lost
-resumption_to awaited log log' g f r bytes (step.Done r') (inr gave) m success =
-    let out = gave.0.0 in
-    let opens = gave.1.opens.opens in
-    let c = opened_cursor out opens.batch in
-    let h = resumed_with (left_of f r) (batch_as c (unwrap_or (documents_in c.batch) [])) in
-    subst (λ (x : Remains). Moved log log' g (left_of f x)) (sym gave.2)
-    (moved log log' log' g h (left_as f r.cursor.id out.info.id) (resume_taken (left_of f r) log log' g bytes c success opens.says m)
-    (lets_down log' h r.cursor.id out.info.id tt (λ x of ne. elim of [
-      | inl e ↦ inr (inl e)
-      | inr rest ↦ elim rest [ inl e ↦ inl e | inr none ↦ absurd none ]
-    ])))
-resumption_to awaited log log' g f r bytes (step.Failed e) leaves m success = moved log log' log' g (left_of f r) (closed f) m.lost (dropped log' f r.cursor.id r.opened)
+    -- nothing was sent
+    quiet_moved : (x : Step ClosingStream (Unit {0})) → SendsNothing old new log log' → r ≡ x → closed_to new x ≡ at_ids (pos 0) (pos 0) → Moved log log' (at_ids k.cursor.id k.opened) (closed_to new r)
+    quiet_moved x nothing answer is =
+        subst (λ (y : Step ClosingStream (Unit {0})). Moved log log' (at_ids k.cursor.id k.opened) (closed_to new y)) (sym answer)
+        (up_to log log' (at_ids k.cursor.id k.opened) (at_ids (pos 0) (pos 0)) (closed_to new x) (sym is)
+        (all_dropped log log' (at_ids k.cursor.id k.opened) k.cursor.id k.opened (stayed log log' (at_ids k.cursor.id k.opened) nothing.log_same)))
 
-pub resumption_lands : (wire : ℤ) (r : Remains) (bytes : List ℕ) (result : Step Closing Remains) → ResumeLeaves bytes r result → IsKept r.aggregate r.cursor → Lands wire r.aggregate result
-resumption_lands wire r bytes (step.Pending c) leaves kept = absurd leaves
-resumption_lands wire r bytes (step.Done r') (inl unread) kept = (subst (λ (x : Remains). IsKept x.aggregate x.cursor) (sym unread.1) kept, ap (λ (x : Remains). x.aggregate) unread.1)
-resumption_lands wire r bytes (step.Done r') (inr gave) kept = (subst (λ (x : Remains). IsKept x.aggregate x.cursor) (sym gave.2) kept, ap (λ (x : Remains). x.aggregate) gave.2)
-resumption_lands wire r bytes (step.Failed e) leaves kept = tt
+    -- what is left is killed
+    pub left_moved : KillsLeft old new log log' wire k r → Moved log log' (at_ids k.cursor.id k.opened) (closed_to new r)
+    left_moved (nothing_left none nothing answer) = quiet_moved (step.Done tt) nothing answer refl
+    left_moved (not_built some e fails nothing answer) = quiet_moved (step.Failed e) nothing answer refl
+    left_moved (kills_all some sending new_one h) = kill_moved sending new_one.command_is new_one.single h
 
--- ---- polls
+    passed_moved : (e : Error) → PassesOver old new log log' wire k e r → Moved log log' (at_ids k.cursor.id k.opened) (closed_to new r)
+    passed_moved e (inl memory) = quiet_moved (step.Failed e) memory.1 memory.2 refl
+    passed_moved e (inr other) = left_moved other.1
 
-pub flies_as : (wire : ℤ) (r : Remains) (p q : Flight) → q ≡ p → FlightCarries wire r q → FlightCarries wire r p
-flies_as wire r p q same flies = subst (FlightCarries wire r) same flies
+  -- behind what was on its way
+  then_left : (old mid new : Awaited) (log between log' : Told) (wire : ℤ) (k : ClosingStream) (r : Step ClosingStream (Unit {0})) (g : Follow) → Moved log between g (at_ids k.cursor.id k.opened) → KillsLeft mid new between log' wire k r → Moved log log' g (closed_to new r)
+  then_left old mid new log between log' wire k r g m h = moved log between log' g (at_ids k.cursor.id k.opened) (closed_to new r) m (left_moved mid new between log' wire k r h)
 
--- the request in flight ended, and the cursors were killed
-pub closes_on : (old mid new : Awaited) (log between log' : Told) (f : Follow) (r : Remains) (p q : Flight) (landing : Step Closing Remains) {T : Type 0} (result : Step Closing T) → q ≡ p
-    → Moved log between (closing_in old p (left_of f r)) (landing_of mid f landing) → Moved between log' (landing_of mid f landing) (closes_to new f result) → Moved log log' (closing_in old q (left_of f r)) (closes_to new f result)
-closes_on old mid new log between log' f r p q landing result same lands closes =
-    subst (λ (x : Flight). Moved log log' (closing_in old x (left_of f r)) (closes_to new f result)) (sym same)
-    (moved log between log' (closing_in old p (left_of f r)) (landing_of mid f landing) (closes_to new f result) lands closes)
+  then_passed : (old mid new : Awaited) (log between log' : Told) (wire : ℤ) (k : ClosingStream) (r : Step ClosingStream (Unit {0})) (g : Follow) (e : Error) → Moved log between g (at_ids k.cursor.id k.opened) → PassesOver mid new between log' wire k e r → Moved log log' g (closed_to new r)
+  then_passed old mid new log between log' wire k r g e m h = moved log between log' g (at_ids k.cursor.id k.opened) (closed_to new r) m (passed_moved mid new between log' wire k r e h)
 
-pub tickets_through : (old mid new : Awaited) (p q : Flight) (b c : Option ℕ) → q ≡ p → Tickets old mid (flight_ticket p) b → Tickets mid new b c → Tickets old new (flight_ticket q) c
-tickets_through old mid new p q b c same first_part rest = subst (λ (x : Flight). Tickets old new (flight_ticket x) c) (sym same) (tickets_on first_part rest)
+  -- it pends still, and nothing was sent behind that
+  then_waits : (mid new : Awaited) (log between log' : Told) (f g h : Follow) → SendsNothing mid new between log' → f ≡ h → Moved log between g f → Moved log log' g h
+  then_waits mid new log between log' f g h nothing is m = moved log between log' g f h m (up_to between log' f f h is (stayed between log' f nothing.log_same))
+
+  -- ---- the getMore of its cursor
+
+  more_landed : (old mid new : Awaited) (log between log' : Told) (wire : ℤ) (k : ClosingStream) (r : Step ClosingStream (Unit {0})) (sending : Sending) → k.doing ≡ lands → IsLanding k → IsAsking false k.cursor sending → (came : Step Sending (List ℕ)) (left : ClientCursor) (poll : NextPoll) → Runs old mid log between wire sending came → Hears k.cursor came left poll
+      → BehindMore mid new between log' wire (record k { cursor = left }) poll r → Moved log log' (at_stage (record (at_ids k.cursor.id k.opened) { doing = resting }) (asks_at (at_ids k.cursor.id k.opened)) old sending.stage) (closed_to new r)
+  more_landed old mid new log between log' wire k r sending at landing is came left poll runs hears behind = by_came came hears polled
+    where
+      polled : MoreCame (at_ids k.cursor.id k.opened) mid log between (at_stage (record (at_ids k.cursor.id k.opened) { doing = resting }) (asks_at (at_ids k.cursor.id k.opened)) old sending.stage) came
+      polled =
+          more_polled (at_ids k.cursor.id k.opened) old mid log between wire sending k.cursor.space came is.may.held
+          (asks_for_more sending.command k.cursor.id k.cursor.space k.cursor.manner.size k.cursor.manner.wait k.cursor.manner.comment is.session landing.named is.waits_on.command_is) is.waits_on.single runs
+
+      as_polled : (p : NextPoll) → poll ≡ p → BehindMore mid new between log' wire (record k { cursor = left }) p r
+      as_polled p answer = subst (λ (x : NextPoll). BehindMore mid new between log' wire (record k { cursor = left }) x r) answer behind
+
+      by_read : (bytes : List ℕ) → ReadsReply k.cursor bytes left poll → MoreCame (at_ids k.cursor.id k.opened) mid log between (at_stage (record (at_ids k.cursor.id k.opened) { doing = resting }) (asks_at (at_ids k.cursor.id k.opened)) old sending.stage) (step.Done bytes)
+          → Moved log log' (at_stage (record (at_ids k.cursor.id k.opened) { doing = resting }) (asks_at (at_ids k.cursor.id k.opened)) old sending.stage) (closed_to new r)
+      by_read bytes (gave said says left_is answer) m =
+          let f = at_ids k.cursor.id k.opened in
+          let g = at_stage (record f { doing = resting }) (asks_at f) old sending.stage in
+          let h = given_with f (batch_as said (unwrap_or (documents_in said.batch) [])) in
+          then_left old mid new log between log' wire (record k { cursor = behind_reply said k.cursor }) r g
+          (moved log between between g h (at_ids said.id k.opened) (more_taken f log between g bytes said m.1 says m.0) (lets_down between h said.id k.opened tt (only_first h said.id k.opened refl landing.alone)))
+          (subst (λ (c : ClientCursor). KillsLeft mid new between log' wire (record k { cursor = c }) r) left_is (as_polled (next.Batch bytes) answer))
+      by_read bytes (broke e by left_is answer) m =
+          let f = at_ids k.cursor.id k.opened in
+          then_passed old mid new log between log' wire (record k { cursor = at_rest k.cursor }) r (at_stage (record f { doing = resting }) (asks_at f) old sending.stage) e m.0.lost
+          (subst (λ (c : ClientCursor). PassesOver mid new between log' wire (record k { cursor = c }) e r) left_is (as_polled (next.Failed e) answer))
+
+      by_came : (x : Step Sending (List ℕ)) → Hears k.cursor x left poll → MoreCame (at_ids k.cursor.id k.opened) mid log between (at_stage (record (at_ids k.cursor.id k.opened) { doing = resting }) (asks_at (at_ids k.cursor.id k.opened)) old sending.stage) x
+          → Moved log log' (at_stage (record (at_ids k.cursor.id k.opened) { doing = resting }) (asks_at (at_ids k.cursor.id k.opened)) old sending.stage) (closed_to new r)
+      by_came (step.Pending waiting) heard m =
+          let f = at_ids k.cursor.id k.opened in
+          let g = at_stage (record f { doing = resting }) (asks_at f) old sending.stage in
+          let c : ClientCursor = record k.cursor { doing = asks waiting } in
+          let pends = as_polled next.Pending heard.1 in
+          subst (λ (x : Step ClosingStream (Unit {0})). Moved log log' g (closed_to new x)) (sym pends.1)
+          (subst (λ (x : ClientCursor). Moved log log' g (closed_to new (step.Pending (record k { cursor = x })))) (sym heard.0)
+          (then_waits mid new log between log' (at_stage (record f { doing = resting }) (asks_at f) mid waiting.stage) g (closing_by new k.doing c f) pends.0
+          (at_same mid new pends.0.rest (record f { doing = resting }) (asks_at f) waiting.stage ∙ sym (ap (λ (d : Landing). closing_by new d c f) at)) m))
+      by_came (step.Done bytes) heard m = by_read bytes heard m
+      by_came (step.Failed e) heard m =
+          let f = at_ids k.cursor.id k.opened in
+          let g = at_stage (record f { doing = resting }) (asks_at f) old sending.stage in
+          let c = behind_failure e k.cursor in
+          then_passed old mid new log between log' wire (record k { cursor = c }) r g e
+          (moved log between between g f (at_ids c.id k.opened) m.lost (lets_down between f c.id k.opened tt (perhaps_ended f c.id (left_id e.kind k.cursor))))
+          (subst (λ (x : ClientCursor). PassesOver mid new between log' wire (record k { cursor = x }) e r) heard.0 (as_polled (next.Failed e) heard.1))
+
+  -- ---- the aggregate of a resumption
+
+  aggregate_landed : (old mid new : Awaited) (log between log' : Told) (wire : ℤ) (k : ClosingStream) (r : Step ClosingStream (Unit {0})) (sending : Sending) → ResumesWatch w start token sending → (came : Step Sending (List ℕ)) → Runs old mid log between wire sending came → BehindAggregate mid new between log' wire k came r
+      → Moved log log' (at_stage (at_ids k.cursor.id k.opened) (λ place. record (at_ids k.cursor.id k.opened) { doing = resuming place }) old sending.stage) (closed_to new r)
+  aggregate_landed old mid new log between log' wire k r sending is came runs behind = by_came came behind polled
+    where
+      polled : ResumeCame (at_ids k.cursor.id k.opened) mid log between (at_stage (at_ids k.cursor.id k.opened) (λ place. record (at_ids k.cursor.id k.opened) { doing = resuming place }) old sending.stage) came
+      polled =
+          let again = asks_again is.aggregate sending w start is.saved is.asks (record { wire = is.wire; session = is.session; command_is = is.command_is }) in
+          resume_polled (at_ids k.cursor.id k.opened) again.begin old mid log between wire sending (subst (λ (t : Option Tree). ResumesAt start t again.begin) is.token_is again.resumes_at) again.asks_so came runs
+
+      by_opening : (bytes : List ℕ) → BehindOpening mid new between log' wire k bytes r → ResumeCame (at_ids k.cursor.id k.opened) mid log between (at_stage (at_ids k.cursor.id k.opened) (λ place. record (at_ids k.cursor.id k.opened) { doing = resuming place }) old sending.stage) (step.Done bytes)
+          → Moved log log' (at_stage (at_ids k.cursor.id k.opened) (λ place. record (at_ids k.cursor.id k.opened) { doing = resuming place }) old sending.stage) (closed_to new r)
+      by_opening bytes (opened_one said says killing) m =
+          let f = at_ids k.cursor.id k.opened in
+          let g = at_stage f (λ place. record f { doing = resuming place }) old sending.stage in
+          let h = resumed_with f (batch_as said (unwrap_or (documents_in said.batch) [])) in
+          then_left old mid new log between log' wire (record k { opened = said.id; doing = lands }) r g
+          (moved log between between g h (at_ids k.cursor.id said.id) (resume_taken f log between g bytes said m.1 says m.0) (lets_down between h k.cursor.id said.id tt (turned_round h k.cursor.id said.id refl refl))) killing
+      by_opening bytes (opened_none e by passes) m =
+          let f = at_ids k.cursor.id k.opened in
+          then_passed old mid new log between log' wire (record k { doing = lands }) r (at_stage f (λ place. record f { doing = resuming place }) old sending.stage) e m.0.lost passes
+
+      by_came : (x : Step Sending (List ℕ)) → BehindAggregate mid new between log' wire k x r → ResumeCame (at_ids k.cursor.id k.opened) mid log between (at_stage (at_ids k.cursor.id k.opened) (λ place. record (at_ids k.cursor.id k.opened) { doing = resuming place }) old sending.stage) x
+          → Moved log log' (at_stage (at_ids k.cursor.id k.opened) (λ place. record (at_ids k.cursor.id k.opened) { doing = resuming place }) old sending.stage) (closed_to new r)
+      by_came (step.Pending waiting) h m =
+          let f = at_ids k.cursor.id k.opened in
+          let g = at_stage f (λ place. record f { doing = resuming place }) old sending.stage in
+          subst (λ (x : Step ClosingStream (Unit {0})). Moved log log' g (closed_to new x)) (sym h.1)
+          (then_waits mid new log between log' (at_stage f (λ place. record f { doing = resuming place }) mid waiting.stage) g (at_stage f (λ place. record f { doing = resuming place }) new waiting.stage) h.0
+          (at_same mid new h.0.rest f (λ place. record f { doing = resuming place }) waiting.stage) m)
+      by_came (step.Done bytes) h m = by_opening bytes h m
+      by_came (step.Failed e) h m =
+          let f = at_ids k.cursor.id k.opened in
+          then_passed old mid new log between log' wire (record k { doing = lands }) r (at_stage f (λ place. record f { doing = resuming place }) old sending.stage) e m h
+
+  -- ---- the closing of the cursor before
+
+  older_tried : (old new : Awaited) (log log' : Told) (cursor older id : ℤ) (command : List ℕ) (stage : Stage) (attempt : Attempt) → older ≡ pos 0 → id ≢ pos 0 → asked command ≡ asks_kill (id ∷ []) → Tries old new log log' command stage attempt
+      → Moved log log' (at_stage (at_ids cursor id) (λ place. at_ids cursor older) old stage) (at_ids cursor older)
+  older_tried old new log log' cursor older id command unsent attempt alone there asks_so t =
+      moved log log' log' (at_ids cursor id) (at_ids cursor id) (at_ids cursor older)
+      (own_tried old new log log' (at_ids cursor id) command unsent attempt
+      (kill_own (at_ids cursor id) command (id ∷ []) asks_so (λ x of. elim of [ inl e ↦ (inr (inl e), λ z. there (e ∙ z)) | inr none ↦ absurd none ])) t)
+      (lets_down log' (at_ids cursor id) cursor older tt (only_first (at_ids cursor id) cursor older refl alone))
+  older_tried old new log log' cursor older id command (first ticket) attempt alone there asks_so t = close_gone_on old new log log' (at_ids cursor older) ticket attempt t
+  older_tried old new log log' cursor older id command (second ticket) attempt alone there asks_so t = close_gone_on old new log log' (at_ids cursor older) ticket attempt t
+
+  module _ (old new : Awaited) (log log' : Told) (wire : ℤ) (cursor older : ℤ) (alone : older ≡ pos 0) where
+    older_heard : (c : ClientCursor) (sending : Sending) (came : Step Sending (List ℕ)) (r : Step ClosingCursor (Unit {0})) → Runs old new log log' wire sending came → KillHears c came r → Moved log log' (at_stage (at_ids cursor c.id) (λ place. at_ids cursor older) old sending.stage) (at_ids cursor older)
+        → ClosesTo new log log' (at_stage (at_ids cursor c.id) (λ place. at_ids cursor older) old sending.stage) (at_ids cursor older) r
+    older_heard c sending (step.Pending waiting) r runs h m =
+        let g = at_stage (at_ids cursor c.id) (λ place. at_ids cursor older) old sending.stage in
+        subst (ClosesTo new log log' g (at_ids cursor older)) (sym h)
+        (up_to log log' g (at_ids cursor older) (at_stage (at_ids cursor c.id) (λ place. at_ids cursor older) new waiting.stage)
+        (at_waiting (at_ids cursor c.id) (λ place. at_ids cursor older) new waiting (waits_still old new log log' wire sending waiting runs)) m)
+    older_heard c sending (step.Done bytes) r runs h m = subst (ClosesTo new log log' (at_stage (at_ids cursor c.id) (λ place. at_ids cursor older) old sending.stage) (at_ids cursor older)) (sym h) m
+    older_heard c sending (step.Failed e) r runs h m = subst (ClosesTo new log log' (at_stage (at_ids cursor c.id) (λ place. at_ids cursor older) old sending.stage) (at_ids cursor older)) (sym h) m
+
+    older_run : (c : ClientCursor) (sending : Sending) (came : Step Sending (List ℕ)) (r : Step ClosingCursor (Unit {0})) → fields sending.command ≡ kill c → sending.retries ≡ false → c.id ≢ pos 0 → Runs old new log log' wire sending came → KillHears c came r
+        → ClosesTo new log log' (at_stage (at_ids cursor c.id) (λ place. at_ids cursor older) old sending.stage) (at_ids cursor older) r
+    older_run c sending came r command_is single there runs h =
+        let once = runs_once old new log log' wire sending came single runs in
+        older_heard c sending came r runs h
+        (older_tried old new log log' cursor older c.id sending.command sending.stage once.attempt alone there (asks_to_kill_plainly sending.command c.space (c.id ∷ []) command_is) once.tries)
+
+    older_quiet : (c : ClientCursor) (r x : Step ClosingCursor (Unit {0})) → SendsNothing old new log log' → r ≡ x → (Moved log log' (at_ids cursor c.id) (at_ids cursor older) → ClosesTo new log log' (at_ids cursor c.id) (at_ids cursor older) x) → ClosesTo new log log' (at_ids cursor c.id) (at_ids cursor older) r
+    older_quiet c r x nothing answer as_closed =
+        subst (ClosesTo new log log' (at_ids cursor c.id) (at_ids cursor older)) (sym answer)
+        (as_closed
+        (moved log log' log' (at_ids cursor c.id) (at_ids cursor c.id) (at_ids cursor older) (stayed log log' (at_ids cursor c.id) nothing.log_same)
+        (lets_down log' (at_ids cursor c.id) cursor older tt (only_first (at_ids cursor c.id) cursor older refl alone))))
+
+    older_kills : (c : ClientCursor) (r : Step ClosingCursor (Unit {0})) → KillsCursor old new log log' wire c r → ClosesTo new log log' (at_ids cursor c.id) (at_ids cursor older) r
+    older_kills c r (kill_not_needed over nothing answer) = older_quiet c r (step.Done tt) nothing answer (λ m. m)
+    older_kills c r (kill_not_built may e fails nothing answer) = older_quiet c r (step.Failed e) nothing answer (λ m. m)
+    older_kills c r (kills_it may sending new_one h) =
+        subst (λ (g : Follow). ClosesTo new log log' g (at_ids cursor older) r) (ap (λ (stage : Stage). at_stage (at_ids cursor c.id) (λ place. at_ids cursor older) old stage) new_one.new)
+        (older_run c sending h.came r new_one.command_is new_one.single may.held h.runs h.hears)
+
+    older_polled : (before : ClosingCursor) (r : Step ClosingCursor (Unit {0})) → IsClosing before → IsLanded before → ClosingPolls old new log log' wire before r → ClosesTo new log log' (with_older old before (at_ids cursor older)) (at_ids cursor older) r
+    older_polled before r closing landed (kill_lands idle_so sending at h) =
+        absurd (subst IsNotAsking at (subst (λ (o : Option Sending). LandedBy o before.cursor.doing) idle_so landed))
+    older_polled before r closing landed (kill_begins idle_so quiet h) =
+        subst (λ (o : Option Sending). ClosesTo new log log' (older_by old before.cursor o (at_ids cursor older)) (at_ids cursor older) r) (sym idle_so) (older_kills (at_rest before.cursor) r h)
+    older_polled before r closing landed (kill_goes_on sending at h) =
+        let on : IsKilling before.cursor sending = subst (ClosesBy before.cursor) at closing in
+        subst (λ (o : Option Sending). ClosesTo new log log' (older_by old before.cursor o (at_ids cursor older)) (at_ids cursor older) r) (sym at)
+        (older_run before.cursor sending h.came r on.waits_on.command_is on.waits_on.single on.may.held h.runs h.hears)
+
+  closing_landed : (old mid new : Awaited) (log between log' : Told) (wire : ℤ) (k : ClosingStream) (r : Step ClosingStream (Unit {0})) (g : Follow) (came : Step ClosingCursor (Unit {0})) → ClosesTo mid log between g (at_ids k.cursor.id k.opened) came → BehindOlder mid new between log' wire k came r → Moved log log' g (closed_to new r)
+  closing_landed old mid new log between log' wire k r g (step.Pending before) m h =
+      subst (λ (x : Step ClosingStream (Unit {0})). Moved log log' g (closed_to new x)) (sym h.1)
+      (then_waits mid new log between log' (with_older mid before (at_ids k.cursor.id k.opened)) g (with_older new before (at_ids k.cursor.id k.opened)) h.0 (older_same mid new h.0.rest before.cursor before.killing (at_ids k.cursor.id k.opened)) m)
+  closing_landed old mid new log between log' wire k r g (step.Done t) m h = then_left old mid new log between log' wire (record k { doing = lands }) r g m h
+  closing_landed old mid new log between log' wire k r g (step.Failed e) m h = then_passed old mid new log between log' wire (record k { doing = lands }) r g e m h
+
+  -- ---- a poll
+
+  landing_quiet : (awaited : Awaited) (d : cursors.Doing) (f : Follow) → IsNotAsking d → with_landing awaited d f ≡ f
+  landing_quiet awaited rests f quiet = refl
+  landing_quiet awaited (holds reply) f quiet = refl
+  landing_quiet awaited (asks sending) f quiet = absurd quiet
+
+  module _ (old new : Awaited) (log log' : Told) (wire : ℤ) (k : ClosingStream) (r : Step ClosingStream (Unit {0})) (sound : IsSoundStream k) (is_for : LandsFor w start token k) where
+    -- what is on its way as it begins
+    as_landing : (d : Landing) → k.doing ≡ d → (g : Follow) → closing_by old d k.cursor (at_ids k.cursor.id k.opened) ≡ g → Moved log log' g (closed_to new r) → Moved log log' (follow_closing old w start token k opened answered) (closed_to new r)
+    as_landing d at g is m = subst (λ (f : Follow). Moved log log' f (closed_to new r)) (sym (ap (λ (x : Landing). closing_by old x k.cursor (at_ids k.cursor.id k.opened)) at ∙ is)) m
+
+    pub closes_moved : ClosesStream old new log log' wire k r → Moved log log' (follow_closing old w start token k opened answered) (follow_closed new w start token opened answered r)
+    closes_moved (begins at quiet h) =
+        as_landing lands at (at_ids k.cursor.id k.opened) (landing_quiet old k.cursor.doing (at_ids k.cursor.id k.opened) quiet) (left_moved old new log log' wire (record k { cursor = at_rest k.cursor }) r h)
+    closes_moved (lands_more at sending asks_so b came left poll runs hears behind) =
+        let f = at_ids k.cursor.id k.opened in
+        let landing : IsLanding k = subst (LandsSoundly k) at sound in
+        as_landing lands at (at_stage (record f { doing = resting }) (asks_at f) old sending.stage) (ap (λ (d : cursors.Doing). with_landing old d f) asks_so)
+        (more_landed old b.awaited new log b.log log' wire k r sending at landing (subst (cursors.SoundBy false k.cursor) asks_so landing.asks_its_own) came left poll runs hears behind)
+    closes_moved (lands_opening sending at b came runs behind) =
+        let f = at_ids k.cursor.id k.opened in
+        as_landing (lands_aggregate sending) at (at_stage f (λ place. record f { doing = resuming place }) old sending.stage) refl
+        (aggregate_landed old b.awaited new log b.log log' wire k r sending (subst (LandsForBy w start token) at is_for) came runs behind)
+    closes_moved (lands_closing before at b came polls behind) =
+        let f = at_ids k.cursor.id k.opened in
+        let parts = subst (LandsSoundly k) at sound in
+        as_landing (lands_older before) at (with_older old before f) refl
+        (closing_landed old b.awaited new log b.log log' wire k r (with_older old before f) came (older_polled old b.awaited log b.log wire k.cursor.id k.opened parts.3 before came parts.1 parts.2 polls) behind)
+    closes_moved (goes_on sending at h) =
+        let parts = subst (LandsSoundly k) at sound in
+        as_landing (ends sending) at (at_ids k.cursor.id k.opened) refl (kill_moved old new log log' wire k r sending parts.1.command_is parts.1.single h)
+
+-- ---- whose it is
+
+module _ (w : Watch) (start : Start) (token : Option Tree) where
+  for_as : (r x : Step ClosingStream (Unit {0})) → r ≡ x → OnPending x (LandsFor w start token) → OnPending r (LandsFor w start token)
+  for_as r x is h = subst (λ (y : Step ClosingStream (Unit {0})). OnPending y (LandsFor w start token)) (sym is) h
+
+  heard_for : (k : ClosingStream) (came : Step Sending (List ℕ)) (r : Step ClosingStream (Unit {0})) → HearsKill k came r → OnPending r (LandsFor w start token)
+  heard_for k (step.Pending waiting) r h = for_as r (step.Pending (record k { doing = ends waiting })) h tt
+  heard_for k (step.Done bytes) r h = for_as r (step.Done tt) h tt
+  heard_for k (step.Failed e) r h = for_as r (step.Failed e) h tt
+
+  left_for : (old new : Awaited) (log log' : Told) (wire : ℤ) (k : ClosingStream) (r : Step ClosingStream (Unit {0})) → KillsLeft old new log log' wire k r → OnPending r (LandsFor w start token)
+  left_for old new log log' wire k r (nothing_left none nothing answer) = for_as r (step.Done tt) answer tt
+  left_for old new log log' wire k r (not_built some e fails nothing answer) = for_as r (step.Failed e) answer tt
+  left_for old new log log' wire k r (kills_all some sending new_one h) = heard_for k h.came r h.hears
+
+  passed_for : (old new : Awaited) (log log' : Told) (wire : ℤ) (k : ClosingStream) (e : Error) (r : Step ClosingStream (Unit {0})) → PassesOver old new log log' wire k e r → OnPending r (LandsFor w start token)
+  passed_for old new log log' wire k e r (inl memory) = for_as r (step.Failed e) memory.2 tt
+  passed_for old new log log' wire k e r (inr other) = left_for old new log log' wire k r other.1
+
+  more_for : (old new : Awaited) (log log' : Told) (wire : ℤ) (k : ClosingStream) (poll : NextPoll) (r : Step ClosingStream (Unit {0})) → k.doing ≡ lands → BehindMore old new log log' wire k poll r → OnPending r (LandsFor w start token)
+  more_for old new log log' wire k next.Pending r at h = for_as r (step.Pending k) h.1 (subst (LandsForBy w start token) (sym at) tt)
+  more_for old new log log' wire k (next.Batch bytes) r at h = left_for old new log log' wire k r h
+  more_for old new log log' wire k next.End r at h = absurd h
+  more_for old new log log' wire k (next.Failed e) r at h = passed_for old new log log' wire k e r h
+
+  opening_for : (old new : Awaited) (log log' : Told) (wire : ℤ) (k : ClosingStream) (bytes : List ℕ) (r : Step ClosingStream (Unit {0})) → BehindOpening old new log log' wire k bytes r → OnPending r (LandsFor w start token)
+  opening_for old new log log' wire k bytes r (opened_one said says killing) = left_for old new log log' wire (record k { opened = said.id; doing = lands }) r killing
+  opening_for old new log log' wire k bytes r (opened_none e by passes) = passed_for old new log log' wire (record k { doing = lands }) e r passes
+
+  -- the aggregate that waits still is the same one
+  still_for : (sending waiting : Sending) → waiting.command ≡ sending.command → ResumesWatch w start token sending → ResumesWatch w start token waiting
+  still_for sending waiting same h = record { aggregate = h.aggregate; asks = h.asks; saved = h.saved; token_is = h.token_is; wire = h.wire; session = h.session; command_is = ap fields same ∙ h.command_is }
+
+  aggregate_for : (old mid new : Awaited) (log between log' : Told) (wire : ℤ) (k : ClosingStream) (sending : Sending) (came : Step Sending (List ℕ)) (r : Step ClosingStream (Unit {0})) → ResumesWatch w start token sending → Runs old mid log between wire sending came → BehindAggregate mid new between log' wire k came r → OnPending r (LandsFor w start token)
+  aggregate_for old mid new log between log' wire k sending (step.Pending waiting) r is runs h =
+      for_as r (step.Pending (record k { doing = lands_aggregate waiting })) h.1 (still_for sending waiting (still_waits old mid log between wire sending waiting runs).same_command is)
+  aggregate_for old mid new log between log' wire k sending (step.Done bytes) r is runs h = opening_for mid new between log' wire k bytes r h
+  aggregate_for old mid new log between log' wire k sending (step.Failed e) r is runs h = passed_for mid new between log' wire (record k { doing = lands }) e r h
+
+  older_for : (old new : Awaited) (log log' : Told) (wire : ℤ) (k : ClosingStream) (came : Step ClosingCursor (Unit {0})) (r : Step ClosingStream (Unit {0})) → BehindOlder old new log log' wire k came r → OnPending r (LandsFor w start token)
+  older_for old new log log' wire k (step.Pending before) r h = for_as r (step.Pending (record k { doing = lands_older before })) h.1 tt
+  older_for old new log log' wire k (step.Done t) r h = left_for old new log log' wire (record k { doing = lands }) r h
+  older_for old new log log' wire k (step.Failed e) r h = passed_for old new log log' wire (record k { doing = lands }) e r h
+
+  -- what is on its way is of the same stream still
+  pub closes_for : (old new : Awaited) (log log' : Told) (wire : ℤ) (k : ClosingStream) (r : Step ClosingStream (Unit {0})) → LandsFor w start token k → ClosesStream old new log log' wire k r → OnPending r (LandsFor w start token)
+  closes_for old new log log' wire k r is (begins at quiet h) = left_for old new log log' wire (record k { cursor = at_rest k.cursor }) r h
+  closes_for old new log log' wire k r is (lands_more at sending asks_so b came left poll runs hears behind) = more_for b.awaited new b.log log' wire (record k { cursor = left }) poll r at behind
+  closes_for old new log log' wire k r is (lands_opening sending at b came runs behind) = aggregate_for old b.awaited new log b.log log' wire k sending came r (subst (LandsForBy w start token) at is) runs behind
+  closes_for old new log log' wire k r is (lands_closing before at b came polls behind) = older_for b.awaited new b.log log' wire k came r behind
+  closes_for old new log log' wire k r is (goes_on sending at h) = heard_for k h.came r h.hears

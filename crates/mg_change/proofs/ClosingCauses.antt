@@ -1,288 +1,280 @@
 -- What the answers of a closing are caused by.
-use Rattle.std.specs.Prelude.{◌≢◌}
-use Rattle.std.proofs.Common.{◌≡◌, ℕ, ◌≤◌, ℤ, true, false, List, [], length, Some, refl, sym, ap, ◌∙◌, subst, inl, inr, arith}
-use Rattle.mg_bson.specs.Tree.{Fields}
+use Rattle.std.proofs.Common.{◌≡◌, ◌≢◌, ◌⊎◌, ◌≤◌, ◌++◌, ℕ, ℤ, pos, false, List, [], length, Option, Some, None, refl, sym, ap, ◌∙◌, subst, inl, inr, arith}
 use Rattle.mg_bson.specs.Raw.{fields}
-use Rattle.mg_link.specs.Calls.{Came, Flies, Grows, HeardLast, Keeps, NoneBroken, Past, RequestFails, Stays, out_of_memory, past_of, was_broken}
-use Rattle.mg_link.specs.Errors.{plain}
-use Rattle.mg_link.specs.Exec.{IsSuccess, Runs, Sending, Stage, unsent}
-use Rattle.mg_link.specs.Link.{Awaited, Told}
-use Rattle.mg_link.specs.Log.{Sight, waiting, reply, Call}
-use Rattle.mg_link.specs.Namespace.{space}
+use Rattle.mg_bson.specs.Tree.{Fields}
+use Rattle.mg_link.specs.Calls.{Came, Flies, Grows, HeardLast, Keeps, NoneBroken, Past, RequestFails, past_of, was_broken}
+use Rattle.mg_link.specs.Exec.{IsSuccess, Runs, Sending, Stage}
+use Rattle.mg_link.specs.Link.{Awaited, SendsNothing, Told}
+use Rattle.mg_link.specs.Log.{Call, reply}
+use Rattle.mg_link.specs.Namespace.{Space}
+use Rattle.mg_link.specs.Session.{Session}
 use Rattle.mg_link.specs.declared.action.Step.{Step}
 use Rattle.mg_link.specs.declared.action.Step.TheVariants as step
 use Rattle.mg_link.specs.declared.error.Error.{Error}
 use Rattle.mg_link.specs.declared.error.ErrorKind.TheVariants as kind
-use Rattle.mg_link.proofs.Calls.{keeps_longer, log_grows, request_ran, same_keeps, success_ran}
-use Rattle.mg_link.proofs.Pasts.{fails_anyhow, flies_grows, heard_by, heard_reply, last_grows, last_reply, request_fails_grows}
-use Rattle.mg_ops.proofs.Watching.{manner_read}
+use Rattle.mg_link.proofs.Calls.{keeps_longer, keeps_on, request_ran, same_keeps, success_ran}
+use Rattle.mg_link.proofs.Pasts.{fails_anyhow, flies_grows, heard_by, heard_reply, last_reply, request_fails_grows}
 use Rattle.mg_ops.specs.Commands.{kill_command}
-use Rattle.mg_ops.specs.Cursors.{BreaksIn, asking_command}
-use Rattle.mg_ops.specs.Failing.{CannotBeSent, FailsBy}
-use Rattle.mg_ops.specs.declared.cursor_reply.CursorInformation.{CursorInformation}
-use Rattle.mg_ops.specs.declared.get_more.GetMore.{GetMore}
-use Rattle.mg_change.specs.Causes.{TellsNoCursor, cursor_behind}
-use Rattle.mg_change.specs.ClosingCauses.{ClosingCaused, FliesSoFar, KillCame, KillCaused, KillDone, KillFails, Kills, KillsSoFar, LandCame, LandCaused, LandRan, LeftBy, MoreLeft, NotKilled, ResumptionLeft, WantsMemory, killed, last_command, none_left, untold, brought, given}
-use Rattle.mg_change.specs.Closings.{FailLeaves, IsLast, IsMore, Leaves, MoreLeaves, ResumeLeaves, flight_ticket, ids_left}
-use Rattle.mg_change.specs.declared.closing.Closing.{Closing}
-use Rattle.mg_change.specs.declared.closing.Flight.{Flight}
-use Rattle.mg_change.specs.declared.closing.Flight.TheVariants as flight
-use Rattle.mg_change.specs.declared.closing.Remains.{Remains}
-use Rattle.mg_change.specs.Phases.{Carries, resuming_command}
-
--- ---- the killing of what is left
-
-module _ (old new : Awaited) (log log' : Told) (wire : ℤ) (r : Remains) (exec : Sending) (last : IsLast r exec) where
-  -- by what came of its request
-  kill_led : (sent : Step Sending (List ℕ)) (result : Step Closing (Unit {0})) → ((past : Past) → ids_left r.cursor.id r.opened ≢ [] → Came new past (last_command r.cursor r.opened) false sent → KillCame new past r result)
-      → Runs old new log log' wire exec sent → KillCaused old new log log' wire r (flight.Last exec) result
-  kill_led sent result leads runs calls told places so_far =
-      let ran = request_ran old new log log' wire exec (last_command r.cursor r.opened) false sent last.command_is last.retries_is runs calls told places (length calls) (omega arith) so_far.1 in
-      (ran.calls', ran.told, leads (past_of places (length calls) ran.calls' wire) so_far.0 ran.came)
-
-  pub kill_waits : (sent : Sending) → Runs old new log log' wire exec (step.Pending sent) → KillCaused {T = Unit {0}} old new log log' wire r (flight.Last exec) (step.Pending (record { remains = r; flight = flight.Last sent }))
-  kill_waits sent runs = kill_led (step.Pending sent) (step.Pending (record { remains = r; flight = flight.Last sent })) (λ past some flies. (refl, (some, flies))) runs
-
-  pub kill_done : (bytes : List ℕ) → Runs old new log log' wire exec (step.Done bytes) → KillCaused old new log log' wire r (flight.Last exec) (step.Done (tt {0}))
-  kill_done bytes runs = kill_led (step.Done bytes) (step.Done (tt {0})) (λ past some heard. killed some bytes heard (success_ran old new log log' wire exec bytes runs)) runs
-
-  pub kill_fails : (e : Error) → Runs old new log log' wire exec (step.Failed e) → KillCaused {T = Unit {0}} old new log log' wire r (flight.Last exec) (step.Failed e)
-  kill_fails e runs = kill_led (step.Failed e) (step.Failed e) (λ past some fails. record { some_left = some; why = inl fails }) runs
-
--- nothing was sent
-pub kill_none : (old new : Awaited) (log : Told) (wire : ℤ) (r : Remains) → ids_left r.cursor.id r.opened ≡ [] → KillCaused old new log log wire r flight.Landed (step.Done (tt {0}))
-kill_none old new log wire r empty calls told places so_far = (calls, told, none_left empty)
-
-pub kill_no_memory : (old new : Awaited) (log : Told) (wire : ℤ) (r : Remains) (e : Error) → ids_left r.cursor.id r.opened ≢ [] → e.kind ≡ kind.OutOfMemory → KillCaused {T = Unit {0}} old new log log wire r flight.Landed (step.Failed e)
-kill_no_memory old new log wire r e some room calls told places so_far = (calls, told, record { some_left = some; why = inl (out_of_memory room) })
-
-unbuilt_by : (past : Past) (r : Remains) (ids : List ℤ) (e : Error) → ids ≡ ids_left r.cursor.id r.opened → FailsBy (CannotBeSent (kill_command (space r.cursor.ns) ids)) e → NotKilled past r.cursor r.opened e
-unbuilt_by past r ids e is (inl room) = inl (out_of_memory (ap (λ (x : Error). x.kind) room))
-unbuilt_by past r ids e is (inr by) = inr (subst (λ (l : List ℤ). CannotBeSent (kill_command (space r.cursor.ns) l) e) is by)
-
-pub kill_unbuilt : (old new : Awaited) (log : Told) (wire : ℤ) (r : Remains) (ids : List ℤ) (e : Error) → ids ≡ ids_left r.cursor.id r.opened → ids_left r.cursor.id r.opened ≢ [] → FailsBy (CannotBeSent (kill_command (space r.cursor.ns) ids)) e → KillCaused {T = Unit {0}} old new log log wire r flight.Landed (step.Failed e)
-kill_unbuilt old new log wire r ids e is some by calls told places so_far = (calls, told, record { some_left = some; why = unbuilt_by (past_of places (length calls) calls wire) r ids e is by })
-
--- its call is new
-pub kill_new : (old new : Awaited) (log log' : Told) (wire : ℤ) (r : Remains) (exec : Sending) (result : Step Closing (Unit {0})) → ids_left r.cursor.id r.opened ≢ [] → exec.stage ≡ unsent → KillCaused old new log log' wire r (flight.Last exec) result → KillCaused old new log log' wire r flight.Landed result
-kill_new old new log log' wire r exec result some fresh h calls told places so_far =
-    h calls told places (some, subst (λ (stage : Stage). Flies old (past_of places (length calls) calls wire) (last_command r.cursor r.opened) stage) (sym fresh) tt)
+use Rattle.mg_ops.specs.Failing.{CannotBeSent}
+use Rattle.mg_cursor.specs.Causes.{FliesMore, HeardMore, MoreFails, TellsNoCursor}
+use Rattle.mg_cursor.specs.Client.{ClientCursor, IsAsking, asks, at_rest, get_more, holds, kill, rests}
+use Rattle.mg_cursor.specs.Client as cursors
+use Rattle.mg_cursor.specs.Closing.{ClosingCame, ClosingCursor, ClosingUnderwayBy, IsNotAsking}
+use Rattle.mg_cursor.specs.Polling.{Hears, ReadsReply, broke, gave}
+use Rattle.mg_cursor.specs.declared.polls.NextPoll.{NextPoll}
+use Rattle.mg_cursor.proofs.ClosedCaused.{closing_caused as cursor_caused}
+use Rattle.mg_cursor.proofs.Hearing.{behind_broken}
+use Rattle.mg_change.specs.ClientStreams.{ClientStream}
+use Rattle.mg_change.specs.ClosingCauses as causes
+use Rattle.mg_change.specs.ClosingCauses.{AggregateLeft, ClosingCaused, IsUnderway, LastBy, LastDone, LastFails, LastSoFar, LeftBy, MoreLeft, UnderwayBy, UnderwayByCursor, last_ids, last_kill, none_held, was_killed}
+use Rattle.mg_change.specs.ClosingStreams.{BehindAggregate, BehindMore, BehindOlder, BehindOpening, ClosesStream, ClosingStream, HearsKill, IsLanding, IsSoundStream, KillsLeft, Landing, LandsSoundly, PassesOver, RunsKill, begins, ends, goes_on, ids_left, kill_left, kills_all, landing_ticket, lands, lands_aggregate, lands_closing, lands_more, lands_older, lands_opening, not_built, nothing_left, opened_none, opened_one, stream_closing_ticket, unless_none}
+use Rattle.mg_change.proofs.Garbled.{still_waits}
+use Rattle.mg_change.proofs.Growing.{closing_done_grows, closing_fails_grows, heard_more_grows, more_fails_grows}
 
 -- ---- a later time
 
-module _ (past past' : Past) (grows : Grows past past') (c : CursorInformation) (opened : ℤ) where
-  pub kills_grows : (awaited awaited' : Awaited) (f : Flight) → ((n : ℕ) → flight_ticket f ≡ Some n → awaited' n ≡ awaited n) → KillsSoFar awaited past c opened f → KillsSoFar awaited' past' c opened f
-  kills_grows awaited awaited' flight.Landed tickets h = tt
-  kills_grows awaited awaited' (flight.More get_more exec) tickets h = absurd h
-  kills_grows awaited awaited' (flight.Resumption exec) tickets h = absurd h
-  kills_grows awaited awaited' (flight.Older exec id) tickets h = absurd h
-  kills_grows awaited awaited' (flight.Last exec) tickets h = (h.0, flies_grows past past' grows awaited awaited' (last_command c opened) exec.stage tickets h.1)
+module _ (past past' : Past) (grows : Grows past past') (k : ClosingStream) where
+  more_left_grows : (c : ClientCursor) → MoreLeft past k.cursor c → MoreLeft past' k.cursor c
+  more_left_grows c (causes.not_given e h room is) = causes.not_given e (more_fails_grows past past' grows k.cursor e h) room is
+  more_left_grows c (causes.given bytes said h says is) = causes.given bytes said (heard_more_grows past past' grows k.cursor bytes h) says is
 
-  not_killed_grows : (e : Error) → NotKilled past c opened e → NotKilled past' c opened e
-  not_killed_grows e (inl fails) = inl (request_fails_grows past past' grows (last_command c opened) false NoneBroken e fails)
-  not_killed_grows e (inr by) = inr by
+  aggregate_grows : (sending : Sending) (left : ClosingStream) → AggregateLeft past sending k left → AggregateLeft past' sending k left
+  aggregate_grows sending left (causes.opened_none e h room is) = causes.opened_none e (request_fails_grows past past' grows (fields sending.command) sending.retries TellsNoCursor e h) room is
+  aggregate_grows sending left (causes.opened_one bytes said h success says is) = causes.opened_one bytes said (last_reply past past' grows (fields sending.command) sending.retries bytes h) success says is
 
-  pub kill_fails_grows : (e : Error) → KillFails past c opened e → KillFails past' c opened e
-  kill_fails_grows e fails = record { some_left = fails.some_left; why = not_killed_grows e fails.why }
+  left_grows : (left : ClosingStream) → LeftBy past k left → LeftBy past' k left
+  left_grows left (causes.same at quiet is) = causes.same at quiet is
+  left_grows left (causes.more at c why is) = causes.more at c (more_left_grows c why) is
+  left_grows left (causes.aggregate sending at why) = causes.aggregate sending at (aggregate_grows sending left why)
+  left_grows left (causes.older before at (inl h) is) = causes.older before at (inl (closing_done_grows past past' grows before h)) is
+  left_grows left (causes.older before at (inr h) is) = causes.older before at (inr (h.0, closing_fails_grows past past' grows before h.0 h.1, h.2)) is
+  left_grows left (causes.killing sending at is) = causes.killing sending at is
 
-  pub kill_done_grows : KillDone past c opened → KillDone past' c opened
-  kill_done_grows (none_left empty) = none_left empty
-  kill_done_grows (killed some bytes heard success) = killed some bytes (last_reply past past' grows (last_command c opened) false bytes heard) success
+-- nothing was sent: what is on its way has come as far
+module _ (old new : Awaited) (log log' : Told) (past : Past) (nothing : SendsNothing old new log log') where
+  flies_on : (command : Fields) (stage : Stage) → Flies old past command stage → Flies new past command stage
+  flies_on command stage f = flies_grows past past (record { own = λ place call there own. own; keeps = same_keeps past.calls; wire = refl }) old new command stage (λ n held. nothing.rest n) f
 
-came_grows : (awaited : Awaited) (past past' : Past) (grows : Grows past past') (r : Remains) (result : Step Closing (Unit {0})) → KillCame awaited past r result → KillCame awaited past' r result
-came_grows awaited past past' grows r (step.Pending c) h = (h.0, kills_grows past past' grows r.cursor r.opened awaited awaited c.flight (λ n held. refl) h.1)
-came_grows awaited past past' grows r (step.Done t) h = kill_done_grows past past' grows r.cursor r.opened h
-came_grows awaited past past' grows r (step.Failed e) h = kill_fails_grows past past' grows r.cursor r.opened e h
+  closing_on : (c : ClientCursor) (killing : Option Sending) (d : cursors.Doing) → ClosingUnderwayBy old past c killing d → ClosingUnderwayBy new past c killing d
+  closing_on c (Some sending) d h = flies_on (kill c) sending.stage h
+  closing_on c None rests h = tt
+  closing_on c None (holds bytes) h = tt
+  closing_on c None (asks sending) h = record { session = h.session; command_is = h.command_is; flies = flies_on (get_more c h.session) sending.stage h.flies }
 
--- ---- the request in flight
+-- ---- the killing
 
--- want of memory is not passed over
-full : (e : Error) → e ≡ plain kind.OutOfMemory → (e.kind ≡ kind.OutOfMemory → ⊥) → ⊥
-full e is room = room (ap (λ (x : Error). x.kind) is)
+-- a poll of the closing, of a call that had sent at these places, and from this one on
+abbrev Ended : Awaited → Told → ℤ → ClosingStream → List Call → List ℕ → ℕ → Step ClosingStream (Unit {0}) → Type 0
+Ended new log' wire k calls places since r = (calls' : List Call) × (log' ≡ Some calls') × Keeps calls calls' × causes.ClosingCame new (past_of places since calls' wire) k r
 
--- a reply that tells no cursor is none
-not_full : (said : Fields) (e : Error) → BreaksIn said e → e.kind ≡ kind.OutOfMemory → ⊥
-not_full said e breaks room = let bad : kind.InvalidResponse breaks.how ≡ kind.OutOfMemory = sym (ap (λ (x : Error). x.kind) breaks.error) ∙ room in cc
+module _ (new : Awaited) (past : Past) (k left : ClosingStream) (token_is : left.token ≡ k.token) (why : LeftBy past k left) (some : ids_left left ≢ []) where
+  -- the killCursors came to this
+  kill_came : (old : Awaited) (log log' : Told) (wire : ℤ) (sending : Sending) (came : Step Sending (List ℕ)) (r : Step ClosingStream (Unit {0})) → Runs old new log log' wire sending came → Came new past (kill_left left) false came → HearsKill left came r → causes.ClosingCame new past k r
+  kill_came old log log' wire sending (step.Pending waiting) r runs came h = subst (causes.ClosingCame new past k) (sym h) (record { underway = came; token_is = token_is; cursor_by = inr (left, why, refl, refl) })
+  kill_came old log log' wire sending (step.Done bytes) r runs came h =
+      subst (causes.ClosingCame new past k) (sym h) (causes.killed left why some bytes (heard_by past (kill_left left) false (reply bytes) came) (success_ran old new log log' wire sending bytes runs))
+  kill_came old log log' wire sending (step.Failed e) r runs came h = subst (causes.ClosingCame new past k) (sym h) (causes.not_killed left why some (inl came))
 
--- a reply that tells no cursor is passed over
-pub more_unread : (bytes : List ℕ) (r : Remains) (e : Error) (result : Step Closing Remains) → FailsBy (BreaksIn (fields bytes)) e → Leaves e r result → MoreLeaves bytes r result
-more_unread bytes r e (step.Pending c) by leaves = absurd leaves
-more_unread bytes r e (step.Done left) (inl room) leaves = absurd (full e room leaves.1)
-more_unread bytes r e (step.Done left) (inr by) leaves = inl (e, leaves.0, by)
-more_unread bytes r e (step.Failed x) by leaves = tt
+module _ (mid new : Awaited) (between log' : Told) (wire : ℤ) (k : ClosingStream) (r : Step ClosingStream (Unit {0})) (calls : List Call) (places : List ℕ) (since : ℕ) (told : between ≡ Some calls) (room : since ≤ length calls) where
+  -- nothing is sent any more
+  quiet_ended : (x : Step ClosingStream (Unit {0})) → SendsNothing mid new between log' → r ≡ x → causes.ClosingCame new (past_of places since calls wire) k x → Ended new log' wire k calls places since r
+  quiet_ended x nothing answer came = (calls, nothing.log_same ∙ told, same_keeps calls, subst (causes.ClosingCame new (past_of places since calls wire) k) (sym answer) came)
 
-pub resumption_unread : (bytes : List ℕ) (r : Remains) (e : Error) (result : Step Closing Remains) → FailsBy (BreaksIn (fields bytes)) e → Leaves e r result → ResumeLeaves bytes r result
-resumption_unread bytes r e (step.Pending c) by leaves = absurd leaves
-resumption_unread bytes r e (step.Done left) (inl room) leaves = absurd (full e room leaves.1)
-resumption_unread bytes r e (step.Done left) (inr by) leaves = inl (e, leaves.0, by)
-resumption_unread bytes r e (step.Failed x) by leaves = tt
+  kills_caused : (left : ClosingStream) → left.token ≡ k.token → LeftBy (past_of places since calls wire) k left → KillsLeft mid new between log' wire left r → Ended new log' wire k calls places since r
+  kills_caused left token_is why (nothing_left none nothing answer) = quiet_ended (step.Done tt) nothing answer (causes.nothing_left left why none)
+  kills_caused left token_is why (not_built some e (inl memory) nothing answer) = quiet_ended (step.Failed e) nothing answer (causes.out_of_memory (ap (λ (x : Error). x.kind) memory))
+  kills_caused left token_is why (not_built some e (inr cannot) nothing answer) = quiet_ended (step.Failed e) nothing answer (causes.not_killed left why some (inr cannot))
+  kills_caused left token_is why (kills_all some sending new_one h) =
+      let past : Past = past_of places since calls wire in
+      let flies = subst (λ (stage : Stage). Flies mid past (kill_left left) stage) (sym new_one.new) tt in
+      let ran = request_ran mid new between log' wire sending (kill_left left) false h.came new_one.command_is new_one.single h.runs calls told places since room flies in
+      let past' : Past = past_of places since ran.calls' wire in
+      (ran.calls', ran.told, ran.grows.keeps, kill_came new past' k left token_is (left_grows past past' ran.grows k left why) some mid between log' wire sending h.came r h.runs ran.came h.hears)
 
-pub fail_left : (r r' : Remains) (e : Error) (result : Step Closing Remains) → r' ≡ record r { cursor = cursor_behind e r.cursor } → Leaves e r' result → FailLeaves e r result
-fail_left r r' e (step.Pending c) is leaves = absurd leaves
-fail_left r r' e (step.Done left) is leaves = (leaves.0 ∙ is, leaves.1)
-fail_left r r' e (step.Failed x) is leaves = tt
+  passes_caused : (left : ClosingStream) (e : Error) → left.token ≡ k.token → (e.kind ≢ kind.OutOfMemory → LeftBy (past_of places since calls wire) k left) → PassesOver mid new between log' wire left e r → Ended new log' wire k calls places since r
+  passes_caused left e token_is why (inl memory) = quiet_ended (step.Failed e) memory.1 memory.2 (causes.out_of_memory memory.0)
+  passes_caused left e token_is why (inr other) = kills_caused left token_is (why other.0) other.1
 
-module _ (awaited : Awaited) (past : Past) (r : Remains) where
-  -- behind a getMore
-  more_kept : (bytes : List ℕ) (left : Remains) → HeardLast past (asking_command r.cursor) false (reply bytes) → IsSuccess bytes → MoreLeaves bytes r (step.Done left) → MoreLeft past r left
-  more_kept bytes left heard success (inl x) =
-      untold x.0 (was_broken bytes heard success x.2) (not_full (fields bytes) x.0 x.2)
-      (x.1 ∙ sym (ap (λ (y : Error). record r { cursor = cursor_behind y r.cursor }) x.2.error))
-  more_kept bytes left heard success (inr gave) =
-      given bytes (record r.cursor { id = gave.0.id; ns = gave.0.ns }) gave.0.post_batch_resume_token (heard_by past (asking_command r.cursor) false (reply bytes) heard) success (record { batch = gave.1.batch; says = gave.1.says; manner_is = refl }) gave.2
+  -- ---- the getMore of its cursor
 
-  more_ends : (get_more : GetMore) (exec : Sending) (bytes : List ℕ) (landing : Step Closing Remains) → MoreLeaves bytes r landing → WantsMemory landing → HeardLast past (asking_command r.cursor) false (reply bytes) → IsSuccess bytes → LandCame awaited past r (flight.More get_more exec) landing
-  more_ends get_more exec bytes (step.Pending c) leaves memory heard success = absurd leaves
-  more_ends get_more exec bytes (step.Done left) leaves memory heard success = more_kept bytes left heard success leaves
-  more_ends get_more exec bytes (step.Failed e) leaves memory heard success = memory
+  more_read : k.doing ≡ lands → (session : Option Session) (bytes : List ℕ) (left : ClientCursor) (poll : NextPoll) → HeardLast (past_of places since calls wire) (get_more k.cursor session) false (reply bytes) → IsSuccess bytes → ReadsReply k.cursor bytes left poll → BehindMore mid new between log' wire (record k { cursor = left }) poll r
+      → Ended new log' wire k calls places since r
+  more_read at session bytes left poll heard success (gave said says is answer) behind =
+      let past : Past = past_of places since calls wire in
+      let its : HeardMore past k.cursor bytes = record { session = session; heard = heard_by past (get_more k.cursor session) false (reply bytes) heard; success = success } in
+      kills_caused (record k { cursor = left }) refl (causes.more at left (causes.given bytes said its says is) refl) (subst (λ (x : NextPoll). BehindMore mid new between log' wire (record k { cursor = left }) x r) answer behind)
+  more_read at session bytes left poll heard success (broke e (inl memory) is answer) behind =
+      passes_caused (record k { cursor = left }) e refl (λ room. absurd (room (ap (λ (x : Error). x.kind) memory))) (subst (λ (x : NextPoll). BehindMore mid new between log' wire (record k { cursor = left }) x r) answer behind)
+  more_read at session bytes left poll heard success (broke e (inr breaks) is answer) behind =
+      let past : Past = past_of places since calls wire in
+      let fails : MoreFails past k.cursor e = record { session = session; fails = was_broken bytes heard success breaks } in
+      passes_caused (record k { cursor = left }) e refl (λ room. causes.more at left (causes.not_given e fails room (is ∙ sym (behind_broken (fields bytes) e k.cursor breaks))) refl)
+      (subst (λ (x : NextPoll). BehindMore mid new between log' wire (record k { cursor = left }) x r) answer behind)
 
-  more_lost : (get_more : GetMore) (exec : Sending) (e : Error) (landing : Step Closing Remains) → FailLeaves e r landing → WantsMemory landing → RequestFails past (asking_command r.cursor) false NoneBroken e → LandCame awaited past r (flight.More get_more exec) landing
-  more_lost get_more exec e (step.Pending c) leaves memory failed = absurd leaves
-  more_lost get_more exec e (step.Done left) leaves memory failed = untold e (fails_anyhow past (asking_command r.cursor) false TellsNoCursor e failed) leaves.1 leaves.0
-  more_lost get_more exec e (step.Failed x) leaves memory failed = memory
+  more_landed : k.doing ≡ lands → (old : Awaited) (log : Told) (session : Option Session) (sending : Sending) → fields sending.command ≡ get_more k.cursor session → (came : Step Sending (List ℕ)) (left : ClientCursor) (poll : NextPoll) → Runs old mid log between wire sending came → Came mid (past_of places since calls wire) (get_more k.cursor session) false came
+      → Hears k.cursor came left poll → BehindMore mid new between log' wire (record k { cursor = left }) poll r → Ended new log' wire k calls places since r
+  more_landed at old log session sending command_is (step.Pending waiting) left poll runs came h behind =
+      let past : Past = past_of places since calls wire in
+      let c : ClientCursor = record k.cursor { doing = asks waiting } in
+      let pends = subst (λ (x : NextPoll). BehindMore mid new between log' wire (record k { cursor = left }) x r) h.1 behind in
+      let still = still_waits old mid log between wire sending waiting runs in
+      let flies : FliesMore new past c waiting = record { session = session; command_is = ap fields still.same_command ∙ command_is; flies = flies_on mid new between log' past pends.0 (get_more k.cursor session) waiting.stage came } in
+      let underway : IsUnderway new past (record k { cursor = c }) = subst (UnderwayBy new past (record k { cursor = c })) (sym at) flies in
+      quiet_ended (step.Pending (record k { cursor = left })) pends.0 pends.1
+      (subst (λ (x : ClientCursor). causes.ClosingCame new past k (step.Pending (record k { cursor = x }))) (sym h.0) (record { underway = underway; token_is = refl; cursor_by = inl refl }))
+  more_landed at old log session sending command_is (step.Done bytes) left poll runs came h behind = more_read at session bytes left poll came (success_ran old mid log between wire sending bytes runs) h behind
+  more_landed at old log session sending command_is (step.Failed e) left poll runs came h behind =
+      let past : Past = past_of places since calls wire in
+      let fails : MoreFails past k.cursor e = record { session = session; fails = fails_anyhow past (get_more k.cursor session) false TellsNoCursor e came } in
+      passes_caused (record k { cursor = left }) e refl (λ room. causes.more at left (causes.not_given e fails room h.0) refl) (subst (λ (x : NextPoll). BehindMore mid new between log' wire (record k { cursor = left }) x r) h.1 behind)
 
-  -- behind the aggregate of a resumption
-  resumption_kept : (bytes : List ℕ) (left : Remains) → HeardLast past (resuming_command r.aggregate past.wire) true (reply bytes) → IsSuccess bytes → ResumeLeaves bytes r (step.Done left) → ResumptionLeft past r left
-  resumption_kept bytes left heard success (inl x) = untold x.0 (was_broken bytes heard success x.2) (not_full (fields bytes) x.0 x.2) x.1
-  resumption_kept bytes left heard success (inr gave) =
-      let opens = gave.1.opens.opens in
-      brought bytes gave.0.0.info gave.0.0.post_batch_resume_token heard success (record { batch = opens.batch; says = opens.says; manner_is = manner_read r.aggregate.args.options bytes gave.0.0 gave.1.opens }) gave.2
+  -- ---- the aggregate of a resumption
 
-  resumption_ends : (exec : Sending) (bytes : List ℕ) (landing : Step Closing Remains) → ResumeLeaves bytes r landing → WantsMemory landing → HeardLast past (resuming_command r.aggregate past.wire) true (reply bytes) → IsSuccess bytes → LandCame awaited past r (flight.Resumption exec) landing
-  resumption_ends exec bytes (step.Pending c) leaves memory heard success = absurd leaves
-  resumption_ends exec bytes (step.Done left) leaves memory heard success = resumption_kept bytes left heard success leaves
-  resumption_ends exec bytes (step.Failed e) leaves memory heard success = memory
+  opening_read : (sending : Sending) → k.doing ≡ lands_aggregate sending → (bytes : List ℕ) → HeardLast (past_of places since calls wire) (fields sending.command) sending.retries (reply bytes) → IsSuccess bytes → BehindOpening mid new between log' wire k bytes r → Ended new log' wire k calls places since r
+  opening_read sending at bytes heard success (opened_one said says killing) =
+      kills_caused (record k { opened = said.id; doing = lands }) refl (causes.aggregate sending at (causes.opened_one bytes said heard success says refl)) killing
+  opening_read sending at bytes heard success (opened_none e (inl memory) passes) = passes_caused (record k { doing = lands }) e refl (λ room. absurd (room (ap (λ (x : Error). x.kind) memory))) passes
+  opening_read sending at bytes heard success (opened_none e (inr breaks) passes) =
+      passes_caused (record k { doing = lands }) e refl (λ room. causes.aggregate sending at (causes.opened_none e (was_broken bytes heard success breaks) room refl)) passes
 
-  resumption_lost : (exec : Sending) (e : Error) (landing : Step Closing Remains) → Leaves e r landing → WantsMemory landing → RequestFails past (resuming_command r.aggregate past.wire) true NoneBroken e → LandCame awaited past r (flight.Resumption exec) landing
-  resumption_lost exec e (step.Pending c) leaves memory failed = absurd leaves
-  resumption_lost exec e (step.Done left) leaves memory failed = untold e (fails_anyhow past (resuming_command r.aggregate past.wire) true TellsNoCursor e failed) leaves.1 leaves.0
-  resumption_lost exec e (step.Failed x) leaves memory failed = memory
+  aggregate_landed : (old : Awaited) (log : Told) (sending : Sending) → k.doing ≡ lands_aggregate sending → (came : Step Sending (List ℕ)) → Runs old mid log between wire sending came → Came mid (past_of places since calls wire) (fields sending.command) sending.retries came → BehindAggregate mid new between log' wire k came r → Ended new log' wire k calls places since r
+  aggregate_landed old log sending at (step.Pending waiting) runs came h =
+      let past : Past = past_of places since calls wire in
+      let same = ap fields (still_waits old mid log between wire sending waiting runs).same_command in
+      quiet_ended (step.Pending (record k { doing = lands_aggregate waiting })) h.0 h.1
+      (record { underway = flies_on mid new between log' past h.0 (fields waiting.command) waiting.stage (subst (λ (c : Fields). Flies mid past c waiting.stage) (sym same) came); token_is = refl; cursor_by = inl refl })
+  aggregate_landed old log sending at (step.Done bytes) runs came h = opening_read sending at bytes came (success_ran old mid log between wire sending bytes runs) h
+  aggregate_landed old log sending at (step.Failed e) runs came h =
+      passes_caused (record k { doing = lands }) e refl
+      (λ room. causes.aggregate sending at (causes.opened_none e (fails_anyhow (past_of places since calls wire) (fields sending.command) sending.retries TellsNoCursor e came) room refl)) h
 
-  -- behind the killing of an older cursor
-  older_passed : (exec : Sending) (id : ℤ) (e : Error) (landing : Step Closing Remains) → Leaves e r landing → WantsMemory landing → LandCame awaited past r (flight.Older exec id) landing
-  older_passed exec id e (step.Pending c) leaves memory = absurd leaves
-  older_passed exec id e (step.Done left) leaves memory = leaves.0
-  older_passed exec id e (step.Failed x) leaves memory = memory
+  -- ---- the closing of the cursor before
 
-module _ (old new : Awaited) (log log' : Told) (wire : ℤ) (r : Remains) (exec : Sending) where
-  -- a getMore
-  module _ (get_more : GetMore) (is : IsMore r exec) where
-    more_ran : (sent : Step Sending (List ℕ)) (landing : Step Closing Remains) → ((past : Past) → Came new past (asking_command r.cursor) false sent → LandCame new past r (flight.More get_more exec) landing) → Runs old new log log' wire exec sent → LandRan old new log log' wire r (flight.More get_more exec) landing
-    more_ran sent landing leads runs calls logged places flies =
-        let ran = request_ran old new log log' wire exec (asking_command r.cursor) false sent is.carries.command_is is.carries.retries_is runs calls logged places (length calls) (omega arith) flies in
-        (ran.calls', ran.told, ran.grows.keeps, leads (past_of places (length calls) ran.calls' wire) ran.came)
+  older_landed : (before : ClosingCursor) → k.doing ≡ lands_older before → (came : Step ClosingCursor (Unit {0})) → ClosingCame mid (past_of places since calls wire) before came → BehindOlder mid new between log' wire k came r → Ended new log' wire k calls places since r
+  older_landed before at (step.Pending waiting) came h =
+      quiet_ended (step.Pending (record k { doing = lands_older waiting })) h.0 h.1
+      (record { underway = closing_on mid new between log' (past_of places since calls wire) h.0 waiting.cursor waiting.killing waiting.cursor.doing came.0; token_is = refl; cursor_by = inl refl })
+  older_landed before at (step.Done t) came h = kills_caused (record k { doing = lands }) refl (causes.older before at (inl came) refl) h
+  older_landed before at (step.Failed e) came h = passes_caused (record k { doing = lands }) e refl (λ room. causes.older before at (inr (e, came, room)) refl) h
 
-    pub more_waits : (get_more' : GetMore) (sent : Sending) → Runs old new log log' wire exec (step.Pending sent) → LandRan old new log log' wire r (flight.More get_more exec) (step.Pending (record { remains = r; flight = flight.More get_more' sent }))
-    more_waits get_more' sent runs = more_ran (step.Pending sent) (step.Pending (record { remains = r; flight = flight.More get_more' sent })) (λ past flies. (refl, flies)) runs
+-- ---- a poll
 
-    pub more_ended : (bytes : List ℕ) (landing : Step Closing Remains) → Runs old new log log' wire exec (step.Done bytes) → MoreLeaves bytes r landing → WantsMemory landing → LandRan old new log log' wire r (flight.More get_more exec) landing
-    more_ended bytes landing runs leaves memory = more_ran (step.Done bytes) landing (λ past heard. more_ends new past r get_more exec bytes landing leaves memory heard (success_ran old new log log' wire exec bytes runs)) runs
+underway_as : (awaited : Awaited) (past : Past) (k : ClosingStream) (d : Landing) → k.doing ≡ d → IsUnderway awaited past k → UnderwayBy awaited past k d
+underway_as awaited past k d is h = subst (UnderwayBy awaited past k) is h
 
-    pub more_failed : (e : Error) (landing : Step Closing Remains) → Runs old new log log' wire exec (step.Failed e) → FailLeaves e r landing → WantsMemory landing → LandRan old new log log' wire r (flight.More get_more exec) landing
-    more_failed e landing runs leaves memory = more_ran (step.Failed e) landing (λ past failed. more_lost new past r get_more exec e landing leaves memory failed) runs
+-- a killCursors that was on its way
+going_came : (old new : Awaited) (log log' : Told) (wire : ℤ) (past : Past) (k : ClosingStream) (sending : Sending) → k.doing ≡ ends sending → ids_left k ≢ [] → (came : Step Sending (List ℕ)) (r : Step ClosingStream (Unit {0})) → Runs old new log log' wire sending came → Came new past (kill_left k) false came → HearsKill k came r → causes.ClosingCame new past k r
+going_came old new log log' wire past k sending at some (step.Pending waiting) r runs came h = subst (causes.ClosingCame new past k) (sym h) (record { underway = came; token_is = refl; cursor_by = inl refl })
+going_came old new log log' wire past k sending at some (step.Done bytes) r runs came h = kill_came new past k k refl (causes.killing sending at refl) some old log log' wire sending (step.Done bytes) r runs came h
+going_came old new log log' wire past k sending at some (step.Failed e) r runs came h = kill_came new past k k refl (causes.killing sending at refl) some old log log' wire sending (step.Failed e) r runs came h
 
-  -- the aggregate of a resumption
-  module _ (carries : Carries exec (resuming_command r.aggregate wire) true) where
-    resumption_ran : (sent : Step Sending (List ℕ)) (landing : Step Closing Remains) → ((past : Past) → past.wire ≡ wire → Came new past (resuming_command r.aggregate past.wire) true sent → LandCame new past r (flight.Resumption exec) landing) → Runs old new log log' wire exec sent
-        → LandRan old new log log' wire r (flight.Resumption exec) landing
-    resumption_ran sent landing leads runs calls logged places flies =
-        let ran = request_ran old new log log' wire exec (resuming_command r.aggregate wire) true sent carries.command_is carries.retries_is runs calls logged places (length calls) (omega arith) flies in
-        (ran.calls', ran.told, ran.grows.keeps, leads (past_of places (length calls) ran.calls' wire) refl ran.came)
+pub closing_caused : (old new : Awaited) (log log' : Told) (wire : ℤ) (k : ClosingStream) (r : Step ClosingStream (Unit {0})) → IsSoundStream k → ClosesStream old new log log' wire k r → ClosingCaused old new log log' wire k r
+closing_caused old new log log' wire k r sound (begins at quiet h) = λ calls told places underway.
+    let start : length calls ≤ length calls = omega arith in
+    kills_caused old new log log' wire k r calls places (length calls) told start (record k { cursor = at_rest k.cursor }) refl (causes.same at quiet refl) h
+closing_caused old new log log' wire k r sound (lands_more at sending asks_so b came left poll runs hears behind) = λ calls told places underway.
+    let past : Past = past_of places (length calls) calls wire in
+    let landing : IsLanding k = subst (LandsSoundly k) at sound in
+    let on : IsAsking false k.cursor sending = subst (cursors.SoundBy false k.cursor) asks_so landing.asks_its_own in
+    let far : FliesMore old past k.cursor sending = subst (UnderwayByCursor old past k.cursor) asks_so (underway_as old past k lands at underway) in
+    let start : length calls ≤ length calls = omega arith in
+    let ran = request_ran old b.awaited log b.log wire sending (get_more k.cursor far.session) false came far.command_is on.waits_on.single runs calls told places (length calls) start far.flies in
+    let x = more_landed b.awaited new b.log log' wire k r ran.calls' places (length calls) ran.told ran.room at old log far.session sending far.command_is came left poll runs ran.came hears behind in
+    (x.0, x.1, keeps_on calls ran.calls' x.0 ran.grows.keeps x.2, x.3)
+closing_caused old new log log' wire k r sound (lands_opening sending at b came runs behind) = λ calls told places underway.
+    let past : Past = past_of places (length calls) calls wire in
+    let start : length calls ≤ length calls = omega arith in
+    let ran = request_ran old b.awaited log b.log wire sending (fields sending.command) sending.retries came refl refl runs calls told places (length calls) start (underway_as old past k (lands_aggregate sending) at underway) in
+    let x = aggregate_landed b.awaited new b.log log' wire k r ran.calls' places (length calls) ran.told ran.room old log sending at came runs ran.came behind in
+    (x.0, x.1, keeps_on calls ran.calls' x.0 ran.grows.keeps x.2, x.3)
+closing_caused old new log log' wire k r sound (lands_closing before at b came polls behind) = λ calls told places underway.
+    let past : Past = past_of places (length calls) calls wire in
+    let parts = subst (LandsSoundly k) at sound in
+    let ran = cursor_caused old b.awaited log b.log wire before came parts.1 polls calls told places (underway_as old past k (lands_older before) at underway) in
+    let longer = keeps_longer calls ran.0 ran.2 in
+    let x = older_landed b.awaited new b.log log' wire k r ran.0 places (length calls) ran.1 longer before at came ran.3 behind in
+    (x.0, x.1, keeps_on calls ran.0 x.0 ran.2 x.2, x.3)
+closing_caused old new log log' wire k r sound (goes_on sending at h) = λ calls told places underway.
+    let past : Past = past_of places (length calls) calls wire in
+    let parts = subst (LandsSoundly k) at sound in
+    let start : length calls ≤ length calls = omega arith in
+    let ran = request_ran old new log log' wire sending (kill_left k) false h.came parts.1.command_is parts.1.single h.runs calls told places (length calls) start (underway_as old past k (ends sending) at underway) in
+    (ran.calls', ran.told, ran.grows.keeps, going_came old new log log' wire (past_of places (length calls) ran.calls' wire) k sending at parts.2 h.came r h.runs ran.came h.hears)
 
-    pub resumption_waits : (sent : Sending) → Runs old new log log' wire exec (step.Pending sent) → LandRan old new log log' wire r (flight.Resumption exec) (step.Pending (record { remains = r; flight = flight.Resumption sent }))
-    resumption_waits sent runs = resumption_ran (step.Pending sent) (step.Pending (record { remains = r; flight = flight.Resumption sent })) (λ past same flies. (refl, flies)) runs
+-- ---- the closing of a stream at rest
 
-    pub resumption_ended : (bytes : List ℕ) (landing : Step Closing Remains) → Runs old new log log' wire exec (step.Done bytes) → ResumeLeaves bytes r landing → WantsMemory landing → LandRan old new log log' wire r (flight.Resumption exec) landing
-    resumption_ended bytes landing runs leaves memory = resumption_ran (step.Done bytes) landing (λ past same heard. resumption_ends new past r exec bytes landing leaves memory heard (success_ran old new log log' wire exec bytes runs)) runs
+-- what is left of it is what its stream left
+last_same : (awaited : Awaited) (past : Past) (last : ClientStream) (k : ClosingStream) → LastSoFar awaited past last k → ids_left k ≡ last_ids last
+last_same awaited past last k so = ap (λ (x : ℤ). unless_none x ++ unless_none k.opened) so.id_is ∙ ap (λ (x : ℤ). unless_none last.cursor.id ++ unless_none x) so.none_opened
 
-    pub resumption_failed : (e : Error) (landing : Step Closing Remains) → Runs old new log log' wire exec (step.Failed e) → Leaves e r landing → WantsMemory landing → LandRan old new log log' wire r (flight.Resumption exec) landing
-    resumption_failed e landing runs leaves memory = resumption_ran (step.Failed e) landing (λ past same failed. resumption_lost new past r exec e landing leaves memory failed) runs
+kill_same : (awaited : Awaited) (past : Past) (last : ClientStream) (k : ClosingStream) → LastSoFar awaited past last k → kill_left k ≡ last_kill last
+kill_same awaited past last k so = ap (λ (s : Space). kill_command s (ids_left k)) so.space_is ∙ ap (λ (ids : List ℤ). kill_command last.cursor.space ids) (last_same awaited past last k so)
 
--- the killing of an older cursor
-module _ (old new : Awaited) (log log' : Told) (wire : ℤ) (r : Remains) (exec : Sending) (id : ℤ) (stays : Stays log log') where
-  older_ran : (landing : Step Closing Remains) → ((past : Past) → LandCame new past r (flight.Older exec id) landing) → LandRan old new log log' wire r (flight.Older exec id) landing
-  older_ran landing came calls logged places flies = let x = stays calls logged in (x.0, x.1, x.2, came (past_of places (length calls) x.0 wire))
+-- what a poll of it comes to
+abbrev pub LastCame : Awaited → Past → ClientStream → Step ClosingStream (Unit {0}) → Type 0
+LastCame awaited past last (step.Pending k) = LastSoFar awaited past last k
+LastCame awaited past last (step.Done t) = LastDone past last
+LastCame awaited past last (step.Failed e) = LastFails past last e
 
-  pub older_waits : (sent : Sending) (id' : ℤ) → LandRan old new log log' wire r (flight.Older exec id) (step.Pending (record { remains = r; flight = flight.Older sent id' }))
-  older_waits sent id' = older_ran (step.Pending (record { remains = r; flight = flight.Older sent id' })) (λ past. (refl, tt))
+module _ (old new : Awaited) (log log' : Told) (wire : ℤ) (last : ClientStream) (k : ClosingStream) (r : Step ClosingStream (Unit {0})) (ids_are : ids_left k ≡ last_ids last) (kill_is : kill_left k ≡ last_kill last) where
+  -- it is still the closing of this stream
+  last_heard : (past : Past) (sending : Sending) → k.cursor.id ≡ last.cursor.id → k.cursor.space ≡ last.cursor.space → k.opened ≡ pos 0 → IsNotAsking k.cursor.doing → last_ids last ≢ [] → (came : Step Sending (List ℕ)) → Runs old new log log' wire sending came → Came new past (last_kill last) false came → HearsKill k came r → LastCame new past last r
+  last_heard past sending id_is space_is none_opened quiet some (step.Pending waiting) runs came h =
+      subst (LastCame new past last) (sym h) (record { id_is = id_is; space_is = space_is; none_opened = none_opened; quiet = quiet; by = (some, came) })
+  last_heard past sending id_is space_is none_opened quiet some (step.Done bytes) runs came h =
+      subst (LastCame new past last) (sym h) (was_killed some bytes (heard_by past (last_kill last) false (reply bytes) came) (success_ran old new log log' wire sending bytes runs))
+  last_heard past sending id_is space_is none_opened quiet some (step.Failed e) runs came h = subst (LastCame new past last) (sym h) (record { some_left = some; why = inr (inl came) })
 
-  pub older_ended : LandRan old new log log' wire r (flight.Older exec id) (step.Done r)
-  older_ended = older_ran (step.Done r) (λ past. refl)
+  last_ran : k.cursor.id ≡ last.cursor.id → k.cursor.space ≡ last.cursor.space → k.opened ≡ pos 0 → IsNotAsking k.cursor.doing → last_ids last ≢ [] → (sending : Sending) → fields sending.command ≡ kill_left k → sending.retries ≡ false → RunsKill old new log log' wire k sending r
+      → (calls : List Call) → log ≡ Some calls → (places : List ℕ) → Flies old (past_of places (length calls) calls wire) (last_kill last) sending.stage → (calls' : List Call) × (log' ≡ Some calls') × Keeps calls calls' × LastCame new (past_of places (length calls) calls' wire) last r
+  last_ran id_is space_is none_opened quiet some sending command_is single h calls told places flies =
+      let start : length calls ≤ length calls = omega arith in
+      let ran = request_ran old new log log' wire sending (last_kill last) false h.came (command_is ∙ kill_is) single h.runs calls told places (length calls) start flies in
+      (ran.calls', ran.told, ran.grows.keeps, last_heard (past_of places (length calls) ran.calls' wire) sending id_is space_is none_opened quiet some h.came h.runs ran.came h.hears)
 
-  pub older_failed : (e : Error) (landing : Step Closing Remains) → Leaves e r landing → WantsMemory landing → LandRan old new log log' wire r (flight.Older exec id) landing
-  older_failed e landing leaves memory = older_ran landing (λ past. older_passed new past r exec id e landing leaves memory)
+  last_left : k.cursor.id ≡ last.cursor.id → k.cursor.space ≡ last.cursor.space → k.opened ≡ pos 0 → IsNotAsking k.cursor.doing → KillsLeft old new log log' wire k r
+      → (calls : List Call) → log ≡ Some calls → (places : List ℕ) → (calls' : List Call) × (log' ≡ Some calls') × Keeps calls calls' × LastCame new (past_of places (length calls) calls' wire) last r
+  last_left id_is space_is none_opened quiet (nothing_left none nothing answer) calls told places =
+      (calls, nothing.log_same ∙ told, same_keeps calls, subst (LastCame new (past_of places (length calls) calls wire) last) (sym answer) (none_held (sym ids_are ∙ none)))
+  last_left id_is space_is none_opened quiet (not_built some e (inl memory) nothing answer) calls told places =
+      (calls, nothing.log_same ∙ told, same_keeps calls, subst (LastCame new (past_of places (length calls) calls wire) last) (sym answer) (record { some_left = λ none. some (ids_are ∙ none); why = inl (ap (λ (x : Error). x.kind) memory) }))
+  last_left id_is space_is none_opened quiet (not_built some e (inr cannot) nothing answer) calls told places =
+      (calls, nothing.log_same ∙ told, same_keeps calls, subst (LastCame new (past_of places (length calls) calls wire) last) (sym answer) (record { some_left = λ none. some (ids_are ∙ none); why = inr (inr (subst (λ (c : Fields). CannotBeSent c e) kill_is cannot)) }))
+  last_left id_is space_is none_opened quiet (kills_all some sending new_one h) calls told places =
+      last_ran id_is space_is none_opened quiet (λ none. some (ids_are ∙ none)) sending new_one.command_is new_one.single h calls told places
+      (subst (λ (stage : Stage). Flies old (past_of places (length calls) calls wire) (last_kill last) stage) (sym new_one.new) tt)
 
--- ---- a later time of it
+-- A poll of the closing of a stream at rest.
+pub last_closes : (old new : Awaited) (log log' : Told) (wire : ℤ) (last : ClientStream) (k : ClosingStream) (r : Step ClosingStream (Unit {0})) → IsSoundStream k → ClosesStream old new log log' wire k r → (calls : List Call) → log ≡ Some calls → (places : List ℕ) → LastSoFar old (past_of places (length calls) calls wire) last k
+    → (calls' : List Call) × (log' ≡ Some calls') × Keeps calls calls' × LastCame new (past_of places (length calls) calls' wire) last r
+last_closes old new log log' wire last k r sound (begins at quiet h) calls told places so =
+    last_left old new log log' wire last (record k { cursor = at_rest k.cursor }) r (last_same old (past_of places (length calls) calls wire) last k so) (kill_same old (past_of places (length calls) calls wire) last k so) so.id_is so.space_is so.none_opened tt h calls told places
+last_closes old new log log' wire last k r sound (lands_more at sending asks_so b came left poll runs hears behind) calls told places so = absurd (subst IsNotAsking asks_so so.quiet)
+last_closes old new log log' wire last k r sound (lands_opening sending at b came runs behind) calls told places so = absurd (subst (LastBy old (past_of places (length calls) calls wire) last) at so.by)
+last_closes old new log log' wire last k r sound (lands_closing before at b came polls behind) calls told places so = absurd (subst (LastBy old (past_of places (length calls) calls wire) last) at so.by)
+last_closes old new log log' wire last k r sound (goes_on sending at h) calls told places so =
+    let parts = subst (LandsSoundly k) at sound in
+    let by = subst (LastBy old (past_of places (length calls) calls wire) last) at so.by in
+    last_ran old new log log' wire last k r (last_same old (past_of places (length calls) calls wire) last k so) (kill_same old (past_of places (length calls) calls wire) last k so) so.id_is so.space_is so.none_opened so.quiet by.0 sending parts.1.command_is parts.1.single h calls told places by.1
 
-module _ (past past' : Past) (grows : Grows past past') (r left : Remains) where
-  more_left_grows : MoreLeft past r left → MoreLeft past' r left
-  more_left_grows (untold e fails room is) = untold e (request_fails_grows past past' grows (asking_command r.cursor) false TellsNoCursor e fails) room is
-  more_left_grows (given bytes c upto heard success tells is) = given bytes c upto (heard_reply past past' grows (asking_command r.cursor) bytes heard) success tells is
+module _ (past past' : Past) (grows : Grows past past') (last : ClientStream) where
+  last_by_grows : (awaited awaited' : Awaited) (c : ClientCursor) (d : Landing) → ((n : ℕ) → landing_ticket c d ≡ Some n → awaited' n ≡ awaited n) → LastBy awaited past last d → LastBy awaited' past' last d
+  last_by_grows awaited awaited' c lands tickets h = tt
+  last_by_grows awaited awaited' c (lands_aggregate sending) tickets h = absurd h
+  last_by_grows awaited awaited' c (lands_older before) tickets h = absurd h
+  last_by_grows awaited awaited' c (ends sending) tickets h = (h.0, flies_grows past past' grows awaited awaited' (last_kill last) sending.stage tickets h.1)
 
-  resumed_last : (seen : Sight) → (seen ≡ waiting → ⊥) → HeardLast past (resuming_command r.aggregate past.wire) true seen → HeardLast past' (resuming_command r.aggregate past'.wire) true seen
-  resumed_last seen answer h = subst (λ (w : ℤ). HeardLast past' (resuming_command r.aggregate w) true seen) (sym grows.wire) (last_grows past past' grows (resuming_command r.aggregate past.wire) true seen answer h)
+  pub last_grows : (awaited awaited' : Awaited) (k : ClosingStream) → ((n : ℕ) → stream_closing_ticket k ≡ Some n → awaited' n ≡ awaited n) → LastSoFar awaited past last k → LastSoFar awaited' past' last k
+  last_grows awaited awaited' k tickets so = record { id_is = so.id_is; space_is = so.space_is; none_opened = so.none_opened; quiet = so.quiet; by = last_by_grows awaited awaited' k.cursor k.doing tickets so.by }
 
-  resumption_left_grows : ResumptionLeft past r left → ResumptionLeft past' r left
-  resumption_left_grows (untold e fails room is) =
-      untold e (subst (λ (w : ℤ). RequestFails past' (resuming_command r.aggregate w) true TellsNoCursor e) (sym grows.wire) (request_fails_grows past past' grows (resuming_command r.aggregate past.wire) true TellsNoCursor e fails)) room is
-  resumption_left_grows (brought bytes c upto heard success tells is) = brought bytes c upto (resumed_last (reply bytes) (λ e. cc) heard) success tells is
+  pub last_done_grows : LastDone past last → LastDone past' last
+  last_done_grows (none_held none) = none_held none
+  last_done_grows (was_killed some bytes heard success) = was_killed some bytes (heard_reply past past' grows (last_kill last) bytes heard) success
 
-  left_grows : (f : Flight) → LeftBy past r f left → LeftBy past' r f left
-  left_grows flight.Landed h = absurd h
-  left_grows (flight.More get_more exec) h = more_left_grows h
-  left_grows (flight.Resumption exec) h = resumption_left_grows h
-  left_grows (flight.Older exec id) h = h
-  left_grows (flight.Last exec) h = absurd h
-
--- ---- what comes after it
-
--- what a part of a poll sent the whole of it sent
-since_before : (places : List ℕ) (since since' : ℕ) (calls : List Call) (wire : ℤ) → since ≤ since' → Grows (past_of [] since' calls wire) (past_of places since calls wire)
-since_before places since since' calls wire less = record {
-  own = λ place call there own. elim own [ inl none ↦ absurd none | inr behind ↦ inr (omega (arith, less, behind)) ];
-  keeps = same_keeps calls;
-  wire = refl;
-}
-
-same_calls : (xs ys : List Call) → Some xs ≡ Some ys → xs ≡ ys
-same_calls xs ys h = cc
-
-module _ (old mid new : Awaited) (log between log' : Told) (wire : ℤ) (r left : Remains) (f : Flight) (landing : Step Closing Remains) (is : landing ≡ step.Done left) (ran : LandRan old mid log between wire r f landing) (stays : Stays between log') where
-  kills_later : (result : Step Closing (Unit {0})) → KillCaused mid new between log' wire left flight.Landed result → (calls : List Call) → log ≡ Some calls → (places : List ℕ) → FliesSoFar old (past_of places (length calls) calls wire) r f
-      → (calls' : List Call) × (log' ≡ Some calls') × Kills new (past_of places (length calls) calls' wire) r f result
-  kills_later result kills calls logged places flies =
-      let x = subst (λ (l : Step Closing Remains). LandRan old mid log between wire r f l) is ran calls logged places flies in
-      let k = kills x.0 x.1 [] tt in
-      let y = stays x.0 x.1 in
-      let keeps : Keeps x.0 k.0 = subst (λ (l : List Call). Keeps x.0 l) (same_calls y.0 k.0 (sym y.1 ∙ k.1)) y.2 in
-      let past = past_of places (length calls) k.0 wire in (
-        k.0,
-        k.1,
-        record {
-          left = left;
-          leaves = left_grows (past_of places (length calls) x.0 wire) past (log_grows places (length calls) x.0 k.0 wire keeps) r left f x.3;
-          came = came_grows new (past_of [] (length x.0) k.0 wire) past (since_before places (length calls) (length x.0) k.0 wire (keeps_longer calls x.0 x.2)) left result k.2;
-        },
-      )
-
-  pub killed_later : (result : Step Closing (Unit {0})) → KillCaused mid new between log' wire left flight.Landed result → LandCaused old new log log' wire r f result
-  killed_later (step.Pending c) kills calls logged places flies = let x = kills_later (step.Pending c) kills calls logged places flies in (x.0, x.1, inr x.2)
-  killed_later (step.Done t) kills calls logged places flies = kills_later (step.Done t) kills calls logged places flies
-  killed_later (step.Failed e) kills calls logged places flies = let x = kills_later (step.Failed e) kills calls logged places flies in (x.0, x.1, inr x.2)
-
-module _ (old new : Awaited) (log log' : Told) (wire : ℤ) (r : Remains) (f : Flight) (landing : Step Closing Remains) (ran : LandRan old new log log' wire r f landing) where
-  pub waits_on : (c : Closing) → landing ≡ step.Pending c → LandCaused {T = Unit {0}} old new log log' wire r f (step.Pending c)
-  waits_on c is calls logged places flies = let x = subst (λ (l : Step Closing Remains). LandRan old new log log' wire r f l) is ran calls logged places flies in (x.0, x.1, inl x.3)
-
-  pub fails_on : (e : Error) → landing ≡ step.Failed e → LandCaused {T = Unit {0}} old new log log' wire r f (step.Failed e)
-  fails_on e is calls logged places flies = let x = subst (λ (l : Step Closing Remains). LandRan old new log log' wire r f l) is ran calls logged places flies in (x.0, x.1, inl x.3)
-
--- by what was in flight
-pub flight_is : (old new : Awaited) (log log' : Told) (wire : ℤ) (r : Remains) (f g : Flight) (result : Step Closing (Unit {0})) → g ≡ f → ClosingCaused old new log log' wire r f result → ClosingCaused old new log log' wire r g result
-flight_is old new log log' wire r f g result is h = subst (λ (x : Flight). ClosingCaused old new log log' wire r x result) (sym is) h
-
--- at the wire version that the request left
-pub landed_at : (old mid new : Awaited) (log between log' : Told) (wire wire' : ℤ) (r : Remains) (f : Flight) (landing : Step Closing Remains) (result : Step Closing (Unit {0})) → wire' ≡ wire → LandRan old mid log between wire r f landing
-    → (LandRan old mid log between wire' r f landing → LandCaused old new log log' wire' r f result) → LandCaused old new log log' wire r f result
-landed_at old mid new log between log' wire wire' r f landing result same ran goes =
-    subst (λ (w : ℤ). LandCaused old new log log' w r f result) same (goes (subst (λ (w : ℤ). LandRan old mid log between w r f landing) (sym same) ran))
+  pub last_fails_grows : (e : Error) → LastFails past last e → LastFails past' last e
+  last_fails_grows e h = record { some_left = h.some_left; why = why_grows h.why }
+    where
+      why_grows : (e.kind ≡ kind.OutOfMemory) ⊎ (RequestFails past (last_kill last) false NoneBroken e ⊎ CannotBeSent (last_kill last) e) → (e.kind ≡ kind.OutOfMemory) ⊎ (RequestFails past' (last_kill last) false NoneBroken e ⊎ CannotBeSent (last_kill last) e)
+      why_grows (inl room) = inl room
+      why_grows (inr (inl fails)) = inr (inl (request_fails_grows past past' grows (last_kill last) false NoneBroken e fails))
+      why_grows (inr (inr cannot)) = inr (inr cannot)

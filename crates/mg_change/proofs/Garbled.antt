@@ -2,7 +2,6 @@
 use Rattle.std.proofs.Common.{◌≡◌, ℕ, ℤ, Bool, true, false, List, [], ◌∷◌, ◌++◌, length, Option, Some, None, refl, sym, ap, ◌∙◌, subst, inl, inr}
 use Rattle.std.specs.Prelude.{slice_get}
 use Rattle.mg_bson.specs.Tree.{Tree, Fields}
-use Rattle.mg_bson.specs.Raw.{fields}
 use Rattle.mg_link.specs.Commands.{asks_watch, Told, garbled, Batch, told, asked}
 use Rattle.mg_link.specs.History.{Step, IsLegal}
 use Rattle.mg_link.specs.declared.action.Step.{Step as Polled}
@@ -13,7 +12,6 @@ use Rattle.mg_link.specs.Link as link
 use Rattle.mg_link.specs.Link.{Awaited, Adds, Sees}
 use Rattle.mg_link.specs.Standing.{Stands}
 use Rattle.mg_link.specs.Follow.{starting, holding, Follow, AfterStart, KnowsStarting, Moved}
-use Rattle.mg_change.specs.Phases.{Carries}
 use Rattle.mg_link.proofs.Attempting.{see_last}
 use Rattle.mg_link.proofs.Places.{get_seam}
 use Rattle.mg_link.proofs.Owners.{same_some, see_here, stands_unseen}
@@ -51,10 +49,6 @@ as_waiting s s' stage held same =
 pub still_waits : (old new : Awaited) (log log' : link.Told) (wire : ℤ) (s s' : Sending) → Runs old new log log' wire s (step.Pending s') → Waiting s s'
 still_waits old new log log' wire s s' (inl once) = let g = once.gives in as_waiting s s' (held_at s.stage g.0) (holding_held s.stage g.0) g.2
 still_waits old new log log' wire s s' (inr twice) = let g = twice.gives in as_waiting s s' (second g.0) tt g.2
-
--- it carries the same command
-pub carries_on : (s s' : Sending) (command : Fields) (retries : Bool) → Waiting s s' → Carries s command retries → Carries s' command retries
-carries_on s s' command retries w c = record { command_is = ap fields w.same_command ∙ c.command_is; retries_is = w.same_retries ∙ c.retries_is }
 
 -- a command that is sent once has one attempt
 never_again : (retries : Bool) (stage : Stage) (attempt : Attempt) → retries ≡ false → is_repeated retries stage attempt ≡ true → ⊥

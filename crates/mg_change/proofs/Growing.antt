@@ -1,141 +1,107 @@
 -- What a call of a stream had come to it has come to still at a later time.
-use Rattle.std.proofs.Common.{◌≡◌, ℕ, ℤ, Bool, true, false, List, ◌∷◌, Option, Some, None, sym, subst}
-use Rattle.mg_bson.specs.Tree.{Tree, Fields}
-use Rattle.mg_bson.specs.Raw.{fields}
-use Rattle.mg_link.specs.Calls.{Flies, Grows, HeardBy, NoneBroken, Past, RequestFails}
-use Rattle.mg_link.specs.Exec.{Sending, ticket_of}
-use Rattle.mg_link.specs.Link.{Awaited}
-use Rattle.mg_link.specs.Log.{Sight, waiting, reply}
+use Rattle.std.proofs.Common.{ℕ, ℤ, Bool, true, false, List, ◌∷◌, Option, sym, subst, inl, inr}
+use Rattle.mg_link.specs.Calls.{Grows, HeardLast, NoneBroken, Past, RequestFails}
+use Rattle.mg_link.specs.Log.{reply}
+use Rattle.mg_link.specs.Session.{Session}
 use Rattle.mg_link.specs.declared.error.Error.{Error}
-use Rattle.mg_link.proofs.Pasts.{flies_grows, heard_grows, heard_reply, request_fails_grows}
-use Rattle.mg_ops.specs.declared.cursor_reply.CursorInformation.{CursorInformation}
-use Rattle.mg_change.specs.Causes.{ByPhase, CallEmpty, CallFailed, CallFails, CallGave, CallNone, Called, CannotBuild, HeardMore, Killed, MayLose, MoreFails, Next, Replied, Resumed, Resumes, SoFar, Standing, Stays, TellsNoCursor, again, as_it_was, asking, broken, came, came_empty, cannot_ask, cannot_resume, first_broken, in_hand, keeping, killing, left, may_lose, more, more_command, more_failed, no_id, no_memory, none, none_left, not_resumed, old_command, opening, owed, refused_more, resume_command, resuming, tried, unbuilt, untold}
-use Rattle.mg_change.specs.Phases.{ticket_in}
-use Rattle.mg_change.specs.declared.event_poll.EventPoll.{EventPoll}
-use Rattle.mg_change.specs.declared.event_poll.EventPoll.TheVariants as poll
-use Rattle.mg_change.specs.declared.stream.ChangeStream.{ChangeStream}
-use Rattle.mg_change.specs.declared.stream.Phase.{Phase}
-use Rattle.mg_change.specs.declared.stream.Phase.TheVariants as phase
+use Rattle.mg_link.proofs.Pasts.{heard_reply, last_reply, request_fails_grows}
+use Rattle.mg_cursor.specs.Causes.{HeardMore, MoreFails, TellsNoCursor}
+use Rattle.mg_cursor.specs.Client.{ClientCursor, at_rest, get_more, kill}
+use Rattle.mg_cursor.specs.Closing.{ClosingCursor, ClosingDone, ClosingFails, killed, not_killed, not_needed, out_of_memory}
+use Rattle.mg_cursor.proofs.ClosedCaused.{left_grows}
+use Rattle.mg_change.specs.Causes.{AggregateFails, CallEmpty, CallFailed, CallFails, CallGave, CallNone, HeardAggregate, Killed, MayLose, MoreFailed, Next, Replied, Resumed, Resumes, StaysSo, as_it_was, asking, batch_broken, broken, came, came_empty, cannot_ask, cannot_resume, closing, first_broken, in_hand, is_lone, left, may_lose, more, more_failed, no_id, no_memory, none_held, none_left, not_resumed, once_more, opening, owed, refused_more, resuming, tried, untold, was_killed}
+use Rattle.mg_change.specs.ClientStreams.{ClientStream, is_read_again, resuming_in}
+use Rattle.mg_change.specs.Steps.{CannotResume}
 
 module _ (past past' : Past) (grows : Grows past past') where
-  -- ---- a call of a stream
+  pub heard_more_grows : (c : ClientCursor) (bytes : List ℕ) → HeardMore past c bytes → HeardMore past' c bytes
+  heard_more_grows c bytes h = record { session = h.session; heard = heard_reply past past' grows (get_more c h.session) bytes h.heard; success = h.success }
 
-  more_grows : (at : Standing) (seen : Sight) → (seen ≡ waiting → ⊥) → HeardMore past at seen → HeardMore past' at seen
-  more_grows at seen answer h = record { asked = h.asked; heard = heard_grows past past' grows (more_command at) seen answer h.heard }
+  pub more_fails_grows : (c : ClientCursor) (e : Error) → MoreFails past c e → MoreFails past' c e
+  more_fails_grows c e h = record { session = h.session; fails = request_fails_grows past past' grows (get_more c h.session) false TellsNoCursor e h.fails }
 
-  more_reply : (at : Standing) (bytes : List ℕ) → HeardMore past at (reply bytes) → HeardMore past' at (reply bytes)
-  more_reply at bytes h = more_grows at (reply bytes) (λ e. cc) h
+  pub more_failed_grows : (at : ClientStream) (e : Error) (c : ClientCursor) → MoreFailed past at e c → MoreFailed past' at e c
+  more_failed_grows at e c (untold may (inl why) is) = untold may (inl (more_fails_grows at.cursor e why)) is
+  more_failed_grows at e c (untold may (inr room) is) = untold may (inr room) is
+  more_failed_grows at e c (broken may bytes said h says is breaks) = broken may bytes said (heard_more_grows at.cursor bytes h) says is breaks
 
-  pub more_fails_grows : (at : Standing) (e : Error) (c : CursorInformation) → MoreFails past at e c → MoreFails past' at e c
-  more_fails_grows at e c (untold asked fails is) = untold asked (request_fails_grows past past' grows (more_command at) false TellsNoCursor e fails) is
-  more_fails_grows at e c (broken bytes upto h success tells by) = broken bytes upto (more_reply at bytes h) success tells by
-
-  pub resumes_grows : (at : Standing) (c : CursorInformation) → Resumes past at c → Resumes past' at c
+  pub resumes_grows : (at : ClientStream) (c : ClientCursor) → Resumes past at c → Resumes past' at c
   resumes_grows at c (owed is cursor) = owed is cursor
-  resumes_grows at c (more_failed e why is) = more_failed e (more_fails_grows at e c why) is
-  resumes_grows at c (first_broken bytes e held none_yet by is) = first_broken bytes e held none_yet by is
+  resumes_grows at c (more_failed e why is) = more_failed e (more_failed_grows at e c why) is
+  resumes_grows at c (first_broken bytes e held breaks is) = first_broken bytes e held breaks is
 
-  pub killed_grows : (old : CursorInformation) → Killed past old → Killed past' old
-  killed_grows old (none is) = none is
-  killed_grows old (tried held seen answer h) = tried held seen answer (heard_grows past past' grows (old_command old) seen answer h)
-  killed_grows old (unbuilt held e by) = unbuilt held e by
-
-  pub resumed_grows : (at : Standing) (old : CursorInformation) (bytes : List ℕ) (c : CursorInformation) (upto : Option Tree) → Resumed past at old bytes c upto → Resumed past' at old bytes c upto
-  resumed_grows at old bytes c upto r = record {
-    why = resumes_grows at old r.why;
-    heard = subst (λ (w : ℤ). HeardBy past' (resume_command w at) (reply bytes)) (sym grows.wire) (heard_reply past past' grows (resume_command past.wire at) bytes r.heard);
-    success = r.success;
-    tells = r.tells;
+  heard_aggregate_grows : (lone : Bool) (at : ClientStream) (bytes : List ℕ) → HeardAggregate past lone at bytes → HeardAggregate past' lone at bytes
+  heard_aggregate_grows lone at bytes h = record {
+    session = h.session;
+    plainly = h.plainly;
+    heard = subst (λ (w : ℤ). HeardLast past' (resuming_in at.aggregate w h.session) (is_read_again h.session) (reply bytes)) (sym grows.wire)
+        (last_reply past past' grows (resuming_in at.aggregate past.wire h.session) (is_read_again h.session) bytes h.heard);
+    success = h.success;
   }
 
-  pub replied_grows : (at : Standing) (by_resumption : Bool) (bytes : List ℕ) (c : CursorInformation) (upto : Option Tree) → Replied past at by_resumption bytes c upto → Replied past' at by_resumption bytes c upto
-  replied_grows at by_resumption bytes c upto (opening none_yet held empty cursor behind) = opening none_yet held empty cursor behind
-  replied_grows at by_resumption bytes c upto (more none_yet h success tells) = more none_yet (more_reply at bytes h) success tells
-  replied_grows at by_resumption bytes c upto (again is old r gone) = again is old (resumed_grows at old bytes c upto r) (killed_grows old gone)
+  pub resumed_grows : (lone : Bool) (at : ClientStream) (old : ClientCursor) (bytes : List ℕ) (c : ClientCursor) → Resumed past lone at old bytes c → Resumed past' lone at old bytes c
+  resumed_grows lone at old bytes c r = record { why = resumes_grows at old r.why; heard = heard_aggregate_grows lone at bytes r.heard; out = r.out; opens = r.opens; cursor_is = r.cursor_is }
 
-  pub next_grows : (at : Standing) (events : List Fields) (c : CursorInformation) (upto : Option Tree) → Next past at events c upto → Next past' at events c upto
-  next_grows at events c upto (left settled is cursor behind) = left settled is cursor behind
-  next_grows at events c upto (came empty by_resumption bytes replied holds) = came empty by_resumption bytes (replied_grows at by_resumption bytes c upto replied) holds
+  pub closing_done_grows : (k : ClosingCursor) → ClosingDone past k → ClosingDone past' k
+  closing_done_grows k (not_needed c why over) = not_needed c (left_grows past past' grows k c why) over
+  closing_done_grows k (killed c why may bytes heard success) = killed c (left_grows past past' grows k c why) may bytes (heard_reply past past' grows (kill c) bytes heard) success
 
-  pub gave_grows : (at after : Standing) (event : Fields) → CallGave past at after event → CallGave past' at after event
-  gave_grows at after event g = record {
-    upto = g.upto;
-    next = next_grows at (event ∷ after.events) after.cursor g.upto g.next;
-    id = g.id;
-    has = g.has;
-    remembers = g.remembers;
-    behind = g.behind;
-    settled = g.settled;
+  pub closing_fails_grows : (k : ClosingCursor) (e : Error) → ClosingFails past k e → ClosingFails past' k e
+  closing_fails_grows k e (out_of_memory room) = out_of_memory room
+  closing_fails_grows k e (not_killed c why may (inl fails)) = not_killed c (left_grows past past' grows k c why) may (inl (request_fails_grows past past' grows (kill c) false NoneBroken e fails))
+  closing_fails_grows k e (not_killed c why may (inr cannot)) = not_killed c (left_grows past past' grows k c why) may (inr cannot)
+
+  pub killed_grows : (old : ClientCursor) → Killed past old → Killed past' old
+  killed_grows old (none_held over) = none_held over
+  killed_grows old (was_killed may bytes heard success) = was_killed may bytes (heard_reply past past' grows (kill old) bytes heard) success
+  killed_grows old (tried may e room (inl fails)) = tried may e room (inl (request_fails_grows past past' grows (kill old) false NoneBroken e fails))
+  killed_grows old (tried may e room (inr cannot)) = tried may e room (inr cannot)
+
+  pub replied_grows : (lone : Bool) (at : ClientStream) (again : Bool) (bytes : List ℕ) (c : ClientCursor) → Replied past lone at again bytes c → Replied past' lone at again bytes c
+  replied_grows lone at again bytes c (opening not held is) = opening not held is
+  replied_grows lone at again bytes c (more not may said h says is) = more not may said (heard_more_grows at.cursor bytes h) says is
+  replied_grows lone at again bytes c (once_more so old new r gone is) = once_more so old new (resumed_grows lone at old bytes new r) (killed_grows old gone) is
+
+  pub next_grows : (lone : Bool) (at : ClientStream) (events : List (List ℕ)) (c : ClientCursor) → Next past lone at events c → Next past' lone at events c
+  next_grows lone at events c (left settled is cursor) = left settled is cursor
+  next_grows lone at events c (came empty again bytes replied holds) = came empty again bytes (replied_grows lone at again bytes c replied) holds
+
+  pub gave_grows : (lone : Bool) (at after : ClientStream) (event : List ℕ) → CallGave past lone at after event → CallGave past' lone at after event
+  gave_grows lone at after event g = record { next = next_grows lone at (event ∷ after.behind) after.cursor g.next; id = g.id; has = g.has; remembers = g.remembers; settled = g.settled }
+
+  none_grows : (lone : Bool) (at after : ClientStream) (again : Bool) → CallNone past lone at after again → CallNone past' lone at after again
+  none_grows lone at after again (came_empty empty bytes replied holds remembers) = came_empty empty bytes (replied_grows lone at again bytes after.cursor replied) holds remembers
+  none_grows lone at after again (none_left not settled empty over aggregate cursor) = none_left not settled empty over aggregate cursor
+
+  pub empty_grows : (lone : Bool) (at after : ClientStream) (again : Bool) → CallEmpty past lone at after again → CallEmpty past' lone at after again
+  empty_grows lone at after again e = record { why = none_grows lone at after again e.why; empty = e.empty; settled = e.settled }
+
+  stays_grows : (lone : Bool) (at after : ClientStream) → StaysSo past lone at after → StaysSo past' lone at after
+  stays_grows lone at after (as_it_was settled cursor events doing) = as_it_was settled cursor events doing
+  stays_grows lone at after (in_hand again bytes replied holds some settled) = in_hand again bytes (replied_grows lone at again bytes after.cursor replied) holds some settled
+
+  may_lose_grows : (lone : Bool) (at : ClientStream) (c : ClientCursor) → MayLose past lone at c → MayLose past' lone at c
+  may_lose_grows lone at c (asking may is) = asking may is
+  may_lose_grows lone at c (resuming why) = resuming (resumes_grows at (at_rest c) why)
+  may_lose_grows lone at c (closing old bytes r held) = closing old bytes (resumed_grows lone at old bytes c r) held
+
+  aggregate_fails_grows : (lone : Bool) (at : ClientStream) (e : Error) → AggregateFails past lone at e → AggregateFails past' lone at e
+  aggregate_fails_grows lone at e h = record {
+    session = h.session;
+    plainly = h.plainly;
+    fails = subst (λ (w : ℤ). RequestFails past' (resuming_in at.aggregate w h.session) (is_read_again h.session) TellsNoCursor e) (sym grows.wire)
+        (request_fails_grows past past' grows (resuming_in at.aggregate past.wire h.session) (is_read_again h.session) TellsNoCursor e h.fails);
   }
 
-  none_grows : (at after : Standing) (by_resumption : Bool) → CallNone past at after by_resumption → CallNone past' at after by_resumption
-  none_grows at after by_resumption (came_empty empty bytes upto replied holds remembers) = came_empty empty bytes upto (replied_grows at by_resumption bytes after.cursor upto replied) holds remembers
-  none_grows at after by_resumption (none_left none_yet settled empty over aggregate cursor) = none_left none_yet settled empty over aggregate cursor
+  call_fails_grows : (session : Option Session) (at after : ClientStream) (e : Error) → CallFails past session at after e → CallFails past' session at after e
+  call_fails_grows session at after e (may_lose room owes may) = may_lose room owes (may_lose_grows (is_lone session) at after.cursor may)
+  call_fails_grows session at after e (no_memory room stays) = no_memory room (stays_grows (is_lone session) at after stays)
+  call_fails_grows session at after e (not_resumed owes why fails) = not_resumed owes (resumes_grows at (at_rest after.cursor) why) (aggregate_fails_grows (is_lone session) at e fails)
+  call_fails_grows session at after e (batch_broken bytes owes replied breaks) = batch_broken bytes owes (replied_grows (is_lone session) at true bytes after.cursor replied) breaks
+  call_fails_grows session at after e (cannot_resume owes why now by) = cannot_resume owes (resumes_grows at (at_rest after.cursor) why) now (by.0, subst (λ (w : ℤ). CannotResume at.aggregate w now e) (sym grows.wire) by.1)
+  call_fails_grows session at after e (refused_more may fails final cursor empty settled) = refused_more may (more_fails_grows at.cursor e fails) final cursor empty settled
+  call_fails_grows session at after e (cannot_ask may by cursor empty settled) = cannot_ask may by cursor empty settled
+  call_fails_grows session at after e (no_id event next lacks is settled) = no_id event (next_grows (is_lone session) at (event ∷ after.behind) after.cursor next) lacks is settled
 
-  pub empty_grows : (at after : Standing) (by_resumption : Bool) → CallEmpty past at after by_resumption → CallEmpty past' at after by_resumption
-  empty_grows at after by_resumption e = record { why = none_grows at after by_resumption e.why; empty = e.empty; settled = e.settled }
-
-  pub stays_grows : (at after : Standing) → Stays past at after → Stays past' at after
-  stays_grows at after (as_it_was settled is) = as_it_was settled is
-  stays_grows at after (in_hand by_resumption bytes replied holds some settled) = in_hand by_resumption bytes (replied_grows at by_resumption bytes after.cursor after.upto replied) holds some settled
-
-  may_lose_grows : (at : Standing) (c : CursorInformation) → MayLose past at c → MayLose past' at c
-  may_lose_grows at c (asking asked is) = asking asked is
-  may_lose_grows at c (resuming why) = resuming (resumes_grows at c why)
-  may_lose_grows at c (killing old bytes upto r held) = killing old bytes upto (resumed_grows at old bytes c upto r) held
-  may_lose_grows at c (keeping by_resumption bytes upto replied) = keeping by_resumption bytes upto (replied_grows at by_resumption bytes c upto replied)
-
-  resume_fails_grows : (at : Standing) (e : Error) → RequestFails past (resume_command past.wire at) true TellsNoCursor e → RequestFails past' (resume_command past'.wire at) true TellsNoCursor e
-  resume_fails_grows at e h = subst (λ (w : ℤ). RequestFails past' (resume_command w at) true TellsNoCursor e) (sym grows.wire) (request_fails_grows past past' grows (resume_command past.wire at) true TellsNoCursor e h)
-
-  call_fails_grows : (at after : Standing) (e : Error) → CallFails past at after e → CallFails past' at after e
-  call_fails_grows at after e (may_lose room owes may) = may_lose room owes (may_lose_grows at after.cursor may)
-  call_fails_grows at after e (no_memory room stays) = no_memory room (stays_grows at after stays)
-  call_fails_grows at after e (not_resumed owes why fails) = not_resumed owes (resumes_grows at after.cursor why) (resume_fails_grows at e fails)
-  call_fails_grows at after e (broken bytes upto owes replied by) = broken bytes upto owes (replied_grows at true bytes after.cursor upto replied) by
-  call_fails_grows at after e (cannot_resume owes why by) = cannot_resume owes (resumes_grows at after.cursor why) (subst (λ (w : ℤ). CannotBuild at.aggregate.args.options.batch_size (resume_command w at) e) (sym grows.wire) by)
-  call_fails_grows at after e (refused_more asked fails stays is) = refused_more asked (request_fails_grows past past' grows (more_command at) false NoneBroken e fails) stays is
-  call_fails_grows at after e (cannot_ask asked by is) = cannot_ask asked by is
-  call_fails_grows at after e (no_id event upto next lacks is behind settles) = no_id event upto (next_grows at (event ∷ after.events) after.cursor upto next) lacks is behind settles
-
-  pub call_failed_grows : (at after : Standing) (e : Error) → CallFailed past at after e → CallFailed past' at after e
-  call_failed_grows at after e f = record { why = call_fails_grows at after e f.why; token = f.token }
-
-pub called_grows : (past past' : Past) (at after : Standing) (r : EventPoll) → Grows past past' → Called past at after r → Called past' at after r
-called_grows past past' at after poll.Pending grows h = absurd h
-called_grows past past' at after (poll.Ready None) grows h = (h.0, empty_grows past past' grows at after h.0 h.1)
-called_grows past past' at after (poll.Ready (Some event)) grows h = gave_grows past past' grows at after (fields event) h
-called_grows past past' at after (poll.Failed e) grows h = call_failed_grows past past' grows at after e h
-
--- ---- how far a call has come
-
-module _ (awaited awaited' : Awaited) (past past' : Past) (grows : Grows past past') (at : Standing) (by_resumption : Bool) (s : ChangeStream) where
-  killing_grows : (exec : Sending) (id : ℤ) (bytes : List ℕ) → ((n : ℕ) → ticket_of exec ≡ Some n → awaited' n ≡ awaited n) → ByPhase awaited past at by_resumption (phase.Killing exec id bytes) s → ByPhase awaited' past' at by_resumption (phase.Killing exec id bytes) s
-  killing_grows exec id bytes tickets h = (
-    h.0,
-    h.1,
-    record { held = h.2.held; named = h.2.named; resumed = resumed_grows past past' grows at h.1 bytes s.cursor s.batch_token h.2.resumed },
-    h.3,
-    flies_grows past past' grows awaited awaited' (old_command h.1) exec.stage tickets h.4,
-  )
-
-  resuming_grows : (exec : Sending) → ((n : ℕ) → ticket_of exec ≡ Some n → awaited' n ≡ awaited n) → ByPhase awaited past at by_resumption (phase.Resuming exec) s → ByPhase awaited' past' at by_resumption (phase.Resuming exec) s
-  resuming_grows exec tickets h = (
-    h.0,
-    resumes_grows past past' grows at s.cursor h.1,
-    subst (λ (w : ℤ). Flies awaited' past' (resume_command w at) exec.stage) (sym grows.wire) (flies_grows past past' grows awaited awaited' (resume_command past.wire at) exec.stage tickets h.2),
-  )
-
-  phase_grows : (p : Phase) → ((n : ℕ) → ticket_in p ≡ Some n → awaited' n ≡ awaited n) → ByPhase awaited past at by_resumption p s → ByPhase awaited' past' at by_resumption p s
-  phase_grows phase.Taken tickets h = h
-  phase_grows phase.Rest tickets h = h
-  phase_grows (phase.First bytes) tickets h = h
-  phase_grows phase.Fresh tickets h = record { bytes = h.bytes; replied = replied_grows past past' grows at by_resumption h.bytes s.cursor s.batch_token h.replied; holds = h.holds }
-  phase_grows (phase.Asking get_more exec) tickets h = (h.0, h.1, h.2, flies_grows past past' grows awaited awaited' (more_command at) exec.stage tickets h.3)
-  phase_grows phase.Owing tickets h = (h.0, resumes_grows past past' grows at s.cursor h.1)
-  phase_grows (phase.Resuming exec) tickets h = resuming_grows exec tickets h
-  phase_grows (phase.Killing exec id bytes) tickets h = killing_grows exec id bytes tickets h
-  phase_grows (phase.Resumed bytes) tickets h = (h.0, replied_grows past past' grows at true bytes s.cursor s.batch_token h.1)
-
-pub so_far_grows : (awaited awaited' : Awaited) (past past' : Past) (at : Standing) (by_resumption : Bool) (p : Phase) (s : ChangeStream) → Grows past past' → ((n : ℕ) → ticket_in p ≡ Some n → awaited' n ≡ awaited n) → SoFar awaited past at by_resumption p s → SoFar awaited' past' at by_resumption p s
-so_far_grows awaited awaited' past past' at by_resumption p s grows tickets h = record { same = h.same; by = phase_grows awaited awaited' past past' grows at by_resumption s p tickets h.by }
+  pub call_failed_grows : (session : Option Session) (at after : ClientStream) (e : Error) → CallFailed past session at after e → CallFailed past' session at after e
+  call_failed_grows session at after e f = record { why = call_fails_grows session at after e f.why; token = f.token }

@@ -1,5 +1,5 @@
 -- Where a stream is behind a poll of its request.
-use Rattle.std.proofs.Common.{◌≡◌, ◌≢◌, ℕ, ℤ, pos, Bool, true, false, List, [], ◌∷◌, Option, Some, None, Ok, refl, sym, ap, ◌∙◌, subst, inl, inr, option_map}
+use Rattle.std.proofs.Common.{◌≡◌, ◌≢◌, ◌⊎◌, ℕ, ℤ, pos, Bool, true, false, List, [], ◌∷◌, Option, Some, None, Ok, refl, sym, ap, ◌∙◌, subst, inl, inr, option_map}
 use Rattle.std.specs.Prelude.{unwrap_or}
 use Rattle.mg_bson.specs.Reading.{doc}
 use Rattle.mg_bson.specs.Raw.{fields}
@@ -8,7 +8,7 @@ use Rattle.mg_link.specs.Namespace.{Space}
 use Rattle.mg_link.specs.State.{Start}
 use Rattle.mg_link.specs.Commands.{Batch, asks_kill, asks_more, asks_watch, asked, batch_of, documents_in}
 use Rattle.mg_link.specs.Exec.{Stage, unsent, first, second, Sending, Attempt, not_sent, waits, answered, Begins, FailsAs, AttemptFails, FailsByReply, Gives, IsSuccess, Runs, Tries, holding as held_at, is_repeated, ticket_at}
-use Rattle.mg_link.specs.Follow.{Follow, holding, resting, resuming, IsOpen, Moved, ResumesAt}
+use Rattle.mg_link.specs.Follow.{Follow, holding, resting, resuming, IsOpen, Moved, Reads, ResumesAt}
 use Rattle.mg_link.specs.Link.{Awaited, Told, Sees}
 use Rattle.mg_link.specs.Log.{waiting, reply, fault, memory}
 use Rattle.mg_link.specs.Reply.{verdict_of}
@@ -19,7 +19,7 @@ use Rattle.mg_link.specs.declared.error.Error.{Error}
 use Rattle.mg_link.specs.declared.error.ErrorKind.TheVariants as kind
 use Rattle.mg_link.specs.declared.reply.Verdict.{Verdict}
 use Rattle.mg_link.specs.declared.reply.Verdict.TheVariants as verdict
-use Rattle.mg_link.proofs.Asking.{MoreAnswered, MoreAttempted, asks_at, more_ran}
+use Rattle.mg_link.proofs.Asking.{MoreAnswered, MoreAttempted, asks_at, more_ran, rested}
 use Rattle.mg_link.proofs.Calls.{success_ran}
 use Rattle.mg_link.proofs.Heard.{more_spoiled, no_batch_refused, watch_spoiled}
 use Rattle.mg_link.proofs.Moves.{moved, gave_up, given_with, owed}
@@ -28,8 +28,20 @@ use Rattle.mg_link.proofs.Resumes.{let_go, resumed_with}
 use Rattle.mg_link.proofs.Retries.{Attempted, Request, at_once, at_stage, next_is, next_place, place_of, ran, resume_request, tried}
 use Rattle.mg_link.proofs.Spoiled.{resume_garbled}
 use Rattle.mg_ops.specs.Cursors.{Cursor, cursor_of}
-use Rattle.mg_change.specs.Replies.{MoreFailed, Resumed}
 use Rattle.mg_ops.proofs.Reading.{batch_as, batch_read}
+
+-- ---- where a stream is behind its request, as it likes
+
+-- Behind a getMore that failed so: it owes, or it rests where the server refused for good.
+pub record MoreFailed (f : Follow) (log log' : Told) (g : Follow) (e : Error) : Type 0 where
+  pub lost : Moved log log' g (owed f)
+  pub rests : is_resumable e.kind e.labels e.wire_version ≡ false → (e.kind ≡ kind.OutOfMemory → ⊥) → (cursor : ℤ) → (cursor ≡ f.cursor) ⊎ (cursor ≡ pos 0) → Moved log log' g (rested f cursor)
+
+-- Behind a reply to the aggregate of its resumption: it owes; or a batch was read; or the reply is none that a server may give.
+pub record Resumed (f : Follow) (log log' : Told) (g : Follow) (bytes : List ℕ) : Type 0 where
+  pub lost : Moved log log' g f
+  pub heard : (batch : Batch) → Reads bytes batch → Moved log log' g (resumed_with f batch)
+  pub spoiled : batch_of (fields bytes) ≡ None → (batch : Batch) → Moved log log' g (resumed_with f batch)
 
 -- ---- the batch that is read, or none that a server may give
 

@@ -1,45 +1,47 @@
--- Where a watch is behind the polls of its opening.
+-- Where a watch is behind the polls of its opening, and that its stream is sound.
 use Rattle.std.proofs.Common.{◌≡◌, ℕ, ℤ, Bool, true, false, List, [], ◌∷◌, Option, Some, None, option_map, refl, sym, ap, ◌∙◌, subst}
-use Rattle.std.specs.Prelude.{◌↔◌, ◌||◌, IsTrue, not, int_lt, option_and_then, unwrap_or, if◌then◌else◌}
+use Rattle.std.specs.Prelude.{◌↔◌, ◌||◌, IsTrue, is_some, not, int_lt, option_and_then, unwrap_or, if◌then◌else◌}
 use Rattle.mg_bson.specs.Tree.{Tree, Fields, Items, no_items, item}
 use Rattle.mg_bson.specs.Find.{as_document}
 use Rattle.mg_bson.specs.declared.tree.Timestamp.{Timestamp}
 use Rattle.mg_bson.specs.Raw.{fields}
-use Rattle.mg_link.specs.Commands.{asks_watch, as_time, asked, batch_of, documents_in, filter_stages, start_by}
+use Rattle.mg_link.specs.Commands.{asks_watch, as_time, asked, batch_of, documents_in, start_by}
 use Rattle.mg_link.specs.Namespace.{space, target}
 use Rattle.mg_link.specs.State.{Start, Watch, nowhere, after, at_time}
-use Rattle.mg_link.specs.Exec.{Sending, unsent, first, second, IsSuccess, Runs}
+use Rattle.mg_link.specs.Exec.{Sending, Stage, unsent, first, second, IsSuccess, Runs}
 use Rattle.mg_link.specs.Follow.{Follow, starting, start_token, first_token as token_behind, Moved}
 use Rattle.mg_link.specs.Link.{Awaited, Told, Sees}
 use Rattle.mg_link.specs.Log.{reply}
+use Rattle.mg_link.specs.Session.{Session}
 use Rattle.mg_link.specs.declared.action.Step.{Step}
 use Rattle.mg_link.specs.declared.action.Step.TheVariants as step
+use Rattle.mg_link.specs.declared.error.Error.{Error}
+use Rattle.mg_link.proofs.Execs.{runs_of}
 use Rattle.mg_link.proofs.Heard.{watch_spoiled}
-use Rattle.mg_link.proofs.Moves.{moved}
-use Rattle.mg_link.proofs.Openings.{opened_with, start_heard}
+use Rattle.mg_link.proofs.Moves.{moved, stayed}
+use Rattle.mg_link.proofs.Openings.{opened_with as opened_at, start_heard}
 use Rattle.mg_link.proofs.Retries.{at_stage, opening_request, place_of, ran}
 use Rattle.mg_options.specs.Tokens.{batch_token, first_token, or_else}
 use Rattle.mg_options.specs.Printing.{time_value}
 use Rattle.mg_options.specs.declared.change_stream.ChangeStreamOptions.{ChangeStreamOptions}
-use Rattle.mg_ops.specs.Bodies.{watch_command}
+use Rattle.mg_ops.specs.Aims.{asked_for}
 use Rattle.mg_ops.specs.Cursors.{Cursor}
 use Rattle.mg_ops.specs.Naming.{start_in}
-use Rattle.mg_ops.specs.Resuming.{has_start, options_for, saved_time, times_from}
-use Rattle.mg_ops.specs.declared.change_stream.WatchArgs.{WatchArgs}
-use Rattle.mg_ops.proofs.Asking.{asks_as_aimed_plainly}
-use Rattle.mg_change.specs.declared.stream.ChangeStream.{ChangeStream}
-use Rattle.mg_change.specs.declared.stream.Phase.{Phase}
-use Rattle.mg_change.specs.declared.stream.Phase.TheVariants as phase
-use Rattle.mg_change.specs.Following.{Asks, events_in, follow_in, follow_of, not_open, opening_in, token_of}
-use Rattle.mg_change.specs.Openings.{IsNextSent, IsOpened, IsOpening, OpeningKeeps, opening_command}
-use Rattle.mg_change.specs.declared.opening.Opening.{Opening}
-use Rattle.mg_ops.specs.Aims.{aim, aim_of, asked_for}
-use Rattle.mg_ops.specs.declared.aggregate.ChangeStreamAggregate.{ChangeStreamAggregate}
+use Rattle.mg_ops.specs.Resuming.{has_start, saved_time, times_from}
 use Rattle.mg_ops.specs.declared.change_stream.ChangeStreamData.{ChangeStreamData}
-use Rattle.mg_change.specs.Phases.{Carries, IsSound, SavedFor, Sends}
-use Rattle.mg_ops.proofs.Reading.{batch_as, batch_read}
-use Rattle.mg_change.proofs.Reading.{events_read}
+use Rattle.mg_ops.specs.declared.change_stream.WatchArgs.{WatchArgs}
+use Rattle.mg_ops.specs.declared.cursor_reply.CursorSpecification.{CursorSpecification}
+use Rattle.mg_ops.proofs.Asking.{asks_as_aimed}
+use Rattle.mg_ops.proofs.Reading.{batch_as, batch_read, named_read}
+use Rattle.mg_cursor.specs.Client.{PlainIf}
+use Rattle.mg_change.specs.ClientOpenings.{ClientOpening, HearsOpening, IsSoundOpening, OpensStream, RunsOpening, SendsSoundly, begins, broke, first_aggregate, goes_on, not_built, opened, opened_with}
+use Rattle.mg_change.specs.ClientStreams.{Asks, ClientStream, IsAggregate, IsOnItsWay, IsSound, SavedFor, is_read_again, resuming_in, stream_token}
+use Rattle.mg_change.specs.Following.{OpeningMoves, OpensTo, events_in, follow_of, not_open, opening_by}
+use Rattle.mg_change.specs.Steps.{OpensBy}
+use Rattle.mg_change.proofs.Aimed.{aimed_at}
 use Rattle.mg_change.proofs.Garbled.{IsHeld, came, place_heard, start_garbled, still_waits}
+use Rattle.mg_change.proofs.Reading.{events_read}
+use Rattle.mg_change.proofs.Turning.{IsResumption}
 
 -- ---- the token of a new stream
 
@@ -103,96 +105,150 @@ known_by d e time token returned =
     ap (λ (t : _). record d { initial_operation_time = t }) time ∙ ap (λ (t : _). record { initial_operation_time = e.initial_operation_time; resume_token = t; document_returned = d.document_returned }) token
     ∙ ap (λ (b : _). record { initial_operation_time = e.initial_operation_time; resume_token = e.resume_token; document_returned = b }) returned
 
--- the stream of an opening is sound
-pub opened_sound : (a : WatchArgs) (version : ℤ) (bytes : List ℕ) (s : ChangeStream) → IsOpened a version bytes s → (wire : ℤ) → IsSound wire s
-opened_sound a version bytes s o wire = record { kept = o.kept; sends = subst (Sends wire s) (sym o.phase_is) tt }
-
 -- ---- the command
 
--- what is asked for by a target, a filter and a start that are found
-pub aimed_at : (a : WatchArgs) (w : Watch) (o : ChangeStreamOptions) (begin : Start) → aim o (target a.target) ≡ Some w.target → filter_stages a.pipeline.items ≡ Some w.filter → start_in o ≡ Some begin
-    → aim_of (target a.target) a.pipeline.items o ≡ Some (record { watch = w; start = begin })
-aimed_at a w o begin aimed by from = rw (by, from, aimed) refl
-
-pub watches : (a : WatchArgs) (w : Watch) (start : Start) (command : List ℕ) → Asks a w start → fields command ≡ opening_command a → asked command ≡ asks_watch w start
-watches a w start command asks is =
-    asks_as_aimed_plainly command (target a.target) a.pipeline.items a.options is ∙ ap asked_for (aimed_at a w a.options start asks.aimed asks.by asks.from)
+pub opening_asks : (args : WatchArgs) (w : Watch) (start : Start) (sending : Sending) → Asks args w start → IsResumption (first_aggregate args) sending → asked sending.command ≡ asks_watch w start
+opening_asks args w start sending asks is =
+    asks_as_aimed sending.command (target args.target) args.pipeline.items args.options is.session is.command_is ∙ ap asked_for (aimed_at args w args.options start asks.aimed asks.by asks.from)
 
 -- the watch while its opening waits
-abbrev waits_at : Watch → Start → Option ℕ → Follow
+abbrev pub waits_at : Watch → Start → Option ℕ → Follow
 waits_at w start place = record (not_open w start) { doing = starting place }
-
--- what is sent next is the aggregate
-pub next_opening : (a : ChangeStreamAggregate) (wire : ℤ) (exec : Option Sending) (e : Sending) → IsNextSent a wire exec e → IsOpening a exec → IsOpening a (Some e)
-next_opening a wire None e next o =
-    record { first = o.first; sent = subst (λ (r : Option ChangeStreamData). Carries e (watch_command (target a.args.target) a.args.pipeline.items (options_for a.args.options r wire)) true) o.first next.1 }
-next_opening a wire (Some sent) e next o = record { first = o.first; sent = subst (λ (x : Sending). Carries x (opening_command a.args) true) (sym next) o.sent }
-
--- nothing was sent between
-pub next_follow : (a : ChangeStreamAggregate) (wire : ℤ) (exec : Option Sending) (e : Sending) (awaited : Awaited) (w : Watch) (start : Start) → IsNextSent a wire exec e → opening_in awaited (Some e) w start ≡ opening_in awaited exec w start
-next_follow a wire None e awaited w start next = ap (at_stage (not_open w start) (waits_at w start) awaited) next.0
-next_follow a wire (Some sent) e awaited w start next = ap (λ (x : Sending). opening_in awaited (Some x) w start) next
-
-pub next_keeps : (a : ChangeStreamAggregate) (wire : ℤ) (exec : Option Sending) (e : Sending) (result : Step Opening ChangeStream) → IsNextSent a wire exec e → OpeningKeeps a (Some e) result → OpeningKeeps a exec result
-next_keeps a wire exec e (step.Pending o) next k = (λ is. k.0 (next_opening a wire exec e next is), k.1)
-next_keeps a wire exec e (step.Done s) next k = k
-next_keeps a wire exec e (step.Failed x) next k = tt
 
 -- ---- the reply
 
 -- the cursor that was read
-abbrev cursor_read : ChangeStream → Items → Cursor
-cursor_read s batch = record { id = s.cursor.id; space = space s.cursor.ns; token = s.batch_token; batch = batch }
+abbrev cursor_read : CursorSpecification → Items → Cursor
+cursor_read out batch = record { id = out.info.id; space = space out.info.ns; token = out.post_batch_resume_token; batch = batch }
 
-opened_by : (mid log' : Told) (awaited : Awaited) (a : WatchArgs) (w : Watch) (start : Start) (place : Option ℕ) (version : ℤ) (bytes : List ℕ) (s : ChangeStream) (o : IsOpened a version bytes s) (events : Option (List Fields)) → documents_in o.batch ≡ events → Asks a w start → IsSuccess bytes → Sees mid log' place (reply bytes)
-    → Moved mid log' (waits_at w start place) (follow_in awaited (phase.First bytes) w start s place [])
-opened_by mid log' awaited a w start place version bytes s o None has asks success sees =
-    let c = cursor_read s o.batch in
-    let none : batch_of (fields bytes) ≡ None = batch_read (fields bytes) c o.says ∙ ap (option_map (batch_as c)) has in
-    start_garbled mid log' (waits_at w start place) place bytes s.cursor.id (events_in bytes) s.batch_token (token_of s.aggregate.resume) refl (watch_spoiled w start bytes success none) sees
-opened_by mid log' awaited a w start place version bytes s o (Some events) has asks success sees =
-    let c = cursor_read s o.batch in
-    let some : batch_of (fields bytes) ≡ Some (batch_as c events) = batch_read (fields bytes) c o.says ∙ ap (option_map (batch_as c)) has in
+opened_by : (mid log' : Told) (awaited : Awaited) (args : WatchArgs) (w : Watch) (start : Start) (place : Option ℕ) (wire : ℤ) (bytes : List ℕ) (out : CursorSpecification × Option Timestamp) (o : OpensBy (first_aggregate args) bytes out) (events : Option (List Fields)) → documents_in o.opens.opens.batch ≡ events → Asks args w start → IsSuccess bytes
+    → Sees mid log' place (reply bytes) → Moved mid log' (waits_at w start place) (follow_of awaited w start (opened_with args wire out) place [])
+opened_by mid log' awaited args w start place wire bytes out o None has asks success sees =
+    let c = cursor_read out.0 o.opens.opens.batch in
+    let none : batch_of (fields bytes) ≡ None = batch_read (fields bytes) c o.opens.opens.says ∙ ap (option_map (batch_as c)) has in
+    start_garbled mid log' (waits_at w start place) place bytes out.0.info.id (events_in out.0.initial_reply) out.0.post_batch_resume_token (stream_token (opened_with args wire out)) refl (watch_spoiled w start bytes success none) sees
+opened_by mid log' awaited args w start place wire bytes out o (Some events) has asks success sees =
+    let c = cursor_read out.0 o.opens.opens.batch in
+    let some : batch_of (fields bytes) ≡ Some (batch_as c events) = batch_read (fields bytes) c o.opens.opens.says ∙ ap (option_map (batch_as c)) has in
     let heard = start_heard mid log' (waits_at w start place) place bytes (batch_as c events) refl (record { success = success; batch_is = some }) sees in
-    let token = ap token_of o.known ∙ first_behind a.options start o.batch events o.is_empty s.batch_token asks.from has o.empty in
-    let ahead : events_in bytes ≡ events = events_read bytes c o.says ∙ ap (λ (d : Option (List Fields)). unwrap_or d []) has in
-    let f : Follow = opened_with (waits_at w start place) place (batch_as c events) in
-    let with_ahead : Moved mid log' (waits_at w start place) (record f { ahead = events_in bytes }) = subst (λ (es : List Fields). Moved mid log' (waits_at w start place) (record f { ahead = es })) (sym ahead) heard in
-    subst (λ (t : Option Tree). Moved mid log' (waits_at w start place) (record f { ahead = events_in bytes; token = t })) (sym token) with_ahead
+    let token : stream_token (opened_with args wire out) ≡ token_behind start events out.0.post_batch_resume_token = first_behind args.options start o.opens.opens.batch events out.0.is_empty out.0.post_batch_resume_token asks.from has o.opens.opens.first in
+    let ahead : events_in out.0.initial_reply ≡ events = ap events_in o.opens.opens.whole ∙ events_read bytes c o.opens.opens.says ∙ ap (λ (d : Option (List Fields)). unwrap_or d []) has in
+    let f : Follow = opened_at (waits_at w start place) place (batch_as c events) in
+    let with_ahead : Moved mid log' (waits_at w start place) (record f { ahead = events_in out.0.initial_reply }) = subst (λ (es : List Fields). Moved mid log' (waits_at w start place) (record f { ahead = es })) (sym ahead) heard in
+    subst (λ (t : Option Tree). Moved mid log' (waits_at w start place) (record f { ahead = events_in out.0.initial_reply; token = t })) (sym token) with_ahead
 
--- ---- polls
+-- ---- the request
 
-module _ (a : WatchArgs) (w : Watch) (start : Start) (old new : Awaited) (log log' : Told) (wire : ℤ) (s : Sending) (asks : Asks a w start) (carries : Carries s (opening_command a) true) where
-  asks_so : asked s.command ≡ asks_watch w start
-  asks_so = watches a w start s.command asks carries.command_is
-
-  held_stage : (s' : Sending) → IsHeld s'.stage → waits_at w start (place_of new s'.stage) ≡ opening_in new (Some s') w start
-  held_stage s' held = stage_by s'.stage held
-    where
-      stage_by : (stage : _) → IsHeld stage → waits_at w start (place_of new stage) ≡ at_stage (not_open w start) (waits_at w start) new stage
-      stage_by unsent held = absurd held
-      stage_by (first ticket) held = refl
-      stage_by (second ticket) held = refl
+module _ (args : WatchArgs) (w : Watch) (start : Start) (old new : Awaited) (log log' : Told) (wire : ℤ) (s : Sending) (asks : Asks args w start) (is : IsResumption (first_aggregate args) s) where
+  held_stage : (stage : Stage) → IsHeld stage → waits_at w start (place_of new stage) ≡ at_stage (not_open w start) (waits_at w start) new stage
+  held_stage unsent held = absurd held
+  held_stage (first ticket) held = refl
+  held_stage (second ticket) held = refl
 
   -- It waits still.
-  pub opening_waits : (s' : Sending) → Runs old new log log' wire s (step.Pending s') → Moved log log' (opening_in old (Some s) w start) (opening_in new (Some s') w start)
-  opening_waits s' runs =
-      subst (Moved log log' (opening_in old (Some s) w start)) (held_stage s' (still_waits old new log log' wire s s' runs).held)
-      (ran s.command (not_open w start) (waits_at w start) (opened_with (not_open w start)) (opening_request s.command (not_open w start) asks_so) old new log log' wire s (step.Pending s') refl runs)
+  opening_waits : (waiting : Sending) → Runs old new log log' wire s (step.Pending waiting) → Moved log log' (opening_by old (Some s) w start) (opening_by new (Some waiting) w start)
+  opening_waits waiting runs =
+      subst (Moved log log' (opening_by old (Some s) w start)) (held_stage waiting.stage (still_waits old new log log' wire s waiting runs).held)
+      (ran s.command (not_open w start) (waits_at w start) (opened_at (not_open w start)) (opening_request s.command (not_open w start) (opening_asks args w start s asks is)) old new log log' wire s (step.Pending waiting) refl runs)
 
   -- It failed.
-  pub opening_failed : (e : _) → Runs old new log log' wire s (step.Failed e) → Moved log log' (opening_in old (Some s) w start) (not_open w start)
-  opening_failed e runs = ran s.command (not_open w start) (waits_at w start) (opened_with (not_open w start)) (opening_request s.command (not_open w start) asks_so) old new log log' wire s (step.Failed e) refl runs
+  opening_failed : (e : Error) → Runs old new log log' wire s (step.Failed e) → Moved log log' (opening_by old (Some s) w start) (not_open w start)
+  opening_failed e runs =
+      ran s.command (not_open w start) (waits_at w start) (opened_at (not_open w start)) (opening_request s.command (not_open w start) (opening_asks args w start s asks is)) old new log log' wire s (step.Failed e) refl runs
 
   -- A reply came of which no stream was made.
-  pub opening_lost : (bytes : List ℕ) → Runs old new log log' wire s (step.Done bytes) → Moved log log' (opening_in old (Some s) w start) (not_open w start)
-  opening_lost bytes runs = (ran s.command (not_open w start) (waits_at w start) (opened_with (not_open w start)) (opening_request s.command (not_open w start) asks_so) old new log log' wire s (step.Done bytes) refl runs).0
+  opening_lost : (bytes : List ℕ) → Runs old new log log' wire s (step.Done bytes) → Moved log log' (opening_by old (Some s) w start) (not_open w start)
+  opening_lost bytes runs =
+      (ran s.command (not_open w start) (waits_at w start) (opened_at (not_open w start)) (opening_request s.command (not_open w start) (opening_asks args w start s asks is)) old new log log' wire s (step.Done bytes) refl runs).0
 
   -- A reply came, and a stream was made of it.
-  pub opening_came : (version : ℤ) (bytes : List ℕ) (stream : ChangeStream) → IsOpened a version bytes stream → (runs : Runs old new log log' wire s (step.Done bytes)) → Moved log log' (opening_in old (Some s) w start) (follow_of new w start stream (place_heard old new log log' wire s (step.Done bytes) runs) [])
-  opening_came version bytes stream o runs =
+  pub opening_came : (bytes : List ℕ) (out : CursorSpecification × Option Timestamp) → OpensBy (first_aggregate args) bytes out → (runs : Runs old new log log' wire s (step.Done bytes))
+      → Moved log log' (opening_by old (Some s) w start) (follow_of new w start (opened_with args wire out) (place_heard old new log log' wire s (step.Done bytes) runs) [])
+  opening_came bytes out o runs =
       let place = place_heard old new log log' wire s (step.Done bytes) runs in
-      let c = came s.command (not_open w start) (waits_at w start) (opened_with (not_open w start)) (opening_request s.command (not_open w start) asks_so) old new log log' wire s bytes refl runs in
-      let last = opened_by c.mid log' new a w start place version bytes stream o (documents_in o.batch) refl asks c.success c.sees in
-      let here = subst (λ (p : Phase). Moved c.mid log' (waits_at w start place) (follow_in new p w start stream place [])) (sym o.phase_is) last in
-      moved log c.mid log' (opening_in old (Some s) w start) (waits_at w start place) (follow_of new w start stream place []) c.out here
+      let c = came s.command (not_open w start) (waits_at w start) (opened_at (not_open w start)) (opening_request s.command (not_open w start) (opening_asks args w start s asks is)) old new log log' wire s bytes refl runs in
+      moved log c.mid log' (opening_by old (Some s) w start) (waits_at w start place) (follow_of new w start (opened_with args wire out) place []) c.out
+      (opened_by c.mid log' new args w start place wire bytes out o (documents_in o.opens.opens.batch) refl asks c.success c.sees)
+
+-- ---- a poll
+
+pub first_is : (plain : Bool) (args : WatchArgs) (sending : Sending) → IsAggregate plain (first_aggregate args) sending → IsResumption (first_aggregate args) sending
+first_is plain args sending h = record { wire = h.wire; session = h.session; command_is = h.command_is }
+
+-- before it is sent the watch is not open
+pub not_open_yet : (awaited : Awaited) (w : Watch) (start : Start) (sending : Sending) → sending.stage ≡ unsent → opening_by awaited (Some sending) w start ≡ not_open w start
+not_open_yet awaited w start sending new = ap (at_stage (not_open w start) (waits_at w start) awaited) new
+
+module _ (old new : Awaited) (log log' : Told) (wire : ℤ) (session : Option Session) (started : Bool) (o : ClientOpening) (r : Step ClientOpening ClientStream) (w : Watch) (start : Start) (asks : Asks o.args w start) where
+  heard_moved : (sending : Sending) → IsResumption (first_aggregate o.args) sending → (came_so : Step Sending (List ℕ)) → Runs old new log log' wire sending came_so → HearsOpening wire o came_so r → OpensTo new log log' (opening_by old (Some sending) w start) w start r
+  heard_moved sending is (step.Pending waiting) runs h =
+      subst (OpensTo new log log' (opening_by old (Some sending) w start) w start) (sym h) (opening_waits o.args w start old new log log' wire sending asks is waiting runs)
+  heard_moved sending is (step.Done bytes) runs (opened out opens answer) =
+      subst (OpensTo new log log' (opening_by old (Some sending) w start) w start) (sym answer)
+      (place_heard old new log log' wire sending (step.Done bytes) runs, opening_came o.args w start old new log log' wire sending asks is bytes out opens runs)
+  heard_moved sending is (step.Done bytes) runs (broke e by answer) =
+      subst (OpensTo new log log' (opening_by old (Some sending) w start) w start) (sym answer) (opening_lost o.args w start old new log log' wire sending asks is bytes runs)
+  heard_moved sending is (step.Failed e) runs h =
+      subst (OpensTo new log log' (opening_by old (Some sending) w start) w start) (sym h) (opening_failed o.args w start old new log log' wire sending asks is e runs)
+
+  opening_run : (sending : Sending) → IsResumption (first_aggregate o.args) sending → RunsOpening old new log log' wire started o sending r → OpensTo new log log' (opening_by old (Some sending) w start) w start r
+  opening_run sending is h = heard_moved sending is h.came (runs_of old new log log' wire sending h.came started h.runs) h.hears
+
+  pub opens_moved : (plain : Bool) → IsSoundOpening plain o → OpensStream old new log log' wire session started o r → OpeningMoves old new log log' w start o r
+  opens_moved plain sound (not_built unsent_so e fails nothing not_so answer) =
+      subst (λ (x : Option Sending). OpensTo new log log' (opening_by old x w start) w start r) (sym unsent_so)
+      (subst (OpensTo new log log' (not_open w start) w start) (sym answer) (stayed log log' (not_open w start) nothing.log_same))
+  opens_moved plain sound (begins unsent_so sending new_one h) =
+      subst (λ (x : Option Sending). OpensTo new log log' (opening_by old x w start) w start r) (sym unsent_so)
+      (subst (λ (f : Follow). OpensTo new log log' f w start r) (not_open_yet old w start sending new_one.new) (opening_run sending (record { wire = wire; session = session; command_is = new_one.command_is }) h))
+  opens_moved plain sound (goes_on sending is h) =
+      subst (λ (x : Option Sending). OpensTo new log log' (opening_by old x w start) w start r) (sym is)
+      (opening_run sending (first_is plain o.args sending (subst (SendsSoundly plain o.args) is sound)) h)
+
+-- ---- what it keeps
+
+abbrev pub SoundBehind : Bool → Step ClientOpening ClientStream → Type 0
+SoundBehind plain (step.Pending next) = IsSoundOpening plain next
+SoundBehind plain (step.Done s) = IsSound plain s
+SoundBehind plain (step.Failed e) = Unit {0}
+
+on_its_way : (stage : Stage) → IsHeld stage → IsOnItsWay stage
+on_its_way unsent held = absurd held
+on_its_way (first ticket) held = tt
+on_its_way (second ticket) held = tt
+
+-- the stream of an opening is sound
+pub opened_sound : (plain : Bool) (args : WatchArgs) (wire : ℤ) (bytes : List ℕ) (out : CursorSpecification × Option Timestamp) → OpensBy (first_aggregate args) bytes out → IsSound plain (opened_with args wire out)
+opened_sound plain args wire bytes out o = record {
+  saved = saved_for args.options wire out.0.is_empty (is_some out.0.post_batch_resume_token) out.1;
+  named = named_read (fields bytes) (cursor_read out.0 o.opens.opens.batch) o.opens.opens.says;
+  unbound = refl;
+  asks_its_own = tt;
+  by = refl;
+}
+
+-- an aggregate that is sent, as it is polled
+record IsPolled (plain : Bool) (args : WatchArgs) (sending : Sending) : Type 0 where
+  wire : ℤ
+  session : Option Session
+  plainly : PlainIf plain session
+  command_is : fields sending.command ≡ resuming_in (first_aggregate args) wire session
+  retries_is : sending.retries ≡ is_read_again session
+
+module _ (plain : Bool) (old new : Awaited) (log log' : Told) (wire : ℤ) (session : Option Session) (started : Bool) (o : ClientOpening) (r : Step ClientOpening ClientStream) where
+  heard_sound : (sending : Sending) → IsPolled plain o.args sending → (came_so : Step Sending (List ℕ)) → Runs old new log log' wire sending came_so → HearsOpening wire o came_so r → SoundBehind plain r
+  heard_sound sending is (step.Pending waiting) runs h =
+      let still = still_waits old new log log' wire sending waiting runs in
+      subst (SoundBehind plain) (sym h)
+      (record { wire = is.wire; session = is.session; plainly = is.plainly; command_is = ap fields still.same_command ∙ is.command_is; retries_is = still.same_retries ∙ is.retries_is; waits = on_its_way waiting.stage still.held })
+  heard_sound sending is (step.Done bytes) runs (opened out opens answer) = subst (SoundBehind plain) (sym answer) (opened_sound plain o.args wire bytes out opens)
+  heard_sound sending is (step.Done bytes) runs (broke e by answer) = subst (SoundBehind plain) (sym answer) tt
+  heard_sound sending is (step.Failed e) runs h = subst (SoundBehind plain) (sym h) tt
+
+  pub opens_sound : IsSoundOpening plain o → PlainIf plain session → OpensStream old new log log' wire session started o r → SoundBehind plain r
+  opens_sound sound plainly (not_built unsent_so e fails nothing not_so answer) = subst (SoundBehind plain) (sym answer) tt
+  opens_sound sound plainly (begins unsent_so sending new_one h) =
+      heard_sound sending (record { wire = wire; session = session; plainly = plainly; command_is = new_one.command_is; retries_is = new_one.retries_is }) h.came (runs_of old new log log' wire sending h.came started h.runs) h.hears
+  opens_sound sound plainly (goes_on sending is h) =
+      let own : IsAggregate plain (first_aggregate o.args) sending = subst (SendsSoundly plain o.args) is sound in
+      heard_sound sending (record { wire = own.wire; session = own.session; plainly = own.plainly; command_is = own.command_is; retries_is = own.retries_is }) h.came (runs_of old new log log' wire sending h.came started h.runs) h.hears

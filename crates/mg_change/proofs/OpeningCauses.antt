@@ -1,116 +1,116 @@
 -- What the answers of an opening are caused by.
-use Rattle.std.proofs.Common.{refl, sym, ◌∙◌, ◌≡◌, ℕ, ℤ, true, List, length, Option, Some, None, ap, subst, inl, inr, arith}
+use Rattle.std.proofs.Common.{◌≡◌, ◌⊎◌, ℕ, ℤ, Bool, false, List, length, Option, Some, None, refl, sym, ap, ◌∙◌, subst, inl, inr, arith}
+use Rattle.std.specs.Prelude.{◌&&◌}
 use Rattle.mg_bson.specs.Raw.{fields}
-use Rattle.mg_link.specs.Calls.{Came, Flies, Grows, HeardLast, Past, out_of_memory, past_of}
+use Rattle.mg_link.specs.Calls.{Came, Flies, Grows, HeardAt, HeardLast, IsRetried, Keeps, Past, RequestFails, past_of}
 use Rattle.mg_link.specs.Exec.{IsSuccess, Runs, Sending, Stage}
 use Rattle.mg_link.specs.Link.{Awaited, Told}
-use Rattle.mg_link.specs.Log.{reply}
+use Rattle.mg_link.specs.Log.{Call, reply}
+use Rattle.mg_link.specs.Retry.{is_retried}
+use Rattle.mg_link.specs.Session.{Session}
 use Rattle.mg_link.specs.declared.action.Step.{Step}
 use Rattle.mg_link.specs.declared.action.Step.TheVariants as step
 use Rattle.mg_link.specs.declared.error.Error.{Error}
-use Rattle.mg_link.proofs.Calls.{request_ran, success_ran}
+use Rattle.mg_link.proofs.Calls.{request_ran, same_keeps, success_ran}
+use Rattle.mg_link.proofs.Execs.{runs_of}
 use Rattle.mg_link.proofs.Pasts.{fails_anyhow, flies_grows, last_reply, request_fails_grows}
-use Rattle.mg_ops.specs.Cursors.{BreaksIn}
 use Rattle.mg_ops.specs.Failing.{FailsBy}
-use Rattle.mg_ops.specs.declared.aggregate.ChangeStreamAggregate.{ChangeStreamAggregate}
-use Rattle.mg_ops.specs.declared.change_stream.ChangeStreamData.{ChangeStreamData}
 use Rattle.mg_ops.specs.declared.change_stream.WatchArgs.{WatchArgs}
 use Rattle.mg_ops.proofs.Unread.{unread_fails}
-use Rattle.mg_change.specs.Causes.{CannotBuild, Standing, TellsNoCursor, first_in, owes_in, standing_of, unanswered_in}
-use Rattle.mg_change.specs.Following.{buffered}
-use Rattle.mg_change.specs.OpeningCauses.{Opened, OpeningCame, OpeningCaused, OpeningFails, OpensSoFar}
-use Rattle.mg_change.specs.Openings.{IsNextSent, IsOpened, exec_ticket, first_known, opening_command}
-use Rattle.mg_change.specs.Phases.{Carries, resuming_command}
-use Rattle.mg_change.specs.declared.opening.Opening.{Opening}
-use Rattle.mg_change.specs.declared.stream.ChangeStream.{ChangeStream}
-use Rattle.mg_change.specs.declared.stream.Phase.{Phase}
+use Rattle.mg_cursor.specs.Causes.{TellsNoCursor}
+use Rattle.mg_change.specs.ClientOpenings.{ClientOpening, HearsOpening, OpensStream, ReadsOpening, RunsOpening, begins, broke, first_aggregate, goes_on, not_built, opened, opened_with, sending_ticket}
+use Rattle.mg_change.specs.ClientStreams.{ClientStream, is_read_again, resuming_in}
+use Rattle.mg_change.specs.OpeningCauses.{FliesFirst, Opened, OpeningCame, OpeningCaused, OpeningFails, OpensSoFar, not_built as cannot_build, out_of_memory, request}
+use Rattle.mg_change.specs.Steps.{CannotResume}
+use Rattle.mg_change.proofs.Garbled.{still_waits}
 
 -- ---- its request
 
-abbrev pub opened_by : (past : Past) (a : WatchArgs) (version : ℤ) (bytes : List ℕ) (s : ChangeStream) → version ≡ past.wire → IsOpened a version bytes s → HeardLast past (opening_command a) true (reply bytes) → IsSuccess bytes → Opened past a (standing_of s)
-opened_by past a version bytes s at is heard success = record {
-  args_are = is.args_is;
-  bytes = bytes;
-  heard = heard;
-  success = success;
-  in_hand = ap first_in is.phase_is;
-  none_yet = ap (λ (p : Phase). unanswered_in p (buffered s)) is.phase_is;
-  quits = ap owes_in is.phase_is;
-  tells = record { batch = is.batch; says = is.says; manner_is = is.manner_is };
-  is_empty = is.is_empty;
-  empty = is.empty;
-  time = is.time;
-  time_is = is.time_is;
-  known = subst (λ (w : ℤ). s.aggregate.resume ≡ Some (first_known a w is.is_empty s.batch_token is.time)) at is.known;
-}
+module _ (new : Awaited) (places : List ℕ) (since : ℕ) (calls : List Call) (wire : ℤ) (session sent : Option Session) (o : ClientOpening) where
+  opening_read : (bytes : List ℕ) (r : Step ClientOpening ClientStream) → HeardLast (past_of places since calls wire) (resuming_in (first_aggregate o.args) wire sent) (is_read_again sent) (reply bytes) → IsSuccess bytes → ReadsOpening wire o bytes r
+      → OpeningCame new (past_of places since calls wire) session o.args r
+  opening_read bytes r heard success (opened out opens answer) =
+      subst (OpeningCame new (past_of places since calls wire) session o.args) (sym answer)
+      (record { bytes = bytes; session = sent; heard = heard; success = success; out = out; opens = opens; stream_is = refl })
+  opening_read bytes r heard success (broke e by answer) =
+      subst (OpeningCame new (past_of places since calls wire) session o.args) (sym answer)
+      (request sent (unread_fails (past_of places since calls wire) (resuming_in (first_aggregate o.args) wire sent) (is_read_again sent) TellsNoCursor bytes e by heard success))
 
-module _ (a : WatchArgs) (old new : Awaited) (log log' : Told) (wire : ℤ) (exec : Sending) (carries : Carries exec (opening_command a) true) where
-  -- by what came of its request
-  opening_led : (sent : Step Sending (List ℕ)) (result : Step Opening ChangeStream) → ((past : Past) → past.wire ≡ wire → Came new past (opening_command a) true sent → OpeningCame new past a result)
-      → Runs old new log log' wire exec sent → OpeningCaused old new log log' wire a (Some exec) result
-  opening_led sent result leads runs calls told places flies =
-      let r = request_ran old new log log' wire exec (opening_command a) true sent carries.command_is carries.retries_is runs calls told places (length calls) (omega arith) flies in
-      (r.calls', r.told, leads (past_of places (length calls) r.calls' wire) refl r.came)
+  -- by what came of it
+  opening_heard : (old : Awaited) (log log' : Told) (sending : Sending) → fields sending.command ≡ resuming_in (first_aggregate o.args) wire sent → sending.retries ≡ is_read_again sent → (came : Step Sending (List ℕ)) → Runs old new log log' wire sending came
+      → Came new (past_of places since calls wire) (resuming_in (first_aggregate o.args) wire sent) (is_read_again sent) came → (r : Step ClientOpening ClientStream) → HearsOpening wire o came r → OpeningCame new (past_of places since calls wire) session o.args r
+  opening_heard old log log' sending command_is retries_is (step.Pending waiting) runs came r h =
+      let still = still_waits old new log log' wire sending waiting runs in
+      subst (OpeningCame new (past_of places since calls wire) session o.args) (sym h)
+      (record { session = sent; command_is = ap fields still.same_command ∙ command_is; retries_is = still.same_retries ∙ retries_is; flies = came })
+  opening_heard old log log' sending command_is retries_is (step.Done bytes) runs came r h = opening_read bytes r came (success_ran old new log log' wire sending bytes runs) h
+  opening_heard old log log' sending command_is retries_is (step.Failed e) runs came r h =
+      subst (OpeningCame new (past_of places since calls wire) session o.args) (sym h)
+      (request sent (fails_anyhow (past_of places since calls wire) (resuming_in (first_aggregate o.args) wire sent) (is_read_again sent) TellsNoCursor e came))
 
-  -- It waits still.
-  pub opening_waits : (sent : Sending) (o : Opening) → o.exec ≡ Some sent → Runs old new log log' wire exec (step.Pending sent) → OpeningCaused old new log log' wire a (Some exec) (step.Pending o)
-  opening_waits sent o is runs = opening_led (step.Pending sent) (step.Pending o) (λ past at flies. subst (λ (x : Option Sending). OpensSoFar new past a x) (sym is) flies) runs
+-- ---- a poll
 
-  -- Its reply came.
-  pub opening_came : (version : ℤ) (bytes : List ℕ) (s : ChangeStream) → version ≡ wire → IsOpened a version bytes s → Runs old new log log' wire exec (step.Done bytes) → OpeningCaused old new log log' wire a (Some exec) (step.Done s)
-  opening_came version bytes s same is runs = opening_led (step.Done bytes) (step.Done s) (λ past at heard. opened_by past a version bytes s (same ∙ sym at) is heard (success_ran old new log log' wire exec bytes runs)) runs
+module _ (old new : Awaited) (log log' : Told) (wire : ℤ) (session : Option Session) (started : Bool) (o : ClientOpening) (r : Step ClientOpening ClientStream) where
+  opening_ran : (sent : Option Session) (sending : Sending) → fields sending.command ≡ resuming_in (first_aggregate o.args) wire sent → sending.retries ≡ is_read_again sent → RunsOpening old new log log' wire started o sending r
+      → (calls : List Call) → log ≡ Some calls → (places : List ℕ) → Flies old (past_of places (length calls) calls wire) (resuming_in (first_aggregate o.args) wire sent) sending.stage
+      → (calls' : List Call) × (log' ≡ Some calls') × Keeps calls calls' × OpeningCame new (past_of places (length calls) calls' wire) session o.args r
+  opening_ran sent sending command_is retries_is h calls told places flies =
+      let runs = runs_of old new log log' wire sending h.came started h.runs in
+      let x = request_ran old new log log' wire sending (resuming_in (first_aggregate o.args) wire sent) (is_read_again sent) h.came command_is retries_is runs calls told places (length calls) (omega arith) flies in
+      (x.calls', x.told, x.grows.keeps, opening_heard new places (length calls) x.calls' wire session sent o old log log' sending command_is retries_is h.came runs x.came r h.hears)
 
-  -- It was not read.
-  pub opening_lost : (bytes : List ℕ) (e : Error) → FailsBy (BreaksIn (fields bytes)) e → Runs old new log log' wire exec (step.Done bytes) → OpeningCaused old new log log' wire a (Some exec) (step.Failed e)
-  opening_lost bytes e by runs = opening_led (step.Done bytes) (step.Failed e) (λ past at heard. inl (unread_fails past (opening_command a) true TellsNoCursor bytes e by heard (success_ran old new log log' wire exec bytes runs))) runs
+  unsent_fails : (past : Past) → past.wire ≡ wire → (e : Error) → FailsBy (CannotResume (first_aggregate o.args) wire session) e → OpeningFails past session o.args e
+  unsent_fails past on e (inl room) = out_of_memory room
+  unsent_fails past on e (inr by) = cannot_build (subst (λ (w : ℤ). CannotResume (first_aggregate o.args) w session e) (sym on) by)
 
-  -- It failed.
-  pub opening_failed : (e : Error) → Runs old new log log' wire exec (step.Failed e) → OpeningCaused old new log log' wire a (Some exec) (step.Failed e)
-  opening_failed e runs = opening_led (step.Failed e) (step.Failed e) (λ past at fails. inl (fails_anyhow past (opening_command a) true TellsNoCursor e fails)) runs
-
--- ---- before it
-
--- what is sent next was not sent yet, or is in flight
-pub next_flies : (awaited : Awaited) (past : Past) (a : ChangeStreamAggregate) (wire : ℤ) (exec : Option Sending) (e : Sending) → IsNextSent a wire exec e → OpensSoFar awaited past a.args exec → OpensSoFar awaited past a.args (Some e)
-next_flies awaited past a wire None e next so_far = subst (λ (stage : Stage). Flies awaited past (opening_command a.args) stage) (sym next.0) tt
-next_flies awaited past a wire (Some sent) e next so_far = subst (λ (x : Sending). Flies awaited past (opening_command a.args) x.stage) (sym next) so_far
-
-pub next_caused : (a : ChangeStreamAggregate) (old new : Awaited) (log log' : Told) (wire wire' : ℤ) (exec : Option Sending) (e : Sending) (result : Step Opening ChangeStream) → IsNextSent a wire' exec e → OpeningCaused old new log log' wire a.args (Some e) result → OpeningCaused old new log log' wire a.args exec result
-next_caused a old new log log' wire wire' exec e result next h calls told places so_far = h calls told places (next_flies old (past_of places (length calls) calls wire) a wire' exec e next so_far)
-
-built_by : (past : Past) (a : ChangeStreamAggregate) (wire : ℤ) (e : Error) (known : Option ChangeStreamData) → known ≡ None → FailsBy (CannotBuild a.args.options.batch_size (resuming_command (record a { resume = known }) wire)) e → OpeningFails past a.args e
-built_by past a wire e known first (inl room) = inl (out_of_memory (ap (λ (x : Error). x.kind) room))
-built_by past a wire e (Some data_known) first (inr by) = absurd (let bad : Some data_known ≡ None = first in cc)
-built_by past a wire e None first (inr by) = inr by
-
--- nothing was sent
-pub opening_unsent : (a : ChangeStreamAggregate) (old new : Awaited) (log : Told) (wire wire' : ℤ) (exec : Option Sending) (e : Error) → a.resume ≡ None → FailsBy (CannotBuild a.args.options.batch_size (resuming_command a wire')) e → OpeningCaused old new log log wire a.args exec (step.Failed e)
-opening_unsent a old new log wire wire' exec e first by calls told places so_far = (calls, told, built_by (past_of places (length calls) calls wire) a wire' e a.resume first by)
+  pub opens_caused : OpensStream old new log log' wire session started o r → OpeningCaused old new log log' wire session o r
+  opens_caused (not_built unsent e fails nothing not_so answer) = λ calls told places so.
+      (calls, nothing.log_same ∙ told, same_keeps calls, subst (OpeningCame new (past_of places (length calls) calls wire) session o.args) (sym answer) (unsent_fails (past_of places (length calls) calls wire) refl e fails))
+  opens_caused (begins unsent sending new_one h) = λ calls told places so.
+      opening_ran session sending new_one.command_is new_one.retries_is h calls told places
+      (subst (λ (stage : Stage). Flies old (past_of places (length calls) calls wire) (resuming_in (first_aggregate o.args) wire session) stage) (sym new_one.new) tt)
+  opens_caused (goes_on sending is h) = λ calls told places so.
+      let flies : FliesFirst old (past_of places (length calls) calls wire) o.args sending = subst (OpensSoFar old (past_of places (length calls) calls wire) o.args) is so in
+      opening_ran flies.session sending flies.command_is flies.retries_is h calls told places flies.flies
 
 -- ---- a later time
 
-pub opens_grows : (awaited awaited' : Awaited) (past past' : Past) (a : WatchArgs) (exec : Option Sending) → Grows past past' → ((n : ℕ) → exec_ticket exec ≡ Some n → awaited' n ≡ awaited n) → OpensSoFar awaited past a exec → OpensSoFar awaited' past' a exec
-opens_grows awaited awaited' past past' a None grows tickets h = tt
-opens_grows awaited awaited' past past' a (Some exec) grows tickets h = flies_grows past past' grows awaited awaited' (opening_command a) exec.stage tickets h
+module _ (past past' : Past) (grows : Grows past past') (args : WatchArgs) where
+  pub opens_grows : (awaited awaited' : Awaited) (sending : Option Sending) → ((n : ℕ) → sending_ticket sending ≡ Some n → awaited' n ≡ awaited n) → OpensSoFar awaited past args sending → OpensSoFar awaited' past' args sending
+  opens_grows awaited awaited' None tickets h = tt
+  opens_grows awaited awaited' (Some sending) tickets h = record {
+    session = h.session;
+    command_is = h.command_is ∙ ap (λ (w : ℤ). resuming_in (first_aggregate args) w h.session) (sym grows.wire);
+    retries_is = h.retries_is;
+    flies = subst (λ (w : ℤ). Flies awaited' past' (resuming_in (first_aggregate args) w h.session) sending.stage) (sym grows.wire)
+        (flies_grows past past' grows awaited awaited' (resuming_in (first_aggregate args) past.wire h.session) sending.stage tickets h.flies);
+  }
 
-abbrev pub opened_grows : (past past' : Past) (a : WatchArgs) (at : Standing) → Grows past past' → Opened past a at → Opened past' a at
-opened_grows past past' a at grows o =
-    record {
-      args_are = o.args_are;
-      bytes = o.bytes;
-      heard = last_reply past past' grows (opening_command a) true o.bytes o.heard;
-      success = o.success;
-      in_hand = o.in_hand;
-      none_yet = o.none_yet;
-      quits = o.quits;
-      tells = o.tells;
-      is_empty = o.is_empty;
-      empty = o.empty;
-      time = o.time;
-      time_is = o.time_is;
-      known = subst (λ (w : ℤ). at.aggregate.resume ≡ Some (first_known a w o.is_empty at.upto o.time)) (sym grows.wire) o.known;
-    }
+  -- at the same place
+  abbrev pub first_grows : (session : Option Session) (bytes : List ℕ) → HeardLast past (resuming_in (first_aggregate args) past.wire session) (is_read_again session) (reply bytes) → HeardLast past' (resuming_in (first_aggregate args) past'.wire session) (is_read_again session) (reply bytes)
+  first_grows session bytes h =
+      let l = last_reply past past' grows (resuming_in (first_aggregate args) past.wire session) (is_read_again session) bytes h in
+      record {
+        place = h.place;
+        heard = subst (λ (w : ℤ). HeardAt past' h.place (resuming_in (first_aggregate args) w session) (reply bytes)) (sym grows.wire) l.heard;
+        last = subst (λ (w : ℤ). ((is_read_again session && is_retried (reply bytes)) ≡ false) ⊎ IsRetried past' h.place (resuming_in (first_aggregate args) w session)) (sym grows.wire) l.last;
+      }
 
-pub opening_fails_grows : (past past' : Past) (a : WatchArgs) (e : Error) → Grows past past' → OpeningFails past a e → OpeningFails past' a e
-opening_fails_grows past past' a e grows (inl fails) = inl (request_fails_grows past past' grows (opening_command a) true TellsNoCursor e fails)
-opening_fails_grows past past' a e grows (inr by) = inr by
+  abbrev pub opened_grows : (s : ClientStream) → Opened past args s → Opened past' args s
+  opened_grows s h = record {
+    bytes = h.bytes;
+    session = h.session;
+    heard = first_grows h.session h.bytes h.heard;
+    success = h.success;
+    out = h.out;
+    opens = h.opens;
+    stream_is = h.stream_is ∙ ap (λ (w : ℤ). opened_with args w h.out) (sym grows.wire);
+  }
+
+  pub opening_fails_grows : (session : Option Session) (e : Error) → OpeningFails past session args e → OpeningFails past' session args e
+  opening_fails_grows session e (out_of_memory room) = out_of_memory room
+  opening_fails_grows session e (request sent fails) =
+      request sent
+      (subst (λ (w : ℤ). RequestFails past' (resuming_in (first_aggregate args) w sent) (is_read_again sent) TellsNoCursor e) (sym grows.wire)
+      (request_fails_grows past past' grows (resuming_in (first_aggregate args) past.wire sent) (is_read_again sent) TellsNoCursor e fails))
+  opening_fails_grows session e (cannot_build by) = cannot_build (subst (λ (w : ℤ). CannotResume (first_aggregate args) w session e) (sym grows.wire) by)

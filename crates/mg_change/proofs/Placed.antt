@@ -1,30 +1,34 @@
 -- Where an opening heard its reply: what its stream knows and what caused it name the same call.
-use Rattle.std.proofs.Common.{◌≡◌, ◌≤◌, ℕ, ℤ, true, false, List, [], length, Option, Some, None, refl, sym, ap, ◌∙◌, subst, inl, inr, arith}
+use Rattle.std.proofs.Common.{◌≡◌, ◌≤◌, ℕ, ℤ, Bool, true, false, List, [], length, Option, Some, None, refl, sym, ap, ◌∙◌, subst, inl, inr, arith}
 use Rattle.std.specs.Prelude.{◌&&◌}
 use Rattle.mg_bson.specs.Tree.{Fields}
 use Rattle.mg_bson.specs.Raw.{fields}
 use Rattle.mg_bson.specs.Reading.{doc}
-use Rattle.mg_link.specs.Calls.{Flies, HeardAt, HeardLast, WaitsAt, past_of}
+use Rattle.mg_bson.specs.declared.tree.Timestamp.{Timestamp}
+use Rattle.mg_link.specs.Calls.{Flies, HeardAt, HeardLast, Past, WaitsAt, past_of}
 use Rattle.mg_link.specs.Exec.{Attempt, answered, Begins, GoesOn, IsSuccess, Runs, Sending, Stage, Tries, first, second, unsent}
 use Rattle.mg_link.specs.Follow.{Follow, Moved}
 use Rattle.mg_link.specs.Link.{Awaited, Told}
 use Rattle.mg_link.specs.Log.{Call, reply}
 use Rattle.mg_link.specs.Reply.{verdict_of}
 use Rattle.mg_link.specs.Retry.{is_retried, is_retried_as, is_retried_reply}
+use Rattle.mg_link.specs.Session.{Session}
 use Rattle.mg_link.specs.declared.action.Step.{Step}
 use Rattle.mg_link.specs.declared.action.Step.TheVariants as step
 use Rattle.mg_link.specs.declared.reply.Verdict.{Verdict}
 use Rattle.mg_link.proofs.Calls.{begun, gone_on, keeps_longer, success_ran, tried}
+use Rattle.mg_link.proofs.Execs.{runs_of}
 use Rattle.mg_link.proofs.Retries.{next_is, next_place}
-use Rattle.mg_ops.specs.declared.aggregate.ChangeStreamAggregate.{ChangeStreamAggregate}
-use Rattle.mg_change.specs.Following.{follow_of}
-use Rattle.mg_change.specs.OpeningCauses.{OpenedAt, PollOpensAt}
-use Rattle.mg_change.specs.Openings.{IsNextSent, IsOpened, opening_command}
-use Rattle.mg_change.specs.declared.opening.Opening.{Opening}
-use Rattle.mg_change.specs.declared.stream.ChangeStream.{ChangeStream}
+use Rattle.mg_ops.specs.declared.change_stream.WatchArgs.{WatchArgs}
+use Rattle.mg_ops.specs.declared.cursor_reply.CursorSpecification.{CursorSpecification}
+use Rattle.mg_change.specs.ClientOpenings.{ClientOpening, HearsOpening, IsSoundOpening, OpensStream, RunsOpening, SendsSoundly, begins, broke, first_aggregate, goes_on, not_built, opened, opened_with}
+use Rattle.mg_change.specs.ClientStreams.{ClientStream, IsNewAggregate, is_read_again, resuming_in}
+use Rattle.mg_change.specs.Following.{follow_of, opening_by}
+use Rattle.mg_change.specs.OpenedStreams.{OpenedAt}
+use Rattle.mg_change.specs.Steps.{OpensBy}
 use Rattle.mg_change.proofs.Garbled.{place_at, place_heard}
-use Rattle.mg_change.proofs.Opened.{next_follow, next_opening, opening_came}
-use Rattle.mg_change.proofs.OpeningCauses.{next_flies, opened_by}
+use Rattle.mg_change.proofs.Opened.{first_is, not_open_yet, opening_came}
+use Rattle.mg_change.proofs.Turning.{IsResumption}
 
 -- ---- where a request heard its reply
 
@@ -66,33 +70,68 @@ calm_by (Some said) bytes is success =
     let said_is : fields bytes ≡ said = rw is refl in
     ap (λ (v : Verdict). is_retried_as v said) (ap verdict_of (sym said_is) ∙ success)
 
-calm : (bytes : List ℕ) → IsSuccess bytes → (true && is_retried (reply bytes)) ≡ false
-calm bytes success = calm_by (doc bytes) bytes refl success
+calm : (again : Bool) (bytes : List ℕ) → IsSuccess bytes → (again && is_retried (reply bytes)) ≡ false
+calm true bytes success = calm_by (doc bytes) bytes refl success
+calm false bytes success = refl
 
 -- ---- openings
 
--- A reply came of which a stream was made.
-pub opening_placed : (a : ChangeStreamAggregate) (old new : Awaited) (log log' : Told) (wire : ℤ) (exec : Sending) (version : ℤ) (bytes : List ℕ) (s : ChangeStream) → version ≡ wire → IsOpened a.args version bytes s → Runs old new log log' wire exec (step.Done bytes)
-    → OpenedAt old new log log' wire a (Some exec) s
-opening_placed a old new log log' wire exec version bytes s same is runs =
-    record {
-      place = place_heard old new log log' wire exec (step.Done bytes) runs;
-      moved = λ o w start asks. opening_came a.args w start old new log log' wire exec asks o.sent version bytes s is runs;
-      caused = λ o calls told places so_far.
-          let flies = subst (λ (c : Fields). Flies old (past_of places (length calls) calls wire) c exec.stage) (sym o.sent.command_is) so_far in
-          let h = ran_there places (length calls) old new log log' wire exec bytes calls told (omega arith) flies runs in
-          let heard = subst (λ (c : Fields). HeardAt (past_of places (length calls) h.0 wire) h.2 c (reply bytes)) o.sent.command_is h.4 in
-          let last : HeardLast (past_of places (length calls) h.0 wire) (opening_command a.args) true (reply bytes) = record { place = h.2; heard = heard; last = inl (calm bytes (success_ran old new log log' wire exec bytes runs)) } in
-          (h.0, h.1, opened_by (past_of places (length calls) h.0 wire) a.args version bytes s same is last (success_ran old new log log' wire exec bytes runs), h.3);
-    }
+abbrev IsDone : Step ClientOpening ClientStream → Type 0
+IsDone (step.Pending o) = ⊥
+IsDone (step.Done s) = Unit {0}
+IsDone (step.Failed e) = ⊥
 
--- what is sent next was not sent yet, or is in flight
-pub next_placed : (a : ChangeStreamAggregate) (old new : Awaited) (log log' : Told) (wire wire' : ℤ) (exec : Option Sending) (e : Sending) (result : Step Opening ChangeStream) → IsNextSent a wire' exec e → PollOpensAt old new log log' wire a (Some e) result → PollOpensAt old new log log' wire a exec result
-next_placed a old new log log' wire wire' exec e (step.Pending o) next h = tt
-next_placed a old new log log' wire wire' exec e (step.Done s) next h =
-    record {
-      place = h.place;
-      moved = λ o w start asks. subst (λ (f : Follow). Moved log log' f (follow_of new w start s h.place [])) (next_follow a wire' exec e old w start next) (h.moved (next_opening a wire' exec e next o) w start asks);
-      caused = λ o calls told places so_far. h.caused (next_opening a wire' exec e next o) calls told places (next_flies old (past_of places (length calls) calls wire) a wire' exec e next so_far);
-    }
-next_placed a old new log log' wire wire' exec e (step.Failed x) next h = tt
+same_stream : (s t : ClientStream) → ◌≡◌ {A = Step ClientOpening ClientStream} (step.Done s) (step.Done t) → s ≡ t
+same_stream s t is = cc
+
+module _ (old new : Awaited) (log log' : Told) (wire : ℤ) (args : WatchArgs) (sending : Sending) (is : IsResumption (first_aggregate args) sending) where
+  -- a reply came of which a stream was made
+  placed_by : (bytes : List ℕ) (out : CursorSpecification × Option Timestamp) (s : ClientStream) → OpensBy (first_aggregate args) bytes out → s ≡ opened_with args wire out → Runs old new log log' wire sending (step.Done bytes) → OpenedAt old new log log' wire args (Some sending) s
+  placed_by bytes out s opens same runs = record {
+    place = place_heard old new log log' wire sending (step.Done bytes) runs;
+    moved = λ w start asks.
+        subst (λ (x : ClientStream). Moved log log' (opening_by old (Some sending) w start) (follow_of new w start x (place_heard old new log log' wire sending (step.Done bytes) runs) [])) (sym same)
+        (opening_came args w start old new log log' wire sending asks is bytes out opens runs);
+    caused = λ calls told places so.
+        let flies = subst (λ (c : Fields). Flies old (past_of places (length calls) calls wire) c sending.stage) (sym so.command_is) so.flies in
+        let h = ran_there places (length calls) old new log log' wire sending bytes calls told (omega arith) flies runs in
+        let past' : Past = past_of places (length calls) h.0 wire in
+        let heard = subst (λ (c : Fields). HeardAt past' h.2 c (reply bytes)) so.command_is h.4 in
+        let success = success_ran old new log log' wire sending bytes runs in
+        let last : HeardLast past' (resuming_in (first_aggregate args) wire so.session) (is_read_again so.session) (reply bytes) = record { place = h.2; heard = heard; last = inl (calm (is_read_again so.session) bytes success) } in
+        (h.0, h.1, record { bytes = bytes; session = so.session; heard = last; success = success; out = out; opens = opens; stream_is = same }, h.3);
+  }
+
+-- the same of one that was not sent before
+unsent_placed : (old new : Awaited) (log log' : Told) (wire : ℤ) (session : Option Session) (args : WatchArgs) (sending : Sending) (s : ClientStream) → IsNewAggregate (resuming_in (first_aggregate args) wire session) session sending → OpenedAt old new log log' wire args (Some sending) s
+    → OpenedAt old new log log' wire args None s
+unsent_placed old new log log' wire session args sending s new_one h = record {
+  place = h.place;
+  moved = λ w start asks. subst (λ (f : Follow). Moved log log' f (follow_of new w start s h.place [])) (not_open_yet old w start sending new_one.new) (h.moved w start asks);
+  caused = λ calls told places so.
+      h.caused calls told places
+      (record {
+        session = session;
+        command_is = new_one.command_is;
+        retries_is = new_one.retries_is;
+        flies = subst (λ (stage : Stage). Flies old (past_of places (length calls) calls wire) (resuming_in (first_aggregate args) wire session) stage) (sym new_one.new) tt;
+      });
+}
+
+module _ (old new : Awaited) (log log' : Told) (wire : ℤ) (session : Option Session) (started : Bool) (o : ClientOpening) (s : ClientStream) where
+  heard_placed : (sending : Sending) → IsResumption (first_aggregate o.args) sending → (came : Step Sending (List ℕ)) → Runs old new log log' wire sending came → HearsOpening wire o came (step.Done s) → OpenedAt old new log log' wire o.args (Some sending) s
+  heard_placed sending is (step.Pending waiting) runs h = absurd (subst IsDone h tt)
+  heard_placed sending is (step.Done bytes) runs (opened out opens answer) = placed_by old new log log' wire o.args sending is bytes out s opens (same_stream s (opened_with o.args wire out) answer) runs
+  heard_placed sending is (step.Done bytes) runs (broke e by answer) = absurd (subst IsDone answer tt)
+  heard_placed sending is (step.Failed e) runs h = absurd (subst IsDone h tt)
+
+  run_placed : (sending : Sending) → IsResumption (first_aggregate o.args) sending → RunsOpening old new log log' wire started o sending (step.Done s) → OpenedAt old new log log' wire o.args (Some sending) s
+  run_placed sending is h = heard_placed sending is h.came (runs_of old new log log' wire sending h.came started h.runs) h.hears
+
+  pub opens_at : (plain : Bool) → IsSoundOpening plain o → OpensStream old new log log' wire session started o (step.Done s) → OpenedAt old new log log' wire o.args o.sending s
+  opens_at plain sound (not_built unsent_so e fails nothing not_so answer) = absurd (subst IsDone answer tt)
+  opens_at plain sound (begins unsent_so sending new_one h) =
+      subst (λ (x : Option Sending). OpenedAt old new log log' wire o.args x s) (sym unsent_so)
+      (unsent_placed old new log log' wire session o.args sending s new_one (run_placed sending (record { wire = wire; session = session; command_is = new_one.command_is }) h))
+  opens_at plain sound (goes_on sending is h) =
+      subst (λ (x : Option Sending). OpenedAt old new log log' wire o.args x s) (sym is) (run_placed sending (first_is plain o.args sending (subst (SendsSoundly plain o.args) is sound)) h)

@@ -1,16 +1,16 @@
--- What the answers of a call that seeks an event are caused by.
-use Rattle.std.proofs.Common.{◌≡◌, ℕ, ℤ, pos, Bool, true, false, List, [], length, Option, Some, None, refl, sym, ap, ◌∙◌, subst, inl, inr, arith}
-use Rattle.std.specs.Prelude.{◌↔◌, ◌≤◌, IsTrue}
+-- What the answers of a call that seeks an event are caused by: its parts, joined.
+use Rattle.std.proofs.Common.{◌≡◌, ◌≢◌, ◌⊎◌, ◌≤◌, ◌<◌, ℕ, zero, suc, ℤ, pos, Bool, false, List, [], length, Option, Some, None, refl, sym, ap, ◌∙◌, subst, inl, inr, arith}
 use Rattle.mg_bson.specs.Tree.{Fields}
 use Rattle.mg_bson.specs.Raw.{fields}
 use Rattle.mg_bson.specs.Reading.{doc}
-use Rattle.mg_link.specs.Calls.{Keeps, NoneBroken, Past, RequestFails, Stays, out_of_memory, past_of, was_broken, was_lost, was_refused}
+use Rattle.mg_link.specs.Calls.{Keeps, Past, RequestFails, out_of_memory, was_broken, was_lost, was_refused}
 use Rattle.mg_link.specs.Errors.{plain}
 use Rattle.mg_link.specs.Exec.{FailsAs, FailsByReply}
 use Rattle.mg_link.specs.Failures.{refusal_by}
 use Rattle.mg_link.specs.Link.{Awaited, Told}
 use Rattle.mg_link.specs.Log.{Call}
 use Rattle.mg_link.specs.Reply.{refusal_of, verdict_of}
+use Rattle.mg_link.specs.Session.{Session}
 use Rattle.mg_link.specs.declared.error.BadArgument.TheVariants as argument
 use Rattle.mg_link.specs.declared.error.Error.{Error}
 use Rattle.mg_link.specs.declared.error.ErrorKind.{ErrorKind}
@@ -20,138 +20,22 @@ use Rattle.mg_link.specs.declared.reply.Verdict.{Verdict}
 use Rattle.mg_link.specs.declared.reply.Verdict.TheVariants as verdict
 use Rattle.mg_link.proofs.Calls.{keeps_on, same_keeps}
 use Rattle.mg_ops.specs.Cursors.{BreaksIn}
-use Rattle.mg_change.specs.Causes.{BreaksBatch, CallEmpty, CallFailed, CallFails, CallGave, CannotBuild, SoFar, Standing, StepCame, StepCaused, TellsNoCursor, bad_item, broken, cannot_ask, cannot_resume, is_resumed, may_lose, more_command, no_batch, no_id, no_memory, not_resumed, refused_more, resume_command, standing_of}
-use Rattle.mg_change.specs.Following.{IsSpent, StepSpends}
-use Rattle.mg_change.specs.Phases.{AtRest}
-use Rattle.mg_change.specs.Rows.{CountsBy, KeptBy, Seeks, TooManyBy, in_row, looking}
-use Rattle.mg_change.specs.SeekCauses.{Goes, IsNotEmptyBatches, IsTooMany, CallPart, PartCame, PartSteps, Row, SeekCaused, SeekSteps, begins, emptied, on, one_more, part_past}
+use Rattle.mg_ops.specs.Failing.{CannotBeSent, HasBadSize}
+use Rattle.mg_cursor.specs.Batches.{BreaksBatch, bad_item, no_batch}
+use Rattle.mg_cursor.specs.Causes.{TellsNoCursor}
+use Rattle.mg_cursor.specs.Client.{get_more}
+use Rattle.mg_change.specs.Causes.{ByCursor, ByDoing, CallCame, CallEmpty, CallFailed, CallFails, CallGave, IsSettled, SoFar, batch_broken, cannot_ask, cannot_resume, is_lone, may_lose, no_id, no_memory, not_resumed, refused_more}
+use Rattle.mg_change.specs.ClientStreams.{ClientStream, IsExhausted, IsSound, is_read_again, let_go, resuming_in}
+use Rattle.mg_change.specs.SeekCauses.{CallPart, IsNotEmptyBatches, IsTooMany, PartCame, Row, SeekCame, SeekCaused, begins, one_more, part_past}
+use Rattle.mg_change.specs.StreamCalls.{CopiesEvent, EndsSeeking, SeeksEvent, closed, counted, event_ending, fails, finds, got, kept_behind, over, pends, session_behind, too_many, too_often, uncounted}
 use Rattle.mg_change.specs.declared.counts.Counts.{Counts}
 use Rattle.mg_change.specs.declared.event_poll.EventPoll.{EventPoll}
 use Rattle.mg_change.specs.declared.event_poll.EventPoll.TheVariants as poll
 use Rattle.mg_change.specs.declared.event_poll.Stepped.{Stepped}
-use Rattle.mg_change.specs.declared.event_poll.Stepped.TheVariants as stepped
-use Rattle.mg_change.specs.declared.stream.ChangeStream.{ChangeStream}
-use Rattle.mg_change.proofs.Causes as causes
-
--- ---- a step
-
-not_over : (s : ChangeStream) → (IsTrue false ↔ (s.cursor.id ≡ pos 0)) → s.cursor.id ≡ pos 0 → ⊥
-not_over s is closed = let bad : false ≡ true = is.1 closed in cc
-
-module _ (awaited : Awaited) (past : Past) (mid : Standing) (c d : Counts) (s : ChangeStream) where
-  part_so : (over : Bool) (q r : Stepped) → Seeks c d over q r → (IsTrue over ↔ (s.cursor.id ≡ pos 0)) → StepSpends q s → StepCame awaited past mid c.resumed s q → PartSteps awaited past mid c d s r
-  part_so over stepped.Goes r h is spends came = subst (PartSteps awaited past mid c d s) (sym h.same) (on came h.counts)
-  part_so over (stepped.Gives poll.Pending) r h is spends came = subst (PartSteps awaited past mid c d s) (sym h.same) (came, h.counts)
-  part_so true (stepped.Gives (poll.Ready None)) r h is spends came = subst (PartSteps awaited past mid c d s) (sym h) came
-  part_so false (stepped.Gives (poll.Ready None)) r (inl h) is spends came = subst (PartSteps awaited past mid c d s) (sym h.goes) (emptied came (not_over s is) h.counted spends)
-  part_so false (stepped.Gives (poll.Ready None)) r (inr h) is spends came =
-      subst (PartSteps awaited past mid c d s) (sym h.fails) (inr (record { error = refl; resumed = c.resumed; empty = came; holds = not_over s is; many = h.counted }))
-  part_so over (stepped.Gives (poll.Ready (Some event))) r h is spends came = subst (PartSteps awaited past mid c d s) (sym h) came
-  part_so over (stepped.Gives (poll.Failed e)) r h is spends came = subst (PartSteps awaited past mid c d s) (sym h) (inl came)
-
-pub sought_so : (c d : Counts) (resumes over : Bool) (q r : Stepped) (old new : Awaited) (log log' : Told) (wire : ℤ) (s s' : ChangeStream) → resumes ≡ is_resumed s.phase → Seeks (looking resumes c) d over q r → (IsTrue over ↔ (s'.cursor.id ≡ pos 0)) → StepSpends q s' → StepCaused old new log log' wire s.phase s s' q → SeekSteps old new log log' wire s c s' d r
-sought_so c d resumes over q r old new log log' wire s s' looks h is spends caused calls told places since mid room so =
-    let x = caused calls told places since mid c.resumed room so in
-    let sought : Seeks (looking (is_resumed s.phase) c) d over q r = subst (λ (b : Bool). Seeks (looking b c) d over q r) looks h in
-    record { calls = x.calls; told = x.told; room = x.room; came = part_so new (past_of places since x.calls wire) mid (looking (is_resumed s.phase) c) d s' over q r sought is spends x.came }
-
--- ---- counts
-
--- behind an empty batch nothing of a resumption is in hand
-counted_in_row : (by_resumption : Bool) (c d : Counts) → c.resumed ≡ by_resumption → CountsBy by_resumption c d → CountsBy by_resumption (in_row c) (in_row d) × (d.resumed ≡ false)
-counted_in_row true c d is h = (record { few = h.few; is = ap in_row h.is }, ap (λ (x : Counts). x.resumed) h.is)
-counted_in_row false c d is h = (record { few = h.few; is = ap in_row h.is }, ap (λ (x : Counts). x.resumed) h.is ∙ is)
-
-many_in_row : (by_resumption : Bool) (c : Counts) → TooManyBy by_resumption c → TooManyBy by_resumption (in_row c)
-many_in_row true c h = h
-many_in_row false c h = h
-
--- ---- a row
-
-row_keeps : (calls calls' : List Call) (wire : ℤ) (start p : CallPart) → Keeps calls calls' → Row calls wire start p → Row calls' wire start p
-row_keeps calls calls' wire start p keeps begins = begins
-row_keeps calls calls' wire start p keeps (one_more q then after d by_resumption row room kept empty holds counted) =
-    one_more q then after d by_resumption (row_keeps calls calls' wire start q keeps row) room (keeps_on then calls calls' kept keeps) empty holds counted
-
--- where nothing is in hand the next part begins
-part_begins : (awaited : Awaited) (past : Past) (s : ChangeStream) → IsSpent s → SoFar awaited past (standing_of s) false s.phase s
-part_begins awaited past s spent = causes.begins awaited past s (subst AtRest (sym spent.rests) tt)
-
--- where a call has come to, with what was counted: a row, and a part that goes on
-pub record RowSought (awaited : Awaited) (log : Told) (wire : ℤ) (start : CallPart) (d : Counts) (s : ChangeStream) : Type 0 where
-  pub calls : List Call
-  pub told : log ≡ Some calls
-  pub part : CallPart
-  pub room : part.since ≤ length calls
-  pub counts : part.counts ≡ in_row d
-  pub row : Row calls wire start part
-  pub so_far : SoFar awaited (part_past part calls wire) part.at d.resumed s.phase s
-
--- some steps led a call on
-abbrev pub Sought : Awaited → Awaited → Told → Told → ℤ → ChangeStream → ChangeStream → Counts → Type 0
-Sought old now log log' wire s s' d = s.counts.resumed ≡ false → (calls : List Call) → log ≡ Some calls → (places : List ℕ) (at : Standing) → SoFar old (past_of places (length calls) calls wire) at false s.phase s
-    → RowSought now log' wire (record { at = at; counts = s.counts; places = places; since = length calls }) d s'
-
-pub sought_start : (old : Awaited) (log : Told) (wire : ℤ) (s : ChangeStream) → Sought old old log log wire s s s.counts
-sought_start old log wire s none calls told places at so =
-    record {
-      calls = calls;
-      told = told;
-      part = record { at = at; counts = s.counts; places = places; since = length calls };
-      room = omega arith;
-      counts = ap (λ (b : Bool). record s.counts { resumed = b }) none;
-      row = begins;
-      so_far = subst (λ (b : Bool). SoFar old (past_of places (length calls) calls wire) at b s.phase s) (sym none) so;
-    }
-
--- what a step comes to of a call that has come so far
-record RowSteps (awaited : Awaited) (log : Told) (wire : ℤ) (start : CallPart) (d d' : Counts) (s : ChangeStream) (r : Stepped) : Type 0 where
-  calls : List Call
-  told : log ≡ Some calls
-  part : CallPart
-  room : part.since ≤ length calls
-  counts : part.counts ≡ in_row d
-  row : Row calls wire start part
-  came : PartSteps awaited (part_past part calls wire) part.at d d' s r
-
-same_calls : (xs ys : List Call) → Some xs ≡ Some ys → xs ≡ ys
-same_calls xs ys h = cc
-
-row_steps : (now then : Awaited) (log log' : Told) (wire : ℤ) (s s' : ChangeStream) (d d' : Counts) (r : Stepped) → Stays log log' → SeekSteps now then log log' wire s d s' d' r
-    → (start : CallPart) → RowSought now log wire start d s → RowSteps then log' wire start (looking (is_resumed s.phase) d) d' s' r
-row_steps now then log log' wire s s' d d' r stays steps start h =
-    let x = steps h.calls h.told h.part.places h.part.since h.part.at h.room h.so_far in
-    let y = stays h.calls h.told in
-    let keeps : Keeps h.calls x.calls = subst (λ (l : List Call). Keeps h.calls l) (same_calls y.0 x.calls (sym y.1 ∙ x.told)) y.2 in
-    record { calls = x.calls; told = x.told; part = h.part; room = x.room; counts = h.counts; row = row_keeps h.calls x.calls wire start h.part keeps h.row; came = x.came }
-
-module _ (awaited : Awaited) (log : Told) (wire : ℤ) (start : CallPart) (d d' : Counts) (s : ChangeStream) where
-  goes_by : (calls : List Call) → log ≡ Some calls → (p : CallPart) → p.since ≤ length calls → p.counts ≡ in_row d → Row calls wire start p → Goes awaited (part_past p calls wire) p.at d d' s → RowSought awaited log wire start d' s
-  goes_by calls told p room counts row (on so same) =
-      record {
-        calls = calls;
-        told = told;
-        part = p;
-        room = room;
-        counts = counts ∙ ap in_row (sym same);
-        row = row;
-        so_far = subst (λ (x : Counts). SoFar awaited (part_past p calls wire) p.at x.resumed s.phase s) (sym same) so;
-      }
-  goes_by calls told p room counts row (emptied empty holds counted spent) =
-      let next = counted_in_row d.resumed d d' refl counted in
-      let q : CallPart = record { at = standing_of s; counts = in_row d'; places = []; since = length calls } in
-      record {
-        calls = calls;
-        told = told;
-        part = q;
-        room = omega arith;
-        counts = refl;
-        row = one_more p calls (standing_of s) (in_row d') d.resumed row room (same_keeps calls) empty holds (subst (λ (x : Counts). CountsBy d.resumed x (in_row d')) (sym counts) next.0);
-        so_far = subst (λ (b : Bool). SoFar awaited (part_past q calls wire) (standing_of s) b s.phase s) (sym next.1) (part_begins awaited (part_past q calls wire) s spent);
-      }
-
-  goes_on : RowSteps awaited log wire start d d' s stepped.Goes → RowSought awaited log wire start d' s
-  goes_on h = goes_by h.calls h.told h.part h.room h.counts h.row h.came
+use Rattle.mg_change.proofs.CallCauses.{copied_so, empty_uncounted, failed_uncounted, lets_go, steps_caused}
+use Rattle.mg_change.proofs.Calls.{StepLeaves, steps_went}
+use Rattle.mg_change.proofs.Causes.{StepCame}
+use Rattle.mg_change.proofs.Keeping.{sound_any, sound_as}
 
 -- ---- other failures
 
@@ -168,61 +52,186 @@ replied_otherwise : (said : Option Fields) (wire : ℤ) (e : Error) → FailsByR
 replied_otherwise None wire e h = plainly kind.BsonDeserialization e h (λ x. absurd cc)
 replied_otherwise (Some said) wire e h = refused_otherwise (verdict_of said) said wire e h
 
-unbuilt_otherwise : (size : Option ℕ) (command : Fields) (e : Error) → CannotBuild size command e → IsNotEmptyBatches e
+unbuilt_otherwise : (size : Option ℕ) (command : Fields) (e : Error) → HasBadSize size e ⊎ CannotBeSent command e → IsNotEmptyBatches e
 unbuilt_otherwise size command e (inl bad) = plainly (kind.InvalidArgument argument.BatchSize) e bad.0 (λ x. absurd cc)
 unbuilt_otherwise size command e (inr bad) = plainly kind.BsonSerialization e bad.0 (λ x. absurd cc)
 
 unread_otherwise : (said : Fields) (e : Error) → BreaksIn said e → IsNotEmptyBatches e
 unread_otherwise said e by = plainly (kind.InvalidResponse by.how) e by.error (λ x. absurd cc)
 
-broken_otherwise : (said : Fields) (e : Error) → BreaksBatch said e → IsNotEmptyBatches e
-broken_otherwise said e (no_batch how at is) = plainly (kind.InvalidResponse how) e is (λ x. absurd cc)
-broken_otherwise said e (bad_item batch at has) = plainly (kind.InvalidResponse malformed.BadItem) e has.1 (λ x. absurd cc)
+broken_otherwise : (bytes : List ℕ) (e : Error) → BreaksBatch bytes e → IsNotEmptyBatches e
+broken_otherwise bytes e (no_batch none how) = plainly (kind.InvalidResponse how.how) e how.error (λ x. absurd cc)
+broken_otherwise bytes e (bad_item batch at none is) = plainly (kind.InvalidResponse malformed.BadItem) e is (λ x. absurd cc)
 
 memory_otherwise : (e : Error) → e.kind ≡ kind.OutOfMemory → IsNotEmptyBatches e
 memory_otherwise e room empty = let bad = sym room ∙ empty in absurd cc
 
-request_otherwise : (past : Past) (command : Fields) (retries : Bool) (Broken : List ℕ → Error → Type 0) (e : Error) → ((bytes : List ℕ) → Broken bytes e → IsNotEmptyBatches e) → RequestFails past command retries Broken e → IsNotEmptyBatches e
-request_otherwise past command retries Broken e read (out_of_memory room) = memory_otherwise e room
-request_otherwise past command retries Broken e read (was_lost io h) = plainly kind.Io e io (λ x. absurd cc)
-request_otherwise past command retries Broken e read (was_refused bytes h by) = replied_otherwise (doc bytes) past.wire e by
-request_otherwise past command retries Broken e read (was_broken bytes h success by) = read bytes by
+request_otherwise : (past : Past) (command : Fields) (retries : Bool) (e : Error) → RequestFails past command retries TellsNoCursor e → IsNotEmptyBatches e
+request_otherwise past command retries e (out_of_memory room) = memory_otherwise e room
+request_otherwise past command retries e (was_lost io h) = plainly kind.Io e io (λ x. absurd cc)
+request_otherwise past command retries e (was_refused bytes h by) = replied_otherwise (doc bytes) past.wire e by
+request_otherwise past command retries e (was_broken bytes h success by) = unread_otherwise (fields bytes) e by
 
-fails_otherwise : (past : Past) (at after : Standing) (e : Error) → CallFails past at after e → IsNotEmptyBatches e
-fails_otherwise past at after e (may_lose room owes may) empty = memory_otherwise e room empty
-fails_otherwise past at after e (no_memory room stands) empty = memory_otherwise e room empty
-fails_otherwise past at after e (not_resumed owes why fails) empty = request_otherwise past (resume_command past.wire at) true TellsNoCursor e (λ bytes by. unread_otherwise (fields bytes) e by) fails empty
-fails_otherwise past at after e (broken bytes upto owes replied by) empty = broken_otherwise (fields bytes) e by empty
-fails_otherwise past at after e (cannot_resume owes why by) empty = unbuilt_otherwise at.aggregate.args.options.batch_size (resume_command past.wire at) e by empty
-fails_otherwise past at after e (refused_more asked fails rests is) empty = request_otherwise past (more_command at) false NoneBroken e (λ bytes none. absurd none) fails empty
-fails_otherwise past at after e (cannot_ask asked by is) empty = unbuilt_otherwise at.cursor.batch_size (more_command at) e by empty
-fails_otherwise past at after e (no_id event upto next lacks is behind settles) empty = plainly kind.MissingResumeToken e is (λ x. absurd cc) empty
+fails_otherwise : (past : Past) (session : Option Session) (at after : ClientStream) (e : Error) → CallFails past session at after e → IsNotEmptyBatches e
+fails_otherwise past session at after e (may_lose room owes may) = memory_otherwise e room
+fails_otherwise past session at after e (no_memory room stays) = memory_otherwise e room
+fails_otherwise past session at after e (not_resumed owes why h) = request_otherwise past (resuming_in at.aggregate past.wire h.session) (is_read_again h.session) e h.fails
+fails_otherwise past session at after e (batch_broken bytes owes replied by) = broken_otherwise bytes e by
+fails_otherwise past session at after e (cannot_resume owes why now by) = unbuilt_otherwise at.aggregate.args.options.batch_size (resuming_in at.aggregate past.wire now) e by.1
+fails_otherwise past session at after e (refused_more may h final cursor behind settled) = request_otherwise past (get_more at.cursor h.session) false e h.fails
+fails_otherwise past session at after e (cannot_ask may by cursor behind settled) = unbuilt_otherwise at.cursor.manner.size (get_more at.cursor session) e by
+fails_otherwise past session at after e (no_id event next lacks is settled) = plainly kind.MissingResumeToken e is (λ x. absurd cc)
 
--- the last step of a poll, behind which the counts are left
-last_by : (awaited : Awaited) (past : Past) (mid : Standing) (d d' : Counts) (s t : ChangeStream) (r : EventPoll) → t ≡ record s { counts = t.counts } → KeptBy r d' t.counts → PartSteps awaited past mid d d' s (stepped.Gives r) → PartCame awaited past mid (in_row d) t r
-last_by awaited past mid d d' s t poll.Pending is kept h =
-    (subst (λ (x : ChangeStream). SoFar awaited past mid false x.phase x) (sym is) (causes.so_far_by awaited past mid false s.phase s s.phase t.counts h.0), kept ∙ ap in_row h.1)
-last_by awaited past mid d d' s t (poll.Ready None) is kept h = (d.resumed, subst (λ (x : ChangeStream). CallEmpty past mid (standing_of x) d.resumed) (sym is) h)
-last_by awaited past mid d d' s t (poll.Ready (Some event)) is kept h = subst (λ (x : ChangeStream). CallGave past mid (standing_of x) (fields event)) (sym is) h
-last_by awaited past mid d d' s t (poll.Failed e) is kept (inl h) = inl (subst (λ (x : ChangeStream). CallFailed past mid (standing_of x) e) (sym is) h, fails_otherwise past mid (standing_of s) e h.why)
-last_by awaited past mid d d' s t (poll.Failed e) is kept (inr h) =
-    inr (subst (λ (x : ChangeStream). IsTooMany past mid (standing_of x) (in_row d) e) (sym is) (record { error = h.error; resumed = h.resumed; empty = h.empty; holds = h.holds; many = many_in_row h.resumed d h.many }))
+-- ---- a row
 
--- ---- a poll
+row_keeps : (calls calls' : List Call) (wire : ℤ) (lone : Bool) (start p : CallPart) → Keeps calls calls' → Row calls wire lone start p → Row calls' wire lone start p
+row_keeps calls calls' wire lone start p keeps begins = begins
+row_keeps calls calls' wire lone start p keeps (one_more q then after again row room kept empty open_still few) =
+    one_more q then after again (row_keeps calls calls' wire lone start q keeps row) room (keeps_on then calls calls' kept keeps) empty open_still few
 
-module _ (old now then : Awaited) (log log' log'' : Told) (wire wire' : ℤ) (s s' u : ChangeStream) (d d' : Counts) (same : wire' ≡ wire) (stays : Stays log' log'') (so : Sought old now log log' wire s s' d) where
-  steps_here : (r : Stepped) → SeekSteps now then log' log'' wire' s' d u d' r → SeekSteps now then log' log'' wire s' d u d' r
-  steps_here r steps = subst (λ (w : ℤ). SeekSteps now then log' log'' w s' d u d' r) same steps
+-- where a call has come to between two parts: a row, and a part that has begun
+record RowSought (awaited : Awaited) (calls : List Call) (wire : ℤ) (lone : Bool) (start : CallPart) (s : ClientStream) : Type 0 where
+  part : CallPart
+  room : part.since ≤ length calls
+  counts : s.counts ≡ part.counts
+  row : Row calls wire lone start part
+  so_far : SoFar awaited (part_past part calls wire) lone part.at s
 
-  pub sought_on : SeekSteps now then log' log'' wire' s' d u d' stepped.Goes → Sought old then log log'' wire s u d'
-  sought_on steps none calls told places at begun =
-      let start : CallPart = record { at = at; counts = s.counts; places = places; since = length calls } in
-      goes_on then log'' wire start (looking (is_resumed s'.phase) d) d' u
-      (row_steps now then log' log'' wire s' u d d' stepped.Goes stays (steps_here stepped.Goes steps) start (so none calls told places at begun))
+-- behind an empty reply the next part begins
+module _ (awaited : Awaited) (past : Past) (lone : Bool) (left : ClientStream) (d : Counts) (settled : IsSettled left) where
+  begins_behind : SoFar awaited past lone left (record left { counts = d })
+  begins_behind = record {
+    same = refl;
+    by = subst (ByDoing awaited past lone left (record left { counts = d })) (sym settled.follows_on)
+        (subst (ByCursor awaited past left (record left { counts = d })) (sym settled.looked) (record { follows_on = settled.follows_on; cursor = refl; events = refl }));
+  }
 
-  pub sought_last : (v : ChangeStream) (r : EventPoll) → v ≡ record u { counts = v.counts } → KeptBy r d' v.counts → SeekSteps now then log' log'' wire' s' d u d' (stepped.Gives r) → SeekCaused old then log log'' wire s v r
-  sought_last v r is kept steps none calls told places at begun =
-      let start : CallPart = record { at = at; counts = s.counts; places = places; since = length calls } in
-      let x = row_steps now then log' log'' wire s' u d d' (stepped.Gives r) stays (steps_here (stepped.Gives r) steps) start (so none calls told places at begun) in
-      let last = last_by then (part_past x.part x.calls wire) x.part.at (looking (is_resumed s'.phase) d) d' u v r is kept x.came in
-      (x.calls, x.told, record { part = x.part; room = x.room; row = x.row; came = subst (λ (c : Counts). PartCame then (part_past x.part x.calls wire) x.part.at c v r) (sym x.counts) last })
+-- ---- the last part
+
+module _ (awaited : Awaited) (past : Past) (session : Option Session) (mid left : ClientStream) (again : Bool) (c : Counts) (counts_are : left.counts ≡ c) where
+  failed_part : (s' : ClientStream) (e : Error) → CallFailed past session mid s' e → PartCame awaited past session mid c s' (poll.Failed e)
+  failed_part s' e h = inl ((session, (λ none. none), h), fails_otherwise past session mid s' e h.why)
+
+  none_part : (b : Bool) (s' : ClientStream) → s' ≡ uncounted left → CallEmpty past (is_lone session) mid left b → left.cursor.id ≡ pos 0 → PartCame awaited past session mid c s' (poll.Ready None)
+  none_part b s' is empty none = subst (λ (x : ClientStream). PartCame awaited past session mid c x (poll.Ready None)) (sym is) (b, empty_uncounted past session mid left b empty, none)
+
+  many_part : (s' : ClientStream) → s' ≡ uncounted left → CallEmpty past (is_lone session) mid left again → left.cursor.id ≢ pos 0 → too_many ≤ got again left.counts → PartCame awaited past session mid c s' (poll.Failed (plain kind.EmptyBatches))
+  many_part s' is empty held many =
+      subst (λ (x : ClientStream). PartCame awaited past session mid c x (poll.Failed (plain kind.EmptyBatches))) (sym is)
+      (inr (record { error = refl; again = again; empty = empty_uncounted past session mid left again empty; open_still = held; many = subst (λ (x : Counts). too_many ≤ got again x) counts_are many }))
+
+  -- an event was copied, or not
+  came_part : (s' : ClientStream) (r : EventPoll) → r ≢ poll.Pending → r ≢ poll.Ready None → CallCame awaited past session mid s' r → PartCame awaited past session mid c s' r
+  came_part s' poll.Pending not_pending not_none h = absurd (not_pending refl)
+  came_part s' (poll.Ready None) not_pending not_none h = absurd (not_none refl)
+  came_part s' (poll.Ready (Some event)) not_pending not_none h = h
+  came_part s' (poll.Failed e) not_pending not_none h = failed_part s' e h
+
+  copies_some : (copied : ClientStream) (r : EventPoll) → CopiesEvent left copied r → (r ≢ poll.Pending) × (r ≢ poll.Ready None)
+  copies_some copied poll.Pending h = absurd h
+  copies_some copied (poll.Ready None) h = absurd h
+  copies_some copied (poll.Ready (Some event)) h = (λ bad. cc, λ bad. cc)
+  copies_some copied (poll.Failed e) h = (λ bad. cc, λ bad. cc)
+
+  -- the stream behind an answer that ends the call
+  kept_as : (ended s' : ClientStream) (r q : EventPoll) → r ≡ q → ended ≡ left → s' ≡ kept_behind (event_ending r) ended → s' ≡ kept_behind (event_ending q) left
+  kept_as ended s' r q is same kept = subst (λ (x : EventPoll). s' ≡ kept_behind (event_ending x) ended) is kept ∙ ap (kept_behind (event_ending q)) same
+
+  ended_part : (came : Stepped) (ended s' : ClientStream) (r : EventPoll) → StepCame awaited past session mid again left came → StepLeaves came left → EndsSeeking again came left ended r → s' ≡ kept_behind (event_ending r) ended → PartCame awaited past session mid c s' r
+  ended_part came ended s' r h leaves (finds is copies) kept =
+      let found = subst (StepCame awaited past session mid again left) is h in
+      let some = copies_some ended r copies in
+      came_part s' r some.0 some.1 (copied_so past session mid left found ended s' r awaited copies kept)
+  ended_part came ended s' r h leaves (pends is same answer) kept =
+      let so = subst (StepCame awaited past session mid again left) is h in
+      let here : s' ≡ left = kept_as ended s' r poll.Pending answer same kept in
+      subst (PartCame awaited past session mid c s') (sym answer) (subst (λ (x : ClientStream). PartCame awaited past session mid c x poll.Pending) (sym here) (so, counts_are))
+  ended_part came ended s' r h leaves (over is same answer) kept =
+      let so = subst (StepCame awaited past session mid again left) is h in
+      let none : IsExhausted left = subst (λ (x : Stepped). StepLeaves x left) is leaves in
+      subst (PartCame awaited past session mid c s') (sym answer) (none_part false s' (kept_as ended s' r (poll.Ready None) answer same kept) so.0 none.over)
+  ended_part came ended s' r h leaves (closed is none same answer) kept =
+      let so = subst (StepCame awaited past session mid again left) is h in
+      subst (PartCame awaited past session mid c s') (sym answer) (none_part again s' (kept_as ended s' r (poll.Ready None) answer same kept) so none)
+  ended_part came ended s' r h leaves (too_often is held many same answer) kept =
+      let so = subst (StepCame awaited past session mid again left) is h in
+      subst (PartCame awaited past session mid c s') (sym answer) (many_part s' (kept_as ended s' r (poll.Failed (plain kind.EmptyBatches)) answer same kept) so held many)
+  ended_part came ended s' r h leaves (fails e is same answer) kept =
+      let so = subst (StepCame awaited past session mid again left) is h in
+      subst (PartCame awaited past session mid c s') (sym answer)
+      (failed_part s' e (subst (λ (x : ClientStream). CallFailed past session mid x e) (sym (kept_as ended s' r (poll.Failed e) answer same kept)) (failed_uncounted past session mid left e so)))
+
+-- so it comes to in a call whose session was told of commands since it began
+part_of : (awaited : Awaited) (past : Past) (first session : Option Session) → (first ≡ None → session ≡ None) → is_lone session ≡ is_lone first → (mid s' : ClientStream) (c : Counts) (r : EventPoll) → PartCame awaited past session mid c s' r → PartCame awaited past first mid c s' r
+part_of awaited past first session none_then same mid s' c poll.Pending h = (subst (λ (b : Bool). SoFar awaited past b mid s') same h.0, h.1)
+part_of awaited past first session none_then same mid s' c (poll.Ready None) h = (h.0, subst (λ (b : Bool). CallEmpty past b mid s' h.0) same h.1, h.2)
+part_of awaited past first session none_then same mid s' c (poll.Ready (Some event)) h = subst (λ (b : Bool). CallGave past b mid s' event) same h
+part_of awaited past first session none_then same mid s' c (poll.Failed e) (inl h) = inl ((h.0.0, (λ none. h.0.1 (none_then none)), h.0.2), h.1)
+part_of awaited past first session none_then same mid s' c (poll.Failed e) (inr h) = inr (subst (λ (b : Bool). IsTooMany past b mid s' c e) same h)
+
+-- whether it names none stays
+lone_behind : (n : ℕ) (session : Option Session) → is_lone (session_behind n session) ≡ is_lone session
+lone_behind n None = refl
+lone_behind n (Some named) = refl
+
+-- ---- all parts
+
+-- what the parts of a call come to behind such a row
+record PartsCame (new : Awaited) (calls : List Call) (log' : Told) (wire : ℤ) (first : Option Session) (start : CallPart) (s' : ClientStream) (r : EventPoll) : Type 0 where
+  calls' : List Call
+  told : log' ≡ Some calls'
+  keeps : Keeps calls calls'
+  came : SeekCame new calls' wire first start s' r
+
+parts_caused : (n : ℕ) (old new : Awaited) (log log' : Told) (wire : ℤ) (first session : Option Session) (starts : ℕ) (s s' : ClientStream) (r : EventPoll) → IsSound false s → (first ≡ None → session ≡ None) → is_lone session ≡ is_lone first → SeeksEvent n old new log log' wire session starts s s' r
+    → (start : CallPart) (calls : List Call) → log ≡ Some calls → RowSought old calls wire (is_lone first) start s → PartsCame new calls log' wire first start s' r
+unfolding SeeksEvent
+parts_caused zero old new log log' wire first session starts s s' r sound none_then same h start calls told so =
+    let p = so.part in
+    let so_far = subst (λ (b : Bool). SoFar old (part_past p calls wire) b p.at s) (sym same) so.so_far in
+    let went = steps_went h.steps false old new log log' wire session starts h.again s h.left h.came sound tt h.does in
+    let x = steps_caused h.steps old new log log' wire session session starts h.again p.at s h.left h.came sound (λ on. refl) (λ none. none) h.does p.places p.since calls told so.room so_far in
+    record {
+      calls' = x.calls';
+      told = x.told;
+      keeps = x.keeps;
+      came = record {
+        part = p;
+        room = x.room;
+        row = row_keeps calls x.calls' wire (is_lone first) start p x.keeps so.row;
+        came = part_of new (part_past p x.calls' wire) first session none_then same p.at s' p.counts r
+            (ended_part new (part_past p x.calls' wire) session p.at h.left h.again p.counts (went.kept.counts ∙ so.counts) h.came h.ended s' r x.came went.leaves h.ends h.kept);
+      };
+    }
+parts_caused (suc n) old new log log' wire first session starts s s' r sound none_then same h start calls told so =
+    let mid = h.0 in
+    let log_mid = h.1 in
+    let t = h.4 in
+    let on = h.5 in
+    let p = so.part in
+    let so_far = subst (λ (b : Bool). SoFar old (part_past p calls wire) b p.at s) (sym same) so.so_far in
+    let went = steps_went on.steps false old mid log log_mid wire session h.2 on.again s on.left on.came sound tt on.does in
+    let x = steps_caused on.steps old mid log log_mid wire session session h.2 on.again p.at s on.left on.came sound (λ on_so. refl) (λ none. none) on.does p.places p.since calls told so.room so_far in
+    let past : Past = part_past p x.calls' wire in
+    let empty : CallEmpty past (is_lone session) p.at on.left on.again = subst (StepCame mid past session p.at on.again on.left) on.goes.empty x.came in
+    let empty_so : CallEmpty past (is_lone first) p.at on.left on.again = subst (λ (b : Bool). CallEmpty past b p.at on.left on.again) same empty in
+    let counts : on.left.counts ≡ p.counts = went.kept.counts ∙ so.counts in
+    let next : CallPart = record { at = on.left; counts = counted on.again p.counts; places = []; since = length x.calls' } in
+    let row : Row x.calls' wire (is_lone first) start next = one_more p x.calls' on.left on.again (row_keeps calls x.calls' wire (is_lone first) start p x.keeps so.row) x.room (same_keeps x.calls') empty_so on.goes.open_still (subst (λ (c : Counts). got on.again c < too_many) counts on.goes.few) in
+    let going : RowSought mid x.calls' wire (is_lone first) start t = record {
+      part = next;
+      room = omega arith;
+      counts = ap (λ (y : ClientStream). y.counts) on.goes.counts ∙ ap (counted on.again) counts;
+      row = row;
+      so_far = subst (SoFar mid (part_past next x.calls' wire) (is_lone first) on.left) (sym on.goes.counts) (begins_behind mid (part_past next x.calls' wire) (is_lone first) on.left (counted on.again on.left.counts) empty.settled);
+    } in
+    let sound_t : IsSound false t = sound_as false on.left t (ap (λ (y : ClientStream). y.aggregate) on.goes.counts) (ap (λ (y : ClientStream). y.cursor) on.goes.counts) (ap (λ (y : ClientStream). y.behind) on.goes.counts) (ap (λ (y : ClientStream). y.doing) on.goes.counts) went.sound in
+    let rest = parts_caused n mid new log_mid log' wire first (session_behind h.2 session) h.3 t s' r sound_t (λ none. ap (session_behind h.2) (none_then none)) (lone_behind h.2 session ∙ same) h.7 start x.calls' x.told going in
+    record { calls' = rest.calls'; told = rest.told; keeps = keeps_on calls x.calls' rest.calls' x.keeps rest.keeps; came = rest.came }
+
+pub seeks_caused : (n : ℕ) (b : Bool) (old new : Awaited) (log log' : Told) (wire : ℤ) (session : Option Session) (starts : ℕ) (s s' : ClientStream) (r : EventPoll) → IsSound b (let_go s) → SeeksEvent n old new log log' wire session starts (let_go s) s' r → SeekCaused old new log log' wire session s s' r
+seeks_caused n b old new log log' wire session starts s s' r sound does = λ calls told places at so.
+    let start : CallPart = record { at = at; counts = s.counts; places = places; since = length calls } in
+    let x = parts_caused n old new log log' wire session session starts (let_go s) s' r (sound_any b (let_go s) sound) (λ none. none) refl does start calls told
+    (record { part = start; room = omega arith; counts = refl; row = begins; so_far = lets_go old (part_past start calls wire) (is_lone session) at s so }) in
+    (x.calls', x.told, x.keeps, x.came)

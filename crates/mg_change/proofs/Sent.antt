@@ -1,37 +1,49 @@
 -- What the steps of a stream send.
-use Rattle.std.proofs.Common.{◌≡◌, ℕ, zero, suc, ℤ, Bool, true, false, List, [], ◌∷◌, ◌++◌, Option, refl, sym, ap, ◌∙◌, subst, inl, inr, append-nil, arith}
+use Rattle.std.proofs.Common.{◌≡◌, ℕ, zero, suc, ℤ, pos, Bool, true, false, List, [], ◌∷◌, ◌++◌, Option, refl, sym, ap, ◌∙◌, subst, inl, inr, append-nil, arith}
 use Rattle.std.proofs.lemmas.List.{map-append, append_assoc}
-use Rattle.std.specs.Prelude.{◌<◌, ◌≤◌}
+use Rattle.std.specs.Prelude.{◌≢◌, ◌<◌, ◌≤◌}
 use Rattle.mg_bson.specs.Tree.{Fields}
 use Rattle.mg_bson.specs.Raw.{fields}
 use Rattle.mg_link.specs.Exec.{Stage, unsent, first, second, Sending, Attempt, not_sent, waits, answered, Begins, GoesOn, Runs, Tries, holding, is_repeated}
-use Rattle.mg_link.specs.Link.{Awaited, Told, Adds, Sees}
+use Rattle.mg_link.specs.Link.{Awaited, SendsNothing, Told, Adds, Sees}
 use Rattle.mg_link.specs.Log.{Sight, waiting, Call, see}
+use Rattle.mg_link.specs.Moment.{Ending, failed, finished, pending}
 use Rattle.mg_link.specs.Owner.{nobody}
+use Rattle.mg_link.specs.Session.{Session}
 use Rattle.mg_link.proofs.Apart.{nobody_named, onward_foreign, onward_on, onward_refl, onward_seen}
+use Rattle.mg_link.proofs.Execs.{runs_of}
 use Rattle.mg_link.specs.declared.action.Step.{Step}
 use Rattle.mg_link.specs.declared.action.Step.TheVariants as step
 use Rattle.mg_link.specs.declared.error.Error.{Error}
 use Rattle.mg_ops.specs.declared.aggregate.ChangeStreamAggregate.{ChangeStreamAggregate}
 use Rattle.mg_ops.specs.declared.change_stream.WatchArgs.{WatchArgs}
-use Rattle.mg_ops.specs.declared.cursor_reply.CursorInformation.{CursorInformation}
-use Rattle.mg_ops.specs.declared.get_more.GetMore.{GetMore}
-use Rattle.mg_change.specs.Phases.{Carries, IsAsking, IsKilling, resuming_command}
-use Rattle.mg_change.specs.Polls.{IsStepAtOnce}
-use Rattle.mg_change.specs.Sent.{AreSought, Falling, IsAt, IsSought, Keeps, KillsOne, Quiet, SeekSent, Sent, StepKeeps, StepSent, asking_places, asks, commands_sent, killing_places, kills, places, resumes, resuming_places, step_places}
+use Rattle.mg_cursor.specs.Client.{ClientCursor, IsAsking, asks, at_rest, holds, kill, rests}
+use Rattle.mg_cursor.specs.Client as cursors
+use Rattle.mg_cursor.specs.Closing.{ClosesBy, ClosingCursor, ClosingPolls, IsClosing, IsKilling, IsLanded, IsNotAsking, KillHears, KillsCursor, LandedBy, begins as kill_begins, goes_on as kill_goes_on, killed_by, kills as kills_it, lands, not_built, nothing_left}
+use Rattle.mg_cursor.specs.Polling.{Hears, ReadsReply, broke as unread, gave as read}
+use Rattle.mg_cursor.specs.Seeking.{session_after}
+use Rattle.mg_cursor.specs.declared.polls.NextPoll.{NextPoll}
+use Rattle.mg_cursor.specs.declared.polls.NextPoll.TheVariants as next
+use Rattle.mg_cursor.specs.declared.polls.TryPoll.{TryPoll}
+use Rattle.mg_cursor.specs.declared.polls.TryPoll.TheVariants as try
+use Rattle.mg_cursor.specs.declared.results.AdvanceResult.TheVariants as result
+use Rattle.mg_change.specs.ClientStreams.{ClientStream, Doing, IsAggregate, IsSound, SoundBy, follows, kills, let_go, owes, renewed, resumes}
+use Rattle.mg_change.specs.Sent.{AreSought, AsksMoreOf, CallSent, Falling, IsAt, IsSought, KeepsBy, KillsOne, PollSent, ResumesBy, SeekSent, Sent, TrySent, asking_places, asks_more as asks_for, commands_sent, ending_places, killing_places, kills_one, more_places, places, places_behind, places_by, resumes_it, resuming_places}
+use Rattle.mg_change.specs.Steps.{AsksMore, DoesStep, DoesSteps, FailsMore, HearsClosing, HearsResumption, LooksAt, ReadsResumption, RunsResumption, TakesMore, asks_more, broke, broken, closes, ends, final, finds, gave, goes_on, looks, no_memory, none as none_there, not_asked, not_resumed, renews, resumes_now, some, waits_more, waits_resumption}
+use Rattle.mg_change.specs.StreamCalls.{CallCopies, CallLends, CopiesBehind, LendsBehind, SeeksEvent, event_ending, kept_behind, session_behind, try_ending, without_event}
+use Rattle.mg_change.specs.declared.event_poll.EventPoll.{EventPoll}
 use Rattle.mg_change.specs.declared.event_poll.EventPoll.TheVariants as poll
 use Rattle.mg_change.specs.declared.event_poll.Stepped.{Stepped}
 use Rattle.mg_change.specs.declared.event_poll.Stepped.TheVariants as stepped
-use Rattle.mg_change.specs.declared.stream.ChangeStream.{ChangeStream}
-use Rattle.mg_change.specs.declared.stream.Phase.{Phase}
-use Rattle.mg_change.specs.declared.stream.Phase.TheVariants as phase
+use Rattle.mg_change.proofs.Calls.{steps_went}
+use Rattle.mg_change.proofs.Keeping.{sound_any, sound_as, step_sound}
 
 -- ---- logs
 
 sent_none : (log log' : Told) → log' ≡ log → Sent log log' []
 sent_none log log' same calls told = (calls, same ∙ told, sym (append-nil (commands_sent calls)), onward_refl calls nobody)
 
-sent_on : (log mid log' : Told) (cs ds : List Fields) → Sent log mid cs → Sent mid log' ds → Sent log log' (cs ++ ds)
+pub sent_on : (log mid log' : Told) (cs ds : List Fields) → Sent log mid cs → Sent mid log' ds → Sent log log' (cs ++ ds)
 sent_on log mid log' cs ds p q calls told =
     let x = p calls told in
     let y = q x.0 x.1 in
@@ -67,7 +79,7 @@ falling_on : (at : ℕ → Fields → Type 0) (n : ℕ) (cs : List Fields) (k : 
 falling_on at n [] k ds m f g = falling_from at k n ds m f g
 falling_on at n (c ∷ cs) k ds m f g = (f.0, f.1, f.2, falling_on at f.0 cs k ds m f.3 g)
 
-falls : (at : ℕ → Fields → Type 0) (n : ℕ) (cs : List Fields) (m : ℕ) → Falling at n cs m → m ≤ n
+pub falls : (at : ℕ → Fields → Type 0) (n : ℕ) (cs : List Fields) (m : ℕ) → Falling at n cs m → m ≤ n
 falls at n [] m f = f
 falls at n (c ∷ cs) m f = let rest : m ≤ f.0 = falls at f.0 cs m f.3 in let here : f.0 < n = f.1 in omega arith
 
@@ -82,7 +94,7 @@ pub record Tried (at : ℕ → Fields → Type 0) (log log' : Told) (n m : ℕ) 
 pub tried_none : (at : ℕ → Fields → Type 0) (log : Told) (n : ℕ) → Tried at log log n n
 tried_none at log n = record { commands = []; adds = sent_none log log refl; falling = omega arith }
 
-tried_on : (at : ℕ → Fields → Type 0) (log mid log' : Told) (n k m : ℕ) → Tried at log mid n k → Tried at mid log' k m → Tried at log log' n m
+pub tried_on : (at : ℕ → Fields → Type 0) (log mid log' : Told) (n k m : ℕ) → Tried at log mid n k → Tried at mid log' k m → Tried at log log' n m
 tried_on at log mid log' n k m a b = record { commands = a.commands ++ b.commands; adds = sent_on log mid log' a.commands b.commands a.adds b.adds; falling = falling_on at n a.commands k b.commands m a.falling b.falling }
 
 pub tried_below : (at : ℕ → Fields → Type 0) (log log' : Told) (n m k : ℕ) → k ≤ m → Tried at log log' n m → Tried at log log' n k
@@ -123,12 +135,12 @@ module _ (at : ℕ → Fields → Type 0) (old new : Awaited) (log log' : Told) 
   more_sent result is (inl once) = more_tries s.stage once.attempt is once.tries
   more_sent result is (inr twice) = absurd (not_again s.retries s.stage twice.attempt single twice.repeated)
 
-  kill_tries : (stage : Stage) (attempt : Attempt) → at 0 (fields s.command) → Tries old new log log' s.command stage attempt → Tried at log log' (killing_places stage) 0
+  kill_tries : (stage : Stage) (attempt : Attempt) → at 0 (fields s.command) → Tries old new log log' s.command stage attempt → Tried at log log' (ending_places stage) 0
   kill_tries unsent attempt is t = begun at s.command old new log log' 0 attempt is t
   kill_tries (first ticket) attempt is t = gone_on at s.command old new log log' 0 ticket attempt t
   kill_tries (second ticket) attempt is t = gone_on at s.command old new log log' 0 ticket attempt t
 
-  pub kill_sent : (result : Step Sending (List ℕ)) → at 0 (fields s.command) → Runs old new log log' wire s result → Tried at log log' (killing_places s.stage) 0
+  pub kill_sent : (result : Step Sending (List ℕ)) → at 0 (fields s.command) → Runs old new log log' wire s result → Tried at log log' (ending_places s.stage) 0
   kill_sent result is (inl once) = kill_tries s.stage once.attempt is once.tries
   kill_sent result is (inr twice) = absurd (not_again s.retries s.stage twice.attempt single twice.repeated)
 
@@ -137,7 +149,7 @@ module _ (at : ℕ → Fields → Type 0) (old new : Awaited) (log log' : Told) 
   held_more (first old) ticket = refl
   held_more (second old) ticket = refl
 
-  held_kill : (stage : Stage) (ticket : ℕ) → 0 ≡ killing_places (holding stage ticket)
+  held_kill : (stage : Stage) (ticket : ℕ) → 0 ≡ ending_places (holding stage ticket)
   held_kill unsent ticket = refl
   held_kill (first old) ticket = refl
   held_kill (second old) ticket = refl
@@ -146,8 +158,8 @@ module _ (at : ℕ → Fields → Type 0) (old new : Awaited) (log log' : Told) 
   more_held exec (inl once) = held_more s.stage once.gives.0 ∙ ap (λ (e : Sending). asking_places e.stage) (sym once.gives.2)
   more_held exec (inr twice) = absurd (not_again s.retries s.stage twice.attempt single twice.repeated)
 
-  pub kill_held : (exec : Sending) → Runs old new log log' wire s (step.Pending exec) → 0 ≡ killing_places exec.stage
-  kill_held exec (inl once) = held_kill s.stage once.gives.0 ∙ ap (λ (e : Sending). killing_places e.stage) (sym once.gives.2)
+  pub kill_held : (exec : Sending) → Runs old new log log' wire s (step.Pending exec) → 0 ≡ ending_places exec.stage
+  kill_held exec (inl once) = held_kill s.stage once.gives.0 ∙ ap (λ (e : Sending). ending_places e.stage) (sym once.gives.2)
   kill_held exec (inr twice) = absurd (not_again s.retries s.stage twice.attempt single twice.repeated)
 
 -- ---- a request that may be sent once more
@@ -181,178 +193,332 @@ module _ (at : ℕ → Fields → Type 0) (old new : Awaited) (log log' : Told) 
   resume_waits exec (inr twice) =
       subst (λ (e : Sending). Tried at log log' (resuming_places s.stage) (resuming_places e.stage)) (sym twice.gives.2) (resume_sent (step.Pending exec) (inr twice))
 
--- ---- steps
+-- ---- the same places of another stream
 
--- what a step sent whose call pends
-pub sent_pending : (log log' : Told) (wire : ℤ) (p q : Phase) (s : ChangeStream) → Tried (IsAt s.cursor s.aggregate wire) log log' (places p) (places q) → StepSent log log' wire p s (record s { phase = q }) (stepped.Gives poll.Pending)
-sent_pending log log' wire p q s a = record { commands = a.commands; adds = a.adds; falling = a.falling; keeps = (refl, λ many. refl) }
+-- neither what it gives nor how it stands says what its commands are
+same_at : (s t : ClientStream) → t.aggregate ≡ s.aggregate → t.cursor ≡ s.cursor → (place : ℕ) (command : Fields) → IsAt t place command → IsAt s place command
+same_at s t a c zero command h = h
+same_at s t a c (suc zero) command h = subst (λ (x : ChangeStreamAggregate). ResumesBy x command) a h
+same_at s t a c (suc (suc zero)) command h = subst (λ (x : ChangeStreamAggregate). ResumesBy x command) a h
+same_at s t a c (suc (suc (suc zero))) command h = subst (λ (x : ClientCursor). AsksMoreOf x command) c h
+same_at s t a c (suc (suc (suc (suc place)))) command h = h
 
--- what it sent before it went on without a link
-pub sent_then : (log log' : Told) (wire : ℤ) (p : Phase) (n : ℕ) (s s' : ChangeStream) (r : Stepped) → Tried (IsAt s.cursor s.aggregate wire) log log' (places p) n → Quiet n s s' r → IsStepAtOnce r → StepSent log log' wire p s s' r
-sent_then log log' wire p n s s' stepped.Goes a quiet at_once =
-    record { commands = a.commands; adds = a.adds; falling = falling_below (IsAt s.cursor s.aggregate wire) (places p) a.commands n (places s'.phase) a.falling quiet.0; keeps = quiet.1 }
-sent_then log log' wire p n s s' (stepped.Gives poll.Pending) a quiet at_once = absurd at_once
-sent_then log log' wire p n s s' (stepped.Gives (poll.Ready event)) a quiet at_once =
-    record { commands = a.commands; adds = a.adds; falling = falling_below (IsAt s.cursor s.aggregate wire) (places p) a.commands n 0 a.falling (omega arith); keeps = tt }
-sent_then log log' wire p n s s' (stepped.Gives (poll.Failed e)) a quiet at_once =
-    record { commands = a.commands; adds = a.adds; falling = falling_below (IsAt s.cursor s.aggregate wire) (places p) a.commands n 0 a.falling (omega arith); keeps = tt }
+-- behind its getMore the cursor says nothing of them
+later_at : (s t : ClientStream) → t.aggregate ≡ s.aggregate → (place : ℕ) → place < 3 → (command : Fields) → IsAt t place command → IsAt s place command
+later_at s t a zero less command h = h
+later_at s t a (suc zero) less command h = subst (λ (x : ChangeStreamAggregate). ResumesBy x command) a h
+later_at s t a (suc (suc zero)) less command h = subst (λ (x : ChangeStreamAggregate). ResumesBy x command) a h
+later_at s t a (suc (suc (suc place))) less command h = absurd (omega arith)
 
--- the phase was taken out before it
-keeps_taken : (q : Phase) (s s' : ChangeStream) (r : Stepped) → StepKeeps r (record s { phase = q }) s' → StepKeeps r s s'
-keeps_taken q s s' stepped.Goes h = h
-keeps_taken q s s' (stepped.Gives poll.Pending) h = h
-keeps_taken q s s' (stepped.Gives (poll.Ready event)) h = tt
-keeps_taken q s s' (stepped.Gives (poll.Failed e)) h = tt
+falling_as : (s t : ClientStream) → ((place : ℕ) (command : Fields) → IsAt t place command → IsAt s place command) → (n : ℕ) (cs : List Fields) (m : ℕ) → Falling (IsAt t) n cs m → Falling (IsAt s) n cs m
+falling_as s t same n [] m f = f
+falling_as s t same n (c ∷ cs) m f = (f.0, f.1, same f.0 c f.2, falling_as s t same f.0 cs m f.3)
 
-pub sent_taken : (log log' : Told) (wire : ℤ) (p q : Phase) (s s' : ChangeStream) (r : Stepped) → s.phase ≡ p → StepSent log log' wire p (record s { phase = q }) s' r → StepSent log log' wire s.phase s s' r
-sent_taken log log' wire p q s s' r is h =
-    subst (λ (x : Phase). StepSent log log' wire x s s' r) (sym is)
-    (record { commands = h.commands; adds = h.adds; falling = h.falling; keeps = keeps_taken q s s' r h.keeps })
-
--- a step without a link
-pub sent_quietly : (log : Told) (wire : ℤ) (p q : Phase) (s s' : ChangeStream) (r : Stepped) → s.phase ≡ p → Quiet (places p) (record s { phase = q }) s' r → IsStepAtOnce r → StepSent log log wire s.phase s s' r
-sent_quietly log wire p q s s' r is quiet at_once =
-    sent_taken log log wire p q s s' r is (sent_then log log wire p (places p) (record s { phase = q }) s' r (tried_none (IsAt s.cursor s.aggregate wire) log (places p)) quiet at_once)
-
--- no step yet
-pub sent_nothing : (log : Told) (wire : ℤ) (s : ChangeStream) → StepSent log log wire s.phase s s stepped.Goes
-sent_nothing log wire s = record { commands = []; adds = sent_none log log refl; falling = omega arith; keeps = (refl, λ many. refl) }
-
--- ---- one step more
-
-at_cursor : (c d : CursorInformation) (a : ChangeStreamAggregate) (wire : ℤ) (place : ℕ) (command : Fields) → (4 ≤ suc place → d ≡ c) → IsAt d a wire place command → IsAt c a wire place command
-at_cursor c d a wire zero command same h = h
-at_cursor c d a wire (suc zero) command same h = h
-at_cursor c d a wire (suc (suc zero)) command same h = h
-at_cursor c d a wire (suc (suc (suc zero))) command same h = subst (λ (x : CursorInformation). IsAt x a wire 3 command) (same (omega arith)) h
-at_cursor c d a wire (suc (suc (suc (suc place)))) command same h = absurd h
-
-by_cursor : (c d : CursorInformation) (a : ChangeStreamAggregate) (wire : ℤ) (n : ℕ) (cs : List Fields) (m : ℕ) → (4 ≤ n → d ≡ c) → Falling (IsAt d a wire) n cs m → Falling (IsAt c a wire) n cs m
-by_cursor c d a wire n [] m same f = f
-by_cursor c d a wire n (x ∷ cs) m same f =
+falling_later : (s t : ClientStream) → t.aggregate ≡ s.aggregate → (n : ℕ) → n ≤ 3 → (cs : List Fields) (m : ℕ) → Falling (IsAt t) n cs m → Falling (IsAt s) n cs m
+falling_later s t a n few [] m f = f
+falling_later s t a n few (c ∷ cs) m f =
     let here : f.0 < n = f.1 in
-    (f.0, f.1, at_cursor c d a wire f.0 x (λ many. same (omega arith)) f.2, by_cursor c d a wire f.0 cs m (λ many. same (omega arith)) f.3)
+    (f.0, f.1, later_at s t a f.0 (omega arith) c f.2, falling_later s t a f.0 (omega arith) cs m f.3)
 
-keeps_on : (s t s' : ChangeStream) → Keeps s t → places s'.phase ≤ places t.phase → Keeps t s' → Keeps s s'
-keeps_on s t s' a less b = (b.0 ∙ a.0, λ many. b.1 many ∙ a.1 (omega arith))
+-- ---- a step
 
-step_keeps_on : (s t s' : ChangeStream) (r : Stepped) → Keeps s t → step_places r s'.phase ≤ places t.phase → StepKeeps r t s' → StepKeeps r s s'
-step_keeps_on s t s' stepped.Goes a less b = keeps_on s t s' a less b
-step_keeps_on s t s' (stepped.Gives poll.Pending) a less b = keeps_on s t s' a less b
-step_keeps_on s t s' (stepped.Gives (poll.Ready event)) a less b = tt
-step_keeps_on s t s' (stepped.Gives (poll.Failed e)) a less b = tt
+-- how many places are left behind it
+abbrev pub step_places : Stepped → ClientStream → ℕ
+step_places stepped.Goes s = places s
+step_places stepped.Found s = 0
+step_places (stepped.Gives p) s = places_behind (try_ending p) s
 
-pub sent_more : (log mid log' : Told) (wire wire' : ℤ) (p : Phase) (s t s' : ChangeStream) (r : Stepped) → wire' ≡ wire → StepSent log mid wire p s t stepped.Goes → StepSent mid log' wire' t.phase t s' r → StepSent log log' wire p s s' r
-sent_more log mid log' wire wire' p s t s' r same a b =
-    let n = places t.phase in
-    let m = step_places r s'.phase in
-    let f : Falling (IsAt t.cursor s.aggregate wire) n b.commands m = subst (λ (x : ChangeStreamAggregate). Falling (IsAt t.cursor x wire) n b.commands m) a.keeps.0 (subst (λ (w : ℤ). Falling (IsAt t.cursor t.aggregate w) n b.commands m) same b.falling) in
-    record {
-      commands = a.commands ++ b.commands;
-      adds = sent_on log mid log' a.commands b.commands a.adds b.adds;
-      falling = falling_on (IsAt s.cursor s.aggregate wire) (places p) a.commands n b.commands m a.falling (by_cursor s.cursor t.cursor s.aggregate wire n b.commands m a.keeps.1 f);
-      keeps = step_keeps_on s t s' r a.keeps (falls (IsAt t.cursor s.aggregate wire) n b.commands m f) b.keeps;
-    }
+-- where the call goes on, now or later, the same stream tells what is sent, and no getMore is to be sent where it goes on now
+abbrev pub StepKeeps : Stepped → ClientStream → ClientStream → Type 0
+StepKeeps stepped.Goes s s' = (s'.aggregate ≡ s.aggregate) × (places s' ≤ 3)
+StepKeeps stepped.Found s s' = Unit {0}
+StepKeeps (stepped.Gives p) s s' = KeepsBy (try_ending p) s s'
 
--- ---- how many places are left at most
+-- what a step sent
+pub record StepSent (log log' : Told) (s s' : ClientStream) (r : Stepped) : Type 0 where
+  pub tried : Tried (IsAt s) log log' (places s) (step_places r s')
+  pub keeps : StepKeeps r s s'
 
-pub asking_most : (stage : Stage) → asking_places stage ≤ 4
-asking_most unsent = omega arith
-asking_most (first ticket) = omega arith
-asking_most (second ticket) = omega arith
+sent_as : (log log' : Told) (s s' t : ClientStream) (r r' : Stepped) → s' ≡ t → r' ≡ r → StepSent log log' s t r → StepSent log log' s s' r'
+sent_as log log' s s' t r r' is answer h = subst (λ (x : Stepped). StepSent log log' s s' x) (sym answer) (subst (λ (x : ClientStream). StepSent log log' s x r) (sym is) h)
 
-pub resuming_most : (stage : Stage) → resuming_places stage ≤ 3
-resuming_most unsent = omega arith
-resuming_most (first ticket) = omega arith
-resuming_most (second ticket) = omega arith
+-- the call has ended with it
+sent_end : (log log' : Told) (s s' : ClientStream) (r : Stepped) (m : ℕ) → step_places r s' ≡ 0 → StepKeeps r s s' → Tried (IsAt s) log log' (places s) m → StepSent log log' s s' r
+sent_end log log' s s' r m none_left keeps a = record {
+  tried = subst (λ (n : ℕ). Tried (IsAt s) log log' (places s) n) (sym none_left) (tried_below (IsAt s) log log' (places s) m 0 (omega arith) a);
+  keeps = keeps;
+}
 
-pub killing_most : (stage : Stage) → killing_places stage ≤ 1
-killing_most unsent = omega arith
-killing_most (first ticket) = omega arith
-killing_most (second ticket) = omega arith
+nothing : (log log' : Told) (s : ClientStream) (n : ℕ) → log' ≡ log → n ≤ places s → Tried (IsAt s) log log' (places s) n
+nothing log log' s n same less = record { commands = []; adds = sent_none log log' same; falling = less }
 
--- ---- steps without a link
+-- nothing is sent, and the stream stays as it is
+sent_quiet : (old new : Awaited) (log log' : Told) (s s' : ClientStream) (e : Error) (r : Stepped) → SendsNothing old new log log' → s' ≡ s → r ≡ stepped.Gives (try.Failed e) → StepSent log log' s s' r
+sent_quiet old new log log' s s' e r quiet is answer = sent_as log log' s s' s (stepped.Gives (try.Failed e)) r is answer (sent_end log log' s s (stepped.Gives (try.Failed e)) (places s) refl tt (nothing log log' s (places s) quiet.log_same (omega arith)))
 
-pub quiet_at : (n : ℕ) (s s' : ChangeStream) (r : Stepped) (p : Phase) → s'.phase ≡ p → places p ≤ n → n ≤ 3 → s'.aggregate ≡ s.aggregate → Quiet n s s' r
-quiet_at n s s' stepped.Goes p is less few same =
-    let at : places s'.phase ≤ n = subst (λ (q : Phase). places q ≤ n) (sym is) less in
-    (at, (same, λ many. absurd (omega arith)))
-quiet_at n s s' (stepped.Gives q) p is less few same = tt
+-- a batch was looked at
+sent_looked : (again : Bool) (log log' : Told) (s : ClientStream) (c : ClientCursor) (said : List ℕ) (s' : ClientStream) (r : Stepped) (m : ℕ) → (again ≡ false → 3 ≤ m) → Tried (IsAt s) log log' (places s) m → LooksAt again s c said s' r → StepSent log log' s s' r
+sent_looked again log log' s c said s' r m many a (some event events at is answer) = sent_as log log' s s' _ stepped.Found r is answer (sent_end log log' s _ stepped.Found m refl tt a)
+sent_looked again log log' s c said s' r m many a (none_there at is answer) = sent_as log log' s s' _ (stepped.Gives (try.Ready result.Waiting)) r is answer (sent_end log log' s _ (stepped.Gives (try.Ready result.Waiting)) m refl tt a)
+sent_looked true log log' s c said s' r m many a (broken e breaks is answer) = sent_as log log' s s' _ (stepped.Gives (try.Failed e)) r is answer (sent_end log log' s _ (stepped.Gives (try.Failed e)) m refl tt a)
+sent_looked false log log' s c said s' r m many a (broken e breaks is answer) =
+    sent_as log log' s s' _ stepped.Goes r is answer (record { tried = tried_below (IsAt s) log log' (places s) m 3 (many refl) a; keeps = (refl, omega arith) })
 
-pub quiet_asking : (s : ChangeStream) (get_more : GetMore) (exec : Sending) → Quiet 4 s (record s { phase = phase.Asking get_more exec }) stepped.Goes
-quiet_asking s get_more exec = (asking_most exec.stage, (refl, λ many. refl))
+sent_failed : (log log' : Told) (s : ClientStream) (c : ClientCursor) (e : Error) (s' : ClientStream) (r : Stepped) → Tried (IsAt s) log log' (places s) 3 → FailsMore s c e s' r → StepSent log log' s s' r
+sent_failed log log' s c e s' r a (goes_on so is answer) = sent_as log log' s s' _ stepped.Goes r is answer (record { tried = a; keeps = (refl, omega arith) })
+sent_failed log log' s c e s' r a (no_memory room is answer) = sent_as log log' s s' _ (stepped.Gives (try.Failed e)) r is answer (sent_end log log' s _ (stepped.Gives (try.Failed e)) 3 refl tt a)
+sent_failed log log' s c e s' r a (final not room is answer) = sent_as log log' s s' _ (stepped.Gives (try.Failed e)) r is answer (sent_end log log' s _ (stepped.Gives (try.Failed e)) 3 refl tt a)
 
-pub quiet_resumed : (s : ChangeStream) (reply : List ℕ) → Quiet 0 s (record s { phase = phase.Resumed reply }) stepped.Goes
-quiet_resumed s reply = (omega arith, (refl, λ many. refl))
+-- a reply that came does not pend
+not_pending : (c : ClientCursor) (bytes : List ℕ) (c' : ClientCursor) → ReadsReply c bytes c' next.Pending → ⊥
+not_pending c bytes c' (read said says is answer) = cc
+not_pending c bytes c' (unread e by is answer) = cc
 
--- ---- steps with a link
+-- the getMore was polled
+sent_more : (old new : Awaited) (log log' : Told) (wire : ℤ) (started : Bool) (s : ClientStream) (sending : Sending) (s' : ClientStream) (r : Stepped) → IsSound false s → s.doing ≡ follows → AsksMoreOf s.cursor (fields sending.command) → sending.retries ≡ false → places s ≡ asking_places sending.stage
+    → AsksMore old new log log' wire started s sending s' r → StepSent log log' s s' r
+sent_more old new log log' wire started s sending s' r sound on is single many h = by_came h.runs.came (runs_of old new log log' wire sending h.runs.came started h.runs.runs) h.left h.poll h.runs.hears h.takes
+  where
+    all : (came : Step Sending (List ℕ)) → Runs old new log log' wire sending came → Tried (IsAt s) log log' (places s) 3
+    all came runs = subst (λ (n : ℕ). Tried (IsAt s) log log' n 3) (sym many) (more_sent (IsAt s) old new log log' wire sending single came is runs)
 
-module _ (old new : Awaited) (log log' : Told) (wire : ℤ) (s : ChangeStream) (get_more : GetMore) (exec : Sending) (asking : IsAsking s exec) where
-  pub asking_waits : (next : GetMore) (exec' : Sending) → Runs old new log log' wire exec (step.Pending exec') → StepSent log log' wire (phase.Asking get_more exec) s (record s { phase = phase.Asking next exec' }) (stepped.Gives poll.Pending)
-  asking_waits next exec' runs =
-      let at = IsAt s.cursor s.aggregate wire in
-      sent_pending log log' wire (phase.Asking get_more exec) (phase.Asking next exec') s
-      (subst (λ (n : ℕ). Tried at log log' (asking_places exec.stage) n) (more_held at old new log log' wire exec asking.carries.retries_is exec' runs)
-      (more_sent at old new log log' wire exec asking.carries.retries_is (step.Pending exec') asking.carries.command_is runs))
+    by_came : (came : Step Sending (List ℕ)) → Runs old new log log' wire sending came → (c : ClientCursor) (p : NextPoll) → Hears s.cursor came c p → TakesMore s c p s' r → StepSent log log' s s' r
+    by_came (step.Pending later) runs c p heard takes =
+        let t : (s' ≡ record s { cursor = c }) × (r ≡ stepped.Gives try.Pending) = subst (λ (x : NextPoll). TakesMore s c x s' r) heard.1 takes in
+        let held : 3 ≡ asking_places later.stage = more_held (IsAt s) old new log log' wire sending single later runs in
+        let left : places (record s { cursor = c }) ≡ 3 = ap (λ (d : Doing). places_by d c) on ∙ ap (λ (x : ClientCursor). more_places x.doing) heard.0 ∙ sym held in
+        sent_as log log' s s' (record s { cursor = c }) (stepped.Gives try.Pending) r t.0 t.1
+        (record { tried = subst (λ (n : ℕ). Tried (IsAt s) log log' (places s) n) (sym left) (all (step.Pending later) runs); keeps = refl })
+    by_came (step.Done bytes) runs c next.Pending heard takes = absurd (not_pending s.cursor bytes c heard)
+    by_came (step.Done bytes) runs c (next.Batch said) heard takes = sent_looked false log log' s c said s' r 3 (λ e. omega arith) (all (step.Done bytes) runs) takes
+    by_came (step.Done bytes) runs c next.End heard takes = absurd takes
+    by_came (step.Done bytes) runs c (next.Failed e) heard takes = sent_failed log log' s c e s' r (all (step.Done bytes) runs) takes
+    by_came (step.Failed e) runs c p heard takes = sent_failed log log' s c e s' r (all (step.Failed e) runs) (subst (λ (x : NextPoll). TakesMore s c x s' r) heard.1 takes)
 
-  pub asking_goes_on : (result : Step Sending (List ℕ)) (s' : ChangeStream) (r : Stepped) → Runs old new log log' wire exec result → Quiet 3 s s' r → IsStepAtOnce r → StepSent log log' wire (phase.Asking get_more exec) s s' r
-  asking_goes_on result s' r runs quiet at_once =
-      sent_then log log' wire (phase.Asking get_more exec) 3 s s' r (more_sent (IsAt s.cursor s.aggregate wire) old new log log' wire exec asking.carries.retries_is result asking.carries.command_is runs) quiet at_once
+-- the aggregate was polled
+sent_resumption : (old new : Awaited) (log log' : Told) (wire : ℤ) (started : Bool) (s : ClientStream) (sending : Sending) (s' : ClientStream) (r : Stepped) → ResumesBy s.aggregate (fields sending.command) → places s ≡ resuming_places sending.stage → RunsResumption old new log log' wire started s sending s' r → StepSent log log' s s' r
+sent_resumption old new log log' wire started s sending s' r is many h = by_came h.came (runs_of old new log log' wire sending h.came started h.runs) h.hears
+  where
+    all : (came : Step Sending (List ℕ)) → Runs old new log log' wire sending came → Tried (IsAt s) log log' (places s) 1
+    all came runs = subst (λ (n : ℕ). Tried (IsAt s) log log' n 1) (sym many) (resume_sent (IsAt s) old new log log' wire sending is is came runs)
 
-module _ (old new : Awaited) (log log' : Told) (wire : ℤ) (s : ChangeStream) (exec : Sending) (carries : Carries exec (resuming_command s.aggregate wire) true) where
-  pub resuming_waits : (exec' : Sending) → Runs old new log log' wire exec (step.Pending exec') → StepSent log log' wire (phase.Resuming exec) s (record s { phase = phase.Resuming exec' }) (stepped.Gives poll.Pending)
-  resuming_waits exec' runs =
-      sent_pending log log' wire (phase.Resuming exec) (phase.Resuming exec') s (resume_waits (IsAt s.cursor s.aggregate wire) old new log log' wire exec carries.command_is carries.command_is exec' runs)
+    by_read : (bytes : List ℕ) → Runs old new log log' wire sending (step.Done bytes) → ReadsResumption s bytes s' r → StepSent log log' s s' r
+    by_read bytes runs (gave out opens at answer) = sent_as log log' s s' _ stepped.Goes r at answer (record { tried = all (step.Done bytes) runs; keeps = (refl, omega arith) })
+    by_read bytes runs (broke e by at answer) = sent_as log log' s s' _ (stepped.Gives (try.Failed e)) r at answer (sent_end log log' s _ (stepped.Gives (try.Failed e)) 1 refl tt (all (step.Done bytes) runs))
 
-  pub resuming_goes_on : (result : Step Sending (List ℕ)) (s' : ChangeStream) (r : Stepped) → Runs old new log log' wire exec result → Quiet 1 s s' r → IsStepAtOnce r → StepSent log log' wire (phase.Resuming exec) s s' r
-  resuming_goes_on result s' r runs quiet at_once =
-      sent_then log log' wire (phase.Resuming exec) 1 s s' r (resume_sent (IsAt s.cursor s.aggregate wire) old new log log' wire exec carries.command_is carries.command_is result runs) quiet at_once
+    by_came : (came : Step Sending (List ℕ)) → Runs old new log log' wire sending came → HearsResumption s came s' r → StepSent log log' s s' r
+    by_came (step.Pending later) runs heard =
+        sent_as log log' s s' (record s { doing = resumes later }) (stepped.Gives try.Pending) r heard.0 heard.1
+        (record { tried = subst (λ (n : ℕ). Tried (IsAt s) log log' n (resuming_places later.stage)) (sym many) (resume_waits (IsAt s) old new log log' wire sending is is later runs); keeps = refl })
+    by_came (step.Done bytes) runs heard = by_read bytes runs heard
+    by_came (step.Failed e) runs heard = sent_as log log' s s' _ (stepped.Gives (try.Failed e)) r heard.0 heard.1 (sent_end log log' s _ (stepped.Gives (try.Failed e)) 1 refl tt (all (step.Failed e) runs))
 
-  pub resuming_fails : (result : Step Sending (List ℕ)) (e : Error) → Runs old new log log' wire exec result → StepSent log log' wire (phase.Resuming exec) s (record s { phase = phase.Owing }) (stepped.Gives (poll.Failed e))
-  resuming_fails result e runs =
-      let a = resume_sent (IsAt s.cursor s.aggregate wire) old new log log' wire exec carries.command_is carries.command_is result runs in
-      record { commands = a.commands; adds = a.adds; falling = falling_below (IsAt s.cursor s.aggregate wire) (resuming_places exec.stage) a.commands 1 0 a.falling (omega arith); keeps = tt }
+-- the closing of the cursor before: what it sent, and what is left where it pends
+abbrev ClosingSent : Told → Told → ClientStream → ℕ → Step ClosingCursor (Unit {0}) → Type 0
+ClosingSent log log' s n (step.Pending k) = Tried (IsAt s) log log' n (killing_places k.killing)
+ClosingSent log log' s n (step.Done t) = Tried (IsAt s) log log' n 0
+ClosingSent log log' s n (step.Failed e) = Tried (IsAt s) log log' n 0
 
-module _ (old new : Awaited) (log log' : Told) (wire : ℤ) (s : ChangeStream) (exec : Sending) (id : ℤ) (bytes : List ℕ) (killing : IsKilling id exec) where
-  kills_one : KillsOne (fields exec.command)
-  kills_one = record { at = killing.at; id = id; there = killing.there; kills = killing.carries.command_is }
+as_closing : (log log' : Told) (s : ClientStream) (n : ℕ) (r r' : Step ClosingCursor (Unit {0})) → r' ≡ r → ClosingSent log log' s n r → ClosingSent log log' s n r'
+as_closing log log' s n r r' is h = subst (ClosingSent log log' s n) (sym is) h
 
-  pub killing_waits : (exec' : Sending) (same : ℤ) → Runs old new log log' wire exec (step.Pending exec') → StepSent log log' wire (phase.Killing exec id bytes) s (record s { phase = phase.Killing exec' same bytes }) (stepped.Gives poll.Pending)
-  killing_waits exec' same runs =
-      let at = IsAt s.cursor s.aggregate wire in
-      sent_pending log log' wire (phase.Killing exec id bytes) (phase.Killing exec' same bytes) s
-      (subst (λ (n : ℕ). Tried at log log' (killing_places exec.stage) n) (kill_held at old new log log' wire exec killing.carries.retries_is exec' runs)
-      (kill_sent at old new log log' wire exec killing.carries.retries_is (step.Pending exec') kills_one runs))
+sent_kill : (old new : Awaited) (log log' : Told) (wire : ℤ) (s : ClientStream) (c : ClientCursor) (sending : Sending) (came : Step Sending (List ℕ)) (r : Step ClosingCursor (Unit {0})) → fields sending.command ≡ kill c → sending.retries ≡ false → c.id ≢ pos 0 → Runs old new log log' wire sending came → KillHears c came r → ClosingSent log log' s (ending_places sending.stage) r
+sent_kill old new log log' wire s c sending came r command_is single held runs h = by_came came runs h
+  where
+    one_kill : KillsOne (fields sending.command)
+    one_kill = record { at = c.space; id = c.id; there = held; kills_so = command_is }
 
-  -- whatever came of it
-  pub killing_goes_on : (result : Step Sending (List ℕ)) (s' : ChangeStream) (r : Stepped) → Runs old new log log' wire exec result → Quiet 0 s s' r → IsStepAtOnce r → StepSent log log' wire (phase.Killing exec id bytes) s s' r
-  killing_goes_on result s' r runs quiet at_once =
-      sent_then log log' wire (phase.Killing exec id bytes) 0 s s' r (kill_sent (IsAt s.cursor s.aggregate wire) old new log log' wire exec killing.carries.retries_is result kills_one runs) quiet at_once
+    by_came : (x : Step Sending (List ℕ)) → Runs old new log log' wire sending x → KillHears c x r → ClosingSent log log' s (ending_places sending.stage) r
+    by_came (step.Pending later) ran heard =
+        as_closing log log' s (ending_places sending.stage) (step.Pending (killed_by c later)) r heard
+        (subst (λ (n : ℕ). Tried (IsAt s) log log' (ending_places sending.stage) n) (kill_held (IsAt s) old new log log' wire sending single later ran) (kill_sent (IsAt s) old new log log' wire sending single (step.Pending later) one_kill ran))
+    by_came (step.Done bytes) ran heard = as_closing log log' s (ending_places sending.stage) (step.Done tt) r heard (kill_sent (IsAt s) old new log log' wire sending single (step.Done bytes) one_kill ran)
+    by_came (step.Failed e) ran heard = as_closing log log' s (ending_places sending.stage) (step.Failed e) r heard (kill_sent (IsAt s) old new log log' wire sending single (step.Failed e) one_kill ran)
+
+none_killed : (log log' : Told) (s : ClientStream) → log' ≡ log → Tried (IsAt s) log log' 1 0
+none_killed log log' s same = record { commands = []; adds = sent_none log log' same; falling = omega arith }
+
+sent_closing : (old new : Awaited) (log log' : Told) (wire : ℤ) (s : ClientStream) (before : ClosingCursor) (r : Step ClosingCursor (Unit {0})) → IsClosing before → IsLanded before → ClosingPolls old new log log' wire before r → ClosingSent log log' s (killing_places before.killing) r
+sent_closing old new log log' wire s before r closing landed (lands idle sending at h) =
+    absurd (subst IsNotAsking at (subst (λ (o : Option Sending). LandedBy o before.cursor.doing) idle landed))
+sent_closing old new log log' wire s before r closing landed (kill_begins idle quiet h) = subst (λ (o : Option Sending). ClosingSent log log' s (killing_places o) r) (sym idle) (by_kills h)
+  where
+    by_kills : KillsCursor old new log log' wire (at_rest before.cursor) r → ClosingSent log log' s 1 r
+    by_kills (nothing_left overs sends is) = as_closing log log' s 1 (step.Done tt) r is (none_killed log log' s sends.log_same)
+    by_kills (not_built may e by sends is) = as_closing log log' s 1 (step.Failed e) r is (none_killed log log' s sends.log_same)
+    by_kills (kills_it may sending new_one ran) =
+        subst (λ (stage : Stage). ClosingSent log log' s (ending_places stage) r) new_one.new
+        (sent_kill old new log log' wire s (at_rest before.cursor) sending ran.came r new_one.command_is new_one.single may.held ran.runs ran.hears)
+sent_closing old new log log' wire s before r closing landed (kill_goes_on sending at h) =
+    let on : IsKilling before.cursor sending = subst (ClosesBy before.cursor) at closing in
+    subst (λ (o : Option Sending). ClosingSent log log' s (killing_places o) r) (sym at)
+    (sent_kill old new log log' wire s before.cursor sending h.came r on.waits_on.command_is on.waits_on.single on.may.held h.runs h.hears)
+
+sent_closed : (log log' : Told) (s s' : ClientStream) (r : Stepped) (came : Step ClosingCursor (Unit {0})) → ClosingSent log log' s (places s) came → HearsClosing s came s' r → StepSent log log' s s' r
+sent_closed log log' s s' r (step.Pending k) a h = sent_as log log' s s' (record s { doing = kills k }) (stepped.Gives try.Pending) r h.0 h.1 (record { tried = a; keeps = refl })
+sent_closed log log' s s' r (step.Done t) a h = sent_as log log' s s' (record s { doing = renewed }) stepped.Goes r h.0 h.1 (record { tried = a; keeps = (refl, omega arith) })
+sent_closed log log' s s' r (step.Failed e) a (inl h) = sent_as log log' s s' (record s { doing = owes }) (stepped.Gives (try.Failed e)) r h.1 h.2 (sent_end log log' s (record s { doing = owes }) (stepped.Gives (try.Failed e)) 0 refl tt a)
+sent_closed log log' s s' r (step.Failed e) a (inr h) = sent_as log log' s s' (record s { doing = renewed }) stepped.Goes r h.1 h.2 (record { tried = a; keeps = (refl, omega arith) })
+
+places_at : (s : ClientStream) (d : Doing) → s.doing ≡ d → places s ≡ places_by d s.cursor
+places_at s d is = ap (λ (x : Doing). places_by x s.cursor) is
+
+places_more : (s : ClientStream) (d : cursors.Doing) → s.doing ≡ follows → s.cursor.doing ≡ d → places s ≡ more_places d
+places_more s d on is = places_at s follows on ∙ ap more_places is
+
+pub step_sent : (old new : Awaited) (log log' : Told) (wire : ℤ) (session : Option Session) (started : Bool) (s s' : ClientStream) (r : Stepped) → IsSound false s → DoesStep old new log log' wire session started s s' r → StepSent log log' s s' r
+step_sent old new log log' wire session started s s' r sound (finds on left quiet unstarted is answer) =
+    sent_as log log' s s' s stepped.Found r is answer (sent_end log log' s s stepped.Found (places s) refl tt (nothing log log' s (places s) quiet.log_same (omega arith)))
+step_sent old new log log' wire session started s s' r sound (looks on none_left said at quiet unstarted h) =
+    let many : 3 ≤ places s = let e : places s ≡ 3 = places_more s (holds said) on at in omega arith in
+    sent_looked false log log' s (at_rest s.cursor) said s' r (places s) (λ e. many) (nothing log log' s (places s) quiet.log_same (omega arith)) h
+step_sent old new log log' wire session started s s' r sound (ends on none_left at overs quiet unstarted is answer) =
+    sent_as log log' s s' s (stepped.Gives (try.Ready result.Exhausted)) r is answer (sent_end log log' s s (stepped.Gives (try.Ready result.Exhausted)) (places s) refl tt (nothing log log' s (places s) quiet.log_same (omega arith)))
+step_sent old new log log' wire session started s s' r sound (not_asked on none_left at may e by quiet unstarted is answer) = sent_quiet old new log log' s s' e r quiet is answer
+step_sent old new log log' wire session started s s' r sound (asks_more on none_left at may sending new_one h) =
+    sent_more old new log log' wire started s sending s' r sound on (record { session = session; asks_so = new_one.command_is }) new_one.single (places_more s rests on at ∙ ap asking_places (sym new_one.new)) h
+step_sent old new log log' wire session started s s' r sound (waits_more on none_left sending at h) =
+    let asking : IsAsking false s.cursor sending = subst (cursors.SoundBy false s.cursor) at sound.asks_its_own in
+    sent_more old new log log' wire started s sending s' r sound on (record { session = asking.session; asks_so = asking.waits_on.command_is }) asking.waits_on.single (places_more s (asks sending) on at) h
+step_sent old new log log' wire session started s s' r sound (not_resumed on e by quiet unstarted is answer) = sent_quiet old new log log' s s' e r quiet is answer
+step_sent old new log log' wire session started s s' r sound (resumes_now on sending new_one h) =
+    sent_resumption old new log log' wire started s sending s' r (record { wire = wire; session = session; resumes_so = new_one.command_is }) (places_at s owes on ∙ ap resuming_places (sym new_one.new)) h
+step_sent old new log log' wire session started s s' r sound (waits_resumption sending on h) =
+    let own : IsAggregate false s.aggregate sending = (subst (SoundBy false s) on sound.by).1 in
+    sent_resumption old new log log' wire started s sending s' r (record { wire = own.wire; session = own.session; resumes_so = own.command_is }) (places_at s (resumes sending) on) h
+step_sent old new log log' wire session started s s' r sound (closes before on unstarted came polls h) =
+    let by = subst (SoundBy false s) on sound.by in
+    sent_closed log log' s s' r came (subst (λ (n : ℕ). ClosingSent log log' s n came) (sym (places_at s (kills before) on)) (sent_closing old new log log' wire s before came by.2 by.3 polls)) h
+step_sent old new log log' wire session started s s' r sound (renews on said at quiet unstarted h) =
+    sent_looked true log log' s (at_rest s.cursor) said s' r (places s) (λ e. absurd cc) (nothing log log' s (places s) quiet.log_same (omega arith)) h
+
+-- ---- so many steps
+
+sent_on_step : (log mid log' : Told) (s t s' : ClientStream) (r : Stepped) → StepSent log mid s t stepped.Goes → StepSent mid log' t s' r → StepSent log log' s s' r
+sent_on_step log mid log' s t s' r a b = record {
+  tried = tried_on (IsAt s) log mid log' (places s) (places t) (step_places r s') a.tried
+      (record { commands = b.tried.commands; adds = b.tried.adds; falling = falling_later s t a.keeps.0 (places t) a.keeps.1 b.tried.commands (step_places r s') b.tried.falling });
+  keeps = keeps_by r b.keeps;
+}
+  where
+    falls_so : step_places r s' ≤ places t
+    falls_so = falls (IsAt t) (places t) b.tried.commands (step_places r s') b.tried.falling
+
+    by_poll : (p : TryPoll) → KeepsBy (try_ending p) t s' → KeepsBy (try_ending p) s s'
+    by_poll try.Pending k = k ∙ a.keeps.0
+    by_poll (try.Ready x) k = tt
+    by_poll (try.Failed e) k = tt
+
+    keeps_by : (x : Stepped) → StepKeeps x t s' → StepKeeps x s s'
+    keeps_by stepped.Goes k = (k.0 ∙ a.keeps.0, k.1)
+    keeps_by stepped.Found k = tt
+    keeps_by (stepped.Gives p) k = by_poll p k
+
+pub steps_sent : (n : ℕ) (old new : Awaited) (log log' : Told) (wire : ℤ) (session : Option Session) (starts : ℕ) (again : Bool) (s s' : ClientStream) (r : Stepped) → IsSound false s → DoesSteps n old new log log' wire session starts again s s' r → StepSent log log' s s' r
+unfolding DoesSteps
+steps_sent zero old new log log' wire session starts again s s' r sound h = step_sent old new log log' wire session h.started s s' r sound h.does
+steps_sent (suc n) old new log log' wire session starts again s s' r sound h =
+    let t = h.4 in
+    sent_on_step log h.1 log' s t s' r (step_sent old h.0 log h.1 wire session h.2 s t stepped.Goes sound h.5)
+    (steps_sent n h.0 new h.1 log' wire (session_after h.2 session) h.3 again t s' r (step_sound false old h.0 log h.1 wire session h.2 s t stepped.Goes sound tt h.5) h.7)
+
+-- ---- calls
+
+-- what is sent by a call is that of the stream without what it lends
+poll_sent : (log log' : Told) (s s' : ClientStream) (ending : Ending) → PollSent log log' (let_go s) s' ending → PollSent log log' s s' ending
+poll_sent log log' s s' ending h = record {
+  commands = h.commands;
+  adds = h.adds;
+  falling = falling_as s (let_go s) (same_at s (let_go s) refl refl) (places s) h.commands (places_behind ending s') h.falling;
+  keeps = keeps_by ending h.keeps;
+}
+  where
+    keeps_by : (x : Ending) → KeepsBy x (let_go s) s' → KeepsBy x s s'
+    keeps_by pending k = k
+    keeps_by finished k = tt
+    keeps_by (failed e) k = tt
+
+-- a call has ended, whatever it gave
+over_sent : (log log' : Told) (s left s' : ClientStream) (r : Stepped) (ending : Ending) → places_behind ending s' ≡ 0 → KeepsBy ending s s' → StepSent log log' s left r → PollSent log log' s s' ending
+over_sent log log' s left s' r ending none_left keeps h = record {
+  commands = h.tried.commands;
+  adds = h.tried.adds;
+  falling = subst (λ (n : ℕ). Falling (IsAt s) (places s) h.tried.commands n) (sym none_left) (falling_below (IsAt s) (places s) h.tried.commands (step_places r left) 0 h.tried.falling (omega arith));
+  keeps = keeps;
+}
+
+pending_sent : (log log' : Told) (s left s' : ClientStream) → s' ≡ left → StepSent log log' s left (stepped.Gives try.Pending) → PollSent log log' s s' pending
+pending_sent log log' s left s' is h = subst (λ (x : ClientStream). PollSent log log' s x pending) (sym is) (record { commands = h.tried.commands; adds = h.tried.adds; falling = h.tried.falling; keeps = h.keeps })
+
+lent_sent : (log log' : Told) (s left lent s' : ClientStream) (came : Stepped) (r : TryPoll) → StepSent log log' s left came → LendsBehind came left lent r → s' ≡ kept_behind (try_ending r) lent → PollSent log log' s s' (try_ending r)
+lent_sent log log' s left lent s' stepped.Goes r h behind kept = absurd behind
+lent_sent log log' s left lent s' stepped.Found try.Pending h behind kept = absurd behind
+lent_sent log log' s left lent s' stepped.Found (try.Ready x) h behind kept = over_sent log log' s left s' stepped.Found finished refl tt h
+lent_sent log log' s left lent s' stepped.Found (try.Failed e) h behind kept = over_sent log log' s left s' stepped.Found (failed e) refl tt h
+lent_sent log log' s left lent s' (stepped.Gives p) try.Pending h behind kept = pending_sent log log' s left s' (kept ∙ behind.0) (subst (λ (x : TryPoll). StepSent log log' s left (stepped.Gives x)) (sym behind.1) h)
+lent_sent log log' s left lent s' (stepped.Gives p) (try.Ready x) h behind kept = over_sent log log' s left s' (stepped.Gives p) finished refl tt h
+lent_sent log log' s left lent s' (stepped.Gives p) (try.Failed e) h behind kept = over_sent log log' s left s' (stepped.Gives p) (failed e) refl tt h
+
+pub lends_sent : (n : ℕ) (plain : Bool) (old new : Awaited) (log log' : Told) (wire : ℤ) (session : Option Session) (starts : ℕ) (s s' : ClientStream) (r : TryPoll) → IsSound plain s → CallLends n old new log log' wire session starts s s' r → TrySent log log' s s' r
+lends_sent n plain old new log log' wire session starts s s' r sound h =
+    poll_sent log log' s s' (try_ending r)
+    (lent_sent log log' (let_go s) h.left h.lent s' h.came r (steps_sent n old new log log' wire session starts h.again (let_go s) h.left h.came (sound_as false s (let_go s) refl refl refl refl (sound_any plain s sound)) h.does) h.lends h.kept)
+
+pends_by : (p : TryPoll) → poll.Pending ≡ without_event p → p ≡ try.Pending
+pends_by try.Pending h = refl
+pends_by (try.Ready x) h = absurd cc
+pends_by (try.Failed e) h = absurd cc
+
+copied_sent : (log log' : Told) (s left copied s' : ClientStream) (came : Stepped) (r : EventPoll) → StepSent log log' s left came → CopiesBehind came left copied r → s' ≡ kept_behind (event_ending r) copied → PollSent log log' s s' (event_ending r)
+copied_sent log log' s left copied s' stepped.Goes r h behind kept = absurd behind
+copied_sent log log' s left copied s' stepped.Found poll.Pending h behind kept = absurd behind
+copied_sent log log' s left copied s' stepped.Found (poll.Ready x) h behind kept = over_sent log log' s left s' stepped.Found finished refl tt h
+copied_sent log log' s left copied s' stepped.Found (poll.Failed e) h behind kept = over_sent log log' s left s' stepped.Found (failed e) refl tt h
+copied_sent log log' s left copied s' (stepped.Gives p) poll.Pending h behind kept = pending_sent log log' s left s' (kept ∙ behind.0) (subst (λ (x : TryPoll). StepSent log log' s left (stepped.Gives x)) (pends_by p behind.1) h)
+copied_sent log log' s left copied s' (stepped.Gives p) (poll.Ready x) h behind kept = over_sent log log' s left s' (stepped.Gives p) finished refl tt h
+copied_sent log log' s left copied s' (stepped.Gives p) (poll.Failed e) h behind kept = over_sent log log' s left s' (stepped.Gives p) (failed e) refl tt h
+
+pub copies_sent : (n : ℕ) (plain : Bool) (old new : Awaited) (log log' : Told) (wire : ℤ) (session : Option Session) (starts : ℕ) (s s' : ClientStream) (r : EventPoll) → IsSound plain s → CallCopies n old new log log' wire session starts s s' r → CallSent log log' s s' r
+copies_sent n plain old new log log' wire session starts s s' r sound h =
+    poll_sent log log' s s' (event_ending r)
+    (copied_sent log log' (let_go s) h.left h.copied s' h.came r (steps_sent n old new log log' wire session starts h.again (let_go s) h.left h.came (sound_as false s (let_go s) refl refl refl refl (sound_any plain s sound)) h.does) h.copies h.kept)
 
 -- ---- a call that seeks an event
 
-sought_at : (c : CursorInformation) (a : ChangeStreamAggregate) (wire : ℤ) (place : ℕ) (command : Fields) → IsAt c a wire place command → IsSought a.args wire command
-sought_at c a wire zero command h = kills h
-sought_at c a wire (suc zero) command h = resumes a refl h
-sought_at c a wire (suc (suc zero)) command h = resumes a refl h
-sought_at c a wire (suc (suc (suc zero))) command h = asks c h
-sought_at c a wire (suc (suc (suc (suc place)))) command h = absurd h
+sought_at : (s : ClientStream) (place : ℕ) (command : Fields) → IsAt s place command → IsSought s.aggregate.args command
+sought_at s zero command h = kills_one h
+sought_at s (suc zero) command h = resumes_it s.aggregate refl h
+sought_at s (suc (suc zero)) command h = resumes_it s.aggregate refl h
+sought_at s (suc (suc (suc zero))) command h = asks_for s.cursor h
+sought_at s (suc (suc (suc (suc place)))) command h = absurd h
 
-all_sought : (c : CursorInformation) (a : ChangeStreamAggregate) (wire : ℤ) (n : ℕ) (cs : List Fields) (m : ℕ) → Falling (IsAt c a wire) n cs m → AreSought a.args wire cs
-all_sought c a wire n [] m f = tt
-all_sought c a wire n (x ∷ cs) m f = (sought_at c a wire f.0 x f.2, all_sought c a wire f.0 cs m f.3)
+all_sought : (s : ClientStream) (n : ℕ) (cs : List Fields) (m : ℕ) → Falling (IsAt s) n cs m → AreSought s.aggregate.args cs
+all_sought s n [] m f = tt
+all_sought s n (x ∷ cs) m f = (sought_at s f.0 x f.2, all_sought s f.0 cs m f.3)
 
-both_sought : (args : WatchArgs) (wire : ℤ) (cs ds : List Fields) → AreSought args wire cs → AreSought args wire ds → AreSought args wire (cs ++ ds)
-both_sought args wire [] ds p q = q
-both_sought args wire (x ∷ cs) ds p q = (p.0, both_sought args wire cs ds p.1 q)
+both_sought : (args : WatchArgs) (cs ds : List Fields) → AreSought args cs → AreSought args ds → AreSought args (cs ++ ds)
+both_sought args [] ds p q = q
+both_sought args (x ∷ cs) ds p q = (p.0, both_sought args cs ds p.1 q)
 
-pub seek_sent_none : (log : Told) (wire : ℤ) (args : WatchArgs) → SeekSent log log wire args
-seek_sent_none log wire args = record { commands = []; adds = sent_none log log refl; sought = tt }
+sought_step : (log log' : Told) (s s' : ClientStream) (r : Stepped) → StepSent log log' s s' r → SeekSent log log' s.aggregate.args
+sought_step log log' s s' r h = record { commands = h.tried.commands; adds = h.tried.adds; sought = all_sought s (places s) h.tried.commands (step_places r s') h.tried.falling }
 
-pub seek_sent_step : (log log' : Told) (wire : ℤ) (p : Phase) (s s' : ChangeStream) (r : Stepped) → StepSent log log' wire p s s' r → SeekSent log log' wire s.aggregate.args
-seek_sent_step log log' wire p s s' r a = record { commands = a.commands; adds = a.adds; sought = all_sought s.cursor s.aggregate wire (places p) a.commands (step_places r s'.phase) a.falling }
+sought_on : (log mid log' : Told) (args args' : WatchArgs) → args' ≡ args → SeekSent log mid args → SeekSent mid log' args' → SeekSent log log' args
+sought_on log mid log' args args' same a b = record {
+  commands = a.commands ++ b.commands;
+  adds = sent_on log mid log' a.commands b.commands a.adds b.adds;
+  sought = both_sought args a.commands b.commands a.sought (subst (λ (x : WatchArgs). AreSought x b.commands) same b.sought);
+}
 
-pub seek_sent_on : (log mid log' : Told) (wire wire' : ℤ) (args args' : WatchArgs) → wire' ≡ wire → args' ≡ args → SeekSent log mid wire args → SeekSent mid log' wire' args' → SeekSent log log' wire args
-seek_sent_on log mid log' wire wire' args args' same at a b =
-    let later : AreSought args wire b.commands = subst (λ (x : WatchArgs). AreSought x wire b.commands) at (subst (λ (w : ℤ). AreSought args' w b.commands) same b.sought) in
-    record { commands = a.commands ++ b.commands; adds = sent_on log mid log' a.commands b.commands a.adds b.adds; sought = both_sought args wire a.commands b.commands a.sought later }
+pub seeks_sent : (n : ℕ) (plain : Bool) (old new : Awaited) (log log' : Told) (wire : ℤ) (session : Option Session) (starts : ℕ) (s s' : ClientStream) (r : EventPoll) → IsSound plain s → SeeksEvent n old new log log' wire session starts s s' r → SeekSent log log' s.aggregate.args
+unfolding SeeksEvent
+seeks_sent zero plain old new log log' wire session starts s s' r sound h = sought_step log log' s h.left h.came (steps_sent h.steps old new log log' wire session starts h.again s h.left h.came (sound_any plain s sound) h.does)
+seeks_sent (suc n) plain old new log log' wire session starts s s' r sound h =
+    let on = h.5 in
+    let t = h.4 in
+    let any = sound_any plain s sound in
+    let gone = steps_went on.steps false old h.0 log h.1 wire session h.2 on.again s on.left on.came any tt on.does in
+    let counted_sound = sound_as false on.left t (ap (λ (x : ClientStream). x.aggregate) on.goes.counts) (ap (λ (x : ClientStream). x.cursor) on.goes.counts) (ap (λ (x : ClientStream). x.behind) on.goes.counts) (ap (λ (x : ClientStream). x.doing) on.goes.counts) gone.sound in
+    sought_on log h.1 log' s.aggregate.args t.aggregate.args (ap (λ (x : ClientStream). x.aggregate.args) on.goes.counts ∙ gone.turned.args)
+    (sought_step log h.1 s on.left on.came (steps_sent on.steps old h.0 log h.1 wire session h.2 on.again s on.left on.came any on.does))
+    (seeks_sent n false h.0 new h.1 log' wire (session_behind h.2 session) h.3 t s' r counted_sound h.7)

@@ -1,5 +1,5 @@
 -- An aggregate that no server takes: what it asks for, and what comes of it.
-use Rattle.std.proofs.Common.{◌≡◌, ℕ, zero, suc, ℤ, List, [], ◌∷◌, ◌++◌, Option, Some, None, option_map, refl, sym, ap, ◌∙◌, subst, inl, inr, length, true}
+use Rattle.std.proofs.Common.{◌≡◌, ℕ, zero, suc, ℤ, Bool, List, [], ◌∷◌, ◌++◌, Option, Some, None, option_map, refl, sym, ap, ◌∙◌, subst, inl, inr, length}
 use Rattle.std.specs.Prelude.{option_and_then, slice_get}
 use Rattle.mg_bson.specs.Raw.{fields}
 use Rattle.mg_link.specs.declared.action.Step.{Step}
@@ -15,26 +15,27 @@ use Rattle.mg_link.specs.Link.{Awaited, Told}
 use Rattle.mg_link.specs.Log.{Call, Sight, reply, see, waiting}
 use Rattle.mg_link.specs.Namespace.{Target, target}
 use Rattle.mg_link.specs.Owner.{Passes, nobody}
+use Rattle.mg_link.specs.Session.{Session}
 use Rattle.mg_link.specs.Standing.{Names, SeenFits}
 use Rattle.mg_link.specs.State.{Start, State}
 use Rattle.mg_link.specs.Step.{May, MayTell, grown}
 use Rattle.mg_link.specs.State as state
+use Rattle.mg_link.proofs.Execs.{runs_of}
 use Rattle.mg_link.proofs.Heard.{told_heard}
 use Rattle.mg_link.proofs.Owners.{legal_parts, same_some, see_here}
 use Rattle.mg_link.proofs.Places.{get_seam}
 use Rattle.mg_link.proofs.Killing.{PassesPlain, plain_ran, plain_stayed}
 use Rattle.mg_ops.specs.Aims.{Aim, aim, asked_for}
 use Rattle.mg_ops.specs.Naming.{start_in}
-use Rattle.mg_ops.specs.declared.aggregate.ChangeStreamAggregate.{ChangeStreamAggregate}
 use Rattle.mg_ops.specs.declared.change_stream.WatchArgs.{WatchArgs}
-use Rattle.mg_ops.proofs.Asking.{asks_as_aimed_plainly}
+use Rattle.mg_ops.proofs.Asking.{asks_as_aimed}
+use Rattle.mg_change.specs.ClientOpenings.{ClientOpening, HearsOpening, IsSoundOpening, OpensStream, RunsOpening, SendsSoundly, begins, broke, first_aggregate, goes_on, not_built, opened, opened_with}
+use Rattle.mg_change.specs.ClientStreams.{ClientStream}
 use Rattle.mg_change.specs.Following.{AsksNothing}
 use Rattle.mg_change.specs.Growths.{HasCommand, IsInFlight, OpensInVain, StandsNowhere}
-use Rattle.mg_change.specs.Openings.{IsNextSent, opening_command}
-use Rattle.mg_change.specs.Phases.{Carries}
-use Rattle.mg_change.specs.declared.opening.Opening.{Opening}
-use Rattle.mg_change.specs.declared.stream.ChangeStream.{ChangeStream}
 use Rattle.mg_change.proofs.Growths.{grows_tried}
+use Rattle.mg_change.proofs.Opened.{first_is}
+use Rattle.mg_change.proofs.Turning.{IsResumption}
 
 -- ---- what is asked for
 
@@ -45,9 +46,9 @@ none_found (Some c) None t never = refl
 none_found (Some c) (Some b) None never = refl
 none_found (Some c) (Some b) (Some g) never = absurd (never c b g refl refl refl)
 
-asks_nothing : (a : WatchArgs) (command : List ℕ) → AsksNothing a → fields command ≡ opening_command a → asked command ≡ asks_other
-asks_nothing a command none is =
-    asks_as_aimed_plainly command (target a.target) a.pipeline.items a.options is
+asks_nothing : (a : WatchArgs) (sending : Sending) → AsksNothing a → IsResumption (first_aggregate a) sending → asked sending.command ≡ asks_other
+asks_nothing a sending none is =
+    asks_as_aimed sending.command (target a.target) a.pipeline.items a.options is.session is.command_is
     ∙ ap asked_for (none_found (filter_stages a.pipeline.items) (start_in a.options) (aim a.options (target a.target)) (λ c b g by from aimed. none (record { target = g; filter = c }) b (record { aimed = aimed; by = by; from = from })))
 
 -- ---- it is always refused
@@ -127,9 +128,9 @@ holding_ticket unsent ticket = refl
 holding_ticket (first given) ticket = refl
 holding_ticket (second given) ticket = refl
 
-module _ (a : WatchArgs) (none : AsksNothing a) (exec : Sending) (carries : Carries exec (opening_command a) true) (old new : Awaited) (log log' : Told) (wire : ℤ) where
+module _ (a : WatchArgs) (none : AsksNothing a) (exec : Sending) (is_first : IsResumption (first_aggregate a) exec) (old new : Awaited) (log log' : Told) (wire : ℤ) where
   asks : asked exec.command ≡ asks_other
-  asks = asks_nothing a exec.command none carries.command_is
+  asks = asks_nothing a exec none is_first
 
   passes : (result : Step Sending (List ℕ)) → Runs old new log log' wire exec result → PassesPlain log log'
   passes result runs = plain_ran exec.command (λ x names. subst (λ (c : Asked). Names c x) asks names) old new log log' wire exec result refl runs
@@ -158,33 +159,52 @@ module _ (a : WatchArgs) (none : AsksNothing a) (exec : Sending) (carries : Carr
       subst (λ (e : Sending). HasCommand new calls' e.command (ticket_of e)) (sym g.2) here
 
   -- It waits still.
-  pub vainly_held : (exec' : Sending) → Runs old new log log' wire exec (step.Pending exec') → (calls : List Call) → log ≡ Some calls → IsInFlight old calls (Some exec)
+  vainly_held : (exec' : Sending) → Runs old new log log' wire exec (step.Pending exec') → (calls : List Call) → log ≡ Some calls → IsInFlight old calls (Some exec)
       → (calls' : List Call) × (log' ≡ Some calls') × Passes calls calls' nobody nobody × IsInFlight new calls' (Some exec')
   vainly_held exec' runs calls told_log has =
       let p = passes (step.Pending exec') runs calls told_log in
       (p.0, p.1, p.2, held exec' calls p.0 told_log p.1 has runs)
 
   -- A reply came that no server may give.
-  pub vainly_came : (bytes : List ℕ) (s : ChangeStream) → Runs old new log log' wire exec (step.Done bytes) → OpensInVain old new log log' (Some exec) (step.Done s)
+  vainly_came : (bytes : List ℕ) (s : ClientStream) → Runs old new log log' wire exec (step.Done bytes) → OpensInVain old new log log' (Some exec) (step.Done s)
   vainly_came bytes s runs calls told_log has =
       let p = passes (step.Done bytes) runs calls told_log in
       (p.0, p.1, p.2, nowhere bytes calls p.0 told_log p.1 has runs)
 
-  pub vainly_failed : (result : Step Sending (List ℕ)) (e : Error) → Runs old new log log' wire exec result → OpensInVain old new log log' (Some exec) (step.Failed e)
+  vainly_failed : (result : Step Sending (List ℕ)) (e : Error) → Runs old new log log' wire exec result → OpensInVain old new log log' (Some exec) (step.Failed e)
   vainly_failed result e runs calls told_log has =
       let p = passes result runs calls told_log in
       (p.0, p.1, p.2, tt)
 
 -- nothing was sent between
-next_flight : (a : ChangeStreamAggregate) (wire : ℤ) (exec : Option Sending) (e : Sending) (awaited : Awaited) (calls : List Call) → IsNextSent a wire exec e → IsInFlight awaited calls exec → IsInFlight awaited calls (Some e)
-next_flight a wire None e awaited calls next has = subst (λ (st : Stage). HasCommand awaited calls e.command (ticket_at st)) (sym next.0) tt
-next_flight a wire (Some sent) e awaited calls next has = subst (λ (x : Sending). IsInFlight awaited calls (Some x)) (sym next) has
-
-pub next_vain : (a : ChangeStreamAggregate) (wire : ℤ) (exec : Option Sending) (e : Sending) (old new : Awaited) (log log' : Told) (result : Step Opening ChangeStream) → IsNextSent a wire exec e → OpensInVain old new log log' (Some e) result → OpensInVain old new log log' exec result
-next_vain a wire exec e old new log log' result next vain calls is has = vain calls is (next_flight a wire exec e old calls next has)
+new_flight : (sending : Sending) (awaited : Awaited) (calls : List Call) → sending.stage ≡ unsent → IsInFlight awaited calls (Some sending)
+new_flight sending awaited calls new = subst (λ (st : Stage). HasCommand awaited calls sending.command (ticket_at st)) (sym new) tt
 
 -- nothing was sent
-pub vainly_unsent : (exec : Option Sending) (old : Awaited) (log : Told) (e : Error) → OpensInVain old old log log exec (step.Failed e)
-vainly_unsent exec old log e calls is has =
-    let p = plain_stayed log log refl calls is in
+vainly_unsent : (exec : Option Sending) (old new : Awaited) (log log' : Told) (e : Error) → log' ≡ log → OpensInVain old new log log' exec (step.Failed e)
+vainly_unsent exec old new log log' e same calls is has =
+    let p = plain_stayed log log' same calls is in
     (p.0, p.1, p.2, tt)
+
+-- ---- a poll
+
+module _ (old new : Awaited) (log log' : Told) (wire : ℤ) (session : Option Session) (started : Bool) (o : ClientOpening) (r : Step ClientOpening ClientStream) (none : AsksNothing o.args) where
+  heard_in_vain : (sending : Sending) → IsResumption (first_aggregate o.args) sending → (came : Step Sending (List ℕ)) → Runs old new log log' wire sending came → HearsOpening wire o came r → OpensInVain old new log log' (Some sending) r
+  heard_in_vain sending is (step.Pending later) runs h =
+      subst (OpensInVain old new log log' (Some sending)) (sym h) (vainly_held o.args none sending is old new log log' wire later runs)
+  heard_in_vain sending is (step.Done bytes) runs (opened out opens answer) =
+      subst (OpensInVain old new log log' (Some sending)) (sym answer) (vainly_came o.args none sending is old new log log' wire bytes (opened_with o.args wire out) runs)
+  heard_in_vain sending is (step.Done bytes) runs (broke e by answer) =
+      subst (OpensInVain old new log log' (Some sending)) (sym answer) (vainly_failed o.args none sending is old new log log' wire (step.Done bytes) e runs)
+  heard_in_vain sending is (step.Failed e) runs h =
+      subst (OpensInVain old new log log' (Some sending)) (sym h) (vainly_failed o.args none sending is old new log log' wire (step.Failed e) e runs)
+
+  run_in_vain : (sending : Sending) → IsResumption (first_aggregate o.args) sending → RunsOpening old new log log' wire started o sending r → OpensInVain old new log log' (Some sending) r
+  run_in_vain sending is h = heard_in_vain sending is h.came (runs_of old new log log' wire sending h.came started h.runs) h.hears
+
+  pub opens_in_vain : (plain : Bool) → IsSoundOpening plain o → OpensStream old new log log' wire session started o r → OpensInVain old new log log' o.sending r
+  opens_in_vain plain sound (not_built unsent_so e fails nothing not_so answer) = subst (OpensInVain old new log log' o.sending) (sym answer) (vainly_unsent o.sending old new log log' e nothing.log_same)
+  opens_in_vain plain sound (begins unsent_so sending new_one h) = λ calls told_log has.
+      run_in_vain sending (record { wire = wire; session = session; command_is = new_one.command_is }) h calls told_log (new_flight sending old calls new_one.new)
+  opens_in_vain plain sound (goes_on sending is h) =
+      subst (λ (x : Option Sending). OpensInVain old new log log' x r) (sym is) (run_in_vain sending (first_is plain o.args sending (subst (SendsSoundly plain o.args) is sound)) h)

@@ -1,139 +1,126 @@
--- What the answers of a closing are caused by, over all its polls, and what it waits for.
-use Rattle.std.specs.Prelude.{◌≡◌, ◌≢◌, ◌⊎◌, true, false, ℕ, ℤ, List, [], length, Option, Some}
-use Rattle.mg_bson.specs.Tree.{Fields, Tree}
+-- What the answers of a closing are caused by, over all its polls.
+use Rattle.std.specs.Prelude.{◌≡◌, ◌≢◌, ◌⊎◌, false, ℕ, ℤ, pos, List, [], length, Some, Ok}
+use Rattle.mg_bson.specs.Raw.{fields}
+use Rattle.mg_bson.specs.Tree.{Fields}
 use Rattle.mg_link.specs.Calls.{Flies, HeardBy, HeardLast, IsAwaited, Keeps, NoneBroken, Past, RequestFails, past_of}
-use Rattle.mg_link.specs.Exec.{IsSuccess}
+use Rattle.mg_link.specs.Exec.{IsSuccess, Sending}
 use Rattle.mg_link.specs.Link.{Awaited, Told}
-use Rattle.mg_link.specs.Log.{reply, Call}
-use Rattle.mg_link.specs.Namespace.{space}
+use Rattle.mg_link.specs.Log.{Call, reply}
 use Rattle.mg_link.specs.declared.action.Step.{Step}
 use Rattle.mg_link.specs.declared.action.Step.TheVariants as step
 use Rattle.mg_link.specs.declared.error.Error.{Error}
 use Rattle.mg_link.specs.declared.error.ErrorKind.TheVariants as kind
-use Rattle.mg_ops.specs.Commands.{kill_command}
-use Rattle.mg_ops.specs.Cursors.{asking_command, manner_of, watch_manner}
+use Rattle.mg_ops.specs.Cursors.{Cursor, cursor_of}
 use Rattle.mg_ops.specs.Failing.{CannotBeSent}
-use Rattle.mg_ops.specs.declared.cursor_reply.CursorInformation.{CursorInformation}
-use Rattle.mg_change.specs.Causes.{TellsCursor, TellsNoCursor, cursor_behind}
-use Rattle.mg_change.specs.Closings.{ids_left}
-use Rattle.mg_change.specs.Phases.{resuming_command}
-use Rattle.mg_change.specs.declared.closing.Closing.{Closing}
-use Rattle.mg_change.specs.declared.closing.Remains.{Remains}
-use Rattle.mg_change.specs.declared.closing.Flight.{Flight}
-use Rattle.mg_change.specs.declared.closing.Flight.TheVariants as flight
+use Rattle.mg_cursor.specs.Causes.{FliesMore, HeardMore, MoreFails, TellsNoCursor}
+use Rattle.mg_cursor.specs.Client.{ClientCursor, asks, at_rest, behind_failure, behind_reply, holds, rests}
+use Rattle.mg_cursor.specs.Client as cursors
+use Rattle.mg_cursor.specs.Closing.{ClosingCursor, ClosingDone, ClosingFails, IsClosingUnderway, IsNotAsking}
+use Rattle.mg_change.specs.ClientStreams.{ClientStream}
+use Rattle.mg_change.specs.ClosingStreams.{ClosingStream, Landing, closed_stream, ends, ids_left, kill_left, lands, lands_aggregate, lands_older}
 
--- the command that kills what is left of a stream: its cursor, and one that a resumption in flight opened
-abbrev pub last_command : CursorInformation → ℤ → Fields
-last_command c opened = kill_command (space c.ns) (ids_left c.id opened)
+-- ---- how far it has come
 
--- how far the killing of what is left has come
-abbrev pub KillsSoFar : Awaited → Past → CursorInformation → ℤ → Flight → Type 0
-KillsSoFar awaited past c opened flight.Landed = Unit {0}
-KillsSoFar awaited past c opened (flight.More get_more exec) = ⊥
-KillsSoFar awaited past c opened (flight.Resumption exec) = ⊥
-KillsSoFar awaited past c opened (flight.Older exec id) = ⊥
-KillsSoFar awaited past c opened (flight.Last exec) = (ids_left c.id opened ≢ []) × Flies awaited past (last_command c opened) exec.stage
+-- by what is on its way; of the aggregate of a resumption the call knows its command
+abbrev pub UnderwayByCursor : Awaited → Past → ClientCursor → cursors.Doing → Type 0
+UnderwayByCursor awaited past c rests = Unit {0}
+UnderwayByCursor awaited past c (holds bytes) = Unit {0}
+UnderwayByCursor awaited past c (asks sending) = FliesMore awaited past c sending
 
--- the reply to the killing of what is left is waited for
-pub record KillWaits (awaited : Awaited) (past : Past) (c : CursorInformation) (opened : ℤ) : Type 0 where
-  pub some_left : ids_left c.id opened ≢ []
-  pub waits : IsAwaited awaited past (last_command c opened)
+abbrev pub UnderwayBy : Awaited → Past → ClosingStream → Landing → Type 0
+UnderwayBy awaited past k lands = UnderwayByCursor awaited past k.cursor k.cursor.doing
+UnderwayBy awaited past k (lands_aggregate sending) = Flies awaited past (fields sending.command) sending.stage
+UnderwayBy awaited past k (lands_older before) = IsClosingUnderway awaited past before
+UnderwayBy awaited past k (ends sending) = Flies awaited past (kill_left k) sending.stage
 
--- why what is left is not killed: the killCursors fails, or cannot be built
-abbrev pub NotKilled : Past → CursorInformation → ℤ → Error → Type 0
-NotKilled past c opened e = RequestFails past (last_command c opened) false NoneBroken e ⊎ CannotBeSent (last_command c opened) e
+abbrev pub IsUnderway : Awaited → Past → ClosingStream → Type 0
+IsUnderway awaited past k = UnderwayBy awaited past k k.doing
 
--- the killing fails only where something is left
-pub record KillFails (past : Past) (c : CursorInformation) (opened : ℤ) (e : Error) : Type 0 where
-  pub some_left : ids_left c.id opened ≢ []
-  pub why : NotKilled past c opened e
+-- ---- what was on its way as it began
 
--- why it is done: nothing is left; or the server answered with success
-pub data KillDone (past : Past) (c : CursorInformation) (opened : ℤ) : Type 0 where
-  none_left : ids_left c.id opened ≡ [] → KillDone past c opened
-  killed : ids_left c.id opened ≢ [] → (bytes : List ℕ) → HeardLast past (last_command c opened) false (reply bytes) → IsSuccess bytes → KillDone past c opened
+-- a getMore leaves its cursor: as it was or none behind a failure, or the one of the reply
+pub data MoreLeft (past : Past) (c left : ClientCursor) : Type 0 where
+  not_given : (e : Error) → MoreFails past c e → e.kind ≢ kind.OutOfMemory → left ≡ behind_failure e c → MoreLeft past c left
+  given : (bytes : List ℕ) (said : Cursor) → HeardMore past c bytes → cursor_of (fields bytes) ≡ Ok said → left ≡ behind_reply said c → MoreLeft past c left
 
--- what the killing of what is left comes to
-abbrev pub KillCame : {T : Type 0} → Awaited → Past → Remains → Step Closing T → Type 0
-KillCame awaited past r (step.Pending c) = (c.remains ≡ r) × KillsSoFar awaited past r.cursor r.opened c.flight
-KillCame awaited past r (step.Done t) = KillDone past r.cursor r.opened
-KillCame awaited past r (step.Failed e) = KillFails past r.cursor r.opened e
+-- the aggregate of a resumption leaves one cursor more, or none behind a failure
+pub data AggregateLeft (past : Past) (sending : Sending) (k left : ClosingStream) : Type 0 where
+  opened_none : (e : Error) → RequestFails past (fields sending.command) sending.retries TellsNoCursor e → e.kind ≢ kind.OutOfMemory → left ≡ record k { doing = lands } → AggregateLeft past sending k left
+  opened_one : (bytes : List ℕ) (said : Cursor) → HeardLast past (fields sending.command) sending.retries (reply bytes) → IsSuccess bytes → cursor_of (fields bytes) ≡ Ok said → left ≡ record k { opened = said.id; doing = lands } → AggregateLeft past sending k left
 
--- A poll led the killing of what is left on that had sent at these places before.
-abbrev pub KillCaused : {T : Type 0} → Awaited → Awaited → Told → Told → ℤ → Remains → Flight → Step Closing T → Type 0
-KillCaused old new log log' wire r f result = (calls : List Call) → log ≡ Some calls → (places : List ℕ) → KillsSoFar old (past_of places (length calls) calls wire) r.cursor r.opened f
-    → (calls' : List Call) × (log' ≡ Some calls') × KillCame new (past_of places (length calls) calls' wire) r result
+-- What is left to be killed: what was left as it began, or what the request on its way left.
+pub data LeftBy (past : Past) (k left : ClosingStream) : Type 0 where
+  same : k.doing ≡ lands → IsNotAsking k.cursor.doing → left ≡ record k { cursor = at_rest k.cursor } → LeftBy past k left
+  more : k.doing ≡ lands → (c : ClientCursor) → MoreLeft past k.cursor c → left ≡ record k { cursor = c } → LeftBy past k left
+  aggregate : (sending : Sending) → k.doing ≡ lands_aggregate sending → AggregateLeft past sending k left → LeftBy past k left
+  older : (before : ClosingCursor) → k.doing ≡ lands_older before → ClosingDone past before ⊎ ((e : Error) × ClosingFails past before e × (e.kind ≢ kind.OutOfMemory)) → left ≡ record k { doing = lands } → LeftBy past k left
+  killing : (sending : Sending) → k.doing ≡ ends sending → left ≡ k → LeftBy past k left
 
--- ---- the request of the stream that is in flight as it is closed
+-- ---- answers
 
--- how far it has come
-abbrev pub FliesSoFar : Awaited → Past → Remains → Flight → Type 0
-FliesSoFar awaited past r flight.Landed = ⊥
-FliesSoFar awaited past r (flight.More get_more exec) = Flies awaited past (asking_command r.cursor) exec.stage
-FliesSoFar awaited past r (flight.Resumption exec) = Flies awaited past (resuming_command r.aggregate past.wire) exec.stage
-FliesSoFar awaited past r (flight.Older exec id) = Unit {0}
-FliesSoFar awaited past r (flight.Last exec) = ⊥
+-- why it is done: nothing is left; or the server answered its killCursors with success
+pub data StreamDone (past : Past) (k : ClosingStream) : Type 0 where
+  nothing_left : (left : ClosingStream) → LeftBy past k left → ids_left left ≡ [] → StreamDone past k
+  killed : (left : ClosingStream) → LeftBy past k left → ids_left left ≢ [] → (bytes : List ℕ) → HeardBy past (kill_left left) (reply bytes) → IsSuccess bytes → StreamDone past k
 
--- what a getMore leaves that has ended
-pub data MoreLeft (past : Past) (r left : Remains) : Type 0 where
-  -- it failed, or the reply to it tells no cursor: the cursor as it was, or none where the server says that it holds it no longer
-  untold : (e : Error) → RequestFails past (asking_command r.cursor) false TellsNoCursor e → e.kind ≢ kind.OutOfMemory → left ≡ record r { cursor = cursor_behind e r.cursor } → MoreLeft past r left
-  -- the cursor that the reply tells
-  given : (bytes : List ℕ) (c : CursorInformation) (upto : Option Tree) → HeardBy past (asking_command r.cursor) (reply bytes) → IsSuccess bytes → TellsCursor bytes (manner_of r.cursor) c upto → left ≡ record r { cursor = c } → MoreLeft past r left
+-- why it fails: memory ran out, or its killCursors fails or cannot be built
+pub data StreamFails (past : Past) (k : ClosingStream) (e : Error) : Type 0 where
+  out_of_memory : e.kind ≡ kind.OutOfMemory → StreamFails past k e
+  not_killed : (left : ClosingStream) → LeftBy past k left → ids_left left ≢ [] → RequestFails past (kill_left left) false NoneBroken e ⊎ CannotBeSent (kill_left left) e → StreamFails past k e
 
--- what the aggregate of a resumption leaves that has ended
-pub data ResumptionLeft (past : Past) (r left : Remains) : Type 0 where
-  -- it failed, or the reply to it tells no cursor
-  untold : (e : Error) → RequestFails past (resuming_command r.aggregate past.wire) true TellsNoCursor e → e.kind ≢ kind.OutOfMemory → left ≡ r → ResumptionLeft past r left
-  -- one cursor more, which the reply tells
-  brought : (bytes : List ℕ) (c : CursorInformation) (upto : Option Tree) → HeardLast past (resuming_command r.aggregate past.wire) true (reply bytes) → IsSuccess bytes → TellsCursor bytes (watch_manner r.aggregate.args.options) c upto → left ≡ record r { opened = c.id } → ResumptionLeft past r left
+-- ---- the closing of a stream at rest
 
--- what the request leaves
-abbrev pub LeftBy : Past → Remains → Flight → Remains → Type 0
-LeftBy past r flight.Landed left = ⊥
-LeftBy past r (flight.More get_more exec) left = MoreLeft past r left
-LeftBy past r (flight.Resumption exec) left = ResumptionLeft past r left
-LeftBy past r (flight.Older exec id) left = left ≡ r
-LeftBy past r (flight.Last exec) left = ⊥
+-- Its closing, whose token was handed over or not: nothing of its cursor is lost by that.
+abbrev pub last_kill : ClientStream → Fields
+last_kill last = kill_left (closed_stream false last)
 
--- a failure that is answered is want of memory
-abbrev pub WantsMemory : {T : Type 0} → Step Closing T → Type 0
-WantsMemory (step.Pending c) = Unit {0}
-WantsMemory (step.Done t) = Unit {0}
-WantsMemory (step.Failed e) = e.kind ≡ kind.OutOfMemory
+-- what is left to be killed of it
+abbrev pub last_ids : ClientStream → List ℤ
+last_ids last = ids_left (closed_stream false last)
 
--- it waits still, has ended, or memory ran out
-abbrev pub LandCame : Awaited → Past → Remains → Flight → Step Closing Remains → Type 0
-LandCame awaited past r f (step.Pending c) = (c.remains ≡ r) × FliesSoFar awaited past r c.flight
-LandCame awaited past r f (step.Done left) = LeftBy past r f left
-LandCame awaited past r f (step.Failed e) = e.kind ≡ kind.OutOfMemory
+-- how far the killing has come
+abbrev pub LastBy : Awaited → Past → ClientStream → Landing → Type 0
+LastBy awaited past last lands = Unit {0}
+LastBy awaited past last (lands_aggregate sending) = ⊥
+LastBy awaited past last (lands_older before) = ⊥
+LastBy awaited past last (ends sending) = (last_ids last ≢ []) × Flies awaited past (last_kill last) sending.stage
 
--- a poll led it on
-abbrev pub LandRan : Awaited → Awaited → Told → Told → ℤ → Remains → Flight → Step Closing Remains → Type 0
-LandRan old new log log' wire r f landing = (calls : List Call) → log ≡ Some calls → (places : List ℕ) → FliesSoFar old (past_of places (length calls) calls wire) r f
-    → (calls' : List Call) × (log' ≡ Some calls') × Keeps calls calls' × LandCame new (past_of places (length calls) calls' wire) r f landing
+pub record LastSoFar (awaited : Awaited) (past : Past) (last : ClientStream) (k : ClosingStream) : Type 0 where
+  pub id_is : k.cursor.id ≡ last.cursor.id
+  pub space_is : k.cursor.space ≡ last.cursor.space
+  pub none_opened : k.opened ≡ pos 0
+  pub quiet : IsNotAsking k.cursor.doing
+  pub by : LastBy awaited past last k.doing
 
--- what comes behind it: the killing of what it left
-pub record Kills {T : Type 0} (awaited : Awaited) (past : Past) (r : Remains) (f : Flight) (result : Step Closing T) : Type 0 where
-  pub left : Remains
-  pub leaves : LeftBy past r f left
-  pub came : KillCame awaited past left result
+-- the reply to the killing of its cursor is waited for
+pub record LastWaits (awaited : Awaited) (past : Past) (last : ClientStream) : Type 0 where
+  pub some_left : last_ids last ≢ []
+  pub waits : IsAwaited awaited past (last_kill last)
 
--- it waits still, memory ran out, or what it left is killed
-abbrev pub CloseCame : {T : Type 0} → Awaited → Past → Remains → Flight → Step Closing T → Type 0
-CloseCame awaited past r f (step.Pending c) = ((c.remains ≡ r) × FliesSoFar awaited past r c.flight) ⊎ Kills {T = Unit {0}} awaited past r f (step.Pending c)
-CloseCame awaited past r f (step.Done t) = Kills awaited past r f (step.Done t)
-CloseCame awaited past r f (step.Failed e) = (e.kind ≡ kind.OutOfMemory) ⊎ Kills {T = Unit {0}} awaited past r f (step.Failed e)
+-- nothing was left, or the server answered its killCursors with success
+pub data LastDone (past : Past) (last : ClientStream) : Type 0 where
+  none_held : last_ids last ≡ [] → LastDone past last
+  was_killed : last_ids last ≢ [] → (bytes : List ℕ) → HeardBy past (last_kill last) (reply bytes) → IsSuccess bytes → LastDone past last
 
--- a poll of the closing led it on
-abbrev pub LandCaused : {T : Type 0} → Awaited → Awaited → Told → Told → ℤ → Remains → Flight → Step Closing T → Type 0
-LandCaused old new log log' wire r f result = (calls : List Call) → log ≡ Some calls → (places : List ℕ) → FliesSoFar old (past_of places (length calls) calls wire) r f
-    → (calls' : List Call) × (log' ≡ Some calls') × CloseCame new (past_of places (length calls) calls' wire) r f result
+-- it fails only where something is left: memory ran out, or its killCursors fails or cannot be built
+pub record LastFails (past : Past) (last : ClientStream) (e : Error) : Type 0 where
+  pub some_left : last_ids last ≢ []
+  pub why : (e.kind ≡ kind.OutOfMemory) ⊎ (RequestFails past (last_kill last) false NoneBroken e ⊎ CannotBeSent (last_kill last) e)
 
--- what an answer of a closing is caused by, by what was in flight
-abbrev pub ClosingCaused : {T : Type 0} → Awaited → Awaited → Told → Told → ℤ → Remains → Flight → Step Closing T → Type 0
-ClosingCaused old new log log' wire r flight.Landed result = KillCaused old new log log' wire r flight.Landed result
-ClosingCaused old new log log' wire r (flight.More get_more exec) result = LandCaused old new log log' wire r (flight.More get_more exec) result
-ClosingCaused old new log log' wire r (flight.Resumption exec) result = LandCaused old new log log' wire r (flight.Resumption exec) result
-ClosingCaused old new log log' wire r (flight.Older exec id) result = LandCaused old new log log' wire r (flight.Older exec id) result
-ClosingCaused old new log log' wire r (flight.Last exec) result = KillCaused old new log log' wire r (flight.Last exec) result
+-- ---- polls
+
+-- it waits for what was on its way still, or for the killing of what that left
+pub record StreamWaits (awaited : Awaited) (past : Past) (k now : ClosingStream) : Type 0 where
+  pub underway : IsUnderway awaited past now
+  pub token_is : now.token ≡ k.token
+  pub cursor_by : (at_rest now.cursor ≡ at_rest k.cursor) ⊎ ((left : ClosingStream) × LeftBy past k left × (now.cursor ≡ left.cursor) × (now.opened ≡ left.opened))
+
+abbrev pub ClosingCame : Awaited → Past → ClosingStream → Step ClosingStream (Unit {0}) → Type 0
+ClosingCame awaited past k (step.Pending now) = StreamWaits awaited past k now
+ClosingCame awaited past k (step.Done t) = StreamDone past k
+ClosingCame awaited past k (step.Failed e) = StreamFails past k e
+
+-- A poll led a closing on that had sent at these places before.
+abbrev pub ClosingCaused : Awaited → Awaited → Told → Told → ℤ → ClosingStream → Step ClosingStream (Unit {0}) → Type 0
+ClosingCaused old new log log' wire k r = (calls : List Call) → log ≡ Some calls → (places : List ℕ) → IsUnderway old (past_of places (length calls) calls wire) k
+    → (calls' : List Call) × (log' ≡ Some calls') × Keeps calls calls' × ClosingCame new (past_of places (length calls) calls' wire) k r

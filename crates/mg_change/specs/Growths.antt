@@ -9,8 +9,8 @@ use Rattle.mg_link.specs.Link.{Awaited, Told}
 use Rattle.mg_link.specs.Log.{Call}
 use Rattle.mg_link.specs.Owner.{Onward, Passes, nobody}
 use Rattle.mg_link.specs.Standing.{Stands}
-use Rattle.mg_change.specs.declared.opening.Opening.{Opening}
-use Rattle.mg_change.specs.declared.stream.ChangeStream.{ChangeStream}
+use Rattle.mg_change.specs.ClientOpenings.{ClientOpening}
+use Rattle.mg_change.specs.ClientStreams.{ClientStream}
 
 -- Each call is still there, what was seen is still seen, and where the log stands in a legal history it stood in an earlier one.
 abbrev pub Grows : Told → Told → Type 0
@@ -33,12 +33,12 @@ IsInFlight awaited calls None = Unit {0}
 IsInFlight awaited calls (Some exec) = HasCommand awaited calls exec.command (ticket_of exec)
 
 -- what came of it: over an honest link it is refused
-abbrev pub ComesToNothing : Awaited → List Call → Step Opening ChangeStream → Type 0
-ComesToNothing awaited calls (step.Pending o) = IsInFlight awaited calls o.exec
+abbrev pub ComesToNothing : Awaited → List Call → Step ClientOpening ClientStream → Type 0
+ComesToNothing awaited calls (step.Pending o) = IsInFlight awaited calls o.sending
 ComesToNothing awaited calls (step.Done s) = StandsNowhere calls
 ComesToNothing awaited calls (step.Failed e) = Unit {0}
 
 -- the poll of an opening that asks for nothing: it names no cursor and opens none
-abbrev pub OpensInVain : Awaited → Awaited → Told → Told → Option Sending → Step Opening ChangeStream → Type 0
+abbrev pub OpensInVain : Awaited → Awaited → Told → Told → Option Sending → Step ClientOpening ClientStream → Type 0
 OpensInVain old new log log' exec result = (calls : List Call) → log ≡ Some calls → IsInFlight old calls exec
     → (calls' : List Call) × (log' ≡ Some calls') × Passes calls calls' nobody nobody × ComesToNothing new calls' result

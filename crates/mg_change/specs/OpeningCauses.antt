@@ -1,73 +1,58 @@
 -- What the answers of an opening are caused by, over all its polls.
-use Rattle.std.specs.Prelude.{◌≡◌, ◌⊎◌, ◌↔◌, IsTrue, Bool, true, false, ℕ, ℤ, List, [], length, Option, Some, None, option_map}
-use Rattle.mg_bson.specs.Tree.{no_items}
+use Rattle.std.specs.Prelude.{◌≡◌, ℕ, ℤ, List, length, Option, Some, None}
 use Rattle.mg_bson.specs.Raw.{fields}
-use Rattle.mg_link.specs.Calls.{Flies, HeardLast, Past, RequestFails, past_of}
+use Rattle.mg_bson.specs.declared.tree.Timestamp.{Timestamp}
+use Rattle.mg_link.specs.Calls.{Flies, HeardLast, Keeps, Past, RequestFails, past_of}
+use Rattle.mg_link.specs.Errors.{plain}
 use Rattle.mg_link.specs.Exec.{IsSuccess, Sending}
-use Rattle.mg_link.specs.Follow.{Moved}
 use Rattle.mg_link.specs.Link.{Awaited, Told}
-use Rattle.mg_link.specs.Log.{reply, Call}
-use Rattle.mg_link.specs.State.{Start, Watch}
+use Rattle.mg_link.specs.Log.{Call, reply}
+use Rattle.mg_link.specs.Session.{Session}
 use Rattle.mg_link.specs.declared.action.Step.{Step}
 use Rattle.mg_link.specs.declared.action.Step.TheVariants as step
 use Rattle.mg_link.specs.declared.error.Error.{Error}
-use Rattle.mg_ops.specs.Cursors.{operation_time, time_parts, watch_manner}
-use Rattle.mg_ops.specs.declared.aggregate.ChangeStreamAggregate.{ChangeStreamAggregate}
+use Rattle.mg_link.specs.declared.error.ErrorKind.TheVariants as kind
 use Rattle.mg_ops.specs.declared.change_stream.WatchArgs.{WatchArgs}
-use Rattle.mg_bson.specs.declared.tree.Timestamp.{Timestamp}
-use Rattle.mg_change.specs.Causes.{CannotBuild, Standing, TellsCursor, TellsNoCursor, standing_of}
-use Rattle.mg_change.specs.Following.{Asks, follow_of, opening_in}
-use Rattle.mg_change.specs.Openings.{IsOpening, first_known, opening_command}
-use Rattle.mg_change.specs.declared.opening.Opening.{Opening}
-use Rattle.mg_change.specs.declared.stream.ChangeStream.{ChangeStream}
+use Rattle.mg_ops.specs.declared.cursor_reply.CursorSpecification.{CursorSpecification}
+use Rattle.mg_cursor.specs.Causes.{TellsNoCursor}
+use Rattle.mg_change.specs.ClientOpenings.{ClientOpening, first_aggregate, opened_with}
+use Rattle.mg_change.specs.ClientStreams.{ClientStream, is_read_again, resuming_in}
+use Rattle.mg_change.specs.Steps.{CannotResume, OpensBy}
 
--- how far an opening has come
+-- its aggregate, which it sent in this session where there is one, has come so far
+pub record FliesFirst (awaited : Awaited) (past : Past) (args : WatchArgs) (sending : Sending) : Type 0 where
+  pub session : Option Session
+  pub command_is : fields sending.command ≡ resuming_in (first_aggregate args) past.wire session
+  pub retries_is : sending.retries ≡ is_read_again session
+  pub flies : Flies awaited past (resuming_in (first_aggregate args) past.wire session) sending.stage
+
 abbrev pub OpensSoFar : Awaited → Past → WatchArgs → Option Sending → Type 0
 OpensSoFar awaited past args None = Unit {0}
-OpensSoFar awaited past args (Some exec) = Flies awaited past (opening_command args) exec.stage
+OpensSoFar awaited past args (Some sending) = FliesFirst awaited past args sending
 
--- why an opening fails: its aggregate does, or the reply to it tells no cursor; or it cannot be built
-abbrev pub OpeningFails : Past → WatchArgs → Error → Type 0
-OpeningFails past args e = RequestFails past (opening_command args) true TellsNoCursor e ⊎ CannotBuild args.options.batch_size (opening_command args) e
+-- why an opening fails: memory runs out; or its aggregate fails, or the reply to it tells no cursor; or it cannot be built
+pub data OpeningFails (past : Past) (session : Option Session) (args : WatchArgs) (e : Error) : Type 0 where
+  out_of_memory : e ≡ plain kind.OutOfMemory → OpeningFails past session args e
+  request : (sent : Option Session) → RequestFails past (resuming_in (first_aggregate args) past.wire sent) (is_read_again sent) TellsNoCursor e → OpeningFails past session args e
+  not_built : CannotResume (first_aggregate args) past.wire session e → OpeningFails past session args e
 
--- the stream that was opened: the reply is in hand, its cursor is the stream's, and the stream remembers what a new one does
-pub record Opened (past : Past) (args : WatchArgs) (first : Standing) : Type 0 where
-  pub args_are : first.aggregate.args ≡ args
+-- the stream that was opened, by this reply
+pub record Opened (past : Past) (args : WatchArgs) (s : ClientStream) : Type 0 where
   pub bytes : List ℕ
-  pub heard : HeardLast past (opening_command args) true (reply bytes)
+  pub session : Option Session
+  pub heard : HeardLast past (resuming_in (first_aggregate args) past.wire session) (is_read_again session) (reply bytes)
   pub success : IsSuccess bytes
-  pub in_hand : first.first ≡ Some bytes
-  pub none_yet : first.events ≡ []
-  pub quits : first.owes ≡ false
-  pub tells : TellsCursor bytes (watch_manner args.options) first.cursor first.upto
-  pub is_empty : Bool
-  pub empty : IsTrue is_empty ↔ (tells.batch ≡ no_items)
-  pub time : Option Timestamp
-  pub time_is : option_map time_parts time ≡ operation_time (fields bytes)
-  pub known : first.aggregate.resume ≡ Some (first_known args past.wire is_empty first.upto time)
+  pub out : CursorSpecification × Option Timestamp
+  pub opens : OpensBy (first_aggregate args) bytes out
+  pub stream_is : s ≡ opened_with args past.wire out
 
 -- what a poll of an opening comes to
-abbrev pub OpeningCame : Awaited → Past → WatchArgs → Step Opening ChangeStream → Type 0
-OpeningCame awaited past args (step.Pending o) = OpensSoFar awaited past args o.exec
-OpeningCame awaited past args (step.Done s) = Opened past args (standing_of s)
-OpeningCame awaited past args (step.Failed e) = OpeningFails past args e
+abbrev pub OpeningCame : Awaited → Past → Option Session → WatchArgs → Step ClientOpening ClientStream → Type 0
+OpeningCame awaited past session args (step.Pending o) = OpensSoFar awaited past args o.sending
+OpeningCame awaited past session args (step.Done s) = Opened past args s
+OpeningCame awaited past session args (step.Failed e) = OpeningFails past session args e
 
 -- A poll led an opening on that had sent at these places before.
-abbrev pub OpeningCaused : Awaited → Awaited → Told → Told → ℤ → WatchArgs → Option Sending → Step Opening ChangeStream → Type 0
-OpeningCaused old new log log' wire args exec result = (calls : List Call) → log ≡ Some calls → (places : List ℕ) → OpensSoFar old (past_of places (length calls) calls wire) args exec
-    → (calls' : List Call) × (log' ≡ Some calls') × OpeningCame new (past_of places (length calls) calls' wire) args result
-
--- ---- where
-
--- A stream was opened by the call of the log at whose place its aggregate heard the reply: from there on the stream knows what it watches.
-pub record OpenedAt (old new : Awaited) (log log' : Told) (wire : ℤ) (a : ChangeStreamAggregate) (exec : Option Sending) (s : ChangeStream) : Type 0 where
-  pub place : Option ℕ
-  pub moved : IsOpening a exec → (w : Watch) (start : Start) → Asks a.args w start → Moved log log' (opening_in old exec w start) (follow_of new w start s place [])
-  pub caused : IsOpening a exec → (calls : List Call) → log ≡ Some calls → (places : List ℕ) → OpensSoFar old (past_of places (length calls) calls wire) a.args exec
-      → (calls' : List Call) × (log' ≡ Some calls') × (opened : Opened (past_of places (length calls) calls' wire) a.args (standing_of s)) × (place ≡ Some opened.heard.place)
-
--- so does each poll that opens one
-abbrev pub PollOpensAt : Awaited → Awaited → Told → Told → ℤ → ChangeStreamAggregate → Option Sending → Step Opening ChangeStream → Type 0
-PollOpensAt old new log log' wire a exec (step.Pending o) = Unit {0}
-PollOpensAt old new log log' wire a exec (step.Done s) = OpenedAt old new log log' wire a exec s
-PollOpensAt old new log log' wire a exec (step.Failed e) = Unit {0}
+abbrev pub OpeningCaused : Awaited → Awaited → Told → Told → ℤ → Option Session → ClientOpening → Step ClientOpening ClientStream → Type 0
+OpeningCaused old new log log' wire session o r = (calls : List Call) → log ≡ Some calls → (places : List ℕ) → OpensSoFar old (past_of places (length calls) calls wire) o.args o.sending
+    → (calls' : List Call) × (log' ≡ Some calls') × Keeps calls calls' × OpeningCame new (past_of places (length calls) calls' wire) session o.args r

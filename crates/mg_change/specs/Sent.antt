@@ -1,25 +1,23 @@
 -- What a stream sends in one call.
-use Rattle.std.specs.Prelude.{◌≡◌, ◌≢◌, ◌<◌, ◌≤◌, ◌++◌, ℕ, zero, suc, ℤ, pos, List, [], ◌∷◌, map, Some}
-use Rattle.mg_bson.specs.Tree.{Fields}
+use Rattle.std.specs.Prelude.{◌≡◌, ◌≢◌, ◌<◌, ◌≤◌, ◌++◌, ℕ, zero, suc, ℤ, pos, List, [], ◌∷◌, map, Option, Some, None}
 use Rattle.mg_bson.specs.Raw.{fields}
-use Rattle.mg_link.specs.Exec.{Stage, unsent, first, second}
+use Rattle.mg_bson.specs.Tree.{Fields}
+use Rattle.mg_link.specs.Exec.{Sending, Stage, first, second, unsent}
 use Rattle.mg_link.specs.Link.{Told}
 use Rattle.mg_link.specs.Log.{Call}
-use Rattle.mg_link.specs.Owner.{Onward, nobody}
+use Rattle.mg_link.specs.Moment.{Ending, failed, finished, pending}
 use Rattle.mg_link.specs.Namespace.{Space}
+use Rattle.mg_link.specs.Owner.{Onward, nobody}
+use Rattle.mg_link.specs.Session.{Session}
 use Rattle.mg_ops.specs.Commands.{kill_command}
-use Rattle.mg_ops.specs.Cursors.{asking_command}
 use Rattle.mg_ops.specs.declared.aggregate.ChangeStreamAggregate.{ChangeStreamAggregate}
 use Rattle.mg_ops.specs.declared.change_stream.WatchArgs.{WatchArgs}
-use Rattle.mg_ops.specs.declared.cursor_reply.CursorInformation.{CursorInformation}
-use Rattle.mg_change.specs.Phases.{resuming_command}
+use Rattle.mg_cursor.specs.Client.{ClientCursor, asks, get_more, holds, rests}
+use Rattle.mg_cursor.specs.Client as cursors
+use Rattle.mg_cursor.specs.declared.polls.TryPoll.{TryPoll}
+use Rattle.mg_change.specs.ClientStreams.{ClientStream, Doing, follows, kills, owes, renewed, resumes, resuming_in}
+use Rattle.mg_change.specs.StreamCalls.{event_ending, try_ending}
 use Rattle.mg_change.specs.declared.event_poll.EventPoll.{EventPoll}
-use Rattle.mg_change.specs.declared.event_poll.EventPoll.TheVariants as poll
-use Rattle.mg_change.specs.declared.event_poll.Stepped.{Stepped}
-use Rattle.mg_change.specs.declared.event_poll.Stepped.TheVariants as stepped
-use Rattle.mg_change.specs.declared.stream.ChangeStream.{ChangeStream}
-use Rattle.mg_change.specs.declared.stream.Phase.{Phase}
-use Rattle.mg_change.specs.declared.stream.Phase.TheVariants as phase
 
 -- the commands of a log, in their order
 abbrev pub commands_sent : List Call → List Fields
@@ -29,20 +27,31 @@ commands_sent calls = map (λ (c : Call). fields c.command) calls
 abbrev pub Sent : Told → Told → List Fields → Type 0
 Sent log log' commands = (calls : List Call) → log ≡ Some calls → (calls' : List Call) × (log' ≡ Some calls') × (commands_sent calls' ≡ commands_sent calls ++ commands) × Onward calls calls' nobody
 
+-- the getMore of the cursor
+pub record AsksMoreOf (c : ClientCursor) (command : Fields) : Type 0 where
+  pub session : Option Session
+  pub asks_so : command ≡ get_more c session
+
+-- the aggregate that resumes a stream
+pub record ResumesBy (a : ChangeStreamAggregate) (command : Fields) : Type 0 where
+  pub wire : ℤ
+  pub session : Option Session
+  pub resumes_so : command ≡ resuming_in a wire session
+
 -- the killing of one cursor
 pub record KillsOne (command : Fields) : Type 0 where
   pub at : Space
   pub id : ℤ
   pub there : id ≢ pos 0
-  pub kills : command ≡ kill_command at (id ∷ [])
+  pub kills_so : command ≡ kill_command at (id ∷ [])
 
 -- the places of the commands of one call, counted down: the getMore, the aggregate, the aggregate once more, the killing
-abbrev pub IsAt : CursorInformation → ChangeStreamAggregate → ℤ → ℕ → Fields → Type 0
-IsAt c a wire zero command = KillsOne command
-IsAt c a wire (suc zero) command = command ≡ resuming_command a wire
-IsAt c a wire (suc (suc zero)) command = command ≡ resuming_command a wire
-IsAt c a wire (suc (suc (suc zero))) command = command ≡ asking_command c
-IsAt c a wire (suc (suc (suc (suc place)))) command = ⊥
+abbrev pub IsAt : ClientStream → ℕ → Fields → Type 0
+IsAt s zero command = KillsOne command
+IsAt s (suc zero) command = ResumesBy s.aggregate command
+IsAt s (suc (suc zero)) command = ResumesBy s.aggregate command
+IsAt s (suc (suc (suc zero))) command = AsksMoreOf s.cursor command
+IsAt s (suc (suc (suc (suc place)))) command = ⊥
 
 -- the commands stand at places that fall, all below `n` and none below `m`
 abbrev pub Falling : (ℕ → Fields → Type 0) → ℕ → List Fields → ℕ → Type 0
@@ -60,76 +69,70 @@ resuming_places unsent = 3
 resuming_places (first ticket) = 2
 resuming_places (second ticket) = 1
 
-abbrev pub killing_places : Stage → ℕ
-killing_places unsent = 1
-killing_places (first ticket) = 0
-killing_places (second ticket) = 0
+abbrev pub ending_places : Stage → ℕ
+ending_places unsent = 1
+ending_places (first ticket) = 0
+ending_places (second ticket) = 0
 
--- how many places are left to a call in each phase
-abbrev pub places : Phase → ℕ
-places phase.Taken = 4
-places phase.Rest = 4
-places (phase.First reply) = 3
-places phase.Fresh = 0
-places (phase.Asking get_more exec) = asking_places exec.stage
-places phase.Owing = 3
-places (phase.Resuming exec) = resuming_places exec.stage
-places (phase.Killing exec old reply) = killing_places exec.stage
-places (phase.Resumed reply) = 0
+abbrev pub killing_places : Option Sending → ℕ
+killing_places None = 1
+killing_places (Some sending) = ending_places sending.stage
+
+abbrev pub more_places : cursors.Doing → ℕ
+more_places rests = 4
+more_places (holds reply) = 3
+more_places (asks sending) = asking_places sending.stage
+
+-- how many places are left to a call, by what is on its way
+abbrev pub places_by : Doing → ClientCursor → ℕ
+places_by follows c = more_places c.doing
+places_by owes c = 3
+places_by (resumes sending) c = resuming_places sending.stage
+places_by (kills before) c = killing_places before.killing
+places_by renewed c = 0
+
+abbrev pub places : ClientStream → ℕ
+places s = places_by s.doing s.cursor
 
 -- a call that has ended sends nothing more
-abbrev pub poll_places : EventPoll → Phase → ℕ
-poll_places poll.Pending p = places p
-poll_places (poll.Ready event) p = 0
-poll_places (poll.Failed e) p = 0
-
-abbrev pub step_places : Stepped → Phase → ℕ
-step_places stepped.Goes p = places p
-step_places (stepped.Gives q) p = poll_places q p
+abbrev pub places_behind : Ending → ClientStream → ℕ
+places_behind pending s = places s
+places_behind finished s = 0
+places_behind (failed e) s = 0
 
 -- what is sent later in the call is told by the same stream
-abbrev pub Keeps : ChangeStream → ChangeStream → Type 0
-Keeps s s' = (s'.aggregate ≡ s.aggregate) × (4 ≤ places s'.phase → s'.cursor ≡ s.cursor)
+abbrev pub KeepsBy : Ending → ClientStream → ClientStream → Type 0
+KeepsBy pending s s' = s'.aggregate ≡ s.aggregate
+KeepsBy finished s s' = Unit {0}
+KeepsBy (failed e) s s' = Unit {0}
 
-abbrev pub PollKeeps : EventPoll → ChangeStream → ChangeStream → Type 0
-PollKeeps poll.Pending s s' = Keeps s s'
-PollKeeps (poll.Ready event) s s' = Unit {0}
-PollKeeps (poll.Failed e) s s' = Unit {0}
-
-abbrev pub StepKeeps : Stepped → ChangeStream → ChangeStream → Type 0
-StepKeeps stepped.Goes s s' = Keeps s s'
-StepKeeps (stepped.Gives p) s s' = PollKeeps p s s'
-
--- what a step from this phase sent: commands at places that were left, and above those that are left behind it
-pub record StepSent (log log' : Told) (wire : ℤ) (p : Phase) (s s' : ChangeStream) (r : Stepped) : Type 0 where
+-- What a poll sent: commands at places that were left, and above those that are left behind it.
+pub record PollSent (log log' : Told) (s s' : ClientStream) (ending : Ending) : Type 0 where
   pub commands : List Fields
   pub adds : Sent log log' commands
-  pub falling : Falling (IsAt s.cursor s.aggregate wire) (places p) commands (step_places r s'.phase)
-  pub keeps : StepKeeps r s s'
+  pub falling : Falling (IsAt s) (places s) commands (places_behind ending s')
+  pub keeps : KeepsBy ending s s'
 
--- the same of a poll
-abbrev pub CallSent : Told → Told → ℤ → ChangeStream → ChangeStream → EventPoll → Type 0
-CallSent log log' wire s s' r = StepSent log log' wire s.phase s s' (stepped.Gives r)
+abbrev pub CallSent : Told → Told → ClientStream → ClientStream → EventPoll → Type 0
+CallSent log log' s s' r = PollSent log log' s s' (event_ending r)
 
--- behind a step that sends nothing at most so many places are left
-abbrev pub Quiet : ℕ → ChangeStream → ChangeStream → Stepped → Type 0
-Quiet n s s' stepped.Goes = (places s'.phase ≤ n) × Keeps s s'
-Quiet n s s' (stepped.Gives p) = Unit {0}
+abbrev pub TrySent : Told → Told → ClientStream → ClientStream → TryPoll → Type 0
+TrySent log log' s s' r = PollSent log log' s s' (try_ending r)
 
 -- ---- a call that seeks an event
 
 -- its commands: the getMore of a cursor, the aggregate that resumes the stream, or the killing of one cursor
-pub data IsSought (args : WatchArgs) (wire : ℤ) (command : Fields) : Type 0 where
-  asks : (c : CursorInformation) → command ≡ asking_command c → IsSought args wire command
-  resumes : (a : ChangeStreamAggregate) → a.args ≡ args → command ≡ resuming_command a wire → IsSought args wire command
-  kills : KillsOne command → IsSought args wire command
+pub data IsSought (args : WatchArgs) (command : Fields) : Type 0 where
+  asks_more : (c : ClientCursor) → AsksMoreOf c command → IsSought args command
+  resumes_it : (a : ChangeStreamAggregate) → a.args ≡ args → ResumesBy a command → IsSought args command
+  kills_one : KillsOne command → IsSought args command
 
-abbrev pub AreSought : WatchArgs → ℤ → List Fields → Type 0
-AreSought args wire [] = Unit {0}
-AreSought args wire (command ∷ commands) = IsSought args wire command × AreSought args wire commands
+abbrev pub AreSought : WatchArgs → List Fields → Type 0
+AreSought args [] = Unit {0}
+AreSought args (command ∷ commands) = IsSought args command × AreSought args commands
 
 -- it sent such commands only
-pub record SeekSent (log log' : Told) (wire : ℤ) (args : WatchArgs) : Type 0 where
+pub record SeekSent (log log' : Told) (args : WatchArgs) : Type 0 where
   pub commands : List Fields
   pub adds : Sent log log' commands
-  pub sought : AreSought args wire commands
+  pub sought : AreSought args commands

@@ -1,52 +1,56 @@
 //! The closing of a change stream.
-ghost use Rattle.std.specs.Prelude.{◌≡◌, ◌≢◌, ◌≤◌, ℕ, [], IfErr, IfOk, OnErr, None, true};
+ghost use Rattle.std.specs.Prelude.{◌≡◌, ◌≢◌, ◌++◌, ℕ, [], IfErr, IfOk, List, OnErr, OnOk, None, Option, Some, option_and_then, pos, true};
+ghost use Rattle.mg_bson.specs.Tree.{Fields, Tree};
 ghost use Rattle.mg_link.specs.Acts.{EndsAtOnce, FailsByFault, IsOut, Pended, Tickets, ticket_after};
-ghost use Rattle.mg_link.specs.Calls.{Stays};
-ghost use Rattle.mg_link.specs.Exec.{ticket_of};
-ghost use Rattle.mg_link.specs.Link.{Later};
-ghost use Rattle.mg_link.specs.Follow.{Follow, Moved};
-ghost use Rattle.mg_link.specs.Link.{Told};
-ghost use Rattle.mg_change.specs.Growths.{Grows};
-ghost use Rattle.mg_change.specs.Closings.{Closes, FailLeaves, IsClosing, IsLanded, IsLast, IsMore, IsOlder, IsQuiet, KillRan, KillsAll, Knew, KnewBy, Lands, Leaves, MoreLeaves, QuietAfter, ResumeLeaves, closes_to, closing_in, closing_of, closing_ticket, flight_in, ids_left, landing_of, left_of};
-ghost use Rattle.mg_change.specs.Causes.{cursor_behind};
-ghost use Rattle.mg_change.specs.ClosingCauses.{ClosingCaused, KillCaused, LandCaused, LandRan, WantsMemory};
-ghost use Rattle.mg_change.specs.ClosingSends.{ClosingSent};
-ghost use Rattle.mg_link.specs.Link.{Awaited};
 ghost use Rattle.mg_link.specs.Errors.{plain};
+ghost use Rattle.mg_link.specs.Exec.{ticket_of};
+ghost use Rattle.mg_link.specs.Follow.{Moved};
+ghost use Rattle.mg_link.specs.Link.{Later};
+ghost use Rattle.mg_link.specs.Moment.{LinkKeeps, moment, step_ending};
+ghost use Rattle.mg_link.specs.State.{Start, Watch};
 ghost use Rattle.mg_link.specs.declared.error.ErrorKind.TheVariants as kind;
-ghost use Rattle.mg_change.specs.Phases.{Carries, IsKept, resuming_command};
-ghost use Rattle.mg_change.specs.Polls.{IsNotIo};
+ghost use Rattle.mg_cursor.specs.Client.{client_ticket};
+ghost use Rattle.mg_cursor.specs.Closing.{IsNotAsking, closing_ticket};
+ghost use Rattle.mg_cursor.specs.View.{client_of, current_of};
+ghost use Rattle.mg_change.specs.ClientStreams.{id_in, token_in};
+ghost use Rattle.mg_change.specs.ClosingCauses.{ClosingCaused};
+ghost use Rattle.mg_change.specs.ClosingStreams.{BehindOpening, ClosesStream, IsSoundStream, IsToKill, KillsLeft, Landing, LandsFor, PassesOver, RunsKill, handed_over, ids_left, landing_of, landing_ticket, lands, lands_aggregate, lands_older, stream_closing_ticket, unless_none};
+ghost use Rattle.mg_change.specs.ClosingView.{IsClosingIn, closing_in, landing_in, remains_token};
+ghost use Rattle.mg_change.specs.Following.{OnPending, follow_closed, follow_closing};
+ghost use Rattle.mg_change.specs.StreamView.{SavesWhile, doing_of, is_lent, token_at, with_token};
 
+use crate::changes::{Phase, TokenPlace, event_token, saved_token};
 use crate::commands::kill;
-use crate::fault::{ends_cursor, is_memory};
-use crate::stream::Phase;
 use mg_bson::RawDocumentBuf;
+use mg_cursor::{BatchBuffer, Batches, NextPoll, is_memory};
 use mg_link::{Action, Error, Exec, Link, Step};
-use mg_ops::{ChangeStreamAggregate, CursorInformation, GetMore, Operation};
+use mg_ops::{ChangeStreamAggregate, Operation};
+use mg_options::{ResumeToken, TokenRef};
 use std::alloc::Global;
+use std::marker::Model;
 
-// What is in flight as a stream is closed.
+// What is on its way as a stream is closed, besides a getMore of its cursor.
 #[derive(Drop)]
 pub(crate) enum Flight {
-    // Nothing: the cursors are to be killed.
-    Landed,
-    // The next batch of the cursor.
-    More(GetMore, Exec),
+    Lands,
     // The aggregate of a resumption, whose cursor is to be killed too.
-    Resumption(Exec),
-    // The killCursors of an older cursor, by its id.
-    Older(Exec, i64),
+    Aggregate(Exec),
+    // The closing of the cursor that a resumption replaced.
+    Older(mg_cursor::Closing),
     // The killCursors of this closing.
     Last(Exec),
 }
 
 // What is left of a stream that is being closed.
 pub(crate) struct Remains {
-    pub(crate) alloc: Global,
-    pub(crate) aggregate: ChangeStreamAggregate,
-    pub(crate) cursor: CursorInformation,
-    // The id of a cursor that a resumption in flight opened, or 0.
-    pub(crate) opened: i64,
+    alloc: Global,
+    aggregate: ChangeStreamAggregate,
+    batches: Batches,
+    // The batch in hand, in which the token may lie.
+    buffer: BatchBuffer,
+    token: TokenPlace,
+    // The id of a cursor that a resumption on its way opened, or 0.
+    opened: i64,
 }
 
 // By hand, so that letting one go is one call.
@@ -55,18 +59,121 @@ impl Drop for Remains {
         let Remains {
             alloc: _,
             aggregate: _,
-            cursor: _,
+            batches: _,
+            buffer: _,
+            token: _,
             opened: _,
         } = self;
     }
 }
 
-/// A change stream that is being closed. A request in flight ends first; its failure is passed over, but for want of
-/// memory. Then one killCursors is sent for the stream's cursor and for one that this request opened, unless the server
-/// holds neither.
+impl Remains {
+    // The token where it lies.
+    fn known_token(&self) -> Option<TokenRef<'_>>
+        ensures { result ≡ remains_token self.now }
+    {
+        match self.token {
+            TokenPlace::Saved => saved_token(&self.aggregate),
+            TokenPlace::Event => event_token(self.alloc, &self.buffer),
+            TokenPlace::Batch => self.batches.token(),
+        }
+    }
+
+    // Hands the token over.
+    fn hand_over(&mut self) -> Result<Option<ResumeToken>, Error>
+        ensures token { IfOk result (λ token. token ≡ remains_token self.old) }
+        ensures err { IfErr result (λ e. (e ≡ plain kind.OutOfMemory) × (is_lent self.old.token ≡ true)) }
+        ensures kept { OnErr result (self.new ≡ self.old) }
+        ensures gone { OnOk result (self.new.token ≡ TokenPlace.Saved) }
+        ensures rest { OnOk result ((landing : Landing) → closing_in self.new landing ≡ handed_over (client_of self.new.batches).token (closing_in self.old landing)) }
+    {
+        match self.token {
+            TokenPlace::Saved => Ok(take_saved(&mut self.aggregate)),
+            TokenPlace::Event => self.hand_copy(),
+            TokenPlace::Batch => Ok(self.take_behind()),
+        }
+    }
+
+    // Hands a copy of the token over, which lies in an event that was lent.
+    fn hand_copy(&mut self) -> Result<Option<ResumeToken>, Error>
+        requires { self.old.token ≡ TokenPlace.Event }
+        ensures token { IfOk result (λ token. token ≡ option_and_then id_in (current_of self.old.buffer)) }
+        ensures err { IfErr result (λ e. (e ≡ plain kind.OutOfMemory) × (is_lent self.old.token ≡ true)) }
+        ensures kept { OnErr result (self.new ≡ self.old) }
+        ensures gone { OnOk result (self.new.token ≡ TokenPlace.Saved) }
+        ensures rest { OnOk result ((landing : Landing) → closing_in self.new landing ≡ handed_over (client_of self.new.batches).token (closing_in self.old landing)) }
+    {
+        match copied_token(event_token(self.alloc, &self.buffer)) {
+            Ok(token) => {
+                self.forget();
+                Ok(token)
+            }
+            Err(error) => Err(error),
+        }
+    }
+
+    // Takes the token out that lies behind the batch. No memory is taken.
+    fn take_behind(&mut self) -> Option<ResumeToken>
+        ensures token { result ≡ (client_of self.old.batches).token }
+        ensures gone { self.new.token ≡ TokenPlace.Saved }
+        ensures rest { (landing : Landing) → closing_in self.new landing ≡ handed_over (client_of self.new.batches).token (closing_in self.old landing) }
+    {
+        let token = self.batches.take_token();
+        self.forget();
+        token
+    }
+
+    // Leaves no token but the cursor's.
+    fn forget(&mut self)
+        ensures gone { self.new.token ≡ TokenPlace.Saved }
+        ensures kept { self.new.batches ≡ self.old.batches }
+        ensures rest { (landing : Landing) → closing_in self.new landing ≡ handed_over (client_of self.old.batches).token (closing_in self.old landing) }
+    {
+        self.token = TokenPlace::Saved;
+        drop(take_saved(&mut self.aggregate));
+    }
+}
+
+// A copy of a token that is lent.
+fn copied_token(lent: Option<TokenRef<'_>>) -> Result<Option<ResumeToken>, Error>
+    ensures ok { IfOk result (λ token. token ≡ lent.entry) }
+    ensures err { IfErr result (λ e. e ≡ plain kind.OutOfMemory) }
+{
+    match lent {
+        Some(token) => owned_token(&token),
+        None => Ok(None),
+    }
+}
+
+fn owned_token(token: &TokenRef<'_>) -> Result<Option<ResumeToken>, Error>
+    ensures ok { IfOk result (λ copy. copy ≡ Some token.now) }
+    ensures err { IfErr result (λ e. e ≡ plain kind.OutOfMemory) }
+{
+    match token.to_owned() {
+        Ok(copy) => Ok(Some(copy)),
+        Err(error) => Err(error),
+    }
+}
+
+// Takes the saved token out.
+fn take_saved(aggregate: &mut ChangeStreamAggregate) -> Option<ResumeToken>
+    ensures token { result ≡ token_in aggregate.old.resume }
+    ensures gone { aggregate.new ≡ with_token None aggregate.old }
+{
+    match &mut aggregate.resume {
+        Some(known) => known.resume_token.take(),
+        None => None,
+    }
+}
+
+/// A change stream that is being closed. A request on its way ends first; its failure is passed over, but for want of memory.
+/// Then one killCursors is sent for the stream's cursor and for one that this request opened, unless the server holds neither.
+///
+/// It fails where that killCursors fails or cannot be sent, and for want of memory. Behind a failure the server may hold the cursors
+/// still.
 pub struct Closing {
-    pub(crate) remains: Remains,
-    pub(crate) flight: Flight,
+    remains: Remains,
+    flight: Flight,
 }
 
 // By hand, so that letting one go is one call.
@@ -79,180 +186,243 @@ impl Drop for Closing {
     }
 }
 
-// The request in flight.
-pub(crate) fn flight_of(phase: Phase) -> Flight
-    ensures { result ≡ flight_in phase }
+impl Model for Closing {
+    ghost use Rattle.mg_change.specs.ClosingCode.{coded_stream_closing};
+    ghost use Rattle.mg_change.specs.ClosingStreams.{ClosingStream};
+    ghost use Rattle.mg_change.specs.ClosingView.{IsClosingIn, closing_in, landing_in};
+
+    ghost Value = { ClosingStream };
+
+    ghost coded = { coded_stream_closing };
+
+    ghost view = { λ k. closing_in k.remains (landing_in k.flight) };
+
+    ghost invariant = { λ k. IsClosingIn k.remains (landing_in k.flight) };
+}
+
+// What is on its way.
+fn flight_of(phase: Phase) -> Flight
+    ensures { landing_in result ≡ landing_of (doing_of phase) }
 {
     match phase {
-        Phase::Taken => Flight::Landed,
-        Phase::Rest => Flight::Landed,
-        Phase::First(_) => Flight::Landed,
-        Phase::Fresh => Flight::Landed,
-        Phase::Asking(get_more, exec) => Flight::More(get_more, exec),
-        Phase::Owing => Flight::Landed,
-        Phase::Resuming(exec) => Flight::Resumption(exec),
-        Phase::Killing(exec, old, _) => Flight::Older(exec, old),
-        Phase::Resumed(_) => Flight::Landed,
+        Phase::Follows => Flight::Lands,
+        Phase::Owes => Flight::Lands,
+        Phase::Resumes(exec) => Flight::Aggregate(exec),
+        Phase::Kills(closing) => Flight::Older(closing),
+        Phase::Renewed => Flight::Lands,
     }
 }
 
-// The request in flight failed, which only want of memory makes the answer.
-fn passed(error: Error, remains: Remains) -> Step<Closing, Remains>
-    ensures landed { IsLanded result }
-    ensures memory { WantsMemory result }
-    ensures leaves { Leaves error remains result }
-{
-    if is_memory(&error) {
-        Step::Failed(error)
-    } else {
-        Step::Done(remains)
-    }
-}
-
-// The reply to a getMore came.
-fn more_came(remains: Remains, get_more: &GetMore, reply: RawDocumentBuf) -> Step<Closing, Remains>
-    ensures landed { IsLanded result }
-    ensures memory { WantsMemory result }
-    ensures leaves { MoreLeaves reply remains result }
+// Waits for the getMore on its way, where there is one, and then kills what is left.
+fn land<L: Link>(link: &mut L, remains: Remains) -> Step<Closing, ()>
+    requires held { IsOut (L.awaited link.old) (client_ticket (client_of remains.batches)) }
+    requires sound { IsClosingIn remains lands }
+    // The tickets of others, the counts, the wire version and the promptness of the link.
+    ensures keeps { LinkKeeps (moment (L.awaited link.old) (L.log link.old) (L.faults link.old) (L.pends link.old) (L.wire link.old) (L.prompt link.old))
+        (moment (L.awaited link.new) (L.log link.new) (L.faults link.new) (L.pends link.new) (L.wire link.new) (L.prompt link.new))
+        (client_ticket (client_of remains.batches)) (ticket_after stream_closing_ticket result) (step_ending result) }
+    ensures closes { ClosesStream (L.awaited link.old) (L.awaited link.new) (L.log link.old) (L.log link.new) (L.wire link.old) (closing_in remains lands) result }
 {
     let mut remains = remains;
-    match get_more.read(remains.alloc, reply) {
-        Ok(gave) => {
-            remains.cursor.id = gave.id;
-            remains.cursor.ns = gave.ns;
-            Step::Done(remains)
+    match remains.batches.land(link) {
+        NextPoll::Pending => {
+            let still = Closing {
+                remains,
+                flight: Flight::Lands,
+            };
+            Step::Pending(still)
         }
-        Err(error) => passed(error, remains),
+        NextPoll::Batch(_batch) => kill_left(link, remains),
+        NextPoll::End => kill_left(link, remains),
+        NextPoll::Failed(error) => pass(link, remains, error),
     }
 }
 
-// Lets go of the cursor, where the error says that the server holds it no longer.
-fn note_end(cursor: &mut CursorInformation, error: &Error)
-    ensures { cursor.new ≡ cursor_behind error.now cursor.old }
+// Waits for the reply to the aggregate of a resumption.
+fn land_aggregate<L: Link>(link: &mut L, remains: Remains, exec: Exec) -> Step<Closing, ()>
+    requires held { IsOut (L.awaited link.old) (ticket_of exec) }
+    requires sound { IsSoundStream (closing_in remains (lands_aggregate exec)) }
+    // The tickets of others, the counts, the wire version and the promptness of the link.
+    ensures keeps { LinkKeeps (moment (L.awaited link.old) (L.log link.old) (L.faults link.old) (L.pends link.old) (L.wire link.old) (L.prompt link.old))
+        (moment (L.awaited link.new) (L.log link.new) (L.faults link.new) (L.pends link.new) (L.wire link.new) (L.prompt link.new))
+        (ticket_of exec) (ticket_after stream_closing_ticket result) (step_ending result) }
+    ensures closes { ClosesStream (L.awaited link.old) (L.awaited link.new) (L.log link.old) (L.log link.new) (L.wire link.old) (closing_in remains (lands_aggregate exec)) result }
 {
-    if ends_cursor(error) {
-        cursor.id = 0;
+    match exec.poll(link) {
+        Step::Pending(exec) => {
+            let still = Closing {
+                remains,
+                flight: Flight::Aggregate(exec),
+            };
+            Step::Pending(still)
+        }
+        Step::Done(reply) => aggregate_came(link, remains, reply),
+        Step::Failed(error) => pass(link, remains, error),
     }
-}
-
-// A getMore failed.
-fn more_failed(remains: Remains, error: Error) -> Step<Closing, Remains>
-    ensures landed { IsLanded result }
-    ensures memory { WantsMemory result }
-    ensures leaves { FailLeaves error remains result }
-{
-    let mut remains = remains;
-    note_end(&mut remains.cursor, &error);
-    passed(error, remains)
 }
 
 // The reply to the aggregate of a resumption came.
-fn resumption_came(remains: Remains, reply: RawDocumentBuf) -> Step<Closing, Remains>
-    ensures landed { IsLanded result }
-    ensures memory { WantsMemory result }
-    ensures leaves { ResumeLeaves reply remains result }
+fn aggregate_came<L: Link>(
+    link: &mut L,
+    remains: Remains,
+    reply: RawDocumentBuf,
+) -> Step<Closing, ()>
+    requires { IsNotAsking (client_of remains.batches).doing }
+    // The tickets of others, the counts, the wire version and the promptness of the link.
+    ensures keeps { LinkKeeps (moment (L.awaited link.old) (L.log link.old) (L.faults link.old) (L.pends link.old) (L.wire link.old) (L.prompt link.old))
+        (moment (L.awaited link.new) (L.log link.new) (L.faults link.new) (L.pends link.new) (L.wire link.new) (L.prompt link.new))
+        (None) (ticket_after stream_closing_ticket result) (step_ending result) }
+    ensures behind { BehindOpening (L.awaited link.old) (L.awaited link.new) (L.log link.old) (L.log link.new) (L.wire link.old) (closing_in remains lands) reply result }
 {
     let mut remains = remains;
     match remains.aggregate.read(remains.alloc, reply) {
         Ok((opened, _)) => {
             remains.opened = opened.info.id;
-            Step::Done(remains)
+            kill_left(link, remains)
         }
-        Err(error) => passed(error, remains),
+        Err(error) => pass(link, remains, error),
     }
 }
 
-// Waits for the reply to a getMore.
-fn land_more<L: Link>(
-    link: &mut L,
-    remains: Remains,
-    get_more: GetMore,
-    exec: Exec,
-) -> Step<Closing, Remains>
-    requires { IsOut (L.awaited link.old) (ticket_of exec) }
-    ensures tickets { Tickets (L.awaited link.old) (L.awaited link.new) (ticket_of exec) (ticket_after closing_ticket result) }
-    ensures pended { Pended closing_ticket result (L.pends link.old) (L.pends link.new) }
-    ensures lost { FailsByFault result (L.faults link.old) (L.faults link.new) }
-    ensures prompt { L.prompt link.old → EndsAtOnce result }
-    ensures later { Later (L.faults link.old) (L.faults link.new) (L.pends link.old) (L.pends link.new)
-        (L.wire link.old) (L.wire link.new) (L.prompt link.old) (L.prompt link.new) }
-    ensures lands { IsKept remains.aggregate remains.cursor → IsMore remains exec → Lands (L.wire link.new) remains.aggregate result }
-    ensures moved { IsKept remains.aggregate remains.cursor → IsMore remains exec → (f : Follow)
-        → Moved (L.log link.old) (L.log link.new) (closing_in (L.awaited link.old) (Flight.More get_more exec) (left_of f remains)) (landing_of (L.awaited link.new) f result) }
-    ensures stays { Stays (L.log link.old) (L.log link.new) }
-    ensures ran { IsMore remains exec → LandRan (L.awaited link.old) (L.awaited link.new) (L.log link.old) (L.log link.new) (L.wire link.old) remains (Flight.More get_more exec) result }
-{
-    match exec.poll(link) {
-        Step::Pending(exec) => Step::Pending(Closing {
-            remains,
-            flight: Flight::More(get_more, exec),
-        }),
-        Step::Done(reply) => more_came(remains, &get_more, reply),
-        Step::Failed(error) => more_failed(remains, error),
-    }
-}
-
-// Waits for the reply to the aggregate of a resumption.
-fn land_resumption<L: Link>(link: &mut L, remains: Remains, exec: Exec) -> Step<Closing, Remains>
-    requires { IsOut (L.awaited link.old) (ticket_of exec) }
-    ensures tickets { Tickets (L.awaited link.old) (L.awaited link.new) (ticket_of exec) (ticket_after closing_ticket result) }
-    ensures pended { Pended closing_ticket result (L.pends link.old) (L.pends link.new) }
-    ensures lost { FailsByFault result (L.faults link.old) (L.faults link.new) }
-    ensures prompt { L.prompt link.old → EndsAtOnce result }
-    ensures later { Later (L.faults link.old) (L.faults link.new) (L.pends link.old) (L.pends link.new)
-        (L.wire link.old) (L.wire link.new) (L.prompt link.old) (L.prompt link.new) }
-    ensures lands { IsKept remains.aggregate remains.cursor → Carries exec (resuming_command remains.aggregate (L.wire link.old)) true → Lands (L.wire link.new) remains.aggregate result }
-    ensures moved { IsKept remains.aggregate remains.cursor → Carries exec (resuming_command remains.aggregate (L.wire link.old)) true → (f : Follow) → Knew remains.aggregate f
-        → Moved (L.log link.old) (L.log link.new) (closing_in (L.awaited link.old) (Flight.Resumption exec) (left_of f remains)) (landing_of (L.awaited link.new) f result) }
-    ensures stays { Stays (L.log link.old) (L.log link.new) }
-    ensures ran { Carries exec (resuming_command remains.aggregate (L.wire link.old)) true → LandRan (L.awaited link.old) (L.awaited link.new) (L.log link.old) (L.log link.new) (L.wire link.old) remains (Flight.Resumption exec) result }
-{
-    match exec.poll(link) {
-        Step::Pending(exec) => Step::Pending(Closing {
-            remains,
-            flight: Flight::Resumption(exec),
-        }),
-        Step::Done(reply) => resumption_came(remains, reply),
-        Step::Failed(error) => passed(error, remains),
-    }
-}
-
-// Waits for the reply to the killCursors of an older cursor.
+// Waits for the closing of the cursor before.
 fn land_older<L: Link>(
     link: &mut L,
     remains: Remains,
-    exec: Exec,
-    old: i64,
-) -> Step<Closing, Remains>
-    requires { IsOut (L.awaited link.old) (ticket_of exec) }
-    ensures tickets { Tickets (L.awaited link.old) (L.awaited link.new) (ticket_of exec) (ticket_after closing_ticket result) }
-    ensures pended { Pended closing_ticket result (L.pends link.old) (L.pends link.new) }
-    ensures lost { FailsByFault result (L.faults link.old) (L.faults link.new) }
-    ensures prompt { L.prompt link.old → EndsAtOnce result }
-    ensures later { Later (L.faults link.old) (L.faults link.new) (L.pends link.old) (L.pends link.new)
-        (L.wire link.old) (L.wire link.new) (L.prompt link.old) (L.prompt link.new) }
-    ensures lands { IsKept remains.aggregate remains.cursor → IsOlder remains old exec → Lands (L.wire link.new) remains.aggregate result }
-    ensures moved { IsOlder remains old exec → (f : Follow)
-        → Moved (L.log link.old) (L.log link.new) (closing_in (L.awaited link.old) (Flight.Older exec old) (left_of f remains)) (landing_of (L.awaited link.new) f result) }
-    ensures stays { Stays (L.log link.old) (L.log link.new) }
-    ensures ran { LandRan (L.awaited link.old) (L.awaited link.new) (L.log link.old) (L.log link.new) (L.wire link.old) remains (Flight.Older exec old) result }
+    closing: mg_cursor::Closing,
+) -> Step<Closing, ()>
+    requires held { IsOut (L.awaited link.old) (closing_ticket closing) }
+    requires sound { IsSoundStream (closing_in remains (lands_older closing)) }
+    // The tickets of others, the counts, the wire version and the promptness of the link.
+    ensures keeps { LinkKeeps (moment (L.awaited link.old) (L.log link.old) (L.faults link.old) (L.pends link.old) (L.wire link.old) (L.prompt link.old))
+        (moment (L.awaited link.new) (L.log link.new) (L.faults link.new) (L.pends link.new) (L.wire link.new) (L.prompt link.new))
+        (closing_ticket closing) (ticket_after stream_closing_ticket result) (step_ending result) }
+    ensures closes { ClosesStream (L.awaited link.old) (L.awaited link.new) (L.log link.old) (L.log link.new) (L.wire link.old) (closing_in remains (lands_older closing)) result }
+{
+    match closing.poll(link) {
+        Step::Pending(closing) => {
+            let still = Closing {
+                remains,
+                flight: Flight::Older(closing),
+            };
+            Step::Pending(still)
+        }
+        Step::Done(_over) => kill_left(link, remains),
+        Step::Failed(error) => pass(link, remains, error),
+    }
+}
+
+// What was on its way failed, which only want of memory makes the answer.
+fn pass<L: Link>(link: &mut L, remains: Remains, error: Error) -> Step<Closing, ()>
+    requires { IsNotAsking (client_of remains.batches).doing }
+    // The tickets of others, the counts, the wire version and the promptness of the link.
+    ensures keeps { LinkKeeps (moment (L.awaited link.old) (L.log link.old) (L.faults link.old) (L.pends link.old) (L.wire link.old) (L.prompt link.old))
+        (moment (L.awaited link.new) (L.log link.new) (L.faults link.new) (L.pends link.new) (L.wire link.new) (L.prompt link.new))
+        (None) (ticket_after stream_closing_ticket result) (step_ending result) }
+    ensures passes { PassesOver (L.awaited link.old) (L.awaited link.new) (L.log link.old) (L.log link.new) (L.wire link.old) (closing_in remains lands) error result }
+{
+    if is_memory(&error) {
+        return Step::Failed(error);
+    }
+    kill_left(link, remains)
+}
+
+// Kills the cursors that the server holds, in one command.
+fn kill_left<L: Link>(link: &mut L, remains: Remains) -> Step<Closing, ()>
+    requires { IsNotAsking (client_of remains.batches).doing }
+    // The tickets of others, the counts, the wire version and the promptness of the link.
+    ensures keeps { LinkKeeps (moment (L.awaited link.old) (L.log link.old) (L.faults link.old) (L.pends link.old) (L.wire link.old) (L.prompt link.old))
+        (moment (L.awaited link.new) (L.log link.new) (L.faults link.new) (L.pends link.new) (L.wire link.new) (L.prompt link.new))
+        (None) (ticket_after stream_closing_ticket result) (step_ending result) }
+    ensures kills { KillsLeft (L.awaited link.old) (L.awaited link.new) (L.log link.old) (L.log link.new) (L.wire link.old) (closing_in remains lands) result }
+{
+    match ids_of(remains.alloc, remains.batches.id(), remains.opened) {
+        Ok(ids) => kill_all(link, remains, ids),
+        Err(error) => Step::Failed(error),
+    }
+}
+
+// Kills these, which are those that the server holds.
+fn kill_all<L: Link>(link: &mut L, remains: Remains, ids: Vec<i64>) -> Step<Closing, ()>
+    requires quiet { IsNotAsking (client_of remains.batches).doing }
+    requires left { ids.items ≡ ids_left (closing_in remains lands) }
+    // The tickets of others, the counts, the wire version and the promptness of the link.
+    ensures keeps { LinkKeeps (moment (L.awaited link.old) (L.log link.old) (L.faults link.old) (L.pends link.old) (L.wire link.old) (L.prompt link.old))
+        (moment (L.awaited link.new) (L.log link.new) (L.faults link.new) (L.pends link.new) (L.wire link.new) (L.prompt link.new))
+        (None) (ticket_after stream_closing_ticket result) (step_ending result) }
+    ensures kills { KillsLeft (L.awaited link.old) (L.awaited link.new) (L.log link.old) (L.log link.new) (L.wire link.old) (closing_in remains lands) result }
+{
+    if ids.is_empty() {
+        return Step::Done(());
+    }
+    match kill(
+        remains.alloc,
+        remains.batches.namespace(),
+        ids,
+        link.wire_version(),
+    ) {
+        Ok(exec) => wait(link, remains, exec),
+        Err(error) => Step::Failed(error),
+    }
+}
+
+// Waits for the reply to the killCursors of this closing.
+fn wait<L: Link>(link: &mut L, remains: Remains, exec: Exec) -> Step<Closing, ()>
+    requires held { IsOut (L.awaited link.old) (ticket_of exec) }
+    requires killing { IsToKill (closing_in remains lands) exec }
+    // The tickets of others, the counts, the wire version and the promptness of the link.
+    ensures keeps { LinkKeeps (moment (L.awaited link.old) (L.log link.old) (L.faults link.old) (L.pends link.old) (L.wire link.old) (L.prompt link.old))
+        (moment (L.awaited link.new) (L.log link.new) (L.faults link.new) (L.pends link.new) (L.wire link.new) (L.prompt link.new))
+        (ticket_of exec) (ticket_after stream_closing_ticket result) (step_ending result) }
+    ensures runs { RunsKill (L.awaited link.old) (L.awaited link.new) (L.log link.old) (L.log link.new) (L.wire link.old) (closing_in remains lands) exec result }
 {
     match exec.poll(link) {
-        Step::Pending(exec) => Step::Pending(Closing {
-            remains,
-            flight: Flight::Older(exec, old),
-        }),
-        Step::Done(_) => Step::Done(remains),
-        Step::Failed(error) => passed(error, remains),
+        Step::Pending(exec) => {
+            let still = Closing {
+                remains,
+                flight: Flight::Last(exec),
+            };
+            Step::Pending(still)
+        }
+        Step::Done(_reply) => Step::Done(()),
+        Step::Failed(error) => Step::Failed(error),
+    }
+}
+
+// Waits for what is on its way.
+fn go_on<L: Link>(link: &mut L, remains: Remains, flight: Flight) -> Step<Closing, ()>
+    requires held { IsOut (L.awaited link.old) (landing_ticket (client_of remains.batches) (landing_in flight)) }
+    requires sound { IsClosingIn remains (landing_in flight) }
+    // The tickets of others, the counts, the wire version and the promptness of the link.
+    ensures keeps { LinkKeeps (moment (L.awaited link.old) (L.log link.old) (L.faults link.old) (L.pends link.old) (L.wire link.old) (L.prompt link.old))
+        (moment (L.awaited link.new) (L.log link.new) (L.faults link.new) (L.pends link.new) (L.wire link.new) (L.prompt link.new))
+        (landing_ticket (client_of remains.batches) (landing_in flight)) (ticket_after stream_closing_ticket result) (step_ending result) }
+    ensures closes { ClosesStream (L.awaited link.old) (L.awaited link.new) (L.log link.old) (L.log link.new) (L.wire link.old) (closing_in remains (landing_in flight)) result }
+{
+    match flight {
+        Flight::Lands => land(link, remains),
+        Flight::Aggregate(exec) => land_aggregate(link, remains, exec),
+        Flight::Older(closing) => land_older(link, remains, closing),
+        Flight::Last(exec) => wait(link, remains, exec),
+    }
+}
+
+// The number of the ticket that is held.
+fn held(batches: &Batches, flight: &Flight) -> Option<u64>
+    ensures { result ≡ landing_ticket (client_of batches.now) (landing_in flight.now) }
+{
+    match flight {
+        Flight::Lands => batches.ticket_number(),
+        Flight::Aggregate(exec) => exec.ticket_number(),
+        Flight::Older(closing) => closing.ticket_number(),
+        Flight::Last(exec) => exec.ticket_number(),
     }
 }
 
 // The ids of the cursors that the server holds.
 fn ids_of(alloc: Global, id: i64, opened: i64) -> Result<Vec<i64>, Error>
-    ensures ok { IfOk result (λ ids. ids.items ≡ ids_left id opened) }
-    ensures err { IfErr result IsNotIo }
+    ensures ok { IfOk result (λ ids. ids.items ≡ unless_none id ++ unless_none opened) }
     ensures room { IfErr result (λ e. e ≡ plain kind.OutOfMemory) }
-    ensures some { OnErr result (ids_left id opened ≢ []) }
+    ensures some { OnErr result (unless_none id ++ unless_none opened ≢ []) }
 {
     let mut ids = Vec::new(alloc);
     if id != 0 {
@@ -264,140 +434,86 @@ fn ids_of(alloc: Global, id: i64, opened: i64) -> Result<Vec<i64>, Error>
     Ok(ids)
 }
 
-// Waits for the reply to the killCursors of this closing.
-fn wait<L: Link>(link: &mut L, remains: Remains, exec: Exec) -> Step<Closing, ()>
-    requires { IsOut (L.awaited link.old) (ticket_of exec) }
-    ensures tickets { Tickets (L.awaited link.old) (L.awaited link.new) (ticket_of exec) (ticket_after closing_ticket result) }
-    ensures pended { Pended closing_ticket result (L.pends link.old) (L.pends link.new) }
-    ensures lost { FailsByFault result (L.faults link.old) (L.faults link.new) }
-    ensures prompt { L.prompt link.old → EndsAtOnce result }
-    ensures later { Later (L.faults link.old) (L.faults link.new) (L.pends link.old) (L.pends link.new)
-        (L.wire link.old) (L.wire link.new) (L.prompt link.old) (L.prompt link.new) }
-    ensures sends { KillRan (L.awaited link.old) (L.awaited link.new) (L.log link.old) (L.log link.new) (L.wire link.old) remains exec result }
-    ensures quiet { QuietAfter result }
-    ensures closes { IsKept remains.aggregate remains.cursor → IsLast remains exec → Closes (L.wire link.new) remains.aggregate result }
-    ensures moved { IsLast remains exec → (f : Follow)
-        → Moved (L.log link.old) (L.log link.new) (left_of f remains) (closes_to (L.awaited link.new) f result) }
-    ensures stays { Stays (L.log link.old) (L.log link.new) }
-    ensures caused { IsLast remains exec → KillCaused (L.awaited link.old) (L.awaited link.new) (L.log link.old) (L.log link.new) (L.wire link.old) remains (Flight.Last exec) result }
-{
-    match exec.poll(link) {
-        Step::Pending(exec) => Step::Pending(Closing {
-            remains,
-            flight: Flight::Last(exec),
-        }),
-        Step::Done(_reply) => Step::Done(()),
-        Step::Failed(error) => Step::Failed(error),
-    }
-}
-
-// Kills the cursors that the server holds.
-fn kill_all<L: Link>(link: &mut L, remains: Remains) -> Step<Closing, ()>
-    ensures tickets { Tickets (L.awaited link.old) (L.awaited link.new) (None) (ticket_after closing_ticket result) }
-    ensures pended { Pended closing_ticket result (L.pends link.old) (L.pends link.new) }
-    ensures lost { FailsByFault result (L.faults link.old) (L.faults link.new) }
-    ensures prompt { L.prompt link.old → EndsAtOnce result }
-    ensures later { Later (L.faults link.old) (L.faults link.new) (L.pends link.old) (L.pends link.new)
-        (L.wire link.old) (L.wire link.new) (L.prompt link.old) (L.prompt link.new) }
-    ensures sends { KillsAll (L.awaited link.old) (L.awaited link.new) (L.log link.old) (L.log link.new) (L.wire link.old) remains result }
-    ensures quiet { QuietAfter result }
-    ensures closes { IsKept remains.aggregate remains.cursor → Closes (L.wire link.new) remains.aggregate result }
-    ensures moved { (f : Follow) → Moved (L.log link.old) (L.log link.new) (left_of f remains) (closes_to (L.awaited link.new) f result) }
-    ensures stays { Stays (L.log link.old) (L.log link.new) }
-    ensures caused { KillCaused (L.awaited link.old) (L.awaited link.new) (L.log link.old) (L.log link.new) (L.wire link.old) remains Flight.Landed result }
-{
-    let ids = match ids_of(remains.alloc, remains.cursor.id, remains.opened) {
-        Ok(ids) => ids,
-        Err(error) => return Step::Failed(error),
-    };
-    if ids.is_empty() {
-        return Step::Done(());
-    }
-    match kill(remains.alloc, &remains.cursor.ns, ids, link.wire_version()) {
-        Ok(exec) => wait(link, remains, exec),
-        Err(error) => Step::Failed(error),
-    }
-}
-
-// Kills the cursors once nothing is in flight.
-fn go_on<L: Link>(link: &mut L, landing: Step<Closing, Remains>) -> Step<Closing, ()>
-    requires { IsOut (L.awaited link.old) (ticket_after closing_ticket landing) }
-    ensures tickets { Tickets (L.awaited link.old) (L.awaited link.new) (ticket_after closing_ticket landing) (ticket_after closing_ticket result) }
-    ensures pended { (n : ℕ) → Pended closing_ticket landing n (L.pends link.old) → Pended closing_ticket result n (L.pends link.new) }
-    ensures lost { (n : ℕ) → n ≤ L.faults link.old → FailsByFault landing n (L.faults link.old) → FailsByFault result n (L.faults link.new) }
-    ensures prompt { L.prompt link.old → EndsAtOnce landing → EndsAtOnce result }
-    ensures later { Later (L.faults link.old) (L.faults link.new) (L.pends link.old) (L.pends link.new)
-        (L.wire link.old) (L.wire link.new) (L.prompt link.old) (L.prompt link.new) }
-    ensures sends { (r : Remains) → landing ≡ Step.Done r → KillsAll (L.awaited link.old) (L.awaited link.new) (L.log link.old) (L.log link.new) (L.wire link.old) r result }
-    ensures closes { (a : ChangeStreamAggregate) → Lands (L.wire link.old) a landing → Closes (L.wire link.new) a result }
-    ensures moved { (f : Follow) → Moved (L.log link.old) (L.log link.new) (landing_of (L.awaited link.old) f landing) (closes_to (L.awaited link.new) f result) }
-    ensures stays { Stays (L.log link.old) (L.log link.new) }
-    ensures caused { (old : Awaited) (log : Told) (r : Remains) (f : Flight) → LandRan old (L.awaited link.old) log (L.log link.old) (L.wire link.old) r f landing
-        → LandCaused old (L.awaited link.new) log (L.log link.new) (L.wire link.old) r f result }
-{
-    match landing {
-        Step::Pending(closing) => Step::Pending(closing),
-        Step::Done(remains) => kill_all(link, remains),
-        Step::Failed(error) => Step::Failed(error),
-    }
-}
-
 impl Closing {
+    // Nothing is sent until the first poll.
+    pub(crate) fn new(
+        alloc: Global,
+        aggregate: ChangeStreamAggregate,
+        batches: Batches,
+        buffer: BatchBuffer,
+        token: TokenPlace,
+        phase: Phase,
+    ) -> Closing
+        requires sound { IsSoundStream (record { token = token_at token (token_in aggregate.resume) (current_of buffer) (client_of batches).token; lent = is_lent token; cursor = client_of batches; opened = pos 0; doing = landing_of (doing_of phase) }) }
+        // Its token is saved while a getMore is on its way.
+        requires saves { SavesWhile token (client_of batches).doing }
+        ensures { result ≡ record { token = token_at token (token_in aggregate.resume) (current_of buffer) (client_of batches).token; lent = is_lent token; cursor = client_of batches; opened = pos 0; doing = landing_of (doing_of phase) } }
+    {
+        Closing {
+            remains: Remains {
+                alloc,
+                aggregate,
+                batches,
+                buffer,
+                token,
+                opened: 0,
+            },
+            flight: flight_of(phase),
+        }
+    }
+
+    /// The token of the stream, which is lent. It may lie in the batch in hand.
+    pub fn resume_token(&self) -> Option<TokenRef<'_>>
+        ensures { result ≡ self.now.token }
+    {
+        self.remains.known_token()
+    }
+
+    /// Hands the token over. It fails, for want of memory, only where the token lies in an event that was lent, of which it is
+    /// copied; then the closing has it still. Behind it the closing has none.
+    pub fn hand_over(&mut self) -> Result<Option<ResumeToken>, Error>
+        ensures token { IfOk result (λ token. token ≡ self.old.token) }
+        ensures err { IfErr result (λ e. (e ≡ plain kind.OutOfMemory) × (self.old.lent ≡ true)) }
+        ensures kept { OnErr result (self.new ≡ self.old) }
+        ensures gone { OnOk result (self.new ≡ handed_over self.new.cursor.token self.old) }
+    {
+        self.remains.hand_over()
+    }
+
     /// The number of the ticket that it holds, while it waits for a reply.
     pub fn ticket_number(&self) -> Option<u64>
-        ensures { result ≡ closing_ticket self.now }
+        ensures { result ≡ stream_closing_ticket self.now }
     {
-        match &self.flight {
-            Flight::Landed => None,
-            Flight::More(_, exec) => exec.ticket_number(),
-            Flight::Resumption(exec) => exec.ticket_number(),
-            Flight::Older(exec, _) => exec.ticket_number(),
-            Flight::Last(exec) => exec.ticket_number(),
-        }
+        held(&self.remains.batches, &self.flight)
     }
 }
 
 impl Action for Closing {
     type Output = ();
 
-    ghost use Rattle.mg_change.specs.Closings.{closing_ticket};
+    ghost use Rattle.mg_change.specs.ClosingStreams.{stream_closing_ticket};
 
-    ghost ticket = { closing_ticket };
+    ghost ticket = { stream_closing_ticket };
 
     fn poll<L: Link>(self, link: &mut L) -> Step<Closing, ()>
-        requires { IsOut (L.awaited link.old) (closing_ticket self) }
-        ensures tickets { Tickets (L.awaited link.old) (L.awaited link.new) (closing_ticket self) (ticket_after closing_ticket result) }
-        ensures pended { Pended closing_ticket result (L.pends link.old) (L.pends link.new) }
+        requires { IsOut (L.awaited link.old) (stream_closing_ticket self) }
+        ensures tickets { Tickets (L.awaited link.old) (L.awaited link.new) (stream_closing_ticket self) (ticket_after stream_closing_ticket result) }
+        ensures pended { Pended stream_closing_ticket result (L.pends link.old) (L.pends link.new) }
         ensures lost { FailsByFault result (L.faults link.old) (L.faults link.new) }
         ensures prompt { L.prompt link.old → EndsAtOnce result }
         ensures later { Later (L.faults link.old) (L.faults link.new) (L.pends link.old) (L.pends link.new)
             (L.wire link.old) (L.wire link.new) (L.prompt link.old) (L.prompt link.new) }
-        ensures sends { self.flight ≡ Flight.Landed → KillsAll (L.awaited link.old) (L.awaited link.new) (L.log link.old) (L.log link.new) (L.wire link.old) self.remains result }
-        ensures sent { IsQuiet self.flight → IsClosing (L.wire link.old) self.remains self.flight → ClosingSent (L.log link.old) (L.log link.new) self.remains self.flight }
-        ensures quiet { IsQuiet self.flight → QuietAfter result }
-        ensures grows { IsQuiet self.flight → Grows (L.log link.old) (L.log link.new) }
-        ensures closes { IsClosing (L.wire link.old) self.remains self.flight → Closes (L.wire link.new) self.remains.aggregate result }
-        ensures moved { IsClosing (L.wire link.old) self.remains self.flight → (f : Follow) → KnewBy self.flight self.remains.aggregate f
-            → Moved (L.log link.old) (L.log link.new) (closing_of (L.awaited link.old) f self) (closes_to (L.awaited link.new) f result) }
-        ensures stays { Stays (L.log link.old) (L.log link.new) }
-        ensures caused { IsClosing (L.wire link.old) self.remains self.flight → ClosingCaused (L.awaited link.old) (L.awaited link.new) (L.log link.old) (L.log link.new) (L.wire link.old) self.remains self.flight result }
+        // Which commands it sent, and what came of them.
+        ensures closes { ClosesStream (L.awaited link.old) (L.awaited link.new) (L.log link.old) (L.log link.new) (L.wire link.old) self result }
+        // What in the log is the cause of the answer, over all polls.
+        ensures caused { ClosingCaused (L.awaited link.old) (L.awaited link.new) (L.log link.old) (L.log link.new) (L.wire link.old) self result }
+        // Over an honest link no cursor of the stream is left behind it.
+        ensures moved { (w : Watch) (start : Start) (token : Option Tree) → LandsFor w start token self → (opened : Option ℕ) (answered : List Fields)
+            → Moved (L.log link.old) (L.log link.new) (follow_closing (L.awaited link.old) w start token self opened answered) (follow_closed (L.awaited link.new) w start token opened answered result) }
+        // What is on its way is of the same stream still.
+        ensures lands_for { (w : Watch) (start : Start) (token : Option Tree) → LandsFor w start token self → OnPending result (LandsFor w start token) }
     {
         let Closing { remains, flight } = self;
-        match flight {
-            Flight::Landed => kill_all(link, remains),
-            Flight::More(get_more, exec) => {
-                let landing = land_more(link, remains, get_more, exec);
-                go_on(link, landing)
-            }
-            Flight::Resumption(exec) => {
-                let landing = land_resumption(link, remains, exec);
-                go_on(link, landing)
-            }
-            Flight::Older(exec, old) => {
-                let landing = land_older(link, remains, exec, old);
-                go_on(link, landing)
-            }
-            Flight::Last(exec) => wait(link, remains, exec),
-        }
+        go_on(link, remains, flight)
     }
 }

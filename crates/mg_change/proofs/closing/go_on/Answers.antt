@@ -1,57 +1,85 @@
-use Rattle.std.proofs.Common.{◌≡◌, ◌∙◌, refl, subst, sym}
-use Rattle.mg_link.specs.Follow.{Moved}
-use Rattle.mg_link.proofs.Moves.{stayed}
-use Rattle.mg_link.proofs.Staying.{stays_same}
-use Rattle.mg_change.specs.Closings.{KillsAll, closed, closes_to, closing_of, landing_of}
-use Rattle.mg_link.specs.declared.action.Step.{Step}
-use Rattle.mg_link.specs.declared.action.Step.TheVariants as step
-use Rattle.mg_change.specs.declared.closing.Closing.{Closing}
-use Rattle.mg_change.specs.declared.closing.Remains.{Remains}
-use Rattle.mg_change.proofs.ClosingCauses as causes
+use Rattle.std.proofs.Common.{sym, ap, subst}
+use Rattle.mg_link.specs.Acts.{IsOut}
+use Rattle.mg_link.specs.Exec.{ticket_of}
+use Rattle.mg_cursor.specs.Client.{client_ticket}
+use Rattle.mg_cursor.specs.Closing.{closing_ticket}
+use Rattle.mg_cursor.specs.View.{client_of}
+use Rattle.mg_cursor.proofs.Hearing.{keeps_from}
+use Rattle.mg_change.specs.ClosingStreams.{ClosesStream, goes_on, landing_ticket, lands}
+use Rattle.mg_change.specs.ClosingView.{IsClosingIn, closing_in, landing_in}
+use Rattle.mg_change.specs.declared.closing.Flight.{Flight}
+use Rattle.mg_change.proofs.Remaining.{runs_as, to_kill}
 use Rattle.mg_change.proofs.closing.go_on.Goals as goal
 
-abbrev done : Remains → Step Closing Remains
-done r = step.Done r
+-- ---- a getMore, where there is one
 
-done_same : (r r' : Remains) → done r ≡ done r' → r ≡ r'
-done_same r r' h = cc
+pub land-requires-clause-held : goal.land-requires-clause-held
+land-requires-clause-held g c = subst (λ (f : Flight). IsOut (g.L.Link.awaited c.args.link.now) (landing_ticket (client_of c.args.remains.batches) (landing_in f))) c.in-Lands.is c.requires.held
 
-pub returns-in-Pending-clause-moved : goal.returns-in-Pending-clause-moved
-returns-in-Pending-clause-moved g c = λ f.
-    subst (λ l. Moved (g.L.Link.log c.args.link.now) (g.L.Link.log c.args.link.now) (landing_of (g.L.Link.awaited c.args.link.now) f l) (closing_of (g.L.Link.awaited c.args.link.now) f c.in-Pending.closing)) (sym c.in-Pending.is)
-    (stayed _ _ (closing_of (g.L.Link.awaited c.args.link.now) f c.in-Pending.closing) refl)
+pub land-requires-clause-sound : goal.land-requires-clause-sound
+land-requires-clause-sound g c = subst (λ (f : Flight). IsClosingIn c.args.remains (landing_in f)) c.in-Lands.is c.requires.sound
 
-pub returns-in-Done-clause-moved : goal.returns-in-Done-clause-moved
-returns-in-Done-clause-moved g c = λ f.
-    subst (λ l. Moved (g.L.Link.log c.args.link.now) (g.L.Link.log c.kill_all.new.link) (landing_of (g.L.Link.awaited c.args.link.now) f l) (closes_to (g.L.Link.awaited c.kill_all.new.link) f c.kill_all.result)) (sym c.in-Done.is)
-    (c.kill_all.ensures.moved f)
+pub returns-in-Lands-clause-keeps : goal.returns-in-Lands-clause-keeps
+returns-in-Lands-clause-keeps g c =
+    keeps_from _ _ (client_ticket (client_of c.args.remains.batches)) (landing_ticket (client_of c.args.remains.batches) (landing_in c.args.flight)) _ _ (ap (λ (f : Flight). landing_ticket (client_of c.args.remains.batches) (landing_in f)) (sym c.in-Lands.is)) c.land.ensures.keeps
 
-pub returns-in-Failed-clause-moved : goal.returns-in-Failed-clause-moved
-returns-in-Failed-clause-moved g c = λ f.
-    subst (λ l. Moved (g.L.Link.log c.args.link.now) (g.L.Link.log c.args.link.now) (landing_of (g.L.Link.awaited c.args.link.now) f l) (closed f)) (sym c.in-Failed.is)
-    (stayed _ _ (closed f) refl)
+pub returns-in-Lands-clause-closes : goal.returns-in-Lands-clause-closes
+returns-in-Lands-clause-closes g c =
+    let link = c.args.link.now in
+    let later = c.land.new.link in
+    subst (λ (f : Flight). ClosesStream (g.L.Link.awaited link) (g.L.Link.awaited later) (g.L.Link.log link) (g.L.Link.log later) (g.L.Link.wire link) (closing_in c.args.remains (landing_in f)) c.land.result) (sym c.in-Lands.is) c.land.ensures.closes
 
-pub returns-in-Done-clause-sends : goal.returns-in-Done-clause-sends
-returns-in-Done-clause-sends g c = λ r is.
-    let same : c.in-Done.remains ≡ r = done_same c.in-Done.remains r (sym c.in-Done.is ∙ is) in
-    subst (λ (x : Remains). KillsAll (g.L.Link.awaited c.args.link.now) (g.L.Link.awaited c.kill_all.new.link) (g.L.Link.log c.args.link.now) (g.L.Link.log c.kill_all.new.link) (g.L.Link.wire c.args.link.now) x c.kill_all.result) same c.kill_all.ensures.sends
+-- ---- the aggregate of a resumption
 
-pub returns-in-Pending-clause-stays : goal.returns-in-Pending-clause-stays
-returns-in-Pending-clause-stays g c = stays_same (g.L.Link.log c.args.link.now) (g.L.Link.log c.args.link.now) refl
+pub land_aggregate-requires-clause-held : goal.land_aggregate-requires-clause-held
+land_aggregate-requires-clause-held g c = subst (λ (f : Flight). IsOut (g.L.Link.awaited c.args.link.now) (landing_ticket (client_of c.args.remains.batches) (landing_in f))) c.in-Aggregate.is c.requires.held
 
-pub returns-in-Done-clause-stays : goal.returns-in-Done-clause-stays
-returns-in-Done-clause-stays g c = c.kill_all.ensures.stays
+pub land_aggregate-requires-clause-sound : goal.land_aggregate-requires-clause-sound
+land_aggregate-requires-clause-sound g c = (subst (λ (f : Flight). IsClosingIn c.args.remains (landing_in f)) c.in-Aggregate.is c.requires.sound).sound
 
-pub returns-in-Failed-clause-stays : goal.returns-in-Failed-clause-stays
-returns-in-Failed-clause-stays g c = stays_same (g.L.Link.log c.args.link.now) (g.L.Link.log c.args.link.now) refl
+pub returns-in-Aggregate-clause-keeps : goal.returns-in-Aggregate-clause-keeps
+returns-in-Aggregate-clause-keeps g c =
+    keeps_from _ _ (ticket_of c.in-Aggregate.exec) (landing_ticket (client_of c.args.remains.batches) (landing_in c.args.flight)) _ _ (ap (λ (f : Flight). landing_ticket (client_of c.args.remains.batches) (landing_in f)) (sym c.in-Aggregate.is)) c.land_aggregate.ensures.keeps
 
-pub returns-in-Pending-clause-caused : goal.returns-in-Pending-clause-caused
-returns-in-Pending-clause-caused g c = λ old log r f ran. causes.waits_on old (g.L.Link.awaited c.args.link.now) log (g.L.Link.log c.args.link.now) (g.L.Link.wire c.args.link.now) r f c.args.landing ran c.in-Pending.closing c.in-Pending.is
+pub returns-in-Aggregate-clause-closes : goal.returns-in-Aggregate-clause-closes
+returns-in-Aggregate-clause-closes g c =
+    let link = c.args.link.now in
+    let later = c.land_aggregate.new.link in
+    subst (λ (f : Flight). ClosesStream (g.L.Link.awaited link) (g.L.Link.awaited later) (g.L.Link.log link) (g.L.Link.log later) (g.L.Link.wire link) (closing_in c.args.remains (landing_in f)) c.land_aggregate.result) (sym c.in-Aggregate.is) c.land_aggregate.ensures.closes
 
-pub returns-in-Done-clause-caused : goal.returns-in-Done-clause-caused
-returns-in-Done-clause-caused g c = λ old log r f ran.
-    causes.killed_later old (g.L.Link.awaited c.args.link.now) (g.L.Link.awaited c.kill_all.new.link) log (g.L.Link.log c.args.link.now) (g.L.Link.log c.kill_all.new.link) (g.L.Link.wire c.args.link.now) r c.in-Done.remains f c.args.landing c.in-Done.is ran
-    c.kill_all.ensures.stays c.kill_all.result c.kill_all.ensures.caused
+-- ---- the closing of the cursor before
 
-pub returns-in-Failed-clause-caused : goal.returns-in-Failed-clause-caused
-returns-in-Failed-clause-caused g c = λ old log r f ran. causes.fails_on old (g.L.Link.awaited c.args.link.now) log (g.L.Link.log c.args.link.now) (g.L.Link.wire c.args.link.now) r f c.args.landing ran c.in-Failed.error c.in-Failed.is
+pub land_older-requires-clause-held : goal.land_older-requires-clause-held
+land_older-requires-clause-held g c = subst (λ (f : Flight). IsOut (g.L.Link.awaited c.args.link.now) (landing_ticket (client_of c.args.remains.batches) (landing_in f))) c.in-Older.is c.requires.held
+
+pub land_older-requires-clause-sound : goal.land_older-requires-clause-sound
+land_older-requires-clause-sound g c = (subst (λ (f : Flight). IsClosingIn c.args.remains (landing_in f)) c.in-Older.is c.requires.sound).sound
+
+pub returns-in-Older-clause-keeps : goal.returns-in-Older-clause-keeps
+returns-in-Older-clause-keeps g c =
+    keeps_from _ _ (closing_ticket c.in-Older.closing) (landing_ticket (client_of c.args.remains.batches) (landing_in c.args.flight)) _ _ (ap (λ (f : Flight). landing_ticket (client_of c.args.remains.batches) (landing_in f)) (sym c.in-Older.is)) c.land_older.ensures.keeps
+
+pub returns-in-Older-clause-closes : goal.returns-in-Older-clause-closes
+returns-in-Older-clause-closes g c =
+    let link = c.args.link.now in
+    let later = c.land_older.new.link in
+    subst (λ (f : Flight). ClosesStream (g.L.Link.awaited link) (g.L.Link.awaited later) (g.L.Link.log link) (g.L.Link.log later) (g.L.Link.wire link) (closing_in c.args.remains (landing_in f)) c.land_older.result) (sym c.in-Older.is) c.land_older.ensures.closes
+
+-- ---- its killCursors
+
+pub wait-requires-clause-held : goal.wait-requires-clause-held
+wait-requires-clause-held g c = subst (λ (f : Flight). IsOut (g.L.Link.awaited c.args.link.now) (landing_ticket (client_of c.args.remains.batches) (landing_in f))) c.in-Last.is c.requires.held
+
+pub wait-requires-clause-killing : goal.wait-requires-clause-killing
+wait-requires-clause-killing g c = to_kill (closing_in c.args.remains lands) c.in-Last.exec (subst (λ (f : Flight). IsClosingIn c.args.remains (landing_in f)) c.in-Last.is c.requires.sound).sound
+
+pub returns-in-Last-clause-keeps : goal.returns-in-Last-clause-keeps
+returns-in-Last-clause-keeps g c =
+    keeps_from _ _ (ticket_of c.in-Last.exec) (landing_ticket (client_of c.args.remains.batches) (landing_in c.args.flight)) _ _ (ap (λ (f : Flight). landing_ticket (client_of c.args.remains.batches) (landing_in f)) (sym c.in-Last.is)) c.wait.ensures.keeps
+
+pub returns-in-Last-clause-closes : goal.returns-in-Last-clause-closes
+returns-in-Last-clause-closes g c =
+    let link = c.args.link.now in
+    let later = c.wait.new.link in
+    goes_on c.in-Last.exec (ap landing_in c.in-Last.is)
+    (runs_as (g.L.Link.awaited link) (g.L.Link.awaited later) (g.L.Link.log link) (g.L.Link.log later) (g.L.Link.wire link) (closing_in c.args.remains (landing_in c.args.flight)) c.in-Last.exec c.wait.result c.wait.ensures.runs)

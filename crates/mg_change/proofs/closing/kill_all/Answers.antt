@@ -1,114 +1,55 @@
-use mir.Val.{SFits}
-use Rattle.std.proofs.Common.{◌≢◌, ◌≡◌, ◌==◌, ℕ, ℤ, Bool, true, false, List, [], ◌∷◌, length, sym, arith, refl, inl, inr, to_z, of_z, w64, ap, ◌∙◌, subst, rules}
-use Rattle.std.proofs.lemmas.Bool.{eqb-true}
-use Rattle.std.proofs.lemmas.Int.{to_z-of_z}
-use Rattle.mg_link.specs.Namespace.{space}
-use Rattle.mg_link.proofs.Staying.{stays_same}
-use Rattle.mg_ops.specs.Commands.{kill_command}
-use Rattle.mg_change.specs.Closings.{IsLast, ids_left}
-use Rattle.mg_change.specs.Phases.{Carries}
-use Rattle.mg_change.proofs.Closed.{dropped}
-use Rattle.mg_link.specs.declared.error.Error.{Error}
-use Rattle.mg_change.proofs.ClosingCauses as causes
+use Rattle.std.proofs.Common.{◌≡◌, Some, None, refl, sym, ◌∙◌}
+use Rattle.mg_link.specs.Exec.{ticket_of}
+use Rattle.mg_link.specs.Moment.{finished, moment}
+use Rattle.mg_link.proofs.Moments.{keeps_same}
+use Rattle.mg_cursor.proofs.Hearing.{failing, keeps_from, unsent_not_io}
+use Rattle.mg_change.specs.ClosingStreams.{kill_left, kills_all, lands, not_built, nothing_left}
+use Rattle.mg_change.specs.ClosingView.{closing_in}
+use Rattle.mg_change.proofs.Remaining.{kill_new, kill_unbuilt, new_ticket, none_left, some_left, to_kill_new}
 use Rattle.mg_change.proofs.closing.kill_all.Goals as goal
-use Rattle.mg_change.proofs.closing.kill_all.Goals.{After-wait}
-use Rattle.mg_change.proofs.closing.kill_all.Given.{Over}
 
--- the ids, which were handed on
-ids_same : (id opened : ℤ) (ids : List ℤ) → SFits w64 id → SFits w64 opened → ids ≡ ids_left (to_z w64 (of_z w64 id)) (to_z w64 (of_z w64 opened)) → ids ≡ ids_left id opened
-ids_same id opened ids id_fits opened_fits is = is ∙ ap (λ (z : ℤ). ids_left z (to_z w64 (of_z w64 opened))) (to_z-of_z w64 id id_fits) ∙ ap (ids_left id) (to_z-of_z w64 opened opened_fits)
+-- nothing is held yet
+pub wait-requires-clause-held : goal.wait-requires-clause-held
+wait-requires-clause-held g c = λ n e.
+    let k = closing_in c.args.remains lands in
+    let bad : None ≡ Some n = sym (new_ticket k c.in-Ok.exec (kill_new _ k c.args.ids.items c.in-Ok.exec c.namespace.ensures c.requires.left c.in-Ok.ensures.built)) ∙ e in
+    absurd cc
 
-some_held : (id opened : ℤ) → SFits w64 id → SFits w64 opened → ids_left (to_z w64 (of_z w64 id)) (to_z w64 (of_z w64 opened)) ≢ [] → ids_left id opened ≢ []
-some_held id opened id_fits opened_fits some =
-    let same : ids_left (to_z w64 (of_z w64 id)) (to_z w64 (of_z w64 opened)) ≡ ids_left id opened = ap (λ (z : ℤ). ids_left z (to_z w64 (of_z w64 opened))) (to_z-of_z w64 id id_fits) ∙ ap (ids_left id) (to_z-of_z w64 opened opened_fits) in
-    λ none. some (same ∙ none)
+pub wait-requires-clause-killing : goal.wait-requires-clause-killing
+wait-requires-clause-killing g c =
+    let k = closing_in c.args.remains lands in
+    to_kill_new k c.in-Ok.exec c.requires.quiet (some_left k c.args.ids.items c.args.ids.len c.is_empty.result c.requires.left c.args.ids.ok.0 c.is_empty.ensures c.if-is_empty.false) (kill_new _ k c.args.ids.items c.in-Ok.exec c.namespace.ensures c.requires.left c.in-Ok.ensures.built)
 
--- the command kills what is left
-kills : (g : Over) (c : After-wait g) → IsLast c.args.remains c.in-Ok-kill.exec
-kills g c =
-    let r = c.args.remains in
-    let ids = ids_same r.cursor.id r.opened c.in-Ok.ids.items (search rules) (search rules) c.in-Ok.ensures.ok in
-    subst (λ (l : List ℤ). Carries c.in-Ok-kill.exec (kill_command (space r.cursor.ns) l) false) ids c.in-Ok-kill.ensures.command
+-- ---- nothing is left
 
-no_ids : (ids : List ℤ) (n : ℕ) (b : Bool) → n ≡ length ids → b ≡ (n == 0) → b ≡ true → ids ≡ []
-no_ids [] n b len is shown = refl
-no_ids (id ∷ ids) n b len is shown = absurd (omega (arith, len, eqb-true n 0 (sym is ∙ shown)))
+pub returns-then-is_empty-clause-keeps : goal.returns-then-is_empty-clause-keeps
+returns-then-is_empty-clause-keeps g c = keeps_same (moment (g.L.Link.awaited c.args.link.now) (g.L.Link.log c.args.link.now) (g.L.Link.faults c.args.link.now) (g.L.Link.pends c.args.link.now) (g.L.Link.wire c.args.link.now) (g.L.Link.prompt c.args.link.now)) None finished (λ n e. cc) refl tt tt
 
-some_ids : (ids : List ℤ) (n : ℕ) (b : Bool) → n ≡ length ids → b ≡ (n == 0) → b ≡ false → ids ≡ [] → ⊥
-some_ids ids n b len is shown none = let zero_is : n ≡ 0 = len ∙ ap length none in let bad : true ≡ false = sym (ap (λ (k : ℕ). k == 0) zero_is) ∙ sym is ∙ shown in cc
+pub returns-then-is_empty-clause-kills : goal.returns-then-is_empty-clause-kills
+returns-then-is_empty-clause-kills g c =
+    nothing_left (none_left (closing_in c.args.remains lands) c.args.ids.items c.args.ids.len c.is_empty.result c.requires.left c.args.ids.ok.0 c.is_empty.ensures c.if-is_empty.true) (record { rest = λ n. refl; log_same = refl }) refl
 
-pub returns-in-Err-clause-moved : goal.returns-in-Err-clause-moved
-returns-in-Err-clause-moved g c = λ f. dropped _ f c.args.remains.cursor.id c.args.remains.opened
+-- ---- it is sent
 
-pub returns-then-is_empty-clause-moved : goal.returns-then-is_empty-clause-moved
-returns-then-is_empty-clause-moved g c = λ f. dropped _ f c.args.remains.cursor.id c.args.remains.opened
+pub returns-in-Ok-clause-keeps : goal.returns-in-Ok-clause-keeps
+returns-in-Ok-clause-keeps g c =
+    let k = closing_in c.args.remains lands in
+    keeps_from _ _ (ticket_of c.in-Ok.exec) None _ _ (new_ticket k c.in-Ok.exec (kill_new _ k c.args.ids.items c.in-Ok.exec c.namespace.ensures c.requires.left c.in-Ok.ensures.built)) c.wait.ensures.keeps
 
-pub returns-in-Ok-kill-clause-closes : goal.returns-in-Ok-kill-clause-closes
-returns-in-Ok-kill-clause-closes g c = λ kept. c.wait.ensures.closes kept (kills g c)
+pub returns-in-Ok-clause-kills : goal.returns-in-Ok-clause-kills
+returns-in-Ok-clause-kills g c =
+    let k = closing_in c.args.remains lands in
+    kills_all (some_left k c.args.ids.items c.args.ids.len c.is_empty.result c.requires.left c.args.ids.ok.0 c.is_empty.ensures c.if-is_empty.false) c.in-Ok.exec (kill_new _ k c.args.ids.items c.in-Ok.exec c.namespace.ensures c.requires.left c.in-Ok.ensures.built) c.wait.ensures.runs
 
-pub returns-in-Ok-kill-clause-moved : goal.returns-in-Ok-kill-clause-moved
-returns-in-Ok-kill-clause-moved g c = λ f. c.wait.ensures.moved (kills g c) f
+-- ---- it is not built
 
-pub returns-in-Err-kill-clause-moved : goal.returns-in-Err-kill-clause-moved
-returns-in-Err-kill-clause-moved g c = λ f. dropped _ f c.args.remains.cursor.id c.args.remains.opened
+pub returns-in-Err-clause-keeps : goal.returns-in-Err-clause-keeps
+returns-in-Err-clause-keeps g c =
+    let k = closing_in c.args.remains lands in
+    failing _ _ None None c.in-Err.error (unsent_not_io (kill_left k) c.in-Err.error (kill_unbuilt _ k c.args.ids.items c.in-Err.error c.namespace.ensures c.requires.left c.in-Err.ensures.fails))
+    (keeps_same (moment (g.L.Link.awaited c.args.link.now) (g.L.Link.log c.args.link.now) (g.L.Link.faults c.args.link.now) (g.L.Link.pends c.args.link.now) (g.L.Link.wire c.args.link.now) (g.L.Link.prompt c.args.link.now)) None finished (λ n e. cc) refl tt tt)
 
-pub returns-in-Err-clause-sends : goal.returns-in-Err-clause-sends
-returns-in-Err-clause-sends g c = inl (refl, tt)
-
-pub returns-then-is_empty-clause-sends : goal.returns-then-is_empty-clause-sends
-returns-then-is_empty-clause-sends g c = inl (refl, sym (ids_same c.args.remains.cursor.id c.args.remains.opened c.in-Ok.ids.items (search rules) (search rules) c.in-Ok.ensures.ok) ∙ no_ids c.in-Ok.ids.items c.in-Ok.ids.len c.is_empty.result c.in-Ok.ids.ok.0 c.is_empty.ensures c.if-is_empty.true)
-
-pub returns-in-Ok-kill-clause-sends : goal.returns-in-Ok-kill-clause-sends
-returns-in-Ok-kill-clause-sends g c =
-    inr (record {
-      some = λ e. some_ids c.in-Ok.ids.items c.in-Ok.ids.len c.is_empty.result c.in-Ok.ids.ok.0 c.is_empty.ensures c.if-is_empty.false (ids_same c.args.remains.cursor.id c.args.remains.opened c.in-Ok.ids.items (search rules) (search rules) c.in-Ok.ensures.ok ∙ e);
-      exec = c.in-Ok-kill.exec;
-      fresh = c.in-Ok-kill.ensures.stage;
-      kills = kills g c;
-      ran = c.wait.ensures.sends;
-    })
-
-pub returns-in-Err-kill-clause-sends : goal.returns-in-Err-kill-clause-sends
-returns-in-Err-kill-clause-sends g c = inl (refl, tt)
-
-pub returns-in-Err-clause-stays : goal.returns-in-Err-clause-stays
-returns-in-Err-clause-stays g c = stays_same (g.L.Link.log c.args.link.now) (g.L.Link.log c.args.link.now) refl
-
-pub returns-then-is_empty-clause-stays : goal.returns-then-is_empty-clause-stays
-returns-then-is_empty-clause-stays g c = stays_same (g.L.Link.log c.args.link.now) (g.L.Link.log c.args.link.now) refl
-
-pub returns-in-Ok-kill-clause-stays : goal.returns-in-Ok-kill-clause-stays
-returns-in-Ok-kill-clause-stays g c = c.wait.ensures.stays
-
-pub returns-in-Err-kill-clause-stays : goal.returns-in-Err-kill-clause-stays
-returns-in-Err-kill-clause-stays g c = stays_same (g.L.Link.log c.args.link.now) (g.L.Link.log c.args.link.now) refl
-
-pub returns-in-Err-clause-caused : goal.returns-in-Err-clause-caused
-returns-in-Err-clause-caused g c = causes.kill_no_memory (g.L.Link.awaited c.args.link.now) (g.L.Link.awaited c.args.link.now) (g.L.Link.log c.args.link.now) (g.L.Link.wire c.args.link.now) c.args.remains c.in-Err.error
-    (some_held c.args.remains.cursor.id c.args.remains.opened (search rules) (search rules) c.in-Err.ensures.some) (ap (λ (e : Error). e.kind) c.in-Err.ensures.room)
-
-pub returns-then-is_empty-clause-caused : goal.returns-then-is_empty-clause-caused
-returns-then-is_empty-clause-caused g c = causes.kill_none (g.L.Link.awaited c.args.link.now) (g.L.Link.awaited c.args.link.now) (g.L.Link.log c.args.link.now) (g.L.Link.wire c.args.link.now) c.args.remains (sym (ids_same c.args.remains.cursor.id c.args.remains.opened c.in-Ok.ids.items (search rules) (search rules) c.in-Ok.ensures.ok) ∙ no_ids c.in-Ok.ids.items c.in-Ok.ids.len c.is_empty.result c.in-Ok.ids.ok.0 c.is_empty.ensures c.if-is_empty.true)
-
-pub returns-in-Ok-kill-clause-caused : goal.returns-in-Ok-kill-clause-caused
-returns-in-Ok-kill-clause-caused g c = causes.kill_new (g.L.Link.awaited c.args.link.now) (g.L.Link.awaited c.wait.new.link) (g.L.Link.log c.args.link.now) (g.L.Link.log c.wait.new.link) (g.L.Link.wire c.args.link.now) c.args.remains c.in-Ok-kill.exec c.wait.result
-    (λ e. some_ids c.in-Ok.ids.items c.in-Ok.ids.len c.is_empty.result c.in-Ok.ids.ok.0 c.is_empty.ensures c.if-is_empty.false (ids_same c.args.remains.cursor.id c.args.remains.opened c.in-Ok.ids.items (search rules) (search rules) c.in-Ok.ensures.ok ∙ e)) c.in-Ok-kill.ensures.stage (c.wait.ensures.caused (kills g c))
-
-pub returns-in-Err-kill-clause-caused : goal.returns-in-Err-kill-clause-caused
-returns-in-Err-kill-clause-caused g c = causes.kill_unbuilt (g.L.Link.awaited c.args.link.now) (g.L.Link.awaited c.args.link.now) (g.L.Link.log c.args.link.now) (g.L.Link.wire c.args.link.now) c.args.remains c.in-Ok.ids.items c.in-Err-kill.error (ids_same c.args.remains.cursor.id c.args.remains.opened c.in-Ok.ids.items (search rules) (search rules) c.in-Ok.ensures.ok)
-    (λ e. some_ids c.in-Ok.ids.items c.in-Ok.ids.len c.is_empty.result c.in-Ok.ids.ok.0 c.is_empty.ensures c.if-is_empty.false (ids_same c.args.remains.cursor.id c.args.remains.opened c.in-Ok.ids.items (search rules) (search rules) c.in-Ok.ensures.ok ∙ e)) c.in-Err-kill.ensures.fails
-
-pub returns-in-Ok-kill-clause-pended : goal.returns-in-Ok-kill-clause-pended
-returns-in-Ok-kill-clause-pended g c = c.wait.ensures.pended
-
-pub returns-in-Ok-kill-clause-lost : goal.returns-in-Ok-kill-clause-lost
-returns-in-Ok-kill-clause-lost g c = c.wait.ensures.lost
-
-pub returns-in-Ok-kill-clause-prompt : goal.returns-in-Ok-kill-clause-prompt
-returns-in-Ok-kill-clause-prompt g c = c.wait.ensures.prompt
-
-pub returns-in-Ok-kill-clause-later : goal.returns-in-Ok-kill-clause-later
-returns-in-Ok-kill-clause-later g c = c.wait.ensures.later
-
-pub returns-in-Ok-kill-clause-quiet : goal.returns-in-Ok-kill-clause-quiet
-returns-in-Ok-kill-clause-quiet g c = c.wait.ensures.quiet
+pub returns-in-Err-clause-kills : goal.returns-in-Err-clause-kills
+returns-in-Err-clause-kills g c =
+    let k = closing_in c.args.remains lands in
+    not_built (some_left k c.args.ids.items c.args.ids.len c.is_empty.result c.requires.left c.args.ids.ok.0 c.is_empty.ensures c.if-is_empty.false) c.in-Err.error (kill_unbuilt _ k c.args.ids.items c.in-Err.error c.namespace.ensures c.requires.left c.in-Err.ensures.fails) (record { rest = λ n. refl; log_same = refl }) refl

@@ -1,5 +1,6 @@
-use Rattle.std.proofs.Common.{◌⊎◌, inl, inr, ap, ◌∙◌, subst}
+use Rattle.std.proofs.Common.{◌⊎◌, inl, inr, refl, ap, ◌∙◌, subst}
 use Rattle.std.proofs.lemmas.Result.{err_from_is_err_and}
+use Rattle.mg_bson.specs.Bytes.{bytes}
 use Rattle.mg_bson.specs.Tree.{Fields}
 use Rattle.mg_link.specs.Namespace.{Space, space}
 use Rattle.mg_link.specs.declared.error.Error.{Error}
@@ -19,8 +20,10 @@ returns-in_err-command-clause-fails c =
     rw (p.1, p.2) (subst (λ (s : Space). FailsBy (CannotBeSent (kill_command s c.args.ids.items)) c.in_err-command.field-0.0) c.in_ok-clone.ensures.cases
     (unsent (kill_command (space c.in_ok-clone.field-0) c.args.ids.items) c.in_err-command.field-0.0 c.in_err-command.ensures.err))
 
-pub returns-clause-command : goal.returns-clause-command
-returns-clause-command c = rw c.start.ensures (record {
+pub returns-clause-built : goal.returns-clause-built
+returns-clause-built c = rw c.start.ensures (record {
+  bytes_are = c.in_ok-command.ensures.bytes ∙ ap (λ (s : Space). bytes (kill_command s c.args.ids.items)) c.in_ok-clone.ensures.cases;
   command_is = c.in_ok-command.ensures.read_back ∙ ap (λ (s : Space). kill_command s c.args.ids.items) c.in_ok-clone.ensures.cases;
-  retries_is = rw c.retry.ensures;
+  single = rw c.retry.ensures;
+  new = refl;
 })

@@ -1,63 +1,69 @@
-use Rattle.std.proofs.Common.{Option, sym, subst, refl}
-use Rattle.mg_link.specs.Exec.{Sending}
-use Rattle.mg_link.specs.Follow.{Follow, Moved}
-use Rattle.mg_link.proofs.Moves.{stayed}
-use Rattle.mg_link.proofs.Staying.{stays_same}
-use Rattle.mg_change.specs.Following.{not_open, opening_in}
-use Rattle.mg_change.specs.Openings.{OpeningMoves}
-use Rattle.mg_change.proofs.Opened.{next_follow, next_keeps, next_opening}
-use Rattle.mg_change.proofs.OpeningSends as sends
-use Rattle.mg_change.proofs.Vain.{next_vain, vainly_unsent}
-use Rattle.mg_change.proofs.OpeningCauses as causes
-use Rattle.mg_change.proofs.Placed.{next_placed}
+use Rattle.std.proofs.Common.{true, None, refl, subst}
+use Rattle.mg_change.specs.ClientOpenings.{OpensStream, opening_ticket, seen_step}
+use Rattle.mg_change.specs.OpeningView.{IsOpens, opening_of, opens_in, opens_of, ticket_in}
+use Rattle.mg_change.specs.StreamView.{IsOwnPlace, IsStream, changes_in, changes_of, stream_of}
+use Rattle.mg_change.specs.declared.changes.Changes.{Changes}
+use Rattle.mg_change.specs.declared.opens.Opens.{Opens}
+use Rattle.mg_cursor.proofs.Killing.{at_once_step, lost_step, pended_step}
+use Rattle.mg_change.proofs.Opened.{opens_moved}
+use Rattle.mg_change.proofs.OpeningCauses.{opens_caused}
+use Rattle.mg_change.proofs.Seen.{polled_keeps, polled_kept, polled_seen}
 use Rattle.mg_change.proofs.opening.OpeningAction.poll.Goals as goal
 
-pub returns-in-Ok-clause-keeps : goal.returns-in-Ok-clause-keeps
-returns-in-Ok-clause-keeps g c = next_keeps c.args.self.aggregate _ c.args.self.exec c.in-Ok.exec c.wait.result c.in-Ok.ensures.ok c.wait.ensures.keeps
+pub poll_in-requires : goal.poll_in-requires
+poll_in-requires g c = c.requires
 
-pub returns-in-Ok-clause-moved : goal.returns-in-Ok-clause-moved
-returns-in-Ok-clause-moved g c = λ o w start asks.
-    subst (λ (f : Follow). OpeningMoves (g.L.Link.awaited c.wait.new.link) (g.L.Link.log c.args.link.now) (g.L.Link.log c.wait.new.link) f w start c.wait.result)
-    (next_follow c.args.self.aggregate _ c.args.self.exec c.in-Ok.exec (g.L.Link.awaited c.args.link.now) w start c.in-Ok.ensures.ok)
-    (c.wait.ensures.moved (next_opening c.args.self.aggregate _ c.args.self.exec c.in-Ok.exec c.in-Ok.ensures.ok o) w start asks)
+-- ---- the clauses of an action
 
-pub returns-in-Err-clause-moved : goal.returns-in-Err-clause-moved
-returns-in-Err-clause-moved g c = λ o w start asks.
-    subst (λ (e : Option Sending). Moved (g.L.Link.log c.args.link.now) (g.L.Link.log c.args.link.now) (opening_in (g.L.Link.awaited c.args.link.now) e w start) (not_open w start)) (sym c.in-Err.ensures.none)
-    (stayed (g.L.Link.log c.args.link.now) (g.L.Link.log c.args.link.now) (not_open w start) refl)
+pub returns-clause-tickets : goal.returns-clause-tickets
+returns-clause-tickets g c = (polled_keeps _ _ (ticket_in c.args.self) (λ (o : Opens). opening_ticket (opens_of o)) opens_in changes_in c.opening_step.result c.poll_in.result c.opening_step.ensures c.poll_in.ensures.keeps).tickets
 
-pub returns-in-Ok-clause-sent : goal.returns-in-Ok-clause-sent
-returns-in-Ok-clause-sent g c = λ o.
-    sends.next_sends c.args.self.aggregate _ c.args.self.exec c.in-Ok.exec (g.L.Link.log c.args.link.now) (g.L.Link.log c.wait.new.link) c.wait.result c.in-Ok.ensures.ok
-    (c.wait.ensures.sent (next_opening c.args.self.aggregate _ c.args.self.exec c.in-Ok.exec c.in-Ok.ensures.ok o))
+pub returns-clause-pended : goal.returns-clause-pended
+returns-clause-pended g c =
+    pended_step ticket_in c.opening_step.result _ _
+    (polled_keeps _ _ (ticket_in c.args.self) (λ (o : Opens). opening_ticket (opens_of o)) opens_in changes_in c.opening_step.result c.poll_in.result c.opening_step.ensures c.poll_in.ensures.keeps).pended
 
-pub returns-in-Err-clause-sent : goal.returns-in-Err-clause-sent
-returns-in-Err-clause-sent g c = λ o. sends.opening_unsent c.args.self.aggregate.args c.args.self.exec (g.L.Link.log c.args.link.now) c.in-Err.error c.in-Err.ensures.none
+pub returns-clause-lost : goal.returns-clause-lost
+returns-clause-lost g c =
+    lost_step c.opening_step.result _ _
+    (polled_keeps _ _ (ticket_in c.args.self) (λ (o : Opens). opening_ticket (opens_of o)) opens_in changes_in c.opening_step.result c.poll_in.result c.opening_step.ensures c.poll_in.ensures.keeps).lost
 
-pub returns-in-Ok-clause-vain : goal.returns-in-Ok-clause-vain
-returns-in-Ok-clause-vain g c = λ o none.
-    next_vain c.args.self.aggregate _ c.args.self.exec c.in-Ok.exec (g.L.Link.awaited c.args.link.now) (g.L.Link.awaited c.wait.new.link) (g.L.Link.log c.args.link.now) (g.L.Link.log c.wait.new.link) c.wait.result c.in-Ok.ensures.ok
-    (c.wait.ensures.vain (next_opening c.args.self.aggregate _ c.args.self.exec c.in-Ok.exec c.in-Ok.ensures.ok o) none)
+pub returns-clause-prompt : goal.returns-clause-prompt
+returns-clause-prompt g c = λ prompt.
+    at_once_step c.opening_step.result
+    ((polled_keeps _ _ (ticket_in c.args.self) (λ (o : Opens). opening_ticket (opens_of o)) opens_in changes_in c.opening_step.result c.poll_in.result c.opening_step.ensures c.poll_in.ensures.keeps).prompt prompt)
 
-pub returns-in-Err-clause-vain : goal.returns-in-Err-clause-vain
-returns-in-Err-clause-vain g c = λ o none. vainly_unsent c.args.self.exec (g.L.Link.awaited c.args.link.now) (g.L.Link.log c.args.link.now) c.in-Err.error
+pub returns-clause-later : goal.returns-clause-later
+returns-clause-later g c = c.poll_in.ensures.keeps.later
 
-pub returns-in-Ok-clause-stays : goal.returns-in-Ok-clause-stays
-returns-in-Ok-clause-stays g c = c.wait.ensures.stays
+-- ---- what it did
 
-pub returns-in-Err-clause-stays : goal.returns-in-Err-clause-stays
-returns-in-Err-clause-stays g c = stays_same (g.L.Link.log c.args.link.now) (g.L.Link.log c.args.link.now) refl
+pub returns-clause-sound : goal.returns-clause-sound
+returns-clause-sound g c = λ is. polled_kept (IsOpens true) (IsStream true) opens_in changes_in c.opening_step.result c.poll_in.result c.opening_step.ensures (c.poll_in.ensures.sound true is refl)
 
-pub returns-in-Ok-clause-caused : goal.returns-in-Ok-clause-caused
-returns-in-Ok-clause-caused g c = λ o.
-    causes.next_caused c.args.self.aggregate (g.L.Link.awaited c.args.link.now) (g.L.Link.awaited c.wait.new.link) (g.L.Link.log c.args.link.now) (g.L.Link.log c.wait.new.link) (g.L.Link.wire c.args.link.now) _ c.args.self.exec c.in-Ok.exec c.wait.result c.in-Ok.ensures.ok
-    (c.wait.ensures.caused (next_opening c.args.self.aggregate _ c.args.self.exec c.in-Ok.exec c.in-Ok.ensures.ok o))
+pub returns-clause-owned : goal.returns-clause-owned
+returns-clause-owned g c = polled_kept (λ (o : Opens). Unit {0}) (λ (s : Changes). IsOwnPlace s.token) opens_in changes_in c.opening_step.result c.poll_in.result c.opening_step.ensures c.poll_in.ensures.owned
 
-pub returns-in-Err-clause-caused : goal.returns-in-Err-clause-caused
-returns-in-Err-clause-caused g c = λ o.
-    causes.opening_unsent c.args.self.aggregate (g.L.Link.awaited c.args.link.now) (g.L.Link.awaited c.args.link.now) (g.L.Link.log c.args.link.now) (g.L.Link.wire c.args.link.now) _ c.args.self.exec c.in-Err.error o.first c.in-Err.ensures.fails
+pub returns-clause-opens : goal.returns-clause-opens
+returns-clause-opens g c = λ is.
+    let link = c.args.link.now in
+    let later = c.poll_in.new.link in
+    let did = c.poll_in.ensures.opens is.first in (
+      did.0,
+      subst (OpensStream (g.L.Link.awaited link) (g.L.Link.awaited later) (g.L.Link.log link) (g.L.Link.log later) (g.L.Link.wire link) None did.0 (opening_of c.args.self))
+          (polled_seen opens_in changes_in opens_of changes_of c.opening_step.result c.poll_in.result c.opening_step.ensures) did.1,
+    )
 
-pub returns-in-Ok-clause-placed : goal.returns-in-Ok-clause-placed
-returns-in-Ok-clause-placed g c =
-    next_placed c.args.self.aggregate (g.L.Link.awaited c.args.link.now) (g.L.Link.awaited c.wait.new.link) (g.L.Link.log c.args.link.now) (g.L.Link.log c.wait.new.link) (g.L.Link.wire c.args.link.now) _ c.args.self.exec c.in-Ok.exec c.wait.result c.in-Ok.ensures.ok
-    c.wait.ensures.placed
+pub returns-clause-caused : goal.returns-clause-caused
+returns-clause-caused g c = λ is.
+    let link = c.args.link.now in
+    let later = c.poll_in.new.link in
+    let did = returns-clause-opens g c is in
+    opens_caused (g.L.Link.awaited link) (g.L.Link.awaited later) (g.L.Link.log link) (g.L.Link.log later) (g.L.Link.wire link) None did.0 (opening_of c.args.self) (seen_step opening_of stream_of c.opening_step.result) did.1
+
+pub returns-clause-moved : goal.returns-clause-moved
+returns-clause-moved g c = λ is w start asks.
+    let link = c.args.link.now in
+    let later = c.poll_in.new.link in
+    let did = returns-clause-opens g c is in
+    opens_moved (g.L.Link.awaited link) (g.L.Link.awaited later) (g.L.Link.log link) (g.L.Link.log later) (g.L.Link.wire link) None did.0 (opening_of c.args.self) (seen_step opening_of stream_of c.opening_step.result) w start asks true is.sound did.1

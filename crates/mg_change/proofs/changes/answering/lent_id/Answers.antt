@@ -1,0 +1,8 @@
+use Rattle.std.proofs.Common.{Some, ap, ◌∙◌}
+use Rattle.mg_change.proofs.changes.answering.lent_id.Goals as goal
+
+pub returns-in-Some : goal.returns-in-Some
+returns-in-Some c = ap Some c.from_raw.ensures ∙ c.in-Some.ensures
+
+pub returns-in-None : goal.returns-in-None
+returns-in-None c = c.in-None.ensures
