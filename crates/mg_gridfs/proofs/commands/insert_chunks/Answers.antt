@@ -1,0 +1,13 @@
+use Rattle.std.proofs.Common.{false, subst}
+use Rattle.std.specs.Prelude.{IfErr, IfOk}
+use Rattle.mg_link.specs.Namespace.{Space}
+use Rattle.mg_ops.specs.Failing.{FailsBy}
+use Rattle.mg_gridfs.specs.Buckets.{bucket_of}
+use Rattle.mg_gridfs.specs.Commands.{CannotStore, IsNewRequest, insertion}
+use Rattle.mg_gridfs.proofs.commands.insert_chunks.Goals as goal
+
+pub returns-clause-ok : goal.returns-clause-ok
+returns-clause-ok c = subst (λ (at : Space). IfOk c.insert.result (λ s. IsNewRequest false (insertion (bucket_of c.args.bucket.now) at c.args.documents.items) s)) c.chunks.ensures c.insert.ensures.ok
+
+pub returns-clause-err : goal.returns-clause-err
+returns-clause-err c = subst (λ (at : Space). IfErr c.insert.result (λ e. FailsBy (CannotStore (insertion (bucket_of c.args.bucket.now) at c.args.documents.items) c.args.documents.items) e)) c.chunks.ensures c.insert.ensures.err

@@ -1,0 +1,5 @@
+use Rattle.mg_link.proofs.Chunking.{chunked-append}
+use Rattle.mg_gridfs.proofs.laws.cuts_join.Goals as goal
+
+pub returns : goal.returns
+returns c = chunked-append
