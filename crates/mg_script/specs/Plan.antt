@@ -1,10 +1,10 @@
 -- What a script asks for, without where it lies in memory.
-use Rattle.std.specs.Prelude.{ℕ, ℤ, List, map, Bool, true, false, ◌&&◌, Option, Vec, string_bytes}
+use Rattle.std.specs.Prelude.{ℕ, ℤ, List, map, Bool, true, false, Option, Vec, string_bytes}
 use Rattle.std.specs.declared.alloc.Global.{Global}
 use Rattle.std.specs.List.{list_all}
 use Rattle.mg_bson.specs.Tree.{Tree, Fields}
 use Rattle.mg_bson.specs.View.{tree}
-use Rattle.mg_link.specs.Namespace.{Space, Target, database, collection, cluster, space, target}
+use Rattle.mg_link.specs.Namespace.{Space, Target, space, target}
 use Rattle.mg_store.specs.declared.fate.Fate.{Fate}
 use Rattle.mg_store.specs.declared.fate.FateKind.{FateKind}
 use Rattle.mg_store.specs.declared.fate.FateKind.TheVariants as kinds
@@ -89,21 +89,10 @@ plan s = record { tasks = tasks s.jobs.items; turns = s.order.items; fates = fat
 
 -- ---- what can be run by now
 
-abbrev pub is_collection : Target → Bool
-is_collection (database db) = false
-is_collection (collection s) = true
-is_collection cluster = false
-
-abbrev pub has_begin : Begin → Bool
-has_begin nowhere = true
-has_begin (resume_after t) = true
-has_begin (start_after t) = false
-has_begin (at_time t i) = false
-
 -- a job that can be run
 abbrev pub task_built : Task → Bool
 task_built (insert ns docs) = true
-task_built (follow on calls b filter batch) = is_collection on && has_begin b
+task_built (follow on calls b filter batch) = true
 task_built (put db bucket name id chunk pieces) = false
 task_built (get db bucket id read) = false
 

@@ -2,8 +2,7 @@
 ghost use Rattle.std.specs.Prelude.{◌≡◌, length};
 ghost use Rattle.std.specs.List.{list_all};
 ghost use Rattle.serde_json.specs.View.{view, items_view};
-ghost use Rattle.mg_link.specs.Namespace.{target};
-ghost use Rattle.mg_script.specs.Plan.{tasks, plan, begin, has_begin, is_collection, task, task_built, is_built};
+ghost use Rattle.mg_script.specs.Plan.{tasks, plan, task, task_built, is_built};
 ghost use Rattle.mg_script.specs.Reads.{Gives};
 ghost use Rattle.mg_script.specs.Script.{turn_of, turns_of, wire_at, ids_at, moment_at, scalars_at, lists_of, plan_of, data_of, script_of, first_missing, missing};
 
@@ -13,9 +12,8 @@ use crate::parse_job::jobs_of;
 use crate::parts::{
     are_few, array_at, array_or, has_only, lower_bytes, natural_number, small_number,
 };
-use crate::script::{Job, Script, Start};
+use crate::script::{Job, Script};
 use mg_bson::DateTime;
-use mg_link::OperationTarget;
 use serde_json::Value;
 use std::alloc::Global;
 
@@ -178,33 +176,12 @@ pub fn parse_script(alloc: Global, bytes: &[u8]) -> Result<Script, ScriptError>
 
 // ---- what can be run by now
 
-fn has_start(start: &Start) -> bool
-    ensures { result ≡ has_begin (begin start.now) }
-{
-    match start {
-        Start::Nowhere => true,
-        Start::ResumeAfter(_) => true,
-        Start::StartAfter(_) => false,
-        Start::At(_) => false,
-    }
-}
-
-fn is_collection(on: &OperationTarget) -> bool
-    ensures { result ≡ is_collection (target on.now) }
-{
-    match on {
-        OperationTarget::Collection(_) => true,
-        OperationTarget::Database(_) => false,
-        OperationTarget::Cluster => false,
-    }
-}
-
 fn job_built(job: &Job) -> bool
     ensures { result ≡ task_built (task job.now) }
 {
     match job {
         Job::Insert { .. } => true,
-        Job::Follow { target, start, .. } => is_collection(target) && has_start(start),
+        Job::Follow { .. } => true,
         Job::Put { .. } => false,
         Job::Get { .. } => false,
     }
