@@ -1,5 +1,5 @@
 -- What commands that were sent add to a log.
-use Rattle.std.proofs.Common.{◌≡◌, ◌<◌, ◌≤◌, ◌++◌, ◌∷◌, [], List, length, ℕ, zero, suc, Some, sym, ap, ◌∙◌, subst, arith}
+use Rattle.std.proofs.Common.{◌≡◌, ◌≤◌, ◌++◌, ◌∷◌, [], List, length, ℕ, zero, suc, Some, sym, ap, ◌∙◌, subst, arith}
 use Rattle.std.specs.Prelude.{slice_get}
 use Rattle.mg_bson.specs.Tree.{Fields}
 use Rattle.mg_bson.specs.Raw.{fields}
@@ -7,19 +7,10 @@ use Rattle.mg_link.specs.Calls.{Keeps, AddsOnly}
 use Rattle.mg_link.specs.Link.{Told}
 use Rattle.mg_link.specs.Log.{Call}
 use Rattle.mg_link.proofs.Owners.{same_some}
-use Rattle.mg_change.specs.Sent.{Falling, Sent, commands_sent}
+use Rattle.mg_change.specs.Sent.{Sent, commands_sent}
+use Rattle.mg_change.proofs.Such.{AreAll}
 
 -- ---- commands that were sent
-
-abbrev pub AreAll : (Fields → Type 0) → List Fields → Type 0
-AreAll may [] = Unit {0}
-AreAll may (command ∷ commands) = may command × AreAll may commands
-
-pub all_falling : (may : Fields → Type 0) (at : ℕ → Fields → Type 0) (n : ℕ) (commands : List Fields) (m : ℕ) → ((place : ℕ) (command : Fields) → place < n → at place command → may command) → Falling at n commands m → AreAll may commands
-all_falling may at n [] m so f = tt
-all_falling may at n (command ∷ commands) m so f =
-    let less : f.0 < n = f.1 in
-    (so f.0 command less f.2, all_falling may at f.0 commands m (λ place x below is. so place x (omega (arith, below, less)) is) f.3)
 
 all_added : (may : Fields → Type 0) (calls : List Call) (commands : List Fields) → commands_sent calls ≡ commands → AreAll may commands → (place : ℕ) (call : Call) → slice_get calls place ≡ Some call → may (fields call.command)
 all_added may [] commands is all place call there = absurd cc

@@ -6,11 +6,13 @@ use Rattle.std.proofs.lemmas.List.{length-map}
 use Rattle.mg_link.specs.Acts.{PendsAfter}
 use Rattle.mg_link.specs.Causes.{RoseJust}
 use Rattle.mg_link.specs.declared.error.Error.{Error}
-use Rattle.mg_change.specs.Closings.{closing_ticket}
-use Rattle.mg_change.specs.Openings.{opening_ticket}
-use Rattle.mg_change.specs.Phases.{AtRest, ticket_in}
-use Rattle.mg_change.specs.Polls.{Pends}
-use Rattle.mg_change.specs.declared.closing.Closing.{Closing}
+use Rattle.mg_link.specs.Moment.{PendsJust}
+use Rattle.mg_bson.specs.Tree.{Fields}
+use Rattle.mg_change.specs.ClientStreams.{IsBetween, stream_ticket}
+use Rattle.mg_change.specs.ClosingStreams.{ClosingStream, stream_closing_ticket}
+use Rattle.mg_change.specs.OpeningView.{ticket_in}
+use Rattle.mg_change.specs.StreamCalls.{event_ending}
+use Rattle.mg_change.specs.StreamView.{stream_of}
 use Rattle.mg_change.specs.declared.event_poll.EventPoll.{EventPoll}
 use Rattle.mg_change.specs.declared.event_poll.EventPoll.TheVariants as polls
 use Rattle.mg_change.specs.declared.opening.Opening.{Opening}
@@ -36,7 +38,7 @@ use Rattle.mg_jobs.specs.declared.player.Player.{Player}
 use Rattle.mg_jobs.specs.declared.player.Player.TheVariants as player
 use Rattle.mg_script.specs.declared.script.Job.{Job}
 use Rattle.mg_link.proofs.Owners.{same_some}
-use Rattle.mg_change.proofs.Awaiting.{rests_without}
+use Rattle.mg_change.proofs.Resting.{between_holds_none}
 use Rattle.mg_link.proofs.Places.{get_set_other, get_set_same}
 use Rattle.mg_jobs.proofs.Knowing.{get_length, length_take, map_joined, one_more, take_next}
 
@@ -61,7 +63,7 @@ never_open before now s c c' not_open same failed closed answered alive = (
   ),
 )
 
-pub open_waits : (before now : ℕ) (o o' : Opening) (c : Came) → PendsAfter 1 (opening_ticket o') before now → FollowGoes before now (stage.Opens o) c (stage.Opens o') c
+pub open_waits : (before now : ℕ) (o o' : Opening Fields) (c : Came) → PendsAfter 1 (ticket_in o') before now → FollowGoes before now (stage.Opens o) c (stage.Opens o') c
 open_waits before now o o' c waits = (
   true,
   waits.1,
@@ -79,10 +81,10 @@ open_waits before now o o' c waits = (
 )
 
 -- an opening that has sent nothing yet
-pub begins_open : (before now : ℕ) (o : Opening) (c c' : Came) (s : Stage) → opening_ticket o ≡ None → FollowGoes before now (stage.Opens o) c s c' → FollowGoes before now stage.Unopened c s c'
+pub begins_open : (before now : ℕ) (o : Opening Fields) (c c' : Came) (s : Stage) → ticket_in o ≡ None → FollowGoes before now (stage.Opens o) c s c' → FollowGoes before now stage.Unopened c s c'
 begins_open before now o c c' s none g = (g.0, g.1, λ calls k last at. g.2 calls k last (at.0, ap (λ t. is_some t) none ∙ sym at.1))
 
-pub open_goes : (old mid new : ℕ) (o : Opening) (c c' c'' : Came) (s : Stage) → mid ≡ old → HasGiven c'.opened → c'.closed ≡ c.closed → c'.answered ≡ c.answered → c'.left ≡ c.left → RestGoes mid new c' s c'' → FollowGoes old new (stage.Opens o) c s c''
+pub open_goes : (old mid new : ℕ) (o : Opening Fields) (c c' c'' : Came) (s : Stage) → mid ≡ old → HasGiven c'.opened → c'.closed ≡ c.closed → c'.answered ≡ c.answered → c'.left ≡ c.left → RestGoes mid new c' s c'' → FollowGoes old new (stage.Opens o) c s c''
 open_goes old mid new o c c' c'' s same given closed answered left g = (
   g.0,
   pended_on g.0 old mid new same g.1,
@@ -94,13 +96,13 @@ open_goes old mid new o c c' c'' s same given closed answered left g = (
   }),
 )
 
-pub stays_open : (before : ℕ) (stream : ChangeStream) (c : Came) → AtRest stream.phase → 0 < c.left → RestGoes before before c (stage.Open stream) c
+pub stays_open : (before : ℕ) (stream : ChangeStream Fields) (c : Came) → IsBetween (stream_of stream) → 0 < c.left → RestGoes before before c (stage.Open stream) c
 stays_open before stream c rests more = (
   false,
   refl,
   λ calls k last at. (
     record { opened = at.opened; closed = at.closed; answered = omega (arith, at.answered); rest = at.rest; more = more },
-    ap (λ t. is_some t) (rests_without stream.phase rests),
+    ap (λ t. is_some t) (between_holds_none (stream_of stream) rests),
   ),
 )
 
@@ -116,14 +118,14 @@ goes_to_close before now c c' s none g = (
   }),
 )
 
-pends_not : (poll : EventPoll) (ticket : Option ℕ) (before now : ℕ) → HasEnded poll → Pends poll ticket before now → now ≡ before
+pends_not : (poll : EventPoll) (ticket : Option ℕ) (before now : ℕ) → HasEnded poll → PendsJust (event_ending poll) ticket before now → now ≡ before
 pends_not polls.Pending ticket before now over h = absurd over
 pends_not (polls.Ready event) ticket before now over h = h
 pends_not (polls.Failed e) ticket before now over h = h
 
-pub ask_waits : (before now : ℕ) (stream stream' : ChangeStream) (c : Came) (poll : EventPoll) → poll ≡ polls.Pending → Pends poll (ticket_in stream'.phase) before now → FollowGoes before now (stage.Open stream) c (stage.Open stream') c
+pub ask_waits : (before now : ℕ) (stream stream' : ChangeStream Fields) (c : Came) (poll : EventPoll) → poll ≡ polls.Pending → PendsJust (event_ending poll) (stream_ticket (stream_of stream')) before now → FollowGoes before now (stage.Open stream) c (stage.Open stream') c
 ask_waits before now stream stream' c poll is pended =
-    let waits = subst (λ q. Pends q (ticket_in stream'.phase) before now) is pended in (
+    let waits = subst (λ (q : EventPoll). PendsJust (event_ending q) (stream_ticket (stream_of stream')) before now) is pended in (
       true,
       waits.1,
       λ calls k last at. (
@@ -132,7 +134,7 @@ ask_waits before now stream stream' c poll is pended =
       ),
     )
 
-pub ask_goes : (old mid new : ℕ) (stream : ChangeStream) (c c' c'' : Came) (s : Stage) (poll : EventPoll) (ticket : Option ℕ) → HasEnded poll → Pends poll ticket old mid → c'.opened ≡ c.opened → c'.closed ≡ c.closed → c'.answered ≡ c.answered + 1 → c'.left ≡ c.left - 1 → RestGoes mid new c' s c'' → FollowGoes old new (stage.Open stream) c s c''
+pub ask_goes : (old mid new : ℕ) (stream : ChangeStream Fields) (c c' c'' : Came) (s : Stage) (poll : EventPoll) (ticket : Option ℕ) → HasEnded poll → PendsJust (event_ending poll) ticket old mid → c'.opened ≡ c.opened → c'.closed ≡ c.closed → c'.answered ≡ c.answered + 1 → c'.left ≡ c.left - 1 → RestGoes mid new c' s c'' → FollowGoes old new (stage.Open stream) c s c''
 ask_goes old mid new stream c c' c'' s poll ticket over pended opened closed answered left g = (
   g.0,
   pended_on g.0 old mid new (pends_not poll ticket old mid over pended) g.1,
@@ -144,7 +146,7 @@ ask_goes old mid new stream c c' c'' s poll ticket over pended opened closed ans
   }),
 )
 
-pub close_waits : (before now : ℕ) (closing : Closing) (c : Came) → PendsAfter 1 (closing_ticket closing) before now → CloseGoes before now c (stage.Closes closing) c
+pub close_waits : (before now : ℕ) (closing : ClosingStream) (c : Came) → PendsAfter 1 (stream_closing_ticket closing) before now → CloseGoes before now c (stage.Closes closing) c
 close_waits before now closing c waits = (
   true,
   waits.1,
@@ -170,7 +172,7 @@ close_done before now c c' same finished opened answered = (
   ),
 )
 
-pub closing_goes : (before now : ℕ) (closing : Closing) (c c' : Came) (s : Stage) → CloseGoes before now c s c' → FollowGoes before now (stage.Closes closing) c s c'
+pub closing_goes : (before now : ℕ) (closing : ClosingStream) (c c' : Came) (s : Stage) → CloseGoes before now c s c' → FollowGoes before now (stage.Closes closing) c s c'
 closing_goes before now closing c c' s g = (g.0, g.1, λ calls k last at. g.2 calls k last at.0)
 
 ended_on : (calls k : ℕ) (last : Bool) (c : Came) → FollowAt calls stage.Ended c k last → FollowAt calls stage.Ended c (k + 1) false

@@ -1,5 +1,5 @@
 -- What is read of the cursor in a reply whose batch is read.
-use Rattle.std.proofs.Common.{◌≡◌, ℤ, List, Option, Some, None, Result, Ok, refl, ap, inl, inr, option_map}
+use Rattle.std.proofs.Common.{◌≡◌, ℕ, ℤ, List, map, Option, Some, None, Result, Ok, refl, sym, ap, ◌∙◌, option_map}
 use Rattle.std.specs.Prelude.{codes, option_and_then}
 use Rattle.mg_bson.specs.Tree.{Tree, Fields, Items}
 use Rattle.mg_bson.specs.Find.{as_document, as_int64, get}
@@ -9,8 +9,12 @@ use Rattle.mg_link.specs.declared.error.Error.{Error}
 use Rattle.mg_link.specs.declared.error.Malformed.{Malformed}
 use Rattle.mg_link.specs.declared.error.Malformed.TheVariants as malformed
 use Rattle.mg_ops.specs.Cursors.{Cursor, batch_at, cursor_in, cursor_of, found, ◌>>=◌}
-use Rattle.mg_change.specs.Batches.{HoldsBatch}
-use Rattle.mg_change.specs.Causes.{Breaks, BreaksBatch, bad_item, no_batch}
+use Rattle.mg_bson.specs.Raw.{fields}
+use Rattle.mg_cursor.specs.Batches.{BreaksBatch, documents_of}
+use Rattle.mg_cursor.proofs.Advancing.{breaks_none}
+use Rattle.mg_cursor.proofs.Batching.{documents_read}
+use Rattle.mg_link.proofs.Owners.{same_some}
+use Rattle.mg_ops.specs.Cursors.{BreaksIn}
 
 abbrev cursor_by : Option ℤ → Option Space → Option Items → Option Tree → Result Cursor Malformed
 cursor_by i s b t = found malformed.BadId i >>= λ id. found malformed.BadNs s >>= λ space. found malformed.NoBatch b >>= λ batch. Ok (record { id = id; space = space; token = t; batch = batch })
@@ -46,15 +50,17 @@ read_as : (said : Fields) (batch : Batch) → batch_of said ≡ Some batch → I
 unfolding batch_of cursor_of batch_at
 read_as said batch there = read_in (option_and_then as_document (get (codes "cursor") said)) batch there
 
--- such a reply keeps to the grammar
-pub breaks_not : (said : Fields) (batch : Batch) (e : Error) → batch_of said ≡ Some batch → Breaks said e → ⊥
-breaks_not said batch e there (inl breaks) = let r = read_as said batch there in let a = r.says in let b = breaks.says in cc
-breaks_not said batch e there (inr breaks) = broken breaks
-  where
-    broken : BreaksBatch said e → ⊥
-    broken (no_batch how none is) = let r = read_as said batch there in let a = r.items_are in cc
-    broken (bad_item items at bad) = let r = read_as said batch there in let a = r.items_are in let b = r.documents_are in let d = bad.0 in cc
+-- the documents of such a reply are the events of its batch
+events_read : (bytes : List ℕ) (batch : Batch) → batch_of (fields bytes) ≡ Some batch → option_map (map fields) (documents_of bytes) ≡ Some batch.events
+events_read bytes batch there = let r = read_as (fields bytes) batch there in sym (documents_read bytes r.it r.says) ∙ r.documents_are
+
+-- it keeps to the grammar
+pub tells_not : (bytes : List ℕ) (batch : Batch) (e : Error) → batch_of (fields bytes) ≡ Some batch → BreaksIn (fields bytes) e → ⊥
+tells_not bytes batch e there breaks = let r = read_as (fields bytes) batch there in let a = r.says in let b = breaks.says in cc
+
+pub breaks_not : (bytes : List ℕ) (batch : Batch) (e : Error) → batch_of (fields bytes) ≡ Some batch → BreaksBatch bytes e → ⊥
+breaks_not bytes batch e there breaks = let bad : None ≡ Some batch.events = sym (ap (option_map (map fields)) (breaks_none bytes e breaks)) ∙ events_read bytes batch there in cc
 
 -- and its events are those of its batch
-pub events_are : (said : Fields) (batch : Batch) (events : List Fields) → batch_of said ≡ Some batch → HoldsBatch said events → events ≡ batch.events
-events_are said batch events there holds = let r = read_as said batch there in let a = r.items_are in let b = r.documents_are in let d = holds.there in let f = holds.these in cc
+pub events_are : (bytes : List ℕ) (batch : Batch) (events : List (List ℕ)) → batch_of (fields bytes) ≡ Some batch → documents_of bytes ≡ Some events → map fields events ≡ batch.events
+events_are bytes batch events there holds = same_some (map fields events) batch.events (sym (ap (option_map (map fields)) holds) ∙ events_read bytes batch there)

@@ -16,6 +16,8 @@ use Rattle.mg_link.specs.Log.{Sight, fault, reply, Call}
 use Rattle.mg_link.specs.Namespace.{Space, Target, space, target}
 use Rattle.mg_link.specs.Reply.{verdict_of}
 use Rattle.mg_link.specs.Resumable.{is_resumable}
+use Rattle.mg_link.specs.Session.{Session}
+use Rattle.mg_link.specs.Errors.{plain}
 use Rattle.mg_link.specs.Standing.{SeenFits}
 use Rattle.mg_link.specs.Commands.{Batch, batch_of}
 use Rattle.mg_link.specs.State.{State, events_between, watching}
@@ -30,21 +32,26 @@ use Rattle.mg_link.proofs.Places.{get_within}
 use Rattle.mg_options.specs.declared.change_stream.ChangeStreamOptions.{ChangeStreamOptions}
 use Rattle.mg_ops.specs.Bodies.{insert_command}
 use Rattle.mg_ops.specs.Commands.{kill_command}
-use Rattle.mg_ops.specs.Cursors.{Manner, manner_of, next_command}
-use Rattle.mg_ops.specs.Failing.{CannotBeInserted, CannotBeSent}
+use Rattle.mg_ops.specs.Cursors.{Manner, next_command}
+use Rattle.mg_ops.specs.Sessions.{in_session}
+use Rattle.mg_ops.specs.Failing.{CannotBeInserted, CannotBeSent, HasBadSize}
 use Rattle.mg_ops.specs.Limits.{PassesLimit, SizePasses, SomePassLimit, max_stored}
 use Rattle.mg_ops.specs.Naming.{IsNamed}
 use Rattle.mg_ops.specs.Writes.{ListsAs}
 use Rattle.mg_ops.specs.declared.change_stream.WatchArgs.{WatchArgs}
-use Rattle.mg_ops.specs.declared.cursor_reply.CursorInformation.{CursorInformation}
-use Rattle.mg_ops.proofs.Asking.{asks_for_more_plainly, asks_to_insert_plainly}
-use Rattle.mg_change.specs.Batches.{HoldsBatch}
-use Rattle.mg_change.specs.Causes.{CallFails, CallNone, Called, CannotBuild, MoreFails, Replied, Resumes, Standing, TellsNoCursor, more_command, resume_command}
+use Rattle.mg_ops.proofs.Asking.{asks_for_more, asks_to_insert_plainly}
+use Rattle.mg_cursor.specs.Batches as batches
+use Rattle.mg_cursor.specs.Causes.{HeardMore, MoreFails, TellsNoCursor}
+use Rattle.mg_cursor.specs.Client.{ClientCursor, at_rest, get_more}
+use Rattle.mg_change.specs.Causes.{CallFails, CallNone, Called, HeardAggregate, HoldsFirst, IsSettled, MoreFailed, Replied, Resumes}
 use Rattle.mg_change.specs.Causes as causes
-use Rattle.mg_change.specs.Closings.{ids_left, unless_none}
-use Rattle.mg_change.specs.ClosingCauses.{NotKilled, last_command}
+use Rattle.mg_change.specs.ClientOpenings.{first_aggregate}
+use Rattle.mg_change.specs.ClientStreams.{ClientStream, is_read_again, resuming_in}
+use Rattle.mg_change.specs.ClientStreams as streams
+use Rattle.mg_change.specs.ClosingCauses.{LastFails, last_ids, last_kill}
+use Rattle.mg_change.specs.ClosingStreams.{unless_none}
 use Rattle.mg_change.specs.OpeningCauses.{OpeningFails}
-use Rattle.mg_change.specs.Openings.{opening_command}
+use Rattle.mg_change.specs.OpeningCauses as openings
 use Rattle.mg_jobs.specs.Causes.{AllCaused, AllSentIn, Answered, Closed, CloseCaused, Course, FollowCaused, InsertEnds, OpenCaused, OpenFailed, OutcomeCaused, SentIn, course, sent_at}
 use Rattle.mg_jobs.specs.Completing.{AllWell, AnswerWell, AnswersAreWell, AnswersWell, AreFresh, CallsWell, EndsWell, Excuses, FindsNothing, FitsLimits, FollowWell, IsExcused, IsExcusedInsert, IsMemory, IsShort, IsTooLarge, JobWell, NoneLeft, Nothings, OutcomeEnds, OutcomeFits, OutcomeWell, SendFresh, finds_none, is_over, own_excuses, takes_again, takes_first}
 use Rattle.mg_jobs.specs.Counts.{Faultless, LosesNothing}
@@ -61,13 +68,13 @@ use Rattle.mg_script.specs.declared.outcome.Ended.TheVariants as ended
 use Rattle.mg_script.specs.declared.outcome.Outcome.{Outcome}
 use Rattle.mg_script.specs.declared.outcome.Played.{Played}
 use Rattle.mg_script.specs.declared.outcome.Turned.{Turned}
-use Rattle.mg_jobs.proofs.Batches.{breaks_not, events_are}
+use Rattle.mg_jobs.proofs.Batches.{breaks_not, events_are, tells_not}
 use Rattle.mg_jobs.proofs.InsertWell.{never_lists}
 use Rattle.mg_jobs.proofs.Own.{HasOwn, StandsOwn, called_own, opened_own}
 use Rattle.mg_jobs.proofs.SaidTwice.{follow_both, insert_both}
-use Rattle.mg_jobs.proofs.Creating.{CreatesNone, asked_creates, asking_none, inserting_none, killing_none, resuming_none, watching_none}
+use Rattle.mg_jobs.proofs.Creating.{CreatesNone, asked_creates, asking_none, inserting_none, killing_none, resuming_none}
 use Rattle.mg_jobs.proofs.Prompting.{Brings, IsPrompted, IsWatchOnly, more_gives, prompt_success, prompted}
-use Rattle.mg_jobs.proofs.Identified.{IsHonest, StandsWell, empty_well, failed_so, failed_well, gave_well, honest_over, next_well, opened_well, replied_well, resumed_brings, watch_at}
+use Rattle.mg_jobs.proofs.Identified.{IsHonest, StandsWell, empty_well, failed_so, failed_well, gave_well, heard_more, honest_over, next_well, opened_well, replied_well, resumed_brings, settled_first, watch_at}
 use Rattle.mg_link.proofs.Watched.{IsWatched}
 
 -- ---- what a call heard
@@ -136,15 +143,15 @@ module _ (c : Course) (i k : ℕ) (begun calls : List Call) (wire : ℤ) (places
       }
 
   -- a getMore that brought no event
-  none_there : (id : ℤ) (at : Space) (m : Manner) (bytes : List ℕ) (batch : Batch) → IsNamed at → (id ≢ pos 0 → IsWatched well.history id) → HeardBy (sent_at places calls wire) (next_command id at m) (reply bytes) → IsSuccess bytes → batch_of (fields bytes) ≡ Some batch → batch.events ≡ [] → NoneLeft c i calls well.history k
-  none_there id at m bytes batch named watches h success there empty =
-      let t = taken (next_command id at m) bytes h in
-      let asks = asks_for_more_plainly t.step.command id at m named t.command_is in
+  none_there : (id : ℤ) (at : Space) (m : Manner) (session : Option Session) (bytes : List ℕ) (batch : Batch) → IsNamed at → (id ≢ pos 0 → IsWatched well.history id) → HeardBy (sent_at places calls wire) (in_session session (next_command id at m)) (reply bytes) → IsSuccess bytes → batch_of (fields bytes) ≡ Some batch → batch.events ≡ [] → NoneLeft c i calls well.history k
+  none_there id at m session bytes batch named watches h success there empty =
+      let t = taken (in_session session (next_command id at m)) bytes h in
+      let asks = asks_for_more t.step.command id at m.size m.wait m.comment session named t.command_is in
       let only : IsWatchOnly t.at_once.before id = λ c stood. watch_at well.history t.position id well.legal watches c (ap (λ (s : State). s.cursors id) t.before_is ∙ stood) in
       let gives = more_gives t.step t.at_once (subst IsSuccess t.reply_is success) id at batch only asks (subst (λ (b : List ℕ). batch_of (fields b) ≡ Some batch) t.reply_is there) in
       record {
         place = h.place;
-        sent = own_place h.place (next_command id at m) (reply bytes) h.heard;
+        sent = own_place h.place (in_session session (next_command id at m)) (reply bytes) h.heard;
         call = h.heard.call;
         there = h.heard.there;
         position = t.position;
@@ -175,106 +182,116 @@ request_well watched past command retries Broken e served other whole (was_lost 
 request_well watched past command retries Broken e served other whole (was_refused bytes heard fails) = absurd (served.refused command bytes past.wire e other (heard_by past command retries (reply bytes) heard) fails)
 request_well watched past command retries Broken e served other whole (was_broken bytes heard success broken) = absurd (whole bytes (heard_by past command retries (reply bytes) heard) success broken)
 
-cannot_build : (size : Option ℕ) (command : Fields) (e : Error) → (SizePasses size → ⊥) → CannotBuild size command e → CannotBeSent command e
+cannot_build : (size : Option ℕ) (command : Fields) (e : Error) → (SizePasses size → ⊥) → HasBadSize size e ⊎ CannotBeSent command e → CannotBeSent command e
 cannot_build size command e fits (inl bad) = absurd (fits bad.1)
 cannot_build size command e fits (inr by) = by
 
 -- ---- a call
 
 -- a call that failed so is excused, and a resumption is owed behind it only where it was short before, or is now
-abbrev FailsSo : (WatchArgs → Type 0) → (List ℕ → Type 0) → Type 0 → Standing → Error → Type 0
-FailsSo are_its heard short after e = IsExcused are_its heard short e × (after.owes ≡ true → short ⊎ (e.kind ≡ kind.OutOfMemory))
+abbrev FailsSo : (WatchArgs → Type 0) → (List ℕ → Type 0) → Type 0 → ClientStream → Error → Type 0
+FailsSo are_its heard short after e = IsExcused are_its heard short e × (after.doing ≡ streams.owes → short ⊎ (e.kind ≡ kind.OutOfMemory))
 
-fails_short : (are_its : WatchArgs → Type 0) (heard : List ℕ → Type 0) (short : Type 0) (after : Standing) (e : Error) → e.kind ≡ kind.OutOfMemory → FailsSo are_its heard short after e
+fails_short : (are_its : WatchArgs → Type 0) (heard : List ℕ → Type 0) (short : Type 0) (after : ClientStream) (e : Error) → e.kind ≡ kind.OutOfMemory → FailsSo are_its heard short after e
 fails_short are_its heard short after e room = (inl room, λ owes. inr room)
 
+-- where a call left nothing owed
+settled_quits : {B : Type 0} (s : ClientStream) → IsSettled s → s.doing ≡ streams.owes → B
+settled_quits s settled owing = let bad : streams.follows ≡ streams.owes = sym settled.follows_on ∙ owing in absurd cc
+
 -- a call ended well
-record EndedWell (watched : ℤ → Type 0) (are_its : WatchArgs → Type 0) (heard : List ℕ → Type 0) (short nothing : Type 0) (after : Standing) (answer : Answer) : Type 0 where
+record EndedWell (watched : ℤ → Type 0) (are_its : WatchArgs → Type 0) (heard : List ℕ → Type 0) (short nothing : Type 0) (after : ClientStream) (answer : Answer) : Type 0 where
   stands : StandsWell watched are_its after
   own : StandsOwn heard after
-  owes : after.owes ≡ true → short ⊎ IsShort answer
-  looked : after.first ≡ None
+  owes : after.doing ≡ streams.owes → short ⊎ IsShort answer
+  looked : (bytes : List ℕ) → HoldsFirst after bytes → ⊥
   is_well : AnswerWell (IsExcused are_its heard short) nothing answer
 
 module _ (watched : ℤ → Type 0) (are_its : WatchArgs → Type 0) (fits : (args : WatchArgs) → are_its args → SizePasses args.options.batch_size → ⊥) (heard : List ℕ → Type 0) (short : Type 0) (past : Past) (served : IsServed watched past)
-    (hears_own : (command : Fields) (bytes : List ℕ) → HeardBy past command (reply bytes) → heard bytes) (at : Standing) (well : StandsWell watched are_its at) (own : StandsOwn heard at) (owed : at.owes ≡ true → short) where
-  resumption_brings : (bytes : List ℕ) → HeardBy past (resume_command past.wire at) (reply bytes) → IsSuccess bytes → Brings bytes
-  resumption_brings bytes h success = resumed_brings watched are_its past served.honest at well bytes h success
+    (hears_own : (command : Fields) (bytes : List ℕ) → HeardBy past command (reply bytes) → heard bytes) (at : ClientStream) (well : StandsWell watched are_its at) (own : StandsOwn heard at) (owed : at.doing ≡ streams.owes → short) where
+  resumption_brings : (session : Option Session) (bytes : List ℕ) → HeardBy past (resuming_in at.aggregate past.wire session) (reply bytes) → IsSuccess bytes → Brings bytes
+  resumption_brings session bytes h success = (resumed_brings watched are_its past served.honest at well session bytes h success).0
 
-  more_brings : (bytes : List ℕ) → HeardBy past (more_command at) (reply bytes) → IsSuccess bytes → Brings bytes
-  more_brings bytes h success = (served.honest.more at.cursor.id (space at.cursor.ns) (manner_of at.cursor) bytes well.cursor.named well.cursor.watches h success).0
+  more_brings : (bytes : List ℕ) → HeardMore past at.cursor bytes → Brings bytes
+  more_brings bytes h = (heard_more watched are_its past served.honest at well bytes h).0
 
   -- a getMore fails for want of memory alone, by which nothing resumes
-  more_room : (e : Error) → RequestFails past (more_command at) false TellsNoCursor e → e.kind ≡ kind.OutOfMemory
-  more_room e fails =
-      request_well watched past (more_command at) false TellsNoCursor e served (asking_none at.cursor.id (space at.cursor.ns) (manner_of at.cursor)) (λ bytes h success breaks. let b = more_brings bytes h success in breaks_not (fields bytes) b.batch e b.there (inl breaks)) fails
+  more_room : (e : Error) → MoreFails past at.cursor e → e.kind ≡ kind.OutOfMemory
+  more_room e f =
+      request_well watched past (get_more at.cursor f.session) false TellsNoCursor e served (asking_none at.cursor.id at.cursor.space at.cursor.manner f.session)
+      (λ bytes h success breaks. let b = more_brings bytes (record { session = f.session; heard = h; success = success }) in tells_not bytes b.batch e b.there breaks) f.fails
 
-  refused_room : (e : Error) → RequestFails past (more_command at) false NoneBroken e → e.kind ≡ kind.OutOfMemory
-  refused_room e fails = request_well watched past (more_command at) false NoneBroken e served (asking_none at.cursor.id (space at.cursor.ns) (manner_of at.cursor)) (λ bytes h success none. absurd none) fails
+  untold_room : (e : Error) → MoreFails past at.cursor e ⊎ (e ≡ plain kind.OutOfMemory) → e.kind ≡ kind.OutOfMemory
+  untold_room e (inl fails) = more_room e fails
+  untold_room e (inr full) = ap (λ (x : Error). x.kind) full
 
-  more_fails : (e : Error) (c : CursorInformation) → MoreFails past at e c → is_resumable e.kind e.labels e.wire_version ≡ true → ⊥
-  more_fails e c (causes.untold asked fails is) resumable =
-      let bad : is_resumable kind.OutOfMemory e.labels e.wire_version ≡ true = subst (λ (k : ErrorKind). is_resumable k e.labels e.wire_version ≡ true) (more_room e fails) resumable in cc
-  more_fails e c (causes.broken bytes upto h success tells breaks) resumable = let b = more_brings bytes h.heard success in breaks_not (fields bytes) b.batch e b.there (inr breaks)
+  more_fails : (e : Error) (c : ClientCursor) → MoreFailed past at e c → is_resumable e.kind e.labels e.wire_version ≡ true → ⊥
+  more_fails e c (causes.untold may why is) resumable =
+      let bad : is_resumable kind.OutOfMemory e.labels e.wire_version ≡ true = subst (λ (k : ErrorKind). is_resumable k e.labels e.wire_version ≡ true) (untold_room e why) resumable in cc
+  more_fails e c (causes.broken may bytes said h says is breaks) resumable = let b = more_brings bytes h in breaks_not bytes b.batch e b.there breaks
 
   -- so a stream resumes only where that was owed
-  was_short : (c : CursorInformation) → Resumes past at c → short
-  was_short c (causes.owed owes is) = owed owes.owes
+  was_short : (c : ClientCursor) → Resumes past at c → short
+  was_short c (causes.owed owes is) = owed owes.owes_one
   was_short c (causes.more_failed e why resumable) = absurd (more_fails e c why resumable)
-  was_short c (causes.first_broken bytes e first empty breaks is) = let b = well.first bytes first in absurd (breaks_not (fields bytes) b.batch e b.there (inr breaks))
+  was_short c (causes.first_broken bytes e first breaks is) = let b = well.first bytes first in absurd (breaks_not bytes b.batch e b.there breaks)
 
   -- a failure is excused
-  fails_well : (after : Standing) (e : Error) → CallFails past at after e → FailsSo are_its heard short after e
+  fails_well : (after : ClientStream) (e : Error) → CallFails past None at after e → FailsSo are_its heard short after e
   fails_well after e (causes.may_lose room owes may) = fails_short are_its heard short after e room
   fails_well after e (causes.no_memory room stays) = fails_short are_its heard short after e room
   fails_well after e (causes.not_resumed owes why fails) =
       fails_short are_its heard short after e
-      (request_well watched past (resume_command past.wire at) true TellsNoCursor e served (resuming_none at.aggregate past.wire) (λ bytes h success breaks. let b = resumption_brings bytes h success in breaks_not (fields bytes) b.batch e b.there (inl breaks)) fails)
-  fails_well after e (causes.broken bytes upto owes r breaks) = let b = (replied_well watched are_its past served.honest at well true bytes after.cursor upto r).0 in absurd (breaks_not (fields bytes) b.batch e b.there (inr breaks))
-  fails_well after e (causes.cannot_resume owes why by) =
-      let is = was_short after.cursor why in (
-        inr (resume_command past.wire at, resumes is at.aggregate past.wire well.args own.known refl, cannot_build at.aggregate.args.options.batch_size (resume_command past.wire at) e (fits at.aggregate.args well.args) by),
+      (request_well watched past (resuming_in at.aggregate past.wire fails.session) (is_read_again fails.session) TellsNoCursor e served (resuming_none at.aggregate past.wire fails.session)
+      (λ bytes h success breaks. let b = resumption_brings fails.session bytes h success in tells_not bytes b.batch e b.there breaks) fails.fails)
+  fails_well after e (causes.batch_broken bytes owes r breaks) = let b = (replied_well watched are_its past served.honest at well true bytes after.cursor r).0 in absurd (breaks_not bytes b.batch e b.there breaks)
+  fails_well after e (causes.cannot_resume owes why now by) =
+      let is = was_short (at_rest after.cursor) why in
+      let plainly = subst (λ (x : Option Session). HasBadSize at.aggregate.args.options.batch_size e ⊎ CannotBeSent (resuming_in at.aggregate past.wire x) e) (by.0 refl) by.1 in (
+        inr (resuming_in at.aggregate past.wire None, resumes is at.aggregate past.wire well.args own.known refl, cannot_build at.aggregate.args.options.batch_size (resuming_in at.aggregate past.wire None) e (fits at.aggregate.args well.args) plainly),
         (λ owing. inl is),
       )
-  fails_well after e (causes.refused_more asked fails final is) = absurd (final.room (refused_room e fails))
-  fails_well after e (causes.cannot_ask asked by is) = (
+  fails_well after e (causes.refused_more may fails final is empty settled) = absurd (final.room (more_room e fails))
+  fails_well after e (causes.cannot_ask may by is empty settled) = (
     inr (
-      more_command at,
-      asks at.aggregate.args well.args at.cursor.id (space at.cursor.ns) own.cursor (ap (next_command at.cursor.id (space at.cursor.ns)) well.cursor.manner_is),
-      cannot_build at.cursor.batch_size (more_command at) e (λ passes. fits at.aggregate.args well.args (subst (λ (manner : Manner). SizePasses manner.size) well.cursor.manner_is passes)) by,
+      get_more at.cursor None,
+      asks at.aggregate.args well.args at.cursor.id at.cursor.space own.cursor.own (ap (next_command at.cursor.id at.cursor.space) well.cursor.manner_is),
+      cannot_build at.cursor.manner.size (get_more at.cursor None) e (λ passes. fits at.aggregate.args well.args (subst (λ (manner : Manner). SizePasses manner.size) well.cursor.manner_is passes)) by,
     ),
-    (λ owing. inl (owed (subst (λ (x : Standing). x.owes ≡ true) is owing))),
+    (λ owing. settled_quits after settled owing),
   )
-  fails_well after e (causes.no_id event upto next lacks is behind settled) = let id = (next_well watched are_its past served.honest at well (event ∷ after.events) after.cursor upto next).0.0 in let has = id.1 in absurd cc
+  fails_well after e (causes.no_id event next lacks is settled) = let id = (next_well watched are_its past served.honest at well (event ∷ after.behind) after.cursor next).0.0 in let has = id.1 in absurd cc
 
-  stands_own : (answer : Answer) (after : Standing) → Called past at after (poll_of answer) → StandsOwn heard after
-  stands_own answer after called = called_own heard past hears_own at more_room refused_room own answer after called
+  stands_own : (answer : Answer) (after : ClientStream) → Called past None at after (poll_of answer) → StandsOwn heard after
+  stands_own answer after called = called_own heard past hears_own at more_room own answer after called
 
   -- why it finds nothing, by what it comes of
-  module _ (nothing : Type 0) (first : (bytes : List ℕ) → at.first ≡ Some bytes → nothing) (again : (bytes : List ℕ) → short → HeardBy past (resume_command past.wire at) (reply bytes) → nothing) (over : at.cursor.id ≡ pos 0 → nothing)
-      (none : (bytes : List ℕ) (batch : Batch) → HeardBy past (more_command at) (reply bytes) → IsSuccess bytes → batch_of (fields bytes) ≡ Some batch → batch.events ≡ [] → nothing) where
-    empty_by : (resumed : Bool) (bytes : List ℕ) (c : CursorInformation) (upto : Option Tree) → Replied past at resumed bytes c upto → HoldsBatch (fields bytes) [] → nothing
-    empty_by resumed bytes c upto (causes.opening new held empty is behind) holds = first bytes held
-    empty_by resumed bytes c upto (causes.more new h success tells) holds = let b = more_brings bytes h.heard success in none bytes b.batch h.heard success b.there (sym (events_are (fields bytes) b.batch [] b.there holds))
-    empty_by resumed bytes c upto (causes.again new old r killed) holds = again bytes (was_short old r.why) r.heard
+  module _ (nothing : Type 0) (first : (bytes : List ℕ) → HoldsFirst at bytes → nothing) (again : (bytes : List ℕ) → short → HeardAggregate past true at bytes → nothing) (over : at.cursor.id ≡ pos 0 → nothing)
+      (none : (bytes : List ℕ) (batch : Batch) → HeardMore past at.cursor bytes → batch_of (fields bytes) ≡ Some batch → batch.events ≡ [] → nothing) where
+    empty_by : (resumed : Bool) (bytes : List ℕ) (c : ClientCursor) → Replied past true at resumed bytes c → batches.documents_of bytes ≡ Some [] → nothing
+    empty_by resumed bytes c (causes.opening not held is) holds = first bytes held
+    empty_by resumed bytes c (causes.more not may said h says is) holds = let b = more_brings bytes h in none bytes b.batch h b.there (sym (events_are bytes b.batch [] b.there holds))
+    empty_by resumed bytes c (causes.once_more so old new r killed is) holds = again bytes (was_short old r.why) r.heard
 
-    none_by : (after : Standing) (resumed : Bool) → CallNone past at after resumed → nothing
-    none_by after resumed (causes.came_empty empty bytes upto r holds is) = empty_by resumed bytes after.cursor upto r holds
-    none_by after resumed (causes.none_left new settled empty gone is same) = over gone
+    none_by : (after : ClientStream) (resumed : Bool) → CallNone past true at after resumed → nothing
+    none_by after resumed (causes.came_empty empty bytes r holds is) = empty_by resumed bytes after.cursor r holds
+    none_by after resumed (causes.none_left not settled empty gone is same) = over gone
 
-    called_well : (answer : Answer) (after : Standing) → Called past at after (poll_of answer) → EndedWell watched are_its heard short nothing after answer
-    called_well (answers.Event event) after called =
-        let quits = called.settled.quits in
-        record { stands = gave_well watched are_its past served.honest at well after (fields event) called; own = stands_own (answers.Event event) after called; owes = λ owing. absurd cc; looked = called.settled.looked; is_well = tt }
-    called_well answers.Nothing after called =
-        let quits = called.1.settled.quits in
-        record {
-          stands = empty_well watched are_its past served.honest at well after called.0 called.1;
-          own = stands_own answers.Nothing after called;
-          owes = λ owing. absurd cc;
-          looked = called.1.settled.looked;
-          is_well = none_by after called.0 called.1.why;
-        }
+    called_well : (answer : Answer) (after : ClientStream) → Called past None at after (poll_of answer) → EndedWell watched are_its heard short nothing after answer
+    called_well (answers.Event event) after called = record {
+      stands = gave_well watched are_its past served.honest at well after event called;
+      own = stands_own (answers.Event event) after called;
+      owes = λ owing. settled_quits after called.settled owing;
+      looked = settled_first after called.settled;
+      is_well = tt;
+    }
+    called_well answers.Nothing after called = record {
+      stands = empty_well watched are_its past served.honest at well after called.0 called.1;
+      own = stands_own answers.Nothing after called;
+      owes = λ owing. settled_quits after called.1.settled owing;
+      looked = settled_first after called.1.settled;
+      is_well = none_by after called.0 called.1.why;
+    }
     called_well (answers.Failed e) after called =
         let fails = fails_well after e called.why in
         record {
@@ -288,56 +305,63 @@ module _ (watched : ℤ → Type 0) (are_its : WatchArgs → Type 0) (fits : (ar
 -- ---- the opening
 
 module _ (watched : ℤ → Type 0) (are_its : WatchArgs → Type 0) (fits : (args : WatchArgs) → are_its args → SizePasses args.options.batch_size → ⊥) (heard : List ℕ → Type 0) (past : Past) (served : IsServed watched past) (args : WatchArgs) (its : are_its args) where
-  opening_brings : (bytes : List ℕ) → HeardBy past (opening_command args) (reply bytes) → IsSuccess bytes → Brings bytes
-  opening_brings bytes h success = (served.honest.watch (target args.target) args.pipeline.items args.options bytes h success).0
+  opening_brings : (session : Option Session) (bytes : List ℕ) → HeardBy past (resuming_in (first_aggregate args) past.wire session) (reply bytes) → IsSuccess bytes → Brings bytes
+  opening_brings session bytes h success = (served.honest.watch (target args.target) args.pipeline.items args.options session bytes h success).0
 
-  opening_well : (e : Error) → OpeningFails past args e → IsExcused are_its heard ⊥ e
-  opening_well e (inl fails) =
-      inl (request_well watched past (opening_command args) true TellsNoCursor e served (watching_none (target args.target) args.pipeline.items args.options) (λ bytes h success breaks. let b = opening_brings bytes h success in breaks_not (fields bytes) b.batch e b.there (inl breaks)) fails)
-  opening_well e (inr by) = inr (opening_command args, opens args its refl, cannot_build args.options.batch_size (opening_command args) e (fits args its) by)
+  opening_well : (e : Error) → OpeningFails past None args e → IsExcused are_its heard ⊥ e
+  opening_well e (openings.out_of_memory full) = inl (ap (λ (x : Error). x.kind) full)
+  opening_well e (openings.request sent fails) =
+      inl (request_well watched past (resuming_in (first_aggregate args) past.wire sent) (is_read_again sent) TellsNoCursor e served (resuming_none (first_aggregate args) past.wire sent)
+      (λ bytes h success breaks. let b = opening_brings sent bytes h success in tells_not bytes b.batch e b.there breaks) fails)
+  opening_well e (openings.not_built by) =
+      inr (resuming_in (first_aggregate args) past.wire None, opens args past.wire its refl, cannot_build args.options.batch_size (resuming_in (first_aggregate args) past.wire None) e (fits args its) by)
 
 -- ---- the closing
 
 no_id_left : (id : ℤ) → id ≡ pos 0 → unless_none id ≡ []
 no_id_left id none = ap (λ (b : Bool). if b then [] else id ∷ []) ((Decides-int_eq id (pos 0)).1 none)
 
-none_left : (id : ℤ) → id ≡ pos 0 → ids_left id (pos 0) ≡ []
+none_left : (id : ℤ) → id ≡ pos 0 → unless_none id ++ unless_none (pos 0) ≡ []
 none_left id none = ap (λ (ids : List ℤ). ids ++ unless_none (pos 0)) (no_id_left id none) ∙ no_id_left (pos 0) refl
 
-one_left : (id : ℤ) → id ≢ pos 0 → ids_left id (pos 0) ≡ id ∷ []
+one_left : (id : ℤ) → id ≢ pos 0 → unless_none id ++ unless_none (pos 0) ≡ id ∷ []
 one_left id held =
     elim (cases_Bool (int_eq id (pos 0))) [
       | inl none ↦ absurd (held ((Decides-int_eq id (pos 0)).0 none))
       | inr other ↦ ap (λ (b : Bool). (if b then [] else id ∷ []) ++ unless_none (pos 0)) other ∙ ap (λ (ids : List ℤ). id ∷ ids) (no_id_left (pos 0) refl)
     ]
 
-kill_well : (watched : ℤ → Type 0) (are_its : WatchArgs → Type 0) (heard : List ℕ → Type 0) (past : Past) (c : CursorInformation) (e : Error) → IsServed watched past → HasOwn heard c → ids_left c.id (pos 0) ≢ [] → NotKilled past c (pos 0) e → IsExcused are_its heard ⊥ e
-kill_well watched are_its heard past c e served own some (inl fails) =
-    inl (request_well watched past (last_command c (pos 0)) false NoneBroken e served (killing_none (space c.ns) (ids_left c.id (pos 0))) (λ bytes h success none. absurd none) fails)
-kill_well watched are_its heard past c e served own some (inr by) =
-    let held : c.id ≢ pos 0 = λ none. some (none_left c.id none) in
-    inr (last_command c (pos 0), kills c.id (space c.ns) own (ap (kill_command (space c.ns)) (one_left c.id held)), by)
+kill_by : (watched : ℤ → Type 0) (are_its : WatchArgs → Type 0) (heard : List ℕ → Type 0) (past : Past) (last : ClientStream) (e : Error) → IsServed watched past → HasOwn heard last.cursor → last_ids last ≢ [] → (e.kind ≡ kind.OutOfMemory) ⊎ (RequestFails past (last_kill last) false NoneBroken e ⊎ CannotBeSent (last_kill last) e) → IsExcused are_its heard ⊥ e
+kill_by watched are_its heard past last e served own some (inl room) = inl room
+kill_by watched are_its heard past last e served own some (inr (inl fails)) =
+    inl (request_well watched past (last_kill last) false NoneBroken e served (killing_none last.cursor.space (last_ids last)) (λ bytes h success none. absurd none) fails)
+kill_by watched are_its heard past last e served own some (inr (inr by)) =
+    let held : last.cursor.id ≢ pos 0 = λ none. some (none_left last.cursor.id none) in
+    inr (last_kill last, kills last.cursor.id last.cursor.space own (ap (kill_command last.cursor.space) (one_left last.cursor.id held)), by)
+
+kill_well : (watched : ℤ → Type 0) (are_its : WatchArgs → Type 0) (heard : List ℕ → Type 0) (past : Past) (last : ClientStream) (e : Error) → IsServed watched past → HasOwn heard last.cursor → LastFails past last e → IsExcused are_its heard ⊥ e
+kill_well watched are_its heard past last e served own f = kill_by watched are_its heard past last e served own f.some_left f.why
 
 -- ---- all calls
 
 module _ (c : Course) (i : ℕ) (begun calls : List Call) (wire : ℤ) (whole : length begun ≡ c.begun) (faultless : Faultless begun calls) (well : AnswersWell c i calls) (are_its : WatchArgs → Type 0) (fits : (args : WatchArgs) → are_its args → SizePasses args.options.batch_size → ⊥) where
-  one_well : (short : Type 0) (at after : Standing) (n : ℕ) (places : List ℕ) (answer : Answer) → AllSentIn c i n places → Called (sent_at places calls wire) at after (poll_of answer) → StandsWell (IsWatched well.history) are_its at → StandsOwn (IsHeard c i calls) at → (at.owes ≡ true → short)
-      → ((bytes : List ℕ) → at.first ≡ Some bytes → n ≡ 1) → EndedWell (IsWatched well.history) are_its (IsHeard c i calls) short (FindsNothing c i calls well.history n short) after answer
+  one_well : (short : Type 0) (at after : ClientStream) (n : ℕ) (places : List ℕ) (answer : Answer) → AllSentIn c i n places → Called (sent_at places calls wire) None at after (poll_of answer) → StandsWell (IsWatched well.history) are_its at → StandsOwn (IsHeard c i calls) at → (at.doing ≡ streams.owes → short)
+      → ((bytes : List ℕ) → HoldsFirst at bytes → n ≡ 1) → EndedWell (IsWatched well.history) are_its (IsHeard c i calls) short (FindsNothing c i calls well.history n short) after answer
   one_well short at after n places answer sent called stands own owed first =
       called_well (IsWatched well.history) are_its fits (IsHeard c i calls) short (sent_at places calls wire) (serves c i n begun calls wire places whole faultless well sent) (hears c i n begun calls wire places whole faultless well sent) at stands own owed (FindsNothing c i calls well.history n short)
       (λ bytes held. takes_first (first bytes held))
-      (λ bytes is h. takes_again is h.place (own_place c i n begun calls wire places whole faultless well sent h.place (resume_command wire at) (reply bytes) h.heard) h.heard.call h.heard.there at.aggregate wire h.heard.command_is)
-      (λ gone. is_over (space at.cursor.ns) (subst (λ (id : ℤ). IsOwnCursor (IsHeard c i calls) id (space at.cursor.ns)) gone own.cursor))
-      (λ bytes batch h success there empty. finds_none (none_there c i n begun calls wire places whole faultless well sent at.cursor.id (space at.cursor.ns) (manner_of at.cursor) bytes batch stands.cursor.named stands.cursor.watches h success there empty)) answer after called
+      (λ bytes is h. takes_again is h.heard.place (own_place c i n begun calls wire places whole faultless well sent h.heard.place (resuming_in at.aggregate wire h.session) (reply bytes) h.heard.heard) h.heard.heard.call h.heard.heard.there at.aggregate wire
+      (subst (λ (x : Option Session). fields h.heard.heard.call.command ≡ resuming_in at.aggregate wire x) h.plainly h.heard.heard.command_is))
+      (λ gone. is_over at.cursor.space (subst (λ (id : ℤ). IsOwnCursor (IsHeard c i calls) id at.cursor.space) gone own.cursor.own))
+      (λ bytes batch h there empty. finds_none (none_there c i n begun calls wire places whole faultless well sent at.cursor.id at.cursor.space at.cursor.manner h.session bytes batch stands.cursor.named stands.cursor.watches h.heard h.success there empty)) answer after called
 
-  calls_well : (short : Type 0) (n : ℕ) (at : Standing) (owns : List (List ℕ)) (said : List Answer) (last : Standing) → ((k : ℕ) (own : List ℕ) → slice_get owns k ≡ Some own → AllSentIn c i (n + k) own) → Answered calls wire at owns said last → StandsWell (IsWatched well.history) are_its at → StandsOwn (IsHeard c i calls) at → (at.owes ≡ true → short)
-      → ((bytes : List ℕ) → at.first ≡ Some bytes → n ≡ 1) → StandsOwn (IsHeard c i calls) last × AnswersAreWell (IsExcused are_its (IsHeard c i calls)) (FindsNothing c i calls well.history) n short said
+  calls_well : (short : Type 0) (n : ℕ) (at : ClientStream) (owns : List (List ℕ)) (said : List Answer) (last : ClientStream) → ((k : ℕ) (own : List ℕ) → slice_get owns k ≡ Some own → AllSentIn c i (n + k) own) → Answered calls wire at owns said last → StandsWell (IsWatched well.history) are_its at → StandsOwn (IsHeard c i calls) at → (at.doing ≡ streams.owes → short)
+      → ((bytes : List ℕ) → HoldsFirst at bytes → n ≡ 1) → StandsOwn (IsHeard c i calls) last × AnswersAreWell (IsExcused are_its (IsHeard c i calls)) (FindsNothing c i calls well.history) n short said
   calls_well short n at [] [] last sent is stands own owed first = (subst (StandsOwn (IsHeard c i calls)) (sym is) own, tt)
   calls_well short n at (places ∷ owns) (answer ∷ said) last sent answered stands own owed first =
       let now : n + 0 ≡ n = omega arith in
       let one = one_well short at answered.0 n places answer (subst (λ (m : ℕ). AllSentIn c i m places) now (sent 0 places refl)) answered.1 stands own owed first in
-      let looked = one.looked in
-      let more = calls_well (short ⊎ IsShort answer) (suc n) answered.0 owns said last (λ k own there. let next : n + suc k ≡ suc n + k = omega arith in subst (λ (m : ℕ). AllSentIn c i m own) next (sent (suc k) own there)) answered.2 one.stands one.own one.owes (λ bytes held. absurd cc) in
+      let more = calls_well (short ⊎ IsShort answer) (suc n) answered.0 owns said last (λ k own there. let next : n + suc k ≡ suc n + k = omega arith in subst (λ (m : ℕ). AllSentIn c i m own) next (sent (suc k) own there)) answered.2 one.stands one.own one.owes (λ bytes held. absurd (one.looked bytes held)) in
       (more.0, (one.is_well, more.1))
   calls_well short n at [] (answer ∷ said) last sent answered stands own owed first = absurd answered
   calls_well short n at (places ∷ owns) [] last sent answered stands own owed first = absurd answered
@@ -347,15 +371,15 @@ never_unfinished count answered k pended (inl more) turns = omega arith
 never_unfinished count answered k pended (inr all) turns = omega arith
 
 module _ (awaited : Awaited) (c : Course) (i : ℕ) (begun calls : List Call) (wire : ℤ) (whole : length begun ≡ c.begun) (faultless : Faultless begun calls) (well : AnswersWell c i calls) where
-  served_so : {A : Type 0} (k : ℕ) (last : Standing) (closed : Ended A) (close : Closed c i k calls wire last closed) → IsServed (IsWatched well.history) (sent_at close.places calls wire)
+  served_so : {A : Type 0} (k : ℕ) (last : ClientStream) (closed : Ended A) (close : Closed c i k calls wire last closed) → IsServed (IsWatched well.history) (sent_at close.places calls wire)
   served_so k last closed close = serves c i k begun calls wire close.places whole faultless well close.sent
 
-  closed_well : {A : Type 0} (are_its : WatchArgs → Type 0) (closed : Ended A) (count answered k : ℕ) (pended : Bool) (last : Standing) → StandsOwn (IsHeard c i calls) last → OpenPlayed closed count answered k pended → suc count ≤ k → CloseCaused awaited c i count answered calls wire last closed
+  closed_well : {A : Type 0} (are_its : WatchArgs → Type 0) (closed : Ended A) (count answered k : ℕ) (pended : Bool) (last : ClientStream) → StandsOwn (IsHeard c i calls) last → OpenPlayed closed count answered k pended → suc count ≤ k → CloseCaused awaited c i count answered calls wire last closed
       → (answered ≡ count) × EndsWell (IsExcused are_its (IsHeard c i calls) ⊥) closed
   closed_well are_its ended.Unfinished count answered k pended last own played turns close = absurd (never_unfinished count answered k pended played turns)
   closed_well are_its (ended.Gave x) count answered k pended last own played turns close = (played.0, tt)
   closed_well are_its (ended.Failed e) count answered k pended last own played turns close =
-      (played.0, kill_well (IsWatched well.history) are_its (IsHeard c i calls) (sent_at close.places calls wire) last.cursor e (served_so answered last (ended.Failed e) close) own.cursor close.by.some_left close.by.why)
+      (played.0, kill_well (IsWatched well.history) are_its (IsHeard c i calls) (sent_at close.places calls wire) last e (served_so answered last (ended.Failed e) close) own.cursor.own close.by)
 
 -- ---- a follow
 
@@ -372,8 +396,7 @@ module _ (awaited : Awaited) (c : Course) (i : ℕ) (begun calls : List Call) (w
       let a = o.answers in
       let stands = opened_well (IsWatched well.history) (IsArgsFor on start filter batch) (sent_at a.places calls wire) (honest_over well.history calls well.legal well.stands a.places wire) o.args o.args_are a.first a.opened in
       let own = opened_own (IsHeard c i calls) (sent_at a.places calls wire) (hears c i 0 begun calls wire a.places whole faultless well a.sent) o.args a.first a.opened in
-      let quits = a.opened.quits in
-      let all = calls_well c i begun calls wire whole faultless well (IsArgsFor on start filter batch) fits ⊥ 1 a.first a.owns said o.last (λ k own there. let next : suc k ≡ 1 + k = omega arith in subst (λ (m : ℕ). AllSentIn c i m own) next (a.sent_each k own there)) a.answered stands own (λ owing. cc) (λ bytes held. refl) in
+      let all = calls_well c i begun calls wire whole faultless well (IsArgsFor on start filter batch) fits ⊥ 1 a.first a.owns said o.last (λ k own there. let next : suc k ≡ 1 + k = omega arith in subst (λ (m : ℕ). AllSentIn c i m own) next (a.sent_each k own there)) a.answered stands own (λ owing. let bad : streams.follows ≡ streams.owes = sym (ap (λ (s : ClientStream). s.doing) a.opened.stream_is) ∙ owing in cc) (λ bytes held. refl) in
       let end = closed_well awaited c i begun calls wire whole faultless well (IsArgsFor on start filter batch) closed count (length said) k pended o.last all.0 played turns o.close in
       record { all = end.0; answered = all.1; closes = end.1 }
 
@@ -487,7 +510,7 @@ module _ (excuses others : Excuses) (each : (short : Type 0) (e : Error) → exc
 
 -- a command that is sent where it is short
 any_short : (are_its : WatchArgs → Type 0) (heard : List ℕ → Type 0) (short : Type 0) (command : Fields) → IsOwnCommand are_its heard short command → IsOwnCommand are_its heard (Unit {0}) command
-any_short are_its heard short command (opens args its is) = opens args its is
+any_short are_its heard short command (opens args wire its is) = opens args wire its is
 any_short are_its heard short command (resumes so a wire its known is) = resumes tt a wire its known is
 any_short are_its heard short command (asks args its id at own is) = asks args its id at own is
 any_short are_its heard short command (kills id at own is) = kills id at own is

@@ -11,9 +11,12 @@ use Rattle.mg_link.specs.Namespace.{Space, Target, target}
 use Rattle.mg_link.specs.Prompt.{AnswersAtOnce}
 use Rattle.mg_link.specs.Query.{Query}
 use Rattle.mg_link.specs.State.{Start, State}
-use Rattle.mg_ops.specs.Bodies.{watch_command, insert_command}
+use Rattle.mg_options.specs.Fields.{fields_in}
+use Rattle.mg_link.specs.Session.{Session}
+use Rattle.mg_ops.specs.Bodies.{watch_body, insert_command}
+use Rattle.mg_ops.specs.Sessions.{in_session}
 use Rattle.mg_ops.specs.Commands.{kill_command}
-use Rattle.mg_change.specs.Phases.{resuming_command}
+use Rattle.mg_change.specs.ClientStreams.{resuming_in}
 use Rattle.mg_ops.specs.Cursors.{Manner, next_command}
 use Rattle.mg_ops.specs.Resuming.{options_for}
 use Rattle.mg_ops.specs.declared.aggregate.ChangeStreamAggregate.{ChangeStreamAggregate}
@@ -121,14 +124,17 @@ kill_creates fs = by_kill (option_and_then integers_in (option_and_then as_array
 pub inserting_none : (space : Space) (documents : List Fields) → CreatesNone (insert_command space documents)
 inserting_none space documents = insert_creates (insert_command space documents)
 
-pub watching_none : (target : Target) (stages : List Fields) (o : ChangeStreamOptions) → CreatesNone (watch_command target stages o)
-watching_none target stages o = first_creates (watch_of (watch_command target stages o)) (pipeline_query (watch_command target stages o)) (watch_creates (watch_command target stages o)) (pipeline_creates (watch_command target stages o))
+pub watching_none : (target : Target) (stages : List Fields) (o : ChangeStreamOptions) (session : Option Session) → CreatesNone (fields_in (watch_body target stages o session))
+watching_none target stages o session =
+    let fs = fields_in (watch_body target stages o session) in
+    first_creates (watch_of fs) (pipeline_query fs) (watch_creates fs) (pipeline_creates fs)
 
-pub asking_none : (id : ℤ) (space : Space) (manner : Manner) → CreatesNone (next_command id space manner)
-asking_none id space manner = more_creates (next_command id space manner)
+pub asking_none : (id : ℤ) (space : Space) (manner : Manner) (session : Option Session) → CreatesNone (in_session session (next_command id space manner))
+asking_none id space manner None = more_creates (next_command id space manner)
+asking_none id space manner (Some s) = more_creates (in_session (Some s) (next_command id space manner))
 
 pub killing_none : (space : Space) (ids : List ℤ) → CreatesNone (kill_command space ids)
 killing_none space ids = kill_creates (kill_command space ids)
 
-pub resuming_none : (a : ChangeStreamAggregate) (wire : ℤ) → CreatesNone (resuming_command a wire)
-resuming_none a wire = watching_none (target a.args.target) a.args.pipeline.items (options_for a.args.options a.resume wire)
+pub resuming_none : (a : ChangeStreamAggregate) (wire : ℤ) (session : Option Session) → CreatesNone (resuming_in a wire session)
+resuming_none a wire session = watching_none (target a.args.target) a.args.pipeline.items (options_for a.args.options a.resume wire) session

@@ -1,13 +1,13 @@
 -- Over a legal history each event that a follow receives has an `_id`, so no answer of it says that one has none.
-use Rattle.std.proofs.Common.{◌≡◌, ◌≢◌, ℕ, zero, suc, ℤ, pos, Bool, true, false, List, [], ◌∷◌, take, Option, Some, None, Ok, refl, sym, ap, ◌∙◌, subst, inl, inr}
-use Rattle.std.specs.Prelude.{slice_get, if◌then◌else◌}
+use Rattle.std.proofs.Common.{◌≡◌, ◌≢◌, ◌⊎◌, ℕ, zero, suc, ℤ, pos, Bool, true, false, List, [], ◌∷◌, map, take, Option, Some, None, Ok, refl, sym, ap, ◌∙◌, subst, inl, inr}
+use Rattle.std.specs.Prelude.{slice_get}
 use Rattle.std.specs.Ordering.{int_eq}
 use Rattle.std.proofs.lemmas.Bool.{cases_Bool}
 use Rattle.std.proofs.lemmas.Bool.Decides.{Decides-int_eq}
 use Rattle.mg_bson.specs.Tree.{Tree, Fields}
 use Rattle.mg_bson.specs.Raw.{fields}
 use Rattle.mg_bson.specs.Reading.{doc}
-use Rattle.mg_link.specs.Calls.{HeardBy, NoneBroken, Past, RequestFails, out_of_memory, was_broken, was_lost, was_refused}
+use Rattle.mg_link.specs.Calls.{HeardBy, Past, RequestFails, out_of_memory, was_broken, was_lost, was_refused}
 use Rattle.mg_link.specs.Events.{HaveIds}
 use Rattle.mg_link.specs.Exec.{FailsAs, FailsByReply, IsSuccess}
 use Rattle.mg_link.specs.Failures.{refusal_by, refusal_in}
@@ -25,22 +25,34 @@ use Rattle.mg_link.specs.declared.reply.Verdict.TheVariants as verdict
 use Rattle.mg_link.proofs.Pasts.{heard_by}
 use Rattle.mg_options.specs.declared.change_stream.ChangeStreamOptions.{ChangeStreamOptions}
 use Rattle.mg_ops.specs.Aims.{aim_of}
-use Rattle.mg_ops.specs.Bodies.{watch_command}
+use Rattle.mg_link.specs.Session.{Session}
+use Rattle.mg_options.specs.Fields.{fields_in}
+use Rattle.mg_ops.specs.Bodies.{watch_body}
+use Rattle.mg_ops.specs.Failing.{CannotBeSent, HasBadSize}
+use Rattle.mg_ops.specs.Sessions.{in_session}
 use Rattle.mg_ops.specs.Naming.{IsNamed}
 use Rattle.mg_ops.specs.Resuming.{options_for}
 use Rattle.mg_ops.specs.declared.aggregate.ChangeStreamAggregate.{ChangeStreamAggregate}
 use Rattle.mg_ops.specs.declared.change_stream.WatchArgs.{WatchArgs}
-use Rattle.mg_ops.specs.declared.cursor_reply.CursorInformation.{CursorInformation}
+use Rattle.mg_ops.specs.declared.cursor_reply.CursorSpecification.{CursorSpecification}
 use Rattle.mg_link.proofs.Owners.{same_some}
 use Rattle.mg_link.proofs.Watched.{IsWatched, no_zero, stays_watch}
-use Rattle.mg_ops.specs.Cursors.{Cursor, cursor_of, Manner, manner_of, watch_manner, next_command}
-use Rattle.mg_ops.proofs.Asking.{asks_as_aimed_plainly, asks_for_more_plainly}
+use Rattle.mg_ops.specs.Cursors.{Cursor, OpensWith, cursor_of, Manner, watch_manner, next_command}
+use Rattle.mg_ops.proofs.Watching.{manner_read}
+use Rattle.mg_ops.proofs.Asking.{asks_as_aimed, asks_for_more}
 use Rattle.mg_ops.proofs.Replying.{same_id}
-use Rattle.mg_change.specs.Batches.{HoldsBatch}
-use Rattle.mg_change.specs.Causes.{BreaksBatch, CallEmpty, CallFailed, CallFails, CallGave, CallNone, Called, CannotBuild, HeardMore, MayLose, MoreFails, Next, Replied, Resumed, Resumes, Standing, Stays, TellsCursor, TellsNoCursor, more_command, remembered_empty, resume_command}
+use Rattle.mg_cursor.specs.Batches.{BreaksBatch, documents_of}
+use Rattle.mg_cursor.specs.Batches as batches
+use Rattle.mg_cursor.specs.Causes.{HeardMore, TellsNoCursor}
+use Rattle.mg_cursor.specs.Client.{ClientCursor, at_rest, behind_failure, behind_reply, get_more, new_client}
+use Rattle.mg_cursor.specs.Client as cursors
+use Rattle.mg_change.specs.Causes.{CallEmpty, CallFailed, CallFails, CallGave, CallNone, Called, HeardAggregate, HoldsFirst, IsOwing, IsSettled, MayLose, MoreFailed, Next, Replied, Resumed, Resumes, StaysSo}
 use Rattle.mg_change.specs.Causes as causes
+use Rattle.mg_change.specs.ClientOpenings.{first_aggregate}
+use Rattle.mg_change.specs.ClientStreams.{ClientStream, is_read_again, remembered_empty, resuming_in}
+use Rattle.mg_change.specs.ClientStreams as streams
+use Rattle.mg_change.proofs.Turning.{left_id}
 use Rattle.mg_change.specs.OpeningCauses.{Opened}
-use Rattle.mg_change.specs.Openings.{opening_command}
 use Rattle.mg_ops.proofs.Reading.{named_read}
 use Rattle.mg_jobs.specs.Causes.{Answered, sent_at}
 use Rattle.mg_jobs.specs.Follows.{poll_of}
@@ -48,8 +60,7 @@ use Rattle.mg_script.specs.declared.outcome.Answer.{Answer}
 use Rattle.mg_script.specs.declared.outcome.Answer.TheVariants as answers
 use Rattle.mg_jobs.proofs.Batches.{events_are}
 use Rattle.mg_jobs.proofs.Prompting.{Brings, GoesOn, IsLawful, IsWatchOnly, Opens, lawful_at, more_brings, watch_brings}
-use Rattle.mg_change.specs.Polls.{ends_cursor}
-use Rattle.mg_link.specs.Errors.{command_code}
+use Rattle.mg_jobs.proofs.Sends.{manner_behind, space_behind}
 
 -- ---- what a call heard
 
@@ -59,8 +70,8 @@ TellsWatch watched bytes = (c : Cursor) → cursor_of (fields bytes) ≡ Ok c �
 
 -- each reply that is a success has a batch where one was asked for, of a watch where its cursor was a watch's
 pub record IsHonest (watched : ℤ → Type 0) (past : Past) : Type 0 where
-  pub watch : (on : Target) (stages : List Fields) (o : ChangeStreamOptions) (bytes : List ℕ) → HeardBy past (watch_command on stages o) (reply bytes) → IsSuccess bytes → Brings bytes × TellsWatch watched bytes
-  pub more : (id : ℤ) (at : Space) (manner : Manner) (bytes : List ℕ) → IsNamed at → (id ≢ pos 0 → watched id) → HeardBy past (next_command id at manner) (reply bytes) → IsSuccess bytes → Brings bytes × TellsWatch watched bytes
+  pub watch : (on : Target) (stages : List Fields) (o : ChangeStreamOptions) (session : Option Session) (bytes : List ℕ) → HeardBy past (fields_in (watch_body on stages o session)) (reply bytes) → IsSuccess bytes → Brings bytes × TellsWatch watched bytes
+  pub more : (id : ℤ) (at : Space) (manner : Manner) (session : Option Session) (bytes : List ℕ) → IsNamed at → (id ≢ pos 0 → watched id) → HeardBy past (in_session session (next_command id at manner)) (reply bytes) → IsSuccess bytes → Brings bytes × TellsWatch watched bytes
 
 -- the step of a command whose reply was heard
 record Taken (history : List Step) (command : Fields) (bytes : List ℕ) : Type 0 where
@@ -120,34 +131,51 @@ module _ (history : List Step) (calls : List Call) (legal : IsLegal history) (st
 
   pub honest_over : IsHonest (IsWatched history) (sent_at places calls wire)
   honest_over = record {
-    watch = λ on stages o bytes h success.
-        let t = taken (watch_command on stages o) bytes h in
-        opens_watch (watch_command on stages o) bytes t (watch_brings t.step t.lawful (subst IsSuccess t.reply_is success) (aim_of on stages o) (asks_as_aimed_plainly t.step.command on stages o t.command_is));
-    more = λ id at manner bytes named w h success.
-        let t = taken (next_command id at manner) bytes h in
-        goes_on (next_command id at manner) bytes t id w
-        (more_brings t.step t.lawful (subst IsSuccess t.reply_is success) id at (watch_only (next_command id at manner) bytes t id w) (asks_for_more_plainly t.step.command id at manner named t.command_is));
+    watch = λ on stages o session bytes h success.
+        let command = fields_in (watch_body on stages o session) in
+        let t = taken command bytes h in
+        opens_watch command bytes t (watch_brings t.step t.lawful (subst IsSuccess t.reply_is success) (aim_of on stages o) (asks_as_aimed t.step.command on stages o session t.command_is));
+    more = λ id at manner session bytes named w h success.
+        let command = in_session session (next_command id at manner) in
+        let t = taken command bytes h in
+        goes_on command bytes t id w
+        (more_brings t.step t.lawful (subst IsSuccess t.reply_is success) id at (watch_only command bytes t id w) (asks_for_more t.step.command id at manner.size manner.wait manner.comment session named t.command_is));
   }
 
 -- ---- how a stream stands
 
 -- a cursor of a watch, which is asked in this manner, in a namespace that a server takes
-pub record IsCursor (watched : ℤ → Type 0) (manner : Manner) (c : CursorInformation) : Type 0 where
-  pub manner_is : manner_of c ≡ manner
-  pub named : IsNamed (space c.ns)
+pub record IsCursor (watched : ℤ → Type 0) (manner : Manner) (c : ClientCursor) : Type 0 where
+  pub manner_is : c.manner ≡ manner
+  pub named : IsNamed c.space
   pub watches : c.id ≢ pos 0 → watched c.id
 
+-- what it asks for or holds does not matter
+rested : (watched : ℤ → Type 0) (manner : Manner) (c : ClientCursor) → IsCursor watched manner c → IsCursor watched manner (at_rest c)
+rested watched manner c w = record { manner_is = w.manner_is; named = w.named; watches = w.watches }
+
+unrested : (watched : ℤ → Type 0) (manner : Manner) (c : ClientCursor) → IsCursor watched manner (at_rest c) → IsCursor watched manner c
+unrested watched manner c w = record { manner_is = w.manner_is; named = w.named; watches = w.watches }
+
 -- the arguments are those of the follow; the reply to the opening has a batch; and the events in hand have an `_id`
-pub record StandsWell (watched : ℤ → Type 0) (are_its : WatchArgs → Type 0) (s : Standing) : Type 0 where
+pub record StandsWell (watched : ℤ → Type 0) (are_its : WatchArgs → Type 0) (s : ClientStream) : Type 0 where
   pub args : are_its s.aggregate.args
   pub cursor : IsCursor watched (watch_manner s.aggregate.args.options) s.cursor
-  pub first : (bytes : List ℕ) → s.first ≡ Some bytes → Brings bytes
-  pub events : s.owes ≡ false → s.first ≡ None → HaveIds s.events
+  pub first : (bytes : List ℕ) → HoldsFirst s bytes → Brings bytes
+  pub events : HaveIds (map fields s.behind)
 
-cursor_told : (watched : ℤ → Type 0) (bytes : List ℕ) (manner : Manner) (c : CursorInformation) (upto : Option Tree) → TellsWatch watched bytes → TellsCursor bytes manner c upto → IsCursor watched manner c
-cursor_told watched bytes manner c upto watches tells =
-    let read : Cursor = record { id = c.id; space = space c.ns; token = upto; batch = tells.batch } in
-    record { manner_is = tells.manner_is; named = named_read (fields bytes) read tells.says; watches = watches read tells.says }
+-- the cursor that an aggregate opened
+cursor_new : (watched : ℤ → Type 0) (o : ChangeStreamOptions) (bytes : List ℕ) (out : CursorSpecification) → TellsWatch watched bytes → OpensWith o.batch_size o.max_await_time o.comment bytes out → IsCursor watched (watch_manner o) (new_client out)
+cursor_new watched o bytes out watches opens =
+    let said : Cursor = record { id = out.info.id; space = space out.info.ns; token = out.post_batch_resume_token; batch = opens.opens.batch } in
+    record { manner_is = manner_read o bytes out opens; named = named_read (fields bytes) said opens.opens.says; watches = watches said opens.opens.says }
+
+-- behind its first call no stream holds the reply to its opening
+pub settled_first : (s : ClientStream) → IsSettled s → (bytes : List ℕ) → HoldsFirst s bytes → ⊥
+settled_first s settled bytes held = let bad : cursors.rests ≡ cursors.holds bytes = sym settled.looked ∙ held.in_hand in cc
+
+pub owing_first : (s : ClientStream) → IsOwing s → (bytes : List ℕ) → HoldsFirst s bytes → ⊥
+owing_first s owing bytes held = let bad : streams.owes ≡ streams.follows = sym owing.owes_one ∙ held.follows_on in cc
 
 args_empty : (upto : Option Tree) (a : ChangeStreamAggregate) → (remembered_empty upto a).args ≡ a.args
 args_empty (Some token) a = refl
@@ -174,154 +202,175 @@ by_request past command retries Broken e read (was_lost io heard) is = other_kin
 by_request past command retries Broken e read (was_refused bytes heard fails) is = by_reply (doc bytes) past.wire e fails is
 by_request past command retries Broken e read (was_broken bytes heard success broken) is = read bytes broken is
 
-by_batch : (said : Fields) (e : Error) → BreaksBatch said e → e.kind ≡ kind.MissingResumeToken → ⊥
-by_batch said e (causes.no_batch how none error) is = other_kind e (kind.InvalidResponse how) (ap (λ (x : Error). x.kind) error) is (λ same. cc)
-by_batch said e (causes.bad_item batch there bad) is = other_kind e _ (ap (λ (x : Error). x.kind) bad.1) is (λ same. cc)
+by_batch : (bytes : List ℕ) (e : Error) → BreaksBatch bytes e → e.kind ≡ kind.MissingResumeToken → ⊥
+by_batch bytes e (batches.no_batch none breaks) is = other_kind e (kind.InvalidResponse breaks.how) (ap (λ (x : Error). x.kind) breaks.error) is (λ same. cc)
+by_batch bytes e (batches.bad_item batch there bad error) is = other_kind e _ (ap (λ (x : Error). x.kind) error) is (λ same. cc)
 
-not_built : (size : Option ℕ) (command : Fields) (e : Error) → CannotBuild size command e → e.kind ≡ kind.MissingResumeToken → ⊥
+not_built : (size : Option ℕ) (command : Fields) (e : Error) → HasBadSize size e ⊎ CannotBeSent command e → e.kind ≡ kind.MissingResumeToken → ⊥
 not_built size command e (inl bad) is = other_kind e _ (ap (λ (x : Error). x.kind) bad.0) is (λ same. cc)
 not_built size command e (inr by) is = other_kind e kind.BsonSerialization (ap (λ (x : Error). x.kind) by.0) is (λ same. cc)
 
 -- ---- a call
 
-module _ (watched : ℤ → Type 0) (are_its : WatchArgs → Type 0) (past : Past) (honest : IsHonest watched past) (at : Standing) (well : StandsWell watched are_its at) where
-  abbrev pub IsItsCursor : CursorInformation → Type 0
+module _ (watched : ℤ → Type 0) (are_its : WatchArgs → Type 0) (past : Past) (honest : IsHonest watched past) (at : ClientStream) (well : StandsWell watched are_its at) where
+  abbrev pub IsItsCursor : ClientCursor → Type 0
   IsItsCursor c = IsCursor watched (watch_manner at.aggregate.args.options) c
 
-  resumed : (bytes : List ℕ) → HeardBy past (resume_command past.wire at) (reply bytes) → IsSuccess bytes → Brings bytes × TellsWatch watched bytes
-  resumed bytes heard success = honest.watch (target at.aggregate.args.target) at.aggregate.args.pipeline.items (options_for at.aggregate.args.options at.aggregate.resume past.wire) bytes heard success
+  -- the reply to the aggregate of a resumption
+  pub resumed_brings : (session : Option Session) (bytes : List ℕ) → HeardBy past (resuming_in at.aggregate past.wire session) (reply bytes) → IsSuccess bytes → Brings bytes × TellsWatch watched bytes
+  resumed_brings session bytes heard success = honest.watch (target at.aggregate.args.target) at.aggregate.args.pipeline.items (options_for at.aggregate.args.options at.aggregate.resume past.wire) session bytes heard success
 
-  pub resumed_brings : (bytes : List ℕ) → HeardBy past (resume_command past.wire at) (reply bytes) → IsSuccess bytes → Brings bytes
-  resumed_brings bytes heard success = (resumed bytes heard success).0
+  resumed : (bytes : List ℕ) → HeardAggregate past true at bytes → Brings bytes × TellsWatch watched bytes
+  resumed bytes h = resumed_brings h.session bytes (heard_by past (resuming_in at.aggregate past.wire h.session) (is_read_again h.session) (reply bytes) h.heard) h.success
 
-  cursor_again : (old : CursorInformation) (bytes : List ℕ) (c : CursorInformation) (upto : Option Tree) → Resumed past at old bytes c upto → IsItsCursor c
-  cursor_again old bytes c upto r = cursor_told watched bytes (watch_manner at.aggregate.args.options) c upto (resumed bytes r.heard r.success).1 r.tells
+  cursor_again : (old : ClientCursor) (bytes : List ℕ) (c : ClientCursor) → Resumed past true at old bytes c → IsItsCursor c
+  cursor_again old bytes c r = subst IsItsCursor (sym r.cursor_is) (cursor_new watched at.aggregate.args.options bytes r.out.0 (resumed bytes r.heard).1 r.opens.opens)
 
-  heard_more : (bytes : List ℕ) → HeardMore past at (reply bytes) → IsSuccess bytes → Brings bytes × TellsWatch watched bytes
-  heard_more bytes heard success = honest.more at.cursor.id (space at.cursor.ns) (manner_of at.cursor) bytes well.cursor.named well.cursor.watches heard.heard success
+  pub heard_more : (bytes : List ℕ) → HeardMore past at.cursor bytes → Brings bytes × TellsWatch watched bytes
+  heard_more bytes h = honest.more at.cursor.id at.cursor.space at.cursor.manner h.session bytes well.cursor.named well.cursor.watches h.heard h.success
 
-  cursor_more : (bytes : List ℕ) (c : CursorInformation) (upto : Option Tree) → HeardMore past at (reply bytes) → IsSuccess bytes → TellsCursor bytes (manner_of at.cursor) c upto → IsItsCursor c
-  cursor_more bytes c upto heard success tells = subst (λ (manner : Manner). IsCursor watched manner c) well.cursor.manner_is (cursor_told watched bytes (manner_of at.cursor) c upto (heard_more bytes heard success).1 tells)
+  cursor_said : (bytes : List ℕ) (said : Cursor) (c : ClientCursor) → HeardMore past at.cursor bytes → cursor_of (fields bytes) ≡ Ok said → c ≡ behind_reply said at.cursor → IsItsCursor c
+  cursor_said bytes said c h says is = subst IsItsCursor (sym is) (record { manner_is = well.cursor.manner_is; named = named_read (fields bytes) said says; watches = (heard_more bytes h).1 said says })
 
-  cursor_same : (c : CursorInformation) → c ≡ at.cursor → IsItsCursor c
-  cursor_same c is = subst (λ (d : CursorInformation). IsItsCursor d) (sym is) well.cursor
+  cursor_same : (c : ClientCursor) → c ≡ at.cursor → IsItsCursor c
+  cursor_same c is = subst IsItsCursor (sym is) well.cursor
 
-  ended_watches : (b : Bool) → (if b then pos 0 else at.cursor.id) ≢ pos 0 → watched (if b then pos 0 else at.cursor.id)
-  ended_watches true ne = absurd (ne refl)
-  ended_watches false ne = well.cursor.watches ne
+  cursor_rest : (c : ClientCursor) → c ≡ at_rest at.cursor → IsItsCursor c
+  cursor_rest c is = subst IsItsCursor (sym is) (rested watched (watch_manner at.aggregate.args.options) at.cursor well.cursor)
 
-  cursor_ended : (c : CursorInformation) (ends : Bool) → c ≡ record at.cursor { id = if ends then pos 0 else at.cursor.id } → IsItsCursor c
-  cursor_ended c ends is = subst (λ (d : CursorInformation). IsItsCursor d) (sym is) (record { manner_is = well.cursor.manner_is; named = well.cursor.named; watches = ended_watches ends })
+  failed_watches : (e : Error) → (behind_failure e at.cursor).id ≢ pos 0 → watched (behind_failure e at.cursor).id
+  failed_watches e ne =
+      elim (left_id e.kind at.cursor) [
+        | inl same ↦ subst watched (sym same) (well.cursor.watches (λ z. ne (same ∙ z)))
+        | inr none ↦ absurd (ne none)
+      ]
 
-  cursor_fails : (e : Error) (c : CursorInformation) → MoreFails past at e c → IsItsCursor c
-  cursor_fails e c (causes.untold asked fails is) = cursor_ended c (ends_cursor (command_code e.kind)) is
-  cursor_fails e c (causes.broken bytes upto heard success tells breaks) = cursor_more bytes c upto heard success tells
+  cursor_behind : (e : Error) (c : ClientCursor) → c ≡ behind_failure e at.cursor → IsItsCursor c
+  cursor_behind e c is =
+      subst IsItsCursor (sym is)
+      (record { manner_is = manner_behind e.kind at.cursor ∙ well.cursor.manner_is; named = subst IsNamed (sym (space_behind e.kind at.cursor)) well.cursor.named; watches = failed_watches e })
 
-  cursor_left : (c : CursorInformation) → Resumes past at c → IsItsCursor c
-  cursor_left c (causes.owed owes is) = cursor_same c is
+  cursor_fails : (e : Error) (c : ClientCursor) → MoreFailed past at e c → IsItsCursor c
+  cursor_fails e c (causes.untold may why is) = cursor_behind e c is
+  cursor_fails e c (causes.broken may bytes said heard says is breaks) = cursor_said bytes said c heard says is
+
+  cursor_left : (c : ClientCursor) → Resumes past at c → IsItsCursor c
+  cursor_left c (causes.owed owes is) = cursor_rest c is
   cursor_left c (causes.more_failed e why is) = cursor_fails e c why
-  cursor_left c (causes.first_broken bytes e first empty breaks is) = cursor_same c is
+  cursor_left c (causes.first_broken bytes e first breaks is) = cursor_rest c is
 
-  pub replied_well : (resumed : Bool) (bytes : List ℕ) (c : CursorInformation) (upto : Option Tree) → Replied past at resumed bytes c upto → Brings bytes × IsItsCursor c
-  replied_well resumed bytes c upto (causes.opening new first empty is behind) = (well.first bytes first, cursor_same c is)
-  replied_well resumed bytes c upto (causes.more new heard success tells) = ((heard_more bytes heard success).0, cursor_more bytes c upto heard success tells)
-  replied_well resumed bytes c upto (causes.again new old r killed) = (resumed_brings bytes r.heard r.success, cursor_again old bytes c upto r)
+  -- of a cursor that was at rest, whatever it holds now
+  cursor_now : (c : ClientCursor) → Resumes past at (at_rest c) → IsItsCursor c
+  cursor_now c why = unrested watched (watch_manner at.aggregate.args.options) c (cursor_left (at_rest c) why)
 
-  held_well : (resumed : Bool) (bytes : List ℕ) (events : List Fields) (c : CursorInformation) (upto : Option Tree) → Replied past at resumed bytes c upto → HoldsBatch (fields bytes) events → HaveIds events × IsItsCursor c
-  held_well resumed bytes events c upto r holds =
-      let w = replied_well resumed bytes c upto r in
-      (subst HaveIds (sym (events_are (fields bytes) w.0.batch events w.0.there holds)) w.0.ids, w.1)
+  pub replied_well : (again : Bool) (bytes : List ℕ) (c : ClientCursor) → Replied past true at again bytes c → Brings bytes × IsItsCursor c
+  replied_well again bytes c (causes.opening not first is) = (well.first bytes first, cursor_rest c is)
+  replied_well again bytes c (causes.more not may said heard says is) = ((heard_more bytes heard).0, cursor_said bytes said c heard says is)
+  replied_well again bytes c (causes.once_more so old new r killed is) =
+      ((resumed bytes r.heard).0, subst IsItsCursor (sym is) (rested watched (watch_manner at.aggregate.args.options) new (cursor_again old bytes new r)))
 
-  pub next_well : (events : List Fields) (c : CursorInformation) (upto : Option Tree) → Next past at events c upto → HaveIds events × IsItsCursor c
-  next_well events c upto (causes.left settled are is behind) = (subst HaveIds (sym are) (well.events settled.quits settled.looked), cursor_same c is)
-  next_well events c upto (causes.came empty resumed bytes r holds) = held_well resumed bytes events c upto r holds
+  held_well : (again : Bool) (bytes : List ℕ) (events : List (List ℕ)) (c : ClientCursor) → Replied past true at again bytes c → documents_of bytes ≡ Some events → HaveIds (map fields events) × IsItsCursor c
+  held_well again bytes events c r holds =
+      let w = replied_well again bytes c r in
+      (subst HaveIds (sym (events_are bytes w.0.batch events w.0.there holds)) w.0.ids, w.1)
 
-  stands_on : (after : Standing) → after.aggregate.args ≡ at.aggregate.args → IsItsCursor after.cursor → after.first ≡ None → (after.owes ≡ false → HaveIds after.events) → StandsWell watched are_its after
+  pub next_well : (events : List (List ℕ)) (c : ClientCursor) → Next past true at events c → HaveIds (map fields events) × IsItsCursor c
+  next_well events c (causes.left settled are is) = (subst (λ (es : List (List ℕ)). HaveIds (map fields es)) (sym are) well.events, cursor_same c is)
+  next_well events c (causes.came empty again bytes r holds) = held_well again bytes events c r holds
+
+  stands_on : (after : ClientStream) → after.aggregate.args ≡ at.aggregate.args → IsItsCursor after.cursor → ((bytes : List ℕ) → HoldsFirst after bytes → ⊥) → HaveIds (map fields after.behind) → StandsWell watched are_its after
   stands_on after same cursor looked events =
       record {
         args = subst are_its (sym same) well.args;
         cursor = subst (λ (a : WatchArgs). IsCursor watched (watch_manner a.options) after.cursor) (sym same) cursor;
-        first = λ bytes is. absurd cc;
-        events = λ quits none. events quits;
+        first = λ bytes held. absurd (looked bytes held);
+        events = events;
       }
 
+  none_behind : (events : List (List ℕ)) → events ≡ [] → HaveIds (map fields events)
+  none_behind events none = subst (λ (es : List (List ℕ)). HaveIds (map fields es)) (sym none) tt
+
   -- with an event
-  pub gave_well : (after : Standing) (event : Fields) → CallGave past at after event → StandsWell watched are_its after
+  pub gave_well : (after : ClientStream) (event : List ℕ) → CallGave past true at after event → StandsWell watched are_its after
   gave_well after event g =
-      let n = next_well (event ∷ after.events) after.cursor g.upto g.next in
-      stands_on after (ap (λ (a : ChangeStreamAggregate). a.args) g.remembers) n.1 g.settled.looked (λ quits. n.0.1)
+      let n = next_well (event ∷ after.behind) after.cursor g.next in
+      stands_on after (ap (λ (a : ChangeStreamAggregate). a.args) g.remembers) n.1 (settled_first after g.settled) n.0.1
 
   -- with nothing
-  none_well : (after : Standing) (resumed : Bool) → CallNone past at after resumed → (after.aggregate.args ≡ at.aggregate.args) × IsItsCursor after.cursor
-  none_well after resumed (causes.came_empty empty bytes upto r holds is) = (ap (λ (a : ChangeStreamAggregate). a.args) is ∙ args_empty upto at.aggregate, (replied_well resumed bytes after.cursor upto r).1)
-  none_well after resumed (causes.none_left new settled empty gone is same) = (ap (λ (a : ChangeStreamAggregate). a.args) is, cursor_same after.cursor same)
+  none_well : (after : ClientStream) (again : Bool) → CallNone past true at after again → (after.aggregate.args ≡ at.aggregate.args) × IsItsCursor after.cursor
+  none_well after again (causes.came_empty empty bytes r holds is) = (ap (λ (a : ChangeStreamAggregate). a.args) is ∙ args_empty after.cursor.token at.aggregate, (replied_well again bytes after.cursor r).1)
+  none_well after again (causes.none_left not settled empty gone is same) = (ap (λ (a : ChangeStreamAggregate). a.args) is, cursor_same after.cursor same)
 
-  pub empty_well : (after : Standing) (resumed : Bool) → CallEmpty past at after resumed → StandsWell watched are_its after
-  empty_well after resumed e =
-      let n = none_well after resumed e.why in
-      stands_on after n.0 n.1 e.settled.looked (λ quits. subst HaveIds (sym e.empty) tt)
+  pub empty_well : (after : ClientStream) (again : Bool) → CallEmpty past true at after again → StandsWell watched are_its after
+  empty_well after again e =
+      let n = none_well after again e.why in
+      stands_on after n.0 n.1 (settled_first after e.settled) (none_behind after.behind e.empty)
 
   -- with a failure
-  stays_well : (after : Standing) → Stays past at after → (after.first ≡ None) × HaveIds after.events × IsItsCursor after.cursor
-  stays_well after (causes.as_it_was settled is) =
-      (ap (λ (x : Standing). x.first) is ∙ settled.looked, subst (λ (x : Standing). HaveIds x.events) (sym is) (well.events settled.quits settled.looked), cursor_same after.cursor (ap (λ (x : Standing). x.cursor) is))
-  stays_well after (causes.in_hand resumed bytes r holds some settled) = let w = held_well resumed bytes after.events after.cursor after.upto r holds in (settled.looked, w.0, w.1)
+  abbrev Left : ClientStream → Type 0
+  Left after = ((bytes : List ℕ) → HoldsFirst after bytes → ⊥) × HaveIds (map fields after.behind) × IsItsCursor after.cursor
 
-  cursor_lost : (c : CursorInformation) → MayLose past at c → IsItsCursor c
-  cursor_lost c (causes.asking asked is) = cursor_same c is
-  cursor_lost c (causes.resuming why) = cursor_left c why
-  cursor_lost c (causes.killing old bytes upto r held) = cursor_again old bytes c upto r
-  cursor_lost c (causes.keeping resumed bytes upto r) = (replied_well resumed bytes c upto r).1
+  stays_well : (after : ClientStream) → StaysSo past true at after → Left after
+  stays_well after (causes.as_it_was settled is events doing) =
+      (settled_first after (record { follows_on = doing ∙ settled.follows_on; looked = ap (λ (c : ClientCursor). c.doing) is ∙ settled.looked }), subst (λ (es : List (List ℕ)). HaveIds (map fields es)) (sym events) well.events, cursor_same after.cursor is)
+  stays_well after (causes.in_hand again bytes r holds some settled) = let w = held_well again bytes after.behind after.cursor r holds in (settled_first after settled, w.0, w.1)
+
+  cursor_lost : (c : ClientCursor) → MayLose past true at c → IsItsCursor c
+  cursor_lost c (causes.asking may is) = cursor_same c is
+  cursor_lost c (causes.resuming why) = cursor_now c why
+  cursor_lost c (causes.closing old bytes r held) = cursor_again old bytes c r
+
+  owing_left : (after : ClientStream) → IsOwing after → IsItsCursor after.cursor → Left after
+  owing_left after owes cursor = (owing_first after owes, none_behind after.behind owes.none_left, cursor)
 
   -- how the stream stands behind it
-  pub failed_so : (after : Standing) (e : Error) → CallFails past at after e → (after.first ≡ None) × (after.owes ≡ false → HaveIds after.events) × IsItsCursor after.cursor
-  failed_so after e (causes.may_lose room owes may) = (owes.looked, λ quits. let is = owes.owes in absurd cc, cursor_lost after.cursor may)
-  failed_so after e (causes.no_memory room stays) = let w = stays_well after stays in (w.0, λ quits. w.1, w.2)
-  failed_so after e (causes.not_resumed owes why fails) = (owes.looked, λ quits. let is = owes.owes in absurd cc, cursor_left after.cursor why)
-  failed_so after e (causes.broken bytes upto owes r breaks) = (owes.looked, λ quits. let is = owes.owes in absurd cc, (replied_well true bytes after.cursor upto r).1)
-  failed_so after e (causes.cannot_resume owes why by) = (owes.looked, λ quits. let is = owes.owes in absurd cc, cursor_left after.cursor why)
-  failed_so after e (causes.refused_more asked fails final is) =
-      (ap (λ (x : Standing). x.first) is ∙ asked.settled.looked, λ quits. subst HaveIds (sym (ap (λ (x : Standing). x.events) is ∙ asked.none_left)) tt, cursor_ended after.cursor (ends_cursor (command_code e.kind)) (ap (λ (x : Standing). x.cursor) is))
-  failed_so after e (causes.cannot_ask asked by is) =
-      (ap (λ (x : Standing). x.first) is ∙ asked.settled.looked, λ quits. subst HaveIds (sym (ap (λ (x : Standing). x.events) is ∙ asked.none_left)) tt, cursor_same after.cursor (ap (λ (x : Standing). x.cursor) is))
-  failed_so after e (causes.no_id event upto next lacks is behind settled) = let n = next_well (event ∷ after.events) after.cursor upto next in (settled.looked, λ quits. n.0.1, n.1)
+  pub failed_so : (after : ClientStream) (e : Error) → CallFails past None at after e → Left after
+  failed_so after e (causes.may_lose room owes may) = owing_left after owes (cursor_lost after.cursor may)
+  failed_so after e (causes.no_memory room stays) = stays_well after stays
+  failed_so after e (causes.not_resumed owes why fails) = owing_left after owes (cursor_now after.cursor why)
+  failed_so after e (causes.batch_broken bytes owes r breaks) = owing_left after owes (replied_well true bytes after.cursor r).1
+  failed_so after e (causes.cannot_resume owes why now by) = owing_left after owes (cursor_now after.cursor why)
+  failed_so after e (causes.refused_more may fails final is empty settled) = (settled_first after settled, none_behind after.behind empty, cursor_behind e after.cursor is)
+  failed_so after e (causes.cannot_ask may by is empty settled) = (settled_first after settled, none_behind after.behind empty, cursor_same after.cursor is)
+  failed_so after e (causes.no_id event next lacks is settled) = let n = next_well (event ∷ after.behind) after.cursor next in (settled_first after settled, n.0.1, n.1)
 
-  pub failed_well : (after : Standing) (e : Error) → CallFailed past at after e → StandsWell watched are_its after
+  pub failed_well : (after : ClientStream) (e : Error) → CallFailed past None at after e → StandsWell watched are_its after
   failed_well after e f = let w = failed_so after e f.why in stands_on after (ap (λ (a : ChangeStreamAggregate). a.args) f.token) w.2 w.0 w.1
 
   -- no failure is that an event has none
-  pub never_missing : (after : Standing) (e : Error) → CallFails past at after e → e.kind ≡ kind.MissingResumeToken → ⊥
+  pub never_missing : (after : ClientStream) (e : Error) → CallFails past None at after e → e.kind ≡ kind.MissingResumeToken → ⊥
   never_missing after e (causes.may_lose room owes may) is = other_kind e kind.OutOfMemory room is (λ same. cc)
   never_missing after e (causes.no_memory room stays) is = other_kind e kind.OutOfMemory room is (λ same. cc)
-  never_missing after e (causes.not_resumed owes why fails) is = by_request past (resume_command past.wire at) true TellsNoCursor e (λ bytes breaks same. other_kind e (kind.InvalidResponse breaks.how) (ap (λ (x : Error). x.kind) breaks.error) same (λ f. cc)) fails is
-  never_missing after e (causes.broken bytes upto owes r breaks) is = by_batch (fields bytes) e breaks is
-  never_missing after e (causes.cannot_resume owes why by) is = not_built at.aggregate.args.options.batch_size (resume_command past.wire at) e by is
-  never_missing after e (causes.refused_more asked fails final same) is = by_request past (more_command at) false NoneBroken e (λ bytes none missing. absurd none) fails is
-  never_missing after e (causes.cannot_ask asked by same) is = not_built at.cursor.batch_size (more_command at) e by is
-  never_missing after e (causes.no_id event upto next lacks io behind settled) is = let id = (next_well (event ∷ after.events) after.cursor upto next).0.0 in let has = id.1 in absurd cc
+  never_missing after e (causes.not_resumed owes why fails) is = by_request past (resuming_in at.aggregate past.wire fails.session) (is_read_again fails.session) TellsNoCursor e (λ bytes breaks same. other_kind e (kind.InvalidResponse breaks.how) (ap (λ (x : Error). x.kind) breaks.error) same (λ f. cc)) fails.fails is
+  never_missing after e (causes.batch_broken bytes owes r breaks) is = by_batch bytes e breaks is
+  never_missing after e (causes.cannot_resume owes why now by) is = not_built at.aggregate.args.options.batch_size (resuming_in at.aggregate past.wire now) e by.1 is
+  never_missing after e (causes.refused_more may fails final same empty settled) is = by_request past (get_more at.cursor fails.session) false TellsNoCursor e (λ bytes breaks missing. other_kind e (kind.InvalidResponse breaks.how) (ap (λ (x : Error). x.kind) breaks.error) missing (λ f. cc)) fails.fails is
+  never_missing after e (causes.cannot_ask may by same empty settled) is = not_built at.cursor.manner.size (get_more at.cursor None) e by is
+  never_missing after e (causes.no_id event next lacks io settled) is = let id = (next_well (event ∷ after.behind) after.cursor next).0.0 in let has = id.1 in absurd cc
 
-  called_stands : (answer : Answer) (after : Standing) → Called past at after (poll_of answer) → StandsWell watched are_its after × ((e : Error) → answer ≡ answers.Failed e → e.kind ≡ kind.MissingResumeToken → ⊥)
-  called_stands (answers.Event event) after called = (gave_well after (fields event) called, λ e same is. cc)
+  called_stands : (answer : Answer) (after : ClientStream) → Called past None at after (poll_of answer) → StandsWell watched are_its after × ((e : Error) → answer ≡ answers.Failed e → e.kind ≡ kind.MissingResumeToken → ⊥)
+  called_stands (answers.Event event) after called = (gave_well after event called, λ e same is. cc)
   called_stands answers.Nothing after called = (empty_well after called.0 called.1, λ e same is. cc)
   called_stands (answers.Failed f) after called = (failed_well after f called, λ e same is. let fails : f ≡ e = cc in never_missing after f called.why (ap (λ (x : Error). x.kind) fails ∙ is))
 
 -- ---- the opening
 
 module _ (watched : ℤ → Type 0) (are_its : WatchArgs → Type 0) (past : Past) (honest : IsHonest watched past) (args : WatchArgs) (its : are_its args) where
-  pub opened_well : (first : Standing) → Opened past args first → StandsWell watched are_its first
+  pub opened_well : (first : ClientStream) → Opened past args first → StandsWell watched are_its first
   opened_well first o =
-      let heard = honest.watch (target args.target) args.pipeline.items args.options o.bytes (heard_by past (opening_command args) true (reply o.bytes) o.heard) o.success in
-      record {
-        args = subst are_its (sym o.args_are) its;
-        cursor = subst (λ (a : WatchArgs). IsCursor watched (watch_manner a.options) first.cursor) (sym o.args_are) (cursor_told watched o.bytes (watch_manner args.options) first.cursor first.upto heard.1 o.tells);
-        first = λ bytes is. let held = o.in_hand in let same : o.bytes ≡ bytes = cc in subst Brings same heard.0;
-        events = λ quits looked. let held = o.in_hand in absurd cc;
-      }
+      let heard = honest.watch (target args.target) args.pipeline.items args.options o.session o.bytes (heard_by past (resuming_in (first_aggregate args) past.wire o.session) (is_read_again o.session) (reply o.bytes) o.heard) o.success in
+      subst (StandsWell watched are_its) (sym o.stream_is)
+      (record {
+        args = its;
+        cursor = cursor_new watched args.options o.bytes o.out.0 heard.1 o.opens.opens;
+        first = λ bytes held. let in_hand : cursors.holds o.out.0.initial_reply ≡ cursors.holds bytes = held.in_hand in let same : o.out.0.initial_reply ≡ bytes = cc in subst Brings (sym o.opens.opens.opens.whole ∙ same) heard.0;
+        events = tt;
+      })
 
 -- ---- all calls
 
 module _ (history : List Step) (calls : List Call) (wire : ℤ) (legal : IsLegal history) (stands : Stands calls history) (are_its : WatchArgs → Type 0) where
-  pub calls_identified : (at : Standing) (owns : List (List ℕ)) (said : List Answer) (last : Standing) → Answered calls wire at owns said last → StandsWell (IsWatched history) are_its at → (k : ℕ) (e : Error) → slice_get said k ≡ Some (answers.Failed e) → e.kind ≡ kind.MissingResumeToken → ⊥
+  pub calls_identified : (at : ClientStream) (owns : List (List ℕ)) (said : List Answer) (last : ClientStream) → Answered calls wire at owns said last → StandsWell (IsWatched history) are_its at → (k : ℕ) (e : Error) → slice_get said k ≡ Some (answers.Failed e) → e.kind ≡ kind.MissingResumeToken → ⊥
   calls_identified at [] [] last is well k e there = absurd cc
   calls_identified at (places ∷ owns) (answer ∷ said) last answered well zero e there =
       (called_stands (IsWatched history) are_its (sent_at places calls wire) (honest_over history calls legal stands places wire) at well answer answered.0 answered.1).1 e (same_some answer (answers.Failed e) there)

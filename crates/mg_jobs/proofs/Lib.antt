@@ -27,7 +27,11 @@ pub mod Drawing
 pub mod OwnTickets
 pub mod Newest
 pub mod Adding
+pub mod Sending
 pub mod Sends
+pub mod Continuing
+pub mod Later
+pub mod Lasting
 pub mod Polling
 pub mod Showing
 pub mod Small

@@ -1,186 +1,165 @@
 -- Which commands jobs send, turn by turn.
-use Rattle.std.proofs.Common.{◌≡◌, ◌+◌, ◌<◌, ◌≤◌, ◌++◌, ◌∷◌, [], List, length, ℕ, zero, suc, ℤ, pos, Bool, true, false, Option, Some, None, refl, sym, ap, ◌∙◌, subst, inl, inr, arith}
-use Rattle.std.specs.Prelude.{slice_get, if◌then◌else◌}
+use Rattle.std.proofs.Common.{◌≡◌, ◌+◌, ◌<◌, ◌++◌, ◌∷◌, [], List, length, ℕ, ℤ, Bool, true, false, Option, Some, None, refl, sym, ap, ◌∙◌, subst, inl, inr, arith}
+use Rattle.std.specs.Prelude.{slice_get}
 use Rattle.mg_bson.specs.Tree.{Tree, Fields}
 use Rattle.mg_bson.specs.Raw.{fields}
+use Rattle.mg_bson.specs.declared.tree.Timestamp.{Timestamp}
 use Rattle.mg_link.specs.Calls.{Keeps, Past, AddsOnly}
-use Rattle.mg_link.specs.Exec.{Sending, Stage, unsent, first, second}
 use Rattle.mg_link.specs.Link.{Awaited, Told}
 use Rattle.mg_link.specs.Log.{Call}
-use Rattle.mg_link.specs.Namespace.{space}
-use Rattle.mg_link.specs.declared.action.Step.{Step}
+use Rattle.mg_link.specs.Step.{ends_cursor}
 use Rattle.mg_link.specs.declared.error.Error.{Error}
-use Rattle.mg_ops.specs.Cursors.{manner_of, watch_manner, next_command}
+use Rattle.mg_link.specs.declared.error.ErrorKind.{ErrorKind}
+use Rattle.mg_link.specs.declared.error.ErrorKind.TheVariants as kind
+use Rattle.mg_ops.specs.Cursors.{watch_manner}
 use Rattle.mg_ops.specs.declared.aggregate.ChangeStreamAggregate.{ChangeStreamAggregate}
 use Rattle.mg_ops.specs.declared.change_stream.WatchArgs.{WatchArgs}
-use Rattle.mg_ops.specs.declared.cursor_reply.CursorInformation.{CursorInformation}
-use Rattle.mg_change.specs.Causes.{ByPhase, CallFails, CallNone, Called, MayLose, MoreFails, Next, Replied, Resumes, SoFar, Standing, remembered_empty}
+use Rattle.mg_ops.specs.declared.cursor_reply.CursorSpecification.{CursorSpecification}
+use Rattle.mg_ops.proofs.Watching.{manner_read}
+use Rattle.mg_cursor.specs.Client as cursors
+use Rattle.mg_cursor.specs.Client.{ClientCursor, at_rest, behind_failure, behind_kind, new_client, unless_ended}
+use Rattle.mg_change.specs.Causes.{CallFails, CallNone, Called, MayLose, MoreFailed, Next, Replied, Resumed, Resumes, SoFar, StaysSo}
 use Rattle.mg_change.specs.Causes as causes
-use Rattle.mg_change.specs.ClosingSends.{ClosingSent, KillsTheRest, closing_places}
-use Rattle.mg_change.specs.Closings.{ids_left}
+use Rattle.mg_change.specs.ClientStreams.{ClientStream, Doing, follows, remembered_empty}
 use Rattle.mg_change.specs.OpeningCauses.{Opened}
-use Rattle.mg_change.specs.OpeningSends.{OpeningSent, Opens, opening_left, opening_places}
-use Rattle.mg_change.specs.Phases.{resuming_command}
-use Rattle.mg_change.specs.Polls.{ends_cursor}
-use Rattle.mg_change.specs.Sent.{CallSent, IsAt, killing_places, places, poll_places, resuming_places}
-use Rattle.mg_change.specs.declared.closing.Flight.{Flight}
-use Rattle.mg_change.specs.declared.closing.Remains.{Remains}
-use Rattle.mg_change.specs.declared.event_poll.EventPoll.{EventPoll}
-use Rattle.mg_change.specs.declared.opening.Opening.{Opening}
-use Rattle.mg_change.specs.declared.stream.ChangeStream.{ChangeStream}
-use Rattle.mg_change.specs.declared.stream.Phase.{Phase}
-use Rattle.mg_change.specs.declared.stream.Phase.TheVariants as phase
-use Rattle.mg_link.specs.Errors.{command_code}
+use Rattle.mg_change.specs.Steps.{OpensBy}
 use Rattle.mg_jobs.specs.Causes.{Answered, Course, SentIn, sent_at}
 use Rattle.mg_jobs.specs.Drawing.{has_turn}
 use Rattle.mg_jobs.specs.Follows.{poll_of}
-use Rattle.mg_jobs.specs.Sends.{IsCommandOf, SendsOnly, asks, kills, opens, resumes}
+use Rattle.mg_jobs.specs.Sends.{IsCommandOf, SendsOnly}
 use Rattle.mg_script.specs.declared.outcome.Answer.{Answer}
 use Rattle.mg_script.specs.declared.outcome.Answer.TheVariants as answers
 use Rattle.mg_script.specs.declared.outcome.Turned.{Turned}
 use Rattle.mg_link.proofs.Places.{get_some}
 use Rattle.mg_link.proofs.Adding.{same_command_at}
-use Rattle.mg_jobs.proofs.Adding.{adds_sent, all_falling}
+use Rattle.mg_change.proofs.Such.{AddsSuch}
+use Rattle.mg_jobs.proofs.Adding.{adds_sent}
 use Rattle.mg_jobs.proofs.Drawing.{turn_within}
 use Rattle.mg_jobs.proofs.Newest.{none_sent, sent_before, sent_below, started_in}
 
 -- ---- how a stream stands
 
 -- the arguments are these, and its cursor is asked in the manner of their options
-pub record IsFor (args : WatchArgs) (s : Standing) : Type 0 where
+pub record IsFor (args : WatchArgs) (s : ClientStream) : Type 0 where
   pub args_are : s.aggregate.args ≡ args
-  pub manner_is : manner_of s.cursor ≡ watch_manner args.options
+  pub manner_is : s.cursor.manner ≡ watch_manner args.options
 
 args_empty : (upto : Option Tree) (a : ChangeStreamAggregate) → (remembered_empty upto a).args ≡ a.args
 args_empty (Some token) a = refl
 args_empty None a = refl
 
-module _ (args : WatchArgs) (past : Past) (at : Standing) (fit : IsFor args at) where
-  abbrev IsAsked : CursorInformation → Type 0
-  IsAsked c = manner_of c ≡ watch_manner args.options
+manner_unless : (ends : Bool) (c : ClientCursor) → (unless_ended ends c).manner ≡ c.manner
+manner_unless true c = refl
+manner_unless false c = refl
 
-  asked_same : (c : CursorInformation) → c ≡ at.cursor → IsAsked c
-  asked_same c is = ap manner_of is ∙ fit.manner_is
+pub manner_behind : (k : ErrorKind) (c : ClientCursor) → (behind_kind k c).manner ≡ c.manner
+manner_behind kind.Io c = refl
+manner_behind (kind.Command refusal) c = manner_unless (ends_cursor refusal.code) c
+manner_behind _ c = refl
 
-  asked_ended : (c : CursorInformation) (ends : Bool) → c ≡ record at.cursor { id = if ends then pos 0 else at.cursor.id } → IsAsked c
-  asked_ended c ends is = ap manner_of is ∙ fit.manner_is
+space_unless : (ends : Bool) (c : ClientCursor) → (unless_ended ends c).space ≡ c.space
+space_unless true c = refl
+space_unless false c = refl
 
-  asked_again : (c : CursorInformation) → manner_of c ≡ watch_manner at.aggregate.args.options → IsAsked c
-  asked_again c is = is ∙ ap (λ (a : WatchArgs). watch_manner a.options) fit.args_are
+pub space_behind : (k : ErrorKind) (c : ClientCursor) → (behind_kind k c).space ≡ c.space
+space_behind kind.Io c = refl
+space_behind (kind.Command refusal) c = space_unless (ends_cursor refusal.code) c
+space_behind _ c = refl
 
-  asked_fails : (e : Error) (c : CursorInformation) → MoreFails past at e c → IsAsked c
-  asked_fails e c (causes.untold asked fails is) = asked_ended c (ends_cursor (command_code e.kind)) is
-  asked_fails e c (causes.broken bytes upto heard success tells breaks) = tells.manner_is ∙ fit.manner_is
+module _ (args : WatchArgs) (past : Past) (at : ClientStream) (fit : IsFor args at) where
+  abbrev IsAsked : ClientCursor → Type 0
+  IsAsked c = c.manner ≡ watch_manner args.options
 
-  asked_left : (c : CursorInformation) → Resumes past at c → IsAsked c
-  asked_left c (causes.owed owes is) = asked_same c is
+  asked_same : (c : ClientCursor) → c.manner ≡ at.cursor.manner → IsAsked c
+  asked_same c is = is ∙ fit.manner_is
+
+  asked_rest : (c : ClientCursor) → c ≡ at_rest at.cursor → IsAsked c
+  asked_rest c is = asked_same c (ap (λ (x : ClientCursor). x.manner) is)
+
+  asked_behind : (e : Error) (c : ClientCursor) → c ≡ behind_failure e at.cursor → IsAsked c
+  asked_behind e c is = asked_same c (ap (λ (x : ClientCursor). x.manner) is ∙ manner_behind e.kind at.cursor)
+
+  -- a new one
+  asked_again : (bytes : List ℕ) (out : CursorSpecification × Option Timestamp) (c : ClientCursor) → OpensBy at.aggregate bytes out → c ≡ new_client out.0 → IsAsked c
+  asked_again bytes out c opens is = ap (λ (x : ClientCursor). x.manner) is ∙ manner_read at.aggregate.args.options bytes out.0 opens.opens ∙ ap (λ (a : WatchArgs). watch_manner a.options) fit.args_are
+
+  asked_resumed : (old : ClientCursor) (bytes : List ℕ) (c : ClientCursor) → Resumed past true at old bytes c → IsAsked c
+  asked_resumed old bytes c r = asked_again bytes r.out c r.opens r.cursor_is
+
+  asked_fails : (e : Error) (c : ClientCursor) → MoreFailed past at e c → IsAsked c
+  asked_fails e c (causes.untold may why is) = asked_behind e c is
+  asked_fails e c (causes.broken may bytes said heard says is breaks) = asked_same c (ap (λ (x : ClientCursor). x.manner) is)
+
+  asked_left : (c : ClientCursor) → Resumes past at c → IsAsked c
+  asked_left c (causes.owed owes is) = asked_rest c is
   asked_left c (causes.more_failed e why is) = asked_fails e c why
-  asked_left c (causes.first_broken bytes e hand empty breaks is) = asked_same c is
+  asked_left c (causes.first_broken bytes e hand breaks is) = asked_rest c is
 
-  asked_replied : (resumed : Bool) (bytes : List ℕ) (c : CursorInformation) (upto : Option Tree) → Replied past at resumed bytes c upto → IsAsked c
-  asked_replied resumed bytes c upto (causes.opening new hand empty is behind) = asked_same c is
-  asked_replied resumed bytes c upto (causes.more new heard success tells) = tells.manner_is ∙ fit.manner_is
-  asked_replied resumed bytes c upto (causes.again new old r killed) = asked_again c r.tells.manner_is
+  asked_replied : (again : Bool) (bytes : List ℕ) (c : ClientCursor) → Replied past true at again bytes c → IsAsked c
+  asked_replied again bytes c (causes.opening not hand is) = asked_rest c is
+  asked_replied again bytes c (causes.more not may said heard says is) = asked_same c (ap (λ (x : ClientCursor). x.manner) is)
+  asked_replied again bytes c (causes.once_more so old new r killed is) = ap (λ (x : ClientCursor). x.manner) is ∙ asked_resumed old bytes new r
 
-  asked_next : (events : List Fields) (c : CursorInformation) (upto : Option Tree) → Next past at events c upto → IsAsked c
-  asked_next events c upto (causes.left settled are is behind) = asked_same c is
-  asked_next events c upto (causes.came empty resumed bytes r holds) = asked_replied resumed bytes c upto r
+  asked_next : (events : List (List ℕ)) (c : ClientCursor) → Next past true at events c → IsAsked c
+  asked_next events c (causes.left settled are is) = asked_same c (ap (λ (x : ClientCursor). x.manner) is)
+  asked_next events c (causes.came empty again bytes r holds) = asked_replied again bytes c r
 
-  for_none : (after : Standing) (resumed : Bool) → CallNone past at after resumed → IsFor args after
-  for_none after resumed (causes.came_empty empty bytes upto r holds is) = record { args_are = ap (λ (a : ChangeStreamAggregate). a.args) is ∙ args_empty upto at.aggregate ∙ fit.args_are; manner_is = asked_replied resumed bytes after.cursor upto r }
-  for_none after resumed (causes.none_left new settled empty gone is same) = record { args_are = ap (λ (a : ChangeStreamAggregate). a.args) is ∙ fit.args_are; manner_is = asked_same after.cursor same }
+  for_none : (after : ClientStream) (again : Bool) → CallNone past true at after again → IsFor args after
+  for_none after again (causes.came_empty empty bytes r holds is) = record { args_are = ap (λ (a : ChangeStreamAggregate). a.args) is ∙ args_empty after.cursor.token at.aggregate ∙ fit.args_are; manner_is = asked_replied again bytes after.cursor r }
+  for_none after again (causes.none_left not settled empty gone is same) = record { args_are = ap (λ (a : ChangeStreamAggregate). a.args) is ∙ fit.args_are; manner_is = asked_same after.cursor (ap (λ (x : ClientCursor). x.manner) same) }
 
-  asked_stays : (after : Standing) → causes.Stays past at after → IsAsked after.cursor
-  asked_stays after (causes.as_it_was settled is) = asked_same after.cursor (ap (λ (x : Standing). x.cursor) is)
-  asked_stays after (causes.in_hand resumed bytes r holds some settled) = asked_replied resumed bytes after.cursor after.upto r
+  asked_stays : (after : ClientStream) → StaysSo past true at after → IsAsked after.cursor
+  asked_stays after (causes.as_it_was settled is events doing) = asked_same after.cursor (ap (λ (x : ClientCursor). x.manner) is)
+  asked_stays after (causes.in_hand again bytes r holds some settled) = asked_replied again bytes after.cursor r
 
-  asked_lost : (c : CursorInformation) → MayLose past at c → IsAsked c
-  asked_lost c (causes.asking asked is) = asked_same c is
-  asked_lost c (causes.resuming why) = asked_left c why
-  asked_lost c (causes.killing old bytes upto r held) = asked_again c r.tells.manner_is
-  asked_lost c (causes.keeping resumed bytes upto r) = asked_replied resumed bytes c upto r
+  asked_lost : (c : ClientCursor) → MayLose past true at c → IsAsked c
+  asked_lost c (causes.asking may is) = asked_same c (ap (λ (x : ClientCursor). x.manner) is)
+  asked_lost c (causes.resuming why) = asked_left (at_rest c) why
+  asked_lost c (causes.closing old bytes r held) = asked_resumed old bytes c r
 
-  asked_failed : (after : Standing) (e : Error) → CallFails past at after e → IsAsked after.cursor
+  asked_failed : (after : ClientStream) (e : Error) → CallFails past None at after e → IsAsked after.cursor
   asked_failed after e (causes.may_lose room owes may) = asked_lost after.cursor may
   asked_failed after e (causes.no_memory room stays) = asked_stays after stays
-  asked_failed after e (causes.not_resumed owes why fails) = asked_left after.cursor why
-  asked_failed after e (causes.broken bytes upto owes r breaks) = asked_replied true bytes after.cursor upto r
-  asked_failed after e (causes.cannot_resume owes why by) = asked_left after.cursor why
-  asked_failed after e (causes.refused_more asked fails final is) = asked_ended after.cursor (ends_cursor (command_code e.kind)) (ap (λ (x : Standing). x.cursor) is)
-  asked_failed after e (causes.cannot_ask asked by is) = asked_same after.cursor (ap (λ (x : Standing). x.cursor) is)
-  asked_failed after e (causes.no_id event upto next lacks is behind settled) = asked_next (event ∷ after.events) after.cursor upto next
+  asked_failed after e (causes.not_resumed owes why fails) = asked_left (at_rest after.cursor) why
+  asked_failed after e (causes.batch_broken bytes owes r breaks) = asked_replied true bytes after.cursor r
+  asked_failed after e (causes.cannot_resume owes why now by) = asked_left (at_rest after.cursor) why
+  asked_failed after e (causes.refused_more may fails final is empty settled) = asked_behind e after.cursor is
+  asked_failed after e (causes.cannot_ask may by is empty settled) = asked_same after.cursor (ap (λ (x : ClientCursor). x.manner) is)
+  asked_failed after e (causes.no_id event next lacks is settled) = asked_next (event ∷ after.behind) after.cursor next
 
-  for_called : (answer : Answer) (after : Standing) → Called past at after (poll_of answer) → IsFor args after
-  for_called (answers.Event event) after g = record { args_are = ap (λ (a : ChangeStreamAggregate). a.args) g.remembers ∙ fit.args_are; manner_is = asked_next (fields event ∷ after.events) after.cursor g.upto g.next }
+  for_called : (answer : Answer) (after : ClientStream) → Called past None at after (poll_of answer) → IsFor args after
+  for_called (answers.Event event) after g = record { args_are = ap (λ (a : ChangeStreamAggregate). a.args) g.remembers ∙ fit.args_are; manner_is = asked_next (event ∷ after.behind) after.cursor g.next }
   for_called answers.Nothing after called = for_none after called.0 called.1.why
   for_called (answers.Failed e) after f = record { args_are = ap (λ (a : ChangeStreamAggregate). a.args) f.token ∙ fit.args_are; manner_is = asked_failed after e f.why }
 
-  -- ---- what a call sends
-
-  few_resuming : (s : Stage) → resuming_places s ≤ 3
-  few_resuming unsent = omega arith
-  few_resuming (first ticket) = omega arith
-  few_resuming (second ticket) = omega arith
-
-  few_killing : (s : Stage) → killing_places s ≤ 3
-  few_killing unsent = omega arith
-  few_killing (first ticket) = omega arith
-  few_killing (second ticket) = omega arith
-
   -- a getMore is sent only of the cursor that was there as the call began
-  asked_asking : (awaited : Awaited) (s : ChangeStream) (p : Phase) → 3 < places p → ByPhase awaited past at false p s → IsAsked s.cursor
-  asked_asking awaited s phase.Taken less by = asked_same s.cursor by.1.cursor
-  asked_asking awaited s phase.Rest less by = asked_same s.cursor by.1.cursor
-  asked_asking awaited s (phase.First bytes) less by = absurd (omega (arith, less))
-  asked_asking awaited s phase.Fresh less by = absurd (omega (arith, less))
-  asked_asking awaited s (phase.Asking get_more exec) less by = asked_same s.cursor by.1.cursor
-  asked_asking awaited s phase.Owing less by = absurd (omega (arith, less))
-  asked_asking awaited s (phase.Resuming exec) less by = let few = few_resuming exec.stage in absurd (omega (arith, less, few))
-  asked_asking awaited s (phase.Killing exec old bytes) less by = let few = few_killing exec.stage in absurd (omega (arith, less, few))
-  asked_asking awaited s (phase.Resumed bytes) less by = absurd (omega (arith, less))
+  cursor_asked : (awaited : Awaited) (s : ClientStream) (d : cursors.Doing) → causes.ByCursor awaited past at s d → IsAsked s.cursor
+  cursor_asked awaited s cursors.rests by = asked_same s.cursor (ap (λ (x : ClientCursor). x.manner) by.cursor)
+  cursor_asked awaited s (cursors.holds bytes) by = asked_same s.cursor (ap (λ (x : ClientCursor). x.manner) by.cursor)
+  cursor_asked awaited s (cursors.asks sending) by = asked_same s.cursor (ap (λ (x : ClientCursor). x.manner) by.1)
 
-  module _ (are_its : WatchArgs → Type 0) (its : are_its args) (awaited : Awaited) (s : ChangeStream) (so : SoFar awaited past at false s.phase s) (wire : ℤ) where
-    resumes_its : (command : Fields) → command ≡ resuming_command s.aggregate wire → IsCommandOf are_its command
-    resumes_its command is = resumes s.aggregate wire (subst are_its (sym (ap (λ (a : ChangeStreamAggregate). a.args) so.same ∙ fit.args_are)) its) is
+  -- so a call that goes on with its cursor asks it so
+  pub for_so_far : (awaited : Awaited) (s : ClientStream) → SoFar awaited past true at s → (s.aggregate.args ≡ args) × (s.doing ≡ follows → IsAsked s.cursor)
+  for_so_far awaited s so = (
+    ap (λ (a : ChangeStreamAggregate). a.args) so.same ∙ fit.args_are,
+    λ on. cursor_asked awaited s s.cursor.doing (subst (λ (d : Doing). causes.ByDoing awaited past true at s d) on so.by),
+  )
 
-    call_may : (place : ℕ) (command : Fields) → place < places s.phase → IsAt s.cursor s.aggregate wire place command → IsCommandOf are_its command
-    call_may zero command less is = kills is.at (is.id ∷ []) is.kills
-    call_may (suc zero) command less is = resumes_its command is
-    call_may (suc (suc zero)) command less is = resumes_its command is
-    call_may (suc (suc (suc zero))) command less is =
-        asks args its s.cursor.id (space s.cursor.ns) (is ∙ ap (next_command s.cursor.id (space s.cursor.ns)) (asked_asking awaited s s.phase less so.by))
-    call_may (suc (suc (suc (suc place)))) command less is = absurd is
-
-for_answered : (args : WatchArgs) (calls : List Call) (wire : ℤ) (at : Standing) (owns : List (List ℕ)) (said : List Answer) (last : Standing) → Answered calls wire at owns said last → IsFor args at → IsFor args last
+pub for_answered : (args : WatchArgs) (calls : List Call) (wire : ℤ) (at : ClientStream) (owns : List (List ℕ)) (said : List Answer) (last : ClientStream) → Answered calls wire at owns said last → IsFor args at → IsFor args last
 for_answered args calls wire at [] [] last is fit = subst (IsFor args) (sym is) fit
 for_answered args calls wire at (own ∷ owns) (answer ∷ said) last a fit = for_answered args calls wire a.0 owns said last a.2 (for_called args (sent_at own calls wire) at fit answer a.0 a.1)
 for_answered args calls wire at [] (answer ∷ said) last a fit = absurd a
 for_answered args calls wire at (own ∷ owns) [] last a fit = absurd a
 
-for_opened : (args : WatchArgs) (past : Past) (opened : Standing) → Opened past args opened → IsFor args opened
-for_opened args past opened o = record { args_are = o.args_are; manner_is = o.tells.manner_is }
+pub for_opened : (args : WatchArgs) (past : Past) (opened : ClientStream) → Opened past args opened → IsFor args opened
+for_opened args past opened o =
+    subst (IsFor args) (sym o.stream_is) (record { args_are = refl; manner_is = manner_read args.options o.bytes o.out.0 o.opens.opens })
 
 -- ---- what a follow sends
 
-module _ (are_its : WatchArgs → Type 0) (args : WatchArgs) (its : are_its args) (log log' : Told) (calls calls' : List Call) (told : log ≡ Some calls) (told' : log' ≡ Some calls') (keeps : Keeps calls calls') where
-  -- for its opening
-  pub opening_adds : (exec : Option Sending) (result : Step Opening ChangeStream) → OpeningSent args log log' exec result → AddsOnly (IsCommandOf are_its) calls calls'
-  opening_adds exec result s =
-      adds_sent (IsCommandOf are_its) log log' s.commands s.adds
-      (all_falling (IsCommandOf are_its) (Opens args) (opening_places exec) s.commands (opening_left result) (λ place command less is. opens args its is) s.falling) calls calls' told told' keeps
-
-  -- in a call of its stream, which was opened and answered so
-  pub call_adds : (awaited : Awaited) (at opened : Standing) (wire : ℤ) (began owned : List ℕ) (owns : List (List ℕ)) (said : List Answer) (s s' : ChangeStream) (r : EventPoll) → Opened (sent_at began calls wire) args opened → Answered calls wire opened owns said at → SoFar awaited (sent_at owned calls wire) at false s.phase s → CallSent log log' wire s s' r → AddsOnly (IsCommandOf are_its) calls calls'
-  call_adds awaited at opened wire began owned owns said s s' r o answered so sent =
-      let fit = for_answered args calls wire opened owns said at answered (for_opened args (sent_at began calls wire) opened o) in
-      adds_sent (IsCommandOf are_its) log log' sent.commands sent.adds
-      (all_falling (IsCommandOf are_its) (IsAt s.cursor s.aggregate wire) (places s.phase) sent.commands (poll_places r s'.phase) (call_may args (sent_at owned calls wire) at fit are_its its awaited s so wire) sent.falling) calls calls' told told' keeps
-
--- for its closing
-pub closing_adds : (are_its : WatchArgs → Type 0) (log log' : Told) (calls calls' : List Call) (r : Remains) (f : Flight) → log ≡ Some calls → log' ≡ Some calls' → Keeps calls calls' → ClosingSent log log' r f → AddsOnly (IsCommandOf are_its) calls calls'
-closing_adds are_its log log' calls calls' r f told told' keeps s =
-    adds_sent (IsCommandOf are_its) log log' s.commands s.adds
-    (all_falling (IsCommandOf are_its) (KillsTheRest r) (closing_places f) s.commands 0 (λ place command less is. kills (space r.cursor.ns) (ids_left r.cursor.id r.opened) is) s.falling) calls calls' told told' keeps
+-- such commands of it, and no others
+pub such_adds : (are_its : WatchArgs → Type 0) (log log' : Told) (calls calls' : List Call) → log ≡ Some calls → log' ≡ Some calls' → Keeps calls calls' → AddsSuch (IsCommandOf are_its) log log' → AddsOnly (IsCommandOf are_its) calls calls'
+such_adds are_its log log' calls calls' told told' keeps s = adds_sent (IsCommandOf are_its) log log' s.commands s.adds s.such calls calls' told told' keeps
 
 -- ---- turn by turn
 

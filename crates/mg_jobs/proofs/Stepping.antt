@@ -71,7 +71,3 @@ polled_steps history old new calls calls' number (polled.Pending given) means st
 polled_steps history old new calls calls' number (polled.Reply bytes) means steps = let s = means.sees calls refl in steps_seen history s.0 _ calls calls' s.5 steps
 polled_steps history old new calls calls' number polled.Failed means steps = let s = means.sees calls refl in steps_seen history s.0 _ calls calls' s.5 steps
 polled_steps history old new calls calls' number polled.Memory means steps = let s = means.sees calls refl in steps_seen history s.0 _ calls calls' s.5 steps
-
--- a store that is empty
-pub no_steps : (history : List Kept) (calls : List Call) → history ≡ [] → AreItsSteps history calls
-no_steps history calls none = subst (λ (h : List Kept). AreItsSteps h calls) (sym none) (λ p lt. absurd (omega arith))

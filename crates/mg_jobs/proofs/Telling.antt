@@ -1,8 +1,8 @@
 -- What a follow tells goes on to hold, turn by turn.
-use Rattle.std.proofs.Common.{◌≡◌, ◌⊎◌, ◌+◌, ◌-◌, ◌≤◌, ◌<◌, ℕ, zero, suc, ℤ, pos, Bool, true, false, List, [], ◌∷◌, ◌++◌, length, Option, Some, None, refl, sym, ap, ◌∙◌, subst, inl, inr, arith, length-append}
-use Rattle.std.specs.Prelude.{◌≢◌, ◌↔◌, IsTrue, slice_get}
-use Rattle.mg_bson.specs.Tree.{Tree}
-use Rattle.mg_link.specs.Calls.{Grows, Keeps, Past, Stays, past_of, AddsOnly}
+use Rattle.std.proofs.Common.{◌≡◌, ◌⊎◌, ◌+◌, ◌-◌, ◌≤◌, ◌<◌, ℕ, zero, suc, ℤ, Bool, true, List, [], ◌∷◌, ◌++◌, length, Option, Some, None, refl, sym, ap, ◌∙◌, subst, inl, inr, arith, length-append}
+use Rattle.std.specs.Prelude.{◌↔◌, IsTrue, slice_get}
+use Rattle.mg_bson.specs.Tree.{Fields, Tree}
+use Rattle.mg_link.specs.Calls.{Grows, Keeps, Past, past_of, AddsOnly}
 use Rattle.mg_link.specs.Exec.{Sending}
 use Rattle.mg_link.specs.Link.{Awaited, Told}
 use Rattle.mg_link.specs.Log.{Call}
@@ -14,32 +14,22 @@ use Rattle.mg_link.specs.declared.error.ErrorKind.TheVariants as kind
 use Rattle.mg_link.proofs.Calls.{keeps_longer, same_keeps}
 use Rattle.mg_link.proofs.Places.{get_within}
 use Rattle.mg_ops.specs.declared.change_stream.WatchArgs.{WatchArgs}
-use Rattle.mg_ops.specs.declared.cursor_reply.CursorInformation.{CursorInformation}
-use Rattle.mg_change.specs.Causes.{CallCame, CallCaused, Called, SoFar, Standing, owes_in, standing_of}
-use Rattle.mg_change.specs.ClosingCauses.{ClosingCaused, KillCame, KillCaused, KillDone, KillFails, KillsSoFar}
-use Rattle.mg_change.specs.ClosingSends.{ClosingSent}
-use Rattle.mg_change.specs.Closings.{flight_in}
-use Rattle.mg_change.specs.Following.{token_of}
+use Rattle.mg_change.specs.Causes.{CallCame, CallCaused, Called, SoFar}
+use Rattle.mg_change.specs.ClientOpenings.{ClientOpening, OpensStream}
+use Rattle.mg_change.specs.ClientStreams.{ClientStream, IsAlive, IsBetween, IsSound, stream_token}
+use Rattle.mg_change.specs.ClosingStreams.{ClosesStream, ClosingStream, closed_stream, handed_over}
 use Rattle.mg_change.specs.OpeningCauses.{Opened, OpeningCaused, OpeningFails, OpensSoFar}
-use Rattle.mg_change.specs.OpeningSends.{OpeningSent}
-use Rattle.mg_change.specs.Openings.{IsOpening}
-use Rattle.mg_change.specs.Phases.{AtRest, IsResuming, without_token}
-use Rattle.mg_change.specs.Sent.{CallSent}
-use Rattle.mg_change.specs.declared.closing.Closing.{Closing}
-use Rattle.mg_change.specs.declared.closing.Flight.{Flight}
-use Rattle.mg_change.specs.declared.closing.Flight.TheVariants as flight
-use Rattle.mg_change.specs.declared.closing.Remains.{Remains}
+use Rattle.mg_change.specs.OpeningView.{IsPlainOpening, opening_of}
+use Rattle.mg_change.specs.StreamCalls.{CallCopies}
+use Rattle.mg_change.specs.StreamView.{IsPlainStream, stream_of}
 use Rattle.mg_change.specs.declared.event_poll.EventPoll.{EventPoll}
 use Rattle.mg_change.specs.declared.event_poll.EventPoll.TheVariants as polls
 use Rattle.mg_change.specs.declared.opening.Opening.{Opening}
 use Rattle.mg_change.specs.declared.stream.ChangeStream.{ChangeStream}
-use Rattle.mg_change.specs.declared.stream.Phase.{Phase}
-use Rattle.mg_change.specs.declared.stream.Phase.TheVariants as phase
-use Rattle.mg_change.proofs.Growing.{called_grows, so_far_grows}
-use Rattle.mg_change.proofs.Causes.{begins}
-use Rattle.mg_change.proofs.ClosingCauses.{kill_done_grows, kill_fails_grows, kills_grows}
+use Rattle.mg_change.proofs.ClosingCauses.{LastCame, last_closes, last_done_grows, last_fails_grows, last_grows}
 use Rattle.mg_change.proofs.OpeningCauses.{opened_grows, opening_fails_grows, opens_grows}
-use Rattle.mg_jobs.specs.Causes.{Answered, ClosedBy, IsAlive, sent_at}
+use Rattle.mg_change.proofs.Resting.{opening_args}
+use Rattle.mg_jobs.specs.Causes.{Answered, ClosedBy, sent_at}
 use Rattle.mg_jobs.specs.Sends.{IsCommandOf}
 use Rattle.mg_jobs.specs.Follows.{HasGiven, Placing, poll_of, same_place}
 use Rattle.mg_jobs.specs.Playing.{stage_ticket}
@@ -53,7 +43,10 @@ use Rattle.mg_jobs.specs.declared.follow.Stage.{Stage}
 use Rattle.mg_jobs.specs.declared.follow.Stage.TheVariants as stage
 use Rattle.mg_jobs.specs.declared.follow.Watched.{Watched}
 use Rattle.mg_link.proofs.Adding.{adds_none, adds_on}
-use Rattle.mg_jobs.proofs.Sends.{call_adds, closing_adds, opening_adds}
+use Rattle.mg_jobs.proofs.Lasting.{Lasts}
+use Rattle.mg_jobs.proofs.Later.{begins, called_grows, last_begins, so_far_grows}
+use Rattle.mg_jobs.proofs.Sending.{calls_such, closing_such, opening_such}
+use Rattle.mg_jobs.proofs.Sends.{for_answered, for_opened, for_so_far, such_adds}
 
 -- ---- places
 
@@ -130,20 +123,20 @@ grows_ended places since calls wire =
 
 -- ---- answered calls
 
-pub answered_later : (calls calls' : List Call) (wire : ℤ) → Keeps calls calls' → (owns : List (List ℕ)) (said : List Answer) (first last : Standing) → Answered calls wire first owns said last → Answered calls' wire first owns said last
+pub answered_later : (calls calls' : List Call) (wire : ℤ) → Keeps calls calls' → (owns : List (List ℕ)) (said : List Answer) (first last : ClientStream) → Answered calls wire first owns said last → Answered calls' wire first owns said last
 answered_later calls calls' wire keeps [] [] first last a = a
 answered_later calls calls' wire keeps (places ∷ owns) (answer ∷ said) first last a =
-    (a.0, called_grows (sent_at places calls wire) (sent_at places calls' wire) first a.0 (poll_of answer) (grows_later places calls calls' wire keeps) a.1, answered_later calls calls' wire keeps owns said a.0 last a.2)
+    (a.0, called_grows (sent_at places calls wire) (sent_at places calls' wire) (grows_later places calls calls' wire keeps) None first a.0 (poll_of answer) a.1, answered_later calls calls' wire keeps owns said a.0 last a.2)
 answered_later calls calls' wire keeps [] (answer ∷ said) first last a = absurd a
 answered_later calls calls' wire keeps (places ∷ owns) [] first last a = absurd a
 
-answered_more : (calls : List Call) (wire : ℤ) (owns : List (List ℕ)) (said : List Answer) (first mid last : Standing) (places : List ℕ) (answer : Answer) → Answered calls wire first owns said mid → Called (sent_at places calls wire) mid last (poll_of answer) → Answered calls wire first (owns ++ places ∷ []) (said ++ answer ∷ []) last
-answered_more calls wire [] [] first mid last places answer a called = (last, subst (λ (x : Standing). Called (sent_at places calls wire) x last (poll_of answer)) a called, refl)
+answered_more : (calls : List Call) (wire : ℤ) (owns : List (List ℕ)) (said : List Answer) (first mid last : ClientStream) (places : List ℕ) (answer : Answer) → Answered calls wire first owns said mid → Called (sent_at places calls wire) None mid last (poll_of answer) → Answered calls wire first (owns ++ places ∷ []) (said ++ answer ∷ []) last
+answered_more calls wire [] [] first mid last places answer a called = (last, subst (λ (x : ClientStream). Called (sent_at places calls wire) None x last (poll_of answer)) a called, refl)
 answered_more calls wire (own ∷ owns) (other ∷ said) first mid last places answer a called = (a.0, a.1, answered_more calls wire owns said a.0 mid last places answer a.2 called)
 answered_more calls wire [] (other ∷ said) first mid last places answer a called = absurd a
 answered_more calls wire (own ∷ owns) [] first mid last places answer a called = absurd a
 
-answered_count : (calls : List Call) (wire : ℤ) (owns : List (List ℕ)) (said : List Answer) (first last : Standing) → Answered calls wire first owns said last → length owns ≡ length said
+answered_count : (calls : List Call) (wire : ℤ) (owns : List (List ℕ)) (said : List Answer) (first last : ClientStream) → Answered calls wire first owns said last → length owns ≡ length said
 answered_count calls wire [] [] first last a = refl
 answered_count calls wire (own ∷ owns) (answer ∷ said) first last a = ap suc (answered_count calls wire owns said a.0 last a.2)
 answered_count calls wire [] (answer ∷ said) first last a = absurd a
@@ -151,23 +144,23 @@ answered_count calls wire (own ∷ owns) [] first last a = absurd a
 
 -- ---- what others do
 
-open_later : (calls calls' : List Call) (wire : ℤ) (opened : List ℕ) (owns : List (List ℕ)) (v : Watched) (o : Ended (Unit {0})) (said : List Answer) (alive : Bool) (last : Standing) (at : Option ℕ) → Keeps calls calls' → TellsOpen calls wire opened owns v o said alive last at → TellsOpen calls' wire opened owns v o said alive last at
+open_later : (calls calls' : List Call) (wire : ℤ) (opened : List ℕ) (owns : List (List ℕ)) (v : Watched) (o : Ended (Unit {0})) (said : List Answer) (alive : Bool) (last : ClientStream) (at : Option ℕ) → Keeps calls calls' → TellsOpen calls wire opened owns v o said alive last at → TellsOpen calls' wire opened owns v o said alive last at
 open_later calls calls' wire opened owns v o said alive last at keeps t =
     record {
       given = t.given;
       args = t.args;
       args_are = t.args_are;
       first = t.first;
-      opened = opened_grows (sent_at opened calls wire) (sent_at opened calls' wire) t.args t.first (grows_later opened calls calls' wire keeps) t.opened;
+      opened = opened_grows (sent_at opened calls wire) (sent_at opened calls' wire) (grows_later opened calls calls' wire keeps) t.args t.first t.opened;
       here = t.here;
       answered = answered_later calls calls' wire keeps owns said t.first last t.answered;
       alive_is = t.alive_is;
     }
 
-closed_by_later : {A : Type 0} (past past' : Past) (last : Standing) (closed : Ended A) → Grows past past' → ClosedBy past last closed → ClosedBy past' last closed
+closed_by_later : {A : Type 0} (past past' : Past) (last : ClientStream) (closed : Ended A) → Grows past past' → ClosedBy past last closed → ClosedBy past' last closed
 closed_by_later past past' last ended.Unfinished grows c = absurd c
-closed_by_later past past' last (ended.Gave x) grows c = kill_done_grows past past' grows last.cursor (pos 0) c
-closed_by_later past past' last (ended.Failed e) grows c = kill_fails_grows past past' grows last.cursor (pos 0) e c
+closed_by_later past past' last (ended.Gave x) grows c = last_done_grows past past' grows last c
+closed_by_later past past' last (ended.Failed e) grows c = last_fails_grows past past' grows last e c
 
 end_later : {A : Type 0} (calls calls' : List Call) (wire : ℤ) (q : Places) (k : Kept) (at : Option ℕ) (o : Ended A) → Keeps calls calls' → TellsEnd calls wire q k at o → TellsEnd calls' wire q k at o
 end_later calls calls' wire q k at ended.Unfinished keeps t = tt
@@ -175,25 +168,24 @@ end_later calls calls' wire q k at (ended.Gave x) keeps t =
     (t.0, open_later calls calls' wire q.opened q.owns k.watched k.opened k.said k.alive t.0 at keeps t.1, t.2, closed_by_later (sent_at q.now calls wire) (sent_at q.now calls' wire) t.0 k.closed (grows_later q.now calls calls' wire keeps) t.3)
 end_later calls calls' wire q k at (ended.Failed e) keeps (inl room) = inl room
 end_later calls calls' wire q k at (ended.Failed e) keeps (inr t) =
-    inr (record { args = t.args; args_are = t.args_are; fails = opening_fails_grows (sent_at q.opened calls wire) (sent_at q.opened calls' wire) t.args e (grows_later q.opened calls calls' wire keeps) t.fails })
+    inr (record { args = t.args; args_are = t.args_are; fails = opening_fails_grows (sent_at q.opened calls wire) (sent_at q.opened calls' wire) (grows_later q.opened calls calls' wire keeps) t.args None e t.fails })
 
 -- Where its own ticket goes with the same call, a follow tells in a later log what it told.
 pub tells_later : (old new : Awaited) (calls calls' : List Call) (wire : ℤ) (q : Places) (s : Stage) (k : Kept) (at : Option ℕ) → Keeps calls calls' → ((m : ℕ) → stage_ticket s ≡ Some m → new m ≡ old m) → Tells old calls wire q s k at → Tells new calls' wire q s k at
 tells_later old new calls calls' wire q stage.Unopened k at keeps same t = t
 tells_later old new calls calls' wire q (stage.Opens opening) k at keeps same t =
-    (t.0, t.1, t.2, opens_grows old new (sent_at q.now calls wire) (sent_at q.now calls' wire) opening.aggregate.args opening.exec (grows_later q.now calls calls' wire keeps) same t.3)
+    (t.0, t.1, t.2, opens_grows (sent_at q.now calls wire) (sent_at q.now calls' wire) (grows_later q.now calls calls' wire keeps) (opening_of opening).args old new (opening_of opening).sending same t.3)
 tells_later old new calls calls' wire q (stage.Open stream) k at keeps same t = (
   t.0,
   open_later calls calls' wire q.opened q.owns k.watched k.opened k.said k.alive t.0 at keeps t.1,
-  so_far_grows old new (sent_at q.now calls wire) (sent_at q.now calls' wire) t.0 false stream.phase stream (grows_later q.now calls calls' wire keeps) same t.2,
+  so_far_grows (sent_at q.now calls wire) (sent_at q.now calls' wire) (grows_later q.now calls calls' wire keeps) old new t.0 (stream_of stream) same t.2,
+  t.3,
 )
 tells_later old new calls calls' wire q (stage.Closes closing) k at keeps same t = (
   t.0,
   open_later calls calls' wire q.opened q.owns k.watched k.opened k.said k.alive t.0 at keeps t.1,
   t.2,
-  t.3,
-  t.4,
-  kills_grows (sent_at q.now calls wire) (sent_at q.now calls' wire) (grows_later q.now calls calls' wire keeps) t.0.cursor (pos 0) old new closing.flight same t.5,
+  last_grows (sent_at q.now calls wire) (sent_at q.now calls' wire) (grows_later q.now calls calls' wire keeps) t.0 old new closing same t.3,
 )
 tells_later old new calls calls' wire q stage.Ended k at keeps same t = end_later calls calls' wire q k at k.opened keeps t
 
@@ -283,8 +275,9 @@ extends_answered q n n' from upto count room =
 same_told : (log : Told) (calls calls' : List Call) → log ≡ Some calls → log ≡ Some calls' → calls ≡ calls'
 same_told log calls calls' told told' = let e : Some calls ≡ Some calls' = sym told ∙ told' in cc
 
-keeps_to : (log log' : Told) (calls calls' : List Call) → log ≡ Some calls → log' ≡ Some calls' → Stays log log' → Keeps calls calls'
-keeps_to log log' calls calls' told told' stays = let s = stays calls told in subst (λ (c : List Call). Keeps calls c) (same_told log' s.0 calls' s.1 told') s.2
+-- the same log behind a poll by another name
+keeps_to : (log' : Told) (calls mid calls' : List Call) → log' ≡ Some mid → log' ≡ Some calls' → Keeps calls mid → Keeps calls calls'
+keeps_to log' calls mid calls' told told' keeps = subst (λ (c : List Call). Keeps calls c) (same_told log' mid calls' told told') keeps
 
 -- nothing was sent
 tell_same : (awaited : Awaited) (log : Told) (wire : ℤ) (calls calls' : List Call) → log ≡ Some calls → log ≡ Some calls' → (q : Places) (n : ℕ) (s : Stage) (k : Kept) (at : Option ℕ) (v : Watched) → Tells awaited calls wire q s k at → Extends q q n (number s k) (length calls) (length calls) → Tell awaited calls calls' wire v q n s k at
@@ -303,26 +296,40 @@ pub tells_over : (old new : Awaited) (log log' : Told) (wire wire' : ℤ) (s : S
 tells_over old new log log' wire wire' s k s' k' next same told = subst (λ (w : ℤ). FollowTells old new log log' w s k s' k' next) (sym same) told
 
 -- The opening begins.
-pub begin_tells : (old new : Awaited) (log log' : Told) (wire : ℤ) (k : Kept) (opening : Opening) (s' : Stage) (k' : Kept) (next : Placing) → IsWatchArgs k.watched opening.aggregate.args → IsOpening opening.aggregate opening.exec → opening.exec ≡ None
+pub begin_tells : (old new : Awaited) (log log' : Told) (wire : ℤ) (k : Kept) (opening : Opening Fields) (s' : Stage) (k' : Kept) (next : Placing) → IsWatchArgs k.watched (opening_of opening).args → IsPlainOpening opening → (opening_of opening).sending ≡ None
     → FollowTells old new log log' wire (stage.Opens opening) k s' k' next → FollowTells old new log log' wire stage.Unopened k s' k' next
-begin_tells old new log log' wire k opening s' k' next args opens unsent rest calls calls' told told' q at t =
-    rest calls calls' told told' q at (t.0, args, opens, subst (λ (x : Option Sending). OpensSoFar old (sent_at q.now calls wire) opening.aggregate.args x) (sym unsent) tt)
+begin_tells old new log log' wire k opening s' k' next args sound unsent rest calls calls' told told' q at t =
+    rest calls calls' told told' q at (t.0, args, sound, subst (λ (x : Option Sending). OpensSoFar old (sent_at q.now calls wire) (opening_of opening).args x) (sym unsent) tt)
 
 -- Memory ran out before it.
 pub begin_fails : (awaited : Awaited) (log : Told) (wire : ℤ) (k k' : Kept) (e : Error) → k'.opened ≡ ended.Failed e → e.kind ≡ kind.OutOfMemory → FollowTells awaited awaited log log wire stage.Unopened k stage.Ended k' same_place
 begin_fails awaited log wire k k' e failed room calls calls' told told' q at t =
     tell_same awaited log wire calls calls' told told' q 0 stage.Ended k' at k.watched (subst (λ (o : Ended (Unit {0})). TellsEnd calls wire q k' at o) (sym failed) (inl room)) (extends_rest q 0 (length k'.said) (length calls) t.1)
 
+-- what a poll of an opening does, and what it comes to
+abbrev pub Opens : Awaited → Awaited → Told → Told → ℤ → Opening Fields → Step ClientOpening ClientStream → Type 0
+Opens old new log log' wire opening r = IsPlainOpening opening → (started : Bool) × OpensStream old new log log' wire None started (opening_of opening) r
+
+abbrev pub OpensSo : Awaited → Awaited → Told → Told → ℤ → Opening Fields → Step ClientOpening ClientStream → Type 0
+OpensSo old new log log' wire opening r = IsPlainOpening opening → OpeningCaused old new log log' wire None (opening_of opening) r
+
+opening_adds : (are_its : WatchArgs → Type 0) (old new : Awaited) (log log' : Told) (wire : ℤ) (opening : Opening Fields) (r : Step ClientOpening ClientStream) (calls calls' : List Call) → are_its (opening_of opening).args → IsPlainOpening opening → Opens old new log log' wire opening r → log ≡ Some calls → log' ≡ Some calls' → Keeps calls calls' → AddsOnly (IsCommandOf are_its) calls calls'
+opening_adds are_its old new log log' wire opening r calls calls' its sound opens told told' keeps =
+    let does = opens sound in
+    such_adds are_its log log' calls calls' told told' keeps (opening_such are_its old new log log' wire does.0 (opening_of opening) r its sound.sound does.1)
+
 -- The reply to the opening pends.
-pub open_waits_tells : (old new : Awaited) (log log' : Told) (wire : ℤ) (k : Kept) (opening opening' : Opening) → opening'.aggregate.args ≡ opening.aggregate.args → (IsOpening opening.aggregate opening.exec → IsOpening opening'.aggregate opening'.exec)
-    → Stays log log' → (IsOpening opening.aggregate opening.exec → OpeningSent opening.aggregate.args log log' opening.exec (step.Pending opening')) → (IsOpening opening.aggregate opening.exec → OpeningCaused old new log log' wire opening.aggregate.args opening.exec (step.Pending opening'))
+pub open_waits_tells : (old new : Awaited) (log log' : Told) (wire : ℤ) (k : Kept) (opening opening' : Opening Fields) → (IsPlainOpening opening → IsPlainOpening opening')
+    → Opens old new log log' wire opening (step.Pending (opening_of opening')) → OpensSo old new log log' wire opening (step.Pending (opening_of opening'))
     → FollowTells old new log log' wire (stage.Opens opening) k (stage.Opens opening') k same_place
-open_waits_tells old new log log' wire k opening opening' args opens stays sent caused calls calls' told told' q at t =
-    let args_of = opening.aggregate.args in
-    let keeps = keeps_to log log' calls calls' told told' stays in
-    let room = keeps_longer calls calls' keeps in
+open_waits_tells old new log log' wire k opening opening' sound opens caused calls calls' told told' q at t =
+    let o = opening_of opening in
+    let o' = opening_of opening' in
     let r = caused t.2 calls told q.now t.3 in
-    let came : OpensSoFar new (past_of q.now (length calls) calls' wire) args_of opening'.exec = subst (λ (c : List Call). OpensSoFar new (past_of q.now (length calls) c wire) args_of opening'.exec) (same_told log' r.0 calls' r.1 told') r.2 in
+    let keeps = keeps_to log' calls r.0 calls' r.1 told' r.2 in
+    let room = keeps_longer calls calls' keeps in
+    let came : OpensSoFar new (past_of q.now (length calls) calls' wire) o.args o'.sending = subst (λ (c : List Call). OpensSoFar new (past_of q.now (length calls) c wire) o.args o'.sending) (same_told log' r.0 calls' r.1 told') r.3 in
+    let args : o'.args ≡ o.args = opening_args old new log log' wire None (opens t.2).0 o (step.Pending o') (opens t.2).1 o' refl in
     let later = sent_at (sent_since q.now (length calls) (length calls')) calls' wire in
     record {
       longer = room;
@@ -330,109 +337,96 @@ open_waits_tells old new log log' wire k opening opening' args opens stays sent 
       tells = (
         t.0,
         subst (λ (a : WatchArgs). IsWatchArgs k.watched a) (sym args) t.1,
-        opens t.2,
-        subst (λ (a : WatchArgs). OpensSoFar new later a opening'.exec) (sym args)
-            (opens_grows new new (past_of q.now (length calls) calls' wire) later args_of opening'.exec (grows_ended q.now (length calls) calls' wire) (λ m e. refl) came),
+        sound t.2,
+        subst (λ (a : WatchArgs). OpensSoFar new later a o'.sending) (sym args)
+            (opens_grows (past_of q.now (length calls) calls' wire) later (grows_ended q.now (length calls) calls' wire) o.args new new o'.sending (λ m e. refl) came),
       );
       extends = extends_going q 0 0 (length calls) (length calls') refl room;
-      adds = opening_adds (IsWatchArgs k.watched) args_of t.1 log log' calls calls' told told' keeps opening.exec (step.Pending opening') (sent t.2);
+      adds = opening_adds (IsWatchArgs k.watched) old new log log' wire opening (step.Pending o') calls calls' t.1 t.2 opens told told' keeps;
     }
 
 -- It failed.
-pub open_fails_tells : (old new : Awaited) (log log' : Told) (wire : ℤ) (k k' : Kept) (opening : Opening) (e : Error) → k'.watched ≡ k.watched → k'.opened ≡ ended.Failed e
-    → Stays log log' → (IsOpening opening.aggregate opening.exec → OpeningSent opening.aggregate.args log log' opening.exec (step.Failed e)) → (IsOpening opening.aggregate opening.exec → OpeningCaused old new log log' wire opening.aggregate.args opening.exec (step.Failed e))
+pub open_fails_tells : (old new : Awaited) (log log' : Told) (wire : ℤ) (k k' : Kept) (opening : Opening Fields) (e : Error) → k'.watched ≡ k.watched → k'.opened ≡ ended.Failed e
+    → Opens old new log log' wire opening (step.Failed e) → OpensSo old new log log' wire opening (step.Failed e)
     → FollowTells old new log log' wire (stage.Opens opening) k stage.Ended k' same_place
-open_fails_tells old new log log' wire k k' opening e watched failed stays sent caused calls calls' told told' q at t =
-    let args_of = opening.aggregate.args in
-    let keeps = keeps_to log log' calls calls' told told' stays in
-    let room = keeps_longer calls calls' keeps in
+open_fails_tells old new log log' wire k k' opening e watched failed opens caused calls calls' told told' q at t =
+    let args_of = (opening_of opening).args in
     let r = caused t.2 calls told q.now t.3 in
-    let fails : OpeningFails (past_of q.now (length calls) calls' wire) args_of e = subst (λ (c : List Call). OpeningFails (past_of q.now (length calls) c wire) args_of e) (same_told log' r.0 calls' r.1 told') r.2 in
+    let keeps = keeps_to log' calls r.0 calls' r.1 told' r.2 in
+    let room = keeps_longer calls calls' keeps in
+    let fails : OpeningFails (past_of q.now (length calls) calls' wire) None args_of e = subst (λ (c : List Call). OpeningFails (past_of q.now (length calls) c wire) None args_of e) (same_told log' r.0 calls' r.1 told') r.3 in
     let q' = opened_by q (length calls) (length calls') in
     let so : TellsFailed calls' wire q'.opened k'.watched e = record {
       args = args_of;
       args_are = subst (λ (v : Watched). IsWatchArgs v args_of) (sym watched) t.1;
-      fails = opening_fails_grows (past_of q.now (length calls) calls' wire) (sent_at q'.opened calls' wire) args_of e (grows_ended q.now (length calls) calls' wire) fails;
+      fails = opening_fails_grows (past_of q.now (length calls) calls' wire) (sent_at q'.opened calls' wire) (grows_ended q.now (length calls) calls' wire) args_of None e fails;
     } in
     record {
       longer = room;
       places = q';
       tells = subst (λ (o : Ended (Unit {0})). TellsEnd calls' wire q' k' at o) (sym failed) (inr so);
       extends = extends_opened q 0 (length k'.said) (length calls) (length calls') refl room;
-      adds = opening_adds (IsWatchArgs k.watched) args_of t.1 log log' calls calls' told told' keeps opening.exec (step.Failed e) (sent t.2);
+      adds = opening_adds (IsWatchArgs k.watched) old new log log' wire opening (step.Failed e) calls calls' t.1 t.2 opens told told' keeps;
     }
 
-resuming_owes : (p : Phase) → IsResuming p → owes_in p ≡ true
-resuming_owes phase.Taken is = absurd is
-resuming_owes phase.Rest is = absurd is
-resuming_owes (phase.First bytes) is = absurd is
-resuming_owes phase.Fresh is = absurd is
-resuming_owes (phase.Asking get_more exec) is = absurd is
-resuming_owes phase.Owing is = refl
-resuming_owes (phase.Resuming exec) is = refl
-resuming_owes (phase.Killing exec id bytes) is = absurd is
-resuming_owes (phase.Resumed bytes) is = absurd is
-
-owes_resuming : (p : Phase) → owes_in p ≡ true → IsResuming p
-owes_resuming phase.Taken is = absurd cc
-owes_resuming phase.Rest is = absurd cc
-owes_resuming (phase.First bytes) is = absurd cc
-owes_resuming phase.Fresh is = absurd cc
-owes_resuming (phase.Asking get_more exec) is = absurd cc
-owes_resuming phase.Owing is = tt
-owes_resuming (phase.Resuming exec) is = tt
-owes_resuming (phase.Killing exec id bytes) is = absurd cc
-owes_resuming (phase.Resumed bytes) is = absurd cc
-
 -- what a stream says of itself, by how it stands
-abbrev pub SaysAlive : Bool → ChangeStream → Type 0
-SaysAlive alive s = IsTrue alive ↔ ((s.cursor.id ≢ pos 0) ⊎ IsResuming s.phase)
-
-alive_as : (alive : Bool) (s : ChangeStream) → SaysAlive alive s → IsTrue alive ↔ IsAlive (standing_of s)
-alive_as alive s says = (
-  λ is. elim (says.0 is) [ inl held ↦ inl held | inr resuming ↦ inr (resuming_owes s.phase resuming) ],
-  λ is. says.1 (elim is [ inl held ↦ inl held | inr owes ↦ inr (owes_resuming s.phase owes) ]),
-)
+abbrev pub SaysAlive : Bool → ClientStream → Type 0
+SaysAlive alive s = IsTrue alive ↔ IsAlive s
 
 -- the opening heard its reply at this place
-abbrev HeardAtPlace : Told → Told → Awaited → ℤ → WatchArgs → Option Sending → Standing → Option ℕ → Type 0
-HeardAtPlace log log' old wire args exec first place = (calls : List Call) → log ≡ Some calls → (places : List ℕ) → OpensSoFar old (past_of places (length calls) calls wire) args exec
-    → (calls' : List Call) × (log' ≡ Some calls') × (opened : Opened (past_of places (length calls) calls' wire) args first) × (place ≡ Some opened.heard.place)
+abbrev HeardAtPlace : Told → Told → Awaited → ℤ → ClientOpening → ClientStream → Option ℕ → Type 0
+HeardAtPlace log log' old wire o first place = (calls : List Call) → log ≡ Some calls → (places : List ℕ) → OpensSoFar old (past_of places (length calls) calls wire) o.args o.sending
+    → (calls' : List Call) × (log' ≡ Some calls') × (opened : Opened (past_of places (length calls) calls' wire) o.args first) × (place ≡ Some opened.heard.place)
 
 -- The stream is open; the rest of the turn follows.
-pub open_done_tells : (old mid new : Awaited) (log log_mid log' : Told) (wire wire_mid : ℤ) (k k1 : Kept) (opening : Opening) (stream : ChangeStream) (s' : Stage) (k' : Kept) → RestTells new log_mid log' wire_mid stream k1 s' k' → k1.watched ≡ k.watched → HasGiven k1.opened → k1.said ≡ k.said → SaysAlive k1.alive stream → wire_mid ≡ wire
-    → Stays log log_mid → (IsOpening opening.aggregate opening.exec → OpeningSent opening.aggregate.args log log_mid opening.exec (step.Done stream)) → (place : Option ℕ) → (IsOpening opening.aggregate opening.exec → HeardAtPlace log log_mid old wire opening.aggregate.args opening.exec (standing_of stream) place)
+pub open_done_tells : (old mid new : Awaited) (log log_mid log' : Told) (wire wire_mid : ℤ) (k k1 : Kept) (opening : Opening Fields) (stream : ChangeStream Fields) (s' : Stage) (k' : Kept) → RestTells new log_mid log' wire_mid (stream_of stream) k1 s' k' → k1.watched ≡ k.watched → HasGiven k1.opened → k1.said ≡ k.said → SaysAlive k1.alive (stream_of stream) → wire_mid ≡ wire
+    → Opens old mid log log_mid wire opening (step.Done (stream_of stream)) → OpensSo old mid log log_mid wire opening (step.Done (stream_of stream)) → (place : Option ℕ) → (IsPlainOpening opening → HeardAtPlace log log_mid old wire (opening_of opening) (stream_of stream) place)
     → FollowTells old new log log' wire (stage.Opens opening) k s' k' (λ at. place)
-open_done_tells old mid new log log_mid log' wire wire_mid k k1 opening stream s' k' rest watched given said alive same stays sent place caused calls calls' told told' q at t =
-    let args_of = opening.aggregate.args in
-    let r = caused t.2 calls told q.now t.3 in
-    let keeps = keeps_to log log_mid calls r.0 told r.1 stays in
+open_done_tells old mid new log log_mid log' wire wire_mid k k1 opening stream s' k' rest watched given said alive same opens caused place heard calls calls' told told' q at t =
+    let args_of = (opening_of opening).args in
+    let s = stream_of stream in
+    let r = heard t.2 calls told q.now t.3 in
+    let c = caused t.2 calls told q.now t.3 in
+    let keeps = keeps_to log_mid calls c.0 r.0 c.1 r.1 c.2 in
     let room = keeps_longer calls r.0 keeps in
     let q1 = opened_by q (length calls) (length r.0) in
     let none : k1.said ≡ [] = said ∙ t.0.1 in
-    let opened : TellsOpen r.0 wire q1.opened [] k1.watched k1.opened k1.said k1.alive (standing_of stream) place = record {
+    let opened : TellsOpen r.0 wire q1.opened [] k1.watched k1.opened k1.said k1.alive s place = record {
       given = given;
       args = args_of;
       args_are = subst (λ (v : Watched). IsWatchArgs v args_of) (sym watched) t.1;
-      first = standing_of stream;
-      opened = opened_grows (past_of q.now (length calls) r.0 wire) (sent_at q1.opened r.0 wire) args_of (standing_of stream) (grows_ended q.now (length calls) r.0 wire) r.2;
+      first = s;
+      opened = opened_grows (past_of q.now (length calls) r.0 wire) (sent_at q1.opened r.0 wire) (grows_ended q.now (length calls) r.0 wire) args_of s r.2;
       here = r.3;
-      answered = subst (λ (l : List Answer). Answered r.0 wire (standing_of stream) [] l (standing_of stream)) (sym none) refl;
-      alive_is = alive_as k1.alive stream alive;
+      answered = subst (λ (l : List Answer). Answered r.0 wire s [] l s) (sym none) refl;
+      alive_is = alive;
     } in
-    let ends : Tell new r.0 calls' wire k1.watched q1 (length k1.said) s' k' place = subst (λ (w : ℤ). IsOpened r.0 w q1 k1 (standing_of stream) place → Tell new r.0 calls' w k1.watched q1 (length k1.said) s' k' place) same (rest r.0 calls' r.1 told' q1 place refl) opened in
+    let ends : Tell new r.0 calls' wire k1.watched q1 (length k1.said) s' k' place = subst (λ (w : ℤ). IsOpened r.0 w q1 k1 s place → Tell new r.0 calls' w k1.watched q1 (length k1.said) s' k' place) same (rest r.0 calls' r.1 told' q1 place refl) opened in
     tell_on new calls r.0 calls' wire k.watched q q1 0 s' k' place room (extends_opened q 0 0 (length calls) (length r.0) refl room)
-    (opening_adds (IsWatchArgs k.watched) args_of t.1 log log_mid calls r.0 told r.1 keeps opening.exec (step.Done stream) (sent t.2))
+    (opening_adds (IsWatchArgs k.watched) old mid log log_mid wire opening (step.Done s) calls r.0 t.1 t.2 opens told r.1 keeps)
     (subst (λ (v : Watched). Tell new r.0 calls' wire v q1 0 s' k' place) watched (subst (λ (n : ℕ). Tell new r.0 calls' wire k1.watched q1 n s' k' place) (ap length none) ends))
 
+-- what a poll of a call does
+abbrev pub Copies : Awaited → Awaited → Told → Told → ℤ → ClientStream → ClientStream → EventPoll → Type 0
+Copies old new log log' wire s s' r = (steps starts : ℕ) × CallCopies steps old new log log' wire None starts s s' r
+
+-- what it sends, in a call of a stream that was opened and answered so
+call_adds : (v : Watched) (old new : Awaited) (log log' : Told) (wire : ℤ) (s s1 : ClientStream) (r : EventPoll) (calls calls' : List Call) (q : Places) (k : Kept) (last : ClientStream) (at : Option ℕ) → IsSound true s → Copies old new log log' wire s s1 r → (t : TellsOpen calls wire q.opened q.owns v k.opened k.said k.alive last at) → SoFar old (sent_at q.now calls wire) true last s
+    → log ≡ Some calls → log' ≡ Some calls' → Keeps calls calls' → AddsOnly (IsCommandOf (IsWatchArgs v)) calls calls'
+call_adds v old new log log' wire s s1 r calls calls' q k last at sound does t so told told' keeps =
+    let fit = for_answered t.args calls wire t.first q.owns k.said last t.answered (for_opened t.args (sent_at q.opened calls wire) t.first t.opened) in
+    let far = for_so_far t.args (sent_at q.now calls wire) last fit old s so in
+    such_adds (IsWatchArgs v) log log' calls calls' told told' keeps (calls_such (IsWatchArgs v) t.args t.args_are does.0 old new log log' wire does.1 s s1 r sound far.0 far.1 does.2)
+
 -- A call of the stream pends.
-pub call_waits_tells : (old new : Awaited) (log log' : Told) (wire : ℤ) (k : Kept) (s s1 : ChangeStream) (r : EventPoll) → r ≡ polls.Pending → Stays log log' → CallSent log log' wire s s1 r → CallCaused old new log log' wire s s1 r → FollowTells old new log log' wire (stage.Open s) k (stage.Open s1) k same_place
-call_waits_tells old new log log' wire k s s1 r pends stays sent caused calls calls' told told' q place t =
-    let keeps = keeps_to log log' calls calls' told told' stays in
-    let room = keeps_longer calls calls' keeps in
+pub call_waits_tells : (old new : Awaited) (log log' : Told) (wire : ℤ) (k : Kept) (s s1 : ChangeStream Fields) (r : EventPoll) → r ≡ polls.Pending → IsPlainStream s → IsPlainStream s1 → Copies old new log log' wire (stream_of s) (stream_of s1) r → CallCaused old new log log' wire None (stream_of s) (stream_of s1) r
+    → FollowTells old new log log' wire (stage.Open s) k (stage.Open s1) k same_place
+call_waits_tells old new log log' wire k s s1 r pends sound sound' does caused calls calls' told told' q place t =
     let at = t.0 in
-    let c = subst (λ (x : EventPoll). CallCaused old new log log' wire s s1 x) pends caused calls told q.now at t.2 in
-    let so_far : SoFar new (past_of q.now (length calls) calls' wire) at false s1.phase s1 = subst (λ (l : List Call). SoFar new (past_of q.now (length calls) l wire) at false s1.phase s1) (same_told log' c.0 calls' c.1 told') c.2 in
+    let c = subst (λ (x : EventPoll). CallCaused old new log log' wire None (stream_of s) (stream_of s1) x) pends caused calls told q.now at t.2 in
+    let keeps = keeps_to log' calls c.0 calls' c.1 told' c.2 in
+    let room = keeps_longer calls calls' keeps in
+    let so_far : SoFar new (past_of q.now (length calls) calls' wire) true at (stream_of s1) = subst (λ (l : List Call). SoFar new (past_of q.now (length calls) l wire) true at (stream_of s1)) (same_told log' c.0 calls' c.1 told') c.3 in
     let later = sent_at (sent_since q.now (length calls) (length calls')) calls' wire in
     record {
       longer = room;
@@ -440,30 +434,30 @@ call_waits_tells old new log log' wire k s s1 r pends stays sent caused calls ca
       tells = (
         at,
         open_later calls calls' wire q.opened q.owns k.watched k.opened k.said k.alive at place keeps t.1,
-        so_far_grows new new (past_of q.now (length calls) calls' wire) later at false s1.phase s1 (grows_ended q.now (length calls) calls' wire) (λ m e. refl) so_far,
+        so_far_grows (past_of q.now (length calls) calls' wire) later (grows_ended q.now (length calls) calls' wire) new new at (stream_of s1) (λ m e. refl) so_far,
+        sound'.sound,
       );
       extends = extends_going q (suc (length k.said)) (suc (length k.said)) (length calls) (length calls') refl room;
-      adds = call_adds (IsWatchArgs k.watched) t.1.args t.1.args_are log log' calls calls' told told' keeps old at t.1.first wire q.opened q.now q.owns k.said s s1 r t.1.opened t.1.answered t.2 sent;
+      adds = call_adds k.watched old new log log' wire (stream_of s) (stream_of s1) r calls calls' q k at place sound.sound does t.1 t.2 told told' keeps;
     }
 
-came_called : (awaited : Awaited) (past : Past) (at : Standing) (s : ChangeStream) (answer : Answer) → CallCame awaited past at s (poll_of answer) → Called past at (standing_of s) (poll_of answer)
+came_called : (awaited : Awaited) (past : Past) (at s : ClientStream) (answer : Answer) → CallCame awaited past None at s (poll_of answer) → Called past None at s (poll_of answer)
 came_called awaited past at s (answers.Event event) came = came
 came_called awaited past at s answers.Nothing came = came
 came_called awaited past at s (answers.Failed e) came = came
 
 -- A call of the stream answered; the rest of the turn follows.
-pub call_answers_tells : (old mid new : Awaited) (log log_mid log' : Told) (wire wire_mid : ℤ) (k k1 : Kept) (s s1 : ChangeStream) (r : EventPoll) (answer : Answer) (s' : Stage) (k' : Kept) → RestTells new log_mid log' wire_mid s1 k1 s' k' → k1.watched ≡ k.watched → k1.opened ≡ k.opened → k1.said ≡ k.said ++ answer ∷ [] → SaysAlive k1.alive s1 → wire_mid ≡ wire → r ≡ poll_of answer → Stays log log_mid
-    → CallSent log log_mid wire s s1 r → CallCaused old mid log log_mid wire s s1 r → FollowTells old new log log' wire (stage.Open s) k s' k' same_place
-call_answers_tells old mid new log log_mid log' wire wire_mid k k1 s s1 r answer s' k' rest watched given said alive same is stays sent caused calls calls' told told' q place t =
+pub call_answers_tells : (old mid new : Awaited) (log log_mid log' : Told) (wire wire_mid : ℤ) (k k1 : Kept) (s s1 : ChangeStream Fields) (r : EventPoll) (answer : Answer) (s' : Stage) (k' : Kept) → RestTells new log_mid log' wire_mid (stream_of s1) k1 s' k' → k1.watched ≡ k.watched → k1.opened ≡ k.opened → k1.said ≡ k.said ++ answer ∷ [] → SaysAlive k1.alive (stream_of s1) → wire_mid ≡ wire → r ≡ poll_of answer → IsPlainStream s
+    → Copies old mid log log_mid wire (stream_of s) (stream_of s1) r → CallCaused old mid log log_mid wire None (stream_of s) (stream_of s1) r → FollowTells old new log log' wire (stage.Open s) k s' k' same_place
+call_answers_tells old mid new log log_mid log' wire wire_mid k k1 s s1 r answer s' k' rest watched given said alive same is sound does caused calls calls' told told' q place t =
     let at = t.0 in
-    let c = subst (λ (x : EventPoll). CallCaused old mid log log_mid wire s s1 x) is caused calls told q.now at t.2 in
-    let keeps = keeps_to log log_mid calls c.0 told c.1 stays in
-    let room = keeps_longer calls c.0 keeps in
+    let c = subst (λ (x : EventPoll). CallCaused old mid log log_mid wire None (stream_of s) (stream_of s1) x) is caused calls told q.now at t.2 in
+    let room = keeps_longer calls c.0 c.2 in
     let own = sent_since q.now (length calls) (length c.0) in
     let q1 = answered_by q (length calls) (length c.0) in
-    let after = standing_of s1 in
-    let before = open_later calls c.0 wire q.opened q.owns k.watched k.opened k.said k.alive at place keeps t.1 in
-    let called : Called (sent_at own c.0 wire) at after (poll_of answer) = called_grows (past_of q.now (length calls) c.0 wire) (sent_at own c.0 wire) at after (poll_of answer) (grows_ended q.now (length calls) c.0 wire) (came_called mid (past_of q.now (length calls) c.0 wire) at s1 answer c.2) in
+    let after = stream_of s1 in
+    let before = open_later calls c.0 wire q.opened q.owns k.watched k.opened k.said k.alive at place c.2 t.1 in
+    let called : Called (sent_at own c.0 wire) None at after (poll_of answer) = called_grows (past_of q.now (length calls) c.0 wire) (sent_at own c.0 wire) (grows_ended q.now (length calls) c.0 wire) None at after (poll_of answer) (came_called mid (past_of q.now (length calls) c.0 wire) at after answer c.3) in
     let opened : TellsOpen c.0 wire q1.opened q1.owns k1.watched k1.opened k1.said k1.alive after place = record {
       given = subst (λ (o : Ended (Unit {0})). HasGiven o) (sym given) before.given;
       args = before.args;
@@ -472,76 +466,41 @@ call_answers_tells old mid new log log_mid log' wire wire_mid k k1 s s1 r answer
       opened = before.opened;
       here = before.here;
       answered = subst (λ (l : List Answer). Answered c.0 wire before.first q1.owns l after) (sym said) (answered_more c.0 wire q.owns k.said before.first at after own answer before.answered called);
-      alive_is = alive_as k1.alive s1 alive;
+      alive_is = alive;
     } in
     let count : length k1.said ≡ suc (length k.said) = (let joined = length-append k.said (answer ∷ []) in omega (arith, ap length said, joined)) in
     let ends : Tell new c.0 calls' wire k1.watched q1 (length k1.said) s' k' place = subst (λ (w : ℤ). IsOpened c.0 w q1 k1 after place → Tell new c.0 calls' w k1.watched q1 (length k1.said) s' k' place) same (rest c.0 calls' c.1 told' q1 place refl) opened in
     tell_on new calls c.0 calls' wire k.watched q q1 (suc (length k.said)) s' k' place room
     (extends_answered q (suc (length k.said)) (suc (length k.said)) (length calls) (length c.0) (ap suc (sym (answered_count calls wire q.owns k.said t.1.first at t.1.answered))) room)
-    (call_adds (IsWatchArgs k.watched) t.1.args t.1.args_are log log_mid calls c.0 told c.1 keeps old at t.1.first wire q.opened q.now q.owns k.said s s1 r t.1.opened t.1.answered t.2 sent)
+    (call_adds k.watched old mid log log_mid wire (stream_of s) after r calls c.0 q k at place sound.sound does t.1 t.2 told c.1 c.2)
     (subst (λ (v : Watched). Tell new c.0 calls' wire v q1 (suc (length k.said)) s' k' place) watched (subst (λ (n : ℕ). Tell new c.0 calls' wire k1.watched q1 n s' k' place) count ends))
 
 -- The stream is kept for its next call.
-pub rest_stays_tells : (awaited : Awaited) (log : Told) (wire : ℤ) (stream : ChangeStream) (k : Kept) → AtRest stream.phase → RestTells awaited log log wire stream k (stage.Open stream) k
-rest_stays_tells awaited log wire stream k rest calls calls' told told' q at none t =
+pub rest_stays_tells : (awaited : Awaited) (log : Told) (wire : ℤ) (stream : ChangeStream Fields) (k : Kept) → IsSound true (stream_of stream) → IsBetween (stream_of stream) → RestTells awaited log log wire (stream_of stream) k (stage.Open stream) k
+rest_stays_tells awaited log wire stream k sound rest calls calls' told told' q at none t =
     tell_same awaited log wire calls calls' told told' q (length k.said) (stage.Open stream) k at k.watched
-    (standing_of stream, t, begins awaited (sent_at q.now calls wire) stream rest)
+    (stream_of stream, t, begins awaited (sent_at q.now calls wire) (stream_of stream) sound rest, sound)
     (extends_rest q (length k.said) (suc (length k.said)) (length calls) none)
 
--- nothing is in flight in a stream at rest
-kills_at_rest : (awaited : Awaited) (past : Past) (c : CursorInformation) (opened : ℤ) (p : Phase) → AtRest p → KillsSoFar awaited past c opened (flight_in p)
-kills_at_rest awaited past c opened phase.Taken rest = absurd rest
-kills_at_rest awaited past c opened phase.Rest rest = tt
-kills_at_rest awaited past c opened (phase.First bytes) rest = tt
-kills_at_rest awaited past c opened phase.Fresh rest = absurd rest
-kills_at_rest awaited past c opened (phase.Asking get_more exec) rest = absurd rest
-kills_at_rest awaited past c opened phase.Owing rest = tt
-kills_at_rest awaited past c opened (phase.Resuming exec) rest = absurd rest
-kills_at_rest awaited past c opened (phase.Killing exec id bytes) rest = absurd rest
-kills_at_rest awaited past c opened (phase.Resumed bytes) rest = absurd rest
-
--- The stream is closed in the same turn, and its token was handed out.
-pub rest_closes_tells : (awaited new : Awaited) (log log' : Told) (wire : ℤ) (stream left : ChangeStream) (k : Kept) (token : Option Tree) (closing : Closing) (s' : Stage) (k' : Kept) → AtRest stream.phase → left ≡ without_token stream → token ≡ token_of stream.aggregate.resume
-    → closing.remains.cursor ≡ left.cursor → closing.remains.opened ≡ pos 0 → closing.flight ≡ flight_in left.phase
+-- The stream is closed in the same turn, and its token was handed over.
+pub rest_closes_tells : (awaited new : Awaited) (log log' : Told) (wire : ℤ) (stream : ClientStream) (lent : Bool) (left : Option Tree) (k : Kept) (token : Option Tree) (closing : ClosingStream) (s' : Stage) (k' : Kept) → closing ≡ handed_over left (closed_stream lent stream) → IsBetween stream → token ≡ stream_token stream
     → FollowTells awaited new log log' wire (stage.Closes closing) (record k { token = token }) s' k' same_place → RestTells new log log' wire stream k s' k'
-rest_closes_tells awaited new log log' wire stream left k token closing s' k' rest is handed cursor opened flying closes calls calls' told told' q at none t =
-    let same : closing.flight ≡ flight_in stream.phase = flying ∙ ap (λ (x : ChangeStream). flight_in x.phase) is in
-    closes calls calls' told told' q at (
-      standing_of stream,
-      t,
-      handed,
-      cursor ∙ ap (λ (x : ChangeStream). x.cursor) is,
-      opened,
-      subst (λ (f : Flight). KillsSoFar awaited (sent_at q.now calls wire) stream.cursor (pos 0) f) (sym same) (kills_at_rest awaited (sent_at q.now calls wire) stream.cursor (pos 0) stream.phase rest),
-    )
+rest_closes_tells awaited new log log' wire stream lent left k token closing s' k' is rest handed closes calls calls' told told' q at none t =
+    closes calls calls' told told' q at (stream, t, handed, last_begins awaited (sent_at q.now calls wire) stream lent left closing is rest)
 
--- a closing of a stream at rest kills what is left, and nothing else
-kills_only : {T : Type 0} (old new : Awaited) (log log' : Told) (wire : ℤ) (past : Past) (c : CursorInformation) (opened : ℤ) (r : Remains) (f : Flight) (result : Step Closing T) → KillsSoFar old past c opened f → ClosingCaused old new log log' wire r f result → KillCaused old new log log' wire r f result
-kills_only old new log log' wire past c opened r flight.Landed result so caused = caused
-kills_only old new log log' wire past c opened r (flight.More get_more exec) result so caused = absurd so
-kills_only old new log log' wire past c opened r (flight.Resumption exec) result so caused = absurd so
-kills_only old new log log' wire past c opened r (flight.Older exec id) result so caused = absurd so
-kills_only old new log log' wire past c opened r (flight.Last exec) result so caused = caused
-
-kill_as : (awaited : Awaited) (past : Past) (f : Flight) (c d : CursorInformation) (opened opened' : ℤ) → c ≡ d → opened ≡ opened' → KillsSoFar awaited past c opened f → KillsSoFar awaited past d opened' f
-kill_as awaited past f c d opened opened' cursor same h = subst (λ (o : ℤ). KillsSoFar awaited past d o f) same (subst (λ (x : CursorInformation). KillsSoFar awaited past x opened f) cursor h)
-
--- what a poll of a closing comes to
-kill_came : {T : Type 0} (old new : Awaited) (log log' : Told) (wire : ℤ) (closing : Closing) (result : Step Closing T) (k : Kept) → ClosingCaused old new log log' wire closing.remains closing.flight result → (calls calls' : List Call) → log ≡ Some calls → log' ≡ Some calls'
-    → (q : Places) (at : Option ℕ) → (t : Tells old calls wire q (stage.Closes closing) k at) → KillCame new (past_of q.now (length calls) calls' wire) closing.remains result
-kill_came old new log log' wire closing result k caused calls calls' told told' q at t =
-    let past = past_of q.now (length calls) calls wire in
-    let r = kills_only old new log log' wire past t.0.cursor (pos 0) closing.remains closing.flight result t.5 caused calls told q.now (kill_as old past closing.flight t.0.cursor closing.remains.cursor (pos 0) closing.remains.opened (sym t.3) (sym t.4) t.5) in
-    subst (λ (c : List Call). KillCame new (past_of q.now (length calls) c wire) closing.remains result) (same_told log' r.0 calls' r.1 told') r.2
+closing_adds : (are_its : WatchArgs → Type 0) (old new : Awaited) (log log' : Told) (wire : ℤ) (closing : ClosingStream) (r : Step ClosingStream (Unit {0})) (calls calls' : List Call) → Lasts closing → ClosesStream old new log log' wire closing r → log ≡ Some calls → log' ≡ Some calls' → Keeps calls calls' → AddsOnly (IsCommandOf are_its) calls calls'
+closing_adds are_its old new log log' wire closing r calls calls' last closes told told' keeps =
+    such_adds are_its log log' calls calls' told told' keeps (closing_such are_its old new log log' wire r closing last.0 last.1 closes)
 
 -- The killing of its cursor pends.
-pub close_waits_tells : (old new : Awaited) (log log' : Told) (wire : ℤ) (k : Kept) (closing closing' : Closing) → Stays log log' → ClosingSent log log' closing.remains closing.flight → ClosingCaused {T = Unit {0}} old new log log' wire closing.remains closing.flight (step.Pending closing')
+pub close_waits_tells : (old new : Awaited) (log log' : Told) (wire : ℤ) (k : Kept) (closing closing' : ClosingStream) → Lasts closing → ClosesStream old new log log' wire closing (step.Pending closing')
     → FollowTells old new log log' wire (stage.Closes closing) k (stage.Closes closing') k same_place
-close_waits_tells old new log log' wire k closing closing' stays sent caused calls calls' told told' q at t =
-    let keeps = keeps_to log log' calls calls' told told' stays in
+close_waits_tells old new log log' wire k closing closing' last closes calls calls' told told' q at t =
+    let r = last_closes old new log log' wire t.0 closing (step.Pending closing') last.1 closes calls told q.now t.3 in
+    let keeps = keeps_to log' calls r.0 calls' r.1 told' r.2 in
     let room = keeps_longer calls calls' keeps in
-    let came = kill_came {T = Unit {0}} old new log log' wire closing (step.Pending closing') k caused calls calls' told told' q at t in
     let past = past_of q.now (length calls) calls' wire in
+    let came : LastCame new past t.0 (step.Pending closing') = subst (λ (c : List Call). LastCame new (past_of q.now (length calls) c wire) t.0 (step.Pending closing')) (same_told log' r.0 calls' r.1 told') r.3 in
     let later = sent_at (sent_since q.now (length calls) (length calls')) calls' wire in
     record {
       longer = room;
@@ -550,48 +509,47 @@ close_waits_tells old new log log' wire k closing closing' stays sent caused cal
         t.0,
         open_later calls calls' wire q.opened q.owns k.watched k.opened k.said k.alive t.0 at keeps t.1,
         t.2,
-        ap (λ (r : Remains). r.cursor) came.0 ∙ t.3,
-        ap (λ (r : Remains). r.opened) came.0 ∙ t.4,
-        kills_grows past later (grows_ended q.now (length calls) calls' wire) t.0.cursor (pos 0) new new closing'.flight (λ m e. refl) (kill_as new past closing'.flight closing.remains.cursor t.0.cursor closing.remains.opened (pos 0) t.3 t.4 came.1),
+        last_grows past later (grows_ended q.now (length calls) calls' wire) t.0 new new closing' (λ m e. refl) came,
       );
       extends = extends_going q (length k.said) (length k.said) (length calls) (length calls') refl room;
-      adds = closing_adds (IsWatchArgs k.watched) log log' calls calls' closing.remains closing.flight told told' keeps sent;
+      adds = closing_adds (IsWatchArgs k.watched) old new log log' wire closing (step.Pending closing') calls calls' last closes told told' keeps;
     }
 
-given_end : {A : Type 0} (calls : List Call) (wire : ℤ) (q : Places) (k : Kept) (at : Option ℕ) (o : Ended A) → HasGiven o → (last : Standing) × IsOpened calls wire q k last at × (k.token ≡ token_of last.aggregate.resume) × ClosedBy (sent_at q.now calls wire) last k.closed → TellsEnd calls wire q k at o
+given_end : {A : Type 0} (calls : List Call) (wire : ℤ) (q : Places) (k : Kept) (at : Option ℕ) (o : Ended A) → HasGiven o → (last : ClientStream) × IsOpened calls wire q k last at × (k.token ≡ stream_token last) × ClosedBy (sent_at q.now calls wire) last k.closed → TellsEnd calls wire q k at o
 given_end calls wire q k at ended.Unfinished given t = absurd given
 given_end calls wire q k at (ended.Gave x) given t = t
 given_end calls wire q k at (ended.Failed e) given t = absurd given
 
 -- It ended so.
-close_ends_tells : (old new : Awaited) (log log' : Told) (wire : ℤ) (k : Kept) (closed : Ended (Unit {0})) (closing : Closing) (result : Step Closing (Unit {0})) → Stays log log' → ClosingSent log log' closing.remains closing.flight → ClosingCaused old new log log' wire closing.remains closing.flight result
-    → ((past : Past) (last : Standing) → closing.remains.cursor ≡ last.cursor → closing.remains.opened ≡ pos 0 → KillCame new past closing.remains result → ClosedBy past last closed)
+close_ends_tells : (old new : Awaited) (log log' : Told) (wire : ℤ) (k : Kept) (closed : Ended (Unit {0})) (closing : ClosingStream) (result : Step ClosingStream (Unit {0})) → Lasts closing → ClosesStream old new log log' wire closing result
+    → ((past : Past) (last : ClientStream) → LastCame new past last result → ClosedBy past last closed)
     → FollowTells old new log log' wire (stage.Closes closing) k stage.Ended (record k { closed = closed }) same_place
-close_ends_tells old new log log' wire k closed closing result stays sent caused by calls calls' told told' q at t =
-    let keeps = keeps_to log log' calls calls' told told' stays in
+close_ends_tells old new log log' wire k closed closing result last closes by calls calls' told told' q at t =
+    let r = last_closes old new log log' wire t.0 closing result last.1 closes calls told q.now t.3 in
+    let keeps = keeps_to log' calls r.0 calls' r.1 told' r.2 in
     let room = keeps_longer calls calls' keeps in
     let past = past_of q.now (length calls) calls' wire in
     let q' = going_on q (length calls) (length calls') in
-    let came = by past t.0 t.3 t.4 (kill_came {T = Unit {0}} old new log log' wire closing result k caused calls calls' told told' q at t) in
+    let came = by past t.0 (subst (λ (c : List Call). LastCame new (past_of q.now (length calls) c wire) t.0 result) (same_told log' r.0 calls' r.1 told') r.3) in
     let opened = open_later calls calls' wire q.opened q.owns k.watched k.opened k.said k.alive t.0 at keeps t.1 in
     record {
       longer = room;
       places = q';
       tells = given_end calls' wire q' (record k { closed = closed }) at k.opened opened.given (t.0, opened, t.2, closed_by_later past (sent_at q'.now calls' wire) t.0 closed (grows_ended q.now (length calls) calls' wire) came);
       extends = extends_going q (length k.said) (length k.said) (length calls) (length calls') refl room;
-      adds = closing_adds (IsWatchArgs k.watched) log log' calls calls' closing.remains closing.flight told told' keeps sent;
+      adds = closing_adds (IsWatchArgs k.watched) old new log log' wire closing result calls calls' last closes told told' keeps;
     }
 
 -- The stream is closed.
-pub close_done_tells : (old new : Awaited) (log log' : Told) (wire : ℤ) (k : Kept) (closed : Ended (Unit {0})) (closing : Closing) → closed ≡ ended.Gave tt → Stays log log' → ClosingSent log log' closing.remains closing.flight → ClosingCaused {T = Unit {0}} old new log log' wire closing.remains closing.flight (step.Done tt)
+pub close_done_tells : (old new : Awaited) (log log' : Told) (wire : ℤ) (k : Kept) (closed : Ended (Unit {0})) (closing : ClosingStream) → closed ≡ ended.Gave tt → Lasts closing → ClosesStream old new log log' wire closing (step.Done tt)
     → FollowTells old new log log' wire (stage.Closes closing) k stage.Ended (record k { closed = closed }) same_place
-close_done_tells old new log log' wire k closed closing is stays sent caused =
-    close_ends_tells old new log log' wire k closed closing (step.Done tt) stays sent caused
-    (λ past last cursor opened done. subst (λ (o : Ended (Unit {0})). ClosedBy past last o) (sym is) (subst (λ (x : ℤ). KillDone past last.cursor x) opened (subst (λ (c : CursorInformation). KillDone past c closing.remains.opened) cursor done)))
+close_done_tells old new log log' wire k closed closing is last closes =
+    close_ends_tells old new log log' wire k closed closing (step.Done tt) last closes
+    (λ past stream done. subst (λ (o : Ended (Unit {0})). ClosedBy past stream o) (sym is) done)
 
 -- The closing failed.
-pub close_fails_tells : (old new : Awaited) (log log' : Told) (wire : ℤ) (k : Kept) (closed : Ended (Unit {0})) (closing : Closing) (e : Error) → closed ≡ ended.Failed e → Stays log log' → ClosingSent log log' closing.remains closing.flight → ClosingCaused {T = Unit {0}} old new log log' wire closing.remains closing.flight (step.Failed e)
+pub close_fails_tells : (old new : Awaited) (log log' : Told) (wire : ℤ) (k : Kept) (closed : Ended (Unit {0})) (closing : ClosingStream) (e : Error) → closed ≡ ended.Failed e → Lasts closing → ClosesStream old new log log' wire closing (step.Failed e)
     → FollowTells old new log log' wire (stage.Closes closing) k stage.Ended (record k { closed = closed }) same_place
-close_fails_tells old new log log' wire k closed closing e is stays sent caused =
-    close_ends_tells old new log log' wire k closed closing (step.Failed e) stays sent caused
-    (λ past last cursor opened fails. subst (λ (o : Ended (Unit {0})). ClosedBy past last o) (sym is) (subst (λ (x : ℤ). KillFails past last.cursor x e) opened (subst (λ (c : CursorInformation). KillFails past c closing.remains.opened e) cursor fails)))
+close_fails_tells old new log log' wire k closed closing e is last closes =
+    close_ends_tells old new log log' wire k closed closing (step.Failed e) last closes
+    (λ past stream fails. subst (λ (o : Ended (Unit {0})). ClosedBy past stream o) (sym is) fails)

@@ -1,5 +1,5 @@
 -- What the jobs of a run tell of their causes, turn by turn and at its end.
-use Rattle.std.proofs.Common.{◌≡◌, ◌⊎◌, ◌+◌, ◌≤◌, ℕ, suc, ℤ, pos, Bool, true, false, List, [], ◌∷◌, ◌++◌, length, Option, Some, None, Result, Ok, Err, refl, sym, ap, ◌∙◌, subst, inl, inr, take, arith, append_assoc}
+use Rattle.std.proofs.Common.{◌≡◌, ◌⊎◌, ◌+◌, ◌≤◌, ℕ, suc, ℤ, Bool, true, false, List, [], ◌∷◌, ◌++◌, length, Option, Some, None, Result, Ok, Err, refl, sym, ap, ◌∙◌, subst, inl, inr, take, arith, append_assoc}
 use Rattle.std.specs.Prelude.{slice_get, slice_set, IfOk}
 use Rattle.std.specs.List.{sum_by}
 use Rattle.std.proofs.lemmas.List.{take_all}
@@ -14,12 +14,15 @@ use Rattle.mg_link.specs.Owner.{NamesItsOwn, Owner}
 use Rattle.mg_link.specs.State.{Start, Watch}
 use Rattle.mg_link.specs.declared.error.Error.{Error}
 use Rattle.mg_link.proofs.Places.{get_within}
+use Rattle.mg_ops.specs.declared.aggregate.ChangeStreamAggregate.{ChangeStreamAggregate}
 use Rattle.mg_ops.specs.declared.change_stream.WatchArgs.{WatchArgs}
-use Rattle.mg_change.specs.Causes.{Standing}
-use Rattle.mg_change.specs.Following.{token_of}
-use Rattle.mg_change.specs.Phases.{ticket_in}
+use Rattle.mg_change.specs.ClientStreams.{ClientStream, stream_ticket, stream_token, token_in}
+use Rattle.mg_change.specs.OpeningView.{opening_of}
+use Rattle.mg_change.specs.StreamView.{stream_of}
 use Rattle.mg_change.specs.declared.stream.ChangeStream.{ChangeStream}
-use Rattle.mg_change.proofs.Awaiting.{call_awaits, kill_awaits, opening_awaits}
+use Rattle.mg_change.proofs.Awaiting.{call_awaits, last_awaits}
+use Rattle.mg_change.proofs.Keeping.{sound_any}
+use Rattle.mg_jobs.proofs.Later.{opening_awaits_plainly}
 use Rattle.mg_ops.specs.InsertCauses.{InsertWaits}
 use Rattle.mg_ops.proofs.InsertCauses.{insert_waits}
 use Rattle.mg_jobs.specs.Causes.{AllCaused, AllSentIn, ClosedBy, CloseCaused, Course, FollowCaused, OpenStands, OpenCaused, OpenWaits, OutcomeCaused, SentIn, SentNoneBehind, at_rest, course, in_call, in_closing, sent_at}
@@ -280,18 +283,18 @@ module _ (awaited : Awaited) (c : Course) (i : ℕ) (calls : List Call) (wire : 
   given_caused count (ended.Gave x) given open_so = open_so
   given_caused count (ended.Failed e) given open_so = absurd given
 
-  still_open : (count : ℕ) (last : Standing) (o : Ended (Unit {0})) → IsUnfinished o → OpenStands awaited c i count (length job.answers.items) calls wire last → CloseCaused awaited c i count (length job.answers.items) calls wire last o
+  still_open : (count : ℕ) (last : ClientStream) (o : Ended (Unit {0})) → IsUnfinished o → OpenStands awaited c i count (length job.answers.items) calls wire last → CloseCaused awaited c i count (length job.answers.items) calls wire last o
   still_open count last ended.Unfinished is so = so
   still_open count last (ended.Gave x) is so = absurd is
   still_open count last (ended.Failed e) is so = absurd is
 
-  was_closed : (count : ℕ) (places : List ℕ) (last : Standing) (o : Ended (Unit {0})) → AllSentIn c i (length job.answers.items) places → ClosedBy (sent_at places calls wire) last o → CloseCaused awaited c i count (length job.answers.items) calls wire last o
+  was_closed : (count : ℕ) (places : List ℕ) (last : ClientStream) (o : Ended (Unit {0})) → AllSentIn c i (length job.answers.items) places → ClosedBy (sent_at places calls wire) last o → CloseCaused awaited c i count (length job.answers.items) calls wire last o
   was_closed count places last ended.Unfinished sent by = absurd by
   was_closed count places last (ended.Gave x) sent by = record { places = places; sent = sent; by = by }
   was_closed count places last (ended.Failed e) sent by = record { places = places; sent = sent; by = by }
 
   -- what an open follow tells
-  open_caused : (count : ℕ) (q : Places) (n : ℕ) (last : Standing) → AllSent c i q n → (t : IsOpened calls wire q (kept job) last at) → token ≡ token_of last.aggregate.resume → CloseCaused awaited c i count (length job.answers.items) calls wire last job.closed → Caused count job.opened
+  open_caused : (count : ℕ) (q : Places) (n : ℕ) (last : ClientStream) → AllSent c i q n → (t : IsOpened calls wire q (kept job) last at) → token ≡ stream_token last → CloseCaused awaited c i count (length job.answers.items) calls wire last job.closed → Caused count job.opened
   open_caused count q n last sent t token_is closed =
       given_caused count job.opened t.given (record {
         args = t.args;
@@ -314,10 +317,10 @@ module _ (awaited : Awaited) (c : Course) (i : ℕ) (calls : List Call) (wire : 
   end_caused count q (ended.Failed e) is same sent over (inr t) = inr (record { args = t.args; args_are = t.args_are; places = q.opened; sent = sent.opened; fails = t.fails })
 
   -- how a follow goes on whose stream is open
-  rests_or_waits : (count : ℕ) (b : Bool) → pended_last ≡ b → (stream : ChangeStream) (told : FollowTold awaited calls wire c i (stage.Open stream) (kept job) at) → IsOpen count (came job) (turns_done i c.order c.notes) → HoldsIf b (ticket_in stream.phase) → OpenStands awaited c i count (length job.answers.items) calls wire told.tells.0
+  rests_or_waits : (count : ℕ) (b : Bool) → pended_last ≡ b → (stream : ChangeStream Fields) (told : FollowTold awaited calls wire c i (stage.Open stream) (kept job) at) → IsOpen count (came job) (turns_done i c.order c.notes) → HoldsIf b (stream_ticket (stream_of stream)) → OpenStands awaited c i count (length job.answers.items) calls wire told.tells.0
   rests_or_waits count false is stream told so holds = at_rest is (omega (arith, so.rest, so.more))
   rests_or_waits count true is stream told so holds =
-      in_call is (omega (arith, so.rest, so.more)) told.places.now told.sent.now (call_awaits awaited (sent_at told.places.now calls wire) told.tells.0 stream.phase stream told.tells.2 holds)
+      in_call is (omega (arith, so.rest, so.more)) told.places.now told.sent.now (call_awaits awaited (sent_at told.places.now calls wire) true told.tells.0 (stream_of stream) (sound_any true (stream_of stream) told.tells.3) told.tells.2 holds)
 
   over_not_unfinished : (count : ℕ) → FollowAt count stage.Ended (came job) (turns_done i c.order c.notes) pended_last → IsUnfinished job.opened → ⊥
   over_not_unfinished count (inl never, newest) is = failed_not_unfinished job.opened never.opened is
@@ -328,26 +331,26 @@ module _ (awaited : Awaited) (c : Course) (i : ℕ) (calls : List Call) (wire : 
   stage_caused (stage.Opens opening) count is at_stage told =
       unfinished_caused count job.opened at_stage.0.opened
       (λ pended. record {
-        args = opening.aggregate.args;
+        args = (opening_of opening).args;
         args_are = told.tells.1;
         places = told.places.now;
         sent = told.sent.now;
-        waits = opening_awaits awaited (sent_at told.places.now calls wire) opening.aggregate.args opening.exec told.tells.3 (at_stage.1 ∙ pended);
+        waits = opening_awaits_plainly awaited (sent_at told.places.now calls wire) (opening_of opening).args (opening_of opening).sending told.tells.2.sound told.tells.3 (at_stage.1 ∙ pended);
       })
   stage_caused (stage.Open stream) count is at_stage told =
-      open_caused count told.places (suc (length job.answers.items)) told.tells.0 told.sent told.tells.1 (ap (λ (s : Stage). token_at s job.token) (sym is) ∙ ap (λ a. token_of a.resume) told.tells.2.same)
+      open_caused count told.places (suc (length job.answers.items)) told.tells.0 told.sent told.tells.1 (ap (λ (s : Stage). token_at s job.token) (sym is) ∙ ap (λ (a : ChangeStreamAggregate). token_in a.resume) told.tells.2.same)
       (still_open count told.tells.0 job.closed at_stage.0.closed (rests_or_waits count pended_last refl stream told at_stage.0 at_stage.1))
   stage_caused (stage.Closes closing) count is at_stage told =
       open_caused count told.places (length job.answers.items) told.tells.0 told.sent told.tells.1 (ap (λ (s : Stage). token_at s job.token) (sym is) ∙ told.tells.2)
       (still_open count told.tells.0 job.closed at_stage.0.closed
-      (in_closing at_stage.1 at_stage.0.answered told.places.now told.sent.now (kill_awaits awaited (sent_at told.places.now calls wire) told.tells.0.cursor (pos 0) closing.flight told.tells.5 at_stage.2)))
+      (in_closing at_stage.1 at_stage.0.answered told.places.now told.sent.now (last_awaits awaited (sent_at told.places.now calls wire) told.tells.0 closing told.tells.3 at_stage.2)))
   stage_caused stage.Ended count is at_stage told = end_caused count told.places job.opened refl (ap (λ (s : Stage). token_at s job.token) (sym is)) told.sent (over_not_unfinished count at_stage) told.tells
 
   -- the call that opened its stream is one of its own, sent in a turn before which none had ended
   abbrev IsPlaced : Type 0
   IsPlaced = (place : ℕ) × SentIn c i 0 place × (at ≡ Some place)
 
-  opened_place : (q : Places) (n : ℕ) (last : Standing) → AllSent c i q n → IsOpened calls wire q (kept job) last at → IsPlaced
+  opened_place : (q : Places) (n : ℕ) (last : ClientStream) → AllSent c i q n → IsOpened calls wire q (kept job) last at → IsPlaced
   opened_place q n last sent t =
       let h = t.opened.heard in
       let own : SentIn c i 0 h.place = elim h.heard.own [

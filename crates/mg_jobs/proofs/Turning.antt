@@ -1,5 +1,5 @@
 -- The turns of follows: what they know stays so, whatever other jobs do.
-use Rattle.std.proofs.Common.{◌≡◌, ℕ, ℤ, List, [], ◌∷◌, ◌++◌, Option, Some, None, refl, sym, ap, ◌∙◌, subst, append-nil, option_map}
+use Rattle.std.proofs.Common.{◌≡◌, ℕ, pos, Bool, false, true, List, [], ◌∷◌, ◌++◌, Option, Some, None, refl, sym, ap, ◌∙◌, subst, append-nil}
 use Rattle.mg_bson.specs.Tree.{Tree, Fields}
 use Rattle.mg_bson.specs.Raw.{fields}
 use Rattle.mg_link.specs.Exec.{Sending}
@@ -12,30 +12,28 @@ use Rattle.mg_link.proofs.Answering.{follows_on}
 use Rattle.mg_link.proofs.Apart.{passes_on, passes_same}
 use Rattle.mg_link.proofs.Moves.{stayed}
 use Rattle.mg_link.proofs.Follows.{knows_kept}
-use Rattle.mg_change.proofs.Awaiting.{rests_without}
-use Rattle.mg_change.proofs.Sames.{Continues, continues_phase, same_phase, same_opening}
-use Rattle.mg_change.proofs.SameClosings.{continues_closing, same_closing}
-use Rattle.mg_change.specs.Closings.{IsQuiet, KnewBy, closed, closing_of}
-use Rattle.mg_change.specs.Following.{Asks, buffered, follow_of, idle, idle_by, in_phase, not_open, opening_in, token_of}
-use Rattle.mg_change.specs.Phases.{AtRest, IsSaved, IsSound, Sends, forgotten, ticket_in, without_token}
-use Rattle.mg_options.specs.declared.change_stream.ChangeStreamOptions.{ChangeStreamOptions}
-use Rattle.mg_ops.specs.declared.change_stream.ChangeStreamData.{ChangeStreamData}
+use Rattle.mg_cursor.specs.Client as cursors
+use Rattle.mg_cursor.specs.Closing.{IsNotAsking}
+use Rattle.mg_change.proofs.Closed.{close_moved}
+use Rattle.mg_change.proofs.Keeping.{sound_any}
+use Rattle.mg_change.proofs.Resting.{between_holds_none}
+use Rattle.mg_change.specs.ClientStreams.{Asks, ClientStream, Doing, IsBetween, IsIdle, IsSound, stream_ticket, stream_token}
+use Rattle.mg_change.specs.ClientStreams as streams
+use Rattle.mg_change.specs.ClosingStreams.{ClosingStream, IsSoundStream, LandsSoundly, closed_stream, handed_over, landing_of, landing_ticket, stream_closing_ticket}
+use Rattle.mg_change.specs.Following.{follow_closing, follow_of, idle_by, left_as, not_open, opening_by, opening_in}
+use Rattle.mg_change.specs.OpeningView.{IsPlainOpening, opening_of}
+use Rattle.mg_change.specs.StreamCalls.{LeavesCall}
+use Rattle.mg_change.specs.StreamView.{stream_of}
 use Rattle.mg_link.specs.Acts.{IsOut, Tickets}
-use Rattle.mg_change.specs.Polls.{RestsAfter}
+use Rattle.mg_ops.specs.Naming.{IsNamed}
 use Rattle.mg_change.specs.declared.event_poll.EventPoll.{EventPoll}
 use Rattle.mg_change.specs.declared.event_poll.EventPoll.TheVariants as polls
 use Rattle.mg_jobs.specs.Follows.{HasEnded}
-use Rattle.mg_change.specs.declared.stream.Phase.{Phase}
-use Rattle.mg_change.specs.declared.stream.Phase.TheVariants as phase
-use Rattle.mg_change.specs.declared.closing.Flight.{Flight}
-use Rattle.mg_change.specs.declared.closing.Flight.TheVariants as flight
-use Rattle.mg_ops.specs.declared.aggregate.ChangeStreamAggregate.{ChangeStreamAggregate}
-use Rattle.mg_change.specs.Openings.{IsOpening}
-use Rattle.mg_change.specs.declared.closing.Closing.{Closing}
 use Rattle.mg_change.specs.declared.opening.Opening.{Opening}
 use Rattle.mg_change.specs.declared.stream.ChangeStream.{ChangeStream}
+use Rattle.mg_jobs.proofs.Continuing.{Continues, continues_closing, continues_stream, same_closing, same_opening, same_stream, same_without}
 use Rattle.mg_jobs.specs.Follows.{EndsSo, FollowKnows, FollowMoves, Followed, HasGiven, HasNothing, IsFailed, IsInOrder, IsUnfinished, IsWatched, Placing, StageAsks, closed_follow, ended_follow, follow_at, follow_by, events_of, same_place, token_at}
-use Rattle.mg_jobs.specs.Playing.{stage_ticket}
+use Rattle.mg_jobs.specs.Playing.{IsLast, stage_ticket}
 use Rattle.mg_script.specs.declared.outcome.Answer.{Answer}
 use Rattle.mg_script.specs.declared.outcome.Answer.TheVariants as answers
 use Rattle.mg_script.specs.declared.outcome.Ended.{Ended}
@@ -48,9 +46,9 @@ use Rattle.mg_jobs.specs.declared.follow.Stage.TheVariants as stage
 
 same_follow_at : (old new : Awaited) (s : Stage) {A : Type 0} (o : Ended A) (w : Watch) (start : Start) (opened : Option ℕ) (token : Option Tree) (answered : List Fields) → ((m : ℕ) → stage_ticket s ≡ Some m → new m ≡ old m) → follow_at old s o w start opened token answered ≡ follow_at new s o w start opened token answered
 same_follow_at old new stage.Unopened o w start opened token answered same = refl
-same_follow_at old new (stage.Opens opening) o w start opened token answered same = same_opening old new opening.exec w start same
-same_follow_at old new (stage.Open stream) o w start opened token answered same = same_phase old new stream.phase (buffered stream) stream.batch_token (idle w start stream opened answered) same
-same_follow_at old new (stage.Closes closing) o w start opened token answered same = same_closing old new (closed_follow w start opened token answered) closing same
+same_follow_at old new (stage.Opens opening) o w start opened token answered same = same_opening old new w start (opening_of opening) same
+same_follow_at old new (stage.Open stream) o w start opened token answered same = same_stream old new w start (stream_of stream) opened answered same
+same_follow_at old new (stage.Closes closing) o w start opened token answered same = same_closing old new w start token closing opened answered same
 same_follow_at old new stage.Ended o w start opened token answered same = refl
 
 -- Where its own ticket goes with the same call, a follow knows what it knew.
@@ -141,11 +139,10 @@ followed_at : (awaited : Awaited) (calls : List Call) (s : Stage) (w : Watch) (s
 followed_at awaited calls stage.Unopened w start at p place given is knows order = absurd (unfinished_not_given p.opened order.0 given)
 followed_at awaited calls (stage.Opens opening) w start at p place given is knows order = absurd (unfinished_not_given p.opened order.0 given)
 followed_at awaited calls (stage.Open stream) w start at p place given is knows order =
-    let f = idle w start stream at (events_of p.answers.items) in
-    followed_as calls f (follow_of awaited w start stream at (events_of p.answers.items)) place is (continues_phase awaited stream.phase (buffered stream) stream.batch_token f tt) knows
+    let s = stream_of stream in
+    followed_as calls (idle_by w start at s.cursor.id (stream_token s) (events_of p.answers.items)) (follow_of awaited w start s at (events_of p.answers.items)) place is (continues_stream awaited w start s at (events_of p.answers.items)) knows
 followed_at awaited calls (stage.Closes closing) w start at p place given is knows order =
-    let f = closed_follow w start at p.token (events_of p.answers.items) in
-    followed_as calls f (closing_of awaited f closing) place is (continues_closing awaited f closing) knows
+    followed_as calls (left_as w start at p.token (events_of p.answers.items) closing.cursor.id closing.opened) (follow_closing awaited w start p.token closing at (events_of p.answers.items)) place is (continues_closing awaited w start p.token closing at (events_of p.answers.items)) knows
 followed_at awaited calls stage.Ended w start at p place given is knows order = ends_so calls p.opened w start at p place given is knows
 
 -- What became of a follow whose stream was opened is as it should be.
@@ -238,41 +235,41 @@ begin_failed awaited log p p' same failed =
     ))
 
 -- The watch is to be opened: nothing was sent yet.
-pub begins : (awaited : Awaited) (log : Told) (p : FollowPlayer) (opening : Opening) → ((w : Watch) (start : Start) → IsWatched p.watched w start → Asks opening.aggregate.args w start) → IsOpening opening.aggregate opening.exec → opening.exec ≡ None → FollowMoves awaited awaited log log stage.Unopened p (stage.Opens opening) p same_place
+pub begins : (awaited : Awaited) (log : Told) (p : FollowPlayer) (opening : Opening Fields) → ((w : Watch) (start : Start) → IsWatched p.watched w start → Asks (opening_of opening).args w start) → IsPlainOpening opening → (opening_of opening).sending ≡ None → FollowMoves awaited awaited log log stage.Unopened p (stage.Opens opening) p same_place
 begins awaited log p opening asks sent none =
     took awaited awaited log log stage.Unopened p (stage.Opens opening) p same_place refl
     (λ w start watched before order opened. (
-      subst (λ (x : Option Sending). Moved log log (not_open w start) (opening_in awaited x w start)) (sym none) (stayed log log (not_open w start) refl),
+      subst (λ (x : Option Sending). Moved log log (not_open w start) (opening_by awaited x w start)) (sym none) (stayed log log (not_open w start) refl),
       (asks w start watched, sent),
       order,
     ))
 
 -- The reply to the opening pends.
-pub open_pends : (old new : Awaited) (log log' : Told) (p : FollowPlayer) (opening opening' : Opening) → opening'.aggregate.args ≡ opening.aggregate.args → (IsOpening opening.aggregate opening.exec → IsOpening opening'.aggregate opening'.exec)
-    → (IsOpening opening.aggregate opening.exec → (w : Watch) (start : Start) → Asks opening.aggregate.args w start → Moved log log' (opening_in old opening.exec w start) (opening_in new opening'.exec w start)) → FollowMoves old new log log' (stage.Opens opening) p (stage.Opens opening') p same_place
+pub open_pends : (old new : Awaited) (log log' : Told) (p : FollowPlayer) (opening opening' : Opening Fields) → (opening_of opening').args ≡ (opening_of opening).args → (IsPlainOpening opening → IsPlainOpening opening')
+    → (IsPlainOpening opening → (w : Watch) (start : Start) → Asks (opening_of opening).args w start → Moved log log' (opening_in old w start (opening_of opening)) (opening_in new w start (opening_of opening'))) → FollowMoves old new log log' (stage.Opens opening) p (stage.Opens opening') p same_place
 open_pends old new log log' p opening opening' args sent moves =
     took old new log log' (stage.Opens opening) p (stage.Opens opening') p same_place refl
     (λ w start watched asks order opened. (moves asks.1 w start asks.0, (subst (λ a. Asks a w start) (sym args) asks.0, sent asks.1), order))
 
 -- It failed.
-pub open_failed : (old new : Awaited) (log log' : Told) (p p' : FollowPlayer) (opening : Opening) → KeepsNothing p p' → IsFailed p'.opened
-    → (IsOpening opening.aggregate opening.exec → (w : Watch) (start : Start) → Asks opening.aggregate.args w start → Moved log log' (opening_in old opening.exec w start) (not_open w start)) → FollowMoves old new log log' (stage.Opens opening) p stage.Ended p' same_place
+pub open_failed : (old new : Awaited) (log log' : Told) (p p' : FollowPlayer) (opening : Opening Fields) → KeepsNothing p p' → IsFailed p'.opened
+    → (IsPlainOpening opening → (w : Watch) (start : Start) → Asks (opening_of opening).args w start → Moved log log' (opening_in old w start (opening_of opening)) (not_open w start)) → FollowMoves old new log log' (stage.Opens opening) p stage.Ended p' same_place
 open_failed old new log log' p p' opening same failed moves =
     took old new log log' (stage.Opens opening) p stage.Ended p' same_place same.watched
     (λ w start watched asks order opened. (
-      subst (λ (f : Follow). Moved log log' (opening_in old opening.exec w start) f) (sym (ended_not_open p'.opened w start opened p'.token (events_of p'.answers.items) failed)) (moves asks.1 w start asks.0),
+      subst (λ (f : Follow). Moved log log' (opening_in old w start (opening_of opening)) f) (sym (ended_not_open p'.opened w start opened p'.token (events_of p'.answers.items) failed)) (moves asks.1 w start asks.0),
       tt,
       never_opened p'.opened p' failed (nothing_kept p p' same.answers same.token order.1),
     ))
 
 -- The stream is open.
-pub open_done : (old new : Awaited) (log log' : Told) (p p' : FollowPlayer) (opening : Opening) (stream : ChangeStream) (place : Option ℕ) → KeepsNothing p p' → HasGiven p'.opened → stream.aggregate.args ≡ opening.aggregate.args
-    → (IsOpening opening.aggregate opening.exec → (w : Watch) (start : Start) → Asks opening.aggregate.args w start → Moved log log' (opening_in old opening.exec w start) (follow_of new w start stream place [])) → FollowMoves old new log log' (stage.Opens opening) p (stage.Open stream) p' (λ at. place)
+pub open_done : (old new : Awaited) (log log' : Told) (p p' : FollowPlayer) (opening : Opening Fields) (stream : ChangeStream Fields) (place : Option ℕ) → KeepsNothing p p' → HasGiven p'.opened → (stream_of stream).aggregate.args ≡ (opening_of opening).args
+    → (IsPlainOpening opening → (w : Watch) (start : Start) → Asks (opening_of opening).args w start → Moved log log' (opening_in old w start (opening_of opening)) (follow_of new w start (stream_of stream) place [])) → FollowMoves old new log log' (stage.Opens opening) p (stage.Open stream) p' (λ at. place)
 open_done old new log log' p p' opening stream place same given args moves =
     took old new log log' (stage.Opens opening) p (stage.Open stream) p' (λ at. place) same.watched
     (λ w start watched asks order opened.
     let none : events_of p'.answers.items ≡ [] = ap events_of (same.answers ∙ order.1.no_answer) in (
-      subst (λ l. Moved log log' (opening_in old opening.exec w start) (follow_of new w start stream place l)) (sym none) (moves asks.1 w start asks.0),
+      subst (λ l. Moved log log' (opening_in old w start (opening_of opening)) (follow_of new w start (stream_of stream) place l)) (sym none) (moves asks.1 w start asks.0),
       subst (λ a. Asks a w start) (sym args) asks.0,
       given,
     ))
@@ -284,30 +281,37 @@ pub record KeepsOpen (p p' : FollowPlayer) : Type 0 where
   pub answers : p'.answers.items ≡ p.answers.items
 
 -- The stream is to be closed, and the follow has its token now.
-pub to_close : (awaited : Awaited) (log : Told) (p p' : FollowPlayer) (stream left : ChangeStream) (closing : Closing) → KeepsOpen p p' → p'.token ≡ token_of stream.aggregate.resume → left ≡ without_token stream
-    → ((w : Watch) (start : Start) (opened : Option ℕ) (token : Option Tree) (answered : List Fields) → Moved log log (in_phase awaited left.phase (buffered left) left.batch_token (idle_by w start opened left.cursor.id token answered)) (closing_of awaited (idle_by w start opened left.cursor.id token answered) closing))
+pub to_close : (awaited : Awaited) (log : Told) (p p' : FollowPlayer) (stream : ChangeStream Fields) (closing : ClosingStream) → KeepsOpen p p' → p'.token ≡ stream_token (stream_of stream)
+    → ((w : Watch) (start : Start) (opened : Option ℕ) (answered : List Fields) → Moved log log (follow_of awaited w start (stream_of stream) opened answered) (follow_closing awaited w start (stream_token (stream_of stream)) closing opened answered))
     → FollowMoves awaited awaited log log (stage.Open stream) p (stage.Closes closing) p' same_place
-to_close awaited log p p' stream left closing same token is moves =
+to_close awaited log p p' stream closing same token moves =
     took awaited awaited log log (stage.Open stream) p (stage.Closes closing) p' same_place same.watched
     (λ w start watched asks order opened.
-    let answered = events_of p.answers.items in
-    let kept = token_of stream.aggregate.resume in
-    let there : Moved log log (follow_of awaited w start stream opened answered) (closing_of awaited (closed_follow w start opened kept answered) closing) =
-    subst (λ (x : ChangeStream). Moved log log (in_phase awaited x.phase (buffered x) x.batch_token (idle_by w start opened x.cursor.id kept answered)) (closing_of awaited (idle_by w start opened x.cursor.id kept answered) closing)) is (moves w start opened kept answered) in (
-      subst (λ t. Moved log log (follow_of awaited w start stream opened answered) (closing_of awaited (closed_follow w start opened t (events_of p'.answers.items)) closing)) (sym token)
-          (subst (λ l. Moved log log (follow_of awaited w start stream opened answered) (closing_of awaited (closed_follow w start opened kept (events_of l)) closing)) (sym same.answers) there),
+    let s = stream_of stream in
+    let answered = events_of p.answers.items in (
+      subst (λ t. Moved log log (follow_of awaited w start s opened answered) (follow_closing awaited w start t closing opened (events_of p'.answers.items))) (sym token)
+          (subst (λ l. Moved log log (follow_of awaited w start s opened answered) (follow_closing awaited w start (stream_token s) closing opened (events_of l))) (sym same.answers) (moves w start opened answered)),
       tt,
       subst (λ o. HasGiven o) (sym same.opened) order,
     ))
 
+-- where its token was handed over
+pub handed_moved : (log : Told) (awaited : Awaited) (s : ClientStream) (lent : Bool) (left : Option Tree) (k : ClosingStream) → k ≡ handed_over left (closed_stream lent s) → IsSound true s → (w : Watch) (start : Start) (opened : Option ℕ) (answered : List Fields)
+    → Moved log log (follow_of awaited w start s opened answered) (follow_closing awaited w start (stream_token s) k opened answered)
+handed_moved log awaited s lent left k is sound w start opened answered =
+    let there = close_moved log awaited w start lent s opened answered (sound_any true s sound) in
+    let same = same_without awaited left (landing_of s.doing) s.cursor (left_as w start opened (stream_token s) answered s.cursor.id (pos 0)) in
+    subst (λ (x : ClosingStream). Moved log log (follow_of awaited w start s opened answered) (follow_closing awaited w start (stream_token s) x opened answered)) (sym is)
+    (subst (λ (f : Follow). Moved log log (follow_of awaited w start s opened answered) f) same there)
+
 -- A call of the stream pends.
-pub call_pends : (old new : Awaited) (log log' : Told) (p : FollowPlayer) (stream stream' : ChangeStream) (told : List Fields) → told ≡ [] → stream'.aggregate.args ≡ stream.aggregate.args
-    → ((w : Watch) (start : Start) → Asks stream.aggregate.args w start → (opened : Option ℕ) (answered : List Fields) → Moved log log' (follow_of old w start stream opened answered) (follow_of new w start stream' opened (answered ++ told))) → FollowMoves old new log log' (stage.Open stream) p (stage.Open stream') p same_place
+pub call_pends : (old new : Awaited) (log log' : Told) (p : FollowPlayer) (stream stream' : ChangeStream Fields) (told : List Fields) → told ≡ [] → (stream_of stream').aggregate.args ≡ (stream_of stream).aggregate.args
+    → ((w : Watch) (start : Start) → Asks (stream_of stream).aggregate.args w start → (opened : Option ℕ) (answered : List Fields) → Moved log log' (follow_of old w start (stream_of stream) opened answered) (follow_of new w start (stream_of stream') opened (answered ++ told))) → FollowMoves old new log log' (stage.Open stream) p (stage.Open stream') p same_place
 call_pends old new log log' p stream stream' told none args moves =
     took old new log log' (stage.Open stream) p (stage.Open stream') p same_place refl
     (λ w start watched asks order opened.
     let answered = events_of p.answers.items in (
-      subst (λ l. Moved log log' (follow_of old w start stream opened answered) (follow_of new w start stream' opened l)) (ap (λ t. answered ++ t) none ∙ append-nil answered) (moves w start asks opened answered),
+      subst (λ l. Moved log log' (follow_of old w start (stream_of stream) opened answered) (follow_of new w start (stream_of stream') opened l)) (ap (λ t. answered ++ t) none ∙ append-nil answered) (moves w start asks opened answered),
       subst (λ a. Asks a w start) (sym args) asks,
       order,
     ))
@@ -319,23 +323,23 @@ events_joined (answers.Nothing ∷ xs) ys = events_joined xs ys
 events_joined (answers.Failed e ∷ xs) ys = events_joined xs ys
 
 -- A call of the stream answered.
-pub call_answers : (old new : Awaited) (log log' : Told) (p p' : FollowPlayer) (stream stream' : ChangeStream) (told : List Fields) (answer : Answer) → p'.watched ≡ p.watched → p'.opened ≡ p.opened → p'.answers.items ≡ p.answers.items ++ answer ∷ [] → told ≡ events_of (answer ∷ []) → stream'.aggregate.args ≡ stream.aggregate.args
-    → ((w : Watch) (start : Start) → Asks stream.aggregate.args w start → (opened : Option ℕ) (answered : List Fields) → Moved log log' (follow_of old w start stream opened answered) (follow_of new w start stream' opened (answered ++ told))) → FollowMoves old new log log' (stage.Open stream) p (stage.Open stream') p' same_place
+pub call_answers : (old new : Awaited) (log log' : Told) (p p' : FollowPlayer) (stream stream' : ChangeStream Fields) (told : List Fields) (answer : Answer) → p'.watched ≡ p.watched → p'.opened ≡ p.opened → p'.answers.items ≡ p.answers.items ++ answer ∷ [] → told ≡ events_of (answer ∷ []) → (stream_of stream').aggregate.args ≡ (stream_of stream).aggregate.args
+    → ((w : Watch) (start : Start) → Asks (stream_of stream).aggregate.args w start → (opened : Option ℕ) (answered : List Fields) → Moved log log' (follow_of old w start (stream_of stream) opened answered) (follow_of new w start (stream_of stream') opened (answered ++ told))) → FollowMoves old new log log' (stage.Open stream) p (stage.Open stream') p' same_place
 call_answers old new log log' p p' stream stream' told answer watched opened_same items same args moves =
     took old new log log' (stage.Open stream) p (stage.Open stream') p' same_place watched
     (λ w start is asks order opened.
     let e : events_of p.answers.items ++ told ≡ events_of p'.answers.items = ap (λ l. events_of p.answers.items ++ l) same ∙ sym (events_joined p.answers.items (answer ∷ [])) ∙ ap events_of (sym items) in (
-      subst (λ l. Moved log log' (follow_of old w start stream opened (events_of p.answers.items)) (follow_of new w start stream' opened l)) e (moves w start asks opened (events_of p.answers.items)),
+      subst (λ l. Moved log log' (follow_of old w start (stream_of stream) opened (events_of p.answers.items)) (follow_of new w start (stream_of stream') opened l)) e (moves w start asks opened (events_of p.answers.items)),
       subst (λ a. Asks a w start) (sym args) asks,
       subst (λ o. HasGiven o) (sym opened_same) order,
     ))
 
 -- The killing of its cursors pends.
-pub close_pends : (old new : Awaited) (log log' : Told) (p : FollowPlayer) (closing closing' : Closing)
-    → ((f : Follow) → Moved log log' (closing_of old f closing) (closing_of new f closing')) → FollowMoves old new log log' (stage.Closes closing) p (stage.Closes closing') p same_place
+pub close_pends : (old new : Awaited) (log log' : Told) (p : FollowPlayer) (closing closing' : ClosingStream)
+    → ((w : Watch) (start : Start) (token : Option Tree) (opened : Option ℕ) (answered : List Fields) → Moved log log' (follow_closing old w start token closing opened answered) (follow_closing new w start token closing' opened answered)) → FollowMoves old new log log' (stage.Closes closing) p (stage.Closes closing') p same_place
 close_pends old new log log' p closing closing' moves =
     took old new log log' (stage.Closes closing) p (stage.Closes closing') p same_place refl
-    (λ w start watched asks order opened. (moves (closed_follow w start opened p.token (events_of p.answers.items)), tt, order))
+    (λ w start watched asks order opened. (moves w start p.token opened (events_of p.answers.items), tt, order))
 
 ended_closed : {A : Type 0} (o : Ended A) (w : Watch) (start : Start) (opened : Option ℕ) (token : Option Tree) (answered : List Fields) → HasGiven o → ended_follow o w start opened token answered ≡ closed_follow w start opened token answered
 ended_closed ended.Unfinished w start opened token answered given = absurd given
@@ -348,65 +352,79 @@ ends_given (ended.Gave x) p given = tt
 ends_given (ended.Failed e) p given = absurd given
 
 -- The stream is closed, or its closing failed.
-pub close_ends : (old new : Awaited) (log log' : Told) (p p' : FollowPlayer) (closing : Closing) → KeepsOpen p p' → p'.token ≡ p.token
-    → ((f : Follow) → Moved log log' (closing_of old f closing) (closed f)) → FollowMoves old new log log' (stage.Closes closing) p stage.Ended p' same_place
+pub close_ends : (old new : Awaited) (log log' : Told) (p p' : FollowPlayer) (closing : ClosingStream) → KeepsOpen p p' → p'.token ≡ p.token
+    → ((w : Watch) (start : Start) (token : Option Tree) (opened : Option ℕ) (answered : List Fields) → Moved log log' (follow_closing old w start token closing opened answered) (left_as w start opened token answered (pos 0) (pos 0))) → FollowMoves old new log log' (stage.Closes closing) p stage.Ended p' same_place
 close_ends old new log log' p p' closing same token moves =
     took old new log log' (stage.Closes closing) p stage.Ended p' same_place same.watched
     (λ w start watched asks order opened.
     let given : HasGiven p'.opened = subst (λ o. HasGiven o) (sym same.opened) order in
     let e : closed_follow w start opened p.token (events_of p.answers.items) ≡ closed_follow w start opened p'.token (events_of p'.answers.items) =
     ap (λ t. closed_follow w start opened t (events_of p.answers.items)) (sym token) ∙ ap (λ l. closed_follow w start opened p'.token (events_of l)) (sym same.answers) in (
-      subst (λ (f : Follow). Moved log log' (closing_of old (closed_follow w start opened p.token (events_of p.answers.items)) closing) f) (e ∙ sym (ended_closed p'.opened w start opened p'.token (events_of p'.answers.items) given))
-          (moves (closed_follow w start opened p.token (events_of p.answers.items))),
+      subst (λ (f : Follow). Moved log log' (follow_closing old w start p.token closing opened (events_of p.answers.items)) f) (e ∙ sym (ended_closed p'.opened w start opened p'.token (events_of p'.answers.items) given))
+          (moves w start p.token opened (events_of p.answers.items)),
       tt,
       ends_given p'.opened p' given,
     ))
 
 -- ---- streams at rest
 
--- nothing is in flight, so no ticket is held
-pub rest_out : (awaited : Awaited) (p : Phase) → AtRest p → IsOut awaited (ticket_in p)
-rest_out awaited p rest n e = let bad : None ≡ Some n = sym (rests_without p rest) ∙ e in absurd cc
+-- no ticket is held
+pub rest_out : (awaited : Awaited) (s : ClientStream) → IsBetween s → IsOut awaited (stream_ticket s)
+rest_out awaited s rest n e = let bad : None ≡ Some n = sym (between_holds_none s rest) ∙ e in absurd cc
 
--- a closing in which no resumption is in flight needs to know nothing of its stream
-pub quiet_knew : (c : Flight) (a : ChangeStreamAggregate) (f : Follow) → IsQuiet c → KnewBy c a f
-quiet_knew flight.Landed a f quiet = tt
-quiet_knew (flight.More get_more exec) a f quiet = tt
-quiet_knew (flight.Resumption exec) a f quiet = absurd quiet
-quiet_knew (flight.Older exec old) a f quiet = tt
-quiet_knew (flight.Last exec) a f quiet = tt
-
-rest_sends : (wire : ℤ) (s : ChangeStream) (p : Phase) → AtRest p → Sends wire s p
-rest_sends wire s phase.Taken rest = tt
-rest_sends wire s phase.Rest rest = tt
-rest_sends wire s (phase.First reply) rest = tt
-rest_sends wire s phase.Fresh rest = tt
-rest_sends wire s (phase.Asking get_more exec) rest = absurd rest
-rest_sends wire s phase.Owing rest = tt
-rest_sends wire s (phase.Resuming exec) rest = absurd rest
-rest_sends wire s (phase.Killing exec old reply) rest = absurd rest
-rest_sends wire s (phase.Resumed reply) rest = tt
-
-saved_without : (o : ChangeStreamOptions) (r : Option ChangeStreamData) → IsSaved o r → IsSaved o (option_map forgotten r)
-saved_without o None saved = absurd saved
-saved_without o (Some known) saved = saved
-
--- a stream whose token was handed out keeps what it has to
-pub sound_without : (wire : ℤ) (s left : ChangeStream) → left ≡ without_token s → AtRest s.phase → IsSound wire s → IsSound wire left
-sound_without wire s left is rest sound = subst (IsSound wire) (sym is) (record { kept = record { saved = saved_without s.aggregate.args.options s.aggregate.resume sound.kept.saved; named = sound.kept.named }; sends = rest_sends wire (without_token s) s.phase rest })
-
-pub tickets_rest : (mid new : Awaited) (p : Phase) (ticket : Option ℕ) → AtRest p → Tickets mid new (ticket_in p) ticket → Tickets mid new None ticket
-tickets_rest mid new p ticket rest t = subst (λ (h : Option ℕ). Tickets mid new h ticket) (rests_without p rest) t
+pub tickets_rest : (mid new : Awaited) (s : ClientStream) (ticket : Option ℕ) → IsBetween s → Tickets mid new (stream_ticket s) ticket → Tickets mid new None ticket
+tickets_rest mid new s ticket rest t = subst (λ (h : Option ℕ). Tickets mid new h ticket) (between_holds_none s rest) t
 
 -- a call that has ended leaves its stream at rest
-pub rests_after : (poll : EventPoll) (p : Phase) → HasEnded poll → RestsAfter poll p → AtRest p
-rests_after polls.Pending p ended rests = absurd ended
-rests_after (polls.Ready event) p ended rests = rests
-rests_after (polls.Failed e) p ended rests = rests
+pub rests_after : (poll : EventPoll) (s : ClientStream) → HasEnded poll → LeavesCall poll s → IsBetween s
+rests_after polls.Pending s ended leaves = absurd ended
+rests_after (polls.Ready None) s ended leaves = leaves.0
+rests_after (polls.Ready (Some event)) s ended leaves = leaves.0
+rests_after (polls.Failed e) s ended leaves = leaves.0
 
--- a closing of a stream at rest
-pub closes_at_rest : (s left : ChangeStream) (c : Flight) → left ≡ without_token s → AtRest s.phase → (AtRest left.phase → IsQuiet c) → IsQuiet c
-closes_at_rest s left c is rest quiet = quiet (subst (λ (x : ChangeStream). AtRest x.phase) (sym is) rest)
+-- ---- the closing of a stream at rest
+
+quiet_sound : (c : cursors.ClientCursor) (d : cursors.Doing) → IsNotAsking d → cursors.SoundBy false c d
+quiet_sound c cursors.rests quiet = tt
+quiet_sound c (cursors.holds reply) quiet = tt
+quiet_sound c (cursors.asks sending) quiet = absurd quiet
+
+last_by : (d : Doing) (c : cursors.Doing) → IsIdle d → IsNotAsking c → IsLast c (pos 0) (landing_of d)
+last_by streams.follows c idle quiet = (quiet, refl)
+last_by streams.owes c idle quiet = (quiet, refl)
+last_by (streams.resumes sending) c idle quiet = absurd idle
+last_by (streams.kills before) c idle quiet = absurd idle
+last_by streams.renewed c idle quiet = absurd idle
+
+lands_by : (d : Doing) (k : ClosingStream) → IsIdle d → IsNotAsking k.cursor.doing → IsNamed k.cursor.space → k.opened ≡ pos 0 → LandsSoundly k (landing_of d)
+lands_by streams.follows k idle quiet named alone = record { asks_its_own = quiet_sound k.cursor k.cursor.doing quiet; named = named; alone = alone }
+lands_by streams.owes k idle quiet named alone = record { asks_its_own = quiet_sound k.cursor k.cursor.doing quiet; named = named; alone = alone }
+lands_by (streams.resumes sending) k idle quiet named alone = absurd idle
+lands_by (streams.kills before) k idle quiet named alone = absurd idle
+lands_by streams.renewed k idle quiet named alone = absurd idle
+
+quiet_none : (d : cursors.Doing) → IsNotAsking d → cursors.ticket_by d ≡ None
+quiet_none cursors.rests quiet = refl
+quiet_none (cursors.holds reply) quiet = refl
+quiet_none (cursors.asks sending) quiet = absurd quiet
+
+-- whose token was handed over
+module _ (s : ClientStream) (lent : Bool) (left : Option Tree) (k : ClosingStream) (is : k ≡ handed_over left (closed_stream lent s)) (rest : IsBetween s) where
+  pub closes_last : IsSound true s → IsLast k.cursor.doing k.opened k.doing × IsSoundStream k
+  closes_last sound =
+      subst (λ (x : ClosingStream). IsLast x.cursor.doing x.opened x.doing × IsSoundStream x) (sym is)
+      (last_by s.doing s.cursor.doing rest.idle rest.quiet, lands_by s.doing (handed_over left (closed_stream lent s)) rest.idle rest.quiet sound.named refl)
+
+  -- it holds no ticket
+  pub closes_none : stream_closing_ticket k ≡ None
+  closes_none = ap stream_closing_ticket is ∙ none_by s.doing rest.idle
+    where
+      none_by : (d : Doing) → IsIdle d → landing_ticket (record s.cursor { token = left }) (landing_of d) ≡ None
+      none_by streams.follows idle = quiet_none s.cursor.doing rest.quiet
+      none_by streams.owes idle = quiet_none s.cursor.doing rest.quiet
+      none_by (streams.resumes sending) idle = absurd idle
+      none_by (streams.kills before) idle = absurd idle
+      none_by streams.renewed idle = absurd idle
 
 -- a follow that has ended does nothing
 pub took_ended : (awaited : Awaited) (log : Told) (s : Stage) (p : FollowPlayer) → s ≡ stage.Ended → FollowMoves awaited awaited log log s p stage.Ended p same_place

@@ -10,11 +10,13 @@ use Rattle.mg_link.specs.Owner.{Onward, nobody}
 use Rattle.mg_link.proofs.Apart.{holds_nobody, passes_on, passes_same}
 use Rattle.mg_change.specs.Following.{AsksNothing}
 use Rattle.mg_change.specs.Growths.{Grows, HasCommand, IsInFlight, OpensInVain, StandsNowhere}
-use Rattle.mg_change.specs.Openings.{IsOpening, exec_ticket}
+use Rattle.mg_change.specs.ClientOpenings.{sending_ticket}
+use Rattle.mg_change.specs.ClosingStreams.{ClosingStream}
+use Rattle.mg_change.specs.OpeningView.{IsPlainOpening, opening_of}
+use Rattle.mg_change.specs.StreamView.{stream_of}
 use Rattle.mg_change.specs.Sent.{Sent}
 use Rattle.mg_change.proofs.Growths.{passes_nowhere, still_nowhere}
 use Rattle.mg_bson.specs.Tree.{Fields}
-use Rattle.mg_change.specs.declared.closing.Closing.{Closing}
 use Rattle.mg_change.specs.declared.opening.Opening.{Opening}
 use Rattle.mg_change.specs.declared.stream.ChangeStream.{ChangeStream}
 use Rattle.mg_jobs.specs.Follows.{EndsSo, FollowsNothing, HasGiven, HasNothing, IsFailed, IsInOrder, IsInVain, IsUnwatched, NeverFollowed, VainMoves, events_of, token_at}
@@ -32,13 +34,13 @@ same_flight : (old new : Awaited) (calls : List Call) (exec : Option Sending) (c
 same_flight old new calls exec command None same has = tt
 same_flight old new calls exec command (Some n) same has = (has.0, has.1, same n refl ∙ has.2, has.3, has.4)
 
-same_opening : (old new : Awaited) (calls : List Call) (exec : Option Sending) → ((m : ℕ) → exec_ticket exec ≡ Some m → new m ≡ old m) → IsInFlight old calls exec → IsInFlight new calls exec
+same_opening : (old new : Awaited) (calls : List Call) (exec : Option Sending) → ((m : ℕ) → sending_ticket exec ≡ Some m → new m ≡ old m) → IsInFlight old calls exec → IsInFlight new calls exec
 same_opening old new calls None same has = tt
 same_opening old new calls (Some e) same has = same_flight old new calls (Some e) e.command (ticket_of e) same has
 
 same_vain_at : (old new : Awaited) (calls : List Call) (s : Stage) → ((m : ℕ) → stage_ticket s ≡ Some m → new m ≡ old m) → IsInVain old calls s → IsInVain new calls s
 same_vain_at old new calls stage.Unopened same v = tt
-same_vain_at old new calls (stage.Opens opening) same v = (v.0, v.1, same_opening old new calls opening.exec same v.2)
+same_vain_at old new calls (stage.Opens opening) same v = (v.0, v.1, same_opening old new calls (opening_of opening).sending same v.2)
 same_vain_at old new calls (stage.Open stream) same v = tt
 same_vain_at old new calls (stage.Closes closing) same v = tt
 same_vain_at old new calls stage.Ended same v = tt
@@ -59,7 +61,7 @@ kept_opening awaited calls calls' (Some e) onward has = kept_flight awaited call
 
 kept_vain_at : (awaited : Awaited) (calls calls' : List Call) (s : Stage) → Onward calls calls' nobody → IsInVain awaited calls s → IsInVain awaited calls' s
 kept_vain_at awaited calls calls' stage.Unopened onward v = tt
-kept_vain_at awaited calls calls' (stage.Opens opening) onward v = (v.0, v.1, kept_opening awaited calls calls' opening.exec onward v.2)
+kept_vain_at awaited calls calls' (stage.Opens opening) onward v = (v.0, v.1, kept_opening awaited calls calls' (opening_of opening).sending onward v.2)
 kept_vain_at awaited calls calls' (stage.Open stream) onward v = tt
 kept_vain_at awaited calls calls' (stage.Closes closing) onward v = tt
 kept_vain_at awaited calls calls' stage.Ended onward v = tt
@@ -127,7 +129,7 @@ vain_begin_failed awaited log p p' same failed =
     })
 
 -- The watch is to be opened.
-pub vain_begins : (awaited : Awaited) (log : Told) (p : FollowPlayer) (opening : Opening) → (IsUnwatched p.watched → AsksNothing opening.aggregate.args) → IsOpening opening.aggregate opening.exec → opening.exec ≡ None → VainMoves awaited awaited log log stage.Unopened p (stage.Opens opening) p
+pub vain_begins : (awaited : Awaited) (log : Told) (p : FollowPlayer) (opening : Opening Fields) → (IsUnwatched p.watched → AsksNothing (opening_of opening).args) → IsPlainOpening opening → (opening_of opening).sending ≡ None → VainMoves awaited awaited log log stage.Unopened p (stage.Opens opening) p
 vain_begins awaited log p opening asks sent none =
     vain_stays awaited log stage.Unopened p (stage.Opens opening) p (λ calls v. record {
       unwatched = v.unwatched;
@@ -137,8 +139,8 @@ vain_begins awaited log p opening asks sent none =
     })
 
 -- The reply to the opening pends.
-pub vain_open_pends : (old new : Awaited) (log log' : Told) (p : FollowPlayer) (opening opening' : Opening) → opening'.aggregate.args ≡ opening.aggregate.args → (IsOpening opening.aggregate opening.exec → IsOpening opening'.aggregate opening'.exec)
-    → (IsOpening opening.aggregate opening.exec → AsksNothing opening.aggregate.args → OpensInVain old new log log' opening.exec (step.Pending opening')) → VainMoves old new log log' (stage.Opens opening) p (stage.Opens opening') p
+pub vain_open_pends : (old new : Awaited) (log log' : Told) (p : FollowPlayer) (opening opening' : Opening Fields) → (opening_of opening').args ≡ (opening_of opening).args → (IsPlainOpening opening → IsPlainOpening opening')
+    → (IsPlainOpening opening → AsksNothing (opening_of opening).args → OpensInVain old new log log' (opening_of opening).sending (step.Pending (opening_of opening'))) → VainMoves old new log log' (stage.Opens opening) p (stage.Opens opening') p
 vain_open_pends old new log log' p opening opening' args sent vain calls told v =
     let m = vain v.vain.1 v.vain.0 calls told v.vain.2 in (
       m.0,
@@ -153,8 +155,8 @@ vain_open_pends old new log log' p opening opening' args sent vain calls told v 
     )
 
 -- It failed.
-pub vain_open_failed : (old new : Awaited) (log log' : Told) (p p' : FollowPlayer) (opening : Opening) (e : Error) → KeepsNothing p p' → IsFailed p'.opened
-    → (IsOpening opening.aggregate opening.exec → AsksNothing opening.aggregate.args → OpensInVain old new log log' opening.exec (step.Failed e)) → VainMoves old new log log' (stage.Opens opening) p stage.Ended p'
+pub vain_open_failed : (old new : Awaited) (log log' : Told) (p p' : FollowPlayer) (opening : Opening Fields) (e : Error) → KeepsNothing p p' → IsFailed p'.opened
+    → (IsPlainOpening opening → AsksNothing (opening_of opening).args → OpensInVain old new log log' (opening_of opening).sending (step.Failed e)) → VainMoves old new log log' (stage.Opens opening) p stage.Ended p'
 vain_open_failed old new log log' p p' opening e same failed vain calls told v =
     let m = vain v.vain.1 v.vain.0 calls told v.vain.2 in (
       m.0,
@@ -169,14 +171,14 @@ vain_open_failed old new log log' p p' opening e same failed vain calls told v =
     )
 
 -- The stream is open.
-pub vain_open_done : (old new : Awaited) (log log' : Told) (p p' : FollowPlayer) (opening : Opening) (stream : ChangeStream) → KeepsNothing p p' → HasGiven p'.opened
-    → (IsOpening opening.aggregate opening.exec → AsksNothing opening.aggregate.args → OpensInVain old new log log' opening.exec (step.Done stream)) → VainMoves old new log log' (stage.Opens opening) p (stage.Open stream) p'
+pub vain_open_done : (old new : Awaited) (log log' : Told) (p p' : FollowPlayer) (opening : Opening Fields) (stream : ChangeStream Fields) → KeepsNothing p p' → HasGiven p'.opened
+    → (IsPlainOpening opening → AsksNothing (opening_of opening).args → OpensInVain old new log log' (opening_of opening).sending (step.Done (stream_of stream))) → VainMoves old new log log' (stage.Opens opening) p (stage.Open stream) p'
 vain_open_done old new log log' p p' opening stream same given vain calls told v =
     let m = vain v.vain.1 v.vain.0 calls told v.vain.2 in
     (m.0, m.1, record { unwatched = subst (λ x. IsUnwatched x) (sym same.watched) v.unwatched; vain = tt; in_order = given; never = λ g. m.3 }, m.2)
 
 -- The stream is to be closed.
-pub vain_to_close : (awaited : Awaited) (log : Told) (p p' : FollowPlayer) (stream : ChangeStream) (closing : Closing) → KeepsOpen p p' → VainMoves awaited awaited log log (stage.Open stream) p (stage.Closes closing) p'
+pub vain_to_close : (awaited : Awaited) (log : Told) (p p' : FollowPlayer) (stream : ChangeStream Fields) (closing : ClosingStream) → KeepsOpen p p' → VainMoves awaited awaited log log (stage.Open stream) p (stage.Closes closing) p'
 vain_to_close awaited log p p' stream closing same =
     vain_stays awaited log (stage.Open stream) p (stage.Closes closing) p' (λ calls v. record {
       unwatched = subst (λ x. IsUnwatched x) (sym same.watched) v.unwatched;
@@ -189,16 +191,16 @@ sent_grows : (log log' : Told) (commands : List Fields) → Sent log log' comman
 sent_grows log log' commands sent calls told = let m = sent calls told in (m.0, m.1, m.3)
 
 -- A call of the stream pends, or answered.
-pub vain_call : (old new : Awaited) (log log' : Told) (p p' : FollowPlayer) (stream stream' : ChangeStream) (commands : List Fields) → p'.watched ≡ p.watched → p'.opened ≡ p.opened → Sent log log' commands → VainMoves old new log log' (stage.Open stream) p (stage.Open stream') p'
+pub vain_call : (old new : Awaited) (log log' : Told) (p p' : FollowPlayer) (stream stream' : ChangeStream Fields) (commands : List Fields) → p'.watched ≡ p.watched → p'.opened ≡ p.opened → Sent log log' commands → VainMoves old new log log' (stage.Open stream) p (stage.Open stream') p'
 vain_call old new log log' p p' stream stream' commands watched opened sent =
     vain_grows old new log log' (stage.Open stream) p (stage.Open stream') p' (sent_grows log log' commands sent) watched (λ order. order) (λ order. subst (λ o. HasGiven o) (sym opened) order) (λ calls. tt)
 
 -- The killing of its cursors pends.
-pub vain_close_pends : (old new : Awaited) (log log' : Told) (p : FollowPlayer) (closing closing' : Closing) → Grows log log' → VainMoves old new log log' (stage.Closes closing) p (stage.Closes closing') p
+pub vain_close_pends : (old new : Awaited) (log log' : Told) (p : FollowPlayer) (closing closing' : ClosingStream) → Grows log log' → VainMoves old new log log' (stage.Closes closing) p (stage.Closes closing') p
 vain_close_pends old new log log' p closing closing' grows = vain_grows old new log log' (stage.Closes closing) p (stage.Closes closing') p grows refl (λ order. order) (λ order. order) (λ calls. tt)
 
 -- The stream is closed, or its closing failed.
-pub vain_close_ends : (old new : Awaited) (log log' : Told) (p p' : FollowPlayer) (closing : Closing) → KeepsOpen p p' → Grows log log' → VainMoves old new log log' (stage.Closes closing) p stage.Ended p'
+pub vain_close_ends : (old new : Awaited) (log log' : Told) (p p' : FollowPlayer) (closing : ClosingStream) → KeepsOpen p p' → Grows log log' → VainMoves old new log log' (stage.Closes closing) p stage.Ended p'
 vain_close_ends old new log log' p p' closing same grows =
     vain_grows old new log log' (stage.Closes closing) p stage.Ended p' grows same.watched (λ order. order) (λ order. ends_given p'.opened p' (subst (λ o. HasGiven o) (sym same.opened) order)) (λ calls. tt)
 

@@ -1,5 +1,5 @@
 -- Whose call it is that waits for its reply.
-use Rattle.std.proofs.Common.{◌≡◌, ◌⊎◌, ◌+◌, ◌<◌, ◌≤◌, ℕ, ℤ, pos, Bool, true, List, [], ◌∷◌, ◌++◌, length, Option, Some, Result, Ok, Err, IfOk, sym, ap, ◌∙◌, subst, inl, inr, arith}
+use Rattle.std.proofs.Common.{◌≡◌, ◌⊎◌, ◌+◌, ◌<◌, ◌≤◌, ℕ, ℤ, Bool, true, List, [], ◌∷◌, ◌++◌, length, Option, Some, Result, Ok, Err, IfOk, sym, ap, ◌∙◌, subst, inl, inr, arith}
 use Rattle.std.specs.Prelude.{is_some, slice_get, slice_set}
 use Rattle.std.proofs.lemmas.Bool.{cases_eq, cases_order}
 use Rattle.std.proofs.lemmas.List.Sums.{sum_by-cons}
@@ -13,7 +13,10 @@ use Rattle.mg_link.specs.declared.error.Error.{Error}
 use Rattle.mg_link.proofs.Calls.{HoldsOwn}
 use Rattle.mg_link.proofs.Owners.{same_some}
 use Rattle.mg_link.proofs.Places.{get_past_other, get_seam, get_set_same}
-use Rattle.mg_change.proofs.Awaiting.{call_own, kill_own, opening_own}
+use Rattle.mg_change.proofs.Awaiting.{call_own, last_own, opening_own}
+use Rattle.mg_change.proofs.Keeping.{sound_any}
+use Rattle.mg_change.specs.OpeningView.{opening_of}
+use Rattle.mg_change.specs.StreamView.{stream_of}
 use Rattle.mg_jobs.specs.Causes.{AllSentIn, AllWaitAlone, Course, WaitsAlone, SentIn, course, sent_at}
 use Rattle.mg_ops.specs.Drawn.{with_ids}
 use Rattle.mg_jobs.specs.Drawing.{HaveDrawn, first_id}
@@ -135,11 +138,11 @@ sent_own awaited c i done places calls wire ticket sent own =
 follow_own : (awaited : Awaited) (calls : List Call) (wire : ℤ) (c : Course) (i : ℕ) (s : Stage) (k : Kept) (at : Option ℕ) (ticket : ℕ) → FollowTold awaited calls wire c i s k at → stage_ticket s ≡ Some ticket → SentOwn awaited c i ticket
 follow_own awaited calls wire c i stage.Unopened k at ticket t holds = absurd cc
 follow_own awaited calls wire c i (stage.Opens opening) k at ticket t holds =
-    sent_own awaited c i (number (stage.Opens opening) k) t.places.now calls wire ticket t.sent.now (opening_own awaited (sent_at t.places.now calls wire) opening.aggregate.args opening.exec ticket t.tells.3 holds)
+    sent_own awaited c i (number (stage.Opens opening) k) t.places.now calls wire ticket t.sent.now (opening_own awaited (sent_at t.places.now calls wire) (opening_of opening).args (opening_of opening).sending ticket t.tells.3 holds)
 follow_own awaited calls wire c i (stage.Open stream) k at ticket t holds =
-    sent_own awaited c i (number (stage.Open stream) k) t.places.now calls wire ticket t.sent.now (call_own awaited (sent_at t.places.now calls wire) t.tells.0 stream.phase stream ticket t.tells.2 holds)
+    sent_own awaited c i (number (stage.Open stream) k) t.places.now calls wire ticket t.sent.now (call_own awaited (sent_at t.places.now calls wire) true t.tells.0 (stream_of stream) ticket (sound_any true (stream_of stream) t.tells.3) t.tells.2 holds)
 follow_own awaited calls wire c i (stage.Closes closing) k at ticket t holds =
-    sent_own awaited c i (number (stage.Closes closing) k) t.places.now calls wire ticket t.sent.now (kill_own awaited (sent_at t.places.now calls wire) t.tells.0.cursor (pos 0) closing.flight ticket t.tells.5 holds)
+    sent_own awaited c i (number (stage.Closes closing) k) t.places.now calls wire ticket t.sent.now (last_own awaited (sent_at t.places.now calls wire) t.tells.0 closing ticket t.tells.3 holds)
 follow_own awaited calls wire c i stage.Ended k at ticket t holds = absurd cc
 
 stage_own : (awaited : Awaited) (past : Past) (at : Space) (sent : List Fields) (s : InsertStage) (ticket : ℕ) → InsertTells awaited past at sent s → inserts_ticket s ≡ Some ticket → HoldsOwn awaited past ticket

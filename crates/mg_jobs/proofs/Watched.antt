@@ -12,7 +12,8 @@ use Rattle.mg_link.specs.declared.namespace.OperationTarget.TheVariants as targe
 use Rattle.mg_options.specs.declared.change_stream.ChangeStreamOptions.{ChangeStreamOptions}
 use Rattle.mg_ops.specs.Aims.{aim}
 use Rattle.mg_ops.specs.declared.change_stream.WatchArgs.{WatchArgs}
-use Rattle.mg_change.specs.Following.{Asks, AsksNothing}
+use Rattle.mg_change.specs.ClientStreams.{Asks}
+use Rattle.mg_change.specs.Following.{AsksNothing}
 use Rattle.mg_script.specs.Plan.{Begin, begin}
 use Rattle.mg_jobs.specs.Follows.{IsArgsOf, all_changes, all_changes_of, begun_options, filter_in, IsTarget, IsUnwatched, IsWatch, IsWatched, WatchesNothing, aimed, stages_of, start_of}
 use Rattle.mg_jobs.specs.Telling.{IsWatchArgs}

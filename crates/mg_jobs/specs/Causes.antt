@@ -1,5 +1,5 @@
 -- What the answers of jobs are caused by, and what jobs wait for: by the turns in which they sent their commands.
-use Rattle.std.specs.Prelude.{◌≡◌, ◌≢◌, ◌↔◌, ◌⊎◌, ◌<◌, ◌≤◌, ◌+◌, ◌++◌, IsTrue, false, true, Bool, ℕ, suc, ℤ, pos, List, [], ◌∷◌, length, Option, Some, slice_get}
+use Rattle.std.specs.Prelude.{◌≡◌, ◌↔◌, ◌⊎◌, ◌<◌, ◌≤◌, ◌+◌, ◌++◌, IsTrue, false, true, Bool, ℕ, suc, ℤ, List, [], ◌∷◌, length, Option, Some, None, slice_get}
 use Rattle.std.specs.List.{sum_by}
 use Rattle.mg_bson.specs.Tree.{Tree, Fields}
 use Rattle.mg_link.specs.Calls.{IsAwaited, Past, past_of}
@@ -13,11 +13,11 @@ use Rattle.mg_link.specs.declared.error.Error.{Error}
 use Rattle.mg_link.specs.declared.error.ErrorKind.TheVariants as kind
 use Rattle.mg_ops.specs.Naming.{IsNamed}
 use Rattle.mg_ops.specs.declared.change_stream.WatchArgs.{WatchArgs}
-use Rattle.mg_change.specs.Causes.{CallWaits, Called, Standing}
-use Rattle.mg_change.specs.ClosingCauses.{KillDone, KillFails, KillWaits}
-use Rattle.mg_change.specs.Following.{token_of}
+use Rattle.mg_change.specs.Causes.{CallWaits, Called}
+use Rattle.mg_change.specs.ClientOpenings.{first_aggregate}
+use Rattle.mg_change.specs.ClientStreams.{ClientStream, IsAlive, resuming_in, stream_token}
+use Rattle.mg_change.specs.ClosingCauses.{LastDone, LastFails, LastWaits}
 use Rattle.mg_change.specs.OpeningCauses.{Opened, OpeningFails}
-use Rattle.mg_change.specs.Openings.{opening_command}
 use Rattle.mg_ops.specs.Appended.{Appended}
 use Rattle.mg_jobs.specs.Counts.{PolledBy, one_if}
 use Rattle.mg_jobs.specs.Drawing.{as_sent}
@@ -85,15 +85,15 @@ pub record InsertEnds (awaited : Awaited) (c : Course) (i : ℕ) (calls : List C
 
 -- The calls of a stream, one behind the other: at which places each sent its commands, what it answered with its cause, and how the stream stood
 -- before the first of them and behind the last.
-abbrev pub Answered : List Call → ℤ → Standing → List (List ℕ) → List Answer → Standing → Type 0
+abbrev pub Answered : List Call → ℤ → ClientStream → List (List ℕ) → List Answer → ClientStream → Type 0
 Answered calls wire at [] [] last = last ≡ at
-Answered calls wire at (places ∷ owns) (answer ∷ said) last = (after : Standing) × Called (sent_at places calls wire) at after (poll_of answer) × Answered calls wire after owns said last
+Answered calls wire at (places ∷ owns) (answer ∷ said) last = (after : ClientStream) × Called (sent_at places calls wire) None at after (poll_of answer) × Answered calls wire after owns said last
 Answered calls wire at [] (answer ∷ said) last = ⊥
 Answered calls wire at (places ∷ owns) [] last = ⊥
 
 -- the opening, and then each call, sent its commands in its turns
-pub record Answers (c : Course) (i : ℕ) (calls : List Call) (wire : ℤ) (args : WatchArgs) (said : List Answer) (last : Standing) : Type 0 where
-  pub first : Standing
+pub record Answers (c : Course) (i : ℕ) (calls : List Call) (wire : ℤ) (args : WatchArgs) (said : List Answer) (last : ClientStream) : Type 0 where
+  pub first : ClientStream
   pub places : List ℕ
   pub sent : AllSentIn c i 0 places
   pub opened : Opened (sent_at places calls wire) args first
@@ -102,34 +102,30 @@ pub record Answers (c : Course) (i : ℕ) (calls : List Call) (wire : ℤ) (args
   pub answered : Answered calls wire first owns said last
 
 -- the closing sent its command behind the last call, or in the same turn
-abbrev pub ClosedBy : {A : Type 0} → Past → Standing → Ended A → Type 0
+abbrev pub ClosedBy : {A : Type 0} → Past → ClientStream → Ended A → Type 0
 ClosedBy past last ended.Unfinished = ⊥
-ClosedBy past last (ended.Gave x) = KillDone past last.cursor (pos 0)
-ClosedBy past last (ended.Failed e) = KillFails past last.cursor (pos 0) e
+ClosedBy past last (ended.Gave x) = LastDone past last
+ClosedBy past last (ended.Failed e) = LastFails past last e
 
-pub record Closed {A : Type 0} (c : Course) (i k : ℕ) (calls : List Call) (wire : ℤ) (last : Standing) (closed : Ended A) : Type 0 where
+pub record Closed {A : Type 0} (c : Course) (i k : ℕ) (calls : List Call) (wire : ℤ) (last : ClientStream) (closed : Ended A) : Type 0 where
   pub places : List ℕ
   pub sent : AllSentIn c i k places
   pub by : ClosedBy (sent_at places calls wire) last closed
 
 -- Where an open stream stands of whose calls so many were answered.
-pub data OpenStands (awaited : Awaited) (c : Course) (i count answered : ℕ) (calls : List Call) (wire : ℤ) (last : Standing) : Type 0 where
+pub data OpenStands (awaited : Awaited) (c : Course) (i count answered : ℕ) (calls : List Call) (wire : ℤ) (last : ClientStream) : Type 0 where
   -- its newest turn did not pend, and a call is left
   at_rest : pends_last i c.order c.notes ≡ false → answered < count → OpenStands awaited c i count answered calls wire last
   -- its next call waits for a reply
-  in_call : pends_last i c.order c.notes ≡ true → answered < count → (places : List ℕ) → AllSentIn c i (suc answered) places → CallWaits awaited (sent_at places calls wire) last → OpenStands awaited c i count answered calls wire last
+  in_call : pends_last i c.order c.notes ≡ true → answered < count → (places : List ℕ) → AllSentIn c i (suc answered) places → CallWaits awaited (sent_at places calls wire) true last → OpenStands awaited c i count answered calls wire last
   -- all its calls are answered, and its closing waits for a reply
-  in_closing : pends_last i c.order c.notes ≡ true → answered ≡ count → (places : List ℕ) → AllSentIn c i answered places → KillWaits awaited (sent_at places calls wire) last.cursor (pos 0) → OpenStands awaited c i count answered calls wire last
+  in_closing : pends_last i c.order c.notes ≡ true → answered ≡ count → (places : List ℕ) → AllSentIn c i answered places → LastWaits awaited (sent_at places calls wire) last → OpenStands awaited c i count answered calls wire last
 
 -- how it stands with its closing
-abbrev pub CloseCaused : {A : Type 0} → Awaited → Course → (i count answered : ℕ) → List Call → ℤ → Standing → Ended A → Type 0
+abbrev pub CloseCaused : {A : Type 0} → Awaited → Course → (i count answered : ℕ) → List Call → ℤ → ClientStream → Ended A → Type 0
 CloseCaused {A} awaited c i count answered calls wire last ended.Unfinished = OpenStands awaited c i count answered calls wire last
 CloseCaused {A} awaited c i count answered calls wire last (ended.Gave x) = Closed {A = A} c i answered calls wire last (ended.Gave x)
 CloseCaused {A} awaited c i count answered calls wire last (ended.Failed e) = Closed {A = A} c i answered calls wire last (ended.Failed e)
-
--- the stream has more: the server holds its cursor, or a resumption is owed
-abbrev pub IsAlive : Standing → Type 0
-IsAlive s = (s.cursor.id ≢ pos 0) ⊎ (s.owes ≡ true)
 
 -- no answer says that an event has no `_id`
 abbrev pub NoneMissing : List Answer → Type 0
@@ -139,9 +135,9 @@ NoneMissing said = (k : ℕ) (e : Error) → slice_get said k ≡ Some (answers.
 pub record OpenCaused {A : Type 0} (awaited : Awaited) (c : Course) (i count : ℕ) (calls : List Call) (wire : ℤ) (on : Target) (start : Begin) (filter : Option Fields) (batch : Option ℕ) (said : List Answer) (token : Option Tree) (alive : Bool) (closed : Ended A) : Type 0 where
   pub args : WatchArgs
   pub args_are : IsArgsFor on start filter batch args
-  pub last : Standing
+  pub last : ClientStream
   pub answers : Answers c i calls wire args said last
-  pub token_is : token ≡ token_of last.aggregate.resume
+  pub token_is : token ≡ stream_token last
   pub alive_is : IsTrue alive ↔ IsAlive last
   pub close : CloseCaused awaited c i count (length said) calls wire last closed
   -- its answers are consecutive from the opening place of its own aggregate on
@@ -155,7 +151,7 @@ pub record OpenWaits (awaited : Awaited) (c : Course) (i : ℕ) (calls : List Ca
   pub args_are : IsArgsFor on start filter batch args
   pub places : List ℕ
   pub sent : AllSentIn c i 0 places
-  pub waits : IsAwaited awaited (sent_at places calls wire) (opening_command args)
+  pub waits : IsAwaited awaited (sent_at places calls wire) (resuming_in (first_aggregate args) wire None)
 
 -- one whose stream was not opened: its opening has failed, or memory ran out before
 pub record OpenFailed (c : Course) (i : ℕ) (calls : List Call) (wire : ℤ) (on : Target) (start : Begin) (filter : Option Fields) (batch : Option ℕ) (e : Error) : Type 0 where
@@ -163,7 +159,7 @@ pub record OpenFailed (c : Course) (i : ℕ) (calls : List Call) (wire : ℤ) (o
   pub args_are : IsArgsFor on start filter batch args
   pub places : List ℕ
   pub sent : AllSentIn c i 0 places
-  pub fails : OpeningFails (sent_at places calls wire) args e
+  pub fails : OpeningFails (sent_at places calls wire) None args e
 
 -- it is being opened, and waits where its newest turn pended; or it was opened; or it was not
 abbrev pub FollowCaused : {A B : Type 0} → Awaited → Course → (i count : ℕ) → List Call → ℤ → Target → Begin → Option Fields → Option ℕ → Ended A → List Answer → Option Tree → Bool → Ended B → Type 0

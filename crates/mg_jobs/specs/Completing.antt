@@ -1,5 +1,5 @@
 -- What jobs come to over a link that loses nothing, where their server holds nothing back.
-use Rattle.std.specs.Prelude.{◌≡◌, ◌⊎◌, ◌≤◌, ◌++◌, Contains, Ok, ℕ, suc, ℤ, pos, true, List, [], ◌∷◌, length, take, Some, slice_get}
+use Rattle.std.specs.Prelude.{◌≡◌, ◌⊎◌, ◌≤◌, ◌++◌, Contains, Ok, ℕ, suc, ℤ, pos, true, List, [], ◌∷◌, length, take, Some, None, slice_get}
 use Rattle.mg_bson.specs.Tree.{Fields, Tree}
 use Rattle.mg_bson.specs.Raw.{fields}
 use Rattle.mg_bson.specs.Writable.{max_len}
@@ -22,7 +22,7 @@ use Rattle.mg_ops.specs.Limits.{PassesLimit, SizePasses, SomePassLimit}
 use Rattle.mg_ops.specs.Naming.{IsNamed}
 use Rattle.mg_ops.specs.declared.aggregate.ChangeStreamAggregate.{ChangeStreamAggregate}
 use Rattle.mg_ops.specs.declared.change_stream.WatchArgs.{WatchArgs}
-use Rattle.mg_change.specs.Phases.{resuming_command}
+use Rattle.mg_change.specs.ClientStreams.{resuming_in}
 use Rattle.mg_jobs.specs.Causes.{Course, SentIn, course}
 use Rattle.mg_jobs.specs.Drawing.{as_sent}
 use Rattle.mg_jobs.specs.Follows.{IsArgsFor}
@@ -124,7 +124,7 @@ pub data FindsNothing (c : Course) (i : ℕ) (calls : List Call) (history : List
   -- it takes the first batch
   takes_first : k ≡ 1 → FindsNothing c i calls history k short
   -- or that of a resumption, which it sent
-  takes_again : short → (place : ℕ) → SentIn c i k place → (call : Call) → slice_get calls place ≡ Some call → (a : ChangeStreamAggregate) (wire : ℤ) → fields call.command ≡ resuming_command a wire → FindsNothing c i calls history k short
+  takes_again : short → (place : ℕ) → SentIn c i k place → (call : Call) → slice_get calls place ≡ Some call → (a : ChangeStreamAggregate) (wire : ℤ) → fields call.command ≡ resuming_in a wire None → FindsNothing c i calls history k short
   -- the stream has ended, as a reply told
   is_over : (at : Space) → IsOwnCursor (IsHeard c i calls) (pos 0) at → FindsNothing c i calls history k short
   finds_none : NoneLeft c i calls history k → FindsNothing c i calls history k short

@@ -18,12 +18,13 @@ use Rattle.mg_ops.specs.Naming.{IsNamed, start_in}
 use Rattle.mg_ops.specs.declared.change_stream.WatchArgs.{WatchArgs}
 use Rattle.mg_options.specs.Options.{no_options}
 use Rattle.mg_options.specs.declared.change_stream.ChangeStreamOptions.{ChangeStreamOptions}
-use Rattle.mg_change.specs.Closings.{closing_of}
+use Rattle.mg_change.specs.ClientStreams.{Asks, stream_token}
 use Rattle.mg_change.specs.declared.event_poll.EventPoll.{EventPoll}
 use Rattle.mg_change.specs.declared.event_poll.EventPoll.TheVariants as polls
 use Rattle.mg_change.specs.Growths.{IsInFlight, StandsNowhere}
-use Rattle.mg_change.specs.Following.{Asks, AsksNothing, event_told, follow_of, not_open, opening_in, token_of}
-use Rattle.mg_change.specs.Openings.{IsOpening}
+use Rattle.mg_change.specs.Following.{AsksNothing, event_told, follow_closing, follow_of, not_open, opening_in}
+use Rattle.mg_change.specs.OpeningView.{IsPlainOpening, opening_of}
+use Rattle.mg_change.specs.StreamView.{stream_of}
 use Rattle.mg_script.specs.Plan.{Begin, begin, nowhere, resume_after, start_after, at_time}
 use Rattle.mg_script.specs.declared.outcome.Answer.{Answer}
 use Rattle.mg_script.specs.declared.outcome.Answer.TheVariants as answers
@@ -152,9 +153,9 @@ ended_follow (ended.Failed e) w start opened token answered = not_open w start
 
 abbrev pub follow_at : {A : Type 0} → Awaited → Stage → Ended A → Watch → Start → Option ℕ → Option Tree → List Fields → Follow
 follow_at awaited stage.Unopened o w start opened token answered = not_open w start
-follow_at awaited (stage.Opens opening) o w start opened token answered = opening_in awaited opening.exec w start
-follow_at awaited (stage.Open stream) o w start opened token answered = follow_of awaited w start stream opened answered
-follow_at awaited (stage.Closes closing) o w start opened token answered = closing_of awaited (closed_follow w start opened token answered) closing
+follow_at awaited (stage.Opens opening) o w start opened token answered = opening_in awaited w start (opening_of opening)
+follow_at awaited (stage.Open stream) o w start opened token answered = follow_of awaited w start (stream_of stream) opened answered
+follow_at awaited (stage.Closes closing) o w start opened token answered = follow_closing awaited w start token closing opened answered
 follow_at awaited stage.Ended o w start opened token answered = ended_follow o w start opened token answered
 
 -- what a follow at a stage is doing, where the call at `opened` opened its stream
@@ -198,8 +199,8 @@ IsInOrder p stage.Ended = EndsSo p.opened p
 -- what is in flight or open asks for the watch
 abbrev pub StageAsks : Stage → Watch → Start → Type 0
 StageAsks stage.Unopened w start = Unit {0}
-StageAsks (stage.Opens opening) w start = Asks opening.aggregate.args w start × IsOpening opening.aggregate opening.exec
-StageAsks (stage.Open stream) w start = Asks stream.aggregate.args w start
+StageAsks (stage.Opens opening) w start = Asks (opening_of opening).args w start × IsPlainOpening opening
+StageAsks (stage.Open stream) w start = Asks (stream_of stream).aggregate.args w start
 StageAsks (stage.Closes closing) w start = Unit {0}
 StageAsks stage.Ended w start = Unit {0}
 
@@ -236,7 +237,7 @@ FollowMoves old new log log' s p s' p' next = (calls : List Call) → log ≡ So
 -- the aggregate in flight asks for nothing
 abbrev pub IsInVain : Awaited → List Call → Stage → Type 0
 IsInVain awaited calls stage.Unopened = Unit {0}
-IsInVain awaited calls (stage.Opens opening) = AsksNothing opening.aggregate.args × IsOpening opening.aggregate opening.exec × IsInFlight awaited calls opening.exec
+IsInVain awaited calls (stage.Opens opening) = AsksNothing (opening_of opening).args × IsPlainOpening opening × IsInFlight awaited calls (opening_of opening).sending
 IsInVain awaited calls (stage.Open stream) = Unit {0}
 IsInVain awaited calls (stage.Closes closing) = Unit {0}
 IsInVain awaited calls stage.Ended = Unit {0}
@@ -274,7 +275,7 @@ pub record Followed (calls : List Call) (w : Watch) (start : Start) (answered : 
 abbrev pub token_at : Stage → Option Tree → Option Tree
 token_at stage.Unopened token = None
 token_at (stage.Opens opening) token = None
-token_at (stage.Open stream) token = token_of stream.aggregate.resume
+token_at (stage.Open stream) token = stream_token (stream_of stream)
 token_at (stage.Closes closing) token = token
 token_at stage.Ended token = token
 

@@ -1,7 +1,6 @@
 -- The commands that a follow must send, by the replies that it heard.
-use Rattle.std.specs.Prelude.{◌≡◌, codes, ℕ, ℤ, List, [], ◌∷◌, Some, Ok, slice_get}
+use Rattle.std.specs.Prelude.{◌≡◌, ℕ, ℤ, List, [], ◌∷◌, Some, None, Ok, slice_get}
 use Rattle.mg_bson.specs.Tree.{Tree, Fields}
-use Rattle.mg_bson.specs.Find.{get}
 use Rattle.mg_bson.specs.Raw.{fields}
 use Rattle.mg_link.specs.Log.{Call, reply}
 use Rattle.mg_link.specs.Namespace.{Space}
@@ -11,9 +10,9 @@ use Rattle.mg_ops.specs.Cursors.{Cursor, cursor_of, next_command, watch_manner}
 use Rattle.mg_ops.specs.declared.aggregate.ChangeStreamAggregate.{ChangeStreamAggregate}
 use Rattle.mg_ops.specs.declared.change_stream.ChangeStreamData.{ChangeStreamData}
 use Rattle.mg_ops.specs.declared.change_stream.WatchArgs.{WatchArgs}
-use Rattle.mg_change.specs.Batches.{HoldsBatch}
-use Rattle.mg_change.specs.Openings.{opening_command}
-use Rattle.mg_change.specs.Phases.{resuming_command}
+use Rattle.mg_cursor.specs.Batches.{documents_of}
+use Rattle.mg_change.specs.ClientOpenings.{first_aggregate}
+use Rattle.mg_change.specs.ClientStreams.{id_in, resuming_in}
 use Rattle.mg_jobs.specs.Causes.{Course, SentIn}
 
 -- ---- what it heard
@@ -45,11 +44,11 @@ pub record IsBehind (heard : List ℕ → Type 0) (token : Tree) : Type 0 where
   pub token_is : cursor.token ≡ Some token
 
 -- a reply brought this event
-pub record IsBrought (heard : List ℕ → Type 0) (event : Fields) : Type 0 where
+pub record IsBrought (heard : List ℕ → Type 0) (event : List ℕ) : Type 0 where
   pub bytes : List ℕ
   pub in_reply : heard bytes
-  pub events : List Fields
-  pub holds : HoldsBatch (fields bytes) events
+  pub events : List (List ℕ)
+  pub holds : documents_of bytes ≡ Some events
   pub place : ℕ
   pub there : slice_get events place ≡ Some event
 
@@ -60,7 +59,7 @@ pub data IsOwnToken (heard : List ℕ → Type 0) (o : ChangeStreamOptions) (tok
   to_start : o.start_after ≡ Some token → IsOwnToken heard o token
   to_resume : o.resume_after ≡ Some token → IsOwnToken heard o token
   of_batch : IsBehind heard token → IsOwnToken heard o token
-  of_event : (event : Fields) → IsBrought heard event → get (codes "_id") event ≡ Some token → IsOwnToken heard o token
+  of_event : (event : List ℕ) → IsBrought heard event → id_in event ≡ Some token → IsOwnToken heard o token
 
 -- the token that it remembers, if any, is such a one
 abbrev pub KnowsOwn : (List ℕ → Type 0) → ChangeStreamAggregate → Type 0
@@ -69,7 +68,7 @@ KnowsOwn heard a = (known : ChangeStreamData) (token : Tree) → a.resume ≡ So
 -- A command that a follow with such arguments, which heard these replies, must send: the aggregate that opens its watch; a getMore of a cursor that a reply
 -- told, or the killing of just that one; and, where it is short, the aggregate that resumes behind a token of its own.
 pub data IsOwnCommand (are_its : WatchArgs → Type 0) (heard : List ℕ → Type 0) (short : Type 0) (command : Fields) : Type 0 where
-  opens : (args : WatchArgs) → are_its args → command ≡ opening_command args → IsOwnCommand are_its heard short command
-  resumes : short → (a : ChangeStreamAggregate) (wire : ℤ) → are_its a.args → KnowsOwn heard a → command ≡ resuming_command a wire → IsOwnCommand are_its heard short command
+  opens : (args : WatchArgs) (wire : ℤ) → are_its args → command ≡ resuming_in (first_aggregate args) wire None → IsOwnCommand are_its heard short command
+  resumes : short → (a : ChangeStreamAggregate) (wire : ℤ) → are_its a.args → KnowsOwn heard a → command ≡ resuming_in a wire None → IsOwnCommand are_its heard short command
   asks : (args : WatchArgs) → are_its args → (id : ℤ) (at : Space) → IsOwnCursor heard id at → command ≡ next_command id at (watch_manner args.options) → IsOwnCommand are_its heard short command
   kills : (id : ℤ) (at : Space) → IsOwnCursor heard id at → command ≡ kill_command at (id ∷ []) → IsOwnCommand are_its heard short command

@@ -1,8 +1,11 @@
 -- Jobs that go on turn by turn.
-use Rattle.std.specs.Prelude.{◌≡◌, ◌<◌, ℕ, ℤ, Bool, true, false, Option, None, vec_capacity, vec_len}
-use Rattle.mg_change.specs.Phases.{IsSound, ticket_in}
-use Rattle.mg_change.specs.Openings.{opening_ticket}
-use Rattle.mg_change.specs.Closings.{IsClosing, IsQuiet, closing_ticket}
+use Rattle.std.specs.Prelude.{◌≡◌, ◌<◌, ℕ, ℤ, pos, Bool, true, false, Option, None, vec_capacity, vec_len}
+use Rattle.mg_cursor.specs.Client as cursors
+use Rattle.mg_cursor.specs.Closing.{IsNotAsking}
+use Rattle.mg_change.specs.ClientStreams.{stream_ticket}
+use Rattle.mg_change.specs.ClosingStreams.{IsSoundStream, Landing, ends, lands, lands_aggregate, lands_older, stream_closing_ticket}
+use Rattle.mg_change.specs.OpeningView.{IsPlainOpening, ticket_in}
+use Rattle.mg_change.specs.StreamView.{IsPlainStream, OwnsToken, stream_of}
 use Rattle.mg_ops.specs.Inserts.{SendsPlain, insert_ticket}
 use Rattle.mg_jobs.specs.declared.insert.InsertPlayer.{InsertPlayer}
 use Rattle.mg_jobs.specs.declared.insert.InsertStage.{InsertStage}
@@ -52,9 +55,9 @@ IsSameInsert job job' = (job'.ns ≡ job.ns) × (job'.documents ≡ job.document
 -- the ticket that a follow holds
 abbrev pub stage_ticket : Stage → Option ℕ
 stage_ticket stage.Unopened = None
-stage_ticket (stage.Opens opening) = opening_ticket opening
-stage_ticket (stage.Open stream) = ticket_in stream.phase
-stage_ticket (stage.Closes closing) = closing_ticket closing
+stage_ticket (stage.Opens opening) = ticket_in opening
+stage_ticket (stage.Open stream) = stream_ticket (stream_of stream)
+stage_ticket (stage.Closes closing) = stream_closing_ticket closing
 stage_ticket stage.Ended = None
 
 -- a follow that sends nothing more
@@ -65,13 +68,20 @@ follow_ended (stage.Open stream) = false
 follow_ended (stage.Closes closing) = false
 follow_ended stage.Ended = true
 
+-- a closing of a stream at rest: it has nothing on its way but the killing of its cursor
+abbrev pub IsLast : cursors.Doing → ℤ → Landing → Type 0
+IsLast c opened lands = IsNotAsking c × (opened ≡ pos 0)
+IsLast c opened (lands_aggregate sending) = ⊥
+IsLast c opened (lands_older before) = ⊥
+IsLast c opened (ends sending) = IsNotAsking c × (opened ≡ pos 0)
+
 -- its stream keeps what it has to
-abbrev pub StageHolds : ℤ → Stage → Type 0
-StageHolds wire stage.Unopened = Unit {0}
-StageHolds wire (stage.Opens opening) = Unit {0}
-StageHolds wire (stage.Open stream) = IsSound wire stream
-StageHolds wire (stage.Closes closing) = IsClosing wire closing.remains closing.flight × IsQuiet closing.flight
-StageHolds wire stage.Ended = Unit {0}
+abbrev pub StageHolds : Stage → Type 0
+StageHolds stage.Unopened = Unit {0}
+StageHolds (stage.Opens opening) = IsPlainOpening opening
+StageHolds (stage.Open stream) = IsPlainStream stream × OwnsToken stream
+StageHolds (stage.Closes closing) = IsLast closing.cursor.doing closing.opened closing.doing × IsSoundStream closing
+StageHolds stage.Ended = Unit {0}
 
 -- there is a place for one more answer
 abbrev pub HasRoom : FollowPlayer → Type 0

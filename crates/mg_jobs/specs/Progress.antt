@@ -1,9 +1,10 @@
 -- How far each job comes by its turns.
 use Rattle.std.specs.Prelude.{◌≡◌, ◌+◌, ◌<◌, ◌≤◌, ◌⊎◌, ℕ, Bool, true, false, cond, nat_eq, List, [], ◌∷◌, length, Option, Some, IsSome, is_some, slice_get}
 use Rattle.mg_jobs.specs.Counts.{RoseIf}
-use Rattle.mg_change.specs.Closings.{closing_ticket}
-use Rattle.mg_change.specs.Openings.{opening_ticket}
-use Rattle.mg_change.specs.Phases.{ticket_in}
+use Rattle.mg_change.specs.ClientStreams.{stream_ticket}
+use Rattle.mg_change.specs.ClosingStreams.{stream_closing_ticket}
+use Rattle.mg_change.specs.OpeningView.{ticket_in}
+use Rattle.mg_change.specs.StreamView.{stream_of}
 use Rattle.mg_ops.specs.Inserts.{insert_ticket}
 use Rattle.mg_jobs.specs.Follows.{HasGiven, IsFailed, IsUnfinished}
 use Rattle.mg_jobs.specs.Kinds.{OfFollow, OfGet, OfInsert, OfPut}
@@ -128,9 +129,9 @@ pub record IsClosed (calls : ℕ) (c : Came) (k : ℕ) : Type 0 where
 -- a follow of so many calls at a stage, after k turns that did not pend, where its newest turn pended or not
 abbrev pub FollowAt : ℕ → Stage → Came → ℕ → Bool → Type 0
 FollowAt calls stage.Unopened c k last = NotOpen calls c k × (last ≡ false)
-FollowAt calls (stage.Opens opening) c k last = NotOpen calls c k × HoldsIf last (opening_ticket opening)
-FollowAt calls (stage.Open stream) c k last = IsOpen calls c k × HoldsIf last (ticket_in stream.phase)
-FollowAt calls (stage.Closes closing) c k last = Closes calls c k × (last ≡ true) × IsSome (closing_ticket closing)
+FollowAt calls (stage.Opens opening) c k last = NotOpen calls c k × HoldsIf last (ticket_in opening)
+FollowAt calls (stage.Open stream) c k last = IsOpen calls c k × HoldsIf last (stream_ticket (stream_of stream))
+FollowAt calls (stage.Closes closing) c k last = Closes calls c k × (last ≡ true) × IsSome (stream_closing_ticket closing)
 FollowAt calls stage.Ended c k last = (NeverOpen c k ⊎ IsClosed calls c k) × (last ≡ false)
 
 -- a job of so many calls, after k turns that did not pend, where its newest turn pended or not

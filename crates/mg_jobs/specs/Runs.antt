@@ -26,7 +26,7 @@ has_ended (player.Get job) = true
 -- what it has in flight is its own command
 abbrev pub JobHolds : ℤ → Player → Type 0
 JobHolds wire (player.Insert insert) = Unit {0}
-JobHolds wire (player.Follow follow) = StageHolds wire follow.stage
+JobHolds wire (player.Follow follow) = StageHolds follow.stage
 JobHolds wire (player.Put job) = Unit {0}
 JobHolds wire (player.Get job) = Unit {0}
 
@@ -70,9 +70,16 @@ pub record AreApart (awaited : Awaited) (wire : ℤ) (players : List Player) : T
   pub each : (i : ℕ) (p : Player) → slice_get players i ≡ Some p → CanGo awaited wire p
   pub distinct : (i j : ℕ) (p q : Player) (n : ℕ) → (i ≡ j → ⊥) → slice_get players i ≡ Some p → slice_get players j ≡ Some q → job_ticket p ≡ Some n → job_ticket q ≡ Some n → ⊥
 
+-- the jobs of a runner, in their order, and the notes of the turns that it gave
+abbrev pub players_of : Runner → List Player
+players_of r = r.players.items
+
+abbrev pub notes_of : Runner → List Turned
+notes_of r = r.turns.items
+
 -- the runner may give turns over a link of these tickets and this wire version
 abbrev pub Stands : Awaited → ℤ → Runner → Type 0
-Stands awaited wire runner = AreApart awaited wire runner.players.items
+Stands awaited wire runner = AreApart awaited wire (players_of runner)
 
 -- a job holds the ticket
 pub record HeldBy (players : List Player) (ticket : ℕ) : Type 0 where
@@ -104,4 +111,4 @@ ended_at None = true
 ended_at (Some p) = has_ended p
 
 abbrev pub job_ended : Runner → ℕ → Bool
-job_ended runner job = ended_at (slice_get runner.players.items job)
+job_ended runner job = ended_at (slice_get (players_of runner) job)

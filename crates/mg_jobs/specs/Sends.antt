@@ -1,5 +1,5 @@
 -- Which commands the jobs of a run send.
-use Rattle.std.specs.Prelude.{◌≡◌, ℕ, ℤ, List, Some, slice_get}
+use Rattle.std.specs.Prelude.{◌≡◌, ℕ, ℤ, List, Some, None, slice_get}
 use Rattle.mg_bson.specs.Tree.{Fields}
 use Rattle.mg_bson.specs.Raw.{fields}
 use Rattle.mg_link.specs.Link.{Told}
@@ -9,8 +9,8 @@ use Rattle.mg_ops.specs.Commands.{kill_command}
 use Rattle.mg_ops.specs.Cursors.{next_command, watch_manner}
 use Rattle.mg_ops.specs.declared.aggregate.ChangeStreamAggregate.{ChangeStreamAggregate}
 use Rattle.mg_ops.specs.declared.change_stream.WatchArgs.{WatchArgs}
-use Rattle.mg_change.specs.Openings.{opening_command}
-use Rattle.mg_change.specs.Phases.{resuming_command}
+use Rattle.mg_change.specs.ClientOpenings.{first_aggregate}
+use Rattle.mg_change.specs.ClientStreams.{resuming_in}
 use Rattle.mg_jobs.specs.Causes.{Course, SentIn, course}
 use Rattle.mg_jobs.specs.Drawing.{as_sent}
 use Rattle.mg_jobs.specs.Follows.{IsArgsFor}
@@ -20,8 +20,8 @@ use Rattle.mg_script.specs.declared.outcome.Turned.{Turned}
 
 -- a command that a follow with such arguments may send
 pub data IsCommandOf (are_its : WatchArgs → Type 0) (command : Fields) : Type 0 where
-  opens : (args : WatchArgs) → are_its args → command ≡ opening_command args → IsCommandOf are_its command
-  resumes : (a : ChangeStreamAggregate) (wire : ℤ) → are_its a.args → command ≡ resuming_command a wire → IsCommandOf are_its command
+  opens : (args : WatchArgs) (wire : ℤ) → are_its args → command ≡ resuming_in (first_aggregate args) wire None → IsCommandOf are_its command
+  resumes : (a : ChangeStreamAggregate) (wire : ℤ) → are_its a.args → command ≡ resuming_in a wire None → IsCommandOf are_its command
   asks : (args : WatchArgs) → are_its args → (id : ℤ) (space : Space) → command ≡ next_command id space (watch_manner args.options) → IsCommandOf are_its command
   kills : (space : Space) (ids : List ℤ) → command ≡ kill_command space ids → IsCommandOf are_its command
 

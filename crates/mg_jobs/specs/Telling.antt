@@ -1,5 +1,5 @@
 -- What a job can tell, turn by turn, of what its answers are caused by.
-use Rattle.std.specs.Prelude.{◌≡◌, ◌↔◌, ◌⊎◌, ◌+◌, ◌≤◌, IsTrue, Bool, false, ℕ, suc, ℤ, pos, List, [], length, Option, Some, slice_get}
+use Rattle.std.specs.Prelude.{◌≡◌, ◌↔◌, ◌⊎◌, ◌+◌, ◌≤◌, IsTrue, Bool, true, ℕ, suc, ℤ, List, [], length, Option, Some, None, slice_get}
 use Rattle.std.specs.List.{sum_by}
 use Rattle.mg_bson.specs.Tree.{Fields, Tree}
 use Rattle.mg_link.specs.Calls.{Past, past_of, AddsOnly}
@@ -10,13 +10,13 @@ use Rattle.mg_link.specs.declared.error.Error.{Error}
 use Rattle.mg_link.specs.declared.error.ErrorKind.TheVariants as kind
 use Rattle.mg_ops.specs.Naming.{IsNamed}
 use Rattle.mg_ops.specs.declared.change_stream.WatchArgs.{WatchArgs}
-use Rattle.mg_change.specs.Causes.{SoFar, Standing, standing_of}
-use Rattle.mg_change.specs.ClosingCauses.{KillsSoFar}
+use Rattle.mg_change.specs.Causes.{SoFar}
+use Rattle.mg_change.specs.ClientStreams.{ClientStream, IsAlive, IsSound, stream_token}
+use Rattle.mg_change.specs.ClosingCauses.{LastSoFar}
 use Rattle.mg_change.specs.OpeningCauses.{Opened, OpeningFails, OpensSoFar}
-use Rattle.mg_change.specs.Following.{token_of}
-use Rattle.mg_change.specs.Openings.{IsOpening}
-use Rattle.mg_change.specs.declared.stream.ChangeStream.{ChangeStream}
-use Rattle.mg_jobs.specs.Causes.{Answered, ClosedBy, Course, EndsBy, IsAlive, AllSentIn, SentNoneBehind, course, sent_at}
+use Rattle.mg_change.specs.OpeningView.{IsPlainOpening, opening_of}
+use Rattle.mg_change.specs.StreamView.{stream_of}
+use Rattle.mg_jobs.specs.Causes.{Answered, ClosedBy, Course, EndsBy, AllSentIn, SentNoneBehind, course, sent_at}
 use Rattle.mg_jobs.specs.Follows.{FollowTurns, HasGiven, IsArgsFor, Placing, filter_in}
 use Rattle.mg_jobs.specs.Headline.{AllKnow, task_of}
 use Rattle.mg_ops.specs.InsertCauses.{HasSent, IsInsertOf}
@@ -62,37 +62,37 @@ abbrev pub TellsFirst : Places → Kept → Type 0
 TellsFirst q k = (q.owns ≡ []) × (k.said ≡ [])
 
 -- its stream was opened, and each call was answered with its cause
-pub record TellsOpen (calls : List Call) (wire : ℤ) (places : List ℕ) (owns : List (List ℕ)) (v : Watched) (o : Ended (Unit {0})) (said : List Answer) (alive : Bool) (last : Standing) (at : Option ℕ) : Type 0 where
+pub record TellsOpen (calls : List Call) (wire : ℤ) (places : List ℕ) (owns : List (List ℕ)) (v : Watched) (o : Ended (Unit {0})) (said : List Answer) (alive : Bool) (last : ClientStream) (at : Option ℕ) : Type 0 where
   pub given : HasGiven o
   pub args : WatchArgs
   pub args_are : IsWatchArgs v args
-  pub first : Standing
+  pub first : ClientStream
   pub opened : Opened (sent_at places calls wire) args first
   pub here : at ≡ Some opened.heard.place
   pub answered : Answered calls wire first owns said last
   pub alive_is : IsTrue alive ↔ IsAlive last
 
-abbrev pub IsOpened : List Call → ℤ → Places → Kept → Standing → Option ℕ → Type 0
+abbrev pub IsOpened : List Call → ℤ → Places → Kept → ClientStream → Option ℕ → Type 0
 IsOpened calls wire q k last at = TellsOpen calls wire q.opened q.owns k.watched k.opened k.said k.alive last at
 
 -- its opening failed
 pub record TellsFailed (calls : List Call) (wire : ℤ) (places : List ℕ) (v : Watched) (e : Error) : Type 0 where
   pub args : WatchArgs
   pub args_are : IsWatchArgs v args
-  pub fails : OpeningFails (sent_at places calls wire) args e
+  pub fails : OpeningFails (sent_at places calls wire) None args e
 
 -- how it ended
 abbrev pub TellsEnd : {A : Type 0} → List Call → ℤ → Places → Kept → Option ℕ → Ended A → Type 0
 TellsEnd calls wire q k at ended.Unfinished = Unit {0}
-TellsEnd calls wire q k at (ended.Gave x) = (last : Standing) × IsOpened calls wire q k last at × (k.token ≡ token_of last.aggregate.resume) × ClosedBy (sent_at q.now calls wire) last k.closed
+TellsEnd calls wire q k at (ended.Gave x) = (last : ClientStream) × IsOpened calls wire q k last at × (k.token ≡ stream_token last) × ClosedBy (sent_at q.now calls wire) last k.closed
 TellsEnd calls wire q k at (ended.Failed e) = (e.kind ≡ kind.OutOfMemory) ⊎ TellsFailed calls wire q.opened k.watched e
 
 -- what it can tell at each stage, where the call at this place opened its stream
 abbrev pub Tells : Awaited → List Call → ℤ → Places → Stage → Kept → Option ℕ → Type 0
 Tells awaited calls wire q stage.Unopened k at = TellsFirst q k × (q.now ≡ [])
-Tells awaited calls wire q (stage.Opens opening) k at = TellsFirst q k × IsWatchArgs k.watched opening.aggregate.args × IsOpening opening.aggregate opening.exec × OpensSoFar awaited (sent_at q.now calls wire) opening.aggregate.args opening.exec
-Tells awaited calls wire q (stage.Open stream) k at = (last : Standing) × IsOpened calls wire q k last at × SoFar awaited (sent_at q.now calls wire) last false stream.phase stream
-Tells awaited calls wire q (stage.Closes closing) k at = (last : Standing) × IsOpened calls wire q k last at × (k.token ≡ token_of last.aggregate.resume) × (closing.remains.cursor ≡ last.cursor) × (closing.remains.opened ≡ pos 0) × KillsSoFar awaited (sent_at q.now calls wire) last.cursor (pos 0) closing.flight
+Tells awaited calls wire q (stage.Opens opening) k at = TellsFirst q k × IsWatchArgs k.watched (opening_of opening).args × IsPlainOpening opening × OpensSoFar awaited (sent_at q.now calls wire) (opening_of opening).args (opening_of opening).sending
+Tells awaited calls wire q (stage.Open stream) k at = (last : ClientStream) × IsOpened calls wire q k last at × SoFar awaited (sent_at q.now calls wire) true last (stream_of stream) × IsSound true (stream_of stream)
+Tells awaited calls wire q (stage.Closes closing) k at = (last : ClientStream) × IsOpened calls wire q k last at × (k.token ≡ stream_token last) × LastSoFar awaited (sent_at q.now calls wire) last closing
 Tells awaited calls wire q stage.Ended k at = TellsEnd calls wire q k at k.opened
 
 -- the number of what goes on: how many turns that did not pend come before it
@@ -118,8 +118,8 @@ abbrev pub FollowTells : Awaited → Awaited → Told → Told → ℤ → Stage
 FollowTells old new log log' wire s k s' k' next = (calls calls' : List Call) → log ≡ Some calls → log' ≡ Some calls' → (q : Places) (at : Option ℕ) → Tells old calls wire q s k at → Tell new calls calls' wire k.watched q (number s k) s' k' (next at)
 
 -- The same of the rest of a turn, behind the opening or behind an answered call.
-abbrev pub RestTells : Awaited → Told → Told → ℤ → ChangeStream → Kept → Stage → Kept → Type 0
-RestTells new log log' wire stream k s' k' = (calls calls' : List Call) → log ≡ Some calls → log' ≡ Some calls' → (q : Places) (at : Option ℕ) → q.now ≡ [] → IsOpened calls wire q k (standing_of stream) at → Tell new calls calls' wire k.watched q (length k.said) s' k' at
+abbrev pub RestTells : Awaited → Told → Told → ℤ → ClientStream → Kept → Stage → Kept → Type 0
+RestTells new log log' wire stream k s' k' = (calls calls' : List Call) → log ≡ Some calls → log' ≡ Some calls' → (q : Places) (at : Option ℕ) → q.now ≡ [] → IsOpened calls wire q k stream at → Tell new calls calls' wire k.watched q (length k.said) s' k' at
 
 -- A follow took a turn: it knows and tells that the same call opened its stream.
 pub record FollowGoesOn (old new : Awaited) (log log' : Told) (wire : ℤ) (s : Stage) (p : FollowPlayer) (s' : Stage) (p' : FollowPlayer) : Type 0 where

@@ -1,12 +1,13 @@
 //! A job that follows changes.
-ghost use Rattle.std.specs.Prelude.{◌≡◌, ◌≢◌, ◌↔◌, ◌⊎◌, ◌-◌, ◌++◌, ◌∷◌, [], IsTrue, pos, None, Some, false, IfErr, IfOk, OnOk};
+ghost use Rattle.std.specs.Prelude.{◌≡◌, ◌↔◌, ◌-◌, ◌++◌, ◌∷◌, [], IsTrue, None, Some, false, IfErr, IfOk, OnOk};
 ghost use Rattle.mg_link.specs.Acts.{IsOut, Tickets};
 ghost use Rattle.mg_link.specs.Errors.{plain};
 ghost use Rattle.mg_link.specs.declared.error.ErrorKind.TheVariants as kinds;
 ghost use Rattle.mg_link.specs.Link.{Later};
-ghost use Rattle.mg_change.specs.Closings.{closing_ticket};
-ghost use Rattle.mg_change.specs.Openings.{opening_ticket};
-ghost use Rattle.mg_change.specs.Phases.{AtRest, IsResuming, IsSound, ticket_in};
+ghost use Rattle.mg_change.specs.ClientStreams.{IsAlive, IsBetween, stream_ticket};
+ghost use Rattle.mg_change.specs.ClosingStreams.{handed_over, stream_closing_ticket};
+ghost use Rattle.mg_change.specs.OpeningView.{IsPlainOpening, ticket_in};
+ghost use Rattle.mg_change.specs.StreamView.{IsPlainStream, OwnsToken, stream_of};
 ghost use Rattle.mg_ops.specs.Naming.{start_in};
 ghost use Rattle.mg_script.specs.Plan.{begin};
 ghost use Rattle.mg_jobs.specs.Follows.{FollowTurns, HasNothing, IsAnswer, IsArgsOf, IsUnfinished, all_changes, begun_options, same_place, stages_of, start_of, token_at};
@@ -19,7 +20,7 @@ use mg_bson::{Bson, Document};
 use mg_change::{ChangeStream, Closing, EventPoll, Opening};
 use mg_link::{Action, Error, IdSource, Link, OperationTarget, Step, push_reserved};
 use mg_ops::WatchArgs;
-use mg_options::{ChangeStreamOptions, ResumeToken};
+use mg_options::{ChangeStreamOptions, ResumeToken, TokenRef};
 use mg_script::{Answer, Ended, Outcome, Start};
 use std::alloc::Global;
 use std::mem;
@@ -95,8 +96,8 @@ fn watch_args(alloc: Global, watched: Watched<'_>) -> Result<WatchArgs, Error>
 #[derive(Drop)]
 enum Stage {
     Unopened,
-    Opens(Opening),
-    Open(ChangeStream),
+    Opens(Opening<Document>),
+    Open(ChangeStream<Document>),
     Closes(Closing),
     Ended,
 }
@@ -174,7 +175,7 @@ impl<'a> FollowPlayer<'a> {
     /// Sends the aggregate that opens the stream.
     fn begin<L: Link>(&mut self, alloc: Global, link: &mut L) -> Stage
         ensures tickets { Tickets (L.awaited link.old) (L.awaited link.new) None (stage_ticket result) }
-        ensures holds { StageHolds (L.wire link.new) result }
+        ensures holds { StageHolds result }
         ensures turned { FollowGoesOn (L.awaited link.old) (L.awaited link.new) (L.log link.old) (L.log link.new) (L.wire link.old) Stage.Unopened self.old result self.new }
         ensures watched { self.new.watched ≡ self.old.watched }
         ensures comes { FollowGoes (L.pends link.old) (L.pends link.new) Stage.Unopened (came self.old) result (came self.new) }
@@ -190,10 +191,11 @@ impl<'a> FollowPlayer<'a> {
         }
     }
 
-    fn open<L: Link>(&mut self, link: &mut L, opening: Opening) -> Stage
-        requires { IsOut (L.awaited link.old) (opening_ticket opening) }
-        ensures tickets { Tickets (L.awaited link.old) (L.awaited link.new) (opening_ticket opening) (stage_ticket result) }
-        ensures holds { StageHolds (L.wire link.new) result }
+    fn open<L: Link>(&mut self, link: &mut L, opening: Opening<Document>) -> Stage
+        requires held { IsOut (L.awaited link.old) (ticket_in opening) }
+        requires sound { IsPlainOpening opening }
+        ensures tickets { Tickets (L.awaited link.old) (L.awaited link.new) (ticket_in opening) (stage_ticket result) }
+        ensures holds { StageHolds result }
         ensures turned { FollowGoesOn (L.awaited link.old) (L.awaited link.new) (L.log link.old) (L.log link.new) (L.wire link.old) (Stage.Opens opening) self.old result self.new }
         ensures watched { self.new.watched ≡ self.old.watched }
         ensures comes { FollowGoes (L.pends link.old) (L.pends link.new) (Stage.Opens opening) (came self.old) result (came self.new) }
@@ -215,14 +217,15 @@ impl<'a> FollowPlayer<'a> {
     }
 
     /// Keeps the stream for its next call, or closes it behind its last one.
-    fn go_on<L: Link>(&mut self, link: &mut L, stream: ChangeStream) -> Stage
-        requires held { IsOut (L.awaited link.old) (ticket_in stream.phase) }
-        requires sound { IsSound (L.wire link.old) stream }
-        requires rests { AtRest stream.phase }
-        ensures tickets { Tickets (L.awaited link.old) (L.awaited link.new) (ticket_in stream.phase) (stage_ticket result) }
-        ensures holds { StageHolds (L.wire link.new) result }
+    fn go_on<L: Link>(&mut self, link: &mut L, stream: ChangeStream<Document>) -> Stage
+        requires held { IsOut (L.awaited link.old) (stream_ticket (stream_of stream)) }
+        requires sound { IsPlainStream stream }
+        requires owned { OwnsToken stream }
+        requires rests { IsBetween (stream_of stream) }
+        ensures tickets { Tickets (L.awaited link.old) (L.awaited link.new) (stream_ticket (stream_of stream)) (stage_ticket result) }
+        ensures holds { StageHolds result }
         ensures turned { FollowTurns (L.awaited link.old) (L.awaited link.new) (L.log link.old) (L.log link.new) (Stage.Open stream) self.old result self.new same_place }
-        ensures told { RestTells (L.awaited link.new) (L.log link.old) (L.log link.new) (L.wire link.old) stream (kept self.old) result (kept self.new) }
+        ensures told { RestTells (L.awaited link.new) (L.log link.old) (L.log link.new) (L.wire link.old) (stream_of stream) (kept self.old) result (kept self.new) }
         ensures watched { self.new.watched ≡ self.old.watched }
         ensures comes { RestGoes (L.pends link.old) (L.pends link.new) (came self.old) result (came self.new) }
         ensures later { Later (L.faults link.old) (L.faults link.new) (L.pends link.old) (L.pends link.new)
@@ -231,19 +234,19 @@ impl<'a> FollowPlayer<'a> {
         if self.left > 0 {
             return Stage::Open(stream);
         }
-        let mut stream = stream;
-        self.token = stream.take_token();
-        let closing = stream.close();
+        let mut closing = stream.close();
+        self.token = handed(&mut closing);
         self.close(link, closing)
     }
 
     /// Asks for an event.
-    fn ask<L: Link>(&mut self, link: &mut L, stream: ChangeStream) -> Stage
-        requires held { IsOut (L.awaited link.old) (ticket_in stream.phase) }
-        requires sound { IsSound (L.wire link.old) stream }
+    fn ask<L: Link>(&mut self, link: &mut L, stream: ChangeStream<Document>) -> Stage
+        requires held { IsOut (L.awaited link.old) (stream_ticket (stream_of stream)) }
+        requires sound { IsPlainStream stream }
+        requires owned { OwnsToken stream }
         requires room { HasRoom self.old }
-        ensures tickets { Tickets (L.awaited link.old) (L.awaited link.new) (ticket_in stream.phase) (stage_ticket result) }
-        ensures holds { StageHolds (L.wire link.new) result }
+        ensures tickets { Tickets (L.awaited link.old) (L.awaited link.new) (stream_ticket (stream_of stream)) (stage_ticket result) }
+        ensures holds { StageHolds result }
         ensures turned { FollowTurns (L.awaited link.old) (L.awaited link.new) (L.log link.old) (L.log link.new) (Stage.Open stream) self.old result self.new same_place }
         ensures told { FollowTells (L.awaited link.old) (L.awaited link.new) (L.log link.old) (L.log link.new) (L.wire link.old) (Stage.Open stream) (kept self.old) result (kept self.new) same_place }
         ensures watched { self.new.watched ≡ self.old.watched }
@@ -262,13 +265,13 @@ impl<'a> FollowPlayer<'a> {
     }
 
     /// Keeps the answer to a call, for which there is room.
-    fn take(&mut self, stream: &ChangeStream, answer: Answer)
+    fn take(&mut self, stream: &ChangeStream<Document>, answer: Answer)
         requires { HasRoom self.old }
         ensures answers { self.new.answers.items ≡ self.old.answers.items ++ answer ∷ [] }
         ensures opened { self.new.opened ≡ self.old.opened }
         ensures token { self.new.token ≡ self.old.token }
         ensures closed { self.new.closed ≡ self.old.closed }
-        ensures alive { IsTrue self.new.alive ↔ ((stream.now.cursor.id ≢ pos 0) ⊎ IsResuming stream.now.phase) }
+        ensures alive { IsTrue self.new.alive ↔ IsAlive (stream_of stream.now) }
         ensures left { self.new.left ≡ self.old.left - 1 }
         ensures watched { self.new.watched ≡ self.old.watched }
     {
@@ -278,10 +281,10 @@ impl<'a> FollowPlayer<'a> {
     }
 
     fn close<L: Link>(&mut self, link: &mut L, closing: Closing) -> Stage
-        requires held { IsOut (L.awaited link.old) (closing_ticket closing) }
-        requires holds { StageHolds (L.wire link.old) (Stage.Closes closing) }
-        ensures tickets { Tickets (L.awaited link.old) (L.awaited link.new) (closing_ticket closing) (stage_ticket result) }
-        ensures holds { StageHolds (L.wire link.new) result }
+        requires held { IsOut (L.awaited link.old) (stream_closing_ticket closing) }
+        requires holds { StageHolds (Stage.Closes closing) }
+        ensures tickets { Tickets (L.awaited link.old) (L.awaited link.new) (stream_closing_ticket closing) (stage_ticket result) }
+        ensures holds { StageHolds result }
         ensures turned { FollowTurns (L.awaited link.old) (L.awaited link.new) (L.log link.old) (L.log link.new) (Stage.Closes closing) self.old result self.new same_place }
         ensures told { FollowTells (L.awaited link.old) (L.awaited link.new) (L.log link.old) (L.log link.new) (L.wire link.old) (Stage.Closes closing) (kept self.old) result (kept self.new) same_place }
         ensures watched { self.new.watched ≡ self.old.watched }
@@ -318,7 +321,7 @@ impl<'a> Kind for FollowPlayer<'a> {
 
     ghost ended = { λ p. follow_ended p.stage };
 
-    ghost holds = { λ wire p. StageHolds wire p.stage };
+    ghost holds = { λ wire p. StageHolds p.stage };
 
     ghost is_ready = { HasRoom };
 
@@ -388,7 +391,7 @@ impl<'a> Kind for FollowPlayer<'a> {
         }
     }
 
-    fn into_outcome(self, _alloc: Global) -> Outcome {
+    fn into_outcome(self, _alloc: Global) -> Result<Outcome, Error> {
         let FollowPlayer {
             watched: _,
             stage,
@@ -399,30 +402,52 @@ impl<'a> Kind for FollowPlayer<'a> {
             alive,
             closed,
         } = self;
-        let token = token_of(stage, token);
-        Outcome::Follow {
+        let token = token_of(stage, token)?;
+        Ok(Outcome::Follow {
             opened,
             answers,
             token,
             alive,
             closed,
-        }
+        })
     }
 }
 
-/// The token of a follow at a stage: its stream's, or the one that was kept.
-fn token_of(stage: Stage, token: Option<ResumeToken>) -> Option<ResumeToken>
-    ensures { result ≡ token_at stage token }
+/// The token of a follow at a stage: a copy of its stream's, or the one that was kept. Only memory can fail.
+fn token_of(stage: Stage, token: Option<ResumeToken>) -> Result<Option<ResumeToken>, Error>
+    ensures token { IfOk result (λ t. t ≡ token_at stage token) }
+    ensures err { IfErr result (λ e. e ≡ plain kinds.OutOfMemory) }
 {
     match stage {
-        Stage::Unopened => None,
-        Stage::Opens(_) => None,
-        Stage::Open(stream) => {
-            let mut stream = stream;
-            stream.take_token()
-        }
-        Stage::Closes(_) => token,
-        Stage::Ended => token,
+        Stage::Unopened => Ok(None),
+        Stage::Opens(_) => Ok(None),
+        Stage::Open(stream) => copied(stream.resume_token()),
+        Stage::Closes(_) => Ok(token),
+        Stage::Ended => Ok(token),
+    }
+}
+
+/// A copy of a token that is lent.
+fn copied(token: Option<TokenRef<'_>>) -> Result<Option<ResumeToken>, Error>
+    ensures token { IfOk result (λ t. t ≡ token.entry) }
+    ensures err { IfErr result (λ e. e ≡ plain kinds.OutOfMemory) }
+{
+    match token {
+        Some(token) => Ok(Some(token.to_owned()?)),
+        None => Ok(None),
+    }
+}
+
+/// The token of a stream that is closed, which lies in no event that was lent.
+fn handed(closing: &mut Closing) -> Option<ResumeToken>
+    requires { closing.old.lent ≡ false }
+    ensures token { result ≡ closing.old.token }
+    ensures gone { closing.new ≡ handed_over closing.new.cursor.token closing.old }
+{
+    match closing.hand_over() {
+        Ok(token) => token,
+        // What is its own is handed over without memory.
+        Err(_) => unreachable!(),
     }
 }
 

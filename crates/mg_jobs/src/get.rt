@@ -75,10 +75,10 @@ impl<'a> Kind for GetPlayer<'a> {
         self
     }
 
-    fn into_outcome(self, alloc: Global) -> Outcome {
-        Outcome::Get {
+    fn into_outcome(self, alloc: Global) -> Result<Outcome, Error> {
+        Ok(Outcome::Get {
             bytes: Vec::new(alloc),
             ended: Ended::Unfinished,
-        }
+        })
     }
 }

@@ -200,16 +200,16 @@ impl<'a> Kind for InsertPlayer<'a> {
         }
     }
 
-    fn into_outcome(self, _alloc: Global) -> Outcome {
+    fn into_outcome(self, _alloc: Global) -> Result<Outcome, Error> {
         let InsertPlayer {
             ns: _,
             documents: _,
             stage,
         } = self;
         match stage {
-            InsertStage::Unsent => Outcome::Insert(Ended::Unfinished),
-            InsertStage::Goes(_) => Outcome::Insert(Ended::Unfinished),
-            InsertStage::Ended(ended) => Outcome::Insert(ended),
+            InsertStage::Unsent => Ok(Outcome::Insert(Ended::Unfinished)),
+            InsertStage::Goes(_) => Ok(Outcome::Insert(Ended::Unfinished)),
+            InsertStage::Ended(ended) => Ok(Outcome::Insert(ended)),
         }
     }
 }

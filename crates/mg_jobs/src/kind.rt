@@ -1,5 +1,5 @@
 //! What a job of any kind is to the runner.
-ghost use Rattle.std.specs.Prelude.{◌≡◌, ℕ, ℤ, Bool, List, Option, IfErr, OnErr, OnOk};
+ghost use Rattle.std.specs.Prelude.{◌≡◌, ℕ, ℤ, Bool, List, Option, IfErr, IfOk, OnErr, OnOk};
 ghost use Rattle.mg_link.specs.Errors.{plain};
 ghost use Rattle.mg_link.specs.declared.error.ErrorKind.TheVariants as kinds;
 ghost use Rattle.mg_link.specs.Link.{Awaited, Later};
@@ -92,6 +92,8 @@ pub(crate) trait Kind: Sized + Drop {
         ensures later { Later (L.faults link.old) (L.faults link.new) (L.pends link.old) (L.pends link.new)
             (L.wire link.old) (L.wire link.new) (L.prompt link.old) (L.prompt link.new) };
 
-    fn into_outcome(self, alloc: Global) -> Outcome
-        ensures of { gives self result };
+    /// What became of it. Only memory can fail: the token of a stream that is still open is copied.
+    fn into_outcome(self, alloc: Global) -> Result<Outcome, Error>
+        ensures of { IfOk result (λ o. gives self o) }
+        ensures err { IfErr result (λ e. e ≡ plain kinds.OutOfMemory) };
 }

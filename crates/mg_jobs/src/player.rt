@@ -173,7 +173,7 @@ impl<'a> Kind for Player<'a> {
         }
     }
 
-    fn into_outcome(self, alloc: Global) -> Outcome {
+    fn into_outcome(self, alloc: Global) -> Result<Outcome, Error> {
         match self {
             Player::Insert(job) => job.into_outcome(alloc),
             Player::Follow(job) => job.into_outcome(alloc),

@@ -81,7 +81,7 @@ impl<'a> Kind for PutPlayer<'a> {
         self
     }
 
-    fn into_outcome(self, _alloc: Global) -> Outcome {
-        Outcome::Put(Ended::Unfinished)
+    fn into_outcome(self, _alloc: Global) -> Result<Outcome, Error> {
+        Ok(Outcome::Put(Ended::Unfinished))
     }
 }

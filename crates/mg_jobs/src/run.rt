@@ -7,7 +7,7 @@ ghost use Rattle.mg_link.specs.Causes.{RoseJust};
 ghost use Rattle.mg_jobs.specs.Counts.{AreNoted, IsNoted, LosesNothing, PolledNewest, StartedBy, turns_pended};
 ghost use Rattle.mg_ops.specs.Drawn.{AreLater};
 ghost use Rattle.mg_jobs.specs.Drawing.{DrawsAs, HaveDrawn, drawn_in};
-ghost use Rattle.mg_jobs.specs.Runs.{AreHeld, AreNew, AreSameJobs, CanGo, Draws, Goes, IsReady, IsSameJob, Stands, has_ended, idle, job_ended};
+ghost use Rattle.mg_jobs.specs.Runs.{AreHeld, AreNew, AreSameJobs, CanGo, Draws, Goes, IsReady, IsSameJob, Stands, has_ended, idle, job_ended, notes_of, players_of};
 ghost use Rattle.mg_jobs.specs.Headline.{AllFollowed, AreFirst, GoesOnNaming, DoTasks, Knowing, OutcomesOf};
 ghost use Rattle.mg_script.specs.Plan.{Task, tasks};
 ghost use Rattle.mg_jobs.specs.Progress.{AllAt, AllPlayed, GoesBy, TurnsBy};
@@ -148,12 +148,12 @@ impl Drop for Runner<'_> {
 impl<'a> Runner<'a> {
     /// No job has had a turn. Only memory can fail.
     pub fn new(alloc: Global, jobs: &'a [Job]) -> Result<Runner<'a>, Error>
-        ensures new { IfOk result (λ r. AreNew r.players.items) }
-        ensures first { IfOk result (λ r. AreFirst r.players.items) }
-        ensures tasks { IfOk result (λ r. DoTasks (tasks jobs.now) r.players.items) }
-        ensures at { IfOk result (λ r. AllAt (tasks jobs.now) [] [] r.players.items) }
-        ensures jobs { IfOk result (λ r. length r.players.items ≡ length jobs.now) }
-        ensures turns { IfOk result (λ r. r.turns.items ≡ []) }
+        ensures new { IfOk result (λ r. AreNew (players_of r)) }
+        ensures first { IfOk result (λ r. AreFirst (players_of r)) }
+        ensures tasks { IfOk result (λ r. DoTasks (tasks jobs.now) (players_of r)) }
+        ensures at { IfOk result (λ r. AllAt (tasks jobs.now) [] [] (players_of r)) }
+        ensures jobs { IfOk result (λ r. length (players_of r) ≡ length jobs.now) }
+        ensures turns { IfOk result (λ r. notes_of r ≡ []) }
         ensures stands { IfOk result (λ r. (awaited : _) (wire : _) → Stands awaited wire r) }
         ensures err { IfErr result (λ e. e ≡ plain ErrorKind.OutOfMemory) }
     {
@@ -181,44 +181,44 @@ impl<'a> Runner<'a> {
         ensures stands { Stands (L.awaited link.new) (L.wire link.new) self.new }
         ensures later { Later (L.faults link.old) (L.faults link.new) (L.pends link.old) (L.pends link.new)
             (L.wire link.old) (L.wire link.new) (L.prompt link.old) (L.prompt link.new) }
-        ensures jobs { length self.new.players.items ≡ length self.old.players.items }
+        ensures jobs { length (players_of self.new) ≡ length (players_of self.old) }
         // No ticket is out but those of jobs, and those that were out before.
-        ensures none_lost { (before : Awaited) → AreHeld before (L.awaited link.old) self.old.players.items → AreHeld before (L.awaited link.new) self.new.players.items }
+        ensures none_lost { (before : Awaited) → AreHeld before (L.awaited link.old) (players_of self.old) → AreHeld before (L.awaited link.new) (players_of self.new) }
         // The jobs go on knowing what they should, and none touches a cursor of another.
-        ensures knowing { (begun : Told) → Knowing (L.awaited link.old) begun (L.log link.old) self.old.players.items → Knowing (L.awaited link.new) begun (L.log link.new) self.new.players.items }
-        ensures tasks { (ts : List Task) → DoTasks ts self.old.players.items → DoTasks ts self.new.players.items }
+        ensures knowing { (begun : Told) → Knowing (L.awaited link.old) begun (L.log link.old) (players_of self.old) → Knowing (L.awaited link.new) begun (L.log link.new) (players_of self.new) }
+        ensures tasks { (ts : List Task) → DoTasks ts (players_of self.old) → DoTasks ts (players_of self.new) }
         // A turn that did not pend brings its job on, as its note says.
-        ensures rows { OnOk result ((ts : List Task) (order : List ℕ) → length order ≡ length self.old.turns.items → AllAt ts order self.old.turns.items self.old.players.items
-            → AllAt ts (order ++ job ∷ []) self.new.turns.items self.new.players.items) }
+        ensures rows { OnOk result ((ts : List Task) (order : List ℕ) → length order ≡ length (notes_of self.old) → AllAt ts order (notes_of self.old) (players_of self.old)
+            → AllAt ts (order ++ job ∷ []) (notes_of self.new) (players_of self.new)) }
         // The first turn of an insert draws the source's next ids, one for each of its documents that has none.
-        ensures drawn { OnOk result ((first : ℕ → List ℕ) (ts : List Task) (order : List ℕ) → DoTasks ts self.old.players.items
-            → HaveDrawn first (I.ids ids.old) ts order self.old.players.items → HaveDrawn first (I.ids ids.new) ts (order ++ job ∷ []) self.new.players.items) }
+        ensures drawn { OnOk result ((first : ℕ → List ℕ) (ts : List Task) (order : List ℕ) → DoTasks ts (players_of self.old)
+            → HaveDrawn first (I.ids ids.old) ts order (players_of self.old) → HaveDrawn first (I.ids ids.new) ts (order ++ job ∷ []) (players_of self.new)) }
         // Each job goes on telling what caused its answers, and what it sends.
-        ensures told { OnOk result ((first : ℕ → List ℕ) (begun : Told) (ts : List Task) (order : List ℕ) → length order ≡ length self.old.turns.items → AllAt ts order self.old.turns.items self.old.players.items
-            → HaveDrawn first (I.ids ids.old) ts order self.old.players.items
-            → AllTell first (L.awaited link.old) begun (L.log link.old) (L.wire link.old) ts order self.old.turns.items self.old.players.items
-            → AllTell first (L.awaited link.new) begun (L.log link.new) (L.wire link.new) ts (order ++ job ∷ []) self.new.turns.items self.new.players.items) }
+        ensures told { OnOk result ((first : ℕ → List ℕ) (begun : Told) (ts : List Task) (order : List ℕ) → length order ≡ length (notes_of self.old) → AllAt ts order (notes_of self.old) (players_of self.old)
+            → HaveDrawn first (I.ids ids.old) ts order (players_of self.old)
+            → AllTell first (L.awaited link.old) begun (L.log link.old) (L.wire link.old) ts order (notes_of self.old) (players_of self.old)
+            → AllTell first (L.awaited link.new) begun (L.log link.new) (L.wire link.new) ts (order ++ job ∷ []) (notes_of self.new) (players_of self.new)) }
         // One poll pended just where the note says so, and that of the newest command of its own job: the last one of this turn,
         // or, where it sent none, the last one before, where its newest turn before pended too.
-        ensures polled { OnOk result ((note : _) × (self.new.turns.items ≡ self.old.turns.items ++ note ∷ [])
-            × ((first : ℕ → List ℕ) (begun : Told) (ts : List Task) (order : List ℕ) → AllAt ts order self.old.turns.items self.old.players.items
-            → HaveDrawn first (I.ids ids.old) ts order self.old.players.items
-            → AllTell first (L.awaited link.old) begun (L.log link.old) (L.wire link.old) ts order self.old.turns.items self.old.players.items
-            → PollsOwn begun order self.old.turns.items job note (L.polls link.old) (L.polls link.new))) }
+        ensures polled { OnOk result ((note : _) × (notes_of self.new ≡ notes_of self.old ++ note ∷ [])
+            × ((first : ℕ → List ℕ) (begun : Told) (ts : List Task) (order : List ℕ) → AllAt ts order (notes_of self.old) (players_of self.old)
+            → HaveDrawn first (I.ids ids.old) ts order (players_of self.old)
+            → AllTell first (L.awaited link.old) begun (L.log link.old) (L.wire link.old) ts order (notes_of self.old) (players_of self.old)
+            → PollsOwn begun order (notes_of self.old) job note (L.polls link.old) (L.polls link.new))) }
         // E15 just where the number names no job, and otherwise want of memory.
-        ensures missing { length self.old.players.items ≤ job → result ≡ Err (plain (ErrorKind.NoSuchJob job)) }
-        ensures err { IfErr result (λ e. ((e ≡ plain (ErrorKind.NoSuchJob job)) × (length self.old.players.items ≤ job)) ⊎ (e ≡ plain ErrorKind.OutOfMemory)) }
+        ensures missing { length (players_of self.old) ≤ job → result ≡ Err (plain (ErrorKind.NoSuchJob job)) }
+        ensures err { IfErr result (λ e. ((e ≡ plain (ErrorKind.NoSuchJob job)) × (length (players_of self.old) ≤ job)) ⊎ (e ≡ plain ErrorKind.OutOfMemory)) }
         // An error changes nothing.
         ensures unsent { OnErr result (link.new ≡ link.old) }
         ensures undrawn { OnErr result (ids.new ≡ ids.old) }
-        ensures same { OnErr result (AreSameJobs self.old.players.items self.new.players.items) }
-        ensures unnoted { OnErr result (self.new.turns.items ≡ self.old.turns.items) }
+        ensures same { OnErr result (AreSameJobs (players_of self.old) (players_of self.new)) }
+        ensures unnoted { OnErr result (notes_of self.new ≡ notes_of self.old) }
         // One note, which is true.
-        ensures noted { OnOk result ((note : _) × (self.new.turns.items ≡ self.old.turns.items ++ note ∷ [])
+        ensures noted { OnOk result ((note : _) × (notes_of self.new ≡ notes_of self.old ++ note ∷ [])
             × IsNoted note (L.log link.old) (L.log link.new) (L.pends link.old) (L.pends link.new) (L.prompt link.old) (L.prompt link.new)) }
         // A job that has ended does nothing.
-        ensures ended { job_ended self.old job ≡ true → (link.new ≡ link.old) × AreSameJobs self.old.players.items self.new.players.items
-            × OnOk result (self.new.turns.items ≡ self.old.turns.items ++ idle ∷ []) }
+        ensures ended { job_ended self.old job ≡ true → (link.new ≡ link.old) × AreSameJobs (players_of self.old) (players_of self.new)
+            × OnOk result (notes_of self.new ≡ notes_of self.old ++ idle ∷ []) }
     {
         let at = job as usize;
         if at >= self.players.len() {
@@ -234,9 +234,9 @@ impl<'a> Runner<'a> {
 
     /// What became of each job, and the notes of the turns. Only memory can fail.
     pub fn into_played(self) -> Result<Played, Error>
-        ensures outcomes { IfOk result (λ p. length p.outcomes.items ≡ length self.entry.players.items) }
-        ensures each { IfOk result (λ p. OutcomesOf self.entry.players.items p.outcomes.items) }
-        ensures turns { IfOk result (λ p. p.turns.items ≡ self.entry.turns.items) }
+        ensures outcomes { IfOk result (λ p. length p.outcomes.items ≡ length (players_of self.entry)) }
+        ensures each { IfOk result (λ p. OutcomesOf (players_of self.entry) p.outcomes.items) }
+        ensures turns { IfOk result (λ p. p.turns.items ≡ notes_of self.entry) }
         ensures err { IfErr result (λ e. e ≡ plain ErrorKind.OutOfMemory) }
     {
         let Runner {
@@ -246,7 +246,7 @@ impl<'a> Runner<'a> {
         } = self;
         let mut outcomes = Vec::with_capacity(alloc, players.len())?;
         for player in players {
-            outcomes.push(player.into_outcome(alloc))?;
+            outcomes.push(player.into_outcome(alloc)?)?;
         }
         Ok(Played { outcomes, turns })
     }

@@ -35,7 +35,7 @@ returns-in_err-ready-clause-goes g c =
     let got = c.ready.ensures.got in
     record {
       tickets = subst (λ t. Tickets (g.L.Link.awaited c.args.link.now) (g.L.Link.awaited c.args.link.now) (job_ticket c.args.player.now) t) (sym got.ticket) (tickets_same _ _ c.requires.out);
-      holds = got.holds _ c.requires.holds;
+      holds = got.holds (g.L.Link.wire c.args.link.now) c.requires.holds;
       next = same_place;
       turned = turned_not _ _ c.args.player.now c.ready.new.self (got.knows _);
       told = quiet_turn task_of JobTells number_of (DrawsAs (g.I.IdSource.ids c.args.ids.now) c.args.player.now) _ _ _ c.args.player.now c.ready.new.self got.tells;
@@ -46,7 +46,7 @@ returns-in_err-ready-clause-goes g c =
 pub replace_with-gone-requires : goal.replace_with-gone-requires
 replace_with-gone-requires g c =
     let got = c.in_ok-ready.ensures.got in
-    let can : CanGo (g.L.Link.awaited c.args.link.now) (g.L.Link.wire c.args.link.now) c.ready.new.self = record { out = subst (λ t. IsOut (g.L.Link.awaited c.args.link.now) t) (sym got.ticket) c.requires.out; holds = got.holds _ c.requires.holds } in (
+    let can : CanGo (g.L.Link.awaited c.args.link.now) (g.L.Link.wire c.args.link.now) c.ready.new.self = record { out = subst (λ t. IsOut (g.L.Link.awaited c.args.link.now) t) (sym got.ticket) c.requires.out; holds = got.holds (g.L.Link.wire c.args.link.now) c.requires.holds } in (
       subst (λ (p : Player). CanGo (g.L.Link.awaited c.args.link.now) (g.L.Link.wire c.args.link.now) p) (sym c.replace-taken.ensures.value) can,
       subst (λ (p : Player). IsReady p) (sym c.replace-taken.ensures.value) c.in_ok-ready.ensures.ready,
     )

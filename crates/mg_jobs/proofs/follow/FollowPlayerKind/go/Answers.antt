@@ -13,20 +13,26 @@ use Rattle.mg_jobs.specs.declared.follow.Stage.{Stage}
 use Rattle.mg_jobs.specs.declared.follow.Stage.TheVariants as stage
 use Rattle.mg_jobs.proofs.follow.FollowPlayerKind.go.Goals as goal
 
-pub open-next-requires : goal.open-next-requires
-open-next-requires g c = subst (λ (s : Stage). IsOut (g.L.Link.awaited c.args.link.now) (stage_ticket s)) (sym c.replace-stage.ensures.value ∙ c.in-Opens.is) c.requires.can.out
+pub open-next-requires-clause-held : goal.open-next-requires-clause-held
+open-next-requires-clause-held g c = subst (λ (s : Stage). IsOut (g.L.Link.awaited c.args.link.now) (stage_ticket s)) (sym c.replace-stage.ensures.value ∙ c.in-Opens.is) c.requires.can.out
+
+pub open-next-requires-clause-sound : goal.open-next-requires-clause-sound
+open-next-requires-clause-sound g c = subst StageHolds (sym c.replace-stage.ensures.value ∙ c.in-Opens.is) c.requires.can.holds
 
 pub ask-next-requires-clause-held : goal.ask-next-requires-clause-held
 ask-next-requires-clause-held g c = subst (λ (s : Stage). IsOut (g.L.Link.awaited c.args.link.now) (stage_ticket s)) (sym c.replace-stage.ensures.value ∙ c.in-Open.is) c.requires.can.out
 
 pub ask-next-requires-clause-sound : goal.ask-next-requires-clause-sound
-ask-next-requires-clause-sound g c = subst (λ (s : Stage). StageHolds (g.L.Link.wire c.args.link.now) s) (sym c.replace-stage.ensures.value ∙ c.in-Open.is) c.requires.can.holds
+ask-next-requires-clause-sound g c = (subst StageHolds (sym c.replace-stage.ensures.value ∙ c.in-Open.is) c.requires.can.holds).0
+
+pub ask-next-requires-clause-owned : goal.ask-next-requires-clause-owned
+ask-next-requires-clause-owned g c = (subst StageHolds (sym c.replace-stage.ensures.value ∙ c.in-Open.is) c.requires.can.holds).1
 
 pub close-next-requires-clause-held : goal.close-next-requires-clause-held
 close-next-requires-clause-held g c = subst (λ (s : Stage). IsOut (g.L.Link.awaited c.args.link.now) (stage_ticket s)) (sym c.replace-stage.ensures.value ∙ c.in-Closes.is) c.requires.can.out
 
 pub close-next-requires-clause-holds : goal.close-next-requires-clause-holds
-close-next-requires-clause-holds g c = subst (λ (s : Stage). StageHolds (g.L.Link.wire c.args.link.now) s) (sym c.replace-stage.ensures.value ∙ c.in-Closes.is) c.requires.can.holds
+close-next-requires-clause-holds g c = subst StageHolds (sym c.replace-stage.ensures.value ∙ c.in-Closes.is) c.requires.can.holds
 
 pub returns-in-Unopened-clause-goes : goal.returns-in-Unopened-clause-goes
 returns-in-Unopened-clause-goes g c =

@@ -13,7 +13,7 @@ returns-clause-got g c =
     let same = c.make_room.ensures.same in
     record {
       ticket = ap stage_ticket same.stage_same;
-      holds = λ wire holds. subst (StageHolds wire) (sym same.stage_same) holds;
+      holds = λ wire holds. subst StageHolds (sym same.stage_same) holds;
       knows = same_knows c.args.self.now c.make_room.new.self same;
       task = ap follow_task same.watched_same;
       at = same_came c.args.self.now c.make_room.new.self same;

@@ -8,5 +8,5 @@ pub loop-player-preserved : goal.loop-player-preserved
 loop-player-preserved c = record {
   count = search rules;
   made = subst (λ (os : List Outcome). Made c.args.self.players.items c.next.new.self.rest.items os) (sym c.in_ok-push.ensures.items)
-      (made_more _ _ _ _ c.in-Some.player c.into_outcome.result c.in-Some.ensures.steps.0 c.loop-player.invariant.made c.into_outcome.ensures.of);
+      (made_more _ _ _ _ c.in-Some.player _ c.in-Some.ensures.steps.0 c.loop-player.invariant.made c.in_ok-into_outcome.ensures.of);
 }
