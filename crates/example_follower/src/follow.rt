@@ -3,16 +3,18 @@ ghost use Rattle.std.specs.Prelude.{◌≡◌, IfOk, OnOk, codes};
 ghost use Rattle.mg_bson.specs.Find.{get};
 ghost use Rattle.mg_bson.specs.Raw.{fields};
 ghost use Rattle.mg_link.specs.Acts.{IsOut};
-ghost use Rattle.mg_change.specs.Closings.{closing_ticket};
-ghost use Rattle.mg_change.specs.Following.{Turned, popped_told, token_of};
-ghost use Rattle.mg_change.specs.Phases.{AtRest, IsSound, ticket_in};
-ghost use Rattle.example_follower.specs.Follower.{Opens, from_token, kept_token};
+ghost use Rattle.mg_change.specs.ClientStreams.{IsBetween, stream_ticket, stream_token};
+ghost use Rattle.mg_change.specs.ClosingStreams.{stream_closing_ticket};
+ghost use Rattle.mg_change.specs.StreamView.{IsPlainStream, stream_of};
+ghost use Rattle.example_follower.specs.Follower.{Answers, Opens, from_token, kept_token, popped_told};
 
-use mg_bson::{Document, RawDocumentBuf, to_bytes};
-use mg_change::{ChangeStream, Closing, EventPoll, Opening};
-use mg_link::{Action, Error, ErrorKind, Link, Namespace, OperationTarget, Step, plain};
-use mg_ops::WatchArgs;
-use mg_options::{ChangeStreamOptions, ResumeToken, TokenRef};
+use mg_bson::to_bytes;
+use mg_change::{
+    Action, ChangeStream, ChangeStreamOptions, Closing, Document, Error, ErrorKind, EventPoll,
+    Link, Namespace, Opening, OperationTarget, RawDocumentBuf, ResumeToken, Step, TokenRef,
+    WatchArgs,
+};
+use mg_link::plain;
 use std::alloc::Global;
 
 /// How often a reply may pend before the follower gives up.
@@ -37,34 +39,34 @@ pub fn watch_of(
 }
 
 /// Opens a stream, and polls while its reply pends.
-pub fn open<L: Link>(alloc: Global, link: &mut L, args: WatchArgs) -> Result<ChangeStream, Error>
-    ensures rests { IfOk result (λ stream. AtRest stream.phase) }
-    ensures sound { IfOk result (λ stream. IsSound (L.wire link.new) stream) }
-    ensures opens { IfOk result (Opens (L.awaited link.new) (L.log link.old) (L.log link.new) args) }
+pub fn open<L: Link>(
+    alloc: Global,
+    link: &mut L,
+    args: WatchArgs,
+) -> Result<ChangeStream<Document>, Error>
+    ensures rests { IfOk result (λ stream. IsBetween (stream_of stream)) }
+    ensures sound { IfOk result (λ stream. IsPlainStream stream) }
+    ensures opens { IfOk result (λ stream. Opens (L.awaited link.new) (L.log link.old) (L.log link.new) args (stream_of stream)) }
 {
-    let mut state = Opening::new(alloc, args);
-    'polls: for _round in 0..POLLS {
-        match state.poll(link) {
-            Step::Pending(next) => state = next,
-            Step::Done(stream) => return Ok(stream),
-            Step::Failed(error) => return Err(error),
-        }
+    match Opening::open(alloc, args, link, POLLS) {
+        Step::Pending(_) => Err(plain(ErrorKind::Io)),
+        Step::Done(stream) => Ok(stream),
+        Step::Failed(error) => Err(error),
     }
-    Err(plain(ErrorKind::Io))
 }
 
 /// The next event, or none where nothing is there. It polls while a reply pends.
 pub fn next<L: Link>(
-    stream: &mut ChangeStream,
+    stream: &mut ChangeStream<Document>,
     link: &mut L,
 ) -> Result<Option<RawDocumentBuf>, Error>
-    requires held { IsOut (L.awaited link.old) (ticket_in stream.old.phase) }
-    requires sound { IsSound (L.wire link.old) stream.old }
-    ensures held { IsOut (L.awaited link.new) (ticket_in stream.new.phase) }
-    ensures sound { IsSound (L.wire link.new) stream.new }
-    ensures rests { OnOk result (AtRest stream.new.phase) }
-    ensures answers { Turned (L.awaited link.old) (L.awaited link.new) (L.log link.old) (L.log link.new)
-        stream.old.phase stream.old stream.new (popped_told result) }
+    requires held { IsOut (L.awaited link.old) (stream_ticket (stream_of stream.old)) }
+    requires sound { IsPlainStream stream.old }
+    ensures held { IsOut (L.awaited link.new) (stream_ticket (stream_of stream.new)) }
+    ensures sound { IsPlainStream stream.new }
+    ensures rests { OnOk result (IsBetween (stream_of stream.new)) }
+    ensures answers { Answers (L.awaited link.old) (L.awaited link.new) (L.log link.old) (L.log link.new)
+        (stream_of stream.old) (stream_of stream.new) (popped_told result) }
 {
     'polls: for _round in 0..POLLS {
         match stream.poll_next_if_any(link) {
@@ -90,8 +92,8 @@ fn document_of(alloc: Global, token: Option<TokenRef<'_>>) -> Result<Document, E
 }
 
 /// The token of a stream as a document that may be kept in a file. Where there is none the document is empty.
-pub fn kept(alloc: Global, stream: &ChangeStream) -> Result<RawDocumentBuf, Error>
-    ensures { IfOk result (λ kept. fields kept ≡ kept_token (token_of stream.now.aggregate.resume)) }
+pub fn kept(alloc: Global, stream: &ChangeStream<Document>) -> Result<RawDocumentBuf, Error>
+    ensures { IfOk result (λ kept. fields kept ≡ kept_token (stream_token (stream_of stream.now))) }
 {
     let document = document_of(alloc, stream.resume_token())?;
     Ok(to_bytes(alloc, &document)?)
@@ -109,7 +111,7 @@ pub fn token_in(alloc: Global, kept: &RawDocumentBuf) -> Result<Option<ResumeTok
 
 /// Closes a stream, so that the server keeps no cursor for it.
 pub fn close<L: Link>(link: &mut L, closing: Closing) -> Result<(), Error>
-    requires { IsOut (L.awaited link.old) (closing_ticket closing) }
+    requires { IsOut (L.awaited link.old) (stream_closing_ticket closing) }
 {
     match closing.run(link, POLLS) {
         Step::Pending(_) => Err(plain(ErrorKind::Io)),

@@ -5,15 +5,15 @@ ghost use Rattle.mg_bson.specs.Raw.{fields};
 ghost use Rattle.mg_link.specs.Acts.{IsOut};
 ghost use Rattle.mg_link.specs.Link.{Told};
 ghost use Rattle.mg_ops.specs.declared.change_stream.WatchArgs.{WatchArgs};
-ghost use Rattle.mg_change.specs.Phases.{AtRest, IsSound, ticket_in};
+ghost use Rattle.mg_change.specs.ClientStreams.{IsBetween, stream_ticket};
+ghost use Rattle.mg_change.specs.StreamView.{IsPlainStream, stream_of};
 ghost use Rattle.example_follower.specs.Follower.{Opens, Reports, ReportsAll, id_of, line_of};
 
 use crate::follow::{close, kept, next, open, token_in, watch_of};
 use crate::insert::insert;
-use mg_bson::{RawDocument, RawDocumentBuf};
-use mg_change::ChangeStream;
-use mg_link::{Error, Link, Namespace};
-use mg_options::ResumeToken;
+use mg_change::{
+    ChangeStream, Document, Error, Link, Namespace, RawDocument, RawDocumentBuf, ResumeToken,
+};
 use std::alloc::Global;
 
 /// The most events of one visit.
@@ -61,18 +61,18 @@ fn tell(event: &RawDocument<'_>, report: &mut String) -> Result<(), Error>
 /// Takes the events that are there, and puts a line for each into the report.
 fn tell_all<L: Link>(
     link: &mut L,
-    stream: &mut ChangeStream,
+    stream: &mut ChangeStream<Document>,
     report: &mut String,
 ) -> Result<(), Error>
-    requires rests { AtRest stream.old.phase }
-    requires sound { IsSound (L.wire link.old) stream.old }
-    ensures held { IsOut (L.awaited link.new) (ticket_in stream.new.phase) }
-    ensures sound { IsSound (L.wire link.new) stream.new }
-    ensures rests { OnOk result (AtRest stream.new.phase) }
-    ensures reports { OnOk result (Reports (L.awaited link.old) (L.awaited link.new) (L.log link.old) (L.log link.new) stream.old stream.new
+    requires rests { IsBetween (stream_of stream.old) }
+    requires sound { IsPlainStream stream.old }
+    ensures held { IsOut (L.awaited link.new) (stream_ticket (stream_of stream.new)) }
+    ensures sound { IsPlainStream stream.new }
+    ensures rests { OnOk result (IsBetween (stream_of stream.new)) }
+    ensures reports { OnOk result (Reports (L.awaited link.old) (L.awaited link.new) (L.log link.old) (L.log link.new) (stream_of stream.old) (stream_of stream.new)
         (string_bytes report.old) (string_bytes report.new)) }
-    ensures follows { (log : Told) (args : WatchArgs) → Opens (L.awaited link.old) log (L.log link.old) args stream.old
-        → OnOk result (ReportsAll log (L.log link.new) args stream.new (string_bytes report.old) (string_bytes report.new)) }
+    ensures follows { (log : Told) (args : WatchArgs) → Opens (L.awaited link.old) log (L.log link.old) args (stream_of stream.old)
+        → OnOk result (ReportsAll log (L.log link.new) args (stream_of stream.new) (string_bytes report.old) (string_bytes report.new)) }
 {
     'events: for _event in 0..EVENTS {
         match next(stream, link)? {
@@ -87,13 +87,14 @@ fn tell_all<L: Link>(
 fn see_two<L: Link>(
     alloc: Global,
     link: &mut L,
-    stream: &mut ChangeStream,
+    stream: &mut ChangeStream<Document>,
     orders: &Namespace,
     report: &mut String,
 ) -> Result<(), Error>
-    requires rests { AtRest stream.old.phase }
-    requires sound { IsSound (L.wire link.old) stream.old }
-    ensures { IsOut (L.awaited link.new) (ticket_in stream.new.phase) }
+    requires rests { IsBetween (stream_of stream.old) }
+    requires sound { IsPlainStream stream.old }
+    ensures held { IsOut (L.awaited link.new) (stream_ticket (stream_of stream.new)) }
+    ensures sound { IsPlainStream stream.new }
 {
     // The first call answers from the batch that opened the stream.
     tell_all(link, stream, report)?;
@@ -106,10 +107,11 @@ fn see_two<L: Link>(
 fn leave<L: Link>(
     alloc: Global,
     link: &mut L,
-    stream: ChangeStream,
+    stream: ChangeStream<Document>,
     went: Result<(), Error>,
 ) -> Result<RawDocumentBuf, Error>
-    requires { IsOut (L.awaited link.old) (ticket_in stream.phase) }
+    requires out { IsOut (L.awaited link.old) (stream_ticket (stream_of stream)) }
+    requires sound { IsPlainStream stream }
 {
     let token = kept(alloc, &stream);
     // A cursor that could not be killed ends by the server's own time; the token is good all the same.
@@ -124,9 +126,9 @@ fn open_behind<L: Link>(
     link: &mut L,
     orders: &Namespace,
     token: Option<ResumeToken>,
-) -> Result<ChangeStream, Error>
-    ensures rests { IfOk result (λ stream. AtRest stream.phase) }
-    ensures sound { IfOk result (λ stream. IsSound (L.wire link.new) stream) }
+) -> Result<ChangeStream<Document>, Error>
+    ensures rests { IfOk result (λ stream. IsBetween (stream_of stream)) }
+    ensures sound { IfOk result (λ stream. IsPlainStream stream) }
 {
     let args = watch_of(alloc, orders, token)?;
     open(alloc, link, args)

@@ -6,6 +6,7 @@ mod commands;
 mod corpus;
 mod cursors;
 mod documents;
+mod downloads;
 mod exec;
 mod files;
 mod grammar;
@@ -25,6 +26,7 @@ mod store;
 mod streams;
 mod unprinted;
 mod walks;
+mod watches;
 mod words;
 
 use mg_bson::{Bson, BsonError, Document, RawDocumentBuf, to_bytes};

@@ -1,7 +1,7 @@
 use super::records::{is_shown, keys};
 use super::sessions::session_of;
 use super::{namespace, one_field, parted, text, with};
-use mg_bson::{Bson, Document};
+use mg_bson::{Bson, Document, to_document};
 use mg_link::{
     ClientSession, Error, Namespace, OperationTarget, ReadConcern, ReadConcernLevel,
     ReadPreference, SelectionCriteria, WriteConcern,
@@ -39,6 +39,7 @@ given more - getMore collection batchSize maxTimeMS comment $db {"$db":"db","bat
 given plain-more - getMore collection $db {"$db":"db","collection":"coll","getMore":{"$int64":"9"}}
 given sizeless - getMore collection $db {"$db":"db","collection":"coll","getMore":{"$int64":"9"}}
 write insert - insert documents ordered bypassDocumentValidation comment $db writeConcern {"$db":"db","bypassDocumentValidation":true,"comment":"c","documents":[{"x":1}],"insert":"coll","ordered":false,"writeConcern":{"j":true}}
+write used - insert documents ordered bypassDocumentValidation comment $db writeConcern {"$db":"db","bypassDocumentValidation":true,"comment":"c","documents":[{"x":1}],"insert":"coll","ordered":false,"writeConcern":{"j":true}}
 write none - no documents to insert
 write slow - number out of range
 write delete - delete deletes ordered let comment $db writeConcern {"$db":"db","comment":4,"delete":"coll","deletes":[{"collation":{"locale":"en"},"hint":{"x":2},"limit":1,"q":{"x":1}}],"let":{"x":3},"ordered":true,"writeConcern":{"j":true}}
@@ -332,18 +333,10 @@ fn given(alloc: Global, session: Option<&ClientSession>, way: &str) -> Result<Do
     }
 }
 
-fn insert(
-    alloc: Global,
-    session: Option<&ClientSession>,
-    documents: Vec<Document>,
-    options: InsertManyOptions,
-) -> Result<Document, Error> {
-    let insert = Insert {
-        ns: namespace(alloc)?,
-        documents,
-        options,
-    };
-    insert.build(alloc, 21, session)
+// The command in the bytes for which an insert is used up.
+fn used(alloc: Global, insert: Insert) -> Result<Document, Error> {
+    let raw = insert.into_bytes(alloc)?;
+    Ok(to_document(alloc, raw.as_raw())?)
 }
 
 // The options of an insert that is not ordered.
@@ -378,7 +371,15 @@ fn inserts(alloc: Global, session: Option<&ClientSession>, way: &str) -> Result<
     if way != "none" {
         documents.push(keys(alloc, 1)?)?;
     }
-    insert(alloc, session, documents, options)
+    let insert = Insert {
+        ns: namespace(alloc)?,
+        documents,
+        options,
+    };
+    match way {
+        "used" => used(alloc, insert),
+        _ => insert.build(alloc, 21, session),
+    }
 }
 
 fn delete(
@@ -452,7 +453,7 @@ fn updates(alloc: Global, session: Option<&ClientSession>, way: &str) -> Result<
 
 fn writes(alloc: Global, session: Option<&ClientSession>, way: &str) -> Result<Document, Error> {
     match way {
-        "insert" | "ordered" | "none" | "slow" => inserts(alloc, session, way),
+        "insert" | "used" | "ordered" | "none" | "slow" => inserts(alloc, session, way),
         "delete" => delete(alloc, session, hinted(alloc)?),
         "deleted" => {
             let options = DeleteOptions::builder().write_concern(journaled());

@@ -225,10 +225,10 @@ job 0~{"calls":1,"job":"follow","on":"a.b","start":{"startAt":{"$timestamp":{"i"
 job 0~{"calls":1,"job":"follow","on":"a.b","split":true}
 taken~{"calls":1048576,"job":"follow","on":"a.b"}
 taken~{"batch":4294967295,"calls":0,"job":"follow","match":{"a":{"$in":[1]}},"on":"a.b.c","start":{"resumeAfter":null}}
-not built~{"calls":1,"job":"follow","on":"a"}
-not built~{"calls":1,"job":"follow","on":""}
-not built~{"calls":1,"job":"follow","on":"a.b","start":{"startAfter":{"_data":"0"}}}
-not built~{"calls":1,"job":"follow","on":"a.b","start":{"startAt":{"$timestamp":{"i":1,"t":1}}}}
+taken~{"calls":1,"job":"follow","on":"a"}
+taken~{"calls":1,"job":"follow","on":""}
+taken~{"calls":1,"job":"follow","on":"a.b","start":{"startAfter":{"_data":"0"}}}
+taken~{"calls":1,"job":"follow","on":"a.b","start":{"startAt":{"$timestamp":{"i":1,"t":1}}}}
 job 0~{"chunk":4,"id":0,"job":"put","name":"f","pieces":[]}
 job 0~{"chunk":4,"db":"","id":0,"job":"put","name":"f","pieces":[]}
 job 0~{"chunk":4,"db":"a.b","id":0,"job":"put","name":"f","pieces":[]}

@@ -1,18 +1,19 @@
 ghost use Rattle.std.specs.Prelude.{IfOk};
 ghost use Rattle.mg_link.specs.Acts.{IsOut};
 ghost use Rattle.mg_link.specs.Places.{out_at};
-ghost use Rattle.mg_change.specs.Closings.{closing_ticket};
-ghost use Rattle.mg_change.specs.Openings.{opening_ticket};
-ghost use Rattle.mg_change.specs.Phases.{IsSound, ticket_in};
+ghost use Rattle.mg_change.specs.ClientStreams.{stream_ticket};
+ghost use Rattle.mg_change.specs.ClosingStreams.{stream_closing_ticket};
+ghost use Rattle.mg_change.specs.OpeningView.{IsPlainOpening, ticket_in};
+ghost use Rattle.mg_change.specs.StreamView.{IsPlainStream, stream_of};
 
 use super::{expect, json_bytes, namespace, repeated};
-use mg_bson::{Bson, RawArray, RawDocument, Timestamp};
-use mg_change::{ChangeStream, Closing, EventPoll, Opening};
+use mg_bson::{Bson, Document, RawArray, RawDocument, Timestamp};
+use mg_change::{AdvanceResult, ChangeStream, Closing, EventPoll, Opening, TryPoll};
 use mg_link::{
     Action, Error, ErrorKind, OperationTarget, ScriptLink, Scripted, ScriptedSeen, Step,
 };
 use mg_ops::WatchArgs;
-use mg_options::{ChangeStreamOptions, ResumeToken};
+use mg_options::{ChangeStreamOptions, ResumeToken, TokenRef};
 use std::alloc::{AllocError, Global};
 use std::process::Abort;
 use std::test::Fail;
@@ -25,11 +26,13 @@ const DONE: &str = r#"{"code":0,"ok":1}"#;
 // A refusal that says that a cursor is not there.
 const GONE: &str = r#"{"code":43,"ok":0}"#;
 
-// The items of a batch: none, an event, an event without `_id` and one behind it, or an item that is no document.
+// The items of a batch: none, an event, an event without `_id` and one behind it, the same behind an event, or an item that is no
+// document.
 fn items_of(kind: u8) -> &'static str {
     match kind {
         b'e' => r#"[{"_id":2}]"#,
         b'n' => r#"[{"x":1},{"_id":2}]"#,
+        b'b' => r#"[{"_id":3},{"x":1},{"_id":2}]"#,
         b'm' => "[5]",
         _ => "[]",
     }
@@ -194,17 +197,42 @@ fn answer_word(alloc: Global, poll: &EventPoll) -> Result<String, AllocError> {
     }
 }
 
-// The number of a stream's token.
-fn token_of(stream: &ChangeStream) -> Result<Option<i32>, Error> {
-    let Some(token) = stream.resume_token() else {
+// What an advance came to, and the event that is lent then.
+fn advance_word(
+    alloc: Global,
+    stream: &ChangeStream<Document>,
+    poll: &TryPoll,
+) -> Result<String, AllocError> {
+    match poll {
+        TryPoll::Pending => String::from_str(alloc, "/pending"),
+        TryPoll::Ready(AdvanceResult::Advanced(())) => lent_word(alloc, stream),
+        TryPoll::Ready(AdvanceResult::Exhausted) => String::from_str(alloc, "/exhausted"),
+        TryPoll::Ready(AdvanceResult::Waiting) => String::from_str(alloc, "/waiting"),
+        TryPoll::Failed(error) => String::from_str(alloc, error_word(error)),
+    }
+}
+
+fn lent_word(alloc: Global, stream: &ChangeStream<Document>) -> Result<String, AllocError> {
+    match stream.current() {
+        Some(event) => {
+            let n = id_of(&event);
+            format!(in alloc; "/lends {n}")
+        }
+        None => String::from_str(alloc, "/lends nothing"),
+    }
+}
+
+// The number of a token.
+fn token_of(token: Option<TokenRef<'_>>) -> Result<Option<i32>, Error> {
+    let Some(token) = token else {
         return Ok(None);
     };
     let value = token.to_owned()?.to_value()?;
     Ok(value.as_i32())
 }
 
-fn token_word(alloc: Global, stream: &ChangeStream) -> Result<String, Fail> {
-    match token_of(stream) {
+fn token_word(alloc: Global, token: Option<TokenRef<'_>>) -> Result<String, Fail> {
+    match token_of(token) {
         Ok(Some(n)) => Ok(format!(in alloc; "/token {n}")?),
         Ok(None) => Ok(String::from_str(alloc, "/no token")?),
         Err(_) => Err(Fail::from("token")),
@@ -240,10 +268,11 @@ fn args_of(alloc: Global, start: &str) -> Result<WatchArgs, Fail> {
 }
 
 // Polls to the end of the opening.
-fn open(opening: Opening, link: &mut ScriptLink) -> Result<ChangeStream, Fail>
-    requires { IsOut (out_at link.old.calls) (opening_ticket opening) }
-    ensures sound { IfOk result (λ s. IsSound link.new.wire s) }
-    ensures out { IfOk result (λ s. IsOut (out_at link.new.calls) (ticket_in s.phase)) }
+fn open(opening: Opening<Document>, link: &mut ScriptLink) -> Result<ChangeStream<Document>, Fail>
+    requires out { IsOut (out_at link.old.calls) (ticket_in opening) }
+    requires sound { IsPlainOpening opening }
+    ensures sound { IfOk result (λ s. IsPlainStream s) }
+    ensures out { IfOk result (λ s. IsOut (out_at link.new.calls) (stream_ticket (stream_of s))) }
 {
     let mut state = opening;
     'polls: for _count in 1..10 {
@@ -257,11 +286,11 @@ fn open(opening: Opening, link: &mut ScriptLink) -> Result<ChangeStream, Fail>
 }
 
 // One poll of a call, or of one that seeks an event.
-fn poll_once(stream: &mut ChangeStream, link: &mut ScriptLink, seeks: bool) -> EventPoll
-    requires out { IsOut (out_at link.old.calls) (ticket_in stream.old.phase) }
-    requires sound { IsSound link.old.wire stream.old }
-    ensures out { IsOut (out_at link.new.calls) (ticket_in stream.new.phase) }
-    ensures sound { IsSound link.new.wire stream.new }
+fn poll_once(stream: &mut ChangeStream<Document>, link: &mut ScriptLink, seeks: bool) -> EventPoll
+    requires out { IsOut (out_at link.old.calls) (stream_ticket (stream_of stream.old)) }
+    requires sound { IsPlainStream stream.old }
+    ensures out { IsOut (out_at link.new.calls) (stream_ticket (stream_of stream.new)) }
+    ensures sound { IsPlainStream stream.new }
 {
     if seeks {
         stream.poll_next(link)
@@ -271,11 +300,11 @@ fn poll_once(stream: &mut ChangeStream, link: &mut ScriptLink, seeks: bool) -> E
 }
 
 // Polls to the end of a call.
-fn call(stream: &mut ChangeStream, link: &mut ScriptLink, seeks: bool) -> EventPoll
-    requires out { IsOut (out_at link.old.calls) (ticket_in stream.old.phase) }
-    requires sound { IsSound link.old.wire stream.old }
-    ensures out { IsOut (out_at link.new.calls) (ticket_in stream.new.phase) }
-    ensures sound { IsSound link.new.wire stream.new }
+fn call(stream: &mut ChangeStream<Document>, link: &mut ScriptLink, seeks: bool) -> EventPoll
+    requires out { IsOut (out_at link.old.calls) (stream_ticket (stream_of stream.old)) }
+    requires sound { IsPlainStream stream.old }
+    ensures out { IsOut (out_at link.new.calls) (stream_ticket (stream_of stream.new)) }
+    ensures sound { IsPlainStream stream.new }
 {
     'polls: for _count in 1..10 {
         match poll_once(stream, link, seeks) {
@@ -286,23 +315,55 @@ fn call(stream: &mut ChangeStream, link: &mut ScriptLink, seeks: bool) -> EventP
     EventPoll::Pending
 }
 
+// Polls to the end of a call that lends an event.
+fn advance(stream: &mut ChangeStream<Document>, link: &mut ScriptLink) -> TryPoll
+    requires out { IsOut (out_at link.old.calls) (stream_ticket (stream_of stream.old)) }
+    requires sound { IsPlainStream stream.old }
+    ensures out { IsOut (out_at link.new.calls) (stream_ticket (stream_of stream.new)) }
+    ensures sound { IsPlainStream stream.new }
+{
+    'polls: for _count in 1..10 {
+        match stream.poll_advance_if_any(link) {
+            TryPoll::Pending => {}
+            poll => return poll,
+        }
+    }
+    TryPoll::Pending
+}
+
+// Such a call, and what it lends.
+fn advance_step(
+    alloc: Global,
+    stream: &mut ChangeStream<Document>,
+    link: &mut ScriptLink,
+) -> Result<String, Fail>
+    requires out { IsOut (out_at link.old.calls) (stream_ticket (stream_of stream.old)) }
+    requires sound { IsPlainStream stream.old }
+    ensures out { IsOut (out_at link.new.calls) (stream_ticket (stream_of stream.new)) }
+    ensures sound { IsPlainStream stream.new }
+{
+    let poll = advance(stream, link);
+    Ok(advance_word(alloc, stream, &poll)?)
+}
+
 // One call, one poll, or a look at the token.
 fn step_word(
     alloc: Global,
-    stream: &mut ChangeStream,
+    stream: &mut ChangeStream<Document>,
     link: &mut ScriptLink,
     step: u8,
 ) -> Result<String, Fail>
-    requires out { IsOut (out_at link.old.calls) (ticket_in stream.old.phase) }
-    requires sound { IsSound link.old.wire stream.old }
-    ensures out { IsOut (out_at link.new.calls) (ticket_in stream.new.phase) }
-    ensures sound { IsSound link.new.wire stream.new }
+    requires out { IsOut (out_at link.old.calls) (stream_ticket (stream_of stream.old)) }
+    requires sound { IsPlainStream stream.old }
+    ensures out { IsOut (out_at link.new.calls) (stream_ticket (stream_of stream.new)) }
+    ensures sound { IsPlainStream stream.new }
 {
     let poll = match step {
         b'c' => call(stream, link, false),
         b'p' => poll_once(stream, link, false),
         b'n' => call(stream, link, true),
-        _ => return token_word(alloc, stream),
+        b'a' => return advance_step(alloc, stream, link),
+        _ => return token_word(alloc, stream.resume_token()),
     };
     Ok(answer_word(alloc, &poll)?)
 }
@@ -310,13 +371,14 @@ fn step_word(
 // Takes the steps: what was answered.
 fn steps_words(
     alloc: Global,
-    stream: &mut ChangeStream,
+    stream: &mut ChangeStream<Document>,
     link: &mut ScriptLink,
     steps: &str,
 ) -> Result<String, Fail>
-    requires out { IsOut (out_at link.old.calls) (ticket_in stream.old.phase) }
-    requires sound { IsSound link.old.wire stream.old }
-    ensures out { IsOut (out_at link.new.calls) (ticket_in stream.new.phase) }
+    requires out { IsOut (out_at link.old.calls) (stream_ticket (stream_of stream.old)) }
+    requires sound { IsPlainStream stream.old }
+    ensures out { IsOut (out_at link.new.calls) (stream_ticket (stream_of stream.new)) }
+    ensures sound { IsPlainStream stream.new }
 {
     let mut seen = String::new(alloc);
     'steps: for step in steps.as_bytes() {
@@ -328,7 +390,7 @@ fn steps_words(
 
 // Polls to the end of the closing.
 fn close_word(closing: Closing, link: &mut ScriptLink) -> &'static str
-    requires { IsOut (out_at link.old.calls) (closing_ticket closing) }
+    requires { IsOut (out_at link.old.calls) (stream_closing_ticket closing) }
 {
     let mut state = closing;
     'polls: for _count in 1..10 {
@@ -391,7 +453,13 @@ none~1- l. 2- l.+ k.~cp~/nothing/pending/closed/aggregate/getMore 1/aggregate at
 none~1- 1- 1e k.~n~/event 2/closed/aggregate/getMore 1/getMore 1/killCursors 1
 none~1- 0-~nn~/nothing/nothing/closed/aggregate/getMore 1
 none~1- l. 2- k. 2e k.~n~/event 2/closed/aggregate/getMore 1/aggregate at 7/killCursors 1/getMore 2/killCursors 2
-none~1- l. 2- f.+~cp~/nothing/pending/E1/aggregate/getMore 1/aggregate at 7/killCursors 1";
+none~1- l. 2- f.+~cp~/nothing/pending/E1/aggregate/getMore 1/aggregate at 7/killCursors 1
+none~1b 1- k.~ctctctc~/event 3/token 3/E9/token 3/event 2/token 2/nothing/closed/aggregate/getMore 1/killCursors 1
+none~1n k.~atat~/E9/no token/lends 2/token 2/closed/aggregate/killCursors 1
+none~1- 1e k.~aat~/waiting/lends 2/token 2/closed/aggregate/getMore 1/killCursors 1
+none~0b~aacta~/lends 3/E9/event 2/token 2/exhausted/closed/aggregate
+none~1e l. 2- k. k.~aa~/lends 2/waiting/closed/aggregate/getMore 1/aggregate after 2/killCursors 1/killCursors 2
+none~1- l. l. l. k.~aa~/waiting/E2/closed/aggregate/getMore 1/aggregate at 7/aggregate at 7/killCursors 1";
 
 // The four parts of a line.
 fn parts(line: &str) -> Option<(&str, &str, &str, &str)> {
@@ -453,4 +521,47 @@ fn empty_replies_in_a_row(rt: HostRuntime) -> Result<(), Fail> {
 fn resumptions_without_an_event(rt: HostRuntime) -> Result<(), Fail> {
     let commands = "/getMore 1/aggregate at 7/killCursors 1";
     is_given_up(&rt, rt.alloc(), " l. 1- k.", commands, 1000)
+}
+
+// ---- tokens of closings
+
+// The token that a closing has, that which it hands over, and the one that it has then.
+fn handed_words(alloc: Global, closing: Closing) -> Result<String, Fail> {
+    let mut closing = closing;
+    let lent = token_word(alloc, closing.resume_token())?;
+    let Ok(handed) = closing.hand_over() else {
+        return Err(Fail::from("handed"));
+    };
+    let handed = match &handed {
+        Some(token) => token_word(alloc, Some(token.as_ref()))?,
+        None => token_word(alloc, None)?,
+    };
+    let left = token_word(alloc, closing.resume_token())?;
+    Ok(format!(in alloc; "{lent}{handed}{left}")?)
+}
+
+// Takes one step of a stream whose opening gave an event, and hands the token over.
+fn handed(alloc: Global, step: u8) -> Result<String, Fail> {
+    let mut link = ScriptLink::new(list_of(alloc, "1e", 0)?, 21);
+    let args = args_of(alloc, "none")?;
+    let mut stream = open(Opening::new(alloc, args), &mut link)?;
+    let seen = step_word(alloc, &mut stream, &mut link, step)?;
+    let words = handed_words(alloc, stream.close())?;
+    Ok(format!(in alloc; "{seen}{words}")?)
+}
+
+// A look at the token, a copy of the event and the event lent, and what comes of each.
+const HANDED: [(u8, &str); 3] = [
+    (b't', "/no token/no token/no token/no token"),
+    (b'c', "/event 2/token 2/token 2/no token"),
+    (b'a', "/lends 2/token 2/token 2/no token"),
+];
+
+#[test]
+fn tokens_are_handed_over(rt: HostRuntime) -> Result<(), Fail> {
+    for (step, wanted) in HANDED {
+        let found = handed(rt.alloc(), step)?;
+        expect(&rt, wanted, found.as_str(), wanted);
+    }
+    Ok(())
 }

@@ -1,23 +1,13 @@
 use Rattle.std.proofs.Common.{◌≡◌, None, Some, refl, sym, ◌∙◌}
-use Rattle.mg_change.specs.Phases.{AtRest, ticket_in}
-use Rattle.mg_change.specs.declared.stream.Phase.{Phase}
-use Rattle.mg_change.specs.declared.stream.Phase.TheVariants as phase
+use Rattle.mg_link.specs.Places.{out_at}
+use Rattle.mg_link.specs.declared.action.Step.TheVariants as step
+use Rattle.mg_change.specs.OpeningView.{opening_of}
+use Rattle.mg_change.specs.StreamView.{stream_of}
+use Rattle.mg_change.proofs.Resting.{between_holds_none, opened_between}
 use Rattle.jobs.proofs.tests.streams.open.Goals as goal
 
--- no ticket is held at rest
-rests : (p : Phase) → AtRest p → ticket_in p ≡ None
-rests phase.Taken r = refl
-rests phase.Rest r = refl
-rests (phase.First said) r = refl
-rests phase.Fresh r = refl
-rests (phase.Asking get_more exec) r = absurd r
-rests phase.Owing r = refl
-rests (phase.Resuming exec) r = absurd r
-rests (phase.Killing exec old said) r = absurd r
-rests (phase.Resumed said) r = refl
-
-pub returns-in-Done-clause-sound : goal.returns-in-Done-clause-sound
-returns-in-Done-clause-sound c = c.in-Done.ensures.keeps.1 c.poll.new.link.wire
-
 pub returns-in-Done-clause-out : goal.returns-in-Done-clause-out
-returns-in-Done-clause-out c = λ n e. let bad : None ≡ Some n = sym (rests c.in-Done.stream.phase c.in-Done.ensures.keeps.2) ∙ e in absurd cc
+returns-in-Done-clause-out c = λ n e.
+    let opens = c.in-Done.ensures.opens c.polls.invariant.sound in
+    let between = opened_between (out_at c.polls.link.calls) (out_at c.poll.new.link.calls) (Some c.polls.link.calls) (Some c.poll.new.link.calls) c.polls.link.wire None opens.0 (opening_of c.polls.state) (step.Done (stream_of c.in-Done.stream)) opens.1 (stream_of c.in-Done.stream) refl in
+    let bad : None ≡ Some n = sym (between_holds_none (stream_of c.in-Done.stream) between) ∙ e in absurd cc

@@ -1,0 +1,11 @@
+use Rattle.mg_link.specs.Acts.{IsOut}
+use Rattle.mg_link.specs.Places.{out_at}
+use Rattle.mg_gridfs.specs.Uploads.{upload_ticket}
+use Rattle.mg_gridfs.specs.UploadView.{IsUpload, upload_of}
+use Rattle.jobs.proofs.tests.files.put_into.Given as goal
+
+abbrev pub invariant-pieces : goal.invariant-pieces
+invariant-pieces l = record {
+  out : IsOut (out_at l.link.calls) (upload_ticket (upload_of l.upload));
+  sound : IsUpload l.upload;
+}

@@ -1,0 +1,266 @@
+ghost use Rattle.std.specs.Prelude.{IfOk};
+ghost use Rattle.mg_link.specs.Acts.{IsOut};
+ghost use Rattle.mg_link.specs.Places.{out_at};
+ghost use Rattle.mg_gridfs.specs.Downloads.{download_ticket};
+ghost use Rattle.mg_gridfs.specs.DownloadView.{IsDownload, download_of};
+
+use super::files::{bucket, collection, empty_link, line_parts, number_of, put_into, small};
+use super::{expect, one_field, repeated, text, with};
+use mg_bson::{Binary, Bson, DateTime, Document};
+use mg_gridfs::{GridFsDownloadStream, ReadPoll};
+use mg_link::{Action, Error, ErrorKind, Exec, Step, plain};
+use mg_ops::{Insert, Operation, encode};
+use mg_options::InsertManyOptions;
+use mg_store::MemLink;
+use std::alloc::{AllocError, Global};
+use std::process::Abort;
+use std::test::Fail;
+
+// Opens a download of the file of this id.
+fn open(alloc: Global, link: &mut MemLink, id: i32) -> Result<GridFsDownloadStream, Error>
+    ensures sound { IfOk result (λ s. IsDownload s) }
+    ensures out { IfOk result (λ s. IsOut (out_at link.new.calls) (download_ticket (download_of s))) }
+{
+    let mut opening = bucket(alloc)?.open_download_stream(Bson::Int32(id));
+    'polls: for _count in 0..20 {
+        match opening.poll(link) {
+            Step::Pending(next) => opening = next,
+            Step::Done(download) => return Ok(download),
+            Step::Failed(error) => return Err(error),
+        }
+    }
+    Err(plain(ErrorKind::Io))
+}
+
+// The bytes of a read, as a text.
+fn bytes_word(alloc: Global, bytes: &[u8]) -> Result<String, AllocError> {
+    let text = std::str::from_utf8(bytes).unwrap_or("?");
+    format!(in alloc; "/{text}")
+}
+
+// One read into so much room, and whether it read nothing.
+fn read_word(
+    alloc: Global,
+    download: &mut GridFsDownloadStream,
+    link: &mut MemLink,
+    room: &mut [u8],
+) -> Result<(String, bool), AllocError>
+    requires out { IsOut (out_at link.old.calls) (download_ticket (download_of download.old)) }
+    requires sound { IsDownload download.old }
+    ensures out { IsOut (out_at link.new.calls) (download_ticket (download_of download.new)) }
+    ensures sound { IsDownload download.new }
+{
+    match download.poll_read(link, room) {
+        ReadPoll::Pending => Ok((String::from_str(alloc, "/pending")?, false)),
+        ReadPoll::Read(0) => Ok((String::from_str(alloc, "/end")?, true)),
+        ReadPoll::Read(count) => Ok((bytes_word(alloc, &room[..count])?, false)),
+        ReadPoll::Failed(error) => Ok((format!(in alloc; "/{error}")?, false)),
+    }
+}
+
+// Reads up to the first read of nothing.
+fn read_words(
+    alloc: Global,
+    download: &mut GridFsDownloadStream,
+    link: &mut MemLink,
+    room: &mut [u8],
+) -> Result<String, AllocError>
+    requires out { IsOut (out_at link.old.calls) (download_ticket (download_of download.old)) }
+    requires sound { IsDownload download.old }
+{
+    let mut told = String::new(alloc);
+    'reads: for _count in 0..200 {
+        let (word, ended) = read_word(alloc, download, link, room)?;
+        told.push_str(word.as_str())?;
+        if ended {
+            return Ok(told);
+        }
+    }
+    Ok(told)
+}
+
+// What is read of the file of this id, into so much room each time.
+fn got(alloc: Global, link: &mut MemLink, id: i32, room: usize) -> Result<String, Error> {
+    let mut room = vec![in alloc; 0u8; room]?;
+    match open(alloc, link, id) {
+        Ok(mut download) => Ok(read_words(alloc, &mut download, link, &mut room)?),
+        Err(error) => Ok(format!(in alloc; "{error}")?),
+    }
+}
+
+// ---- files that were put
+
+/// Each line is the size of the chunks and the room of a read, the pieces of a file, and what is read of it.
+const GETS: &str = "4,2~abc,defghi~/ab/cd/ef/gh/i/end in 12
+4,16~abc,defghi~/abcdefghi/end in 12
+4,9~abc,defghi~/abcdefghi/end in 12
+4,3~abcdefgh~/abc/def/gh/end in 11
+4,8~~/end in 2
+1,1~a,b~/a/b/end in 12";
+
+// Puts a file and gets it.
+fn put_and_got(
+    alloc: Global,
+    size: Option<u32>,
+    room: usize,
+    pieces: &str,
+) -> Result<String, Error> {
+    let mut link = empty_link(alloc);
+    put_into(alloc, &mut link, size, pieces)?;
+    let told = got(alloc, &mut link, 7, room)?;
+    let commands = link.log().calls().len();
+    Ok(format!(in alloc; "{told} in {commands}")?)
+}
+
+// Gets what a line says.
+fn expect_got(rt: &impl Abort, alloc: Global, line: &str) -> Result<(), Fail> {
+    let Some((sizes, pieces, wanted)) = line_parts(line) else {
+        return Err(Fail::from("line"));
+    };
+    let Some((size, room)) = sizes.split_once(',') else {
+        return Err(Fail::from("sizes"));
+    };
+    let room = number_of(Some(room)).min(100) as usize;
+    match put_and_got(alloc, Some(small(Some(size))), room, pieces) {
+        Ok(found) => expect(rt, line, found.as_str(), wanted),
+        Err(_) => return Err(Fail::from("put")),
+    }
+    Ok(())
+}
+
+#[test]
+fn what_was_put_is_got(rt: HostRuntime) -> Result<(), Fail> {
+    let alloc = rt.alloc();
+    for line in GETS.lines() {
+        expect_got(&rt, alloc, line)?;
+    }
+    let piece = repeated(alloc, "", "z", 100, "")?;
+    let wanted = repeated(alloc, "/", "z", 100, "/end in 4")?;
+    match put_and_got(alloc, None, 100, piece.as_str()) {
+        Ok(found) => expect(&rt, "one short chunk", found.as_str(), wanted.as_str()),
+        Err(_) => return Err(Fail::from("put")),
+    }
+    Ok(())
+}
+
+// ---- files that differ from their records
+
+// The record of a file of so many bytes in chunks of this size.
+fn record(alloc: Global, length: &str, size: &str) -> Result<Document, Error> {
+    let record = one_field(alloc, "_id", Bson::Int32(5))?;
+    let length = i64::try_from(number_of(Some(length))).unwrap_or(0);
+    let record = with(record, "length", Bson::Int64(length))?;
+    let size = i32::try_from(small(Some(size))).unwrap_or(0);
+    let record = with(record, "chunkSize", Bson::Int32(size))?;
+    Ok(with(record, "uploadDate", Bson::DateTime(DateTime { millis: 0 }))?)
+}
+
+// A chunk by its number and its bytes; behind a `t` the bytes are a text.
+fn chunk(alloc: Global, word: &str) -> Result<Document, Error> {
+    let (number, bytes) = word.split_once(':').unwrap_or(("0", word));
+    let data = match bytes.strip_prefix("t") {
+        Some(rest) => text(alloc, rest)?,
+        None => Bson::Binary(Binary {
+            subtype: 0,
+            bytes: Vec::from_slice(alloc, bytes.as_bytes())?,
+        }),
+    };
+    let chunk = one_field(alloc, "files_id", Bson::Int32(5))?;
+    let number = i32::try_from(small(Some(number))).unwrap_or(0);
+    let chunk = with(chunk, "n", Bson::Int32(number))?;
+    Ok(with(chunk, "data", data)?)
+}
+
+// Inserts documents.
+fn insert(
+    alloc: Global,
+    link: &mut MemLink,
+    coll: &str,
+    documents: Vec<Document>,
+) -> Result<(), Error> {
+    let insert = Insert {
+        ns: collection(alloc, coll)?,
+        documents,
+        options: InsertManyOptions::builder(),
+    };
+    let command = encode(alloc, &insert, 21, None)?;
+    match Exec::start(command, insert.retry(None)).run(link, 20) {
+        Step::Pending(_) => Err(plain(ErrorKind::Io)),
+        Step::Done(_) => Ok(()),
+        Step::Failed(error) => Err(error),
+    }
+}
+
+// Each chunk has an `_id` of its own, by its place.
+fn chunks(alloc: Global, words: &str) -> Result<Vec<Document>, Error> {
+    let mut documents = Vec::new(alloc);
+    let mut id = 0u8;
+    for word in words.split(' ') {
+        let chunk = with(chunk(alloc, word)?, "_id", Bson::Int32(i32::from(id)))?;
+        documents.push(chunk)?;
+        id = id.saturating_add(1);
+    }
+    Ok(documents)
+}
+
+// What is read of a file with this record and these chunks.
+fn differing(alloc: Global, sizes: &str, words: &str, room: usize) -> Result<String, Error> {
+    let (length, size) = sizes.split_once(',').unwrap_or((sizes, "0"));
+    let mut link = empty_link(alloc);
+    let mut records = Vec::new(alloc);
+    records.push(record(alloc, length, size)?)?;
+    insert(alloc, &mut link, "fs.files", records)?;
+    insert(alloc, &mut link, "fs.chunks", chunks(alloc, words)?)?;
+    got(alloc, &mut link, 5, room)
+}
+
+/// Each line is the length of the file and the size of its chunks by its record, the chunks that are there, and what is read: into room
+/// for 4 bytes, and into room for 16.
+const DIFFERING: &str = "10,4~0:abcd 1:efgh 2:ij~/abcd/efgh/ij/end /abcdefghij/end
+10,4~0:abcd 1:efgh~/abcd/chunk 2 is missing/end /chunk 2 is missing/end
+10,4~2:ij 1:efgh 0:abcd~/abcd/efgh/ij/end /abcdefghij/end
+4,4~1:abcd~/chunk 0 is missing/end /chunk 0 is missing/end
+4,4~0:abcd 0:abcd~/chunk 1 is missing/end /chunk 1 is missing/end
+4,4~0:abcd 1:efgh~/abcd/chunk 2 is missing/end /chunk 2 is missing/end
+10,4~0:abc~/chunk 0 has 3 bytes and not 4/end /chunk 0 has 3 bytes and not 4/end
+10,4~0:abcd 1:efgh 2:ijk~/chunk 2 has 3 bytes and not 2/end /chunk 2 has 3 bytes and not 2/end
+4,4~0:tabcd~/invalid response: bad chunk/end /invalid response: bad chunk/end
+8,4~0:abcd 2:tabcd~/invalid response: bad chunk/end /invalid response: bad chunk/end
+0,4~0:abcd~/end /end
+4,0~0:abcd~invalid response: chunk size 0 invalid response: chunk size 0
+9223372036854775807,1~0:a~invalid response: too many chunks invalid response: too many chunks";
+
+// Reads what a line says.
+fn expect_differing(rt: &impl Abort, alloc: Global, line: &str) -> Result<(), Fail> {
+    let Some((sizes, words, wanted)) = line_parts(line) else {
+        return Err(Fail::from("line"));
+    };
+    let Ok(small_room) = differing(alloc, sizes, words, 4) else {
+        return Err(Fail::from("not inserted"));
+    };
+    let Ok(large_room) = differing(alloc, sizes, words, 16) else {
+        return Err(Fail::from("not inserted"));
+    };
+    let found = format!(in alloc; "{small_room} {large_room}")?;
+    expect(rt, line, found.as_str(), wanted);
+    Ok(())
+}
+
+#[test]
+fn chunks_are_checked(rt: HostRuntime) -> Result<(), Fail> {
+    for line in DIFFERING.lines() {
+        expect_differing(&rt, rt.alloc(), line)?;
+    }
+    Ok(())
+}
+
+#[test]
+fn no_file_is_there(rt: HostRuntime) -> Result<(), Fail> {
+    let alloc = rt.alloc();
+    let mut link = empty_link(alloc);
+    match got(alloc, &mut link, 5, 4) {
+        Ok(found) => expect(&rt, "no file", found.as_str(), "no file with this id"),
+        Err(_) => return Err(Fail::from("not asked")),
+    }
+    Ok(())
+}
