@@ -1,5 +1,6 @@
 -- What the answers of an upload are caused by.
-use Rattle.std.proofs.Common.{◌≡◌, ◌≤◌, ℕ, zero, suc, ℤ, false, List, [], ◌∷◌, length, Option, Some, None, refl, sym, ap, ◌∙◌, subst, inl, inr, arith}
+use Rattle.std.proofs.Common.{◌≡◌, ◌≤◌, ◌+◌, ◌*◌, ◌^◌, ℕ, zero, suc, ℤ, false, List, [], ◌∷◌, length, take, Option, Some, None, refl, sym, ap, ◌∙◌, subst, inl, inr, arith}
+use Rattle.std.proofs.lemmas.List.{length-take-le}
 use Rattle.std.specs.Prelude.{option_map}
 use Rattle.mg_bson.specs.Raw.{fields}
 use Rattle.mg_bson.specs.Tree.{Fields}
@@ -18,18 +19,19 @@ use Rattle.mg_link.proofs.Owners.{same_some}
 use Rattle.mg_link.proofs.Pasts.{fails_anyhow, heard_by, request_fails_grows}
 use Rattle.mg_link.proofs.Waits.{waits_still}
 use Rattle.mg_options.specs.Fields.{Line, fields_in}
-use Rattle.mg_ops.specs.Failing.{FailsBy}
+use Rattle.mg_ops.specs.Failing.{CannotBeSent, FailsBy}
 use Rattle.mg_ops.specs.Writes.{FailedAs, NotInserted, count_of}
 use Rattle.mg_gridfs.specs.Causes as causes
-use Rattle.mg_gridfs.specs.Causes.{CallFails, CheckFails, CheckUnderway, FlightUnderway, HeardRemoved, IsCausedFirst, ListsFirst, ListsFor, PhaseUnderway, RemovalFails, UploadFails}
+use Rattle.mg_gridfs.specs.Causes.{ArePortion, CallFails, CheckFails, CheckUnderway, FlightUnderway, HeardRemoved, IsCausedFirst, ListsFirst, ListsFor, PhaseUnderway, RemovalFails, UploadFails}
 use Rattle.mg_gridfs.specs.Checks as check
 use Rattle.mg_gridfs.specs.Checks.{CheckTurned, ChecksOn, ClientCheck, IsSoundCheck, LandsCheck, still_of}
 use Rattle.mg_gridfs.specs.Commands.{CannotSend, IsRequest, any_lines, chunk_document, chunks_lines, deletion_lines, record_lines}
 use Rattle.mg_gridfs.specs.Steps as steps
-use Rattle.mg_gridfs.specs.Steps.{BeginsCheck, CannotEnd, CannotFill, CheckLeads, DoesStep, DoesSteps, Ends, FailsToUndo, Fills, HearsChunks, HearsLast, HearsRecord, HearsRemoval, LandedAs, LandsFlight, Removes, Rests, Stepped, begins_check, checks_on, done, ends_next, failed, fills_next, goes, ids_behind, inserts_last, inserts_on, is_short, lands_on, not_encoded, of_check, of_command, records_on, removes_on, rests_next, too_large, too_many, undoes_next, undone_by, waits}
+use Rattle.mg_gridfs.specs.Steps.{BeginsCheck, CannotEnd, CannotFill, CheckLeads, DoesStep, DoesSteps, Ends, FailsToUndo, Fills, HearsChunks, HearsLast, HearsRecord, HearsRemoval, IsPortion, LandedAs, LandsFlight, Removes, Rests, Stepped, begins_check, checks_on, done, ends_next, failed, fills_next, first_chunks, goes, ids_behind, inserts_last, inserts_on, is_short, lands_on, not_encoded, of_check, of_command, records_on, removes_on, rests_next, too_large, too_many, undoes_next, undone_by, waits}
 use Rattle.mg_gridfs.specs.Uploads as uploads
-use Rattle.mg_gridfs.specs.Uploads.{Aim, ClientUpload, Ending, Flight, HasBounds, IsFlight, IsInsertion, IsLast, IsOfCall, IsSoundPhase, Phase, abort, by_check, by_command, close, ends, fills, inserts, lands, lasts, record_of, records, removes, undoes, write}
+use Rattle.mg_gridfs.specs.Uploads.{Aim, ClientUpload, Ending, Flight, HasBounds, IsFlight, IsInsertion, IsLast, IsOfCall, IsShort, IsSoundPhase, Phase, abort, by_check, by_command, close, ends, fills, inserts, lands, lasts, record_of, records, removes, rests, undoes, write}
 use Rattle.mg_gridfs.proofs.Driving.{call_kept}
+use Rattle.mg_gridfs.proofs.Filling.{first_one}
 use Rattle.mg_gridfs.proofs.Keeping.{same_pending, step_kept}
 use Rattle.mg_gridfs.proofs.Storing.{of_close, of_write}
 
@@ -38,8 +40,9 @@ use Rattle.mg_gridfs.proofs.Storing.{of_close, of_write}
 module _ (past past' : Past) (grows : Grows past past') where
   upload_fails_grows : (aim : Aim) (e : Error) → UploadFails past aim e → UploadFails past' aim e
   upload_fails_grows aim e (causes.out_of_memory is) = causes.out_of_memory is
-  upload_fails_grows aim e (causes.chunks_not_built documents cannot) = causes.chunks_not_built documents cannot
-  upload_fails_grows aim e (causes.document_not_built d cannot) = causes.document_not_built d cannot
+  upload_fails_grows aim e (causes.chunks_not_built documents portion cannot) = causes.chunks_not_built documents portion cannot
+  upload_fails_grows aim e (causes.document_not_built id number bytes long cannot) = causes.document_not_built id number bytes long cannot
+  upload_fails_grows aim e (causes.last_not_built document rest cannot) = causes.last_not_built document rest cannot
   upload_fails_grows aim e (causes.record_not_built ending cannot) = causes.record_not_built ending cannot
   upload_fails_grows aim e (causes.by_chunks documents fails) = causes.by_chunks documents (request_fails_grows past past' grows (fields_in (chunks_lines aim.bucket documents)) false (ListsFor documents) e fails)
   upload_fails_grows aim e (causes.by_record ending fails) = causes.by_record ending (request_fails_grows past past' grows (fields_in (record_lines aim.bucket (record_of aim ending))) false (ListsFor (record_of aim ending ∷ [])) e fails)
@@ -89,6 +92,26 @@ are_as_many n [] (d ∷ ds) are = absurd are
 are_as_many n (c ∷ cs) [] are = absurd are
 are_as_many n (c ∷ cs) (d ∷ ds) are = ap suc (are_as_many (suc n) cs ds are.1)
 
+-- the chunks of a command are those of the file
+portion_of : (u : ClientUpload) (ids : ℕ → List ℕ) (count : ℕ) → IsPortion u (first_chunks u ids count) count → u.sent + count ≤ 2 ^ 31 → ArePortion u.aim (first_chunks u ids count)
+portion_of u ids count portion small = record {
+  ids = ids;
+  first = u.sent;
+  count = count;
+  bytes = take (count * u.aim.size) u.behind;
+  some = portion.some;
+  few = portion.few;
+  small = small;
+  even = length-take-le (count * u.aim.size) u.behind portion.within;
+  these = refl;
+  together = portion.together;
+}
+
+-- the first of some documents cannot be sent
+abbrev FirstFails : Error → List Fields → Type 0
+FirstFails e [] = ⊥
+FirstFails e (d ∷ ds) = CannotBeSent d e
+
 -- the removal that waits is of the same call
 as_undo : (call : uploads.Call) (s : Sending) (error : Option Error) → IsOfCall call (removes s error) → IsOfCall call (undoes error)
 as_undo (write piece) s None h = absurd h
@@ -127,16 +150,17 @@ module _ (old new : Awaited) (log log' : Told) (u u' : ClientUpload) (r : Steppe
 
   -- ---- the way ahead
 
-  fills_caused : (ids : ℕ → List ℕ) (drawn : ℕ) → SendsNothing old new log log' → Fills ids drawn u u' r → Behind
-  fills_caused ids drawn quiet (steps.built count s portion small n request is answer) =
+  fills_caused : (ids : ℕ → List ℕ) (drawn : ℕ) → SendsNothing old new log log' → u.aim.size ≤ length u.behind → Fills ids drawn u u' r → Behind
+  fills_caused ids drawn quiet full (steps.built count s portion small n request is answer) =
       quietly quiet (as_answer (past_of places since calls wire) (goes (inserts s count)) answer (subst (λ (stage : Stage). Flies new (past_of places since calls wire) (fields s.command) stage) (sym request.new) tt))
-  fills_caused ids drawn quiet (steps.not_built e left fails is answer) =
+  fills_caused ids drawn quiet full (steps.not_built e left fails is answer) =
       quietly quiet (undone_caused (past_of places since calls wire) e answer (memory_kind (past_of places since calls wire) u.aim (CannotFill u ids) e (λ x cannot. by_cause x cannot) fails))
     where
       by_cause : (x : Error) → CannotFill u ids x → UploadFails (past_of places since calls wire) u.aim x
       by_cause x (too_many count some within most is) = causes.too_large u.sent count some most is
-      by_cause x (too_large count cannot) = causes.chunks_not_built _ cannot
-      by_cause x (not_encoded d is cannot) = causes.document_not_built d cannot
+      by_cause x (too_large count portion small cannot) = causes.chunks_not_built (first_chunks u ids count) (portion_of u ids count portion small) cannot
+      by_cause x (not_encoded d is cannot) =
+          causes.document_not_built (ids 0) u.sent (take u.aim.size u.behind) (length-take-le u.aim.size u.behind full) (subst (FirstFails x) (sym is ∙ first_one u ids bounds.size.some full) cannot)
 
   chunks_caused : (s : Sending) (count : ℕ) (c : Step Sending (List ℕ)) → IsInsertion u s count → Runs old new log log' wire s c → HearsChunks count c u u' r → Flies old (past_of places since calls wire) (fields s.command) s.stage → Behind
   chunks_caused s count c i runs h flies = grown c (fields_in (chunks_lines u.aim.bucket i.documents)) (write_ran (chunks_lines u.aim.bucket i.documents) s c i.request runs flies) (λ past grows came_so. by_reply c runs h past came_so)
@@ -152,15 +176,15 @@ module _ (old new : Awaited) (log log' : Told) (u u' : ClientUpload) (r : Steppe
           (λ x cause. causes.by_chunks i.documents (was_broken bytes heard (success_ran old new log log' wire s bytes ran) (subst (λ (n : ℕ). NotInserted n (fields bytes) x) (sym as_many) cause))) fails)
       by_reply (came.Failed e) ran hears past fails = undone_caused past e hears.1 (causes.by_chunks i.documents (fails_anyhow past (fields_in (chunks_lines u.aim.bucket i.documents)) false (ListsFor i.documents) e fails))
 
-  rests_caused : (ids : ℕ → List ℕ) (drawn : ℕ) (moment : ℤ) → SendsNothing old new log log' → Rests ids drawn moment u u' r → Behind
-  rests_caused ids drawn moment quiet (steps.nothing_left none n is answer) = quietly quiet (as_answer (past_of places since calls wire) (goes (ends (steps.ending_of u moment))) answer tt)
-  rests_caused ids drawn moment quiet (steps.built some small n s request is answer) =
+  rests_caused : (ids : ℕ → List ℕ) (drawn : ℕ) (moment : ℤ) → IsShort u → SendsNothing old new log log' → Rests ids drawn moment u u' r → Behind
+  rests_caused ids drawn moment short quiet (steps.nothing_left none n is answer) = quietly quiet (as_answer (past_of places since calls wire) (goes (ends (steps.ending_of u moment))) answer tt)
+  rests_caused ids drawn moment short quiet (steps.built some small n s request is answer) =
       quietly quiet (as_answer (past_of places since calls wire) (goes (lasts s (steps.ending_of u moment))) answer (subst (λ (stage : Stage). Flies new (past_of places since calls wire) (fields s.command) stage) (sym request.new) tt))
-  rests_caused ids drawn moment quiet (steps.not_built e left fails is answer) = quietly quiet (undone_caused (past_of places since calls wire) e answer (memory_kind (past_of places since calls wire) u.aim (CannotEnd u (chunk_document (ids 0) u.aim.id u.sent u.behind ∷ [])) e (λ x cannot. by_cause (chunk_document (ids 0) u.aim.id u.sent u.behind ∷ []) x cannot) fails))
+  rests_caused ids drawn moment short quiet (steps.not_built e left fails is answer) = quietly quiet (undone_caused (past_of places since calls wire) e answer (memory_kind (past_of places since calls wire) u.aim (CannotEnd u (chunk_document (ids 0) u.aim.id u.sent u.behind ∷ [])) e (λ x cannot. by_cause (chunk_document (ids 0) u.aim.id u.sent u.behind) refl x cannot) fails))
     where
-      by_cause : (documents : List Fields) (x : Error) → CannotEnd u documents x → UploadFails (past_of places since calls wire) u.aim x
-      by_cause documents x (too_many most is) = causes.too_large u.sent 1 (omega arith) most is
-      by_cause documents x (too_large cannot) = causes.chunks_not_built documents cannot
+      by_cause : (document : Fields) → document ≡ chunk_document (ids 0) u.aim.id u.sent u.behind → (x : Error) → CannotEnd u (document ∷ []) x → UploadFails (past_of places since calls wire) u.aim x
+      by_cause document this x (too_many most is) = causes.too_large u.sent 1 (omega arith) most is
+      by_cause document this x (too_large small cannot) = causes.last_not_built document (record { id = ids 0; number = u.sent; bytes = u.behind; short = short; small = small; this = this }) cannot
 
   last_caused : (s : Sending) (ending : Ending) (c : Step Sending (List ℕ)) → IsLast u s ending → Runs old new log log' wire s c → HearsLast ending c u u' r → Flies old (past_of places since calls wire) (fields s.command) s.stage → Behind
   last_caused s ending c l runs h flies = grown c (fields_in (chunks_lines u.aim.bucket (l.document ∷ []))) (write_ran (chunks_lines u.aim.bucket (l.document ∷ [])) s c l.request runs flies) (λ past grows came_so. by_reply c runs h past came_so)
@@ -331,9 +355,9 @@ module _ (checks_caused : ChecksCaused) (landings_caused : LandingsCaused) (old 
       let g = checks_caused old new log log' wire u.aim c t (own_at (uploads.checks c) is).0 checks_so calls told places since room (under_at (uploads.checks c) is h) in
       (g.0, g.1, g.2, check_leads (λ x. subst (IsOfCall abort) is x) t leads (past_of places since g.0 wire) g.3)
   step_caused ids drawn (is_short is quiet n short same answer) h = quiet_step quiet (as_step (past_of places since calls wire) done answer (subst (λ (c : uploads.Call). DoneCaused c (past_of places since calls wire) u.aim) (sym (of_write call (call_at fills is)).1) tt))
-  step_caused ids drawn (fills_next is quiet full does) h = fills_caused old new log log' u u' r bounds calls told places since room wire call ids drawn quiet does
+  step_caused ids drawn (fills_next is quiet full does) h = fills_caused old new log log' u u' r bounds calls told places since room wire call ids drawn quiet full does
   step_caused ids drawn (inserts_on s count is n c runs hears) h = chunks_caused old new log log' u u' r bounds calls told places since room wire call s count c (own_at (inserts s count) is) runs hears (under_at (inserts s count) is h)
-  step_caused ids drawn (rests_next moment is quiet does) h = rests_caused old new log log' u u' r bounds calls told places since room wire call ids drawn moment quiet does
+  step_caused ids drawn (rests_next moment is quiet does) h = rests_caused old new log log' u u' r bounds calls told places since room wire call ids drawn moment (own_at (rests moment) is) quiet does
   step_caused ids drawn (inserts_last s ending is n c runs hears) h = last_caused old new log log' u u' r bounds calls told places since room wire call s ending c (own_at (lasts s ending) is).0 runs hears (under_at (lasts s ending) is h)
   step_caused ids drawn (ends_next ending is quiet n does) h = ends_caused old new log log' u u' r bounds calls told places since room wire call ending quiet does
   step_caused ids drawn (records_on s ending is n c runs hears) h =

@@ -36,7 +36,8 @@ module _ (ids ids' : ℕ → List ℕ) (same : (k : ℕ) → ids k ≡ ids' k) w
 
   cannot_fill_same : (u : ClientUpload) (e : Error) → CannotFill u ids e → CannotFill u ids' e
   cannot_fill_same u e (too_many count some within past is) = too_many count some within past is
-  cannot_fill_same u e (too_large count cannot) = too_large count (subst (λ (ds : List Fields). CannotStore (chunks_lines u.aim.bucket ds) ds e) (first_same u count) cannot)
+  cannot_fill_same u e (too_large count portion small cannot) =
+      too_large count (subst (λ (ds : List Fields). IsPortion u ds count) (first_same u count) portion) small (subst (λ (ds : List Fields). CannotStore (chunks_lines u.aim.bucket ds) ds e) (first_same u count) cannot)
   cannot_fill_same u e (not_encoded d is cannot) = not_encoded d (sym (first_same u 1) ∙ is) cannot
 
   fills_same : (drawn : ℕ) (u u' : ClientUpload) (r : Stepped) → Fills ids drawn u u' r → Fills ids' drawn u u' r

@@ -50,13 +50,13 @@ unstored_not_io lines ds e (inr cannot) = not_storable lines ds e cannot
 pub unfilled_not_io : (u : ClientUpload) (ids : ℕ → List ℕ) (e : Error) → FailsBy (CannotFill u ids) e → e.kind ≡ kind.Io → ⊥
 unfilled_not_io u ids e (inl room) = no_room e room
 unfilled_not_io u ids e (inr (steps.too_many count some within past is)) = other_kind e kind.FileTooLarge is (λ bad. cc)
-unfilled_not_io u ids e (inr (steps.too_large count cannot)) = not_storable (chunks_lines u.aim.bucket (first_chunks u ids count)) (first_chunks u ids count) e cannot
+unfilled_not_io u ids e (inr (steps.too_large count portion small cannot)) = not_storable (chunks_lines u.aim.bucket (first_chunks u ids count)) (first_chunks u ids count) e cannot
 unfilled_not_io u ids e (inr (not_encoded d is limit)) = too_big d e limit
 
 pub unended_not_io : (u : ClientUpload) (ds : List Fields) (e : Error) → FailsBy (CannotEnd u ds) e → e.kind ≡ kind.Io → ⊥
 unended_not_io u ds e (inl room) = no_room e room
 unended_not_io u ds e (inr (steps.too_many past is)) = other_kind e kind.FileTooLarge is (λ bad. cc)
-unended_not_io u ds e (inr (steps.too_large cannot)) = not_storable (chunks_lines u.aim.bucket ds) ds e cannot
+unended_not_io u ds e (inr (steps.too_large small cannot)) = not_storable (chunks_lines u.aim.bucket ds) ds e cannot
 
 -- the reply to an insert is none of success
 pub not_inserted_io : (count : ℕ) (said : Fields) (e : Error) → FailsBy (NotInserted count said) e → e.kind ≡ kind.Io → ⊥

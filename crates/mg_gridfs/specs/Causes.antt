@@ -1,16 +1,19 @@
 -- What the answers of an upload are caused by, over all polls of a call.
-use Rattle.std.specs.Prelude.{◌≡◌, ◌≢◌, ◌⊎◌, ◌<◌, ◌+◌, ◌^◌, ℕ, ℤ, false, true, List, [], ◌∷◌, length, Option, Some, None}
+use Rattle.std.specs.Prelude.{◌≡◌, ◌≢◌, ◌⊎◌, ◌<◌, ◌≤◌, ◌+◌, ◌*◌, ◌^◌, ℕ, ℤ, false, true, List, [], ◌∷◌, length, Option, Some, None}
 use Rattle.mg_bson.specs.Raw.{fields}
 use Rattle.mg_bson.specs.Tree.{Fields}
 use Rattle.mg_link.specs.Calls.{Flies, HeardBy, Keeps, Past, RequestFails, past_of}
 use Rattle.mg_link.specs.Errors.{command_code, plain}
 use Rattle.mg_link.specs.Exec.{IsSuccess}
+use Rattle.mg_link.specs.Files.{chunked}
 use Rattle.mg_link.specs.Link.{Awaited, Told}
 use Rattle.mg_link.specs.Log.{Call, reply}
 use Rattle.mg_link.specs.declared.error.Error.{Error}
 use Rattle.mg_link.specs.declared.error.ErrorKind.TheVariants as kind
 use Rattle.mg_options.specs.Fields.{Line, fields_in}
 use Rattle.mg_ops.specs.Failing.{CannotBeSent}
+use Rattle.mg_ops.specs.InsertCauses.{FitTogether}
+use Rattle.mg_ops.specs.Limits.{max_documents}
 use Rattle.mg_ops.specs.Writes.{FailedAs, NotInserted, WriteFails, Wrote, count_of}
 use Rattle.mg_cursor.specs.Causes.{IsUnderway, TellsNoCursor}
 use Rattle.mg_cursor.specs.Documents.{DocumentCursor}
@@ -20,7 +23,7 @@ use Rattle.mg_records.specs.Specifications.{index_of}
 use Rattle.mg_gridfs.specs.Buckets.{ClientBucket}
 use Rattle.mg_gridfs.specs.Calls.{TakesNoClose, TakesNoWrite, stream_closed, write_in_progress}
 use Rattle.mg_gridfs.specs.Checks.{ClientCheck, creates, finds, indexes, lists, namespace_exists, reads}
-use Rattle.mg_gridfs.specs.Commands.{CannotSend, CannotStore, any_lines, chunks_lines, creation_lines, deletion_lines, index_lines, listing_lines, record_lines}
+use Rattle.mg_gridfs.specs.Commands.{CannotSend, CannotStore, any_lines, chunk_document, chunk_documents, chunks_lines, creation_lines, deletion_lines, index_lines, listing_lines, record_lines}
 use Rattle.mg_gridfs.specs.Steps.{FailsToUndo}
 use Rattle.mg_gridfs.specs.Uploads.{Aim, ClientUpload, Doing, Ending, Flight, Phase, begins, busy, by_check, by_command, checks, closed, ends, fills, idle, inserts, lands, lasts, record_of, records, removes, rests, undoes}
 use Rattle.mg_gridfs.specs.declared.indexes.Place.{Place}
@@ -71,11 +74,34 @@ CheckUnderway awaited past b (indexes at sending) = Flies awaited past (fields_i
 abbrev pub ListsFor : List Fields → List ℕ → Error → Type 0
 ListsFor documents bytes e = NotInserted (length documents) (fields bytes) e
 
+-- full chunks of a file, numbered from one on, as many as one command may hold
+pub record ArePortion (aim : Aim) (documents : List Fields) : Type 0 where
+  pub ids : ℕ → List ℕ
+  pub first : ℕ
+  pub count : ℕ
+  pub bytes : List ℕ
+  pub some : 0 < count
+  pub few : count ≤ max_documents
+  pub small : first + count ≤ 2 ^ 31
+  pub even : length bytes ≡ count * aim.size
+  pub these : documents ≡ chunk_documents ids 0 aim.id first (chunked aim.size bytes)
+  pub together : FitTogether documents
+
+-- what is left behind the full chunks of a file, as its last one
+pub record IsRest (aim : Aim) (document : Fields) : Type 0 where
+  pub id : List ℕ
+  pub number : ℕ
+  pub bytes : List ℕ
+  pub short : length bytes < aim.size
+  pub small : number + 1 ≤ 2 ^ 31
+  pub this : document ≡ chunk_document id aim.id number bytes
+
 pub data UploadFails (past : Past) (aim : Aim) (e : Error) : Type 0 where
   out_of_memory : e.kind ≡ kind.OutOfMemory → UploadFails past aim e
-  -- chunks, one of them, or the record, cannot be stored
-  chunks_not_built : (documents : List Fields) → CannotStore (chunks_lines aim.bucket documents) documents e → UploadFails past aim e
-  document_not_built : (d : Fields) → CannotBeSent d e → UploadFails past aim e
+  -- the full chunks of a command, one of them, the last chunk, or the record, cannot be stored
+  chunks_not_built : (documents : List Fields) → ArePortion aim documents → CannotStore (chunks_lines aim.bucket documents) documents e → UploadFails past aim e
+  document_not_built : (id : List ℕ) (number : ℕ) (bytes : List ℕ) → length bytes ≡ aim.size → CannotBeSent (chunk_document id aim.id number bytes) e → UploadFails past aim e
+  last_not_built : (document : Fields) → IsRest aim document → CannotStore (chunks_lines aim.bucket (document ∷ [])) (document ∷ []) e → UploadFails past aim e
   record_not_built : (ending : Ending) → CannotStore (record_lines aim.bucket (record_of aim ending)) (record_of aim ending ∷ []) e → UploadFails past aim e
   by_chunks : (documents : List Fields) → RequestFails past (fields_in (chunks_lines aim.bucket documents)) false (ListsFor documents) e → UploadFails past aim e
   by_record : (ending : Ending) → RequestFails past (fields_in (record_lines aim.bucket (record_of aim ending))) false (ListsFor (record_of aim ending ∷ [])) e → UploadFails past aim e

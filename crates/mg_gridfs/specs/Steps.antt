@@ -64,7 +64,8 @@ pub record IsPortion (u : ClientUpload) (documents : List Fields) (count : ℕ) 
 -- why full chunks are not inserted: their numbers pass the greatest, or they cannot be stored
 pub data CannotFill (u : ClientUpload) (ids : ℕ → List ℕ) (e : Error) : Type 0 where
   too_many : (count : ℕ) → 0 < count → count * u.aim.size ≤ length u.behind → 2 ^ 31 < u.sent + count → e ≡ plain kind.FileTooLarge → CannotFill u ids e
-  too_large : (count : ℕ) → CannotStore (chunks_lines u.aim.bucket (first_chunks u ids count)) (first_chunks u ids count) e → CannotFill u ids e
+  -- as many as one command holds
+  too_large : (count : ℕ) → IsPortion u (first_chunks u ids count) count → u.sent + count ≤ 2 ^ 31 → CannotStore (chunks_lines u.aim.bucket (first_chunks u ids count)) (first_chunks u ids count) e → CannotFill u ids e
   not_encoded : (d : Fields) → first_chunks u ids 1 ≡ d ∷ [] → CannotBeSent d e → CannotFill u ids e
 
 -- The next full chunks are put into a command, and stand in it alone; the bytes of chunks that come into none are lost with the upload.
@@ -95,7 +96,7 @@ ending_of u moment = record { length = u.sent * u.aim.size + length u.behind; mo
 -- why the last chunk is not inserted
 pub data CannotEnd (u : ClientUpload) (documents : List Fields) (e : Error) : Type 0 where
   too_many : 2 ^ 31 < u.sent + 1 → e ≡ plain kind.FileTooLarge → CannotEnd u documents e
-  too_large : CannotStore (chunks_lines u.aim.bucket documents) documents e → CannotEnd u documents e
+  too_large : u.sent + 1 ≤ 2 ^ 31 → CannotStore (chunks_lines u.aim.bucket documents) documents e → CannotEnd u documents e
 
 -- what is left is put into a command as the last chunk
 pub data Rests (ids : ℕ → List ℕ) (drawn : ℕ) (moment : ℤ) (u u' : ClientUpload) (r : Stepped) : Type 0 where

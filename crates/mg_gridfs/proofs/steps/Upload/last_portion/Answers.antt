@@ -1,4 +1,4 @@
-use Rattle.std.proofs.Common.{◌≡◌, ◌<◌, ◌∷◌, [], ℕ, List, false, length, refl, inl, inr, sym, ap, ◌∙◌, subst, arith}
+use Rattle.std.proofs.Common.{◌≡◌, ◌<◌, ◌≤◌, ◌+◌, ◌^◌, ◌∷◌, [], ℕ, List, false, length, refl, inl, inr, sym, ap, ◌∙◌, subst, arith}
 use Rattle.std.proofs.lemmas.Result.{IfErr-weaker, IfOk-weaker, err_from_is_err_and}
 use Rattle.mg_bson.specs.Tree.{Fields}
 use Rattle.mg_ops.specs.Drawn.{AreLater}
@@ -37,14 +37,14 @@ returns-clause-ok g c =
     }) c.insert_chunks.ensures.ok
 
 -- it is not built
-too_large : (u : ClientUpload) (ds ds0 : List Fields) (e : Error) → ds ≡ ds0 → FailsBy (CannotStore (chunks_lines u.aim.bucket ds) ds) e → FailsBy (CannotEnd u ds0) e
-too_large u ds ds0 e is (inl room) = inl room
-too_large u ds ds0 e is (inr cannot) = inr (steps.too_large (subst (λ (l : List Fields). CannotStore (chunks_lines u.aim.bucket l) l e) is cannot))
+too_large : (u : ClientUpload) (ds ds0 : List Fields) (e : Error) → u.sent + 1 ≤ 2 ^ 31 → ds ≡ ds0 → FailsBy (CannotStore (chunks_lines u.aim.bucket ds) ds) e → FailsBy (CannotEnd u ds0) e
+too_large u ds ds0 e small is (inl room) = inl room
+too_large u ds ds0 e small is (inr cannot) = inr (steps.too_large small (subst (λ (l : List Fields). CannotStore (chunks_lines u.aim.bucket l) l e) is cannot))
 
 pub returns-clause-err : goal.returns-clause-err
 returns-clause-err g c =
     let docs = c.in_ok-documents.ensures.ok ∙ ap (λ (d : Fields). d ∷ []) (c.in_ok-document.ensures.ok ∙ ap (λ (i : List ℕ). chunk_document i (worker_of c.args.self.now).aim.id (worker_of c.args.self.now).sent c.take_rest-bytes.result.items) c.drawn-id.ensures.id ∙ ap (λ (b : List ℕ). chunk_document ((g.I.IdSource.ids c.args.ids.now) 0) (worker_of c.args.self.now).aim.id (worker_of c.args.self.now).sent b) c.take_rest-bytes.ensures.taken) in
-    IfErr-weaker c.insert_chunks.result _ _ (λ e fails. too_large (worker_of c.args.self.now) c.in_ok-documents.documents.items ((chunk_document ((g.I.IdSource.ids c.args.ids.now) 0) (worker_of c.args.self.now).aim.id (worker_of c.args.self.now).sent (worker_of c.args.self.now).behind) ∷ []) e docs fails) c.insert_chunks.ensures.err
+    IfErr-weaker c.insert_chunks.result _ _ (λ e fails. too_large (worker_of c.args.self.now) c.in_ok-documents.documents.items ((chunk_document ((g.I.IdSource.ids c.args.ids.now) 0) (worker_of c.args.self.now).aim.id (worker_of c.args.self.now).sent (worker_of c.args.self.now).behind) ∷ []) e c.in_ok-last_number.ensures.fits docs fails) c.insert_chunks.ensures.err
 
 pub returns-in_err-last_number-clause-err : goal.returns-in_err-last_number-clause-err
 returns-in_err-last_number-clause-err g c =

@@ -35,7 +35,7 @@ returns-in_err-exec-clause-err g c =
     let e = c.in_err-exec.field-0.0 in
     let t = c.in_ok-documents.ensures.ok in
     let fails = subst (λ (ds : List Fields). FailsBy (CannotStore (chunks_lines (worker_of c.args.self.now).aim.bucket ds) ds) e) t.these (subst (λ (a : uploads.Aim). FailsBy (CannotStore (chunks_lines a.bucket c.in_ok-documents.field-0.documents.items) c.in_ok-documents.field-0.documents.items) e) c.next_chunks.ensures.same.0.aim c.in_err-exec.ensures.err) in
-    rw (p.1, p.2) (elim fails [ inl room ↦ inl room | inr cannot ↦ inr (steps.too_large c.in_ok-documents.field-0.count cannot) ])
+    rw (p.1, p.2) (elim fails [ inl room ↦ inl room | inr cannot ↦ inr (steps.too_large c.in_ok-documents.field-0.count t.portion t.small cannot) ])
 
 pub returns-in_err-documents-clause-same : goal.returns-in_err-documents-clause-same
 returns-in_err-documents-clause-same g c = c.next_chunks.ensures.same
