@@ -46,7 +46,7 @@ module _ (past past' : Past) (grows : Grows past past') where
   upload_fails_grows aim e (causes.record_not_built ending cannot) = causes.record_not_built ending cannot
   upload_fails_grows aim e (causes.by_chunks documents fails) = causes.by_chunks documents (request_fails_grows past past' grows (fields_in (chunks_lines aim.bucket documents)) false (ListsFor documents) e fails)
   upload_fails_grows aim e (causes.by_record ending fails) = causes.by_record ending (request_fails_grows past past' grows (fields_in (record_lines aim.bucket (record_of aim ending))) false (ListsFor (record_of aim ending ∷ [])) e fails)
-  upload_fails_grows aim e (causes.too_large first count some past_most is) = causes.too_large first count some past_most is
+  upload_fails_grows aim e (causes.too_large first count bound some few past_most is) = causes.too_large first count bound some few past_most is
 
   first_grows : (aim : Aim) (error : Option Error) → IsCausedFirst past aim error → IsCausedFirst past' aim error
   first_grows aim None h = tt
@@ -157,7 +157,7 @@ module _ (old new : Awaited) (log log' : Told) (u u' : ClientUpload) (r : Steppe
       quietly quiet (undone_caused (past_of places since calls wire) e answer (memory_kind (past_of places since calls wire) u.aim (CannotFill u ids) e (λ x cannot. by_cause x cannot) fails))
     where
       by_cause : (x : Error) → CannotFill u ids x → UploadFails (past_of places since calls wire) u.aim x
-      by_cause x (too_many count some within most is) = causes.too_large u.sent count some most is
+      by_cause x (too_many count some few within most why is) = causes.too_large u.sent count bounds.few some few most is
       by_cause x (too_large count portion small cannot) = causes.chunks_not_built (first_chunks u ids count) (portion_of u ids count portion small) cannot
       by_cause x (not_encoded d is cannot) =
           causes.document_not_built (ids 0) u.sent (take u.aim.size u.behind) (length-take-le u.aim.size u.behind full) (subst (FirstFails x) (sym is ∙ first_one u ids bounds.size.some full) cannot)
@@ -180,11 +180,11 @@ module _ (old new : Awaited) (log log' : Told) (u u' : ClientUpload) (r : Steppe
   rests_caused ids drawn moment short quiet (steps.nothing_left none n is answer) = quietly quiet (as_answer (past_of places since calls wire) (goes (ends (steps.ending_of u moment))) answer tt)
   rests_caused ids drawn moment short quiet (steps.built some small n s request is answer) =
       quietly quiet (as_answer (past_of places since calls wire) (goes (lasts s (steps.ending_of u moment))) answer (subst (λ (stage : Stage). Flies new (past_of places since calls wire) (fields s.command) stage) (sym request.new) tt))
-  rests_caused ids drawn moment short quiet (steps.not_built e left fails is answer) = quietly quiet (undone_caused (past_of places since calls wire) e answer (memory_kind (past_of places since calls wire) u.aim (CannotEnd u (chunk_document (ids 0) u.aim.id u.sent u.behind ∷ [])) e (λ x cannot. by_cause (chunk_document (ids 0) u.aim.id u.sent u.behind) refl x cannot) fails))
+  rests_caused ids drawn moment short quiet (steps.not_built some e left fails is answer) = quietly quiet (undone_caused (past_of places since calls wire) e answer (memory_kind (past_of places since calls wire) u.aim (CannotEnd u (chunk_document (ids 0) u.aim.id u.sent u.behind ∷ [])) e (λ x cannot. by_cause (chunk_document (ids 0) u.aim.id u.sent u.behind) refl x cannot) fails))
     where
       by_cause : (document : Fields) → document ≡ chunk_document (ids 0) u.aim.id u.sent u.behind → (x : Error) → CannotEnd u (document ∷ []) x → UploadFails (past_of places since calls wire) u.aim x
-      by_cause document this x (too_many most is) = causes.too_large u.sent 1 (omega arith) most is
-      by_cause document this x (too_large small cannot) = causes.last_not_built document (record { id = ids 0; number = u.sent; bytes = u.behind; short = short; small = small; this = this }) cannot
+      by_cause document this x (too_many most is) = causes.too_large u.sent 1 bounds.few (omega arith) (omega arith) most is
+      by_cause document this x (too_large small cannot) = causes.last_not_built document (record { id = ids 0; number = u.sent; bytes = u.behind; some = some; short = short; small = small; this = this }) cannot
 
   last_caused : (s : Sending) (ending : Ending) (c : Step Sending (List ℕ)) → IsLast u s ending → Runs old new log log' wire s c → HearsLast ending c u u' r → Flies old (past_of places since calls wire) (fields s.command) s.stage → Behind
   last_caused s ending c l runs h flies = grown c (fields_in (chunks_lines u.aim.bucket (l.document ∷ []))) (write_ran (chunks_lines u.aim.bucket (l.document ∷ [])) s c l.request runs flies) (λ past grows came_so. by_reply c runs h past came_so)

@@ -1,5 +1,5 @@
 -- All steps of a poll.
-use Rattle.std.proofs.Common.{◌≡◌, ◌+◌, ◌*◌, ℕ, zero, suc, ℤ, false, List, [], ◌∷◌, take, Option, Some, None, refl, sym, ap, ap₂, ◌∙◌, subst, inl, inr, arith}
+use Rattle.std.proofs.Common.{◌≡◌, ◌+◌, ◌*◌, ℕ, zero, suc, ℤ, false, List, [], ◌∷◌, length, take, Option, Some, None, refl, sym, ap, ap₂, ◌∙◌, subst, inl, inr, arith}
 use Rattle.mg_bson.specs.Tree.{Fields, Tree}
 use Rattle.mg_link.specs.Calls.{past_of}
 use Rattle.mg_link.specs.Files.{Bucket, chunked}
@@ -17,7 +17,7 @@ use Rattle.mg_gridfs.specs.Checks as check
 use Rattle.mg_gridfs.specs.Checks.{CheckTurned}
 use Rattle.mg_gridfs.specs.Commands.{CannotStore, IsNewRequest, chunk_document, chunk_documents, chunks_lines}
 use Rattle.mg_gridfs.specs.Steps as steps
-use Rattle.mg_gridfs.specs.Steps.{BeginsCheck, CannotEnd, CannotFill, CheckLeads, DoesStep, DoesSteps, Ends, Fills, HearsChunks, HearsLast, HearsRecord, HearsRemoval, IsPortion, LandedAs, Removes, Rests, Stepped, begins_check, checks_on, done, ending_of, ends_next, failed, fills_next, first_chunks, goes, ids_behind, inserts_last, inserts_on, is_short, lands_on, not_encoded, records_on, removes_on, rests_next, too_large, too_many, undoes_next, undone_by, waits}
+use Rattle.mg_gridfs.specs.Steps.{BeginsCheck, CannotEnd, CannotFill, CheckLeads, DoesStep, DoesSteps, Ends, Fills, HearsChunks, HearsLast, HearsRecord, HearsRemoval, IsPortion, LandedAs, PassNumbers, Removes, Rests, Stepped, begins_check, checks_on, done, ending_of, ends_next, failed, fills_next, first_chunks, goes, ids_behind, inserts_last, inserts_on, is_short, lands_on, not_encoded, of_first, of_last, records_on, removes_on, rests_next, too_large, too_many, undoes_next, undone_by, waits}
 use Rattle.mg_gridfs.specs.Storing.{KnowsPhase}
 use Rattle.mg_gridfs.specs.Uploads as uploads
 use Rattle.mg_gridfs.specs.Uploads.{Aim, ClientUpload, Flight, HasBounds, IsOfCall, IsShort, IsSoundPhase, Phase, abort, begins, checks, close, ends, fills, inserts, lands, lasts, records, removes, rests, undoes, write}
@@ -34,15 +34,22 @@ module _ (ids ids' : ℕ → List ℕ) (same : (k : ℕ) → ids k ≡ ids' k) w
   first_same : (u : ClientUpload) (count : ℕ) → first_chunks u ids count ≡ first_chunks u ids' count
   first_same u count = documents_same 0 u.aim.id u.sent (chunked u.aim.size (take (count * u.aim.size) u.behind))
 
+  portion_same : (u : ClientUpload) (count : ℕ) → IsPortion u (first_chunks u ids count) count → IsPortion u (first_chunks u ids' count) count
+  portion_same u count portion = subst (λ (ds : List Fields). IsPortion u ds count) (first_same u count) portion
+
+  numbers_same : (u : ClientUpload) → PassNumbers u ids → PassNumbers u ids'
+  numbers_same u (of_first past) = of_first past
+  numbers_same u (of_last count past portion) = of_last count past (λ are. portion_same u count (portion (λ k lt. ap length (same k) ∙ are k lt)))
+
   cannot_fill_same : (u : ClientUpload) (e : Error) → CannotFill u ids e → CannotFill u ids' e
-  cannot_fill_same u e (too_many count some within past is) = too_many count some within past is
+  cannot_fill_same u e (too_many count some few within past why is) = too_many count some few within past (numbers_same u why) is
   cannot_fill_same u e (too_large count portion small cannot) =
-      too_large count (subst (λ (ds : List Fields). IsPortion u ds count) (first_same u count) portion) small (subst (λ (ds : List Fields). CannotStore (chunks_lines u.aim.bucket ds) ds e) (first_same u count) cannot)
+      too_large count (portion_same u count portion) small (subst (λ (ds : List Fields). CannotStore (chunks_lines u.aim.bucket ds) ds e) (first_same u count) cannot)
   cannot_fill_same u e (not_encoded d is cannot) = not_encoded d (sym (first_same u 1) ∙ is) cannot
 
   fills_same : (drawn : ℕ) (u u' : ClientUpload) (r : Stepped) → Fills ids drawn u u' r → Fills ids' drawn u u' r
   fills_same drawn u u' r (steps.built count s portion small n request is answer) =
-      steps.built count s (subst (λ (ds : List Fields). IsPortion u ds count) (first_same u count) portion) small n (subst (λ (ds : List Fields). IsNewRequest false (chunks_lines u.aim.bucket ds) s) (first_same u count) request) is answer
+      steps.built count s (portion_same u count portion) small n (subst (λ (ds : List Fields). IsNewRequest false (chunks_lines u.aim.bucket ds) s) (first_same u count) request) is answer
   fills_same drawn u u' r (steps.not_built e left (inl memory) is answer) = steps.not_built e left (inl memory) is answer
   fills_same drawn u u' r (steps.not_built e left (inr cannot) is answer) = steps.not_built e left (inr (cannot_fill_same u e cannot)) is answer
 
@@ -50,8 +57,8 @@ module _ (ids ids' : ℕ → List ℕ) (same : (k : ℕ) → ids k ≡ ids' k) w
   rests_same drawn moment u u' r (steps.nothing_left none n is answer) = steps.nothing_left none n is answer
   rests_same drawn moment u u' r (steps.built some small n s request is answer) =
       steps.built some small n s (subst (λ (i : List ℕ). IsNewRequest false (chunks_lines u.aim.bucket (chunk_document i u.aim.id u.sent u.behind ∷ [])) s) (same 0) request) is answer
-  rests_same drawn moment u u' r (steps.not_built e left fails is answer) =
-      steps.not_built e left (subst (λ (i : List ℕ). FailsBy (CannotEnd u (chunk_document i u.aim.id u.sent u.behind ∷ [])) e) (same 0) fails) is answer
+  rests_same drawn moment u u' r (steps.not_built some e left fails is answer) =
+      steps.not_built some e left (subst (λ (i : List ℕ). FailsBy (CannotEnd u (chunk_document i u.aim.id u.sent u.behind ∷ [])) e) (same 0) fails) is answer
 
   -- a step asks for its ids one by one
   pub step_same : (old new : Awaited) (log log' : Told) (wire : ℤ) (drawn : ℕ) (u u' : ClientUpload) (p : Phase) (r : Stepped) → DoesStep old new log log' wire ids drawn u u' p r → DoesStep old new log log' wire ids' drawn u u' p r
@@ -190,7 +197,7 @@ module _ (call : uploads.Call) (u u' : ClientUpload) (r : Stepped) where
   rests_call : call ≡ close → (ids : ℕ → List ℕ) (drawn : ℕ) (moment : ℤ) → Rests ids drawn moment u u' r → CallStepped call u' r
   rests_call closes ids drawn moment (steps.nothing_left none n is answer) = stepped_as call u' r (goes (ends (ending_of u moment))) answer (closes_on call u' r (ends (ending_of u moment)) closes tt)
   rests_call closes ids drawn moment (steps.built some small n s request is answer) = stepped_as call u' r (goes (lasts s (ending_of u moment))) answer (closes_on call u' r (lasts s (ending_of u moment)) closes tt)
-  rests_call closes ids drawn moment (steps.not_built e left fails is answer) = stepped_as call u' r (goes (undoes (Some e))) answer (closes_on call u' r (undoes (Some e)) closes tt)
+  rests_call closes ids drawn moment (steps.not_built some e left fails is answer) = stepped_as call u' r (goes (undoes (Some e))) answer (closes_on call u' r (undoes (Some e)) closes tt)
 
   last_call : call ≡ close → (ending : uploads.Ending) (c : Step Sending (List ℕ)) → HearsLast ending c u u' r → CallStepped call u' r
   last_call closes ending (came.Pending s) h = stepped_as call u' r (waits (lasts s ending)) h.1 (closes_on call u' r (lasts s ending) closes tt)

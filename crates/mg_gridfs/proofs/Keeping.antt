@@ -267,7 +267,7 @@ module _ (old new : Awaited) (log log' : Told) (wire : ℤ) (u u' : ClientUpload
         request = new_request false _ s request;
       } in
       kept_as u' (record u { behind = [] }) r (goes (lasts s (ending_of u moment))) is answer (record { bounds = record { size = bounds.size; few = bounds.few; unchecked = bounds.unchecked }; stepped_so = (last_one, refl); same_aim = refl })
-  rests_kept ids drawn moment short (steps.not_built e left fails is answer) = kept_as u' (record u { behind = left }) r (goes (undoes (Some e))) is answer (record { bounds = record { size = bounds.size; few = bounds.few; unchecked = bounds.unchecked }; stepped_so = tt; same_aim = refl })
+  rests_kept ids drawn moment short (steps.not_built some e left fails is answer) = kept_as u' (record u { behind = left }) r (goes (undoes (Some e))) is answer (record { bounds = record { size = bounds.size; few = bounds.few; unchecked = bounds.unchecked }; stepped_so = tt; same_aim = refl })
 
   last_kept : (s : Sending) (ending : Ending) (c : Step Sending (List ℕ)) → IsLast u s ending → u.behind ≡ [] → Runs old new log log' wire s c → HearsLast ending c u u' r → IsKept u.aim u' r
   last_kept s ending (came.Pending s') l none runs h =

@@ -164,7 +164,7 @@ module _ (u u' : ClientUpload) (q : Phase) (none : error_behind q ≡ None) wher
   rests_falls : (ids : ℕ → List ℕ) (drawn : ℕ) (moment : ℤ) → Rests ids drawn moment u u' (goes q) → rank u' q < rank u (rests moment)
   rests_falls ids drawn moment (steps.nothing_left nothing n is answer) = falls_as (rank u (rests moment)) u (ends _) is answer (omega arith)
   rests_falls ids drawn moment (steps.built some small n s request is answer) = falls_as (rank u (rests moment)) (record u { behind = [] }) (lasts s _) is answer (omega arith)
-  rests_falls ids drawn moment (steps.not_built e left fails is answer) = not_undone (rank u (rests moment)) e answer
+  rests_falls ids drawn moment (steps.not_built some e left fails is answer) = not_undone (rank u (rests moment)) e answer
 
   last_falls : (s : Sending) (ending : Ending) (c : Step Sending (List ℕ)) → HearsLast ending c u u' (goes q) → rank u' q < rank u (lasts s ending)
   last_falls s ending (came.Pending s') h = absurd (let bad : goes q ≡ waits (lasts s' ending) = h.1 in cc)

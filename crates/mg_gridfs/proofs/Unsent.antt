@@ -49,7 +49,7 @@ unstored_not_io lines ds e (inr cannot) = not_storable lines ds e cannot
 -- full chunks, or the last one, are in no command
 pub unfilled_not_io : (u : ClientUpload) (ids : ℕ → List ℕ) (e : Error) → FailsBy (CannotFill u ids) e → e.kind ≡ kind.Io → ⊥
 unfilled_not_io u ids e (inl room) = no_room e room
-unfilled_not_io u ids e (inr (steps.too_many count some within past is)) = other_kind e kind.FileTooLarge is (λ bad. cc)
+unfilled_not_io u ids e (inr (steps.too_many count some few within past why is)) = other_kind e kind.FileTooLarge is (λ bad. cc)
 unfilled_not_io u ids e (inr (steps.too_large count portion small cannot)) = not_storable (chunks_lines u.aim.bucket (first_chunks u ids count)) (first_chunks u ids count) e cannot
 unfilled_not_io u ids e (inr (not_encoded d is limit)) = too_big d e limit
 

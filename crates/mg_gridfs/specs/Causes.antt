@@ -92,6 +92,7 @@ pub record IsRest (aim : Aim) (document : Fields) : Type 0 where
   pub id : List ℕ
   pub number : ℕ
   pub bytes : List ℕ
+  pub some : bytes ≢ []
   pub short : length bytes < aim.size
   pub small : number + 1 ≤ 2 ^ 31
   pub this : document ≡ chunk_document id aim.id number bytes
@@ -105,8 +106,8 @@ pub data UploadFails (past : Past) (aim : Aim) (e : Error) : Type 0 where
   record_not_built : (ending : Ending) → CannotStore (record_lines aim.bucket (record_of aim ending)) (record_of aim ending ∷ []) e → UploadFails past aim e
   by_chunks : (documents : List Fields) → RequestFails past (fields_in (chunks_lines aim.bucket documents)) false (ListsFor documents) e → UploadFails past aim e
   by_record : (ending : Ending) → RequestFails past (fields_in (record_lines aim.bucket (record_of aim ending))) false (ListsFor (record_of aim ending ∷ [])) e → UploadFails past aim e
-  -- the number of the last of the next chunks passes the greatest
-  too_large : (first count : ℕ) → 0 < count → 2 ^ 31 < first + count → e ≡ plain kind.FileTooLarge → UploadFails past aim e
+  -- the number of the last of the next chunks of a command passes the greatest
+  too_large : (first count : ℕ) → first ≤ 2 ^ 31 → 0 < count → count ≤ max_documents → 2 ^ 31 < first + count → e ≡ plain kind.FileTooLarge → UploadFails past aim e
 
 -- what the chunks are removed for: nothing in an abort
 abbrev pub IsCausedFirst : Past → Aim → Option Error → Type 0

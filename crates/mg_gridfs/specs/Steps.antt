@@ -61,9 +61,18 @@ pub record IsPortion (u : ClientUpload) (documents : List Fields) (count : ℕ) 
   -- one more is not there, or passes the limits: all full chunks are documents of one length
   pub most : (length u.behind < (count + 1) * u.aim.size) ⊎ ((count ≡ max_documents) ⊎ ((d : Fields) × (slice_get documents 0 ≡ Some d) × (max_batch < (count + 1) * length (bytes d))))
 
+-- so many of these ids have twelve bytes
+abbrev pub AreIds : (ℕ → List ℕ) → ℕ → Type 0
+AreIds ids count = (k : ℕ) → k < count → length (ids k) ≡ 12
+
+-- Why the next full chunks have no numbers: that of the first of them passes the greatest, or that of the last of those that one command holds.
+pub data PassNumbers (u : ClientUpload) (ids : ℕ → List ℕ) : Type 0 where
+  of_first : 2 ^ 31 < u.sent + 1 → PassNumbers u ids
+  of_last : (count : ℕ) → 2 ^ 31 < u.sent + count → (AreIds ids count → IsPortion u (first_chunks u ids count) count) → PassNumbers u ids
+
 -- why full chunks are not inserted: their numbers pass the greatest, or they cannot be stored
 pub data CannotFill (u : ClientUpload) (ids : ℕ → List ℕ) (e : Error) : Type 0 where
-  too_many : (count : ℕ) → 0 < count → count * u.aim.size ≤ length u.behind → 2 ^ 31 < u.sent + count → e ≡ plain kind.FileTooLarge → CannotFill u ids e
+  too_many : (count : ℕ) → 0 < count → count ≤ max_documents → count * u.aim.size ≤ length u.behind → 2 ^ 31 < u.sent + count → PassNumbers u ids → e ≡ plain kind.FileTooLarge → CannotFill u ids e
   -- as many as one command holds
   too_large : (count : ℕ) → IsPortion u (first_chunks u ids count) count → u.sent + count ≤ 2 ^ 31 → CannotStore (chunks_lines u.aim.bucket (first_chunks u ids count)) (first_chunks u ids count) e → CannotFill u ids e
   not_encoded : (d : Fields) → first_chunks u ids 1 ≡ d ∷ [] → CannotBeSent d e → CannotFill u ids e
@@ -103,7 +112,7 @@ pub data Rests (ids : ℕ → List ℕ) (drawn : ℕ) (moment : ℤ) (u u' : Cli
   nothing_left : u.behind ≡ [] → drawn ≡ 0 → u' ≡ u → r ≡ goes (ends (ending_of u moment)) → Rests ids drawn moment u u' r
   built : u.behind ≢ [] → u.sent + 1 ≤ 2 ^ 31 → drawn ≡ 1 → (sending : Sending) → IsNewRequest false (chunks_lines u.aim.bucket (chunk_document (ids 0) u.aim.id u.sent u.behind ∷ [])) sending
       → u' ≡ record u { behind = [] } → r ≡ goes (lasts sending (ending_of u moment)) → Rests ids drawn moment u u' r
-  not_built : (e : Error) (left : List ℕ) → FailsBy (CannotEnd u (chunk_document (ids 0) u.aim.id u.sent u.behind ∷ [])) e → u' ≡ record u { behind = left } → r ≡ goes (undoes (Some e)) → Rests ids drawn moment u u' r
+  not_built : u.behind ≢ [] → (e : Error) (left : List ℕ) → FailsBy (CannotEnd u (chunk_document (ids 0) u.aim.id u.sent u.behind ∷ [])) e → u' ≡ record u { behind = left } → r ≡ goes (undoes (Some e)) → Rests ids drawn moment u u' r
 
 abbrev pub HearsLast : Ending → Step Sending (List ℕ) → ClientUpload → ClientUpload → Stepped → Type 0
 HearsLast ending (step.Pending sending) u u' r = (u' ≡ u) × (r ≡ waits (lasts sending ending))

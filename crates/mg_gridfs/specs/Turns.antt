@@ -8,7 +8,7 @@ use Rattle.mg_link.specs.declared.action.Step.TheVariants as step
 use Rattle.mg_ops.specs.Drawn.{AreLater}
 use Rattle.mg_gridfs.specs.Checks.{ClientCheck, creates, finds, indexes, lists, reads}
 use Rattle.mg_gridfs.specs.Commands.{IsNewRequest, chunk_document, chunks_lines}
-use Rattle.mg_gridfs.specs.Steps.{BeginsCheck, DoesStep, DoesSteps, IsPortion, first_chunks, goes}
+use Rattle.mg_gridfs.specs.Steps.{AreIds, BeginsCheck, DoesStep, DoesSteps, IsPortion, first_chunks, goes}
 use Rattle.mg_gridfs.specs.Uploads.{ClientUpload, Phase, begins, checks, ends, error_behind, fills, inserts, lands, lasts, phase_ticket, records, removes, rests, undoes}
 use Rattle.mg_gridfs.specs.UploadView.{back_phase, back_stopped, phase_of, stopped_by}
 use Rattle.mg_gridfs.specs.declared.indexes.Place.TheVariants as place
@@ -76,7 +76,7 @@ pub record BeginsPortion (ids ids' : ℕ → List ℕ) (u u' : ClientUpload) (b 
   pub some : 1 ≤ b.count
   pub within : b.count * u.aim.size ≤ length u.behind
   pub small : u.sent + b.count ≤ 2 ^ 31
-  pub portion : ((k : ℕ) → k < b.count → length (ids k) ≡ 12) → IsPortion u (first_chunks u ids b.count) b.count
+  pub portion : AreIds ids b.count → IsPortion u (first_chunks u ids b.count) b.count
   pub left : u'.behind ≡ drop u.aim.size u.behind
   pub drawn : AreLater ids 1 ids'
 

@@ -49,7 +49,7 @@ as_many-count-requires-clause-there g c =
 pub returns-in_err-last_number-clause-err : goal.returns-in_err-last_number-clause-err
 returns-in_err-last_number-clause-err g c =
     let p = err_from_is_err_and c.from_residual.result c.from_residual.ensures.1 in
-    rw (p.1, p.2) (inr (steps.too_many 1 (omega arith) (let full = c.requires.full in omega (arith, full)) c.in_err-last_number.ensures.passes c.in_err-last_number.ensures.err))
+    rw (p.1, p.2) (inr (steps.too_many 1 (omega arith) (omega arith) (let full = c.requires.full in omega (arith, full)) c.in_err-last_number.ensures.passes (steps.of_first c.in_err-last_number.ensures.passes) c.in_err-last_number.ensures.err))
 
 pub returns-in_err-last_number-clause-same : goal.returns-in_err-last_number-clause-same
 returns-in_err-last_number-clause-same g c = (but_none (worker_of c.args.self.now), c.requires.buffer)
@@ -115,7 +115,16 @@ returns-in_err-_last-clause-err g c =
     let p = err_from_is_err_and c.from_residual-in_err-_last.result c.from_residual-in_err-_last.ensures.1 in
     let sent = c.next_chunk.ensures.same.0.sent in
     let passes : 2 ^ 31 < u.sent + c.as_many-count.result = subst (λ (n : ℕ). 2 ^ 31 < n + c.as_many-count.result) sent c.in_err-_last.ensures.passes in
-    rw (p.1, p.2) (inr (steps.too_many c.as_many-count.result count.some within passes c.in_err-_last.ensures.err))
+    let first = c.in_ok-first.first in
+    let is = first_is (g.I.IdSource.ids c.args.ids.now 0) u first c.in_ok-first.ensures.chunk in
+    let long = c.in_ok-length.ensures.ok in
+    let fitting = c.documents_together.result in
+    let together = c.documents_together.ensures in
+    let few : c.as_many-count.result ≤ max_documents = let fits = count.fits in let most_fitting = together.few in omega (arith, fits, most_fitting) in
+    rw (p.1, p.2) (inr (steps.too_many c.as_many-count.result count.some few within passes
+    (steps.of_last c.as_many-count.result passes (λ twelve. portion u (g.I.IdSource.ids c.args.ids.now) c.requires.sound.size.some c.as_many-count.result fitting c.full_chunks-held.result count.some first is count.fits count.held count.most together.few
+    (subst (λ (n : ℕ). (fitting * n ≤ max_batch) ⊎ (fitting ≡ 1)) long together.together) (subst (λ (n : ℕ). (max_batch < (fitting + 1) * n) ⊎ (fitting ≡ max_documents)) long together.most) most below twelve))
+    c.in_err-_last.ensures.err))
 
 pub returns-clause-ok : goal.returns-clause-ok
 returns-clause-ok g c =
