@@ -153,7 +153,7 @@ module _ (old new : Awaited) (log log' : Told) (u u' : ClientUpload) (r : Steppe
   fills_caused : (ids : ℕ → List ℕ) (drawn : ℕ) → SendsNothing old new log log' → u.aim.size ≤ length u.behind → Fills ids drawn u u' r → Behind
   fills_caused ids drawn quiet full (steps.built count s portion small n request is answer) =
       quietly quiet (as_answer (past_of places since calls wire) (goes (inserts s count)) answer (subst (λ (stage : Stage). Flies new (past_of places since calls wire) (fields s.command) stage) (sym request.new) tt))
-  fills_caused ids drawn quiet full (steps.not_built e left fails is answer) =
+  fills_caused ids drawn quiet full (steps.not_built within e left fails is answer) =
       quietly quiet (undone_caused (past_of places since calls wire) e answer (memory_kind (past_of places since calls wire) u.aim (CannotFill u ids) e (λ x cannot. by_cause x cannot) fails))
     where
       by_cause : (x : Error) → CannotFill u ids x → UploadFails (past_of places since calls wire) u.aim x
@@ -180,7 +180,7 @@ module _ (old new : Awaited) (log log' : Told) (u u' : ClientUpload) (r : Steppe
   rests_caused ids drawn moment short quiet (steps.nothing_left none n is answer) = quietly quiet (as_answer (past_of places since calls wire) (goes (ends (steps.ending_of u moment))) answer tt)
   rests_caused ids drawn moment short quiet (steps.built some small n s request is answer) =
       quietly quiet (as_answer (past_of places since calls wire) (goes (lasts s (steps.ending_of u moment))) answer (subst (λ (stage : Stage). Flies new (past_of places since calls wire) (fields s.command) stage) (sym request.new) tt))
-  rests_caused ids drawn moment short quiet (steps.not_built some e left fails is answer) = quietly quiet (undone_caused (past_of places since calls wire) e answer (memory_kind (past_of places since calls wire) u.aim (CannotEnd u (chunk_document (ids 0) u.aim.id u.sent u.behind ∷ [])) e (λ x cannot. by_cause (chunk_document (ids 0) u.aim.id u.sent u.behind) refl x cannot) fails))
+  rests_caused ids drawn moment short quiet (steps.not_built some few e left fails is answer) = quietly quiet (undone_caused (past_of places since calls wire) e answer (memory_kind (past_of places since calls wire) u.aim (CannotEnd u (chunk_document (ids 0) u.aim.id u.sent u.behind ∷ [])) e (λ x cannot. by_cause (chunk_document (ids 0) u.aim.id u.sent u.behind) refl x cannot) fails))
     where
       by_cause : (document : Fields) → document ≡ chunk_document (ids 0) u.aim.id u.sent u.behind → (x : Error) → CannotEnd u (document ∷ []) x → UploadFails (past_of places since calls wire) u.aim x
       by_cause document this x (too_many most is) = causes.too_large u.sent 1 bounds.few (omega arith) (omega arith) most is

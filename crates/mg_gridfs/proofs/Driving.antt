@@ -50,15 +50,15 @@ module _ (ids ids' : ℕ → List ℕ) (same : (k : ℕ) → ids k ≡ ids' k) w
   fills_same : (drawn : ℕ) (u u' : ClientUpload) (r : Stepped) → Fills ids drawn u u' r → Fills ids' drawn u u' r
   fills_same drawn u u' r (steps.built count s portion small n request is answer) =
       steps.built count s (portion_same u count portion) small n (subst (λ (ds : List Fields). IsNewRequest false (chunks_lines u.aim.bucket ds) s) (first_same u count) request) is answer
-  fills_same drawn u u' r (steps.not_built e left (inl memory) is answer) = steps.not_built e left (inl memory) is answer
-  fills_same drawn u u' r (steps.not_built e left (inr cannot) is answer) = steps.not_built e left (inr (cannot_fill_same u e cannot)) is answer
+  fills_same drawn u u' r (steps.not_built within e left (inl memory) is answer) = steps.not_built within e left (inl memory) is answer
+  fills_same drawn u u' r (steps.not_built within e left (inr cannot) is answer) = steps.not_built within e left (inr (cannot_fill_same u e cannot)) is answer
 
   rests_same : (drawn : ℕ) (moment : ℤ) (u u' : ClientUpload) (r : Stepped) → Rests ids drawn moment u u' r → Rests ids' drawn moment u u' r
   rests_same drawn moment u u' r (steps.nothing_left none n is answer) = steps.nothing_left none n is answer
   rests_same drawn moment u u' r (steps.built some small n s request is answer) =
       steps.built some small n s (subst (λ (i : List ℕ). IsNewRequest false (chunks_lines u.aim.bucket (chunk_document i u.aim.id u.sent u.behind ∷ [])) s) (same 0) request) is answer
-  rests_same drawn moment u u' r (steps.not_built some e left fails is answer) =
-      steps.not_built some e left (subst (λ (i : List ℕ). FailsBy (CannotEnd u (chunk_document i u.aim.id u.sent u.behind ∷ [])) e) (same 0) fails) is answer
+  rests_same drawn moment u u' r (steps.not_built some most e left fails is answer) =
+      steps.not_built some most e left (subst (λ (i : List ℕ). FailsBy (CannotEnd u (chunk_document i u.aim.id u.sent u.behind ∷ [])) e) (same 0) fails) is answer
 
   -- a step asks for its ids one by one
   pub step_same : (old new : Awaited) (log log' : Told) (wire : ℤ) (drawn : ℕ) (u u' : ClientUpload) (p : Phase) (r : Stepped) → DoesStep old new log log' wire ids drawn u u' p r → DoesStep old new log log' wire ids' drawn u u' p r
@@ -186,7 +186,7 @@ module _ (call : uploads.Call) (u u' : ClientUpload) (r : Stepped) where
 
   fills_call : IsWriting call → (ids : ℕ → List ℕ) (drawn : ℕ) → Fills ids drawn u u' r → CallStepped call u' r
   fills_call writes ids drawn (steps.built count s portion small n request is answer) = stepped_as call u' r (goes (inserts s count)) answer (writes_on call u' r (inserts s count) writes (λ piece. tt))
-  fills_call writes ids drawn (steps.not_built e left fails is answer) = stepped_as call u' r (goes (undoes (Some e))) answer (writes_on call u' r (undoes (Some e)) writes (λ piece. tt))
+  fills_call writes ids drawn (steps.not_built within e left fails is answer) = stepped_as call u' r (goes (undoes (Some e))) answer (writes_on call u' r (undoes (Some e)) writes (λ piece. tt))
 
   inserts_call : IsWriting call → (count : ℕ) (c : Step Sending (List ℕ)) → HearsChunks count c u u' r → CallStepped call u' r
   inserts_call writes count (came.Pending s) h = stepped_as call u' r (waits (inserts s count)) h.1 (writes_on call u' r (inserts s count) writes (λ piece. tt))
@@ -197,7 +197,7 @@ module _ (call : uploads.Call) (u u' : ClientUpload) (r : Stepped) where
   rests_call : call ≡ close → (ids : ℕ → List ℕ) (drawn : ℕ) (moment : ℤ) → Rests ids drawn moment u u' r → CallStepped call u' r
   rests_call closes ids drawn moment (steps.nothing_left none n is answer) = stepped_as call u' r (goes (ends (ending_of u moment))) answer (closes_on call u' r (ends (ending_of u moment)) closes tt)
   rests_call closes ids drawn moment (steps.built some small n s request is answer) = stepped_as call u' r (goes (lasts s (ending_of u moment))) answer (closes_on call u' r (lasts s (ending_of u moment)) closes tt)
-  rests_call closes ids drawn moment (steps.not_built some e left fails is answer) = stepped_as call u' r (goes (undoes (Some e))) answer (closes_on call u' r (undoes (Some e)) closes tt)
+  rests_call closes ids drawn moment (steps.not_built some most e left fails is answer) = stepped_as call u' r (goes (undoes (Some e))) answer (closes_on call u' r (undoes (Some e)) closes tt)
 
   last_call : call ≡ close → (ending : uploads.Ending) (c : Step Sending (List ℕ)) → HearsLast ending c u u' r → CallStepped call u' r
   last_call closes ending (came.Pending s) h = stepped_as call u' r (waits (lasts s ending)) h.1 (closes_on call u' r (lasts s ending) closes tt)

@@ -243,7 +243,7 @@ module _ (old new : Awaited) (log log' : Told) (wire : ℤ) (u u' : ClientUpload
         request = new_request false _ s request;
       } in
       kept_as u' (record u { behind = drop (count * u.aim.size) u.behind }) r (goes (inserts s count)) is answer (record { bounds = record { size = bounds.size; few = bounds.few; unchecked = bounds.unchecked }; stepped_so = insertion; same_aim = refl })
-  fills_kept checked_so ids drawn (steps.not_built e left fails is answer) = kept_as u' (record u { behind = left }) r (goes (undoes (Some e))) is answer (record { bounds = record { size = bounds.size; few = bounds.few; unchecked = bounds.unchecked }; stepped_so = tt; same_aim = refl })
+  fills_kept checked_so ids drawn (steps.not_built within e left fails is answer) = kept_as u' (record u { behind = left }) r (goes (undoes (Some e))) is answer (record { bounds = record { size = bounds.size; few = bounds.few; unchecked = bounds.unchecked }; stepped_so = tt; same_aim = refl })
 
   inserts_kept : (s : Sending) (count : ℕ) (c : Step Sending (List ℕ)) → IsInsertion u s count → Runs old new log log' wire s c → HearsChunks count c u u' r → IsKept u.aim u' r
   inserts_kept s count (came.Pending s') i runs h =
@@ -267,7 +267,7 @@ module _ (old new : Awaited) (log log' : Told) (wire : ℤ) (u u' : ClientUpload
         request = new_request false _ s request;
       } in
       kept_as u' (record u { behind = [] }) r (goes (lasts s (ending_of u moment))) is answer (record { bounds = record { size = bounds.size; few = bounds.few; unchecked = bounds.unchecked }; stepped_so = (last_one, refl); same_aim = refl })
-  rests_kept ids drawn moment short (steps.not_built some e left fails is answer) = kept_as u' (record u { behind = left }) r (goes (undoes (Some e))) is answer (record { bounds = record { size = bounds.size; few = bounds.few; unchecked = bounds.unchecked }; stepped_so = tt; same_aim = refl })
+  rests_kept ids drawn moment short (steps.not_built some most e left fails is answer) = kept_as u' (record u { behind = left }) r (goes (undoes (Some e))) is answer (record { bounds = record { size = bounds.size; few = bounds.few; unchecked = bounds.unchecked }; stepped_so = tt; same_aim = refl })
 
   last_kept : (s : Sending) (ending : Ending) (c : Step Sending (List ℕ)) → IsLast u s ending → u.behind ≡ [] → Runs old new log log' wire s c → HearsLast ending c u u' r → IsKept u.aim u' r
   last_kept s ending (came.Pending s') l none runs h =

@@ -178,7 +178,7 @@ module _ (old new : Awaited) (log log' : Told) (at : Bucket) (u u' : ClientUploa
         knows = subst (λ (stage : Stage). KnowsFile (past_of places since calls wire) at u.aim.id (insert_at new s.command (part k.chunks) (part (k.chunks ++ first_chunks u ids count)) stage)) (sym request.new) k.knows;
       } in
       quietly quiet (known_as call new (past_of places since calls wire) at taken u' (record u { behind = rest }) r (goes (inserts s count)) is answer ahead)
-  fills_known ids drawn quiet (steps.not_built e left fails is answer) k =
+  fills_known ids drawn quiet (steps.not_built within e left fails is answer) k =
       quietly quiet (known_as call new (past_of places since calls wire) at taken u' (record u { behind = left }) r (goes (undoes (Some e))) is answer (file_unknown (past_of places since calls wire) at u.aim.id (stays (part k.chunks)) k.knows))
 
   chunks_heard : (s : Sending) (count : ℕ) (c : Step Sending (List ℕ)) → IsInsertion u s count → Runs old new log log' wire s c → HearsChunks count c u u' r → (k : KnowsAhead old (past_of places since calls wire) at u taken (inserts s count))
@@ -263,7 +263,7 @@ module _ (old new : Awaited) (log log' : Told) (at : Bucket) (u u' : ClientUploa
         knows = subst (λ (stage : Stage). KnowsFile (past_of places since calls wire) at u.aim.id (insert_at new s.command (part k.chunks) (part (k.chunks ++ document ∷ [])) stage)) (sym request.new) k.knows;
       } in
       quietly quiet (known_as call new (past_of places since calls wire) at taken u' (record u { behind = [] }) r (goes (lasts s (ending_of u moment))) is answer ahead)
-  rests_known ids drawn moment short quiet (steps.not_built some e left fails is answer) k =
+  rests_known ids drawn moment short quiet (steps.not_built some most e left fails is answer) k =
       quietly quiet (known_as call new (past_of places since calls wire) at taken u' (record u { behind = left }) r (goes (undoes (Some e))) is answer (file_unknown (past_of places since calls wire) at u.aim.id (stays (part k.chunks)) k.knows))
 
   last_heard : (s : Sending) (ending : Ending) (c : Step Sending (List ℕ)) → IsLast u s ending → Runs old new log log' wire s c → HearsLast ending c u u' r → (k : KnowsAhead old (past_of places since calls wire) at u taken (lasts s ending))

@@ -153,7 +153,7 @@ module _ (u u' : ClientUpload) (q : Phase) (none : error_behind q ≡ None) wher
       let within = portion.within in
       let bytes = mul-le 1 1 count u.aim.size (omega (arith, portion.some)) (omega (arith, bounds.size.some)) in
       falls_as (rank u fills) (record u { behind = drop (count * u.aim.size) u.behind }) (inserts s count) is answer (omega (arith, left, within, bytes))
-  fills_falls bounds ids drawn (steps.not_built e left fails is answer) = not_undone (rank u fills) e answer
+  fills_falls bounds ids drawn (steps.not_built within e left fails is answer) = not_undone (rank u fills) e answer
 
   inserts_falls : (s : Sending) (count : ℕ) (c : Step Sending (List ℕ)) → HearsChunks count c u u' (goes q) → rank u' q < rank u (inserts s count)
   inserts_falls s count (came.Pending s') h = absurd (let bad : goes q ≡ waits (inserts s' count) = h.1 in cc)
@@ -164,7 +164,7 @@ module _ (u u' : ClientUpload) (q : Phase) (none : error_behind q ≡ None) wher
   rests_falls : (ids : ℕ → List ℕ) (drawn : ℕ) (moment : ℤ) → Rests ids drawn moment u u' (goes q) → rank u' q < rank u (rests moment)
   rests_falls ids drawn moment (steps.nothing_left nothing n is answer) = falls_as (rank u (rests moment)) u (ends _) is answer (omega arith)
   rests_falls ids drawn moment (steps.built some small n s request is answer) = falls_as (rank u (rests moment)) (record u { behind = [] }) (lasts s _) is answer (omega arith)
-  rests_falls ids drawn moment (steps.not_built some e left fails is answer) = not_undone (rank u (rests moment)) e answer
+  rests_falls ids drawn moment (steps.not_built some most e left fails is answer) = not_undone (rank u (rests moment)) e answer
 
   last_falls : (s : Sending) (ending : Ending) (c : Step Sending (List ℕ)) → HearsLast ending c u u' (goes q) → rank u' q < rank u (lasts s ending)
   last_falls s ending (came.Pending s') h = absurd (let bad : goes q ≡ waits (lasts s' ending) = h.1 in cc)

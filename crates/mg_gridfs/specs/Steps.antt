@@ -81,7 +81,8 @@ pub data CannotFill (u : ClientUpload) (ids : ℕ → List ℕ) (e : Error) : Ty
 pub data Fills (ids : ℕ → List ℕ) (drawn : ℕ) (u u' : ClientUpload) (r : Stepped) : Type 0 where
   built : (count : ℕ) (sending : Sending) → IsPortion u (first_chunks u ids count) count → u.sent + count ≤ 2 ^ 31 → drawn ≡ count → IsNewRequest false (chunks_lines u.aim.bucket (first_chunks u ids count)) sending
       → u' ≡ record u { behind = drop (count * u.aim.size) u.behind } → r ≡ goes (inserts sending count) → Fills ids drawn u u' r
-  not_built : (e : Error) (left : List ℕ) → FailsBy (CannotFill u ids) e → u' ≡ record u { behind = left } → r ≡ goes (undoes (Some e)) → Fills ids drawn u u' r
+  -- each id that was drawn is that of a full chunk
+  not_built : drawn * u.aim.size ≤ length u.behind → (e : Error) (left : List ℕ) → FailsBy (CannotFill u ids) e → u' ≡ record u { behind = left } → r ≡ goes (undoes (Some e)) → Fills ids drawn u u' r
 
 -- what the reply to an insert of so many documents says
 pub data ReadsInserted (count : ℕ) (reply : List ℕ) (u u' after : ClientUpload) (next : Phase) (r : Stepped) : Type 0 where
@@ -112,7 +113,7 @@ pub data Rests (ids : ℕ → List ℕ) (drawn : ℕ) (moment : ℤ) (u u' : Cli
   nothing_left : u.behind ≡ [] → drawn ≡ 0 → u' ≡ u → r ≡ goes (ends (ending_of u moment)) → Rests ids drawn moment u u' r
   built : u.behind ≢ [] → u.sent + 1 ≤ 2 ^ 31 → drawn ≡ 1 → (sending : Sending) → IsNewRequest false (chunks_lines u.aim.bucket (chunk_document (ids 0) u.aim.id u.sent u.behind ∷ [])) sending
       → u' ≡ record u { behind = [] } → r ≡ goes (lasts sending (ending_of u moment)) → Rests ids drawn moment u u' r
-  not_built : u.behind ≢ [] → (e : Error) (left : List ℕ) → FailsBy (CannotEnd u (chunk_document (ids 0) u.aim.id u.sent u.behind ∷ [])) e → u' ≡ record u { behind = left } → r ≡ goes (undoes (Some e)) → Rests ids drawn moment u u' r
+  not_built : u.behind ≢ [] → drawn ≤ 1 → (e : Error) (left : List ℕ) → FailsBy (CannotEnd u (chunk_document (ids 0) u.aim.id u.sent u.behind ∷ [])) e → u' ≡ record u { behind = left } → r ≡ goes (undoes (Some e)) → Rests ids drawn moment u u' r
 
 abbrev pub HearsLast : Ending → Step Sending (List ℕ) → ClientUpload → ClientUpload → Stepped → Type 0
 HearsLast ending (step.Pending sending) u u' r = (u' ≡ u) × (r ≡ waits (lasts sending ending))

@@ -325,7 +325,7 @@ impl Upload {
         ensures ok { IfOk result (λ b. BeginsPortion (I.ids ids.old) (I.ids ids.new) (worker_of self.old) (worker_of self.new) b) }
         ensures err { IfErr result (λ e. FailsBy (CannotFill (worker_of self.old) (I.ids ids.old)) e) }
         ensures same { SameButBytes (worker_of self.old) (worker_of self.new) × HasBuffer self.new }
-        ensures drawn { OnErr result ((n : ℕ) × AreLater (I.ids ids.old) n (I.ids ids.new)) }
+        ensures drawn { OnErr result ((n : ℕ) × (n * self.old.aim.size ≤ length (held_of self.old.buffer)) × AreLater (I.ids ids.old) n (I.ids ids.new)) }
     {
         last_number(self.sent, 1)?;
         let held = self.buffer.full_chunks();
@@ -344,7 +344,7 @@ impl Upload {
         ensures ok { IfOk result (λ t. TakesPortion (I.ids ids.old) (I.ids ids.new) (worker_of self.old) (worker_of self.new) t) }
         ensures err { IfErr result (λ e. FailsBy (CannotFill (worker_of self.old) (I.ids ids.old)) e) }
         ensures same { SameButBytes (worker_of self.old) (worker_of self.new) × HasBuffer self.new }
-        ensures drawn { OnErr result ((n : ℕ) × AreLater (I.ids ids.old) n (I.ids ids.new)) }
+        ensures drawn { OnErr result ((n : ℕ) × (n * self.old.aim.size ≤ length (held_of self.old.buffer)) × AreLater (I.ids ids.old) n (I.ids ids.new)) }
     {
         let Begun { first, count } = self.begin_chunks(ids)?;
         let mut documents = one(self.aim.alloc, first)?;
@@ -363,7 +363,7 @@ impl Upload {
         ensures ok { IfOk result (λ p. BuildsPortion (I.ids ids.old) (I.ids ids.new) (worker_of self.old) (worker_of self.new) p) }
         ensures err { IfErr result (λ e. FailsBy (CannotFill (worker_of self.old) (I.ids ids.old)) e) }
         ensures same { SameButBytes (worker_of self.old) (worker_of self.new) × HasBuffer self.new }
-        ensures drawn { OnErr result ((n : ℕ) × AreLater (I.ids ids.old) n (I.ids ids.new)) }
+        ensures drawn { OnErr result ((n : ℕ) × (n * self.old.aim.size ≤ length (held_of self.old.buffer)) × AreLater (I.ids ids.old) n (I.ids ids.new)) }
     {
         let Taken { documents, count } = self.next_chunks(ids)?;
         let exec = insert_chunks(&self.aim.bucket, documents)?;
@@ -425,7 +425,7 @@ impl Upload {
         ensures ok { IfOk result (λ s. BuildsLast (I.ids ids.old) (I.ids ids.new) (worker_of self.old) (worker_of self.new) s) }
         ensures err { IfErr result (λ e. FailsBy (CannotEnd (worker_of self.old) (chunk_document (I.ids ids.old 0) (tree self.old.aim.id) self.old.sent (held_of self.old.buffer) ∷ [])) e) }
         ensures same { SameButBytes (worker_of self.old) (worker_of self.new) × HasBuffer self.new }
-        ensures drawn { OnErr result ((n : ℕ) × AreLater (I.ids ids.old) n (I.ids ids.new)) }
+        ensures drawn { OnErr result ((n : ℕ) × (n ≤ 1) × AreLater (I.ids ids.old) n (I.ids ids.new)) }
     {
         last_number(self.sent, 1)?;
         let alloc = self.aim.alloc;

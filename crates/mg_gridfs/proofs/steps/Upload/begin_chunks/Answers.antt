@@ -57,7 +57,7 @@ returns-in_err-last_number-clause-same g c = (but_none (worker_of c.args.self.no
 pub returns-in_err-last_number-clause-drawn : goal.returns-in_err-last_number-clause-drawn
 returns-in_err-last_number-clause-drawn g c =
     let p = err_from_is_err_and c.from_residual.result c.from_residual.ensures.1 in
-    rw p.1 (0, later_same (g.I.IdSource.ids c.args.ids.now))
+    rw p.1 (0, omega arith, later_same (g.I.IdSource.ids c.args.ids.now))
 
 pub returns-in_err-first-clause-err : goal.returns-in_err-first-clause-err
 returns-in_err-first-clause-err g c =
@@ -70,7 +70,8 @@ returns-in_err-first-clause-same g c = c.next_chunk.ensures.same
 pub returns-in_err-first-clause-drawn : goal.returns-in_err-first-clause-drawn
 returns-in_err-first-clause-drawn g c =
     let p = err_from_is_err_and c.from_residual-in_err-first.result c.from_residual-in_err-first.ensures.1 in
-    rw p.1 (1, c.next_chunk.ensures.drawn)
+    let full = c.requires.full in
+    rw p.1 (1, omega (arith, full), c.next_chunk.ensures.drawn)
 
 pub returns-in_err-length-clause-err : goal.returns-in_err-length-clause-err
 returns-in_err-length-clause-err g c =
@@ -86,7 +87,8 @@ returns-in_err-length-clause-same g c = c.next_chunk.ensures.same
 pub returns-in_err-length-clause-drawn : goal.returns-in_err-length-clause-drawn
 returns-in_err-length-clause-drawn g c =
     let p = err_from_is_err_and c.from_residual-in_err-length.result c.from_residual-in_err-length.ensures.1 in
-    rw p.1 (1, c.next_chunk.ensures.drawn)
+    let full = c.requires.full in
+    rw p.1 (1, omega (arith, full), c.next_chunk.ensures.drawn)
 
 pub returns-in_err-_last-clause-same : goal.returns-in_err-_last-clause-same
 returns-in_err-_last-clause-same g c = c.next_chunk.ensures.same
@@ -94,7 +96,8 @@ returns-in_err-_last-clause-same g c = c.next_chunk.ensures.same
 pub returns-in_err-_last-clause-drawn : goal.returns-in_err-_last-clause-drawn
 returns-in_err-_last-clause-drawn g c =
     let p = err_from_is_err_and c.from_residual-in_err-_last.result c.from_residual-in_err-_last.ensures.1 in
-    rw p.1 (1, c.next_chunk.ensures.drawn)
+    let full = c.requires.full in
+    rw p.1 (1, omega (arith, full), c.next_chunk.ensures.drawn)
 
 -- ---- the count is known
 

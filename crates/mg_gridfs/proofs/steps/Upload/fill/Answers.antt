@@ -67,9 +67,9 @@ returns-in-Err-clause-turns g c =
     let full = full_by (worker_of c.args.self.now).aim.size (length (worker_of c.args.self.now).behind) (sym c.has_chunk.ensures ∙ c.if-not-has_chunk.false) in
     let drawn = c.in-Err.ensures.drawn in (
       drawn.0,
-      drawn.1,
+      drawn.2,
       turn_then (g.L.Link.awaited c.args.link.now) (g.L.Link.awaited c.args.link.now) (g.L.Link.awaited c.fail.new.link) (g.L.Link.log c.args.link.now) (g.L.Link.log c.args.link.now) (g.L.Link.log c.fail.new.link) (g.L.Link.wire c.args.link.now) (g.L.Link.wire c.args.link.now) (g.I.IdSource.ids c.args.ids.now) drawn.0 (worker_of c.args.self.now) (worker_of c.next_portion.new.self) fills c.in-Err.error c.fail.result refl
-          (fills_next refl (record { rest = λ n. refl; log_same = refl }) full (steps.not_built c.in-Err.error (worker_of c.next_portion.new.self).behind c.in-Err.ensures.err (same_but (worker_of c.args.self.now) (worker_of c.next_portion.new.self) c.next_portion.ensures.same.0) refl)) c.fail.ensures.fails,
+          (fills_next refl (record { rest = λ n. refl; log_same = refl }) full (steps.not_built drawn.1 c.in-Err.error (worker_of c.next_portion.new.self).behind c.in-Err.ensures.err (same_but (worker_of c.args.self.now) (worker_of c.next_portion.new.self) c.next_portion.ensures.same.0) refl)) c.fail.ensures.fails,
     )
 
 pub returns-in-Err-clause-same : goal.returns-in-Err-clause-same

@@ -57,7 +57,7 @@ returns-in_err-last_number-clause-same g c = (but_none (worker_of c.args.self.no
 pub returns-in_err-last_number-clause-drawn : goal.returns-in_err-last_number-clause-drawn
 returns-in_err-last_number-clause-drawn g c =
     let p = err_from_is_err_and c.from_residual.result c.from_residual.ensures.1 in
-    rw p.1 (0, later_same (g.I.IdSource.ids c.args.ids.now))
+    rw p.1 (0, omega arith, later_same (g.I.IdSource.ids c.args.ids.now))
 
 pub returns-in_err-document-clause-err : goal.returns-in_err-document-clause-err
 returns-in_err-document-clause-err g c =
@@ -70,7 +70,7 @@ returns-in_err-document-clause-same g c = (record { aim = refl; checked = refl; 
 pub returns-in_err-document-clause-drawn : goal.returns-in_err-document-clause-drawn
 returns-in_err-document-clause-drawn g c =
     let p = err_from_is_err_and c.from_residual-in_err-document.result c.from_residual-in_err-document.ensures.1 in
-    rw p.1 (1, c.drawn-id.ensures.later)
+    rw p.1 (1, omega arith, c.drawn-id.ensures.later)
 
 pub returns-in_err-documents-clause-err : goal.returns-in_err-documents-clause-err
 returns-in_err-documents-clause-err g c =
@@ -83,10 +83,10 @@ returns-in_err-documents-clause-same g c = (record { aim = refl; checked = refl;
 pub returns-in_err-documents-clause-drawn : goal.returns-in_err-documents-clause-drawn
 returns-in_err-documents-clause-drawn g c =
     let p = err_from_is_err_and c.from_residual-in_err-documents.result c.from_residual-in_err-documents.ensures.1 in
-    rw p.1 (1, c.drawn-id.ensures.later)
+    rw p.1 (1, omega arith, c.drawn-id.ensures.later)
 
 pub returns-clause-same : goal.returns-clause-same
 returns-clause-same g c = (record { aim = refl; checked = refl; sent = refl; doing = refl }, record { cut = c.take_rest-bytes.ensures.keeps; sized = c.take_rest-bytes.ensures.size ∙ c.requires.buffer.sized })
 
 pub returns-clause-drawn : goal.returns-clause-drawn
-returns-clause-drawn g c = on_err ((n : ℕ) × AreLater (g.I.IdSource.ids c.args.ids.now) n (g.I.IdSource.ids c.drawn-id.new.ids)) c.insert_chunks.result (1, c.drawn-id.ensures.later)
+returns-clause-drawn g c = on_err ((n : ℕ) × (n ≤ 1) × AreLater (g.I.IdSource.ids c.args.ids.now) n (g.I.IdSource.ids c.drawn-id.new.ids)) c.insert_chunks.result (1, omega arith, c.drawn-id.ensures.later)

@@ -86,7 +86,8 @@ returns-in_err-documents-clause-same g c = c.begin_chunks.ensures.same
 pub returns-in_err-documents-clause-drawn : goal.returns-in_err-documents-clause-drawn
 returns-in_err-documents-clause-drawn g c =
     let p = err_from_is_err_and c.from_residual-in_err-documents.result c.from_residual-in_err-documents.ensures.1 in
-    rw p.1 (1, c.in_ok-first.ensures.ok.drawn)
+    let full = c.requires.full in
+    rw p.1 (1, omega (arith, full), c.in_ok-first.ensures.ok.drawn)
 
 pub returns-in_err-next-clause-err : goal.returns-in_err-next-clause-err
 returns-in_err-next-clause-err g c =
@@ -99,7 +100,8 @@ returns-in_err-next-clause-same g c = (but_on (worker_of c.args.self.now) (worke
 pub returns-in_err-next-clause-drawn : goal.returns-in_err-next-clause-drawn
 returns-in_err-next-clause-drawn g c =
     let p = err_from_is_err_and c.from_residual-in_err-next.result c.from_residual-in_err-next.ensures.1 in
-    rw p.1 (c.loop-place.place + 1, later_on (g.I.IdSource.ids c.args.ids.now) (g.I.IdSource.ids c.loop-place.ids) (g.I.IdSource.ids c.next_chunk.new.ids) c.loop-place.place 1 c.loop-place.invariant.drawn c.next_chunk.ensures.drawn)
+    let within = next_within c.loop-place.place c.in_ok-first.field-0.count (worker_of c.args.self.now).aim.size (length (worker_of c.args.self.now).behind) c.loop-place-test.true c.loop-place.invariant.within in
+    rw p.1 (c.loop-place.place + 1, within, later_on (g.I.IdSource.ids c.args.ids.now) (g.I.IdSource.ids c.loop-place.ids) (g.I.IdSource.ids c.next_chunk.new.ids) c.loop-place.place 1 c.loop-place.invariant.drawn c.next_chunk.ensures.drawn)
 
 pub returns-in_err-push-clause-same : goal.returns-in_err-push-clause-same
 returns-in_err-push-clause-same g c = (but_on (worker_of c.args.self.now) (worker_of c.loop-place.self) (worker_of c.next_chunk.new.self) c.loop-place.invariant.same c.next_chunk.ensures.same.0, c.next_chunk.ensures.same.1)
@@ -107,7 +109,8 @@ returns-in_err-push-clause-same g c = (but_on (worker_of c.args.self.now) (worke
 pub returns-in_err-push-clause-drawn : goal.returns-in_err-push-clause-drawn
 returns-in_err-push-clause-drawn g c =
     let p = err_from_is_err_and c.from_residual-in_err-push.result c.from_residual-in_err-push.ensures.1 in
-    rw p.1 (c.loop-place.place + 1, later_on (g.I.IdSource.ids c.args.ids.now) (g.I.IdSource.ids c.loop-place.ids) (g.I.IdSource.ids c.next_chunk.new.ids) c.loop-place.place 1 c.loop-place.invariant.drawn c.next_chunk.ensures.drawn)
+    let within = next_within c.loop-place.place c.in_ok-first.field-0.count (worker_of c.args.self.now).aim.size (length (worker_of c.args.self.now).behind) c.loop-place-test.true c.loop-place.invariant.within in
+    rw p.1 (c.loop-place.place + 1, within, later_on (g.I.IdSource.ids c.args.ids.now) (g.I.IdSource.ids c.loop-place.ids) (g.I.IdSource.ids c.next_chunk.new.ids) c.loop-place.place 1 c.loop-place.invariant.drawn c.next_chunk.ensures.drawn)
 
 -- ---- all are taken
 

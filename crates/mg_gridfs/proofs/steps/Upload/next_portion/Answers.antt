@@ -46,7 +46,7 @@ returns-in_err-exec-clause-same g c = c.next_chunks.ensures.same
 pub returns-in_err-exec-clause-drawn : goal.returns-in_err-exec-clause-drawn
 returns-in_err-exec-clause-drawn g c =
     let p = err_from_is_err_and c.from_residual-in_err-exec.result c.from_residual-in_err-exec.ensures.1 in
-    rw p.1 (c.in_ok-documents.field-0.count, c.in_ok-documents.ensures.ok.drawn)
+    rw p.1 (c.in_ok-documents.field-0.count, c.in_ok-documents.ensures.ok.portion.within, c.in_ok-documents.ensures.ok.drawn)
 
 pub returns-clause-same : goal.returns-clause-same
 returns-clause-same g c = c.next_chunks.ensures.same

@@ -71,9 +71,9 @@ returns-in-Err-clause-turns g c =
     let some = some_by (worker_of c.args.self.now).behind (sym c.has_rest.ensures ∙ c.if-not-has_rest.false) in
     let drawn = c.in-Err.ensures.drawn in (
       drawn.0,
-      drawn.1,
+      drawn.2,
       turn_then (g.L.Link.awaited c.args.link.now) (g.L.Link.awaited c.args.link.now) (g.L.Link.awaited c.fail.new.link) (g.L.Link.log c.args.link.now) (g.L.Link.log c.args.link.now) (g.L.Link.log c.fail.new.link) (g.L.Link.wire c.args.link.now) (g.L.Link.wire c.args.link.now) (g.I.IdSource.ids c.args.ids.now) drawn.0 (worker_of c.args.self.now) (worker_of c.last_portion.new.self) (rests c.args.time.millis) c.in-Err.error c.fail.result refl
-          (rests_next c.args.time.millis refl (record { rest = λ n. refl; log_same = refl }) (steps.not_built some c.in-Err.error (worker_of c.last_portion.new.self).behind c.in-Err.ensures.err (same_but (worker_of c.args.self.now) (worker_of c.last_portion.new.self) c.last_portion.ensures.same.0) refl)) c.fail.ensures.fails,
+          (rests_next c.args.time.millis refl (record { rest = λ n. refl; log_same = refl }) (steps.not_built some drawn.1 c.in-Err.error (worker_of c.last_portion.new.self).behind c.in-Err.ensures.err (same_but (worker_of c.args.self.now) (worker_of c.last_portion.new.self) c.last_portion.ensures.same.0) refl)) c.fail.ensures.fails,
     )
 
 pub returns-in-Err-clause-same : goal.returns-in-Err-clause-same
