@@ -1,13 +1,15 @@
 -- What an upload knows goes on to hold, and what it says of a server.
-use Rattle.std.proofs.Common.{◌≡◌, ◌<◌, ℕ, ℤ, pos, Bool, true, false, List, [], ◌∷◌, ◌++◌, length, Option, Some, None, refl, sym, ap, ◌∙◌, subst, inl, inr, arith}
+use Rattle.std.proofs.Common.{◌≡◌, ◌<◌, ℕ, ℤ, pos, Bool, true, false, List, [], ◌∷◌, ◌++◌, length, Option, Some, None, refl, sym, ap, ◌∙◌, subst, inl, inr, arith, append-nil}
 use Rattle.std.specs.Prelude.{◌==◌, Err, Ok, codes, if◌then◌else◌, slice_get}
 use Rattle.std.proofs.lemmas.Bool.{ne_eqb}
 use Rattle.mg_bson.specs.Raw.{fields}
 use Rattle.mg_bson.specs.Tree.{Fields, Tree}
 use Rattle.mg_link.specs.Calls.{Past, past_of}
-use Rattle.mg_link.specs.Commands.{asked, asks_delete}
-use Rattle.mg_link.specs.Files.{AreChunks, Bucket, File, IsWhole, chunked, has_value}
-use Rattle.mg_link.specs.Filing.{Filing, HasDeleted, KnowsFile, OthersLeave}
+use Rattle.mg_link.specs.Commands.{asked, asks_delete, told}
+use Rattle.mg_link.specs.Exec.{Sending, Stage, first, second, ticket_at, unsent}
+use Rattle.mg_link.specs.Files.{AreChunks, Bucket, File, IsWhole, chunked, file_of, has_value}
+use Rattle.mg_link.specs.Filing.{FileAs, Filing, HasDeleted, HasInserted, KnowsFile, OthersLeave, insert_at, part, whole_with}
+use Rattle.mg_link.specs.Follow.{CameAs}
 use Rattle.mg_link.specs.History.{Step, IsLegal, state_of, told_at}
 use Rattle.mg_link.specs.Link.{Awaited}
 use Rattle.mg_link.specs.Log.{Call}
@@ -19,7 +21,7 @@ use Rattle.mg_link.specs.declared.error.Malformed.TheVariants as malformed
 use Rattle.mg_link.proofs.Apart.{onward_refl}
 use Rattle.mg_link.proofs.Chunking.{removal_elsewhere, removal_leaves, removal_takes}
 use Rattle.mg_link.proofs.Filing.{AreOwn, file_begins, file_kept}
-use Rattle.mg_link.proofs.Owners.{grown_refl}
+use Rattle.mg_link.proofs.Owners.{grown_refl, same_some}
 use Rattle.mg_link.proofs.Places.{get_some, get_within}
 use Rattle.mg_options.specs.Fields.{fields_in}
 use Rattle.mg_records.specs.FileRecords.{FileRecord, file_record_of}
@@ -29,9 +31,9 @@ use Rattle.mg_gridfs.specs.Buckets.{ClientBucket, IsAt}
 use Rattle.mg_gridfs.specs.Commands.{deletion_lines, of_file, record_document}
 use Rattle.mg_gridfs.specs.Laws.{HasPart, IsSettled, RemovesAlone}
 use Rattle.mg_gridfs.specs.Storing.{HasStored, KnowsAhead, KnowsBy, KnowsPhase, KnowsUpload}
-use Rattle.mg_gridfs.specs.Uploads.{Aim, ClientUpload, Doing, Phase, begins, busy, checks, closed, ends, fills, fresh_upload, idle, inserts, lands, lasts, record_of, records, removes, rests, undoes, upload_ticket}
+use Rattle.mg_gridfs.specs.Uploads.{Aim, ClientUpload, Doing, Ending, IsBetween, Phase, SoundBy, begins, busy, checks, close, closed, ends, fills, fresh_upload, idle, inserts, lands, lasts, record_of, records, removes, rests, ticket_by, undoes, upload_ticket}
 use Rattle.mg_gridfs.proofs.Polled.{upload_same}
-use Rattle.mg_gridfs.proofs.Storing.{no_chunks}
+use Rattle.mg_gridfs.proofs.Storing.{joined, no_chunks}
 
 -- ---- at first
 
@@ -143,6 +145,30 @@ stored_is_whole past at u taken h history legal stands others =
       length_is = ap (λ (n : ℕ). Some (pos n)) h.counts;
       size_is = refl;
       chunks_are = subst (λ (ks : List Fields). AreChunks 0 (chunked u.aim.size taken) ks) (sym (ap (λ (f : File). f.chunks) file_is)) h.chunks_are;
+    }
+
+-- where an insert that was sent was taken, the file is as it makes it
+sent_file : (awaited : Awaited) (calls : List Call) (history : List Step) (b : Bucket) (id : Tree) (command : List ℕ) (file file' : File) (stage : Stage) → FileAs calls history b id (insert_at awaited command file file' stage) → (ticket : ℕ) → ticket_at stage ≡ Some ticket
+    → (position : ℕ) (step : Step) → CameAs calls history (awaited ticket) position step → HasInserted (told (asked command) step.reply) → file_of (state_of history) b id ≡ file'
+sent_file awaited calls history b id command file file' unsent h ticket held position step came taken = let bad : None ≡ Some ticket = held in absurd cc
+sent_file awaited calls history b id command file file' (first t) h ticket held position step came taken = h position step (subst (λ (n : ℕ). CameAs calls history (awaited n) position step) (sym (same_some t ticket held)) came) taken
+sent_file awaited calls history b id command file file' (second t) h ticket held position step came taken = h position step (subst (λ (n : ℕ). CameAs calls history (awaited n) position step) (sym (same_some t ticket held)) came) taken
+
+pub recorded_is_whole : (awaited : Awaited) (past : Past) (at : Bucket) (u : ClientUpload) (taken : List ℕ) → IsBetween u → (sending : Sending) (ending : Ending) → u.doing ≡ busy close (records sending ending) → (ticket : ℕ) → upload_ticket u ≡ Some ticket → KnowsUpload awaited past at u taken
+    → (history : List Step) → IsLegal history → Stands past.calls history → OthersLeave past history at u.aim.id → (position : ℕ) (step : Step) → CameAs past.calls history (awaited ticket) position step → HasInserted (told (asked sending.command) step.reply) → IsWhole (state_of history) at u.aim.id taken u.aim.size
+recorded_is_whole awaited past at u taken between sending ending doing ticket held k history legal stands others position step came inserted =
+    let ahead : KnowsAhead awaited past at u taken (records sending ending) = subst (λ (d : Doing). KnowsBy awaited past at u taken d) doing k.by in
+    let none : u.behind ≡ [] = (subst (SoundBy u) doing between.sound.by).1 in
+    let all : taken ≡ ahead.stored ++ ahead.flying = ahead.parts ∙ ap (λ (l : List ℕ). ahead.stored ++ (ahead.flying ++ l)) none ∙ ap (λ (l : List ℕ). ahead.stored ++ l) (append-nil ahead.flying) in
+    let chunks = ahead.chunks ++ ahead.coming in
+    let file_is = sent_file awaited past.calls history at u.aim.id sending.command (part chunks) (whole_with (record_of u.aim ending) chunks) sending.stage (ahead.knows.each history legal stands others) ticket (sym (ap ticket_by doing) ∙ held) position step came inserted in
+    record {
+      record_of = record_of u.aim ending;
+      alone = ap (λ (f : File). f.records) file_is;
+      length_is = ap (λ (n : ℕ). Some (pos n)) (ahead.comes.0 ∙ ap length (sym all));
+      size_is = refl;
+      chunks_are = subst (λ (ks : List Fields). AreChunks 0 (chunked u.aim.size taken) ks) (sym (ap (λ (f : File). f.chunks) file_is))
+          (subst (λ (bs : List ℕ). AreChunks 0 (chunked u.aim.size bs) chunks) (sym all) (joined u.sent u.aim.size ahead.stored ahead.flying ahead.chunks ahead.coming between.sound.bounds.size.some ahead.even ahead.chunks_are ahead.coming_are));
     }
 
 pub removals_are_alone : (s : State) (step : Step) (b : ClientBucket) (id : Tree) → IsNamed b.chunks → fields step.command ≡ fields_in (deletion_lines b id) → May s (asked step.command) (told_at step) step.made → HasDeleted (told_at step) → RemovesAlone s step b id

@@ -56,7 +56,7 @@ known_as call awaited past at taken u v r q is answer k =
 -- ---- bytes
 
 -- chunks behind full ones
-joined : (sent size : ℕ) (stored flying : List ℕ) (chunks coming : List Fields) → 0 < size → length stored ≡ sent * size → AreChunks 0 (chunked size stored) chunks → AreChunks sent (chunked size flying) coming → AreChunks 0 (chunked size (stored ++ flying)) (chunks ++ coming)
+pub joined : (sent size : ℕ) (stored flying : List ℕ) (chunks coming : List Fields) → 0 < size → length stored ≡ sent * size → AreChunks 0 (chunked size stored) chunks → AreChunks sent (chunked size flying) coming → AreChunks 0 (chunked size (stored ++ flying)) (chunks ++ coming)
 joined sent size stored flying chunks coming some even are more =
     let as_many : length (chunked size stored) ≡ sent = length-chunked sent size stored some even in
     let seam : 0 + length (chunked size stored) ≡ sent = omega arith in

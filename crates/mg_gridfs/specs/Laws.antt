@@ -4,9 +4,11 @@ use Rattle.std.specs.List.{filter}
 use Rattle.mg_bson.specs.Raw.{fields}
 use Rattle.mg_bson.specs.Tree.{Fields, Tree}
 use Rattle.mg_link.specs.Calls.{past_of}
-use Rattle.mg_link.specs.Commands.{asked}
+use Rattle.mg_link.specs.Commands.{asked, told}
+use Rattle.mg_link.specs.Exec.{Sending}
 use Rattle.mg_link.specs.Files.{AreChunks, Bucket, IsWhole, chunked, has_value, file_of}
-use Rattle.mg_link.specs.Filing.{HasDeleted, OthersLeave, part}
+use Rattle.mg_link.specs.Filing.{HasDeleted, HasInserted, OthersLeave, part}
+use Rattle.mg_link.specs.Follow.{CameAs}
 use Rattle.mg_link.specs.Filter.{meets}
 use Rattle.mg_link.specs.History.{IsLegal, Step, state_of, step_after, told_at}
 use Rattle.mg_link.specs.Link.{Awaited}
@@ -22,7 +24,7 @@ use Rattle.mg_records.specs.FileRecords.{chunk_count, chunk_length, file_record_
 use Rattle.mg_gridfs.specs.Buckets.{ClientBucket, IsAt, IsSize}
 use Rattle.mg_gridfs.specs.Commands.{deletion_lines, record_document}
 use Rattle.mg_gridfs.specs.Storing.{HasStored, KnowsUpload}
-use Rattle.mg_gridfs.specs.Uploads.{Aim, ClientUpload, fresh_upload, idle, upload_ticket}
+use Rattle.mg_gridfs.specs.Uploads.{Aim, ClientUpload, Ending, IsBetween, busy, close, fresh_upload, idle, records, upload_ticket}
 
 -- ---- chunks
 
@@ -77,6 +79,10 @@ pub record HasPart (history : List Step) (at : Bucket) (u : ClientUpload) (taken
 -- in every legal history in which the log stands and nobody else touches the file
 pub record UploadStores (awaited : Awaited) (calls : List Call) (wire : ℤ) (places : List ℕ) (at : Bucket) (u : ClientUpload) (taken : List ℕ) : Type 0 where
   pub idle_so : u.doing ≡ idle → KnowsUpload awaited (past_of places (length calls) calls wire) at u taken → (history : List Step) → IsLegal history → Stands calls history → OthersLeave (past_of places (length calls) calls wire) history at u.aim.id → HasPart history at u taken
+  -- While the record is on its way: where the server took its insert the file is whole, before the reply has come.
+  pub recorded_so : IsBetween u → (sending : Sending) (ending : Ending) → u.doing ≡ busy close (records sending ending) → (ticket : ℕ) → upload_ticket u ≡ Some ticket → KnowsUpload awaited (past_of places (length calls) calls wire) at u taken
+      → (history : List Step) → IsLegal history → Stands calls history → OthersLeave (past_of places (length calls) calls wire) history at u.aim.id
+      → (position : ℕ) (step : Step) → CameAs calls history (awaited ticket) position step → HasInserted (told (asked sending.command) step.reply) → IsWhole (state_of history) at u.aim.id taken u.aim.size
   pub stored_so : IsSize u.aim.size → HasStored (past_of places (length calls) calls wire) at u taken → (history : List Step) → IsLegal history → Stands calls history → OthersLeave (past_of places (length calls) calls wire) history at u.aim.id → IsWhole (state_of history) at u.aim.id taken u.aim.size
 
 -- ---- removals

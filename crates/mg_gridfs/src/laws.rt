@@ -34,8 +34,8 @@ pub fn uploads_go_on()
     ensures others { UploadsGoOn }
 {}
 
-/// What an upload knows says what the server holds: between two calls the chunks of the bytes taken, up to less than one; and once it
-/// is done the whole file.
+/// What an upload knows says what the server holds: between two calls the chunks of the bytes taken, up to less than one; and once its
+/// record is inserted the whole file, before the reply to that has come and once the close is done.
 pub fn upload_stores()
     ensures { (awaited : Awaited) (calls : List Call) (wire : ℤ) (places : List ℕ) (at : Bucket) (u : ClientUpload) (taken : List ℕ) → UploadStores awaited calls wire places at u taken }
 {}
