@@ -46,7 +46,7 @@ same_missing : (c c' : ClientCursor) (m m' k k' : ℕ) → reads c m k ≡ reads
 same_missing c c' m m' k k' e = ap missing_in e
 
 -- what is on its way is the same
-fetching_same : (old new : Awaited) (doing : client.Doing) → ((m : ℕ) → client.ticket_by doing ≡ Some m → new m ≡ old m) → fetching_by new doing ≡ fetching_by old doing
+pub fetching_same : (old new : Awaited) (doing : client.Doing) → ((m : ℕ) → client.ticket_by doing ≡ Some m → new m ≡ old m) → fetching_by new doing ≡ fetching_by old doing
 fetching_same old new client.rests same = refl
 fetching_same old new (client.holds reply) same = refl
 fetching_same old new (client.asks sending) same = by_stage sending.stage (λ m e. same m e)
@@ -79,7 +79,7 @@ chunks_same old new calls at d bytes c place same k =
     }
 
 -- its commands go on naming a collection
-abbrev IsNoFailure : NextPoll → Type 0
+abbrev pub IsNoFailure : NextPoll → Type 0
 IsNoFailure next.Pending = Unit {0}
 IsNoFailure (next.Batch reply) = Unit {0}
 IsNoFailure next.End = Unit {0}
@@ -97,7 +97,7 @@ named_heard c c' (step.Pending sending) r fine named h = named_as c c' named (ap
 named_heard c c' (step.Done reply) r fine named h = named_reply c c' reply r fine named h
 named_heard c c' (step.Failed e) r fine named h = absurd (subst IsNoFailure h.1 fine)
 
-next_named : (old new : Awaited) (log log' : Told) (wire : ℤ) (started : Bool) (c c' : ClientCursor) (r : NextPoll) → IsNoFailure r → IsNamed c.space → PollsNext old new log log' wire None started c c' r → IsNamed c'.space
+pub next_named : (old new : Awaited) (log log' : Told) (wire : ℤ) (started : Bool) (c c' : ClientCursor) (r : NextPoll) → IsNoFailure r → IsNamed c.space → PollsNext old new log log' wire None started c c' r → IsNamed c'.space
 next_named old new log log' wire started c c' r fine named (hands_out reply at none same is answer) = named_as c c' named (ap (λ (x : ClientCursor). x.space) is)
 next_named old new log log' wire started c c' r fine named (is_over at ended_so none same is answer) = named_as c c' named (ap (λ (x : ClientCursor). x.space) is)
 next_named old new log log' wire started c c' r fine named (not_built at may e fails_so none same is answer) = named_as c c' named (ap (λ (x : ClientCursor). x.space) is)

@@ -38,3 +38,7 @@ pub mod ReadCaused
 pub mod Opened
 pub mod Leaving
 pub mod OpeningKnown
+pub mod Named
+pub mod Owned
+pub mod Passed
+pub mod Staying

@@ -116,7 +116,7 @@ find_reads fs =
       | false ↦ inr refl
     ]
 
-any_reads : (b : ClientBucket) (command : List ℕ) → fields command ≡ fields_in (any_lines b) → IsReading (asked command)
+pub any_reads : (b : ClientBucket) (command : List ℕ) → fields command ≡ fields_in (any_lines b) → IsReading (asked command)
 unfolding asked
 any_reads b command is = subst (λ (fs : Fields). IsReading (unwrap_or (asked_by fs) asks_other)) (sym is) (find_reads (fields_in (any_lines b)))
 
@@ -127,16 +127,16 @@ read_leaves command at id (inr other) = leaves_by command at id asks_other other
 pub any_leaves : (b : ClientBucket) (at : Bucket) (id : Tree) (command : List ℕ) → fields command ≡ fields_in (any_lines b) → Leaves command at id
 any_leaves b at id command is = read_leaves command at id (any_reads b command is)
 
-named_in : (b : ClientBucket) (k : Place) → IsNamed b.files → IsNamed b.chunks → IsNamed (space_in b k)
+pub named_in : (b : ClientBucket) (k : Place) → IsNamed b.files → IsNamed b.chunks → IsNamed (space_in b k)
 named_in b place.Files files chunks = files
 named_in b place.Chunks files chunks = chunks
 
 -- the name of each index
-abbrev index_named : Place → List ℕ
+abbrev pub index_named : Place → List ℕ
 index_named place.Files = codes "filename_1_uploadDate_1"
 index_named place.Chunks = codes "files_id_1_n_1"
 
-has_name : (k : Place) → keys_onto [] (keys_of k) ≡ Some (index_named k)
+pub has_name : (k : Place) → keys_onto [] (keys_of k) ≡ Some (index_named k)
 unfolding digits
 has_name place.Files = refl
 has_name place.Chunks = refl

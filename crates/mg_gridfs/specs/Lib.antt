@@ -18,5 +18,6 @@ pub mod Judging
 pub mod Fetching
 pub mod ReadCauses
 pub mod Downloaded
+pub mod Cursors
 pub mod Laws
 pub mod DownloadLaws

@@ -3,6 +3,7 @@ ghost use Rattle.std.specs.Prelude.{◌<◌, ℕ, ℤ, List};
 ghost use Rattle.mg_link.specs.Files.{Bucket};
 ghost use Rattle.mg_link.specs.Link.{Awaited};
 ghost use Rattle.mg_link.specs.Log.{Call};
+ghost use Rattle.mg_gridfs.specs.Cursors.{CursorsBegin, CursorsGoOn};
 ghost use Rattle.mg_gridfs.specs.DownloadLaws.{AllReceived, CutsAsSized, DownloadReads, DownloadReadsFile, DownloadsGoOn};
 ghost use Rattle.mg_gridfs.specs.Laws.{CutsAsCounted, CutsJoin, RecordIsRead, RemovalsAreAlone, UploadBegins, UploadStores, UploadsGoOn, UploadsSettle};
 ghost use Rattle.mg_gridfs.specs.Uploads.{ClientUpload};
@@ -32,6 +33,12 @@ pub fn upload_begins()
 pub fn uploads_go_on()
     ensures settled { UploadsSettle }
     ensures others { UploadsGoOn }
+{}
+
+/// An upload that has taken nothing owns no cursor, and what it knows of its own goes on to hold while others call.
+pub fn cursors_go_on()
+    ensures begun { CursorsBegin }
+    ensures others { CursorsGoOn }
 {}
 
 /// What an upload knows says what the server holds: between two calls the chunks of the bytes taken, up to less than one; and once its

@@ -10,6 +10,7 @@ ghost use Rattle.mg_ops.specs.Drawn.{AreLater};
 ghost use Rattle.mg_gridfs.specs.Buckets.{IsSize};
 ghost use Rattle.mg_gridfs.specs.Calls.{Abandons, Aborts, Closes, Drives, LeavesEnd, LeavesWrite, TakesFlush, Writes, abort_phase, close_phase, end_ending, ended_by, ending_beside, stream_closed, write_ending, write_in_progress, wrote_by};
 ghost use Rattle.mg_gridfs.specs.Causes.{AbortCaused, CloseCaused, WriteCaused};
+ghost use Rattle.mg_gridfs.specs.Cursors.{LeavesOthers};
 ghost use Rattle.mg_gridfs.specs.Steps.{Stepped};
 ghost use Rattle.mg_gridfs.specs.Storing.{AbortStores, CloseStores, WriteStores};
 ghost use Rattle.mg_gridfs.specs.Uploads.{HasBounds, IsOfCall, IsSoundPhase, IsSoundUpload, abort, begins, close, error_behind, fills, fresh_upload, phase_ticket, upload_error, upload_ticket, write};
@@ -169,6 +170,8 @@ impl GridFsUploadStream {
         ensures caused { WriteCaused (L.awaited link.old) (L.awaited link.new) (L.log link.old) (L.log link.new) (L.wire link.old) (upload_of self.old) (upload_of self.new) result }
         // Over an honest link, where nobody else touches the file: its chunks and the bytes behind are the cut of all bytes taken.
         ensures stored { (at : Bucket) → WriteStores (L.awaited link.old) (L.awaited link.new) (L.log link.old) (L.log link.new) (L.wire link.old) at (upload_of self.old) (upload_of self.new) bytes.now result }
+        // Over a link that tells its log: the cursors of others are left alone.
+        ensures passes { LeavesOthers (L.awaited link.old) (L.awaited link.new) (L.log link.old) (L.log link.new) (upload_of self.old) (upload_of self.new) }
     {
         self.any_write(link, ids, bytes)
     }
@@ -201,6 +204,8 @@ impl GridFsUploadStream {
         ensures caused { CloseCaused (L.awaited link.old) (L.awaited link.new) (L.log link.old) (L.log link.new) (L.wire link.old) (upload_of self.old) (upload_of self.new) result }
         // Over an honest link, where nobody else touches the file: once it is done the file is whole.
         ensures stored { (at : Bucket) → CloseStores (L.awaited link.old) (L.awaited link.new) (L.log link.old) (L.log link.new) (L.wire link.old) at (upload_of self.old) (upload_of self.new) result }
+        // Over a link that tells its log: the cursors of others are left alone.
+        ensures passes { LeavesOthers (L.awaited link.old) (L.awaited link.new) (L.log link.old) (L.log link.new) (upload_of self.old) (upload_of self.new) }
     {
         self.any_close(link, ids, time)
     }
@@ -223,6 +228,8 @@ impl GridFsUploadStream {
         ensures caused { AbortCaused (L.awaited link.old) (L.awaited link.new) (L.log link.old) (L.log link.new) (L.wire link.old) (upload_of self.old) (upload_of self.new) result }
         // Over an honest link, where nobody else touches the file: once it is done no chunk of it is left.
         ensures stored { (at : Bucket) → AbortStores (L.awaited link.old) (L.awaited link.new) (L.log link.old) (L.log link.new) (L.wire link.old) at (upload_of self.old) (upload_of self.new) result }
+        // Over a link that tells its log: the cursors of others are left alone.
+        ensures passes { LeavesOthers (L.awaited link.old) (L.awaited link.new) (L.log link.old) (L.log link.new) (upload_of self.old) (upload_of self.new) }
     {
         self.any_abort(link)
     }

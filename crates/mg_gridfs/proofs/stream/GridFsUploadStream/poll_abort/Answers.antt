@@ -2,6 +2,7 @@ use Rattle.mg_gridfs.specs.UploadView.{upload_of}
 use Rattle.mg_gridfs.proofs.Answered.{abort_caused}
 use Rattle.mg_gridfs.proofs.Between.{abort_between, abort_leaves}
 use Rattle.mg_gridfs.proofs.Checked.{checks_caused, landings_caused}
+use Rattle.mg_gridfs.proofs.Passed.{abort_passes}
 use Rattle.mg_gridfs.proofs.Polled.{abort_stores}
 use Rattle.mg_gridfs.proofs.stream.GridFsUploadStream.poll_abort.Goals as goal
 
@@ -28,3 +29,6 @@ returns-clause-caused g c = abort_caused checks_caused landings_caused (g.L.Link
 
 pub returns-clause-stored : goal.returns-clause-stored
 returns-clause-stored g c = λ at. abort_stores (g.L.Link.awaited c.args.link.now) (g.L.Link.awaited c.any_abort.new.link) (g.L.Link.log c.args.link.now) (g.L.Link.log c.any_abort.new.link) (g.L.Link.wire c.args.link.now) at (upload_of c.args.self.now) (upload_of c.any_abort.new.self) c.requires.sound.between c.any_abort.result c.any_abort.ensures.aborts
+
+pub returns-clause-passes : goal.returns-clause-passes
+returns-clause-passes g c = abort_passes (g.L.Link.awaited c.args.link.now) (g.L.Link.awaited c.any_abort.new.link) (g.L.Link.log c.args.link.now) (g.L.Link.log c.any_abort.new.link) (g.L.Link.wire c.args.link.now) (upload_of c.args.self.now) (upload_of c.any_abort.new.self) c.requires.sound.between c.any_abort.result c.any_abort.ensures.aborts

@@ -2,6 +2,7 @@ use Rattle.mg_gridfs.specs.UploadView.{upload_of}
 use Rattle.mg_gridfs.proofs.Answered.{write_caused}
 use Rattle.mg_gridfs.proofs.Between.{write_between, write_leaves}
 use Rattle.mg_gridfs.proofs.Checked.{checks_caused, landings_caused}
+use Rattle.mg_gridfs.proofs.Passed.{write_passes}
 use Rattle.mg_gridfs.proofs.Polled.{write_stores}
 use Rattle.mg_gridfs.proofs.stream.GridFsUploadStream.poll_write.Goals as goal
 
@@ -28,3 +29,6 @@ returns-clause-caused g c = let on = c.any_write.ensures.writes in write_caused 
 
 pub returns-clause-stored : goal.returns-clause-stored
 returns-clause-stored g c = λ at. let on = c.any_write.ensures.writes in write_stores (g.L.Link.awaited c.args.link.now) (g.L.Link.awaited c.any_write.new.link) (g.L.Link.log c.args.link.now) (g.L.Link.log c.any_write.new.link) (g.L.Link.wire c.args.link.now) at (upload_of c.args.self.now) (upload_of c.any_write.new.self) c.requires.sound.between (g.I.IdSource.ids c.args.ids.now) on.0 c.args.bytes.now c.any_write.result on.2
+
+pub returns-clause-passes : goal.returns-clause-passes
+returns-clause-passes g c = let on = c.any_write.ensures.writes in write_passes (g.L.Link.awaited c.args.link.now) (g.L.Link.awaited c.any_write.new.link) (g.L.Link.log c.args.link.now) (g.L.Link.log c.any_write.new.link) (g.L.Link.wire c.args.link.now) (upload_of c.args.self.now) (upload_of c.any_write.new.self) c.requires.sound.between (g.I.IdSource.ids c.args.ids.now) on.0 c.args.bytes.now c.any_write.result on.2
