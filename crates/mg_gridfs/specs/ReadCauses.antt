@@ -1,6 +1,6 @@
 -- What the answers of a download and of its opening are caused by, over all polls of a call.
-use Rattle.std.specs.Prelude.{◌≡◌, ◌≢◌, ◌≤◌, ℕ, ℤ, true, List, length, Option, Some, None, Ok, Err}
-use Rattle.mg_bson.specs.Raw.{fields}
+use Rattle.std.specs.Prelude.{◌≡◌, ◌≢◌, ◌≤◌, ◌+◌, ℕ, ℤ, true, List, [], ◌∷◌, length, Option, Some, None, Ok, Err}
+use Rattle.mg_bson.specs.Raw.{IsDocument, fields, items}
 use Rattle.mg_bson.specs.Tree.{Items, Tree, no_items}
 use Rattle.mg_link.specs.Calls.{Flies, HeardBy, Keeps, Past, RequestFails, past_of}
 use Rattle.mg_link.specs.Errors.{plain}
@@ -10,10 +10,10 @@ use Rattle.mg_link.specs.Log.{Call, reply}
 use Rattle.mg_link.specs.declared.error.Error.{Error}
 use Rattle.mg_link.specs.declared.error.ErrorKind.TheVariants as kind
 use Rattle.mg_options.specs.Fields.{fields_in}
-use Rattle.mg_ops.specs.Cursors.{batch_at}
-use Rattle.mg_cursor.specs.Batches.{NoBatchIn}
-use Rattle.mg_cursor.specs.Causes.{IsUnderway, MoreFails, TellsNoCursor}
-use Rattle.mg_cursor.specs.Client.{ClientCursor}
+use Rattle.mg_ops.specs.Cursors.{Cursor, batch_at, cursor_of}
+use Rattle.mg_cursor.specs.Batches.{NoBatchIn, batch_in}
+use Rattle.mg_cursor.specs.Causes.{HeardMore, IsUnderway, MoreFails, TellsNoCursor}
+use Rattle.mg_cursor.specs.Client.{ClientCursor, at_rest, behind_reply, holds}
 use Rattle.mg_cursor.specs.Polling.{CannotAsk}
 use Rattle.mg_cursor.specs.Seeking.{AreHeard, LastBatch}
 use Rattle.mg_records.specs.FileRecords.{FileRecord, chunk_count_of}
@@ -79,6 +79,24 @@ cursor_in (reads cursor missing empty) = Some cursor
 cursor_in ended = None
 cursor_in spoiled = None
 
+-- a batch that the call took, and the cursor behind it: the one in hand, or that of a reply which it heard
+pub data TakesNext (past : Past) (c : ClientCursor) (bytes : List ℕ) (c' : ClientCursor) : Type 0 where
+  was_held : c.doing ≡ holds bytes → c' ≡ at_rest c → TakesNext past c bytes c'
+  by_reply : (said : Cursor) → HeardMore past c bytes → cursor_of (fields bytes) ≡ Ok said → c' ≡ behind_reply said c → TakesNext past c bytes c'
+
+-- its chunks are in order, numbered from one on
+pub record HasInOrder (f : FileRecord) (n : ℕ) (bytes : List ℕ) : Type 0 where
+  pub array : List ℕ
+  pub is_array : IsDocument array
+  pub bytes_are : batch_in bytes ≡ Some array
+  pub chunks : List (List ℕ)
+  pub in_order : all_judged f n (items array) ≡ Ok chunks
+
+-- The call took these batches one behind another, whose chunks are numbered from one number on, so that another is the next; and this cursor stands behind them.
+abbrev pub TookAll : Past → FileRecord → ClientCursor → List (List ℕ) → (from next : ℕ) → ClientCursor → Type 0
+TookAll past f c [] from next at = (next ≡ from) × (at ≡ c)
+TookAll past f c (bytes ∷ more) from next at = (b : ClientCursor) × TakesNext past c bytes b × (h : HasInOrder f from bytes) × TookAll past f b more (from + length h.chunks) next at
+
 -- why a read fails that began with this cursor
 pub data ReadFails (past : Past) (d : ClientDownload) (c : ClientCursor) (e : Error) : Type 0 where
   out_of_memory : e ≡ plain kind.OutOfMemory → ReadFails past d c e
@@ -86,12 +104,13 @@ pub data ReadFails (past : Past) (d : ClientDownload) (c : ClientCursor) (e : Er
   not_built : (replies : List (List ℕ)) (at : ClientCursor) → AreHeard past c replies at → CannotAsk at None e → ReadFails past d c e
   no_batch : (replies : List (List ℕ)) (at : ClientCursor) → AreHeard past c replies at → MoreFails past at e → ReadFails past d c e
   no_list : (bytes : List ℕ) → LastBatch past c bytes → NoBatchIn (fields bytes) e → ReadFails past d c e
-  -- in the batch that was received last a chunk differs first so from the record, which is to have the next number
-  differs : (bytes : List ℕ) → LastBatch past c bytes → (batch : Items) → batch_at (fields bytes) ≡ Ok batch → (n : ℕ) → d.taken ≤ n → all_judged d.file n batch ≡ Err e → ReadFails past d c e
+  -- in the batch that was received last a chunk differs first so from the record, which is to have the next number behind all that came before
+  differs : (bytes : List ℕ) → LastBatch past c bytes → (batch : Items) → batch_at (fields bytes) ≡ Ok batch → (n : ℕ) → d.taken ≤ n → (before : List (List ℕ)) (at behind : ClientCursor) → TookAll past d.file c before d.taken n at → TakesNext past at bytes behind
+      → all_judged d.file n batch ≡ Err e → ReadFails past d c e
   -- too many empty replies in a row, the last of which is this one
   too_many : (bytes : List ℕ) → LastBatch past c bytes → batch_at (fields bytes) ≡ Ok no_items → e ≡ plain kind.EmptyBatches → ReadFails past d c e
   -- the cursor has ended, and so many chunks came, which are not as many as the record says
-  miscounts : (n : ℕ) → d.taken ≤ n → n ≢ d.count → e ≡ missing_chunk n → ReadFails past d c e
+  miscounts : (n : ℕ) → d.taken ≤ n → (before : List (List ℕ)) (at : ClientCursor) → TookAll past d.file c before d.taken n at → n ≢ d.count → e ≡ missing_chunk n → ReadFails past d c e
 
 -- how far a read has come
 abbrev pub IsFetching : Awaited → Past → ClientDownload → Type 0
