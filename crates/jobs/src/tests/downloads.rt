@@ -196,22 +196,51 @@ fn chunks(alloc: Global, words: &str) -> Result<Vec<Document>, Error> {
     let mut documents = Vec::new(alloc);
     let mut id = 0u8;
     for word in words.split(' ') {
-        let chunk = with(chunk(alloc, word)?, "_id", Bson::Int32(i32::from(id)))?;
-        documents.push(chunk)?;
-        id = id.saturating_add(1);
+        if !word.is_empty() {
+            let chunk = with(chunk(alloc, word)?, "_id", Bson::Int32(i32::from(id)))?;
+            documents.push(chunk)?;
+            id = id.saturating_add(1);
+        }
     }
     Ok(documents)
 }
 
-// What is read of a file with this record and these chunks.
-fn differing(alloc: Global, sizes: &str, words: &str, room: usize) -> Result<String, Error> {
+// A store with one file, which has this record and these chunks.
+fn file_in(alloc: Global, sizes: &str, words: &str) -> Result<MemLink, Error> {
     let (length, size) = sizes.split_once(',').unwrap_or((sizes, "0"));
     let mut link = empty_link(alloc);
     let mut records = Vec::new(alloc);
     records.push(record(alloc, length, size)?)?;
     insert(alloc, &mut link, "fs.files", records)?;
-    insert(alloc, &mut link, "fs.chunks", chunks(alloc, words)?)?;
+    let chunks = chunks(alloc, words)?;
+    if !chunks.is_empty() {
+        insert(alloc, &mut link, "fs.chunks", chunks)?;
+    }
+    Ok(link)
+}
+
+// What is read of a file with this record and these chunks.
+fn differing(alloc: Global, sizes: &str, words: &str, room: usize) -> Result<String, Error> {
+    let mut link = file_in(alloc, sizes, words)?;
     got(alloc, &mut link, 5, room)
+}
+
+// Puts a file beside another one, and gets both.
+fn beside(alloc: Global) -> Result<String, Error> {
+    let mut link = file_in(alloc, "6,4", "0:abcd 1:ef")?;
+    put_into(alloc, &mut link, Some(4), "uvwxyz")?;
+    let first = got(alloc, &mut link, 5, 16)?;
+    let second = got(alloc, &mut link, 7, 16)?;
+    Ok(format!(in alloc; "{first} {second}")?)
+}
+
+#[test]
+fn files_stand_beside_others(rt: HostRuntime) -> Result<(), Fail> {
+    match beside(rt.alloc()) {
+        Ok(found) => expect(&rt, "two files", found.as_str(), "/abcdef/end /uvwxyz/end"),
+        Err(_) => return Err(Fail::from("not put")),
+    }
+    Ok(())
 }
 
 /// Each line is the length of the file and the size of its chunks by its record, the chunks that are there, and what is read: into room
@@ -227,6 +256,8 @@ const DIFFERING: &str = "10,4~0:abcd 1:efgh 2:ij~/abcd/efgh/ij/end /abcdefghij/e
 4,4~0:tabcd~/invalid response: bad chunk/end /invalid response: bad chunk/end
 8,4~0:abcd 2:tabcd~/invalid response: bad chunk/end /invalid response: bad chunk/end
 0,4~0:abcd~/end /end
+0,4~~/end /end
+4,4~~/chunk 0 is missing/end /chunk 0 is missing/end
 4,0~0:abcd~invalid response: chunk size 0 invalid response: chunk size 0
 9223372036854775807,1~0:a~invalid response: too many chunks invalid response: too many chunks";
 

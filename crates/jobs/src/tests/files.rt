@@ -98,15 +98,38 @@ fn counted(alloc: Global, n: i32) -> Result<Vec<u8>, BsonError> {
     bytes_of(alloc, &with(reply, "n", Bson::Int32(n))?)
 }
 
-// A success with a batch of one record.
-fn record_found(alloc: Global) -> Result<Vec<u8>, BsonError> {
-    let mut items = Array::new(alloc);
-    items.push(Bson::Document(one_field(alloc, "_id", Bson::Int32(1))?))?;
+// A success with a batch of these items.
+fn batch_found(alloc: Global, items: Array) -> Result<Vec<u8>, BsonError> {
     let cursor = one_field(alloc, "id", Bson::Int64(0))?;
     let cursor = with_text(alloc, cursor, "ns", "db.fs.files")?;
     let cursor = with(cursor, "firstBatch", Bson::Array(items))?;
     let reply = one_field(alloc, "ok", Bson::Int32(1))?;
     bytes_of(alloc, &with(reply, "cursor", Bson::Document(cursor))?)
+}
+
+// A success with a batch of one record.
+fn record_found(alloc: Global) -> Result<Vec<u8>, BsonError> {
+    let mut items = Array::new(alloc);
+    items.push(Bson::Document(one_field(alloc, "_id", Bson::Int32(1))?))?;
+    batch_found(alloc, items)
+}
+
+// A list of one index of these two keys, whose values are numbers of other kinds than those of an index that is created.
+fn index_found(alloc: Global, first: &str, second: &str) -> Result<Vec<u8>, BsonError> {
+    let keys = one_field(alloc, first, Bson::Int64(1))?;
+    let keys = with(keys, second, Bson::Double([0, 0, 0, 0, 0, 0, 240, 63]))?;
+    let index = one_field(alloc, "v", Bson::Int32(2))?;
+    let index = with(index, "key", Bson::Document(keys))?;
+    let mut items = Array::new(alloc);
+    items.push(Bson::Document(with_text(alloc, index, "name", "other")?))?;
+    batch_found(alloc, items)
+}
+
+// The failure of a collection that is there.
+fn collection_there(alloc: Global) -> Result<Vec<u8>, BsonError> {
+    let reply = one_field(alloc, "ok", Bson::Int32(0))?;
+    let reply = with(reply, "code", Bson::Int32(48))?;
+    bytes_of(alloc, &with_text(alloc, reply, "errmsg", "there")?)
 }
 
 // A success that lists a failure.
@@ -120,10 +143,15 @@ fn failure_listed(alloc: Global) -> Result<Vec<u8>, BsonError> {
     bytes_of(alloc, &with(reply, "writeErrors", Bson::Array(failures))?)
 }
 
-// A record that is found; a failure; want of memory; a fault; or a success with a count.
+// A record that is found, or none; an index of the files or of the chunks; a collection that is there; a failure that is listed; want of
+// memory; a fault; or a success with a count.
 fn seen_of(alloc: Global, word: &str) -> Result<ScriptedSeen, BsonError> {
     match word.as_bytes().first().copied().unwrap_or(b'1') {
         b'r' => Ok(ScriptedSeen::Reply(record_found(alloc)?)),
+        b'e' => Ok(ScriptedSeen::Reply(batch_found(alloc, Array::new(alloc))?)),
+        b'f' => Ok(ScriptedSeen::Reply(index_found(alloc, "filename", "uploadDate")?)),
+        b'c' => Ok(ScriptedSeen::Reply(index_found(alloc, "files_id", "n")?)),
+        b't' => Ok(ScriptedSeen::Reply(collection_there(alloc)?)),
         b'd' => Ok(ScriptedSeen::Reply(failure_listed(alloc)?)),
         b'm' => Ok(ScriptedSeen::Memory),
         b'l' => Ok(ScriptedSeen::Fault),
@@ -300,7 +328,9 @@ r l l~w~/the upload failed (the link failed), and its chunks could not be remove
 r l m~w~/out of memory/find fs.files/insert fs.chunks/delete fs.chunks
 r 1 1 l 1~wc~/wrote 5/the link failed/find fs.files/insert fs.chunks/insert fs.chunks/insert fs.files/delete fs.chunks
 r 1 1+~wawfa~/wrote 5/pending/the upload is closed/the upload is closed/done/find fs.files/insert fs.chunks/delete fs.chunks
-r 1+ l~wa~/pending/the upload was aborted, and its chunks could not be removed (the link failed)/find fs.files/insert fs.chunks/delete fs.chunks";
+r 1+ l~wa~/pending/the upload was aborted, and its chunks could not be removed (the link failed)/find fs.files/insert fs.chunks/delete fs.chunks
+e t f t c 1 1 1~wc~/wrote 5/done/find fs.files/other/other/other/other/insert fs.chunks/insert fs.chunks/insert fs.files
+e 1 c 1 t e 1 1 1 1~wc~/wrote 5/done/find fs.files/other/other/other/other/other/other/insert fs.chunks/insert fs.chunks/insert fs.files";
 
 // The three parts of a line.
 pub(super) fn line_parts(line: &str) -> Option<(&str, &str, &str)> {
@@ -456,6 +486,7 @@ fn put(alloc: Global, size: Option<u32>, pieces: &str) -> Result<String, Error> 
 
 /// Each line is the size of the chunks, the pieces, and what stands in the store.
 const PUTS: &str = "4~abc,defghi~/4/4/1/9 in 10
+0~abc~invalid chunk size
 4~abcdefgh~/4/4/8 in 9
 4~~/0 in 1
 4~abc~/3/3 in 2
@@ -468,8 +499,30 @@ fn expect_put(rt: &impl Abort, alloc: Global, line: &str) -> Result<(), Fail> {
     };
     match put(alloc, Some(small(Some(size))), pieces) {
         Ok(found) => expect(rt, line, found.as_str(), wanted),
-        Err(_) => return Err(Fail::from("put")),
+        Err(error) => {
+            let told = format!(in alloc; "{error}")?;
+            expect(rt, line, told.as_str(), wanted);
+        }
     }
+    Ok(())
+}
+
+// A write of more chunks than one command holds.
+#[test]
+fn long_write_is_cut(rt: HostRuntime) -> Result<(), Fail> {
+    let alloc = rt.alloc();
+    let mut link = ScriptLink::new(list_of(alloc, "r 1 1")?, 21);
+    let mut ids = CountedIds::new([0, 0, 0, 0]);
+    let Ok(mut upload) = opened(alloc, &mut ids, Some(1)) else {
+        return Err(Fail::from("not opened"));
+    };
+    let piece = repeated(alloc, "", "z", 100_001, "")?;
+    let poll = upload.poll_write(&mut link, &mut ids, piece.as_bytes());
+    let told = write_word(alloc, &poll)?;
+    let sent = command_words(alloc, &link)?;
+    let found = format!(in alloc; "{told}{sent}")?;
+    let wanted = "/wrote 100001/find fs.files/insert fs.chunks/insert fs.chunks";
+    expect(&rt, "a long write", found.as_str(), wanted);
     Ok(())
 }
 
