@@ -39,7 +39,7 @@ enum State {
 /// upload is closed. Before its first chunk is inserted it makes sure of the indexes of the bucket, once.
 ///
 /// One that is dropped sends nothing, and its chunks stay: [`poll_abort`](GridFsUploadStream::poll_abort) removes them. An upload that
-/// failed has removed them, and takes no call.
+/// failed leaves none, unless memory ran out or the removal failed, and takes no call.
 ///
 ///     while let WritePoll::Pending = upload.poll_write(&mut link, &mut ids, bytes) { .. }
 ///     while let Step2::Pending = upload.poll_close(&mut link, &mut ids, now) { .. }
