@@ -1,6 +1,6 @@
 -- How far jobs come, turn by turn.
 use Rattle.std.proofs.Common.{◌≡◌, ◌+◌, ◌-◌, ◌<◌, ◌≤◌, ◌⊎◌, ℕ, zero, suc, Bool, true, false, cond, List, [], ◌∷◌, ◌++◌, Option, Some, None, Result, Ok, Err, refl, sym, ap, ◌∙◌, subst, inl, inr, length, take, arith}
-use Rattle.std.specs.Prelude.{slice_get, slice_set, nat_eq, nat_lt, IfOk, is_some}
+use Rattle.std.specs.Prelude.{slice_get, slice_set, nat_eq, nat_lt, IfOk, IsSome, is_some}
 use Rattle.std.proofs.lemmas.Bool.{cases_eq, eq-eqb, ne_eqb, lt-ltb}
 use Rattle.std.proofs.lemmas.List.{length-map}
 use Rattle.mg_link.specs.Acts.{PendsAfter}
@@ -122,6 +122,10 @@ pends_not : (poll : EventPoll) (ticket : Option ℕ) (before now : ℕ) → HasE
 pends_not polls.Pending ticket before now over h = absurd over
 pends_not (polls.Ready event) ticket before now over h = h
 pends_not (polls.Failed e) ticket before now over h = h
+
+-- a call that waits holds a ticket
+pub waits_held : (before now : ℕ) (ticket : Option ℕ) (poll : EventPoll) → poll ≡ polls.Pending → PendsJust (event_ending poll) ticket before now → IsSome ticket
+waits_held before now ticket poll is pended = (subst (λ (q : EventPoll). PendsJust (event_ending q) ticket before now) is pended).0
 
 pub ask_waits : (before now : ℕ) (stream stream' : ChangeStream Fields) (c : Came) (poll : EventPoll) → poll ≡ polls.Pending → PendsJust (event_ending poll) (stream_ticket (stream_of stream')) before now → FollowGoes before now (stage.Open stream) c (stage.Open stream') c
 ask_waits before now stream stream' c poll is pended =

@@ -371,15 +371,15 @@ never_unfinished count answered k pended (inl more) turns = omega arith
 never_unfinished count answered k pended (inr all) turns = omega arith
 
 module _ (awaited : Awaited) (c : Course) (i : ℕ) (begun calls : List Call) (wire : ℤ) (whole : length begun ≡ c.begun) (faultless : Faultless begun calls) (well : AnswersWell c i calls) where
-  served_so : {A : Type 0} (k : ℕ) (last : ClientStream) (closed : Ended A) (close : Closed c i k calls wire last closed) → IsServed (IsWatched well.history) (sent_at close.places calls wire)
-  served_so k last closed close = serves c i k begun calls wire close.places whole faultless well close.sent
+  served_so : {A : Type 0} (k : ℕ) (last : ClientStream) (places : List ℕ) (closed : Ended A) (close : Closed c i k calls wire last places closed) → IsServed (IsWatched well.history) (sent_at places calls wire)
+  served_so k last places closed close = serves c i k begun calls wire places whole faultless well close.sent
 
-  closed_well : {A : Type 0} (are_its : WatchArgs → Type 0) (closed : Ended A) (count answered k : ℕ) (pended : Bool) (last : ClientStream) → StandsOwn (IsHeard c i calls) last → OpenPlayed closed count answered k pended → suc count ≤ k → CloseCaused awaited c i count answered calls wire last closed
+  closed_well : {A : Type 0} (are_its : WatchArgs → Type 0) (closed : Ended A) (count answered k : ℕ) (pended : Bool) (last : ClientStream) (places : List ℕ) → StandsOwn (IsHeard c i calls) last → OpenPlayed closed count answered k pended → suc count ≤ k → CloseCaused awaited c i count answered calls wire last places closed
       → (answered ≡ count) × EndsWell (IsExcused are_its (IsHeard c i calls) ⊥) closed
-  closed_well are_its ended.Unfinished count answered k pended last own played turns close = absurd (never_unfinished count answered k pended played turns)
-  closed_well are_its (ended.Gave x) count answered k pended last own played turns close = (played.0, tt)
-  closed_well are_its (ended.Failed e) count answered k pended last own played turns close =
-      (played.0, kill_well (IsWatched well.history) are_its (IsHeard c i calls) (sent_at close.places calls wire) last e (served_so answered last (ended.Failed e) close) own.cursor.own close.by)
+  closed_well are_its ended.Unfinished count answered k pended last places own played turns close = absurd (never_unfinished count answered k pended played turns)
+  closed_well are_its (ended.Gave x) count answered k pended last places own played turns close = (played.0, tt)
+  closed_well are_its (ended.Failed e) count answered k pended last places own played turns close =
+      (played.0, kill_well (IsWatched well.history) are_its (IsHeard c i calls) (sent_at places calls wire) last e (served_so answered last places (ended.Failed e) close) own.cursor.own close.by)
 
 -- ---- a follow
 
@@ -397,7 +397,7 @@ module _ (awaited : Awaited) (c : Course) (i : ℕ) (begun calls : List Call) (w
       let stands = opened_well (IsWatched well.history) (IsArgsFor on start filter batch) (sent_at a.places calls wire) (honest_over well.history calls well.legal well.stands a.places wire) o.args o.args_are a.first a.opened in
       let own = opened_own (IsHeard c i calls) (sent_at a.places calls wire) (hears c i 0 begun calls wire a.places whole faultless well a.sent) o.args a.first a.opened in
       let all = calls_well c i begun calls wire whole faultless well (IsArgsFor on start filter batch) fits ⊥ 1 a.first a.owns said o.last (λ k own there. let next : suc k ≡ 1 + k = omega arith in subst (λ (m : ℕ). AllSentIn c i m own) next (a.sent_each k own there)) a.answered stands own (λ owing. let bad : streams.follows ≡ streams.owes = sym (ap (λ (s : ClientStream). s.doing) a.opened.stream_is) ∙ owing in cc) (λ bytes held. refl) in
-      let end = closed_well awaited c i begun calls wire whole faultless well (IsArgsFor on start filter batch) closed count (length said) k pended o.last all.0 played turns o.close in
+      let end = closed_well awaited c i begun calls wire whole faultless well (IsArgsFor on start filter batch) closed count (length said) k pended o.last o.now all.0 played turns o.close in
       record { all = end.0; answered = all.1; closes = end.1 }
 
   unopened_well : (e : Error) → OpenFailed c i calls wire on start filter batch e → its_excuses ⊥ e

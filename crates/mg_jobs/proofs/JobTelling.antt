@@ -140,7 +140,7 @@ ready_turn so old new log log' wire p q p' next task teller turn calls calls' to
 -- A job that has done nothing tells of no places.
 pub first_tells : (t : Task) (awaited : Awaited) (calls : List Call) (wire : ℤ) (p : Player) → IsFirst p → JobTells awaited calls wire (record { opened = []; owns = []; now = [] }) t p None
 first_tells t awaited calls wire (player.Insert job) is = subst (λ (s : InsertStage). InsertTells awaited (sent_at [] calls wire) (space job.ns.now) (sent_documents t) s) (sym is) tt
-first_tells t awaited calls wire (player.Follow job) is = subst (λ (s : Stage). Tells awaited calls wire (record { opened = []; owns = []; now = [] }) s (kept job) None) (sym is.0) ((refl, is.2.no_answer), refl)
+first_tells t awaited calls wire (player.Follow job) is = subst (λ (s : Stage). Tells awaited calls wire (record { opened = []; owns = []; now = [] }) s (kept job) None) (sym is.0) ((refl, is.2.no_answer, refl), refl)
 first_tells t awaited calls wire (player.Put job) is = tt
 first_tells t awaited calls wire (player.Get job) is = tt
 

@@ -9,6 +9,10 @@ pub mod Vainly
 pub mod Knowing
 pub mod Advancing
 pub mod Appended
+pub mod Whole
+pub mod Commands
+pub mod Left
+pub mod Fallings
 pub mod Telling
 pub mod Told
 pub mod Waiting

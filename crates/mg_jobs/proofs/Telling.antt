@@ -1,6 +1,6 @@
 -- What a follow tells goes on to hold, turn by turn.
 use Rattle.std.proofs.Common.{◌≡◌, ◌⊎◌, ◌+◌, ◌-◌, ◌≤◌, ◌<◌, ℕ, zero, suc, ℤ, Bool, true, List, [], ◌∷◌, ◌++◌, length, Option, Some, None, refl, sym, ap, ◌∙◌, subst, inl, inr, arith, length-append}
-use Rattle.std.specs.Prelude.{◌↔◌, IsTrue, slice_get}
+use Rattle.std.specs.Prelude.{◌↔◌, IsSome, IsTrue, slice_get}
 use Rattle.mg_bson.specs.Tree.{Fields, Tree}
 use Rattle.mg_link.specs.Calls.{Grows, Keeps, Past, past_of, AddsOnly}
 use Rattle.mg_link.specs.Exec.{Sending}
@@ -16,11 +16,15 @@ use Rattle.mg_link.proofs.Places.{get_within}
 use Rattle.mg_ops.specs.declared.change_stream.WatchArgs.{WatchArgs}
 use Rattle.mg_change.specs.Causes.{CallCame, CallCaused, Called, SoFar}
 use Rattle.mg_change.specs.ClientOpenings.{ClientOpening, OpensStream}
-use Rattle.mg_change.specs.ClientStreams.{ClientStream, IsAlive, IsBetween, IsSound, stream_token}
+use Rattle.mg_change.specs.ClientStreams.{ClientStream, IsAlive, IsBetween, IsSound, stream_ticket, stream_token}
+use Rattle.mg_change.specs.ClosingCauses.{LastSoFar}
 use Rattle.mg_change.specs.ClosingStreams.{ClosesStream, ClosingStream, closed_stream, handed_over}
+use Rattle.mg_change.specs.OpenedStreams.{IsOpening}
 use Rattle.mg_change.specs.OpeningCauses.{Opened, OpeningCaused, OpeningFails, OpensSoFar}
 use Rattle.mg_change.specs.OpeningView.{IsPlainOpening, opening_of}
-use Rattle.mg_change.specs.StreamCalls.{CallCopies}
+use Rattle.mg_change.specs.Sent as calling
+use Rattle.mg_change.specs.Sent.{CallSent, IsAt, places_behind}
+use Rattle.mg_change.specs.StreamCalls.{CallCopies, event_ending}
 use Rattle.mg_change.specs.StreamView.{IsPlainStream, stream_of}
 use Rattle.mg_change.specs.declared.event_poll.EventPoll.{EventPoll}
 use Rattle.mg_change.specs.declared.event_poll.EventPoll.TheVariants as polls
@@ -29,12 +33,12 @@ use Rattle.mg_change.specs.declared.stream.ChangeStream.{ChangeStream}
 use Rattle.mg_change.proofs.ClosingCauses.{LastCame, last_closes, last_done_grows, last_fails_grows, last_grows}
 use Rattle.mg_change.proofs.OpeningCauses.{opened_grows, opening_fails_grows, opens_grows}
 use Rattle.mg_change.proofs.Resting.{opening_args}
-use Rattle.mg_jobs.specs.Causes.{Answered, ClosedBy, sent_at}
+use Rattle.mg_jobs.specs.Causes.{Answered, ClosedBy, FallsAt, KillsLast, places_from, sent_at, sent_since}
 use Rattle.mg_jobs.specs.Sends.{IsCommandOf}
 use Rattle.mg_jobs.specs.Follows.{HasGiven, Placing, poll_of, same_place}
 use Rattle.mg_jobs.specs.Playing.{stage_ticket}
-use Rattle.mg_jobs.specs.Plays.{Extends, IsNow, Places}
-use Rattle.mg_jobs.specs.Telling.{FollowTells, IsOpened, IsWatchArgs, Kept, RestTells, Tell, Tells, TellsEnd, TellsFailed, TellsOpen, number}
+use Rattle.mg_jobs.specs.Plays.{Extends, IsNow, Places, all_places}
+use Rattle.mg_jobs.specs.Telling.{FollowTells, IsOpened, IsWatchArgs, Kept, RestTells, SendsSoFar, Tell, Tells, TellsEnd, TellsFailed, TellsOpen, landing_places, number, opening_places}
 use Rattle.mg_script.specs.declared.outcome.Answer.{Answer}
 use Rattle.mg_script.specs.declared.outcome.Answer.TheVariants as answers
 use Rattle.mg_script.specs.declared.outcome.Ended.{Ended}
@@ -43,21 +47,16 @@ use Rattle.mg_jobs.specs.declared.follow.Stage.{Stage}
 use Rattle.mg_jobs.specs.declared.follow.Stage.TheVariants as stage
 use Rattle.mg_jobs.specs.declared.follow.Watched.{Watched}
 use Rattle.mg_link.proofs.Adding.{adds_none, adds_on}
+use Rattle.mg_jobs.proofs.Commands.{began_as, falls_later, falls_more, falls_none}
+use Rattle.mg_jobs.proofs.Fallings.{closing_falls, closing_left, kill_of, opening_falls, opening_left}
 use Rattle.mg_jobs.proofs.Lasting.{Lasts}
 use Rattle.mg_jobs.proofs.Later.{begins, called_grows, last_begins, so_far_grows}
+use Rattle.mg_jobs.proofs.Left.{held_few, landing_few, places_few}
 use Rattle.mg_jobs.proofs.Sending.{calls_such, closing_such, opening_such}
 use Rattle.mg_jobs.proofs.Sends.{for_answered, for_opened, for_so_far, such_adds}
+use Rattle.mg_jobs.proofs.Whole.{since_on, whole_answered, whole_going, whole_opened, whole_same}
 
 -- ---- places
-
--- so many places, from one on
-abbrev pub places_from : ℕ → ℕ → List ℕ
-places_from at zero = []
-places_from at (suc n) = at ∷ places_from (suc at) n
-
--- places, and those from one on, up to another
-abbrev pub sent_since : List ℕ → ℕ → ℕ → List ℕ
-sent_since places from upto = places ++ places_from from (upto - from)
 
 is_from : (at n place : ℕ) → IsOf (places_from at n) place → (at ≤ place) × (place < at + n)
 is_from at zero place of = absurd of
@@ -70,16 +69,16 @@ at_or_behind zero (suc b) h = inr (omega arith)
 at_or_behind (suc a) zero h = absurd (omega arith)
 at_or_behind (suc a) (suc b) h = elim (at_or_behind a b (omega arith)) [ inl e ↦ inl (ap suc e) | inr behind ↦ inr (omega (arith, behind)) ]
 
-from_is : (at n place : ℕ) → at ≤ place → place < at + n → IsOf (places_from at n) place
+pub from_is : (at n place : ℕ) → at ≤ place → place < at + n → IsOf (places_from at n) place
 from_is at zero place low high = absurd (omega arith)
 from_is at (suc n) place low high = elim (at_or_behind at place low) [ inl e ↦ inl e | inr behind ↦ inr (from_is (suc at) n place behind (omega arith)) ]
 
-in_first : {A : Type 0} (xs ys : List A) (x : A) → IsOf xs x → IsOf (xs ++ ys) x
+pub in_first : {A : Type 0} (xs ys : List A) (x : A) → IsOf xs x → IsOf (xs ++ ys) x
 in_first [] ys x of = absurd of
 in_first (y ∷ xs) ys x (inl e) = inl e
 in_first (y ∷ xs) ys x (inr of) = inr (in_first xs ys x of)
 
-in_second : {A : Type 0} (xs ys : List A) (x : A) → IsOf ys x → IsOf (xs ++ ys) x
+pub in_second : {A : Type 0} (xs ys : List A) (x : A) → IsOf ys x → IsOf (xs ++ ys) x
 in_second [] ys x of = of
 in_second (y ∷ xs) ys x of = inr (in_second xs ys x of)
 
@@ -126,15 +125,16 @@ grows_ended places since calls wire =
 pub answered_later : (calls calls' : List Call) (wire : ℤ) → Keeps calls calls' → (owns : List (List ℕ)) (said : List Answer) (first last : ClientStream) → Answered calls wire first owns said last → Answered calls' wire first owns said last
 answered_later calls calls' wire keeps [] [] first last a = a
 answered_later calls calls' wire keeps (places ∷ owns) (answer ∷ said) first last a =
-    (a.0, called_grows (sent_at places calls wire) (sent_at places calls' wire) (grows_later places calls calls' wire keeps) None first a.0 (poll_of answer) a.1, answered_later calls calls' wire keeps owns said a.0 last a.2)
+    (a.0, called_grows (sent_at places calls wire) (sent_at places calls' wire) (grows_later places calls calls' wire keeps) None first a.0 (poll_of answer) a.1, answered_later calls calls' wire keeps owns said a.0 last a.2, falls_later (IsAt first) calls calls' 4 places 0 keeps a.3)
 answered_later calls calls' wire keeps [] (answer ∷ said) first last a = absurd a
 answered_later calls calls' wire keeps (places ∷ owns) [] first last a = absurd a
 
-answered_more : (calls : List Call) (wire : ℤ) (owns : List (List ℕ)) (said : List Answer) (first mid last : ClientStream) (places : List ℕ) (answer : Answer) → Answered calls wire first owns said mid → Called (sent_at places calls wire) None mid last (poll_of answer) → Answered calls wire first (owns ++ places ∷ []) (said ++ answer ∷ []) last
-answered_more calls wire [] [] first mid last places answer a called = (last, subst (λ (x : ClientStream). Called (sent_at places calls wire) None x last (poll_of answer)) a called, refl)
-answered_more calls wire (own ∷ owns) (other ∷ said) first mid last places answer a called = (a.0, a.1, answered_more calls wire owns said a.0 mid last places answer a.2 called)
-answered_more calls wire [] (other ∷ said) first mid last places answer a called = absurd a
-answered_more calls wire (own ∷ owns) [] first mid last places answer a called = absurd a
+answered_more : (calls : List Call) (wire : ℤ) (owns : List (List ℕ)) (said : List Answer) (first mid last : ClientStream) (places : List ℕ) (answer : Answer) → Answered calls wire first owns said mid → Called (sent_at places calls wire) None mid last (poll_of answer) → FallsAt (IsAt mid) calls 4 places 0 → Answered calls wire first (owns ++ places ∷ []) (said ++ answer ∷ []) last
+answered_more calls wire [] [] first mid last places answer a called sends =
+    (last, subst (λ (x : ClientStream). Called (sent_at places calls wire) None x last (poll_of answer)) a called, refl, subst (λ (x : ClientStream). FallsAt (IsAt x) calls 4 places 0) a sends)
+answered_more calls wire (own ∷ owns) (other ∷ said) first mid last places answer a called sends = (a.0, a.1, answered_more calls wire owns said a.0 mid last places answer a.2 called sends, a.3)
+answered_more calls wire [] (other ∷ said) first mid last places answer a called sends = absurd a
+answered_more calls wire (own ∷ owns) [] first mid last places answer a called sends = absurd a
 
 answered_count : (calls : List Call) (wire : ℤ) (owns : List (List ℕ)) (said : List Answer) (first last : ClientStream) → Answered calls wire first owns said last → length owns ≡ length said
 answered_count calls wire [] [] first last a = refl
@@ -153,6 +153,7 @@ open_later calls calls' wire opened owns v o said alive last at keeps t =
       first = t.first;
       opened = opened_grows (sent_at opened calls wire) (sent_at opened calls' wire) (grows_later opened calls calls' wire keeps) t.args t.first t.opened;
       here = t.here;
+      opens = falls_later (IsOpening t.args wire None) calls calls' 3 opened 1 keeps t.opens;
       answered = answered_later calls calls' wire keeps owns said t.first last t.answered;
       alive_is = t.alive_is;
     }
@@ -165,27 +166,35 @@ closed_by_later past past' last (ended.Failed e) grows c = last_fails_grows past
 end_later : {A : Type 0} (calls calls' : List Call) (wire : ℤ) (q : Places) (k : Kept) (at : Option ℕ) (o : Ended A) → Keeps calls calls' → TellsEnd calls wire q k at o → TellsEnd calls' wire q k at o
 end_later calls calls' wire q k at ended.Unfinished keeps t = tt
 end_later calls calls' wire q k at (ended.Gave x) keeps t =
-    (t.0, open_later calls calls' wire q.opened q.owns k.watched k.opened k.said k.alive t.0 at keeps t.1, t.2, closed_by_later (sent_at q.now calls wire) (sent_at q.now calls' wire) t.0 k.closed (grows_later q.now calls calls' wire keeps) t.3)
+    (t.0, open_later calls calls' wire q.opened q.owns k.watched k.opened k.said k.alive t.0 at keeps t.1, t.2, closed_by_later (sent_at q.now calls wire) (sent_at q.now calls' wire) t.0 k.closed (grows_later q.now calls calls' wire keeps) t.3, falls_later (KillsLast t.0) calls calls' 1 q.now 0 keeps t.4)
 end_later calls calls' wire q k at (ended.Failed e) keeps (inl room) = inl room
 end_later calls calls' wire q k at (ended.Failed e) keeps (inr t) =
-    inr (record { args = t.args; args_are = t.args_are; fails = opening_fails_grows (sent_at q.opened calls wire) (sent_at q.opened calls' wire) (grows_later q.opened calls calls' wire keeps) t.args None e t.fails })
+    let fails = opening_fails_grows (sent_at q.opened calls wire) (sent_at q.opened calls' wire) (grows_later q.opened calls calls' wire keeps) t.0.args None e t.0.fails in
+    inr (record { args = t.0.args; args_are = t.0.args_are; fails = fails; opens = falls_later (IsOpening t.0.args wire None) calls calls' 3 q.opened 1 keeps t.0.opens }, t.1, t.2)
 
 -- Where its own ticket goes with the same call, a follow tells in a later log what it told.
 pub tells_later : (old new : Awaited) (calls calls' : List Call) (wire : ℤ) (q : Places) (s : Stage) (k : Kept) (at : Option ℕ) → Keeps calls calls' → ((m : ℕ) → stage_ticket s ≡ Some m → new m ≡ old m) → Tells old calls wire q s k at → Tells new calls' wire q s k at
 tells_later old new calls calls' wire q stage.Unopened k at keeps same t = t
-tells_later old new calls calls' wire q (stage.Opens opening) k at keeps same t =
-    (t.0, t.1, t.2, opens_grows (sent_at q.now calls wire) (sent_at q.now calls' wire) (grows_later q.now calls calls' wire keeps) (opening_of opening).args old new (opening_of opening).sending same t.3)
+tells_later old new calls calls' wire q (stage.Opens opening) k at keeps same t = (
+  t.0,
+  t.1,
+  t.2,
+  opens_grows (sent_at q.now calls wire) (sent_at q.now calls' wire) (grows_later q.now calls calls' wire keeps) (opening_of opening).args old new (opening_of opening).sending same t.3,
+  falls_later (IsOpening (opening_of opening).args wire None) calls calls' 3 q.now (opening_places (opening_of opening).sending) keeps t.4,
+)
 tells_later old new calls calls' wire q (stage.Open stream) k at keeps same t = (
   t.0,
   open_later calls calls' wire q.opened q.owns k.watched k.opened k.said k.alive t.0 at keeps t.1,
   so_far_grows (sent_at q.now calls wire) (sent_at q.now calls' wire) (grows_later q.now calls calls' wire keeps) old new t.0 (stream_of stream) same t.2,
   t.3,
+  record { falls = falls_later (IsAt t.0) calls calls' 4 q.now (calling.places (stream_of stream)) keeps t.4.falls; cursor = t.4.cursor },
 )
 tells_later old new calls calls' wire q (stage.Closes closing) k at keeps same t = (
   t.0,
   open_later calls calls' wire q.opened q.owns k.watched k.opened k.said k.alive t.0 at keeps t.1,
   t.2,
   last_grows (sent_at q.now calls wire) (sent_at q.now calls' wire) (grows_later q.now calls calls' wire keeps) t.0 old new closing same t.3,
+  falls_later (KillsLast t.0) calls calls' 1 q.now (landing_places closing.doing) keeps t.4,
 )
 tells_later old new calls calls' wire q stage.Ended k at keeps same t = end_later calls calls' wire q k at k.opened keeps t
 
@@ -214,6 +223,7 @@ extends_on q q' q'' n n'' from mid upto room room' a b =
         | inr now ↦ inr (now.0, λ place of. now_on q q' from mid upto place room room' first (now.1 place of))
       ];
       now = λ place of. let r = b.now place of in (r.0, now_on q q' from mid upto place room room' first r.1);
+      whole = b.whole ∙ ap (λ (l : List ℕ). sent_since l mid upto) a.whole ∙ since_on (all_places q) from mid upto room room';
     }
 
 -- the rest of a turn behind a part of it
@@ -229,25 +239,26 @@ tell_on new begun mid calls wire v q q' n s k at room extends adds t =
 
 -- nothing was sent, and what goes on does so
 pub extends_same : (q : Places) (n n' from : ℕ) → n' ≡ n → Extends q q n n' from from
-extends_same q n n' from same = record { opened = λ place of. inl of; owns = λ k own there. inl there; now = λ place of. (same, inl of) }
+extends_same q n n' from same = record { opened = λ place of. inl of; owns = λ k own there. inl there; now = λ place of. (same, inl of); whole = whole_same q from }
 
 -- nothing goes on
 extends_rest : (q : Places) (n n' from : ℕ) → q.now ≡ [] → Extends q q n n' from from
-extends_rest q n n' from none = record { opened = λ place of. inl of; owns = λ k own there. inl there; now = λ place of. absurd (subst (λ (l : List ℕ). IsOf l place) none of) }
+extends_rest q n n' from none = record { opened = λ place of. inl of; owns = λ k own there. inl there; now = λ place of. absurd (subst (λ (l : List ℕ). IsOf l place) none of); whole = whole_same q from }
 
 -- what goes on sent more
 abbrev pub going_on : Places → ℕ → ℕ → Places
 going_on q from upto = record q { now = sent_since q.now from upto }
 
 pub extends_going : (q : Places) (n n' from upto : ℕ) → n' ≡ n → from ≤ upto → Extends q (going_on q from upto) n n' from upto
-extends_going q n n' from upto same room = record { opened = λ place of. inl of; owns = λ k own there. inl there; now = λ place of. (same, since_is q.now from upto place room of) }
+extends_going q n n' from upto same room = record { opened = λ place of. inl of; owns = λ k own there. inl there; now = λ place of. (same, since_is q.now from upto place room of); whole = whole_going q from upto }
 
 -- the opening has ended
 abbrev pub opened_by : Places → ℕ → ℕ → Places
 opened_by q from upto = record { opened = sent_since q.now from upto; owns = []; now = [] }
 
-extends_opened : (q : Places) (n n' from upto : ℕ) → n ≡ 0 → from ≤ upto → Extends q (opened_by q from upto) n n' from upto
-extends_opened q n n' from upto first room = record { opened = λ place of. inr (first, since_is q.now from upto place room of); owns = λ k own there. absurd cc; now = λ place of. absurd of }
+extends_opened : (q : Places) (n n' from upto : ℕ) → n ≡ 0 → q.opened ≡ [] → q.owns ≡ [] → from ≤ upto → Extends q (opened_by q from upto) n n' from upto
+extends_opened q n n' from upto first opens none room =
+    record { opened = λ place of. inr (first, since_is q.now from upto place room of); owns = λ k own there. absurd cc; now = λ place of. absurd of; whole = whole_opened q from upto opens none }
 
 -- a call has ended
 abbrev pub answered_by : Places → ℕ → ℕ → Places
@@ -268,6 +279,7 @@ extends_answered q n n' from upto count room =
         | inr last ↦ inr (ap suc last.0 ∙ sym count, λ place of. since_is q.now from upto place room (subst (λ (l : List ℕ). IsOf l place) (sym last.1) of))
       ];
       now = λ place of. absurd of;
+      whole = whole_answered q from upto;
     }
 
 -- ---- the arms of a turn
@@ -295,11 +307,21 @@ tells_at old new log log' wire s s0 k s' s1 k' next from to told = subst (λ (x 
 pub tells_over : (old new : Awaited) (log log' : Told) (wire wire' : ℤ) (s : Stage) (k : Kept) (s' : Stage) (k' : Kept) (next : Placing) → wire' ≡ wire → FollowTells old new log log' wire s k s' k' next → FollowTells old new log log' wire' s k s' k' next
 tells_over old new log log' wire wire' s k s' k' next same told = subst (λ (w : ℤ). FollowTells old new log log' w s k s' k' next) (sym same) told
 
+-- what goes on has sent nothing
+none_now : (may : ℕ → Fields → Type 0) (calls : List Call) (n : ℕ) (q : Places) (m : ℕ) → q.now ≡ [] → m ≤ n → FallsAt may calls n q.now m
+none_now may calls n q m none less = subst (λ (l : List ℕ). FallsAt may calls n l m) (sym none) (falls_none may calls n m less)
+
 -- The opening begins.
 pub begin_tells : (old new : Awaited) (log log' : Told) (wire : ℤ) (k : Kept) (opening : Opening Fields) (s' : Stage) (k' : Kept) (next : Placing) → IsWatchArgs k.watched (opening_of opening).args → IsPlainOpening opening → (opening_of opening).sending ≡ None
     → FollowTells old new log log' wire (stage.Opens opening) k s' k' next → FollowTells old new log log' wire stage.Unopened k s' k' next
 begin_tells old new log log' wire k opening s' k' next args sound unsent rest calls calls' told told' q at t =
-    rest calls calls' told told' q at (t.0, args, sound, subst (λ (x : Option Sending). OpensSoFar old (sent_at q.now calls wire) (opening_of opening).args x) (sym unsent) tt)
+    rest calls calls' told told' q at (
+      t.0,
+      args,
+      sound,
+      subst (λ (x : Option Sending). OpensSoFar old (sent_at q.now calls wire) (opening_of opening).args x) (sym unsent) tt,
+      subst (λ (x : Option Sending). FallsAt (IsOpening (opening_of opening).args wire None) calls 3 q.now (opening_places x)) (sym unsent) (none_now (IsOpening (opening_of opening).args wire None) calls 3 q 3 t.1 (omega arith)),
+    )
 
 -- Memory ran out before it.
 pub begin_fails : (awaited : Awaited) (log : Told) (wire : ℤ) (k k' : Kept) (e : Error) → k'.opened ≡ ended.Failed e → e.kind ≡ kind.OutOfMemory → FollowTells awaited awaited log log wire stage.Unopened k stage.Ended k' same_place
@@ -317,6 +339,15 @@ opening_adds : (are_its : WatchArgs → Type 0) (old new : Awaited) (log log' : 
 opening_adds are_its old new log log' wire opening r calls calls' its sound opens told told' keeps =
     let does = opens sound in
     such_adds are_its log log' calls calls' told told' keeps (opening_such are_its old new log log' wire does.0 (opening_of opening) r its sound.sound does.1)
+
+-- what it sent stands behind what was sent before
+opening_goes : (old new : Awaited) (log log' : Told) (wire : ℤ) (opening : Opening Fields) (r : Step ClientOpening ClientStream) (calls calls' : List Call) (own : List ℕ) → log ≡ Some calls → log' ≡ Some calls' → Keeps calls calls' → IsPlainOpening opening → Opens old new log log' wire opening r
+    → FallsAt (IsOpening (opening_of opening).args wire None) calls 3 own (opening_places (opening_of opening).sending) → FallsAt (IsOpening (opening_of opening).args wire None) calls' 3 (sent_since own (length calls) (length calls')) (opening_left r)
+opening_goes old new log log' wire opening r calls calls' own told told' keeps sound opens before =
+    let o = opening_of opening in
+    let does = opens sound in
+    let sent = opening_falls old new log log' wire does.0 o r sound.sound does.1 in
+    falls_more (IsOpening o.args wire None) log log' calls calls' 3 own (opening_places o.sending) (opening_left r) sent.commands told told' keeps before sent.adds sent.falling
 
 -- The reply to the opening pends.
 pub open_waits_tells : (old new : Awaited) (log log' : Told) (wire : ℤ) (k : Kept) (opening opening' : Opening Fields) → (IsPlainOpening opening → IsPlainOpening opening')
@@ -340,6 +371,8 @@ open_waits_tells old new log log' wire k opening opening' sound opens caused cal
         sound t.2,
         subst (λ (a : WatchArgs). OpensSoFar new later a o'.sending) (sym args)
             (opens_grows (past_of q.now (length calls) calls' wire) later (grows_ended q.now (length calls) calls' wire) o.args new new o'.sending (λ m e. refl) came),
+        subst (λ (a : WatchArgs). FallsAt (IsOpening a wire None) calls' 3 (sent_since q.now (length calls) (length calls')) (opening_places o'.sending)) (sym args)
+            (opening_goes old new log log' wire opening (step.Pending o') calls calls' q.now told told' keeps t.2 opens t.4),
       );
       extends = extends_going q 0 0 (length calls) (length calls') refl room;
       adds = opening_adds (IsWatchArgs k.watched) old new log log' wire opening (step.Pending o') calls calls' t.1 t.2 opens told told' keeps;
@@ -360,12 +393,13 @@ open_fails_tells old new log log' wire k k' opening e watched failed opens cause
       args = args_of;
       args_are = subst (λ (v : Watched). IsWatchArgs v args_of) (sym watched) t.1;
       fails = opening_fails_grows (past_of q.now (length calls) calls' wire) (sent_at q'.opened calls' wire) (grows_ended q.now (length calls) calls' wire) args_of None e fails;
+      opens = opening_goes old new log log' wire opening (step.Failed e) calls calls' q.now told told' keeps t.2 opens t.4;
     } in
     record {
       longer = room;
       places = q';
-      tells = subst (λ (o : Ended (Unit {0})). TellsEnd calls' wire q' k' at o) (sym failed) (inr so);
-      extends = extends_opened q 0 (length k'.said) (length calls) (length calls') refl room;
+      tells = subst (λ (o : Ended (Unit {0})). TellsEnd calls' wire q' k' at o) (sym failed) (inr (so, refl, refl));
+      extends = extends_opened q 0 (length k'.said) (length calls) (length calls') refl t.0.2 t.0.0 room;
       adds = opening_adds (IsWatchArgs k.watched) old new log log' wire opening (step.Failed e) calls calls' t.1 t.2 opens told told' keeps;
     }
 
@@ -398,13 +432,16 @@ open_done_tells old mid new log log_mid log' wire wire_mid k k1 opening stream s
       first = s;
       opened = opened_grows (past_of q.now (length calls) r.0 wire) (sent_at q1.opened r.0 wire) (grows_ended q.now (length calls) r.0 wire) args_of s r.2;
       here = r.3;
+      opens = opening_goes old mid log log_mid wire opening (step.Done s) calls r.0 q.now told r.1 keeps t.2 opens t.4;
       answered = subst (λ (l : List Answer). Answered r.0 wire s [] l s) (sym none) refl;
       alive_is = alive;
     } in
     let ends : Tell new r.0 calls' wire k1.watched q1 (length k1.said) s' k' place = subst (λ (w : ℤ). IsOpened r.0 w q1 k1 s place → Tell new r.0 calls' w k1.watched q1 (length k1.said) s' k' place) same (rest r.0 calls' r.1 told' q1 place refl) opened in
-    tell_on new calls r.0 calls' wire k.watched q q1 0 s' k' place room (extends_opened q 0 0 (length calls) (length r.0) refl room)
+    tell_on new calls r.0 calls' wire k.watched q q1 0 s' k' place room (extends_opened q 0 0 (length calls) (length r.0) refl t.0.2 t.0.0 room)
     (opening_adds (IsWatchArgs k.watched) old mid log log_mid wire opening (step.Done s) calls r.0 t.1 t.2 opens told r.1 keeps)
     (subst (λ (v : Watched). Tell new r.0 calls' wire v q1 0 s' k' place) watched (subst (λ (n : ℕ). Tell new r.0 calls' wire k1.watched q1 n s' k' place) (ap length none) ends))
+
+-- ---- what a call sends
 
 -- what a poll of a call does
 abbrev pub Copies : Awaited → Awaited → Told → Told → ℤ → ClientStream → ClientStream → EventPoll → Type 0
@@ -418,10 +455,31 @@ call_adds v old new log log' wire s s1 r calls calls' q k last at sound does t s
     let far = for_so_far t.args (sent_at q.now calls wire) last fit old s so in
     such_adds (IsWatchArgs v) log log' calls calls' told told' keeps (calls_such (IsWatchArgs v) t.args t.args_are does.0 old new log log' wire does.1 s s1 r sound far.0 far.1 does.2)
 
+module _ (log log' : Told) (at : ClientStream) (own : List ℕ) (s s1 : ClientStream) (calls calls' : List Call) (told : log ≡ Some calls) (told' : log' ≡ Some calls') (keeps : Keeps calls calls') (same : s.aggregate ≡ at.aggregate) where
+  -- what a poll sent stands behind what was sent before
+  call_falls : (r : EventPoll) → CallSent log log' s s1 r → SendsSoFar calls at own s → FallsAt (IsAt at) calls' 4 (sent_since own (length calls) (length calls')) (places_behind (event_ending r) s1)
+  call_falls r sent so =
+      let n : ℕ = calling.places s in
+      let m : ℕ = places_behind (event_ending r) s1 in
+      falls_more (IsAt at) log log' calls calls' 4 own n m sent.commands told told' keeps so.falls sent.adds (began_as at s same n sent.commands m so.cursor sent.falling)
+
+  -- a call that waits has sent its getMore, or needs none
+  call_goes_on : IsSome (stream_ticket s1) → CallSent log log' s s1 polls.Pending → SendsSoFar calls at own s → SendsSoFar calls' at (sent_since own (length calls) (length calls')) s1
+  call_goes_on held sent so =
+      record {
+        falls = call_falls polls.Pending sent so;
+        cursor = λ many. let few : calling.places s1 ≤ 3 = held_few s1.cursor s1.doing held in absurd (omega (arith, few, many));
+      }
+
+ends_places : (answer : Answer) (s : ClientStream) → places_behind (event_ending (poll_of answer)) s ≡ 0
+ends_places (answers.Event event) s = refl
+ends_places answers.Nothing s = refl
+ends_places (answers.Failed e) s = refl
+
 -- A call of the stream pends.
-pub call_waits_tells : (old new : Awaited) (log log' : Told) (wire : ℤ) (k : Kept) (s s1 : ChangeStream Fields) (r : EventPoll) → r ≡ polls.Pending → IsPlainStream s → IsPlainStream s1 → Copies old new log log' wire (stream_of s) (stream_of s1) r → CallCaused old new log log' wire None (stream_of s) (stream_of s1) r
+pub call_waits_tells : (old new : Awaited) (log log' : Told) (wire : ℤ) (k : Kept) (s s1 : ChangeStream Fields) (r : EventPoll) → r ≡ polls.Pending → IsPlainStream s → IsPlainStream s1 → IsSome (stream_ticket (stream_of s1)) → CallSent log log' (stream_of s) (stream_of s1) r → Copies old new log log' wire (stream_of s) (stream_of s1) r → CallCaused old new log log' wire None (stream_of s) (stream_of s1) r
     → FollowTells old new log log' wire (stage.Open s) k (stage.Open s1) k same_place
-call_waits_tells old new log log' wire k s s1 r pends sound sound' does caused calls calls' told told' q place t =
+call_waits_tells old new log log' wire k s s1 r pends sound sound' held sent does caused calls calls' told told' q place t =
     let at = t.0 in
     let c = subst (λ (x : EventPoll). CallCaused old new log log' wire None (stream_of s) (stream_of s1) x) pends caused calls told q.now at t.2 in
     let keeps = keeps_to log' calls c.0 calls' c.1 told' c.2 in
@@ -436,6 +494,7 @@ call_waits_tells old new log log' wire k s s1 r pends sound sound' does caused c
         open_later calls calls' wire q.opened q.owns k.watched k.opened k.said k.alive at place keeps t.1,
         so_far_grows (past_of q.now (length calls) calls' wire) later (grows_ended q.now (length calls) calls' wire) new new at (stream_of s1) (λ m e. refl) so_far,
         sound'.sound,
+        call_goes_on log log' at q.now (stream_of s) (stream_of s1) calls calls' told told' keeps t.2.same held (subst (λ (x : EventPoll). CallSent log log' (stream_of s) (stream_of s1) x) pends sent) t.4,
       );
       extends = extends_going q (suc (length k.said)) (suc (length k.said)) (length calls) (length calls') refl room;
       adds = call_adds k.watched old new log log' wire (stream_of s) (stream_of s1) r calls calls' q k at place sound.sound does t.1 t.2 told told' keeps;
@@ -448,8 +507,8 @@ came_called awaited past at s (answers.Failed e) came = came
 
 -- A call of the stream answered; the rest of the turn follows.
 pub call_answers_tells : (old mid new : Awaited) (log log_mid log' : Told) (wire wire_mid : ℤ) (k k1 : Kept) (s s1 : ChangeStream Fields) (r : EventPoll) (answer : Answer) (s' : Stage) (k' : Kept) → RestTells new log_mid log' wire_mid (stream_of s1) k1 s' k' → k1.watched ≡ k.watched → k1.opened ≡ k.opened → k1.said ≡ k.said ++ answer ∷ [] → SaysAlive k1.alive (stream_of s1) → wire_mid ≡ wire → r ≡ poll_of answer → IsPlainStream s
-    → Copies old mid log log_mid wire (stream_of s) (stream_of s1) r → CallCaused old mid log log_mid wire None (stream_of s) (stream_of s1) r → FollowTells old new log log' wire (stage.Open s) k s' k' same_place
-call_answers_tells old mid new log log_mid log' wire wire_mid k k1 s s1 r answer s' k' rest watched given said alive same is sound does caused calls calls' told told' q place t =
+    → CallSent log log_mid (stream_of s) (stream_of s1) r → Copies old mid log log_mid wire (stream_of s) (stream_of s1) r → CallCaused old mid log log_mid wire None (stream_of s) (stream_of s1) r → FollowTells old new log log' wire (stage.Open s) k s' k' same_place
+call_answers_tells old mid new log log_mid log' wire wire_mid k k1 s s1 r answer s' k' rest watched given said alive same is sound sent does caused calls calls' told told' q place t =
     let at = t.0 in
     let c = subst (λ (x : EventPoll). CallCaused old mid log log_mid wire None (stream_of s) (stream_of s1) x) is caused calls told q.now at t.2 in
     let room = keeps_longer calls c.0 c.2 in
@@ -458,6 +517,8 @@ call_answers_tells old mid new log log_mid log' wire wire_mid k k1 s s1 r answer
     let after = stream_of s1 in
     let before = open_later calls c.0 wire q.opened q.owns k.watched k.opened k.said k.alive at place c.2 t.1 in
     let called : Called (sent_at own c.0 wire) None at after (poll_of answer) = called_grows (past_of q.now (length calls) c.0 wire) (sent_at own c.0 wire) (grows_ended q.now (length calls) c.0 wire) None at after (poll_of answer) (came_called mid (past_of q.now (length calls) c.0 wire) at after answer c.3) in
+    let sends : FallsAt (IsAt at) c.0 4 own 0 = subst (λ (m : ℕ). FallsAt (IsAt at) c.0 4 own m) (ap (λ (x : EventPoll). places_behind (event_ending x) after) is ∙ ends_places answer after)
+    (call_falls log log_mid at q.now (stream_of s) after calls c.0 told c.1 c.2 t.2.same r sent t.4) in
     let opened : TellsOpen c.0 wire q1.opened q1.owns k1.watched k1.opened k1.said k1.alive after place = record {
       given = subst (λ (o : Ended (Unit {0})). HasGiven o) (sym given) before.given;
       args = before.args;
@@ -465,7 +526,8 @@ call_answers_tells old mid new log log_mid log' wire wire_mid k k1 s s1 r answer
       first = before.first;
       opened = before.opened;
       here = before.here;
-      answered = subst (λ (l : List Answer). Answered c.0 wire before.first q1.owns l after) (sym said) (answered_more c.0 wire q.owns k.said before.first at after own answer before.answered called);
+      opens = before.opens;
+      answered = subst (λ (l : List Answer). Answered c.0 wire before.first q1.owns l after) (sym said) (answered_more c.0 wire q.owns k.said before.first at after own answer before.answered called sends);
       alive_is = alive;
     } in
     let count : length k1.said ≡ suc (length k.said) = (let joined = length-append k.said (answer ∷ []) in omega (arith, ap length said, joined)) in
@@ -478,19 +540,40 @@ call_answers_tells old mid new log log_mid log' wire wire_mid k k1 s s1 r answer
 -- The stream is kept for its next call.
 pub rest_stays_tells : (awaited : Awaited) (log : Told) (wire : ℤ) (stream : ChangeStream Fields) (k : Kept) → IsSound true (stream_of stream) → IsBetween (stream_of stream) → RestTells awaited log log wire (stream_of stream) k (stage.Open stream) k
 rest_stays_tells awaited log wire stream k sound rest calls calls' told told' q at none t =
-    tell_same awaited log wire calls calls' told told' q (length k.said) (stage.Open stream) k at k.watched
-    (stream_of stream, t, begins awaited (sent_at q.now calls wire) (stream_of stream) sound rest, sound)
+    tell_same awaited log wire calls calls' told told' q (length k.said) (stage.Open stream) k at k.watched (
+      stream_of stream,
+      t,
+      begins awaited (sent_at q.now calls wire) (stream_of stream) sound rest,
+      sound,
+      record {
+        falls = none_now (IsAt (stream_of stream)) calls 4 q (calling.places (stream_of stream)) none (places_few (stream_of stream).cursor (stream_of stream).doing);
+        cursor = λ many. refl;
+      },
+    )
     (extends_rest q (length k.said) (suc (length k.said)) (length calls) none)
 
 -- The stream is closed in the same turn, and its token was handed over.
 pub rest_closes_tells : (awaited new : Awaited) (log log' : Told) (wire : ℤ) (stream : ClientStream) (lent : Bool) (left : Option Tree) (k : Kept) (token : Option Tree) (closing : ClosingStream) (s' : Stage) (k' : Kept) → closing ≡ handed_over left (closed_stream lent stream) → IsBetween stream → token ≡ stream_token stream
     → FollowTells awaited new log log' wire (stage.Closes closing) (record k { token = token }) s' k' same_place → RestTells new log log' wire stream k s' k'
 rest_closes_tells awaited new log log' wire stream lent left k token closing s' k' is rest handed closes calls calls' told told' q at none t =
-    closes calls calls' told told' q at (stream, t, handed, last_begins awaited (sent_at q.now calls wire) stream lent left closing is rest)
+    closes calls calls' told told' q at (
+      stream,
+      t,
+      handed,
+      last_begins awaited (sent_at q.now calls wire) stream lent left closing is rest,
+      none_now (KillsLast stream) calls 1 q (landing_places closing.doing) none (landing_few closing.doing),
+    )
 
 closing_adds : (are_its : WatchArgs → Type 0) (old new : Awaited) (log log' : Told) (wire : ℤ) (closing : ClosingStream) (r : Step ClosingStream (Unit {0})) (calls calls' : List Call) → Lasts closing → ClosesStream old new log log' wire closing r → log ≡ Some calls → log' ≡ Some calls' → Keeps calls calls' → AddsOnly (IsCommandOf are_its) calls calls'
 closing_adds are_its old new log log' wire closing r calls calls' last closes told told' keeps =
     such_adds are_its log log' calls calls' told told' keeps (closing_such are_its old new log log' wire r closing last.0 last.1 closes)
+
+-- what a poll of a closing sent stands behind what was sent before
+kill_falls : (old new : Awaited) (log log' : Told) (wire : ℤ) (calls calls' : List Call) (own : List ℕ) (last : ClientStream) (closing : ClosingStream) (r : Step ClosingStream (Unit {0})) → Lasts closing → ClosesStream old new log log' wire closing r → LastSoFar old (sent_at own calls wire) last closing → log ≡ Some calls → log' ≡ Some calls' → Keeps calls calls'
+    → FallsAt (KillsLast last) calls 1 own (landing_places closing.doing) → FallsAt (KillsLast last) calls' 1 (sent_since own (length calls) (length calls')) (closing_left r)
+kill_falls old new log log' wire calls calls' own last closing r lasts closes so told told' keeps before =
+    let sent = closing_falls old new log log' wire last r closing (kill_of last closing so.id_is so.space_is so.none_opened) lasts.0 lasts.1 closes in
+    falls_more (KillsLast last) log log' calls calls' 1 own (landing_places closing.doing) (closing_left r) sent.commands told told' keeps before sent.adds sent.falling
 
 -- The killing of its cursor pends.
 pub close_waits_tells : (old new : Awaited) (log log' : Told) (wire : ℤ) (k : Kept) (closing closing' : ClosingStream) → Lasts closing → ClosesStream old new log log' wire closing (step.Pending closing')
@@ -510,21 +593,22 @@ close_waits_tells old new log log' wire k closing closing' last closes calls cal
         open_later calls calls' wire q.opened q.owns k.watched k.opened k.said k.alive t.0 at keeps t.1,
         t.2,
         last_grows past later (grows_ended q.now (length calls) calls' wire) t.0 new new closing' (λ m e. refl) came,
+        kill_falls old new log log' wire calls calls' q.now t.0 closing (step.Pending closing') last closes t.3 told told' keeps t.4,
       );
       extends = extends_going q (length k.said) (length k.said) (length calls) (length calls') refl room;
       adds = closing_adds (IsWatchArgs k.watched) old new log log' wire closing (step.Pending closing') calls calls' last closes told told' keeps;
     }
 
-given_end : {A : Type 0} (calls : List Call) (wire : ℤ) (q : Places) (k : Kept) (at : Option ℕ) (o : Ended A) → HasGiven o → (last : ClientStream) × IsOpened calls wire q k last at × (k.token ≡ stream_token last) × ClosedBy (sent_at q.now calls wire) last k.closed → TellsEnd calls wire q k at o
+given_end : {A : Type 0} (calls : List Call) (wire : ℤ) (q : Places) (k : Kept) (at : Option ℕ) (o : Ended A) → HasGiven o → (last : ClientStream) × IsOpened calls wire q k last at × (k.token ≡ stream_token last) × ClosedBy (sent_at q.now calls wire) last k.closed × FallsAt (KillsLast last) calls 1 q.now 0 → TellsEnd calls wire q k at o
 given_end calls wire q k at ended.Unfinished given t = absurd given
 given_end calls wire q k at (ended.Gave x) given t = t
 given_end calls wire q k at (ended.Failed e) given t = absurd given
 
 -- It ended so.
 close_ends_tells : (old new : Awaited) (log log' : Told) (wire : ℤ) (k : Kept) (closed : Ended (Unit {0})) (closing : ClosingStream) (result : Step ClosingStream (Unit {0})) → Lasts closing → ClosesStream old new log log' wire closing result
-    → ((past : Past) (last : ClientStream) → LastCame new past last result → ClosedBy past last closed)
+    → closing_left result ≡ 0 → ((past : Past) (last : ClientStream) → LastCame new past last result → ClosedBy past last closed)
     → FollowTells old new log log' wire (stage.Closes closing) k stage.Ended (record k { closed = closed }) same_place
-close_ends_tells old new log log' wire k closed closing result last closes by calls calls' told told' q at t =
+close_ends_tells old new log log' wire k closed closing result last closes ends by calls calls' told told' q at t =
     let r = last_closes old new log log' wire t.0 closing result last.1 closes calls told q.now t.3 in
     let keeps = keeps_to log' calls r.0 calls' r.1 told' r.2 in
     let room = keeps_longer calls calls' keeps in
@@ -535,7 +619,7 @@ close_ends_tells old new log log' wire k closed closing result last closes by ca
     record {
       longer = room;
       places = q';
-      tells = given_end calls' wire q' (record k { closed = closed }) at k.opened opened.given (t.0, opened, t.2, closed_by_later past (sent_at q'.now calls' wire) t.0 closed (grows_ended q.now (length calls) calls' wire) came);
+      tells = given_end calls' wire q' (record k { closed = closed }) at k.opened opened.given (t.0, opened, t.2, closed_by_later past (sent_at q'.now calls' wire) t.0 closed (grows_ended q.now (length calls) calls' wire) came, subst (λ (m : ℕ). FallsAt (KillsLast t.0) calls' 1 q'.now m) ends (kill_falls old new log log' wire calls calls' q.now t.0 closing result last closes t.3 told told' keeps t.4));
       extends = extends_going q (length k.said) (length k.said) (length calls) (length calls') refl room;
       adds = closing_adds (IsWatchArgs k.watched) old new log log' wire closing result calls calls' last closes told told' keeps;
     }
@@ -544,12 +628,12 @@ close_ends_tells old new log log' wire k closed closing result last closes by ca
 pub close_done_tells : (old new : Awaited) (log log' : Told) (wire : ℤ) (k : Kept) (closed : Ended (Unit {0})) (closing : ClosingStream) → closed ≡ ended.Gave tt → Lasts closing → ClosesStream old new log log' wire closing (step.Done tt)
     → FollowTells old new log log' wire (stage.Closes closing) k stage.Ended (record k { closed = closed }) same_place
 close_done_tells old new log log' wire k closed closing is last closes =
-    close_ends_tells old new log log' wire k closed closing (step.Done tt) last closes
+    close_ends_tells old new log log' wire k closed closing (step.Done tt) last closes refl
     (λ past stream done. subst (λ (o : Ended (Unit {0})). ClosedBy past stream o) (sym is) done)
 
 -- The closing failed.
 pub close_fails_tells : (old new : Awaited) (log log' : Told) (wire : ℤ) (k : Kept) (closed : Ended (Unit {0})) (closing : ClosingStream) (e : Error) → closed ≡ ended.Failed e → Lasts closing → ClosesStream old new log log' wire closing (step.Failed e)
     → FollowTells old new log log' wire (stage.Closes closing) k stage.Ended (record k { closed = closed }) same_place
 close_fails_tells old new log log' wire k closed closing e is last closes =
-    close_ends_tells old new log log' wire k closed closing (step.Failed e) last closes
+    close_ends_tells old new log log' wire k closed closing (step.Failed e) last closes refl
     (λ past stream fails. subst (λ (o : Ended (Unit {0})). ClosedBy past stream o) (sym is) fails)

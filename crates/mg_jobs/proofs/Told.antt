@@ -1,5 +1,5 @@
 -- What the jobs of a run tell of their causes, turn by turn and at its end.
-use Rattle.std.proofs.Common.{◌≡◌, ◌⊎◌, ◌+◌, ◌≤◌, ℕ, suc, ℤ, Bool, true, false, List, [], ◌∷◌, ◌++◌, length, Option, Some, None, Result, Ok, Err, refl, sym, ap, ◌∙◌, subst, inl, inr, take, arith, append_assoc}
+use Rattle.std.proofs.Common.{◌≡◌, ◌⊎◌, ◌+◌, ◌-◌, ◌≤◌, ℕ, suc, ℤ, Bool, true, false, List, [], ◌∷◌, ◌++◌, length, Option, Some, None, Result, Ok, Err, refl, sym, ap, ◌∙◌, subst, inl, inr, take, arith, append_assoc}
 use Rattle.std.specs.Prelude.{slice_get, slice_set, IfOk}
 use Rattle.std.specs.List.{sum_by}
 use Rattle.std.proofs.lemmas.List.{take_all}
@@ -17,6 +17,8 @@ use Rattle.mg_link.proofs.Places.{get_within}
 use Rattle.mg_ops.specs.declared.aggregate.ChangeStreamAggregate.{ChangeStreamAggregate}
 use Rattle.mg_ops.specs.declared.change_stream.WatchArgs.{WatchArgs}
 use Rattle.mg_change.specs.ClientStreams.{ClientStream, stream_ticket, stream_token, token_in}
+use Rattle.mg_change.specs.OpenedStreams.{IsOpening}
+use Rattle.mg_change.specs.Sent as calling
 use Rattle.mg_change.specs.OpeningView.{opening_of}
 use Rattle.mg_change.specs.StreamView.{stream_of}
 use Rattle.mg_change.specs.declared.stream.ChangeStream.{ChangeStream}
@@ -25,7 +27,7 @@ use Rattle.mg_change.proofs.Keeping.{sound_any}
 use Rattle.mg_jobs.proofs.Later.{opening_awaits_plainly}
 use Rattle.mg_ops.specs.InsertCauses.{InsertWaits}
 use Rattle.mg_ops.proofs.InsertCauses.{insert_waits}
-use Rattle.mg_jobs.specs.Causes.{AllCaused, AllSentIn, ClosedBy, CloseCaused, Course, FollowCaused, OpenStands, OpenCaused, OpenWaits, OutcomeCaused, SentIn, SentNoneBehind, at_rest, course, in_call, in_closing, sent_at}
+use Rattle.mg_jobs.specs.Causes.{AllCaused, AllSentIn, ClosedBy, CloseCaused, Course, FallsAt, FollowCaused, KillsLast, OpenStands, OpenCaused, OpenWaits, OutcomeCaused, SentIn, SentNoneBehind, at_rest, course, in_call, in_closing, places_from, places_in, sent_at, sent_since}
 use Rattle.mg_jobs.specs.Counts.{HoldsNewest, NewestAt, StartedBy}
 use Rattle.mg_ops.specs.Drawn.{AreLater, with_ids}
 use Rattle.mg_jobs.specs.Drawing.{DrawsAs, HaveDrawn, JobHadTurn, as_sent, drawn_in, first_id, has_turn, sent_from}
@@ -37,7 +39,7 @@ use Rattle.mg_jobs.specs.Progress.{AllAt, FollowAt, HoldsIf, InsertAt, IsAt, IsO
 use Rattle.mg_jobs.specs.Runs.{AreApart, Goes, has_ended}
 use Rattle.mg_jobs.specs.Sends.{AllSendOnly, MaySend, SendsOnly}
 use Rattle.mg_jobs.specs.Plays.{Extends, IsNow, Places}
-use Rattle.mg_jobs.specs.Telling.{AllSent, AllTell, FollowTold, InsertTells, IsOpened, JobTells, JobTold, TellsEnd, TurnTells, kept, number_of}
+use Rattle.mg_jobs.specs.Telling.{AllSent, AllTell, FollowTold, InsertTells, IsOpened, JobTells, JobTold, TellsEnd, TurnTells, kept, number_of, landing_places, opening_places}
 use Rattle.mg_script.specs.declared.outcome.Ended.{Ended}
 use Rattle.mg_script.specs.declared.outcome.Ended.TheVariants as ended
 use Rattle.mg_script.specs.declared.outcome.Outcome.{Outcome}
@@ -53,13 +55,16 @@ use Rattle.mg_jobs.specs.declared.player.Player.{Player}
 use Rattle.mg_jobs.specs.declared.player.Player.TheVariants as player
 use Rattle.mg_jobs.proofs.Apart.{stays, which}
 use Rattle.mg_jobs.proofs.Knowing.{get_length, know_first, knowing_turn, one_more, place_here, place_other, take_next}
+use Rattle.mg_jobs.proofs.Commands.{call_falls_so, falls_below}
 use Rattle.mg_jobs.proofs.Drawing.{draws_as, id_had, id_own, turn_other}
 use Rattle.mg_jobs.proofs.Identified.{calls_identified, honest_over, opened_well}
 use Rattle.mg_jobs.proofs.InsertTelling.{ends_of}
 use Rattle.mg_jobs.proofs.JobTelling.{first_tells, job_later, job_of_others, number_at}
-use Rattle.mg_jobs.proofs.Newest.{newest_other, newest_own, none_sent}
+use Rattle.mg_jobs.proofs.Left.{opening_some}
+use Rattle.mg_jobs.proofs.Newest.{newest_other, newest_own, none_sent, started_in}
 use Rattle.mg_jobs.proofs.Sends.{sends_first, sends_other, sends_turn, sent_had}
 use Rattle.mg_jobs.proofs.Turning.{failed_not_unfinished, follow_followed, unfinished_not_given}
+use Rattle.mg_jobs.proofs.Whole.{only_now, only_opened, places_other, places_own}
 use Rattle.mg_jobs.proofs.Vainly.{nothing_at, outcome_vain}
 use Rattle.mg_link.proofs.Watched.{IsWatched}
 
@@ -88,12 +93,13 @@ module _ (begun : ℕ) (order : List ℕ) (notes : List Turned) (j : ℕ) (note 
         upto = s.upto;
       }
 
-  all_later : (i : ℕ) (q : Places) (n : ℕ) → AllSent now i q n → AllSent then i q n
-  all_later i q n all =
+  all_later : (i : ℕ) (q : Places) (n : ℕ) → (i ≡ j → ⊥) → length order ≡ length notes → AllSent now i q n → AllSent then i q n
+  all_later i q n ne abreast all =
       record {
         opened = λ place of. sent_later i 0 place (all.opened place of);
         owns = λ k own there place of. sent_later i (suc k) place (all.owns k own there place of);
         now = λ place of. sent_later i n place (all.now place of);
+        whole = all.whole ∙ sym (places_other i j ne order notes note begun abreast);
       }
 
   -- another job's turn
@@ -106,7 +112,7 @@ module _ (begun : ℕ) (order : List ℕ) (notes : List Turned) (j : ℕ) (note 
       record {
         places = t.places;
         tells = job_of_others ids n n' new calls' wire t.places p at (has_turn i order) had (λ turn. id_had ts i j order turn) (job_later (sent_from ids n (task_of p)) old new calls calls' wire t.places p at keeps same t.tells);
-        sent = all_later i t.places (number_of p) t.sent;
+        sent = all_later i t.places (number_of p) ne abreast t.sent;
         sends = record {
           each = λ k place call sent there.
               let turn : has_turn i order ≡ true = sym (turn_other i j order ne) ∙ sent_had then i k place sent in
@@ -138,6 +144,13 @@ module _ (begun : ℕ) (order : List ℕ) (notes : List Turned) (j : ℕ) (note 
           | inr none ↦ absurd (omega (arith, low, high, upto_is, none))
         ]
 
+    -- the places of the turn stand behind all those before it
+    since_turn : sent_since (places_in j order notes begun) from upto ≡ places_in j order notes begun ++ places_from (begun + started_in notes) note.started
+    since_turn =
+        let before : List ℕ = places_in j order notes begun in
+        let count : upto - from ≡ note.started = omega (arith, upto_is) in
+        ap (λ (k : ℕ). before ++ places_from from k) count ∙ ap (λ (k : ℕ). before ++ places_from k note.started) from_is
+
     all_now : (q q' : Places) (n' : ℕ) → AllSent now j q n → Extends q q' n n' from upto → AllSent then j q' n'
     all_now q q' n' all extends =
         record {
@@ -150,6 +163,7 @@ module _ (begun : ℕ) (order : List ℕ) (notes : List Turned) (j : ℕ) (note 
             | inr ends ↦ subst (λ (m : ℕ). SentIn then j m place) (sym ends.0) (sent_now q place all.now (ends.1 place of))
           ];
           now = λ place of. let goes = extends.now place of in subst (λ (m : ℕ). SentIn then j m place) (sym goes.0) (sent_now q place all.now goes.1);
+          whole = extends.whole ∙ ap (λ (l : List ℕ). sent_since l from upto) all.whole ∙ since_turn ∙ sym (places_own j order notes note begun (sym abreast));
         }
 
   counts_at : (n : ℕ) (over : Bool) → (n ≡ turns_done j order notes) ⊎ (over ≡ true) → (over ≡ true → note.started ≡ 0) → (n ≡ turns_done j order notes) ⊎ (note.started ≡ 0)
@@ -233,7 +247,7 @@ first_told : (ids : ℕ → List ℕ) (first : ℕ) (awaited : Awaited) (calls :
 first_told ids first awaited calls wire begun i p is = record {
   places = record { opened = []; owns = []; now = [] };
   tells = first_tells (sent_from ids first (task_of p)) awaited calls wire p is;
-  sent = record { opened = λ place of. absurd of; owns = λ m own there. absurd cc; now = λ place of. absurd of };
+  sent = record { opened = λ place of. absurd of; owns = λ m own there. absurd cc; now = λ place of. absurd of; whole = refl };
   sends = sends_first (MaySend (sent_from ids first (task_of p))) begun i calls;
 }
 
@@ -283,27 +297,29 @@ module _ (awaited : Awaited) (c : Course) (i : ℕ) (calls : List Call) (wire : 
   given_caused count (ended.Gave x) given open_so = open_so
   given_caused count (ended.Failed e) given open_so = absurd given
 
-  still_open : (count : ℕ) (last : ClientStream) (o : Ended (Unit {0})) → IsUnfinished o → OpenStands awaited c i count (length job.answers.items) calls wire last → CloseCaused awaited c i count (length job.answers.items) calls wire last o
-  still_open count last ended.Unfinished is so = so
-  still_open count last (ended.Gave x) is so = absurd is
-  still_open count last (ended.Failed e) is so = absurd is
+  still_open : (count : ℕ) (last : ClientStream) (now : List ℕ) (o : Ended (Unit {0})) → IsUnfinished o → OpenStands awaited c i count (length job.answers.items) calls wire last now → CloseCaused awaited c i count (length job.answers.items) calls wire last now o
+  still_open count last now ended.Unfinished is so = so
+  still_open count last now (ended.Gave x) is so = absurd is
+  still_open count last now (ended.Failed e) is so = absurd is
 
-  was_closed : (count : ℕ) (places : List ℕ) (last : ClientStream) (o : Ended (Unit {0})) → AllSentIn c i (length job.answers.items) places → ClosedBy (sent_at places calls wire) last o → CloseCaused awaited c i count (length job.answers.items) calls wire last o
-  was_closed count places last ended.Unfinished sent by = absurd by
-  was_closed count places last (ended.Gave x) sent by = record { places = places; sent = sent; by = by }
-  was_closed count places last (ended.Failed e) sent by = record { places = places; sent = sent; by = by }
+  was_closed : (count : ℕ) (places : List ℕ) (last : ClientStream) (o : Ended (Unit {0})) → AllSentIn c i (length job.answers.items) places → ClosedBy (sent_at places calls wire) last o → FallsAt (KillsLast last) calls 1 places 0 → CloseCaused awaited c i count (length job.answers.items) calls wire last places o
+  was_closed count places last ended.Unfinished sent by kills = absurd by
+  was_closed count places last (ended.Gave x) sent by kills = record { sent = sent; by = by; kills = kills }
+  was_closed count places last (ended.Failed e) sent by kills = record { sent = sent; by = by; kills = kills }
 
   -- what an open follow tells
-  open_caused : (count : ℕ) (q : Places) (n : ℕ) (last : ClientStream) → AllSent c i q n → (t : IsOpened calls wire q (kept job) last at) → token ≡ stream_token last → CloseCaused awaited c i count (length job.answers.items) calls wire last job.closed → Caused count job.opened
+  open_caused : (count : ℕ) (q : Places) (n : ℕ) (last : ClientStream) → AllSent c i q n → (t : IsOpened calls wire q (kept job) last at) → token ≡ stream_token last → CloseCaused awaited c i count (length job.answers.items) calls wire last q.now job.closed → Caused count job.opened
   open_caused count q n last sent t token_is closed =
       given_caused count job.opened t.given (record {
         args = t.args;
         args_are = t.args_are;
         last = last;
-        answers = record { first = t.first; places = q.opened; sent = sent.opened; opened = t.opened; owns = q.owns; sent_each = sent.owns; answered = t.answered };
+        answers = record { first = t.first; places = q.opened; sent = sent.opened; opened = t.opened; opens = t.opens; owns = q.owns; sent_each = sent.owns; answered = t.answered };
         token_is = token_is;
         alive_is = t.alive_is;
+        now = q.now;
         close = closed;
+        whole = sent.whole;
         followed = followed_by owner t.opened.heard.place t.given t.here plays;
         identified = λ history legal stands.
             calls_identified history calls wire legal stands IsIts t.first q.owns job.answers.items last t.answered
@@ -312,15 +328,16 @@ module _ (awaited : Awaited) (c : Course) (i : ℕ) (calls : List Call) (wire : 
 
   end_caused : (count : ℕ) (q : Places) (o : Ended (Unit {0})) → o ≡ job.opened → token ≡ job.token → AllSent c i q (length job.answers.items) → (IsUnfinished o → ⊥) → TellsEnd calls wire q (kept job) at o → Caused count o
   end_caused count q ended.Unfinished is same sent over t = absurd (over tt)
-  end_caused count q (ended.Gave x) is same sent over t = subst (λ (o : Ended (Unit {0})). Caused count o) (sym is) (open_caused count q (length job.answers.items) t.0 sent t.1 (same ∙ t.2) (was_closed count q.now t.0 job.closed sent.now t.3))
+  end_caused count q (ended.Gave x) is same sent over t = subst (λ (o : Ended (Unit {0})). Caused count o) (sym is) (open_caused count q (length job.answers.items) t.0 sent t.1 (same ∙ t.2) (was_closed count q.now t.0 job.closed sent.now t.3 t.4))
   end_caused count q (ended.Failed e) is same sent over (inl room) = inl room
-  end_caused count q (ended.Failed e) is same sent over (inr t) = inr (record { args = t.args; args_are = t.args_are; places = q.opened; sent = sent.opened; fails = t.fails })
+  end_caused count q (ended.Failed e) is same sent over (inr t) =
+      inr (record { args = t.0.args; args_are = t.0.args_are; places = q.opened; sent = sent.opened; whole = sym (only_opened q t.1 t.2) ∙ sent.whole; fails = t.0.fails; opens = t.0.opens })
 
   -- how a follow goes on whose stream is open
-  rests_or_waits : (count : ℕ) (b : Bool) → pended_last ≡ b → (stream : ChangeStream Fields) (told : FollowTold awaited calls wire c i (stage.Open stream) (kept job) at) → IsOpen count (came job) (turns_done i c.order c.notes) → HoldsIf b (stream_ticket (stream_of stream)) → OpenStands awaited c i count (length job.answers.items) calls wire told.tells.0
-  rests_or_waits count false is stream told so holds = at_rest is (omega (arith, so.rest, so.more))
+  rests_or_waits : (count : ℕ) (b : Bool) → pended_last ≡ b → (stream : ChangeStream Fields) (told : FollowTold awaited calls wire c i (stage.Open stream) (kept job) at) → IsOpen count (came job) (turns_done i c.order c.notes) → HoldsIf b (stream_ticket (stream_of stream)) → OpenStands awaited c i count (length job.answers.items) calls wire told.tells.0 told.places.now
+  rests_or_waits count false is stream told so holds = at_rest is (omega (arith, so.rest, so.more)) (call_falls_so calls told.tells.0 told.places.now (calling.places (stream_of stream)) told.tells.4.falls)
   rests_or_waits count true is stream told so holds =
-      in_call is (omega (arith, so.rest, so.more)) told.places.now told.sent.now (call_awaits awaited (sent_at told.places.now calls wire) true told.tells.0 (stream_of stream) (sound_any true (stream_of stream) told.tells.3) told.tells.2 holds)
+      in_call is (omega (arith, so.rest, so.more)) told.sent.now (call_awaits awaited (sent_at told.places.now calls wire) true told.tells.0 (stream_of stream) (sound_any true (stream_of stream) told.tells.3) told.tells.2 holds) (call_falls_so calls told.tells.0 told.places.now (calling.places (stream_of stream)) told.tells.4.falls)
 
   over_not_unfinished : (count : ℕ) → FollowAt count stage.Ended (came job) (turns_done i c.order c.notes) pended_last → IsUnfinished job.opened → ⊥
   over_not_unfinished count (inl never, newest) is = failed_not_unfinished job.opened never.opened is
@@ -335,15 +352,18 @@ module _ (awaited : Awaited) (c : Course) (i : ℕ) (calls : List Call) (wire : 
         args_are = told.tells.1;
         places = told.places.now;
         sent = told.sent.now;
+        whole = sym (only_now told.places told.tells.0.2 told.tells.0.0) ∙ told.sent.whole;
+        opens = falls_below (IsOpening (opening_of opening).args wire None) calls 3 told.places.now (opening_places (opening_of opening).sending) 1 (opening_some (opening_of opening).sending) told.tells.4;
         waits = opening_awaits_plainly awaited (sent_at told.places.now calls wire) (opening_of opening).args (opening_of opening).sending told.tells.2.sound told.tells.3 (at_stage.1 ∙ pended);
       })
   stage_caused (stage.Open stream) count is at_stage told =
       open_caused count told.places (suc (length job.answers.items)) told.tells.0 told.sent told.tells.1 (ap (λ (s : Stage). token_at s job.token) (sym is) ∙ ap (λ (a : ChangeStreamAggregate). token_in a.resume) told.tells.2.same)
-      (still_open count told.tells.0 job.closed at_stage.0.closed (rests_or_waits count pended_last refl stream told at_stage.0 at_stage.1))
+      (still_open count told.tells.0 told.places.now job.closed at_stage.0.closed (rests_or_waits count pended_last refl stream told at_stage.0 at_stage.1))
   stage_caused (stage.Closes closing) count is at_stage told =
       open_caused count told.places (length job.answers.items) told.tells.0 told.sent told.tells.1 (ap (λ (s : Stage). token_at s job.token) (sym is) ∙ told.tells.2)
-      (still_open count told.tells.0 job.closed at_stage.0.closed
-      (in_closing at_stage.1 at_stage.0.answered told.places.now told.sent.now (last_awaits awaited (sent_at told.places.now calls wire) told.tells.0 closing told.tells.3 at_stage.2)))
+      (still_open count told.tells.0 told.places.now job.closed at_stage.0.closed
+      (in_closing at_stage.1 at_stage.0.answered told.sent.now (last_awaits awaited (sent_at told.places.now calls wire) told.tells.0 closing told.tells.3 at_stage.2)
+      (falls_below (KillsLast told.tells.0) calls 1 told.places.now (landing_places closing.doing) 0 (omega arith) told.tells.4)))
   stage_caused stage.Ended count is at_stage told = end_caused count told.places job.opened refl (ap (λ (s : Stage). token_at s job.token) (sym is)) told.sent (over_not_unfinished count at_stage) told.tells
 
   -- the call that opened its stream is one of its own, sent in a turn before which none had ended

@@ -1,7 +1,8 @@
 -- What the answers of jobs are caused by, and what jobs wait for: by the turns in which they sent their commands.
-use Rattle.std.specs.Prelude.{◌≡◌, ◌↔◌, ◌⊎◌, ◌<◌, ◌≤◌, ◌+◌, ◌++◌, IsTrue, false, true, Bool, ℕ, suc, ℤ, List, [], ◌∷◌, length, Option, Some, None, slice_get}
-use Rattle.std.specs.List.{sum_by}
+use Rattle.std.specs.Prelude.{◌≡◌, ◌↔◌, ◌⊎◌, ◌<◌, ◌≤◌, ◌+◌, ◌-◌, ◌++◌, IsTrue, false, true, Bool, cond, nat_eq, ℕ, zero, suc, ℤ, List, [], ◌∷◌, length, Option, Some, None, slice_get}
+use Rattle.std.specs.List.{concat, sum_by}
 use Rattle.mg_bson.specs.Tree.{Tree, Fields}
+use Rattle.mg_bson.specs.Raw.{fields}
 use Rattle.mg_link.specs.Calls.{IsAwaited, Past, past_of}
 use Rattle.mg_link.specs.History.{IsLegal, Step}
 use Rattle.mg_link.specs.Link.{Awaited, Polls, SamePolls, Told}
@@ -16,8 +17,10 @@ use Rattle.mg_ops.specs.declared.change_stream.WatchArgs.{WatchArgs}
 use Rattle.mg_change.specs.Causes.{CallWaits, Called}
 use Rattle.mg_change.specs.ClientOpenings.{first_aggregate}
 use Rattle.mg_change.specs.ClientStreams.{ClientStream, IsAlive, resuming_in, stream_token}
-use Rattle.mg_change.specs.ClosingCauses.{LastDone, LastFails, LastWaits}
+use Rattle.mg_change.specs.ClosingCauses.{LastDone, LastFails, LastWaits, last_kill}
+use Rattle.mg_change.specs.OpenedStreams.{IsOpening}
 use Rattle.mg_change.specs.OpeningCauses.{Opened, OpeningFails}
+use Rattle.mg_change.specs.Sent.{Falling, IsAt}
 use Rattle.mg_ops.specs.Appended.{Appended}
 use Rattle.mg_jobs.specs.Counts.{PolledBy, one_if}
 use Rattle.mg_jobs.specs.Drawing.{as_sent}
@@ -61,6 +64,43 @@ pub record SentIn (c : Course) (i k place : ℕ) : Type 0 where
 abbrev pub AllSentIn : Course → ℕ → ℕ → List ℕ → Type 0
 AllSentIn c i k places = (place : ℕ) → IsOf places place → SentIn c i k place
 
+-- so many places, from one on
+abbrev pub places_from : ℕ → ℕ → List ℕ
+places_from at zero = []
+places_from at (suc n) = at ∷ places_from (suc at) n
+
+-- places, and those from one on, up to another
+abbrev pub sent_since : List ℕ → ℕ → ℕ → List ℕ
+sent_since places from upto = places ++ places_from from (upto - from)
+
+-- the places of all commands that job i sent in these turns, in their order, where the first of the turns sent from this place on
+abbrev pub places_in : ℕ → List ℕ → List Turned → ℕ → List ℕ
+places_in i [] notes at = []
+places_in i (n ∷ order) [] at = []
+places_in i (n ∷ order) (note ∷ notes) at = cond (nat_eq i n) (places_from at note.started) [] ++ places_in i order notes (at + note.started)
+
+abbrev pub places_of : Course → ℕ → List ℕ
+places_of c i = places_in i c.order c.notes c.begun
+
+abbrev pub command_at : Option Call → List Fields
+command_at None = []
+command_at (Some call) = fields call.command ∷ []
+
+-- the commands at these places of the log
+abbrev pub commands_at : List Call → List ℕ → List Fields
+commands_at calls [] = []
+commands_at calls (place ∷ places) = command_at (slice_get calls place) ++ commands_at calls places
+
+-- the places are those of calls of a log of this length
+abbrev pub AreInLog : ℕ → List ℕ → Type 0
+AreInLog n [] = Unit {0}
+AreInLog n (place ∷ places) = (place < n) × AreInLog n places
+
+-- the commands at these places of the log are such ones, in the order in which they fall
+pub record FallsAt (may : ℕ → Fields → Type 0) (calls : List Call) (n : ℕ) (places : List ℕ) (m : ℕ) : Type 0 where
+  pub within : AreInLog (length calls) places
+  pub falling : Falling may n (commands_at calls places) m
+
 -- what a call has behind it whose commands stand at these places of the log
 abbrev pub sent_at : List ℕ → List Call → ℤ → Past
 sent_at places calls wire = past_of places (length calls) calls wire
@@ -84,10 +124,11 @@ pub record InsertEnds (awaited : Awaited) (c : Course) (i : ℕ) (calls : List C
 -- ---- a follow
 
 -- The calls of a stream, one behind the other: at which places each sent its commands, what it answered with its cause, and how the stream stood
--- before the first of them and behind the last.
+-- before the first of them and behind the last. A call sends at most the getMore of its cursor, then at most twice the aggregate that resumes the stream,
+-- then at most one killing (`IsAt`).
 abbrev pub Answered : List Call → ℤ → ClientStream → List (List ℕ) → List Answer → ClientStream → Type 0
 Answered calls wire at [] [] last = last ≡ at
-Answered calls wire at (places ∷ owns) (answer ∷ said) last = (after : ClientStream) × Called (sent_at places calls wire) None at after (poll_of answer) × Answered calls wire after owns said last
+Answered calls wire at (places ∷ owns) (answer ∷ said) last = (after : ClientStream) × Called (sent_at places calls wire) None at after (poll_of answer) × Answered calls wire after owns said last × FallsAt (IsAt at) calls 4 places 0
 Answered calls wire at [] (answer ∷ said) last = ⊥
 Answered calls wire at (places ∷ owns) [] last = ⊥
 
@@ -97,9 +138,15 @@ pub record Answers (c : Course) (i : ℕ) (calls : List Call) (wire : ℤ) (args
   pub places : List ℕ
   pub sent : AllSentIn c i 0 places
   pub opened : Opened (sent_at places calls wire) args first
+  -- its aggregate, at most twice
+  pub opens : FallsAt (IsOpening args wire None) calls 3 places 1
   pub owns : List (List ℕ)
   pub sent_each : (k : ℕ) (own : List ℕ) → slice_get owns k ≡ Some own → AllSentIn c i (suc k) own
   pub answered : Answered calls wire first owns said last
+
+-- the command kills what is left of a stream that stands so
+abbrev pub KillsLast : ClientStream → ℕ → Fields → Type 0
+KillsLast last place command = command ≡ last_kill last
 
 -- the closing sent its command behind the last call, or in the same turn
 abbrev pub ClosedBy : {A : Type 0} → Past → ClientStream → Ended A → Type 0
@@ -107,25 +154,26 @@ ClosedBy past last ended.Unfinished = ⊥
 ClosedBy past last (ended.Gave x) = LastDone past last
 ClosedBy past last (ended.Failed e) = LastFails past last e
 
-pub record Closed {A : Type 0} (c : Course) (i k : ℕ) (calls : List Call) (wire : ℤ) (last : ClientStream) (closed : Ended A) : Type 0 where
-  pub places : List ℕ
+pub record Closed {A : Type 0} (c : Course) (i k : ℕ) (calls : List Call) (wire : ℤ) (last : ClientStream) (places : List ℕ) (closed : Ended A) : Type 0 where
   pub sent : AllSentIn c i k places
   pub by : ClosedBy (sent_at places calls wire) last closed
+  -- at most once
+  pub kills : FallsAt (KillsLast last) calls 1 places 0
 
--- Where an open stream stands of whose calls so many were answered.
-pub data OpenStands (awaited : Awaited) (c : Course) (i count answered : ℕ) (calls : List Call) (wire : ℤ) (last : ClientStream) : Type 0 where
+-- Where an open stream stands of whose calls so many were answered, and which sent at these places since.
+pub data OpenStands (awaited : Awaited) (c : Course) (i count answered : ℕ) (calls : List Call) (wire : ℤ) (last : ClientStream) (now : List ℕ) : Type 0 where
   -- its newest turn did not pend, and a call is left
-  at_rest : pends_last i c.order c.notes ≡ false → answered < count → OpenStands awaited c i count answered calls wire last
+  at_rest : pends_last i c.order c.notes ≡ false → answered < count → FallsAt (IsAt last) calls 4 now 0 → OpenStands awaited c i count answered calls wire last now
   -- its next call waits for a reply
-  in_call : pends_last i c.order c.notes ≡ true → answered < count → (places : List ℕ) → AllSentIn c i (suc answered) places → CallWaits awaited (sent_at places calls wire) true last → OpenStands awaited c i count answered calls wire last
+  in_call : pends_last i c.order c.notes ≡ true → answered < count → AllSentIn c i (suc answered) now → CallWaits awaited (sent_at now calls wire) true last → FallsAt (IsAt last) calls 4 now 0 → OpenStands awaited c i count answered calls wire last now
   -- all its calls are answered, and its closing waits for a reply
-  in_closing : pends_last i c.order c.notes ≡ true → answered ≡ count → (places : List ℕ) → AllSentIn c i answered places → LastWaits awaited (sent_at places calls wire) last → OpenStands awaited c i count answered calls wire last
+  in_closing : pends_last i c.order c.notes ≡ true → answered ≡ count → AllSentIn c i answered now → LastWaits awaited (sent_at now calls wire) last → FallsAt (KillsLast last) calls 1 now 0 → OpenStands awaited c i count answered calls wire last now
 
 -- how it stands with its closing
-abbrev pub CloseCaused : {A : Type 0} → Awaited → Course → (i count answered : ℕ) → List Call → ℤ → ClientStream → Ended A → Type 0
-CloseCaused {A} awaited c i count answered calls wire last ended.Unfinished = OpenStands awaited c i count answered calls wire last
-CloseCaused {A} awaited c i count answered calls wire last (ended.Gave x) = Closed {A = A} c i answered calls wire last (ended.Gave x)
-CloseCaused {A} awaited c i count answered calls wire last (ended.Failed e) = Closed {A = A} c i answered calls wire last (ended.Failed e)
+abbrev pub CloseCaused : {A : Type 0} → Awaited → Course → (i count answered : ℕ) → List Call → ℤ → ClientStream → List ℕ → Ended A → Type 0
+CloseCaused {A} awaited c i count answered calls wire last now ended.Unfinished = OpenStands awaited c i count answered calls wire last now
+CloseCaused {A} awaited c i count answered calls wire last now (ended.Gave x) = Closed {A = A} c i answered calls wire last now (ended.Gave x)
+CloseCaused {A} awaited c i count answered calls wire last now (ended.Failed e) = Closed {A = A} c i answered calls wire last now (ended.Failed e)
 
 -- no answer says that an event has no `_id`
 abbrev pub NoneMissing : List Answer → Type 0
@@ -139,7 +187,10 @@ pub record OpenCaused {A : Type 0} (awaited : Awaited) (c : Course) (i count : �
   pub answers : Answers c i calls wire args said last
   pub token_is : token ≡ stream_token last
   pub alive_is : IsTrue alive ↔ IsAlive last
-  pub close : CloseCaused awaited c i count (length said) calls wire last closed
+  -- its turns sent just the commands of its opening, then those of each call that was answered, and then those of what goes on, or of its closing
+  pub now : List ℕ
+  pub close : CloseCaused awaited c i count (length said) calls wire last now closed
+  pub whole : answers.places ++ (concat answers.owns ++ now) ≡ places_of c i
   -- its answers are consecutive from the opening place of its own aggregate on
   pub followed : FollowedFrom calls on start filter said token answers.opened.heard.place
   -- an event of a legal history has an `_id`
@@ -151,6 +202,9 @@ pub record OpenWaits (awaited : Awaited) (c : Course) (i : ℕ) (calls : List Ca
   pub args_are : IsArgsFor on start filter batch args
   pub places : List ℕ
   pub sent : AllSentIn c i 0 places
+  -- its turns sent these, and nothing else
+  pub whole : places ≡ places_of c i
+  pub opens : FallsAt (IsOpening args wire None) calls 3 places 1
   pub waits : IsAwaited awaited (sent_at places calls wire) (resuming_in (first_aggregate args) wire None)
 
 -- one whose stream was not opened: its opening has failed, or memory ran out before
@@ -159,7 +213,10 @@ pub record OpenFailed (c : Course) (i : ℕ) (calls : List Call) (wire : ℤ) (o
   pub args_are : IsArgsFor on start filter batch args
   pub places : List ℕ
   pub sent : AllSentIn c i 0 places
+  -- its turns sent these, and nothing else
+  pub whole : places ≡ places_of c i
   pub fails : OpeningFails (sent_at places calls wire) None args e
+  pub opens : FallsAt (IsOpening args wire None) calls 3 places 1
 
 -- it is being opened, and waits where its newest turn pended; or it was opened; or it was not
 abbrev pub FollowCaused : {A B : Type 0} → Awaited → Course → (i count : ℕ) → List Call → ℤ → Target → Begin → Option Fields → Option ℕ → Ended A → List Answer → Option Tree → Bool → Ended B → Type 0

@@ -1,10 +1,12 @@
 -- What a turn does to a job, said over the words of its kind.
-use Rattle.std.specs.Prelude.{◌≡◌, ◌⊎◌, ◌<◌, ◌≤◌, ℕ, ℤ, Bool, suc, List, length, Option, Some, slice_get}
+use Rattle.std.specs.List.{concat}
+use Rattle.std.specs.Prelude.{◌≡◌, ◌⊎◌, ◌<◌, ◌≤◌, ◌++◌, ℕ, ℤ, Bool, suc, List, length, Option, Some, slice_get}
 use Rattle.mg_link.specs.Acts.{IsOut, Tickets}
 use Rattle.mg_link.specs.Calls.{AddsOnly}
 use Rattle.mg_link.specs.Link.{Awaited, Told}
 use Rattle.mg_link.specs.Log.{Call}
 use Rattle.mg_link.specs.Owner.{IsOf, Owner, Passes}
+use Rattle.mg_jobs.specs.Causes.{sent_since}
 use Rattle.mg_jobs.specs.Drawing.{sent_from}
 use Rattle.mg_jobs.specs.Follows.{Placing}
 use Rattle.mg_jobs.specs.Sends.{MaySend}
@@ -18,15 +20,20 @@ pub record Places : Type 0 where
   pub owns : List (List ℕ)
   pub now : List ℕ
 
+-- all of them, in the order in which they were sent
+abbrev pub all_places : Places → List ℕ
+all_places q = q.opened ++ (concat q.owns ++ q.now)
+
 -- the place is one of what went on, or was sent at from one place on, up to another
 abbrev pub IsNow : Places → ℕ → ℕ → ℕ → Type 0
 IsNow q from upto place = IsOf q.now place ⊎ ((from ≤ place) × (place < upto))
 
--- behind a turn that sent at the places from one on, up to another, what was sent for what goes on is told so
+-- behind a turn that sent at the places from one on, up to another, these are told behind those before, each as what was sent for what goes on
 pub record Extends (q q' : Places) (n n' : ℕ) (from upto : ℕ) : Type 0 where
   pub opened : (place : ℕ) → IsOf q'.opened place → IsOf q.opened place ⊎ ((n ≡ 0) × IsNow q from upto place)
   pub owns : (k : ℕ) (own : List ℕ) → slice_get q'.owns k ≡ Some own → (slice_get q.owns k ≡ Some own) ⊎ ((suc k ≡ n) × ((place : ℕ) → IsOf own place → IsNow q from upto place))
   pub now : (place : ℕ) → IsOf q'.now place → (n' ≡ n) × IsNow q from upto place
+  pub whole : all_places q' ≡ sent_since (all_places q) from upto
 
 -- ---- words of a kind
 

@@ -3,6 +3,7 @@ use Rattle.std.specs.Prelude.{◌≡◌, ◌↔◌, ◌⊎◌, ◌+◌, ◌≤�
 use Rattle.std.specs.List.{sum_by}
 use Rattle.mg_bson.specs.Tree.{Fields, Tree}
 use Rattle.mg_link.specs.Calls.{Past, past_of, AddsOnly}
+use Rattle.mg_link.specs.Exec.{Sending}
 use Rattle.mg_link.specs.Link.{Awaited, Told}
 use Rattle.mg_link.specs.Log.{Call}
 use Rattle.mg_link.specs.Namespace.{Space, space, target}
@@ -13,10 +14,14 @@ use Rattle.mg_ops.specs.declared.change_stream.WatchArgs.{WatchArgs}
 use Rattle.mg_change.specs.Causes.{SoFar}
 use Rattle.mg_change.specs.ClientStreams.{ClientStream, IsAlive, IsSound, stream_token}
 use Rattle.mg_change.specs.ClosingCauses.{LastSoFar}
+use Rattle.mg_change.specs.ClosingStreams.{Landing, ends, lands, lands_aggregate, lands_older}
+use Rattle.mg_change.specs.OpenedStreams.{IsOpening}
 use Rattle.mg_change.specs.OpeningCauses.{Opened, OpeningFails, OpensSoFar}
 use Rattle.mg_change.specs.OpeningView.{IsPlainOpening, opening_of}
+use Rattle.mg_change.specs.Sent as calling
+use Rattle.mg_change.specs.Sent.{IsAt, ending_places, resuming_places}
 use Rattle.mg_change.specs.StreamView.{stream_of}
-use Rattle.mg_jobs.specs.Causes.{Answered, ClosedBy, Course, EndsBy, AllSentIn, SentNoneBehind, course, sent_at}
+use Rattle.mg_jobs.specs.Causes.{Answered, ClosedBy, Course, EndsBy, FallsAt, KillsLast, AllSentIn, SentNoneBehind, course, places_of, sent_at}
 use Rattle.mg_jobs.specs.Follows.{FollowTurns, HasGiven, IsArgsFor, Placing, filter_in}
 use Rattle.mg_jobs.specs.Headline.{AllKnow, task_of}
 use Rattle.mg_ops.specs.InsertCauses.{HasSent, IsInsertOf}
@@ -25,7 +30,7 @@ use Rattle.mg_ops.specs.Drawn.{with_ids}
 use Rattle.mg_jobs.specs.Drawing.{first_id, sent_documents, sent_from}
 use Rattle.mg_jobs.specs.Playing.{job_ticket}
 use Rattle.mg_jobs.specs.Plays as words
-use Rattle.mg_jobs.specs.Plays.{Extends, Places}
+use Rattle.mg_jobs.specs.Plays.{Extends, Places, all_places}
 use Rattle.mg_jobs.specs.Sends.{IsCommandOf, MaySend, SendsOnly}
 use Rattle.mg_ops.specs.Underway.{HasInserted}
 use Rattle.mg_script.specs.declared.outcome.Answer.{Answer}
@@ -57,9 +62,9 @@ kept p = record { watched = p.watched; opened = p.opened; said = p.answers.items
 abbrev pub IsWatchArgs : Watched → WatchArgs → Type 0
 IsWatchArgs v = IsArgsFor (target v.target.now) (begin v.start.now) (filter_in v) v.batch_size
 
--- nothing was answered yet
+-- nothing was answered yet, and its opening goes on
 abbrev pub TellsFirst : Places → Kept → Type 0
-TellsFirst q k = (q.owns ≡ []) × (k.said ≡ [])
+TellsFirst q k = (q.owns ≡ []) × (k.said ≡ []) × (q.opened ≡ [])
 
 -- its stream was opened, and each call was answered with its cause
 pub record TellsOpen (calls : List Call) (wire : ℤ) (places : List ℕ) (owns : List (List ℕ)) (v : Watched) (o : Ended (Unit {0})) (said : List Answer) (alive : Bool) (last : ClientStream) (at : Option ℕ) : Type 0 where
@@ -69,6 +74,7 @@ pub record TellsOpen (calls : List Call) (wire : ℤ) (places : List ℕ) (owns 
   pub first : ClientStream
   pub opened : Opened (sent_at places calls wire) args first
   pub here : at ≡ Some opened.heard.place
+  pub opens : FallsAt (IsOpening args wire None) calls 3 places 1
   pub answered : Answered calls wire first owns said last
   pub alive_is : IsTrue alive ↔ IsAlive last
 
@@ -80,19 +86,37 @@ pub record TellsFailed (calls : List Call) (wire : ℤ) (places : List ℕ) (v :
   pub args : WatchArgs
   pub args_are : IsWatchArgs v args
   pub fails : OpeningFails (sent_at places calls wire) None args e
+  pub opens : FallsAt (IsOpening args wire None) calls 3 places 1
 
 -- how it ended
 abbrev pub TellsEnd : {A : Type 0} → List Call → ℤ → Places → Kept → Option ℕ → Ended A → Type 0
 TellsEnd calls wire q k at ended.Unfinished = Unit {0}
-TellsEnd calls wire q k at (ended.Gave x) = (last : ClientStream) × IsOpened calls wire q k last at × (k.token ≡ stream_token last) × ClosedBy (sent_at q.now calls wire) last k.closed
-TellsEnd calls wire q k at (ended.Failed e) = (e.kind ≡ kind.OutOfMemory) ⊎ TellsFailed calls wire q.opened k.watched e
+TellsEnd calls wire q k at (ended.Gave x) = (last : ClientStream) × IsOpened calls wire q k last at × (k.token ≡ stream_token last) × ClosedBy (sent_at q.now calls wire) last k.closed × FallsAt (KillsLast last) calls 1 q.now 0
+TellsEnd calls wire q k at (ended.Failed e) = (e.kind ≡ kind.OutOfMemory) ⊎ (TellsFailed calls wire q.opened k.watched e × (q.owns ≡ []) × (q.now ≡ []))
+
+-- how many places are left to an opening above the last one, which is 1: two, one or none
+abbrev pub opening_places : Option Sending → ℕ
+opening_places None = 3
+opening_places (Some sending) = resuming_places sending.stage
+
+-- how many are left to a closing: one before the killing of what is left was sent, and none behind it
+abbrev pub landing_places : Landing → ℕ
+landing_places lands = 1
+landing_places (lands_aggregate sending) = 1
+landing_places (lands_older before) = 1
+landing_places (ends sending) = ending_places sending.stage
+
+-- A call that began where its stream stood so sent its commands at these places; where it may still send its getMore, that is of the cursor which it began with.
+pub record SendsSoFar (calls : List Call) (at : ClientStream) (own : List ℕ) (s : ClientStream) : Type 0 where
+  pub falls : FallsAt (IsAt at) calls 4 own (calling.places s)
+  pub cursor : 4 ≤ calling.places s → s.cursor ≡ at.cursor
 
 -- what it can tell at each stage, where the call at this place opened its stream
 abbrev pub Tells : Awaited → List Call → ℤ → Places → Stage → Kept → Option ℕ → Type 0
 Tells awaited calls wire q stage.Unopened k at = TellsFirst q k × (q.now ≡ [])
-Tells awaited calls wire q (stage.Opens opening) k at = TellsFirst q k × IsWatchArgs k.watched (opening_of opening).args × IsPlainOpening opening × OpensSoFar awaited (sent_at q.now calls wire) (opening_of opening).args (opening_of opening).sending
-Tells awaited calls wire q (stage.Open stream) k at = (last : ClientStream) × IsOpened calls wire q k last at × SoFar awaited (sent_at q.now calls wire) true last (stream_of stream) × IsSound true (stream_of stream)
-Tells awaited calls wire q (stage.Closes closing) k at = (last : ClientStream) × IsOpened calls wire q k last at × (k.token ≡ stream_token last) × LastSoFar awaited (sent_at q.now calls wire) last closing
+Tells awaited calls wire q (stage.Opens opening) k at = TellsFirst q k × IsWatchArgs k.watched (opening_of opening).args × IsPlainOpening opening × OpensSoFar awaited (sent_at q.now calls wire) (opening_of opening).args (opening_of opening).sending × FallsAt (IsOpening (opening_of opening).args wire None) calls 3 q.now (opening_places (opening_of opening).sending)
+Tells awaited calls wire q (stage.Open stream) k at = (last : ClientStream) × IsOpened calls wire q k last at × SoFar awaited (sent_at q.now calls wire) true last (stream_of stream) × IsSound true (stream_of stream) × SendsSoFar calls last q.now (stream_of stream)
+Tells awaited calls wire q (stage.Closes closing) k at = (last : ClientStream) × IsOpened calls wire q k last at × (k.token ≡ stream_token last) × LastSoFar awaited (sent_at q.now calls wire) last closing × FallsAt (KillsLast last) calls 1 q.now (landing_places closing.doing)
 Tells awaited calls wire q stage.Ended k at = TellsEnd calls wire q k at k.opened
 
 -- the number of what goes on: how many turns that did not pend come before it
@@ -178,11 +202,12 @@ TurnTells so = words.TurnTells task_of JobTells number_of so
 abbrev pub TellsAs : (Task → Type 0) → Player → Player → Type 0
 TellsAs so = words.TellsAs task_of JobTells number_of so
 
--- each command of a job stands in a turn of it
+-- each command of a job stands in a turn of it, and its turns sent no others
 pub record AllSent (c : Course) (i : ℕ) (q : Places) (n : ℕ) : Type 0 where
   pub opened : AllSentIn c i 0 q.opened
   pub owns : (k : ℕ) (own : List ℕ) → slice_get q.owns k ≡ Some own → AllSentIn c i (suc k) own
   pub now : AllSentIn c i n q.now
+  pub whole : all_places q ≡ places_of c i
 
 -- a follow tells what it should, and each of its commands stands in a turn of it
 pub record FollowTold (awaited : Awaited) (calls : List Call) (wire : ℤ) (c : Course) (i : ℕ) (s : Stage) (k : Kept) (at : Option ℕ) : Type 0 where
