@@ -7,7 +7,7 @@ use Rattle.mg_link.specs.declared.error.Error.{Error}
 use Rattle.mg_link.proofs.Owners.{same_some}
 use Rattle.mg_link.proofs.Places.{get_set_other, get_set_same}
 use Rattle.mg_jobs.specs.Playing.{IsSameFollow, job_ticket}
-use Rattle.mg_jobs.specs.Runs.{AreApart, AreNew, AreSameJobs, CanGo, Goes, IsNew, IsSameJob}
+use Rattle.mg_jobs.specs.Runs.{MayAllGo, AreNew, AreSameJobs, CanGo, Goes, IsNew, IsSameJob}
 use Rattle.mg_script.specs.Plan.{Task}
 use Rattle.mg_jobs.specs.declared.follow.FollowPlayer.{FollowPlayer}
 use Rattle.mg_jobs.specs.declared.player.Player.{Player}
@@ -16,7 +16,7 @@ use Rattle.mg_jobs.specs.declared.player.Player.TheVariants as player
 not_out : (old : Awaited) (m : ℕ) → old m ≡ None → IsSome (old m) → ⊥
 not_out old m none out = let bad : false ≡ true = ap (λ o. is_some o) (sym none) ∙ out in cc
 
-module _ {so : Task → Type 0} (old new : Awaited) (log log' : Told) (wire : ℤ) (players : List Player) (k : ℕ) (p p' : Player) (at : slice_get players k ≡ Some p) (apart : AreApart old wire players) (goes : Goes so old new log log' wire p p') where
+module _ {so : Task → Type 0} (old new : Awaited) (log log' : Told) (wire : ℤ) (players : List Player) (k : ℕ) (p p' : Player) (at : slice_get players k ≡ Some p) (apart : MayAllGo old wire players) (goes : Goes so old new log log' wire p p') where
   pub which : (i : ℕ) (a : Player) → slice_get (slice_set players k p') i ≡ Some a → ((i ≡ k) × (p' ≡ a)) ⊎ ((i ≡ k → ⊥) × (slice_get players i ≡ Some a))
   which i a h =
       elim (cases_eq i k) [
@@ -60,15 +60,15 @@ module _ {so : Task → Type 0} (old new : Awaited) (log log' : Told) (wire : �
       ]
 
   -- a turn of one job leaves all apart
-  pub apart_turn : AreApart new wire (slice_set players k p')
+  pub apart_turn : MayAllGo new wire (slice_set players k p')
   apart_turn = record { each = each_after; distinct = distinct_after }
 
 -- the same over a wire version that is the same
-pub stands_after : {so : Task → Type 0} (old new : Awaited) (log log' : Told) (wire wire' : ℤ) (players : List Player) (k : ℕ) (p p' : Player) → wire' ≡ wire → slice_get players k ≡ Some p → AreApart old wire players → Goes so old new log log' wire' p p' → AreApart new wire' (slice_set players k p')
-stands_after old new log log' wire wire' players k p p' same at apart goes = apart_turn old new log log' wire' players k p p' at (subst (λ w. AreApart old w players) (sym same) apart) goes
+pub stands_after : {so : Task → Type 0} (old new : Awaited) (log log' : Told) (wire wire' : ℤ) (players : List Player) (k : ℕ) (p p' : Player) → wire' ≡ wire → slice_get players k ≡ Some p → MayAllGo old wire players → Goes so old new log log' wire' p p' → MayAllGo new wire' (slice_set players k p')
+stands_after old new log log' wire wire' players k p p' same at apart goes = apart_turn old new log log' wire' players k p p' at (subst (λ w. MayAllGo old w players) (sym same) apart) goes
 
 -- jobs that have done nothing are apart over any link
-pub apart_new : (awaited : Awaited) (wire : ℤ) (players : List Player) → AreNew players → AreApart awaited wire players
+pub apart_new : (awaited : Awaited) (wire : ℤ) (players : List Player) → AreNew players → MayAllGo awaited wire players
 apart_new awaited wire players new =
     record {
       each = λ i p h. record {
@@ -138,5 +138,5 @@ on_err_to (Ok x) f p = tt
 on_err_to (Err e) f p = f p
 
 -- jobs are apart over the same wire version, by another name
-pub apart_as : (awaited : Awaited) (wire wire' : ℤ) (players : List Player) → wire' ≡ wire → AreApart awaited wire players → AreApart awaited wire' players
-apart_as awaited wire wire' players same apart = subst (λ w. AreApart awaited w players) (sym same) apart
+pub apart_as : (awaited : Awaited) (wire wire' : ℤ) (players : List Player) → wire' ≡ wire → MayAllGo awaited wire players → MayAllGo awaited wire' players
+apart_as awaited wire wire' players same apart = subst (λ w. MayAllGo awaited w players) (sym same) apart

@@ -22,7 +22,7 @@ use Rattle.mg_jobs.specs.Plays as words
 use Rattle.mg_jobs.specs.declared.follow.FollowPlayer.{FollowPlayer}
 use Rattle.mg_jobs.specs.declared.follow.Stage.{Stage}
 use Rattle.mg_jobs.specs.declared.follow.Stage.TheVariants as stage
-use Rattle.mg_jobs.specs.Runs.{AreApart, Goes}
+use Rattle.mg_jobs.specs.Runs.{MayAllGo, Goes}
 use Rattle.mg_jobs.specs.declared.player.Player.{Player}
 use Rattle.mg_jobs.specs.declared.player.Player.TheVariants as player
 use Rattle.mg_link.proofs.Owners.{same_some}
@@ -50,7 +50,7 @@ kept_player awaited calls calls' (player.Follow job) o at onward (inr vain) = in
 kept_player awaited calls calls' (player.Put job) o at onward plays = plays
 kept_player awaited calls calls' (player.Get job) o at onward plays = plays
 
-module _ {so : Task → Type 0} (old new : Awaited) (log log' : Told) (wire : ℤ) (players : List Player) (k : ℕ) (p p' : Player) (at : slice_get players k ≡ Some p) (apart : AreApart old wire players) (goes : Goes so old new log log' wire p p') where
+module _ {so : Task → Type 0} (old new : Awaited) (log log' : Told) (wire : ℤ) (players : List Player) (k : ℕ) (p p' : Player) (at : slice_get players k ≡ Some p) (apart : MayAllGo old wire players) (goes : Goes so old new log log' wire p p') where
   -- the places where streams were opened, behind the turn
   abbrev pub places_on : (ℕ → Option ℕ) → ℕ → Option ℕ
   places_on places i = cond (nat_eq i k) (goes.next (places k)) (places i)

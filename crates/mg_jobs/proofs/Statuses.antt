@@ -8,7 +8,7 @@ use Rattle.mg_script.specs.Script.{missing}
 use Rattle.mg_script.specs.Text.{text_of}
 use Rattle.mg_script.specs.declared.fault.Place.{Place}
 use Rattle.mg_script.specs.declared.outcome.Run.{Run}
-use Rattle.mg_jobs.specs.Program.{Caused, IsOf, IsScript, IsToldAs, Ran, ReadMissing, ReadNoScript, ReadTooMuch, RunsThrough, Told, ending_text, is_run, run_of, short_of, status_of}
+use Rattle.mg_jobs.specs.Program.{Caused, IsOf, IsScript, IsToldAs, Ran, ReadMissing, ReadNoScript, ReadTooMuch, RunsThrough, EndingTold, ending_text, is_run, run_of, short_of, status_of}
 use Rattle.mg_jobs.specs.declared.program.Ending.{Ending}
 use Rattle.mg_jobs.specs.declared.program.Ending.TheVariants as endings
 use Rattle.mg_jobs.proofs.Endings.{decided}
@@ -21,7 +21,7 @@ module _ (words : List (List ℕ)) (left left' : Option (List ℕ)) (faults faul
   Comes ending = Caused words left left' faults faults' ending
 
   abbrev Says : Ending → Type 0
-  Says ending = Told (status_of ending) (ending_text ending) status taken taken' k k'
+  Says ending = EndingTold (status_of ending) (ending_text ending) status taken taken' k k'
 
   -- ---- what was told
 

@@ -36,7 +36,7 @@ use Rattle.mg_jobs.specs.Headline.{AllFollowed, AllKnow, AreFirst, DoTasks, Foll
 use Rattle.mg_script.specs.Plan.{Begin, Task, begin}
 use Rattle.mg_jobs.specs.Playing.{end_of, job_ticket}
 use Rattle.mg_jobs.specs.Progress.{AllAt, FollowAt, HoldsIf, InsertAt, IsAt, IsOpen, calls_of, came, pends_last, turns_done}
-use Rattle.mg_jobs.specs.Runs.{AreApart, Goes, has_ended}
+use Rattle.mg_jobs.specs.Runs.{MayAllGo, Goes, has_ended}
 use Rattle.mg_jobs.specs.Sends.{AllSendOnly, MaySend, SendsOnly}
 use Rattle.mg_jobs.specs.Plays.{Extends, IsNow, Places}
 use Rattle.mg_jobs.specs.Telling.{AllSent, AllTell, FollowTold, InsertTells, IsOpened, JobTells, JobTold, TellsEnd, TurnTells, kept, number_of, landing_places, opening_places}
@@ -186,7 +186,7 @@ module _ (begun : ℕ) (order : List ℕ) (notes : List Turned) (j : ℕ) (note 
       })
 
 -- A run tells on behind the turn of one of its jobs.
-module _ (given : ℕ → List ℕ) (old new : Awaited) (log log' : Told) (wire : ℤ) (players : List Player) (k : ℕ) (p p' : Player) (at : slice_get players k ≡ Some p) (apart : AreApart old wire players) (goes : Goes (DrawsAs given p) old new log log' wire p p') (note : Turned) (started : StartedBy note.started log log') (keeps : Stays log log') (quiet : has_ended p ≡ true → note.started ≡ 0) (holds : HoldsNewest (job_ticket p) (job_ticket p') old new log log') where
+module _ (given : ℕ → List ℕ) (old new : Awaited) (log log' : Told) (wire : ℤ) (players : List Player) (k : ℕ) (p p' : Player) (at : slice_get players k ≡ Some p) (apart : MayAllGo old wire players) (goes : Goes (DrawsAs given p) old new log log' wire p p') (note : Turned) (started : StartedBy note.started log log') (keeps : Stays log log') (quiet : has_ended p ≡ true → note.started ≡ 0) (holds : HoldsNewest (job_ticket p) (job_ticket p') old new log log') where
   pub all_turn : (ids : ℕ → List ℕ) (begun : Told) (ts : List Task) (order : List ℕ) (notes : List Turned) → length order ≡ length notes → AllAt ts order notes players → HaveDrawn ids given ts order players → AllTell ids old begun log wire ts order notes players → AllTell ids new begun log' wire ts (order ++ k ∷ []) (notes ++ note ∷ []) (slice_set players k p')
   all_turn ids begun ts order notes abreast all drawn tell calls told =
       let before = tell calls told in

@@ -133,7 +133,7 @@ Answered calls wire at [] (answer ∷ said) last = ⊥
 Answered calls wire at (places ∷ owns) [] last = ⊥
 
 -- the opening, and then each call, sent its commands in its turns
-pub record Answers (c : Course) (i : ℕ) (calls : List Call) (wire : ℤ) (args : WatchArgs) (said : List Answer) (last : ClientStream) : Type 0 where
+pub record HasAnswered (c : Course) (i : ℕ) (calls : List Call) (wire : ℤ) (args : WatchArgs) (said : List Answer) (last : ClientStream) : Type 0 where
   pub first : ClientStream
   pub places : List ℕ
   pub sent : AllSentIn c i 0 places
@@ -184,7 +184,7 @@ pub record OpenCaused {A : Type 0} (awaited : Awaited) (c : Course) (i count : �
   pub args : WatchArgs
   pub args_are : IsArgsFor on start filter batch args
   pub last : ClientStream
-  pub answers : Answers c i calls wire args said last
+  pub answers : HasAnswered c i calls wire args said last
   pub token_is : token ≡ stream_token last
   pub alive_is : IsTrue alive ↔ IsAlive last
   -- its turns sent just the commands of its opening, then those of each call that was answered, and then those of what goes on, or of its closing

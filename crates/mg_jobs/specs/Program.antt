@@ -191,8 +191,8 @@ abbrev pub RunsThrough : List (List ℕ) → Option (List ℕ) → (read read' w
 RunsThrough words left read read' written written' status = IsAsked words left → (Rose read read' → ⊥) → (Rose written written' → ⊥) → (status ≡ 0) ⊎ (status ≡ 6)
 
 -- a status was told by its text, whole; or the sink failed, and a front of the text was taken
-abbrev pub Told : ℕ → List ℕ → ℕ → Option (List ℕ) → Option (List ℕ) → ℕ → ℕ → Type 0
-Told meant text status old new before now = ((status ≡ meant) × Appends old new text) ⊎ ((status ≡ 4) × Rose before now × TookFront old new text)
+abbrev pub EndingTold : ℕ → List ℕ → ℕ → Option (List ℕ) → Option (List ℕ) → ℕ → ℕ → Type 0
+EndingTold meant text status old new before now = ((status ≡ meant) × Appends old new text) ⊎ ((status ≡ 4) × Rose before now × TookFront old new text)
 
 -- as what an ending is told where memory runs out for its text
 abbrev pub short_of : Ending → Ending
@@ -207,7 +207,7 @@ short_of (endings.Done run) = endings.Unprinted run
 
 -- the status, the text and the run are those of the ending
 abbrev pub ToldAs : Ending → Option Run → ℕ → Option (List ℕ) → Option (List ℕ) → ℕ → ℕ → Type 0
-ToldAs ending run status old new before now = (run ≡ run_of ending) × Told (status_of ending) (ending_text ending) status old new before now
+ToldAs ending run status old new before now = (run ≡ run_of ending) × EndingTold (status_of ending) (ending_text ending) status old new before now
 
 -- it was told as itself, or memory ran out for its text
 abbrev pub IsToldAs : Ending → Option Run → ℕ → Option (List ℕ) → Option (List ℕ) → ℕ → ℕ → Type 0

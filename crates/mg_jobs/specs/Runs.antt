@@ -66,7 +66,7 @@ idle = record { started = 0; pended = false }
 -- ---- all jobs
 
 -- the jobs may be given turns, and no ticket is of two
-pub record AreApart (awaited : Awaited) (wire : ℤ) (players : List Player) : Type 0 where
+pub record MayAllGo (awaited : Awaited) (wire : ℤ) (players : List Player) : Type 0 where
   pub each : (i : ℕ) (p : Player) → slice_get players i ≡ Some p → CanGo awaited wire p
   pub distinct : (i j : ℕ) (p q : Player) (n : ℕ) → (i ≡ j → ⊥) → slice_get players i ≡ Some p → slice_get players j ≡ Some q → job_ticket p ≡ Some n → job_ticket q ≡ Some n → ⊥
 
@@ -79,7 +79,7 @@ notes_of r = r.turns.items
 
 -- the runner may give turns over a link of these tickets and this wire version
 abbrev pub Stands : Awaited → ℤ → Runner → Type 0
-Stands awaited wire runner = AreApart awaited wire (players_of runner)
+Stands awaited wire runner = MayAllGo awaited wire (players_of runner)
 
 -- a job holds the ticket
 pub record HeldBy (players : List Player) (ticket : ℕ) : Type 0 where

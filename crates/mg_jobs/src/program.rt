@@ -10,7 +10,7 @@ ghost use Rattle.mg_script.specs.Plan.{plan};
 ghost use Rattle.mg_script.specs.Plan as plans;
 ghost use Rattle.mg_script.specs.Places.{place_text};
 ghost use Rattle.mg_script.specs.Text.{line, text_of};
-ghost use Rattle.mg_jobs.specs.Program.{Caused, HasJobs, IsToldAs, Ran, ReadMissing, ReadNoScript, ReadTooMuch, RunFollowed, RunsThrough, Told, ending_text, is_run, run_of, status_of};
+ghost use Rattle.mg_jobs.specs.Program.{Caused, HasJobs, IsToldAs, Ran, ReadMissing, ReadNoScript, ReadTooMuch, RunFollowed, RunsThrough, EndingTold, ending_text, is_run, run_of, status_of};
 
 use crate::fated::{Fated, FatedLink};
 use crate::fates::small_copies;
@@ -149,7 +149,7 @@ fn play<S: Source>(alloc: Global, words: &[String], source: &mut S) -> Ending
 
 /// Writes the text of a status, and answers the status, or 4 where the sink failed.
 fn say<K: Sink>(sink: &mut K, status: u8, text: &str) -> u8
-    ensures { Told status text.now result (K.taken sink.old) (K.taken sink.new)
+    ensures { EndingTold status text.now result (K.taken sink.old) (K.taken sink.new)
         (K.faults sink.old) (K.faults sink.new) }
 {
     match write_all(sink, text.as_bytes()) {
@@ -161,9 +161,9 @@ fn say<K: Sink>(sink: &mut K, status: u8, text: &str) -> u8
 /// Prints a run, and hands it back.
 fn print_run<K: Sink>(alloc: Global, run: Run, sink: &mut K) -> Finished
     ensures run { result.run ≡ Some run }
-    ensures told { Told 0 (text_of run) result.status (K.taken sink.old) (K.taken sink.new)
+    ensures told { EndingTold 0 (text_of run) result.status (K.taken sink.old) (K.taken sink.new)
         (K.faults sink.old) (K.faults sink.new)
-        ⊎ Told 6 (codes "out of memory\n") result.status (K.taken sink.old) (K.taken sink.new)
+        ⊎ EndingTold 6 (codes "out of memory\n") result.status (K.taken sink.old) (K.taken sink.new)
         (K.faults sink.old) (K.faults sink.new) }
 {
     match text_of(alloc, &run) {
@@ -181,7 +181,7 @@ fn print_run<K: Sink>(alloc: Global, run: Run, sink: &mut K) -> Finished
 /// Writes the text of a status where no jobs were run.
 fn refuse<K: Sink>(sink: &mut K, status: u8, text: &str) -> Finished
     ensures run { result.run ≡ None }
-    ensures told { Told status text.now result.status (K.taken sink.old) (K.taken sink.new)
+    ensures told { EndingTold status text.now result.status (K.taken sink.old) (K.taken sink.new)
         (K.faults sink.old) (K.faults sink.new) }
 {
     Finished {
@@ -193,9 +193,9 @@ fn refuse<K: Sink>(sink: &mut K, status: u8, text: &str) -> Finished
 /// Writes where the first fault of the input stands, or that memory ran out for it.
 fn refuse_script<K: Sink>(alloc: Global, place: Place, sink: &mut K) -> Finished
     ensures run { result.run ≡ None }
-    ensures told { Told 3 (line (codes "bad script: " ++ place_text place)) result.status
+    ensures told { EndingTold 3 (line (codes "bad script: " ++ place_text place)) result.status
         (K.taken sink.old) (K.taken sink.new) (K.faults sink.old) (K.faults sink.new)
-        ⊎ Told 6 (codes "out of memory\n") result.status (K.taken sink.old) (K.taken sink.new)
+        ⊎ EndingTold 6 (codes "out of memory\n") result.status (K.taken sink.old) (K.taken sink.new)
         (K.faults sink.old) (K.faults sink.new) }
 {
     match format!(in alloc; "bad script: {place}\n") {
@@ -207,9 +207,9 @@ fn refuse_script<K: Sink>(alloc: Global, place: Place, sink: &mut K) -> Finished
 /// Writes which number names no job, or that memory ran out for it.
 fn refuse_job<K: Sink>(alloc: Global, n: u32, sink: &mut K) -> Finished
     ensures run { result.run ≡ None }
-    ensures told { Told 5 (line (codes "no such job: " ++ decimal n)) result.status
+    ensures told { EndingTold 5 (line (codes "no such job: " ++ decimal n)) result.status
         (K.taken sink.old) (K.taken sink.new) (K.faults sink.old) (K.faults sink.new)
-        ⊎ Told 6 (codes "out of memory\n") result.status (K.taken sink.old) (K.taken sink.new)
+        ⊎ EndingTold 6 (codes "out of memory\n") result.status (K.taken sink.old) (K.taken sink.new)
         (K.faults sink.old) (K.faults sink.new) }
 {
     match format!(in alloc; "no such job: {n}\n") {
@@ -253,7 +253,7 @@ pub fn run_program<S: Source, K: Sink>(
     // What came of the words and the input was told, whole, or up to a fault of the sink.
     ensures told { (ending : Ending) × Caused (map string_bytes words.now) (S.left source.old) (S.left source.new) (S.faults source.old) (S.faults source.new) ending
         × (result.run ≡ run_of ending)
-        × Told (status_of ending) (ending_text ending) result.status (K.taken sink.old) (K.taken sink.new) (K.faults sink.old) (K.faults sink.new) }
+        × EndingTold (status_of ending) (ending_text ending) result.status (K.taken sink.old) (K.taken sink.new) (K.faults sink.old) (K.faults sink.new) }
     // 1 just where the words are not `run`, and the sink did not fail.
     ensures usage { result.status ≡ 1 → is_run (map string_bytes words.now) ≡ false }
     ensures refused { is_run (map string_bytes words.now) ≡ false → (result.status ≡ 1) ⊎ (result.status ≡ 4) }
