@@ -19,6 +19,7 @@ use Rattle.mg_link.proofs.Heard.{heard_at, told_heard}
 use Rattle.mg_link.proofs.Moving.{known_as, moved_seen}
 use Rattle.mg_link.proofs.Moves.{stayed, moved}
 use Rattle.mg_link.proofs.Retries.{Request, at_stage, tried, next_place, next_is}
+use Rattle.mg_link.proofs.Waits.{never_again}
 
 -- ---- the stage of a request that waits
 
@@ -51,12 +52,6 @@ still_waits old new log log' wire s s' (inl once) = let g = once.gives in as_wai
 still_waits old new log log' wire s s' (inr twice) = let g = twice.gives in as_waiting s s' (second g.0) tt g.2
 
 -- a command that is sent once has one attempt
-never_again : (retries : Bool) (stage : Stage) (attempt : Attempt) → retries ≡ false → is_repeated retries stage attempt ≡ true → ⊥
-never_again true stage attempt single h = absurd cc
-never_again false unsent attempt single h = absurd cc
-never_again false (first ticket) attempt single h = absurd cc
-never_again false (second ticket) attempt single h = absurd cc
-
 pub runs_once : (old new : Awaited) (log log' : link.Told) (wire : ℤ) (s : Sending) (result : Polled Sending (List ℕ)) → s.retries ≡ false → Runs old new log log' wire s result → Once old new log log' wire s result
 runs_once old new log log' wire s result single (inl once) = once
 runs_once old new log log' wire s result single (inr twice) = absurd (never_again s.retries s.stage twice.attempt single twice.repeated)

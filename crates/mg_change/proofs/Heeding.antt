@@ -27,6 +27,7 @@ use Rattle.mg_link.proofs.Killing.{kill_begun, kill_gone_on}
 use Rattle.mg_link.proofs.Resumes.{let_go, resumed_with}
 use Rattle.mg_link.proofs.Retries.{Attempted, Request, at_once, at_stage, next_is, next_place, place_of, ran, resume_request, tried}
 use Rattle.mg_link.proofs.Spoiled.{resume_garbled}
+use Rattle.mg_link.proofs.Waits.{never_again}
 use Rattle.mg_ops.specs.Cursors.{Cursor, cursor_of}
 use Rattle.mg_ops.proofs.Reading.{batch_as, batch_read}
 
@@ -258,13 +259,7 @@ module _ (f : Follow) (id : ℤ) (is : f.doing ≡ holding) (none : f.old ≡ po
       stay_as : Moved log log' (let_go f) (let_go f) → Moved log log' f f
       stay_as m = subst (λ (h : Follow). Moved log log' h h) (ap (λ (d : ℤ). record f { doing = holding; old = d }) (sym none) ∙ ap (λ d. record f { doing = d }) (sym is)) m
 
-  not_again : (retries : Bool) (stage : Stage) (attempt : Attempt) → retries ≡ false → is_repeated retries stage attempt ≡ true → ⊥
-  not_again true stage attempt single h = absurd cc
-  not_again false unsent attempt single h = absurd cc
-  not_again false (first ticket) attempt single h = absurd cc
-  not_again false (second ticket) attempt single h = absurd cc
-
   -- A killing of the old cursor was polled: it was let go.
   pub kill_polled : (wire : ℤ) (s : Sending) (result : Step Sending (List ℕ)) → asked s.command ≡ asks_kill (id ∷ []) → s.retries ≡ false → Runs old new log log' wire s result → Moved log log' (killed_at f id old s.stage) f
   kill_polled wire s result asks single (inl once) = kill_tried s.command s.stage once.attempt asks once.tries
-  kill_polled wire s result asks single (inr twice) = absurd (not_again s.retries s.stage twice.attempt single twice.repeated)
+  kill_polled wire s result asks single (inr twice) = absurd (never_again s.retries s.stage twice.attempt single twice.repeated)

@@ -12,23 +12,18 @@ use Rattle.mg_ops.specs.declared.change_stream.WatchArgs.{WatchArgs}
 use Rattle.mg_change.specs.ClientOpenings.{ClientOpening, HearsOpening, OpensStream, RunsOpening, begins, broke, first_aggregate, goes_on, not_built, opened}
 use Rattle.mg_change.specs.ClientStreams.{ClientStream, resuming_in}
 use Rattle.mg_change.specs.OpenedStreams.{IsOpening, OpenSent}
-use Rattle.mg_change.specs.Sent.{Falling, resuming_places}
+use Rattle.mg_change.specs.Sent.{Falling, opening_places, resuming_places}
 use Rattle.mg_change.proofs.Garbled.{still_waits}
 use Rattle.mg_change.proofs.Sent.{Tried, falls, resume_sent, resume_waits, tried_below, tried_none, tried_on}
 
 -- ---- places
-
--- how many places are left to its aggregate
-abbrev pub opening_places : Option Sending → ℕ
-opening_places None = 3
-opening_places (Some sending) = resuming_places sending.stage
 
 one_resuming : (stage : Stage) → 1 ≤ resuming_places stage
 one_resuming unsent = omega arith
 one_resuming (first ticket) = omega arith
 one_resuming (second ticket) = omega arith
 
-one_opening : (o : Option Sending) → 1 ≤ opening_places o
+pub one_opening : (o : Option Sending) → 1 ≤ opening_places o
 one_opening None = omega arith
 one_opening (Some sending) = one_resuming sending.stage
 

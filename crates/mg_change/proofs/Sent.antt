@@ -12,11 +12,14 @@ use Rattle.mg_link.specs.Owner.{nobody}
 use Rattle.mg_link.specs.Session.{Session}
 use Rattle.mg_link.proofs.Apart.{nobody_named, onward_foreign, onward_on, onward_refl, onward_seen}
 use Rattle.mg_link.proofs.Execs.{runs_of}
+use Rattle.mg_link.proofs.Waits.{never_again}
 use Rattle.mg_link.specs.declared.action.Step.{Step}
 use Rattle.mg_link.specs.declared.action.Step.TheVariants as step
 use Rattle.mg_link.specs.declared.error.Error.{Error}
 use Rattle.mg_ops.specs.declared.aggregate.ChangeStreamAggregate.{ChangeStreamAggregate}
 use Rattle.mg_ops.specs.declared.change_stream.WatchArgs.{WatchArgs}
+use Rattle.mg_ops.specs.Logs.{commands_sent}
+use Rattle.mg_ops.proofs.Logs.{commands_seen}
 use Rattle.mg_cursor.specs.Client.{ClientCursor, IsAsking, asks, at_rest, holds, kill, rests}
 use Rattle.mg_cursor.specs.Client as cursors
 use Rattle.mg_cursor.specs.Closing.{ClosesBy, ClosingCursor, ClosingPolls, IsClosing, IsKilling, IsLanded, IsNotAsking, KillHears, KillsCursor, LandedBy, begins as kill_begins, goes_on as kill_goes_on, killed_by, kills as kills_it, lands, not_built, nothing_left}
@@ -28,7 +31,7 @@ use Rattle.mg_cursor.specs.declared.polls.TryPoll.{TryPoll}
 use Rattle.mg_cursor.specs.declared.polls.TryPoll.TheVariants as try
 use Rattle.mg_cursor.specs.declared.results.AdvanceResult.TheVariants as result
 use Rattle.mg_change.specs.ClientStreams.{ClientStream, Doing, IsAggregate, IsSound, SoundBy, follows, kills, let_go, owes, renewed, resumes}
-use Rattle.mg_change.specs.Sent.{AreSought, AsksMoreOf, CallSent, Falling, IsAt, IsSought, KeepsBy, KillsOne, PollSent, ResumesBy, SeekSent, Sent, TrySent, asking_places, asks_more as asks_for, commands_sent, ending_places, killing_places, kills_one, more_places, places, places_behind, places_by, resumes_it, resuming_places}
+use Rattle.mg_change.specs.Sent.{AreSought, AsksMoreOf, CallSent, Falling, IsAt, IsSought, KeepsBy, KillsOne, PollSent, ResumesBy, SeekSent, Sent, TrySent, asking_places, asks_more as asks_for, ending_places, killing_places, kills_one, more_places, places, places_behind, places_by, resumes_it, resuming_places}
 use Rattle.mg_change.specs.Steps.{AsksMore, DoesStep, DoesSteps, FailsMore, HearsClosing, HearsResumption, LooksAt, ReadsResumption, RunsResumption, TakesMore, asks_more, broke, broken, closes, ends, final, finds, gave, goes_on, looks, no_memory, none as none_there, not_asked, not_resumed, renews, resumes_now, some, waits_more, waits_resumption}
 use Rattle.mg_change.specs.StreamCalls.{CallCopies, CallLends, CopiesBehind, LendsBehind, SeeksEvent, event_ending, kept_behind, session_behind, try_ending, without_event}
 use Rattle.mg_change.specs.declared.event_poll.EventPoll.{EventPoll}
@@ -55,11 +58,6 @@ sent_adds log log' command seen adds calls told =
     let call : Call = record { command = command; position = add.0; seen = seen } in
     (calls ++ call ∷ [], add.1, map-append (λ (c : Call). fields c.command) calls (call ∷ []), onward_foreign calls call nobody (nobody_named calls call))
 
-commands_seen : (place : ℕ) (seen : Sight) (calls : List Call) → commands_sent (see place seen calls) ≡ commands_sent calls
-commands_seen place seen [] = refl
-commands_seen zero seen (call ∷ calls) = refl
-commands_seen (suc place) seen (call ∷ calls) = ap (λ (l : List Fields). fields call.command ∷ l) (commands_seen place seen calls)
-
 sent_sees : (log log' : Told) (place : Option ℕ) (seen : Sight) → Sees log log' place seen → Sent log log' []
 sent_sees log log' place seen sees calls told =
     let s = sees calls told in
@@ -75,7 +73,7 @@ falling_from : (at : ℕ → Fields → Type 0) (n k : ℕ) (cs : List Fields) (
 falling_from at n k [] m less f = let all : m ≤ n = f in omega arith
 falling_from at n k (c ∷ cs) m less f = (f.0, (let here : f.0 < n = f.1 in omega arith), f.2, f.3)
 
-falling_on : (at : ℕ → Fields → Type 0) (n : ℕ) (cs : List Fields) (k : ℕ) (ds : List Fields) (m : ℕ) → Falling at n cs k → Falling at k ds m → Falling at n (cs ++ ds) m
+pub falling_on : (at : ℕ → Fields → Type 0) (n : ℕ) (cs : List Fields) (k : ℕ) (ds : List Fields) (m : ℕ) → Falling at n cs k → Falling at k ds m → Falling at n (cs ++ ds) m
 falling_on at n [] k ds m f g = falling_from at k n ds m f g
 falling_on at n (c ∷ cs) k ds m f g = (f.0, f.1, f.2, falling_on at f.0 cs k ds m f.3 g)
 
@@ -119,12 +117,6 @@ module _ (at : ℕ → Fields → Type 0) (command : List ℕ) (old new : Awaite
 
 -- ---- a request that is sent once
 
-not_again : (retries : Bool) (stage : Stage) (attempt : Attempt) → retries ≡ false → is_repeated retries stage attempt ≡ true → ⊥
-not_again true stage attempt single h = absurd cc
-not_again false unsent attempt single h = absurd cc
-not_again false (first ticket) attempt single h = absurd cc
-not_again false (second ticket) attempt single h = absurd cc
-
 module _ (at : ℕ → Fields → Type 0) (old new : Awaited) (log log' : Told) (wire : ℤ) (s : Sending) (single : s.retries ≡ false) where
   more_tries : (stage : Stage) (attempt : Attempt) → at 3 (fields s.command) → Tries old new log log' s.command stage attempt → Tried at log log' (asking_places stage) 3
   more_tries unsent attempt is t = begun at s.command old new log log' 3 attempt is t
@@ -133,7 +125,7 @@ module _ (at : ℕ → Fields → Type 0) (old new : Awaited) (log log' : Told) 
 
   pub more_sent : (result : Step Sending (List ℕ)) → at 3 (fields s.command) → Runs old new log log' wire s result → Tried at log log' (asking_places s.stage) 3
   more_sent result is (inl once) = more_tries s.stage once.attempt is once.tries
-  more_sent result is (inr twice) = absurd (not_again s.retries s.stage twice.attempt single twice.repeated)
+  more_sent result is (inr twice) = absurd (never_again s.retries s.stage twice.attempt single twice.repeated)
 
   kill_tries : (stage : Stage) (attempt : Attempt) → at 0 (fields s.command) → Tries old new log log' s.command stage attempt → Tried at log log' (ending_places stage) 0
   kill_tries unsent attempt is t = begun at s.command old new log log' 0 attempt is t
@@ -142,7 +134,7 @@ module _ (at : ℕ → Fields → Type 0) (old new : Awaited) (log log' : Told) 
 
   pub kill_sent : (result : Step Sending (List ℕ)) → at 0 (fields s.command) → Runs old new log log' wire s result → Tried at log log' (ending_places s.stage) 0
   kill_sent result is (inl once) = kill_tries s.stage once.attempt is once.tries
-  kill_sent result is (inr twice) = absurd (not_again s.retries s.stage twice.attempt single twice.repeated)
+  kill_sent result is (inr twice) = absurd (never_again s.retries s.stage twice.attempt single twice.repeated)
 
   held_more : (stage : Stage) (ticket : ℕ) → 3 ≡ asking_places (holding stage ticket)
   held_more unsent ticket = refl
@@ -156,11 +148,11 @@ module _ (at : ℕ → Fields → Type 0) (old new : Awaited) (log log' : Told) 
 
   pub more_held : (exec : Sending) → Runs old new log log' wire s (step.Pending exec) → 3 ≡ asking_places exec.stage
   more_held exec (inl once) = held_more s.stage once.gives.0 ∙ ap (λ (e : Sending). asking_places e.stage) (sym once.gives.2)
-  more_held exec (inr twice) = absurd (not_again s.retries s.stage twice.attempt single twice.repeated)
+  more_held exec (inr twice) = absurd (never_again s.retries s.stage twice.attempt single twice.repeated)
 
   pub kill_held : (exec : Sending) → Runs old new log log' wire s (step.Pending exec) → 0 ≡ ending_places exec.stage
   kill_held exec (inl once) = held_kill s.stage once.gives.0 ∙ ap (λ (e : Sending). ending_places e.stage) (sym once.gives.2)
-  kill_held exec (inr twice) = absurd (not_again s.retries s.stage twice.attempt single twice.repeated)
+  kill_held exec (inr twice) = absurd (never_again s.retries s.stage twice.attempt single twice.repeated)
 
 -- ---- a request that may be sent once more
 

@@ -1,6 +1,5 @@
 -- What a stream sends in one call.
-use Rattle.std.specs.Prelude.{◌≡◌, ◌≢◌, ◌<◌, ◌≤◌, ◌++◌, ℕ, zero, suc, ℤ, pos, List, [], ◌∷◌, map, Option, Some, None}
-use Rattle.mg_bson.specs.Raw.{fields}
+use Rattle.std.specs.Prelude.{◌≡◌, ◌≢◌, ◌<◌, ◌≤◌, ◌++◌, ℕ, zero, suc, ℤ, pos, List, [], ◌∷◌, Option, Some, None}
 use Rattle.mg_bson.specs.Tree.{Fields}
 use Rattle.mg_link.specs.Exec.{Sending, Stage, first, second, unsent}
 use Rattle.mg_link.specs.Link.{Told}
@@ -10,6 +9,7 @@ use Rattle.mg_link.specs.Namespace.{Space}
 use Rattle.mg_link.specs.Owner.{Onward, nobody}
 use Rattle.mg_link.specs.Session.{Session}
 use Rattle.mg_ops.specs.Commands.{kill_command}
+use Rattle.mg_ops.specs.Logs.{commands_sent}
 use Rattle.mg_ops.specs.declared.aggregate.ChangeStreamAggregate.{ChangeStreamAggregate}
 use Rattle.mg_ops.specs.declared.change_stream.WatchArgs.{WatchArgs}
 use Rattle.mg_cursor.specs.Client.{ClientCursor, asks, get_more, holds, rests}
@@ -18,10 +18,6 @@ use Rattle.mg_cursor.specs.declared.polls.TryPoll.{TryPoll}
 use Rattle.mg_change.specs.ClientStreams.{ClientStream, Doing, follows, kills, owes, renewed, resumes, resuming_in}
 use Rattle.mg_change.specs.StreamCalls.{event_ending, try_ending}
 use Rattle.mg_change.specs.declared.event_poll.EventPoll.{EventPoll}
-
--- the commands of a log, in their order
-abbrev pub commands_sent : List Call → List Fields
-commands_sent calls = map (λ (c : Call). fields c.command) calls
 
 -- these commands, and no others, were added to a log that is told, and what it had seen it has seen still
 abbrev pub Sent : Told → Told → List Fields → Type 0
@@ -68,6 +64,11 @@ abbrev pub resuming_places : Stage → ℕ
 resuming_places unsent = 3
 resuming_places (first ticket) = 2
 resuming_places (second ticket) = 1
+
+-- to an opening, whose last place is 1
+abbrev pub opening_places : Option Sending → ℕ
+opening_places None = 3
+opening_places (Some sending) = resuming_places sending.stage
 
 abbrev pub ending_places : Stage → ℕ
 ending_places unsent = 1

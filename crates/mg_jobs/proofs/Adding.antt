@@ -7,7 +7,8 @@ use Rattle.mg_link.specs.Calls.{Keeps, AddsOnly}
 use Rattle.mg_link.specs.Link.{Told}
 use Rattle.mg_link.specs.Log.{Call}
 use Rattle.mg_link.proofs.Owners.{same_some}
-use Rattle.mg_change.specs.Sent.{Sent, commands_sent}
+use Rattle.mg_ops.specs.Logs.{commands_sent}
+use Rattle.mg_change.specs.Sent.{Sent}
 use Rattle.mg_change.proofs.Such.{AreAll}
 
 -- ---- commands that were sent

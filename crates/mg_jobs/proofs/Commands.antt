@@ -9,10 +9,12 @@ use Rattle.mg_link.specs.Log.{Call}
 use Rattle.mg_link.proofs.Calls.{keeps_longer}
 use Rattle.mg_link.proofs.Owners.{same_some}
 use Rattle.mg_link.proofs.Places.{get_some}
+use Rattle.mg_ops.specs.Logs.{commands_sent}
 use Rattle.mg_ops.specs.declared.aggregate.ChangeStreamAggregate.{ChangeStreamAggregate}
 use Rattle.mg_cursor.specs.Client.{ClientCursor}
 use Rattle.mg_change.specs.ClientStreams.{ClientStream}
-use Rattle.mg_change.specs.Sent.{AsksMoreOf, Falling, IsAt, ResumesBy, Sent, commands_sent}
+use Rattle.mg_change.specs.Sent.{AsksMoreOf, Falling, IsAt, ResumesBy, Sent}
+use Rattle.mg_change.proofs.Sent.{falling_on}
 use Rattle.mg_jobs.specs.Causes.{AreInLog, FallsAt, command_at, commands_at, places_from, sent_since}
 
 -- ---- places that are below
@@ -73,14 +75,6 @@ at_since calls calls' places more keeps below is =
     at_both calls' places (places_from (length calls) (length calls' - length calls)) ∙ ap₂ (λ (a b : List Fields). a ++ b) (at_kept calls calls' keeps places below) (at_added calls calls' more is)
 
 -- ---- commands that fall
-
-falling_from : (at : ℕ → Fields → Type 0) (n k : ℕ) (cs : List Fields) (m : ℕ) → n ≤ k → Falling at n cs m → Falling at k cs m
-falling_from at n k [] m less f = let all : m ≤ n = f in omega arith
-falling_from at n k (c ∷ cs) m less f = (f.0, (let here : f.0 < n = f.1 in omega arith), f.2, f.3)
-
-falling_on : (at : ℕ → Fields → Type 0) (n : ℕ) (cs : List Fields) (k : ℕ) (ds : List Fields) (m : ℕ) → Falling at n cs k → Falling at k ds m → Falling at n (cs ++ ds) m
-falling_on at n [] k ds m f g = falling_from at k n ds m f g
-falling_on at n (c ∷ cs) k ds m f g = (f.0, f.1, f.2, falling_on at f.0 cs k ds m f.3 g)
 
 pub falls_none : (may : ℕ → Fields → Type 0) (calls : List Call) (n m : ℕ) → m ≤ n → FallsAt may calls n [] m
 falls_none may calls n m less = record { within = tt; falling = less }

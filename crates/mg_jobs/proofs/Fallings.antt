@@ -19,11 +19,11 @@ use Rattle.mg_change.specs.ClosingCauses.{last_kill}
 use Rattle.mg_change.specs.ClosingStreams.{ClosesStream, ClosingStream, HearsKill, IsSoundStream, KillsLeft, LandsSoundly, ids_left, kill_left, unless_none}
 use Rattle.mg_change.specs.ClosingStreams as closings
 use Rattle.mg_change.specs.OpenedStreams.{IsOpening}
-use Rattle.mg_change.specs.Sent.{ending_places, resuming_places}
+use Rattle.mg_change.specs.Sent.{ending_places, resuming_places, opening_places}
 use Rattle.mg_change.proofs.Sent.{Tried, kill_held, kill_sent, resume_sent, resume_waits, tried_below, tried_none}
 use Rattle.mg_jobs.specs.Causes.{KillsLast}
 use Rattle.mg_jobs.specs.Playing.{IsLast}
-use Rattle.mg_jobs.specs.Telling.{landing_places, opening_places}
+use Rattle.mg_jobs.specs.Telling.{landing_places}
 
 -- nothing is sent
 tried_still : (at : ℕ → Fields → Type 0) (log log' : Told) (n m : ℕ) → log' ≡ log → m ≤ n → Tried at log log' n m

@@ -7,7 +7,7 @@ use Rattle.mg_cursor.specs.Client as cursors
 use Rattle.mg_change.specs.ClientStreams.{Doing, follows, kills, owes, renewed, resumes, ticket_by}
 use Rattle.mg_change.specs.ClosingStreams.{Landing, ends, lands, lands_aggregate, lands_older}
 use Rattle.mg_change.specs.Sent.{asking_places, ending_places, killing_places, more_places, places_by, resuming_places}
-use Rattle.mg_jobs.specs.Telling.{landing_places, opening_places}
+use Rattle.mg_jobs.specs.Telling.{landing_places}
 
 -- ---- at most
 
@@ -49,18 +49,6 @@ landing_few lands = omega arith
 landing_few (lands_aggregate sending) = omega arith
 landing_few (lands_older before) = omega arith
 landing_few (ends sending) = ending_few sending.stage
-
--- ---- at least
-
-resuming_some : (stage : Stage) → 1 ≤ resuming_places stage
-resuming_some unsent = omega arith
-resuming_some (first ticket) = omega arith
-resuming_some (second ticket) = omega arith
-
--- the last place of an opening is never left
-pub opening_some : (o : Option Sending) → 1 ≤ opening_places o
-opening_some None = omega arith
-opening_some (Some sending) = resuming_some sending.stage
 
 -- ---- where a reply is waited for, no getMore is to be sent
 

@@ -23,7 +23,7 @@ use Rattle.mg_change.specs.OpenedStreams.{IsOpening}
 use Rattle.mg_change.specs.OpeningCauses.{Opened, OpeningCaused, OpeningFails, OpensSoFar}
 use Rattle.mg_change.specs.OpeningView.{IsPlainOpening, opening_of}
 use Rattle.mg_change.specs.Sent as calling
-use Rattle.mg_change.specs.Sent.{CallSent, IsAt, places_behind}
+use Rattle.mg_change.specs.Sent.{CallSent, IsAt, places_behind, opening_places}
 use Rattle.mg_change.specs.StreamCalls.{CallCopies, event_ending}
 use Rattle.mg_change.specs.StreamView.{IsPlainStream, stream_of}
 use Rattle.mg_change.specs.declared.event_poll.EventPoll.{EventPoll}
@@ -38,7 +38,7 @@ use Rattle.mg_jobs.specs.Sends.{IsCommandOf}
 use Rattle.mg_jobs.specs.Follows.{HasGiven, Placing, poll_of, same_place}
 use Rattle.mg_jobs.specs.Playing.{stage_ticket}
 use Rattle.mg_jobs.specs.Plays.{Extends, IsNow, Places, all_places}
-use Rattle.mg_jobs.specs.Telling.{FollowTells, IsOpened, IsWatchArgs, Kept, RestTells, SendsSoFar, Tell, Tells, TellsEnd, TellsFailed, TellsOpen, landing_places, number, opening_places}
+use Rattle.mg_jobs.specs.Telling.{FollowTells, IsOpened, IsWatchArgs, Kept, RestTells, SendsSoFar, Tell, Tells, TellsEnd, TellsFailed, TellsOpen, landing_places, number}
 use Rattle.mg_script.specs.declared.outcome.Answer.{Answer}
 use Rattle.mg_script.specs.declared.outcome.Answer.TheVariants as answers
 use Rattle.mg_script.specs.declared.outcome.Ended.{Ended}

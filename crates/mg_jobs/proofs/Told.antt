@@ -20,8 +20,10 @@ use Rattle.mg_change.specs.ClientStreams.{ClientStream, stream_ticket, stream_to
 use Rattle.mg_change.specs.OpenedStreams.{IsOpening}
 use Rattle.mg_change.specs.Sent as calling
 use Rattle.mg_change.specs.OpeningView.{opening_of}
+use Rattle.mg_change.specs.Sent.{opening_places}
 use Rattle.mg_change.specs.StreamView.{stream_of}
 use Rattle.mg_change.specs.declared.stream.ChangeStream.{ChangeStream}
+use Rattle.mg_change.proofs.OpenSends.{one_opening}
 use Rattle.mg_change.proofs.Awaiting.{call_awaits, last_awaits}
 use Rattle.mg_change.proofs.Keeping.{sound_any}
 use Rattle.mg_jobs.proofs.Later.{opening_awaits_plainly}
@@ -39,7 +41,7 @@ use Rattle.mg_jobs.specs.Progress.{AllAt, FollowAt, HoldsIf, InsertAt, IsAt, IsO
 use Rattle.mg_jobs.specs.Runs.{MayAllGo, Goes, has_ended}
 use Rattle.mg_jobs.specs.Sends.{AllSendOnly, MaySend, SendsOnly}
 use Rattle.mg_jobs.specs.Plays.{Extends, IsNow, Places}
-use Rattle.mg_jobs.specs.Telling.{AllSent, AllTell, FollowTold, InsertTells, IsOpened, JobTells, JobTold, TellsEnd, TurnTells, kept, number_of, landing_places, opening_places}
+use Rattle.mg_jobs.specs.Telling.{AllSent, AllTell, FollowTold, InsertTells, IsOpened, JobTells, JobTold, TellsEnd, TurnTells, kept, number_of, landing_places}
 use Rattle.mg_script.specs.declared.outcome.Ended.{Ended}
 use Rattle.mg_script.specs.declared.outcome.Ended.TheVariants as ended
 use Rattle.mg_script.specs.declared.outcome.Outcome.{Outcome}
@@ -60,7 +62,6 @@ use Rattle.mg_jobs.proofs.Drawing.{draws_as, id_had, id_own, turn_other}
 use Rattle.mg_jobs.proofs.Identified.{calls_identified, honest_over, opened_well}
 use Rattle.mg_jobs.proofs.InsertTelling.{ends_of}
 use Rattle.mg_jobs.proofs.JobTelling.{first_tells, job_later, job_of_others, number_at}
-use Rattle.mg_jobs.proofs.Left.{opening_some}
 use Rattle.mg_jobs.proofs.Newest.{newest_other, newest_own, none_sent, started_in}
 use Rattle.mg_jobs.proofs.Sends.{sends_first, sends_other, sends_turn, sent_had}
 use Rattle.mg_jobs.proofs.Turning.{failed_not_unfinished, follow_followed, unfinished_not_given}
@@ -353,7 +354,7 @@ module _ (awaited : Awaited) (c : Course) (i : ℕ) (calls : List Call) (wire : 
         places = told.places.now;
         sent = told.sent.now;
         whole = sym (only_now told.places told.tells.0.2 told.tells.0.0) ∙ told.sent.whole;
-        opens = falls_below (IsOpening (opening_of opening).args wire None) calls 3 told.places.now (opening_places (opening_of opening).sending) 1 (opening_some (opening_of opening).sending) told.tells.4;
+        opens = falls_below (IsOpening (opening_of opening).args wire None) calls 3 told.places.now (opening_places (opening_of opening).sending) 1 (one_opening (opening_of opening).sending) told.tells.4;
         waits = opening_awaits_plainly awaited (sent_at told.places.now calls wire) (opening_of opening).args (opening_of opening).sending told.tells.2.sound told.tells.3 (at_stage.1 ∙ pended);
       })
   stage_caused (stage.Open stream) count is at_stage told =

@@ -3,7 +3,6 @@ use Rattle.std.specs.Prelude.{◌≡◌, ◌↔◌, ◌⊎◌, ◌+◌, ◌≤�
 use Rattle.std.specs.List.{sum_by}
 use Rattle.mg_bson.specs.Tree.{Fields, Tree}
 use Rattle.mg_link.specs.Calls.{Past, past_of, AddsOnly}
-use Rattle.mg_link.specs.Exec.{Sending}
 use Rattle.mg_link.specs.Link.{Awaited, Told}
 use Rattle.mg_link.specs.Log.{Call}
 use Rattle.mg_link.specs.Namespace.{Space, space, target}
@@ -19,7 +18,7 @@ use Rattle.mg_change.specs.OpenedStreams.{IsOpening}
 use Rattle.mg_change.specs.OpeningCauses.{Opened, OpeningFails, OpensSoFar}
 use Rattle.mg_change.specs.OpeningView.{IsPlainOpening, opening_of}
 use Rattle.mg_change.specs.Sent as calling
-use Rattle.mg_change.specs.Sent.{IsAt, ending_places, resuming_places}
+use Rattle.mg_change.specs.Sent.{IsAt, ending_places, opening_places}
 use Rattle.mg_change.specs.StreamView.{stream_of}
 use Rattle.mg_jobs.specs.Causes.{Answered, ClosedBy, Course, EndsBy, FallsAt, KillsLast, AllSentIn, SentNoneBehind, course, places_of, sent_at}
 use Rattle.mg_jobs.specs.Follows.{FollowTurns, HasGiven, IsArgsFor, Placing, filter_in}
@@ -94,12 +93,7 @@ TellsEnd calls wire q k at ended.Unfinished = Unit {0}
 TellsEnd calls wire q k at (ended.Gave x) = (last : ClientStream) × IsOpened calls wire q k last at × (k.token ≡ stream_token last) × ClosedBy (sent_at q.now calls wire) last k.closed × FallsAt (KillsLast last) calls 1 q.now 0
 TellsEnd calls wire q k at (ended.Failed e) = (e.kind ≡ kind.OutOfMemory) ⊎ (TellsFailed calls wire q.opened k.watched e × (q.owns ≡ []) × (q.now ≡ []))
 
--- how many places are left to an opening above the last one, which is 1: two, one or none
-abbrev pub opening_places : Option Sending → ℕ
-opening_places None = 3
-opening_places (Some sending) = resuming_places sending.stage
-
--- how many are left to a closing: one before the killing of what is left was sent, and none behind it
+-- how many places are left to a closing: one before the killing of what is left was sent, and none behind it
 abbrev pub landing_places : Landing → ℕ
 landing_places lands = 1
 landing_places (lands_aggregate sending) = 1

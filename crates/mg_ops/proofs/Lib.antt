@@ -13,4 +13,6 @@ pub mod Plainly
 pub mod Appending
 pub mod Drawn
 pub mod Sendings
+pub mod Logs
+pub mod InsertSends
 pub mod InsertCauses

@@ -18,3 +18,5 @@ pub mod Inserts
 pub mod Appended
 pub mod Underway
 pub mod InsertCauses
+pub mod Logs
+pub mod InsertSends

@@ -10,6 +10,7 @@ ghost use Rattle.mg_link.specs.declared.error.ErrorKind.TheVariants as kinds;
 ghost use Rattle.mg_link.proofs.Killing.{PassesPlain};
 ghost use Rattle.mg_ops.specs.Failing.{CannotBeSent, FailsBy};
 ghost use Rattle.mg_ops.specs.Limits.{max_documents};
+ghost use Rattle.mg_ops.specs.InsertSends.{HearsOnce, NextOnce, SendsOn};
 ghost use Rattle.mg_ops.specs.InsertCauses.{CannotEncode, CannotGoOn, FitTogether, HearsCaused, InsertCaused, IsBuilt, IsLength, NextCaused, max_batch};
 ghost use Rattle.mg_ops.specs.Inserts.{HeardAtOnce, HeardLost, HeardPends, HeardPlain, HeldPlain, IsPlain, NextFewer, NextNotIo, NextPlain, NextTicket, SendsPlain, StepPlain, heard_ticket, insert_ticket, left_of};
 ghost use Rattle.mg_ops.specs.Drawn.{AreLater, lacking, lacks, sent_for, with_ids};
@@ -260,6 +261,7 @@ impl<'a> Batches<'a> {
         ensures sends { SendsNext self.old self.new waiting result }
         ensures err { NextNotIo result }
         ensures caused { NextCaused self.old self.new waiting result }
+        ensures once { NextOnce self.old self.new waiting result }
     {
         let Some(command) = waiting else {
             return match self.next(wire) {
@@ -278,6 +280,7 @@ impl<'a> Batches<'a> {
         ensures plain { IsPlain command.exec.command → PassesPlain (L.log link.old) (L.log link.new) × HeardPlain result }
         ensures sent { HearsSent (L.awaited link.old) (L.awaited link.new) (L.log link.old) (L.log link.new) command result }
         ensures caused { HearsCaused (L.awaited link.old) (L.awaited link.new) (L.log link.old) (L.log link.new) (L.wire link.old) command result }
+        ensures once { HearsOnce (L.log link.old) (L.log link.new) command result }
         ensures pended { HeardPends result (L.pends link.old) (L.pends link.new) }
         ensures lost { HeardLost result (L.faults link.old) (L.faults link.new) }
         ensures prompt { L.prompt link.old → HeardAtOnce result }
@@ -376,6 +379,9 @@ impl<'a> Action for Inserting<'a> {
         // Where the log is told, an error is want of memory, or has its cause in the reply to one of its commands, in one that was
         // lost, or in documents that cannot be sent.
         ensures caused { InsertCaused (L.awaited link.old) (L.awaited link.new) (L.log link.old) (L.log link.new) (L.wire link.old) self.entry result }
+        // Where the log is told, each next piece of the documents was sent once, in order, and nothing else: also where the names may not
+        // be, and where it fails.
+        ensures sends { SendsOn (L.log link.old) (L.log link.new) self.entry result }
     {
         let Inserting {
             mut batches,

@@ -4,6 +4,7 @@ use Rattle.mg_link.specs.Exec.{ticket_of}
 use Rattle.mg_ops.specs.InsertCauses.{IsBuilt}
 use Rattle.mg_ops.specs.Underway.{IsNextOf}
 use Rattle.mg_ops.proofs.InsertCauses.{next_built, next_stopped}
+use Rattle.mg_ops.proofs.InsertSends.{next_once}
 use Rattle.mg_ops.proofs.Sendings.{next_none, next_some}
 use Rattle.mg_ops.proofs.inserting.Batches.current.Goals as goal
 
@@ -23,3 +24,11 @@ pub returns-in-Ok-Some-clause-caused : goal.returns-in-Ok-Some-clause-caused
 returns-in-Ok-Some-clause-caused c =
     let built = subst (λ o. IfSome o (λ command. IsBuilt c.args.self.now c.next.new.self.upto command)) c.in-Ok-Some.field-0-is c.in-Ok-Some.ensures.built in
     rw c.in_default.is (next_built c.args.self.now c.next.new.self c.in-Ok-Some.command c.in-Ok-Some.ensures.same built)
+
+pub returns-in-Ok-Some-clause-once : goal.returns-in-Ok-Some-clause-once
+returns-in-Ok-Some-clause-once c =
+    next_once c.args.self.now c.next.new.self c.args.waiting c.in-Ok-Some.command c.in_default.is
+    (subst (λ o. IfSome o (λ command. IsBuilt c.args.self.now c.next.new.self.upto command)) c.in-Ok-Some.field-0-is c.in-Ok-Some.ensures.built)
+
+pub returns-in-Ok-None-clause-once : goal.returns-in-Ok-None-clause-once
+returns-in-Ok-None-clause-once c = subst (λ o. IsNextOf c.args.self.now c.next.new.self o) c.in-Ok-None.field-0-is c.in-Ok-None.ensures.next

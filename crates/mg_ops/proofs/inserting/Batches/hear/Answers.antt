@@ -2,6 +2,7 @@ use Rattle.std.proofs.Common.{refl, subst, sym}
 use Rattle.mg_link.proofs.Killing.{plain_ran}
 use Rattle.mg_ops.specs.Inserts.{IsPlain}
 use Rattle.mg_ops.proofs.InsertCauses.{failed_caused, inserted_caused, pending_caused, unread_caused}
+use Rattle.mg_ops.proofs.InsertSends.{failed_once, inserted_once, pending_once, unread_once}
 use Rattle.mg_ops.proofs.Plainly.{same_command}
 use Rattle.mg_ops.proofs.Sendings.{done_sent, failed_sent, pending_sent, unread_sent}
 use Rattle.mg_ops.proofs.inserting.Batches.hear.Goals as goal
@@ -44,3 +45,15 @@ returns-in-Ok-clause-caused g c = inserted_caused _ _ _ _ _ c.args.command c.in-
 
 pub returns-clause-caused : goal.returns-clause-caused
 returns-clause-caused g c = unread_caused _ _ _ _ _ c.args.command c.in-Done.reply c.in-Err.error c.in-Done.ensures.runs c.in-Err.ensures.err
+
+pub returns-in-Pending-clause-once : goal.returns-in-Pending-clause-once
+returns-in-Pending-clause-once g c = pending_once _ _ _ _ _ c.args.command (record { exec = c.in-Pending.exec; insert = c.args.command.insert }) c.in-Pending.ensures.runs
+
+pub returns-in-Failed-clause-once : goal.returns-in-Failed-clause-once
+returns-in-Failed-clause-once g c = failed_once _ _ _ _ _ c.args.command c.in-Failed.error c.in-Failed.error c.in-Failed.ensures.runs
+
+pub returns-in-Ok-clause-once : goal.returns-in-Ok-clause-once
+returns-in-Ok-clause-once g c = inserted_once _ _ _ _ _ c.args.command c.in-Done.reply c.in-Done.ensures.runs
+
+pub returns-clause-once : goal.returns-clause-once
+returns-clause-once g c = unread_once _ _ _ _ _ c.args.command c.in-Done.reply c.in-Err.error c.in-Done.ensures.runs

@@ -4,6 +4,7 @@ use Rattle.mg_link.proofs.Killing.{plain_on, plain_stayed}
 use Rattle.mg_ops.specs.InsertCauses.{IsInsertOf}
 use Rattle.mg_ops.specs.Inserts.{held}
 use Rattle.mg_ops.proofs.InsertCauses.{led_failed, led_finished, led_inserted, led_pending, led_stopped}
+use Rattle.mg_ops.proofs.InsertSends.{leads_first, sent_failed, sent_finished, sent_inserted, sent_pending, sent_stopped}
 use Rattle.mg_ops.proofs.Plainly.{tickets_from}
 use Rattle.mg_link.proofs.Adding.{adds_none}
 use Rattle.mg_ops.proofs.Sendings.{leads_failed, leads_finished, leads_inserted, leads_pending, leads_stopped, same_list_on}
@@ -16,6 +17,7 @@ commands-init g c = record {
   pended = refl;
   inserts = λ calls told places wire at documents named has. (calls, told, omega arith, has);
   caused = λ calls told places at documents has. (calls, told, omega arith, has, adds_none (IsInsertOf at documents) calls);
+  sends = leads_first _ c.args.self;
   list = (refl, refl, refl);
   later = later_same _ _ _ _;
 }
@@ -42,6 +44,7 @@ commands-preserved g c = record {
   pended = c.in-Inserted.ensures.pended ∙ c.commands.invariant.pended;
   inserts = leads_inserted _ _ _ _ c.args.self _ _ _ c.commands.invariant.inserts _ _ c.in-Send.next c.in-Send.ensures.sends c.in-Inserted.ensures.sent;
   caused = led_inserted _ _ _ _ _ c.args.self _ _ _ c.commands.invariant.caused _ _ _ c.commands.invariant.later.wire c.in-Send.next c.in-Send.ensures.caused c.in-Inserted.ensures.caused;
+  sends = sent_inserted _ _ c.args.self c.commands.batches c.current.new.self c.commands.command c.commands.invariant.list c.commands.invariant.sends _ c.in-Send.ensures.same c.in-Send.next c.in-Send.ensures.once c.in-Inserted.ensures.once;
   list = same_list_on c.args.self.batches c.commands.batches c.current.new.self c.commands.invariant.list c.in-Send.ensures.same;
   later = later_on c.commands.invariant.later c.hear.ensures.later;
 }
@@ -84,3 +87,15 @@ returns-in-Pending-clause-caused g c = led_pending _ _ _ _ _ c.args.self _ _ _ c
 
 pub returns-in-Failed-clause-caused : goal.returns-in-Failed-clause-caused
 returns-in-Failed-clause-caused g c = led_failed _ _ _ _ _ c.args.self _ _ _ c.commands.invariant.caused (g.L.Link.awaited c.hear.new.link) _ _ c.commands.invariant.later.wire c.in-Send.next c.in-Send.ensures.caused c.in-Failed.error c.in-Failed.ensures.caused
+
+pub returns-in-Finished-clause-sends : goal.returns-in-Finished-clause-sends
+returns-in-Finished-clause-sends g c = sent_finished _ _ c.args.self c.commands.batches c.current.new.self c.commands.command c.commands.invariant.list c.commands.invariant.sends (length c.current.new.self.documents.now) c.in-Finished.ensures.once
+
+pub returns-in-Stopped-clause-sends : goal.returns-in-Stopped-clause-sends
+returns-in-Stopped-clause-sends g c = sent_stopped _ _ c.args.self c.commands.batches c.commands.batches c.commands.command c.commands.invariant.list c.commands.invariant.sends c.in-Stopped.error
+
+pub returns-in-Pending-clause-sends : goal.returns-in-Pending-clause-sends
+returns-in-Pending-clause-sends g c = sent_pending _ _ c.args.self c.commands.batches c.current.new.self c.commands.command c.commands.invariant.list c.commands.invariant.sends _ c.in-Send.ensures.same c.in-Send.next c.in-Send.ensures.once c.in-Pending.waiting c.in-Pending.ensures.once
+
+pub returns-in-Failed-clause-sends : goal.returns-in-Failed-clause-sends
+returns-in-Failed-clause-sends g c = sent_failed _ _ c.args.self c.commands.batches c.current.new.self c.commands.command c.commands.invariant.list c.commands.invariant.sends (g.L.Link.log c.hear.new.link) c.in-Send.ensures.same c.in-Send.next c.in-Send.ensures.once c.in-Failed.error c.in-Failed.ensures.once

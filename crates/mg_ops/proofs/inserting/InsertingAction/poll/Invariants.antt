@@ -3,6 +3,7 @@ use Rattle.mg_link.specs.Acts.{Tickets}
 use Rattle.mg_link.specs.Link.{Later}
 use Rattle.mg_link.proofs.Killing.{PassesPlain}
 use Rattle.mg_ops.specs.InsertCauses.{LeadsCaused}
+use Rattle.mg_ops.specs.InsertSends.{LeadsSent}
 use Rattle.mg_ops.specs.Inserts.{HeldPlain, SendsPlain, held, insert_ticket, left_of}
 use Rattle.mg_ops.specs.Underway.{IsSameList, LeadsOn}
 use Rattle.mg_ops.proofs.inserting.InsertingAction.poll.Given as goal
@@ -14,6 +15,7 @@ invariant-commands g l = record {
   pended : g.L.Link.pends l.link ≡ g.L.Link.pends l.fn.link;
   inserts : LeadsOn (g.L.Link.awaited l.fn.link) (g.L.Link.awaited l.link) (g.L.Link.log l.fn.link) (g.L.Link.log l.link) l.fn.self l.batches l.command;
   caused : LeadsCaused (g.L.Link.awaited l.fn.link) (g.L.Link.awaited l.link) (g.L.Link.log l.fn.link) (g.L.Link.log l.link) (g.L.Link.wire l.fn.link) l.fn.self l.batches l.command;
+  sends : LeadsSent (g.L.Link.log l.fn.link) (g.L.Link.log l.link) l.fn.self l.batches l.command;
   list : IsSameList l.fn.self.batches l.batches;
   later : Later (g.L.Link.faults l.fn.link) (g.L.Link.faults l.link) (g.L.Link.pends l.fn.link) (g.L.Link.pends l.link) (g.L.Link.wire l.fn.link) (g.L.Link.wire l.link) (g.L.Link.prompt l.fn.link) (g.L.Link.prompt l.link);
 }
