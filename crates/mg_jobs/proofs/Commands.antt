@@ -9,7 +9,7 @@ use Rattle.mg_link.specs.Log.{Call}
 use Rattle.mg_link.proofs.Calls.{keeps_longer}
 use Rattle.mg_link.proofs.Owners.{same_some}
 use Rattle.mg_link.proofs.Places.{get_some}
-use Rattle.mg_ops.specs.Logs.{commands_sent}
+use Rattle.mg_ops.specs.Logs.{AddsJust, commands_sent}
 use Rattle.mg_ops.specs.declared.aggregate.ChangeStreamAggregate.{ChangeStreamAggregate}
 use Rattle.mg_cursor.specs.Client.{ClientCursor}
 use Rattle.mg_change.specs.ClientStreams.{ClientStream}
@@ -73,6 +73,12 @@ at_added (c ∷ calls) (d ∷ calls') more is =
 pub at_since : (calls calls' : List Call) (places : List ℕ) (more : List Fields) → Keeps calls calls' → AreInLog (length calls) places → commands_sent calls' ≡ commands_sent calls ++ more → commands_at calls' (sent_since places (length calls) (length calls')) ≡ commands_at calls places ++ more
 at_since calls calls' places more keeps below is =
     at_both calls' places (places_from (length calls) (length calls' - length calls)) ∙ ap₂ (λ (a b : List Fields). a ++ b) (at_kept calls calls' keeps places below) (at_added calls calls' more is)
+
+pub at_sent : (log log' : Told) (calls calls' : List Call) (places : List ℕ) (more : List Fields) → log ≡ Some calls → log' ≡ Some calls' → Keeps calls calls' → AreInLog (length calls) places → AddsJust log log' more → commands_at calls' (sent_since places (length calls) (length calls')) ≡ commands_at calls places ++ more
+at_sent log log' calls calls' places more told told' keeps below adds =
+    let add = adds calls told in
+    let is : commands_sent calls' ≡ commands_sent calls ++ more = subst (λ (l : List Call). commands_sent l ≡ commands_sent calls ++ more) (same_some add.0 calls' (sym add.1 ∙ told')) add.2 in
+    at_since calls calls' places more keeps below is
 
 -- ---- commands that fall
 

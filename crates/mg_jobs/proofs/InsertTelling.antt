@@ -1,5 +1,5 @@
 -- What an insert tells goes on to hold, turn by turn.
-use Rattle.std.proofs.Common.{◌≡◌, ◌⊎◌, ℕ, ℤ, true, List, length, Some, refl, sym, ap, ◌∙◌, subst, inl, inr, Bool}
+use Rattle.std.proofs.Common.{◌≡◌, ◌⊎◌, ℕ, ℤ, true, List, [], length, Some, refl, sym, ap, ◌∙◌, subst, inl, inr, Bool, append-nil}
 use Rattle.mg_bson.specs.Tree.{Fields}
 use Rattle.mg_link.specs.Calls.{Grows, Past, past_of, AddsOnly}
 use Rattle.mg_link.specs.Errors.{plain}
@@ -12,14 +12,15 @@ use Rattle.mg_link.specs.declared.error.Error.{Error}
 use Rattle.mg_link.specs.declared.error.ErrorKind.TheVariants as kind
 use Rattle.mg_link.proofs.Owners.{same_some}
 use Rattle.mg_ops.specs.Appended.{Appended}
-use Rattle.mg_jobs.specs.Causes.{EndsBy, sent_at}
+use Rattle.mg_jobs.specs.Causes.{EndsBy, EndsSent, sent_at}
 use Rattle.mg_ops.specs.InsertCauses.{HasSent, InsertCaused, InsertFails, IsInsertOf, no_memory}
 use Rattle.mg_jobs.specs.Playing.{end_of, inserts_ended, inserts_ticket}
 use Rattle.mg_jobs.specs.Progress.{InsertAt}
 use Rattle.mg_ops.specs.Drawn.{with_ids}
-use Rattle.mg_jobs.specs.Telling.{InsertTells, InsertTurns, TellsOn}
+use Rattle.mg_jobs.specs.Telling.{InsertTells, InsertTurns, StageSends, StageSent, TellsOn}
 use Rattle.mg_jobs.specs.Drawing.{HadTurn}
-use Rattle.mg_ops.specs.Underway.{HasInserted, Inserts, IsStarted}
+use Rattle.mg_ops.specs.InsertSends.{InsertPieces, SendsOn}
+use Rattle.mg_ops.specs.Underway.{GivesCount, HasInserted, Inserts, IsStarted}
 use Rattle.mg_ops.specs.declared.inserting.Inserting.{Inserting}
 use Rattle.mg_script.specs.declared.outcome.Ended.{Ended}
 use Rattle.mg_script.specs.declared.outcome.Ended.TheVariants as ended
@@ -28,6 +29,8 @@ use Rattle.mg_jobs.specs.declared.insert.InsertStage.TheVariants as inserts
 use Rattle.mg_link.proofs.Adding.{adds_none}
 use Rattle.mg_ops.proofs.Appending.{appended_grown, sent_length}
 use Rattle.mg_ops.proofs.InsertCauses.{insert_fails_grow, inserts_begin, inserts_grow}
+use Rattle.mg_ops.proofs.InsertSends.{poll_sends, starts_sent}
+use Rattle.mg_ops.proofs.Logs.{just_none}
 use Rattle.mg_ops.proofs.Sendings.{has_grown, started}
 
 -- ---- before its first turn
@@ -39,6 +42,13 @@ begun_tells awaited past at ds i is = (inserts_begin awaited past at ds i is, λ
 -- one for whose ids there was no memory
 pub unbegun_tells : (awaited : Awaited) (past : Past) (at : Space) (ds : List Fields) (e : Error) → e ≡ plain kind.OutOfMemory → InsertTells awaited past at ds (inserts.Ended (ended.Failed e))
 unbegun_tells awaited past at ds e room = no_memory (ap (λ (x : Error). x.kind) room)
+
+-- the two have sent nothing
+pub begun_sent : (at : Space) (ds : List Fields) (i : Inserting) → IsStarted at ds i → StageSent at ds [] (inserts.Goes i)
+begun_sent at ds i is = starts_sent at ds i is
+
+pub unbegun_sent : (at : Space) (ds : List Fields) (e : Error) → StageSent at ds [] (inserts.Ended (ended.Failed e))
+unbegun_sent at ds e = (0, refl)
 
 -- ---- its own turns
 
@@ -71,11 +81,31 @@ module _ (old new : Awaited) (log log' : Told) (wire : ℤ) (at : Space) (ds : L
     stage_adds (step.Failed e) caused calls calls' told told' places t,
   )
 
+-- what it sends in one
+pub sends_none : (log : Told) (at : Space) (ds : List Fields) (s : InsertStage) → StageSends log log at ds s s
+sends_none log at ds s commands so = ([], just_none log log refl, subst (λ (l : List Fields). StageSent at ds l s) (sym (append-nil commands)) so)
+
+module _ (log log' : Told) (at : Space) (ds : List Fields) (i : Inserting) where
+  pub waits_sent : (i' : Inserting) → GivesCount i (step.Pending i') → SendsOn log log' i (step.Pending i') → StageSends log log' at ds (inserts.Goes i) (inserts.Goes i')
+  waits_sent i' same sends commands so = poll_sends log log' at ds commands i so (step.Pending i') same sends
+
+  pub done_sent : (n : ℕ) → GivesCount i (step.Done n) → SendsOn log log' i (step.Done n) → StageSends log log' at ds (inserts.Goes i) (inserts.Ended (ended.Gave n))
+  done_sent n count sends commands so = poll_sends log log' at ds commands i so (step.Done n) count sends
+
+  pub fails_sent : (e : Error) → SendsOn log log' i (step.Failed e) → StageSends log log' at ds (inserts.Goes i) (inserts.Ended (ended.Failed e))
+  fails_sent e sends commands so = poll_sends log log' at ds commands i so (step.Failed e) tt sends
+
 -- An insert that got ready tells what it told, where these are the documents that it sends with the ids of its source.
 pub stage_on : (ids : ℕ → List ℕ) (at : Space) (ds sent : List Fields) (awaited : Awaited) (past : Past) (s s' : InsertStage) → TellsOn ids at ds s s' → (s ≡ inserts.Unsent → sent ≡ with_ids ids 0 ds) → InsertTells awaited past at sent s → InsertTells awaited past at sent s'
-stage_on ids at ds sent awaited past inserts.Unsent s' on drawn t = subst (λ (l : List Fields). InsertTells awaited past at l s') (sym (drawn refl)) (on awaited past)
+stage_on ids at ds sent awaited past inserts.Unsent s' on drawn t = subst (λ (l : List Fields). InsertTells awaited past at l s') (sym (drawn refl)) (on.tells awaited past)
 stage_on ids at ds sent awaited past (inserts.Goes i) s' on drawn t = subst (λ (x : InsertStage). InsertTells awaited past at sent x) (sym on) t
 stage_on ids at ds sent awaited past (inserts.Ended end) s' on drawn t = subst (λ (x : InsertStage). InsertTells awaited past at sent x) (sym on) t
+
+-- and has sent what it had sent
+pub sent_on : (ids : ℕ → List ℕ) (at : Space) (ds sent commands : List Fields) (s s' : InsertStage) → TellsOn ids at ds s s' → (s ≡ inserts.Unsent → sent ≡ with_ids ids 0 ds) → StageSent at sent commands s → StageSent at sent commands s'
+sent_on ids at ds sent commands inserts.Unsent s' on drawn none = subst (λ (l : List Fields). StageSent at sent l s') (sym none) (subst (λ (l : List Fields). StageSent at l [] s') (sym (drawn refl)) on.sent)
+sent_on ids at ds sent commands (inserts.Goes i) s' on drawn so = subst (λ (x : InsertStage). StageSent at sent commands x) (sym on) so
+sent_on ids at ds sent commands (inserts.Ended end) s' on drawn so = subst (λ (x : InsertStage). StageSent at sent commands x) (sym on) so
 
 -- the same over the same wire version, by another name
 pub turns_over : (old new : Awaited) (log log' : Told) (wire wire' : ℤ) (at : Space) (ds : List Fields) (s s' : InsertStage) → wire' ≡ wire → InsertTurns old new log log' wire at ds s s' → InsertTurns old new log log' wire' at ds s s'
@@ -106,9 +136,20 @@ stage_of_others awaited past at ds ds' had inserts.Unsent turn same t = tt
 stage_of_others awaited past at ds ds' had (inserts.Goes i) turn same t = subst (λ (l : List Fields). InsertTells awaited past at l (inserts.Goes i)) (sym (same turn)) t
 stage_of_others awaited past at ds ds' had (inserts.Ended end) turn same t = subst (λ (l : List Fields). InsertTells awaited past at l (inserts.Ended end)) (sym (same turn)) t
 
+-- So it is with what it sent.
+pub sent_of_others : (at : Space) (ds ds' commands : List Fields) (had : Bool) (s : InsertStage) → HadTurn had s → (had ≡ true → ds' ≡ ds) → StageSent at ds commands s → StageSent at ds' commands s
+sent_of_others at ds ds' commands had inserts.Unsent turn same so = so
+sent_of_others at ds ds' commands had (inserts.Goes i) turn same so = subst (λ (l : List Fields). StageSent at l commands (inserts.Goes i)) (sym (same turn)) so
+sent_of_others at ds ds' commands had (inserts.Ended end) turn same so = subst (λ (l : List Fields). StageSent at l commands (inserts.Ended end)) (sym (same turn)) so
+
 -- ---- at the end
 
 pub ends_of : (awaited : Awaited) (past : Past) (at : Space) (ds : List Fields) (s : InsertStage) → InsertTells awaited past at ds s → EndsBy past at ds (end_of s)
 ends_of awaited past at ds inserts.Unsent t = tt
 ends_of awaited past at ds (inserts.Goes i) t = tt
 ends_of awaited past at ds (inserts.Ended end) t = t
+
+pub ends_sent : (at : Space) (ds commands : List Fields) (s : InsertStage) → StageSent at ds commands s → EndsSent at ds commands (end_of s)
+ends_sent at ds commands inserts.Unsent none = (0, subst (λ (l : List Fields). InsertPieces at ds 0 l 0) (sym none) refl)
+ends_sent at ds commands (inserts.Goes i) so = (i.batches.upto, so.pieces)
+ends_sent at ds commands (inserts.Ended end) so = so

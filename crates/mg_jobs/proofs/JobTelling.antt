@@ -9,7 +9,7 @@ use Rattle.mg_link.proofs.Adding.{adds_none}
 use Rattle.mg_link.proofs.Calls.{keeps_longer}
 use Rattle.mg_link.proofs.Owners.{same_some}
 use Rattle.mg_ops.specs.Drawn.{with_ids}
-use Rattle.mg_jobs.specs.Causes.{sent_at}
+use Rattle.mg_jobs.specs.Causes.{commands_at, sent_at}
 use Rattle.mg_jobs.specs.Drawing.{InsertDrawsAs, JobHadTurn, sent_documents, sent_from}
 use Rattle.mg_jobs.specs.Follows.{Placing, same_place}
 use Rattle.mg_jobs.specs.Headline.{IsFirst, IsSameTask, follow_task, insert_task, task_of}
@@ -19,7 +19,7 @@ use Rattle.mg_jobs.specs.Runs.{has_ended}
 use Rattle.mg_jobs.specs.Sends.{MaySend}
 use Rattle.mg_jobs.specs.Plays as words
 use Rattle.mg_jobs.specs.Plays.{Account, AnySent, Places}
-use Rattle.mg_jobs.specs.Telling.{FollowSays, FollowTells, InsertSays, InsertTells, InsertTurns, JobTells, Kept, TellsAs, TellsBehind, TellsOn, Tells, TurnTells, kept, number, number_of}
+use Rattle.mg_jobs.specs.Telling.{FollowSays, FollowTells, InsertSaid, InsertSays, InsertTurns, JobTells, Kept, StageSends, StageSent, TellsAs, TellsBehind, TellsOn, Tells, TurnTells, kept, number, number_of}
 use Rattle.mg_script.specs.Plan.{Task}
 use Rattle.mg_script.specs.declared.outcome.Ended.{Ended}
 use Rattle.mg_jobs.specs.declared.follow.FollowPlayer.{FollowPlayer}
@@ -30,7 +30,8 @@ use Rattle.mg_jobs.specs.declared.follow.Stage.TheVariants as stage
 use Rattle.mg_jobs.specs.declared.follow.Watched.{Watched}
 use Rattle.mg_jobs.specs.declared.player.Player.{Player}
 use Rattle.mg_jobs.specs.declared.player.Player.TheVariants as player
-use Rattle.mg_jobs.proofs.InsertTelling.{insert_tells_grow, none_done, stage_of_others, stage_on}
+use Rattle.mg_jobs.proofs.Commands.{at_kept, at_sent, below_more, below_since}
+use Rattle.mg_jobs.proofs.InsertTelling.{insert_tells_grow, none_done, sent_of_others, sent_on, stage_of_others, stage_on}
 use Rattle.mg_jobs.proofs.Telling.{extends_going, extends_same, going_on, grows_ended, grows_later, tells_later}
 
 -- ---- what others do
@@ -38,7 +39,12 @@ use Rattle.mg_jobs.proofs.Telling.{extends_going, extends_same, going_on, grows_
 -- Where its own ticket goes with the same call, a job tells in a later log what it told.
 pub job_later : (t : Task) (old new : Awaited) (calls calls' : List Call) (wire : ℤ) (q : Places) (p : Player) (at : Option ℕ) → Keeps calls calls' → ((m : ℕ) → job_ticket p ≡ Some m → new m ≡ old m) → JobTells old calls wire q t p at → JobTells new calls' wire q t p at
 job_later t old new calls calls' wire q (player.Insert job) at keeps same told =
-    insert_tells_grow (sent_at q.now calls wire) (sent_at q.now calls' wire) (grows_later q.now calls calls' wire keeps) (space job.ns.now) (sent_documents t) old new job.stage same told
+    record {
+      alone = told.alone;
+      within = below_more q.now (length calls) (length calls') (keeps_longer calls calls' keeps) told.within;
+      tells = insert_tells_grow (sent_at q.now calls wire) (sent_at q.now calls' wire) (grows_later q.now calls calls' wire keeps) (space job.ns.now) (sent_documents t) old new job.stage same told.tells;
+      sends = subst (λ (l : List Fields). StageSent (space job.ns.now) (sent_documents t) l job.stage) (sym (at_kept calls calls' keeps q.now told.within)) told.sends;
+    }
 job_later t old new calls calls' wire q (player.Follow job) at keeps same told = tells_later old new calls calls' wire q job.stage (kept job) at keeps same told
 job_later t old new calls calls' wire q (player.Put job) at keeps same told = tt
 job_later t old new calls calls' wire q (player.Get job) at keeps same told = tt
@@ -46,7 +52,15 @@ job_later t old new calls calls' wire q (player.Get job) at keeps same told = tt
 -- It tells the same where the number of its first id is another, unless it had a turn.
 pub job_of_others : (ids : ℕ → List ℕ) (n n' : ℕ) (awaited : Awaited) (calls : List Call) (wire : ℤ) (q : Places) (p : Player) (at : Option ℕ) (had : Bool) → JobHadTurn had p → (had ≡ true → n' ≡ n) → JobTells awaited calls wire q (sent_from ids n (task_of p)) p at → JobTells awaited calls wire q (sent_from ids n' (task_of p)) p at
 job_of_others ids n n' awaited calls wire q (player.Insert job) at had turn same told =
-    stage_of_others awaited (sent_at q.now calls wire) (space job.ns.now) (with_ids ids n job.documents.now) (with_ids ids n' job.documents.now) had job.stage turn (λ is. ap (λ m. with_ids ids m job.documents.now) (same is)) told
+    let sent : List Fields = with_ids ids n job.documents.now in
+    let sent' : List Fields = with_ids ids n' job.documents.now in
+    let as_one : had ≡ true → sent' ≡ sent = λ is. ap (λ m. with_ids ids m job.documents.now) (same is) in
+    record {
+      alone = told.alone;
+      within = told.within;
+      tells = stage_of_others awaited (sent_at q.now calls wire) (space job.ns.now) sent sent' had job.stage turn as_one told.tells;
+      sends = sent_of_others (space job.ns.now) sent sent' (commands_at calls q.now) had job.stage turn as_one told.sends;
+    }
 job_of_others ids n n' awaited calls wire q (player.Follow job) at had turn same told = told
 job_of_others ids n n' awaited calls wire q (player.Put job) at had turn same told = tt
 job_of_others ids n n' awaited calls wire q (player.Get job) at had turn same told = tt
@@ -64,8 +78,15 @@ no_number p = 0
 pub insert_teller : (ids : ℕ → List ℕ) (job job' : InsertPlayer) → IsSameInsert job job' → TellsOn ids (space job.ns.now) job.documents.now job.stage job'.stage → words.TellsAs insert_task InsertSays no_number (InsertDrawsAs ids job) job job'
 insert_teller ids job job' same on = record {
   number_same = refl;
-  tells = λ awaited calls wire q source n at drawn told. subst (λ m. InsertTells awaited (sent_at q.now calls wire) (space m.now) (with_ids source n job.documents.now) job'.stage) (sym same.0)
-      (stage_on ids (space job.ns.now) job.documents.now (with_ids source n job.documents.now) awaited (sent_at q.now calls wire) job.stage job'.stage on drawn told);
+  tells = λ awaited calls wire q source n at drawn told.
+      let sent : List Fields = with_ids source n job.documents.now in
+      subst (λ m. InsertSaid awaited calls wire q (space m.now) sent job'.stage) (sym same.0)
+      (record {
+        alone = told.alone;
+        within = told.within;
+        tells = stage_on ids (space job.ns.now) job.documents.now sent awaited (sent_at q.now calls wire) job.stage job'.stage on drawn told.tells;
+        sends = sent_on ids (space job.ns.now) job.documents.now sent (commands_at calls q.now) job.stage job'.stage on drawn told.sends;
+      });
 }
 
 kept_same : (f f' : FollowPlayer) → IsSameFollow f f' → kept f' ≡ kept f
@@ -107,17 +128,24 @@ quiet_turn does says count so awaited log wire p p' teller calls calls' told tol
     })
 
 -- a turn of an insert
-pub insert_turn : (so : Task → Type 0) (old new : Awaited) (log log' : Told) (wire : ℤ) (job job' : InsertPlayer) → job'.ns ≡ job.ns → ((sent : List Fields) → InsertTurns old new log log' wire (space job.ns.now) sent job.stage job'.stage) → words.TurnTells insert_task InsertSays no_number so old new log log' wire job job' same_place
-insert_turn so old new log log' wire job job' same turns calls calls' told told' ids n may q at tells =
+pub insert_turn : (so : Task → Type 0) (old new : Awaited) (log log' : Told) (wire : ℤ) (job job' : InsertPlayer) → job'.ns ≡ job.ns → ((sent : List Fields) → InsertTurns old new log log' wire (space job.ns.now) sent job.stage job'.stage) → ((sent : List Fields) → StageSends log log' (space job.ns.now) sent job.stage job'.stage)
+    → words.TurnTells insert_task InsertSays no_number so old new log log' wire job job' same_place
+insert_turn so old new log log' wire job job' same turns sends calls calls' told told' ids n may q at tells =
     let sent : List Fields = with_ids ids n job.documents.now in
-    let r = turns sent calls calls' told told' q.now tells in
+    let r = turns sent calls calls' told told' q.now tells.tells in
+    let s = sends sent (commands_at calls q.now) tells.sends in
     let room = keeps_longer calls calls' r.1.keeps in
     let q' : Places = going_on q (length calls) (length calls') in
     record {
       longer = room;
       places = q';
-      tells = subst (λ m. InsertTells new (sent_at q'.now calls' wire) (space m.now) sent job'.stage) (sym same)
-          (insert_tells_grow (past_of q.now (length calls) calls' wire) (sent_at q'.now calls' wire) (grows_ended q.now (length calls) calls' wire) (space job.ns.now) sent new new job'.stage (λ m e. refl) r.0);
+      tells = subst (λ m. InsertSaid new calls' wire q' (space m.now) sent job'.stage) (sym same)
+          (record {
+            alone = tells.alone;
+            within = below_since q.now (length calls) (length calls') room tells.within;
+            tells = insert_tells_grow (past_of q.now (length calls) calls' wire) (sent_at q'.now calls' wire) (grows_ended q.now (length calls) calls' wire) (space job.ns.now) sent new new job'.stage (λ m e. refl) r.0;
+            sends = subst (λ (l : List Fields). StageSent (space job.ns.now) sent l job'.stage) (sym (at_sent log log' calls calls' q.now s.0 told told' r.1.keeps tells.within s.1)) s.2;
+          });
       extends = extends_going q 0 0 (length calls) (length calls') refl room;
       adds = r.1;
     }
@@ -139,7 +167,8 @@ ready_turn so old new log log' wire p q p' next task teller turn calls calls' to
 
 -- A job that has done nothing tells of no places.
 pub first_tells : (t : Task) (awaited : Awaited) (calls : List Call) (wire : ℤ) (p : Player) → IsFirst p → JobTells awaited calls wire (record { opened = []; owns = []; now = [] }) t p None
-first_tells t awaited calls wire (player.Insert job) is = subst (λ (s : InsertStage). InsertTells awaited (sent_at [] calls wire) (space job.ns.now) (sent_documents t) s) (sym is) tt
+first_tells t awaited calls wire (player.Insert job) is =
+    subst (λ (s : InsertStage). InsertSaid awaited calls wire (record { opened = []; owns = []; now = [] }) (space job.ns.now) (sent_documents t) s) (sym is) (record { alone = (refl, refl); within = tt; tells = tt; sends = refl })
 first_tells t awaited calls wire (player.Follow job) is = subst (λ (s : Stage). Tells awaited calls wire (record { opened = []; owns = []; now = [] }) s (kept job) None) (sym is.0) ((refl, is.2.no_answer, refl), refl)
 first_tells t awaited calls wire (player.Put job) is = tt
 first_tells t awaited calls wire (player.Get job) is = tt

@@ -29,7 +29,7 @@ use Rattle.mg_change.proofs.Keeping.{sound_any}
 use Rattle.mg_jobs.proofs.Later.{opening_awaits_plainly}
 use Rattle.mg_ops.specs.InsertCauses.{InsertWaits}
 use Rattle.mg_ops.proofs.InsertCauses.{insert_waits}
-use Rattle.mg_jobs.specs.Causes.{AllCaused, AllSentIn, ClosedBy, CloseCaused, Course, FallsAt, FollowCaused, KillsLast, OpenStands, OpenCaused, OpenWaits, OutcomeCaused, SentIn, SentNoneBehind, at_rest, course, in_call, in_closing, places_from, places_in, sent_at, sent_since}
+use Rattle.mg_jobs.specs.Causes.{AllCaused, AllSentIn, ClosedBy, CloseCaused, Course, FallsAt, FollowCaused, KillsLast, OpenStands, OpenCaused, OpenWaits, OutcomeCaused, SentIn, SentNoneBehind, at_rest, commands_at, course, in_call, in_closing, places_from, places_in, sent_at, sent_since}
 use Rattle.mg_jobs.specs.Counts.{HoldsNewest, NewestAt, StartedBy}
 use Rattle.mg_ops.specs.Drawn.{AreLater, with_ids}
 use Rattle.mg_jobs.specs.Drawing.{DrawsAs, HaveDrawn, JobHadTurn, as_sent, drawn_in, first_id, has_turn, sent_from}
@@ -60,7 +60,7 @@ use Rattle.mg_jobs.proofs.Knowing.{get_length, know_first, knowing_turn, one_mor
 use Rattle.mg_jobs.proofs.Commands.{call_falls_so, falls_below}
 use Rattle.mg_jobs.proofs.Drawing.{draws_as, id_had, id_own, turn_other}
 use Rattle.mg_jobs.proofs.Identified.{calls_identified, honest_over, opened_well}
-use Rattle.mg_jobs.proofs.InsertTelling.{ends_of}
+use Rattle.mg_jobs.proofs.InsertTelling.{ends_of, ends_sent}
 use Rattle.mg_jobs.proofs.JobTelling.{first_tells, job_later, job_of_others, number_at}
 use Rattle.mg_jobs.proofs.Newest.{newest_other, newest_own, none_sent, started_in}
 use Rattle.mg_jobs.proofs.Sends.{sends_first, sends_other, sends_turn, sent_had}
@@ -433,8 +433,10 @@ outcome_of_job ids ts awaited c i calls wire (player.Insert job) r o at of is_at
           (record {
             places = told.places.now;
             sent = told.sent.now;
-            by = ends_of awaited past (space job.ns.now) sent job.stage told.tells;
-            waits = λ pended is. insert_awaits awaited past (space job.ns.now) sent job.stage (turns_done i c.order c.notes) (pends_last i c.order c.notes) told.tells is_at pended is;
+            by = ends_of awaited past (space job.ns.now) sent job.stage told.tells.tells;
+            whole = sym (only_now told.places told.tells.alone.0 told.tells.alone.1) ∙ told.sent.whole;
+            pieces = ends_sent (space job.ns.now) sent (commands_at calls told.places.now) job.stage told.tells.sends;
+            waits = λ pended is. insert_awaits awaited past (space job.ns.now) sent job.stage (turns_done i c.order c.notes) (pends_last i c.order c.notes) told.tells.tells is_at pended is;
           }),
     )
 outcome_of_job ids ts awaited c i calls wire (player.Follow job) r o at of is_at plays told =

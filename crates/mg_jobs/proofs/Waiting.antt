@@ -152,7 +152,7 @@ stage_own awaited past at sent (inserts.Ended e) ticket tells holds = absurd cc
 
 pub job_own : (ids : ℕ → List ℕ) (first : ℕ) (awaited : Awaited) (calls : List Call) (wire : ℤ) (c : Course) (i : ℕ) (p : Player) (at : Option ℕ) (ticket : ℕ) → JobTold ids first awaited calls wire c i p at → job_ticket p ≡ Some ticket → SentOwn awaited c i ticket
 job_own ids first awaited calls wire c i (player.Insert job) at ticket t holds =
-    sent_own awaited c i 0 t.places.now calls wire ticket t.sent.now (stage_own awaited (sent_at t.places.now calls wire) (space job.ns.now) (with_ids ids first job.documents.now) job.stage ticket t.tells holds)
+    sent_own awaited c i 0 t.places.now calls wire ticket t.sent.now (stage_own awaited (sent_at t.places.now calls wire) (space job.ns.now) (with_ids ids first job.documents.now) job.stage ticket t.tells.tells holds)
 job_own ids first awaited calls wire c i (player.Follow job) at ticket t holds = follow_own awaited calls wire c i job.stage (kept job) at ticket (record { places = t.places; tells = t.tells; sent = t.sent }) holds
 job_own ids first awaited calls wire c i (player.Put job) at ticket t holds = absurd cc
 job_own ids first awaited calls wire c i (player.Get job) at ticket t holds = absurd cc

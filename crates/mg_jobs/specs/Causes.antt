@@ -27,6 +27,7 @@ use Rattle.mg_jobs.specs.Drawing.{as_sent}
 use Rattle.mg_jobs.specs.Follows.{FollowedFrom, IsArgsFor, IsUnfinished, poll_of}
 use Rattle.mg_jobs.specs.Kinds.{OfFollow, OfInsert}
 use Rattle.mg_ops.specs.InsertCauses.{InsertFails, InsertWaits}
+use Rattle.mg_ops.specs.InsertSends.{InsertPieces}
 use Rattle.mg_script.specs.Plan.{Begin, Task, insert, follow, put, get}
 use Rattle.mg_jobs.specs.Progress.{pends_last, turns_done}
 use Rattle.mg_script.specs.declared.outcome.Answer.{Answer}
@@ -113,11 +114,20 @@ EndsBy past at sent ended.Unfinished = Unit {0}
 EndsBy past at sent (ended.Gave n) = (n ≡ length sent) × (IsNamed at → Appended past at sent n)
 EndsBy past at sent (ended.Failed e) = InsertFails past at sent e
 
+-- These commands insert the documents that it sends, from the first one on, piece behind piece and each piece once: all documents where it ended well.
+abbrev pub EndsSent : Space → List Fields → List Fields → Ended ℕ → Type 0
+EndsSent at sent commands ended.Unfinished = (upto : ℕ) × InsertPieces at sent 0 commands upto
+EndsSent at sent commands (ended.Gave n) = InsertPieces at sent 0 commands (length sent)
+EndsSent at sent commands (ended.Failed e) = (upto : ℕ) × InsertPieces at sent 0 commands upto
+
 -- it sent its commands in its turns up to the first that did not pend
 pub record InsertEnds (awaited : Awaited) (c : Course) (i : ℕ) (calls : List Call) (wire : ℤ) (at : Space) (documents : List Fields) (end : Ended ℕ) : Type 0 where
   pub places : List ℕ
   pub sent : AllSentIn c i 0 places
   pub by : EndsBy (sent_at places calls wire) at documents end
+  -- its turns sent these, and nothing else
+  pub whole : places ≡ places_of c i
+  pub pieces : EndsSent at documents (commands_at calls places) end
   -- where its newest turn pended and it has not ended
   pub waits : pends_last i c.order c.notes ≡ true → IsUnfinished end → InsertWaits awaited (sent_at places calls wire) at documents
 

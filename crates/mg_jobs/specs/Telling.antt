@@ -1,5 +1,5 @@
 -- What a job can tell, turn by turn, of what its answers are caused by.
-use Rattle.std.specs.Prelude.{◌≡◌, ◌↔◌, ◌⊎◌, ◌+◌, ◌≤◌, IsTrue, Bool, true, ℕ, suc, ℤ, List, [], length, Option, Some, None, slice_get}
+use Rattle.std.specs.Prelude.{◌≡◌, ◌↔◌, ◌⊎◌, ◌+◌, ◌≤◌, ◌++◌, IsTrue, Bool, true, ℕ, suc, ℤ, List, [], length, Option, Some, None, slice_get}
 use Rattle.std.specs.List.{sum_by}
 use Rattle.mg_bson.specs.Tree.{Fields, Tree}
 use Rattle.mg_link.specs.Calls.{Past, past_of, AddsOnly}
@@ -20,10 +20,12 @@ use Rattle.mg_change.specs.OpeningView.{IsPlainOpening, opening_of}
 use Rattle.mg_change.specs.Sent as calling
 use Rattle.mg_change.specs.Sent.{IsAt, ending_places, opening_places}
 use Rattle.mg_change.specs.StreamView.{stream_of}
-use Rattle.mg_jobs.specs.Causes.{Answered, ClosedBy, Course, EndsBy, FallsAt, KillsLast, AllSentIn, SentNoneBehind, course, places_of, sent_at}
+use Rattle.mg_jobs.specs.Causes.{Answered, AreInLog, ClosedBy, Course, EndsBy, EndsSent, FallsAt, KillsLast, AllSentIn, SentNoneBehind, commands_at, course, places_of, sent_at}
 use Rattle.mg_jobs.specs.Follows.{FollowTurns, HasGiven, IsArgsFor, Placing, filter_in}
 use Rattle.mg_jobs.specs.Headline.{AllKnow, task_of}
 use Rattle.mg_ops.specs.InsertCauses.{HasSent, IsInsertOf}
+use Rattle.mg_ops.specs.InsertSends.{HasSentPieces}
+use Rattle.mg_ops.specs.Logs.{AddsJust}
 use Rattle.mg_script.specs.Plan.{Task, begin}
 use Rattle.mg_ops.specs.Drawn.{with_ids}
 use Rattle.mg_jobs.specs.Drawing.{first_id, sent_documents, sent_from}
@@ -158,17 +160,39 @@ abbrev pub InsertTurns : Awaited → Awaited → Told → Told → ℤ → Space
 InsertTurns old new log log' wire at sent stage stage' = (calls calls' : List Call) → log ≡ Some calls → log' ≡ Some calls' → (places : List ℕ)
     → InsertTells old (sent_at places calls wire) at sent stage → InsertTells new (past_of places (length calls) calls' wire) at sent stage' × AddsOnly (IsInsertOf at sent) calls calls'
 
--- An insert that had no ids drew them from a source that gave these, and tells what it should; any other is as it was.
+-- by these commands an insert that sends these documents has sent its pieces so far, at each stage: nothing before it drew its ids
+abbrev pub StageSent : Space → List Fields → List Fields → InsertStage → Type 0
+StageSent at sent commands inserts.Unsent = commands ≡ []
+StageSent at sent commands (inserts.Goes i) = HasSentPieces at sent commands i
+StageSent at sent commands (inserts.Ended end) = EndsSent at sent commands end
+
+-- A turn led an insert of these documents from one stage to another: it sent just these commands more.
+abbrev pub StageSends : Told → Told → Space → List Fields → InsertStage → InsertStage → Type 0
+StageSends log log' at sent stage stage' = (commands : List Fields) → StageSent at sent commands stage → (more : List Fields) × AddsJust log log' more × StageSent at sent (commands ++ more) stage'
+
+-- an insert that drew its ids from a source that gave these tells what it should, and has sent nothing
+pub record TellsNew (ids : ℕ → List ℕ) (at : Space) (documents : List Fields) (stage : InsertStage) : Type 0 where
+  pub tells : (awaited : Awaited) (past : Past) → InsertTells awaited past at (with_ids ids 0 documents) stage
+  pub sent : StageSent at (with_ids ids 0 documents) [] stage
+
+-- one that had no ids drew them so; any other is as it was
 abbrev pub TellsOn : (ℕ → List ℕ) → Space → List Fields → InsertStage → InsertStage → Type 0
-TellsOn ids at documents inserts.Unsent stage' = (awaited : Awaited) (past : Past) → InsertTells awaited past at (with_ids ids 0 documents) stage'
+TellsOn ids at documents inserts.Unsent stage' = TellsNew ids at documents stage'
 TellsOn ids at documents (inserts.Goes i) stage' = stage' ≡ inserts.Goes i
 TellsOn ids at documents (inserts.Ended end) stage' = stage' ≡ inserts.Ended end
+
+-- what an insert of these documents tells of what it sent at these places, and that it sent just its pieces there
+pub record InsertSaid (awaited : Awaited) (calls : List Call) (wire : ℤ) (q : Places) (at : Space) (sent : List Fields) (stage : InsertStage) : Type 0 where
+  pub alone : (q.opened ≡ []) × (q.owns ≡ [])
+  pub within : AreInLog (length calls) q.now
+  pub tells : InsertTells awaited (sent_at q.now calls wire) at sent stage
+  pub sends : StageSent at sent (commands_at calls q.now) stage
 
 -- ---- all jobs
 
 -- what an insert tells of what it sent at these places, where its task is sent as this one; a follow, whose stream the call at this place opened
 abbrev pub InsertSays : Awaited → List Call → ℤ → Places → Task → InsertPlayer → Option ℕ → Type 0
-InsertSays awaited calls wire q t job at = InsertTells awaited (sent_at q.now calls wire) (space job.ns.now) (sent_documents t) job.stage
+InsertSays awaited calls wire q t job at = InsertSaid awaited calls wire q (space job.ns.now) (sent_documents t) job.stage
 
 abbrev pub FollowSays : Awaited → List Call → ℤ → Places → Task → FollowPlayer → Option ℕ → Type 0
 FollowSays awaited calls wire q t job at = Tells awaited calls wire q job.stage (kept job) at

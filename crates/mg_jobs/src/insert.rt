@@ -2,15 +2,14 @@
 ghost use Rattle.std.specs.Prelude.{◌≡◌, Bool, List, ℕ, None};
 ghost use Rattle.mg_bson.specs.Tree.{Fields};
 ghost use Rattle.mg_link.specs.Acts.{IsOut, Tickets};
-ghost use Rattle.mg_link.specs.Calls.{Past};
-ghost use Rattle.mg_link.specs.Link.{Awaited, Later};
+ghost use Rattle.mg_link.specs.Link.{Later};
 ghost use Rattle.mg_link.specs.Namespace.{Space, space};
 ghost use Rattle.mg_link.proofs.Killing.{PassesPlain};
-ghost use Rattle.mg_ops.specs.Drawn.{AreLater, lacking, with_ids};
+ghost use Rattle.mg_ops.specs.Drawn.{AreLater, lacking};
 ghost use Rattle.mg_jobs.specs.Drawing.{next_draws};
 ghost use Rattle.mg_jobs.specs.Playing.{HasIds, IsPlainInsert, IsPlainJob, IsSameInsert, inserts_ticket, player_ticket};
 ghost use Rattle.mg_jobs.specs.Progress.{InsertAt, InsertGoes, InsertReady};
-ghost use Rattle.mg_jobs.specs.Telling.{InsertTells, InsertTurns, TellsOn};
+ghost use Rattle.mg_jobs.specs.Telling.{InsertTurns, StageSends, TellsNew, TellsOn};
 
 use crate::kind::Kind;
 use mg_bson::Document;
@@ -56,7 +55,7 @@ fn begun<'a, I: IdSource>(
 ) -> InsertStage<'a>
     ensures ticket { inserts_ticket result ≡ None }
     ensures plain { IsPlainInsert result }
-    ensures tells { (awaited : Awaited) (past : Past) → InsertTells awaited past (space ns.now) (with_ids (I.ids ids.old) 0 documents.now) result }
+    ensures tells { TellsNew (I.ids ids.old) (space ns.now) documents.now result }
     ensures at { (k : ℕ) → k ≡ 0 → InsertReady result k }
     ensures drawn { AreLater (I.ids ids.old) (lacking documents.now) (I.ids ids.new) }
     ensures has { HasIds result }
@@ -74,6 +73,7 @@ impl<'a> InsertStage<'a> {
         ensures tickets { Tickets (L.awaited link.old) (L.awaited link.new) (inserts_ticket self.entry) (inserts_ticket result) }
         ensures plain { IsPlainInsert self.entry → PassesPlain (L.log link.old) (L.log link.new) × IsPlainInsert result }
         ensures told { (at : Space) (sent : List Fields) → InsertTurns (L.awaited link.old) (L.awaited link.new) (L.log link.old) (L.log link.new) (L.wire link.old) at sent self.entry result }
+        ensures sends { (at : Space) (sent : List Fields) → StageSends (L.log link.old) (L.log link.new) at sent self.entry result }
         ensures has { HasIds self.entry → HasIds result }
         ensures comes { InsertGoes (L.pends link.old) (L.pends link.new) self.entry result }
         ensures later { Later (L.faults link.old) (L.faults link.new) (L.pends link.old) (L.pends link.new)

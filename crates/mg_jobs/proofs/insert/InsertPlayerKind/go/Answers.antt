@@ -16,7 +16,8 @@ returns-clause-goes g c =
       next = same_place;
       turned = turned_insert (g.L.Link.awaited c.args.link.now) (g.L.Link.awaited c.go.new.link) (g.L.Link.log c.args.link.now) (g.L.Link.log c.go.new.link) job (record job { stage = c.go.result }) c.go.ensures.plain;
       told = insert_turn AnySent (g.L.Link.awaited c.args.link.now) (g.L.Link.awaited c.go.new.link) (g.L.Link.log c.args.link.now) (g.L.Link.log c.go.new.link) (g.L.Link.wire c.go.new.link) job (record job { stage = c.go.result }) refl
-          (λ sent. turns_over _ _ _ _ _ _ (space job.ns.now) sent job.stage c.go.result c.go.ensures.later.wire (c.go.ensures.told (space job.ns.now) sent));
+          (λ sent. turns_over _ _ _ _ _ _ (space job.ns.now) sent job.stage c.go.result c.go.ensures.later.wire (c.go.ensures.told (space job.ns.now) sent))
+          (λ sent. c.go.ensures.sends (space job.ns.now) sent);
       task = refl;
       has = c.go.ensures.has;
     }

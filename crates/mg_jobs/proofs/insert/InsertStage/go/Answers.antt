@@ -3,7 +3,7 @@ use Rattle.mg_link.proofs.Killing.{plain_stayed}
 use Rattle.mg_jobs.specs.declared.insert.InsertStage.TheVariants as inserts
 use Rattle.mg_script.specs.declared.outcome.Ended.TheVariants as ended
 use Rattle.mg_jobs.proofs.Advancing.{insert_done, insert_over, insert_waits}
-use Rattle.mg_jobs.proofs.InsertTelling.{stage_done, stage_fails, stage_stays, stage_waits}
+use Rattle.mg_jobs.proofs.InsertTelling.{done_sent, fails_sent, sends_none, stage_done, stage_fails, stage_stays, stage_waits, waits_sent}
 use Rattle.mg_jobs.proofs.insert.InsertStage.go.Goals as goal
 
 pub returns-in-Unsent-clause-plain : goal.returns-in-Unsent-clause-plain
@@ -41,3 +41,18 @@ returns-in-Failed-clause-comes g c = rw c.in-Goes.is (insert_done _ _ (inserts.G
 
 pub returns-in-Ended-clause-comes : goal.returns-in-Ended-clause-comes
 returns-in-Ended-clause-comes g c = rw c.in-Ended.is (insert_over _ _)
+
+pub returns-in-Unsent-clause-sends : goal.returns-in-Unsent-clause-sends
+returns-in-Unsent-clause-sends g c = rw c.in-Unsent.is (λ at documents. sends_none (g.L.Link.log c.args.link.now) at documents inserts.Unsent)
+
+pub returns-in-Ended-clause-sends : goal.returns-in-Ended-clause-sends
+returns-in-Ended-clause-sends g c = rw c.in-Ended.is (λ at documents. sends_none (g.L.Link.log c.args.link.now) at documents (inserts.Ended c.in-Ended.ended))
+
+pub returns-in-Pending-clause-sends : goal.returns-in-Pending-clause-sends
+returns-in-Pending-clause-sends g c = rw c.in-Goes.is (λ at documents. waits_sent (g.L.Link.log c.args.link.now) (g.L.Link.log c.poll.new.link) at documents c.in-Goes.inserting c.in-Pending.inserting c.in-Pending.ensures.number c.in-Pending.ensures.sends)
+
+pub returns-in-Done-clause-sends : goal.returns-in-Done-clause-sends
+returns-in-Done-clause-sends g c = rw c.in-Goes.is (λ at documents. done_sent (g.L.Link.log c.args.link.now) (g.L.Link.log c.poll.new.link) at documents c.in-Goes.inserting c.in-Done.count c.in-Done.ensures.number c.in-Done.ensures.sends)
+
+pub returns-in-Failed-clause-sends : goal.returns-in-Failed-clause-sends
+returns-in-Failed-clause-sends g c = rw c.in-Goes.is (λ at documents. fails_sent (g.L.Link.log c.args.link.now) (g.L.Link.log c.poll.new.link) at documents c.in-Goes.inserting c.in-Failed.error c.in-Failed.ensures.sends)
