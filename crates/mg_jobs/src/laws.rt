@@ -1,5 +1,5 @@
 //! What holds of the definitions.
-ghost use Rattle.std.specs.Prelude.{◌≡◌, ◌++◌, ◌∷◌, [], ℕ, ℤ, suc, pos, List, Option, Some, length, take};
+ghost use Rattle.std.specs.Prelude.{◌≡◌, ◌++◌, ◌∷◌, [], ℕ, ℤ, suc, pos, List, Option, Some, length, slice_get, slice_set, take};
 ghost use Rattle.mg_bson.specs.Tree.{Fields};
 ghost use Rattle.mg_link.specs.Calls.{Grows, Past};
 ghost use Rattle.mg_link.specs.History.{IsLegal, Step, state_of};
@@ -7,6 +7,7 @@ ghost use Rattle.mg_link.specs.Ids.{counted_id};
 ghost use Rattle.mg_link.specs.Link.{Awaited};
 ghost use Rattle.mg_link.specs.Log.{Call};
 ghost use Rattle.mg_link.specs.Namespace.{Space};
+ghost use Rattle.mg_link.specs.Owner.{AreApart, Owner, Passes};
 ghost use Rattle.mg_link.specs.Standing.{Stands};
 ghost use Rattle.mg_link.specs.State.{documents_at};
 ghost use Rattle.mg_link.specs.Step.{documents_of};
@@ -46,6 +47,12 @@ pub fn appended_stays()
 /// Each id that the inserts of a script draw has the twelve bytes of an object id.
 pub fn drawn_ids_fit()
     ensures { (ids : List ℕ) (n : ℕ) → length ids ≡ 3 → length (counted_id (ids ++ 0 ∷ []) n) ≡ 12 }
+{}
+
+/// The jobs of a run stay apart: after the turn of one no two own the same cursor.
+pub fn jobs_stay_apart()
+    ensures { (calls calls' : List Call) (owners : List Owner) (k : ℕ) (o o' : Owner) → slice_get owners k ≡ Some o
+        → Passes calls calls' o o' → AreApart calls owners → AreApart calls' (slice_set owners k o') }
 {}
 
 /// A job ends well where its link loses nothing and its server holds nothing back. Of a job whose outcome has the

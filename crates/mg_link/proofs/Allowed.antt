@@ -110,7 +110,7 @@ place_fits s w nowhere resumes from e = let f : length s.changes ≡ from = cc i
 place_fits s w (after token) resumes from e = place_within (length s.changes) from token (after_ok w s.changes resumes (token_place (length s.changes) token) from e)
 place_fits s w (at_time time) resumes from e = let f : count_before time s.changes ≡ from = cc in subst (λ (n : ℕ). n ≤ length s.changes) f (counted_within time s.changes)
 
-place_begins : (s s' : State) (given : ℕ) (w : Watch) (start : Start) (resumes : Bool) (from : ℕ) → IsStoreState s' given true → s'.changes ≡ s.changes → place_at s w start resumes ≡ Ok from → start_place s' start ≡ Some from
+pub place_begins : (s s' : State) (given : ℕ) (w : Watch) (start : Start) (resumes : Bool) (from : ℕ) → IsStoreState s' given true → s'.changes ≡ s.changes → place_at s w start resumes ≡ Ok from → start_place s' start ≡ Some from
 place_begins s s' given w nowhere resumes from h same e = let f : length s.changes ≡ from = cc in ap Some (ap length same ∙ f)
 place_begins s s' given w (after token) resumes from h same e =
     h.tokens_are token ∙ ap (λ (es : List Entry). token_place (length es) token) same ∙ after_ok w s.changes resumes (token_place (length s.changes) token) from e
@@ -212,7 +212,7 @@ nothing_left : (id : ℤ) (ds : List Fields) → id ≢ pos 0 → id_while id ds
 nothing_left id [] ne e = refl
 nothing_left id (d ∷ ds) ne e = absurd (ne e)
 
-none_left : (n : ℕ) (ds : List Fields) → ds ≡ [] → drop n ds ≡ []
+pub none_left : (n : ℕ) (ds : List Fields) → ds ≡ [] → drop n ds ≡ []
 none_left zero ds e = e
 none_left (suc n) [] e = refl
 none_left (suc n) (d ∷ ds) e = absurd cc
@@ -369,7 +369,7 @@ drop_fits s given started space c h there lt =
 
 -- ---- answers
 
-map_some : {A B : Type 0} (f : A → B) (r : Result A ℤ) (y : B) → map_ok f r ≡ Ok y → (x : A) × (r ≡ Ok x) × (f x ≡ y)
+pub map_some : {A B : Type 0} (f : A → B) (r : Result A ℤ) (y : B) → map_ok f r ≡ Ok y → (x : A) × (r ≡ Ok x) × (f x ≡ y)
 map_some f (Ok x) y h = let e : f x ≡ y = cc in (x, refl, e)
 map_some f (Err code) y h = absurd cc
 
@@ -529,7 +529,7 @@ answer_fits s given started (find q) a h named e =
 answer_fits s given started (watch w start resumes size) a h named e =
     let from = map_some (λ (from : ℕ). answer_with [] (watch_reply s (pos (suc given)) w from (size_of size))) (place_at s w start resumes) a e in
     subst (AnswerFits s given started (watch w start resumes size)) from.2 (watch_answers s given started w start resumes size from.0 h named from.1)
-answer_fits s given started (more id space size) a h named e = more_by s given started id space size (s.cursors id) a h named refl e
+answer_fits s given started (more id space size) a h named e = more_by s given started id space size (s.cursors id) a h named.0 refl e
 answer_fits s given started (kill ids) a h named e =
     let f : answer_with [] (killed_reply s ids) ≡ a = cc in
     subst (AnswerFits s given started (kill ids)) f (kill_answers s given started ids h)

@@ -200,7 +200,7 @@ behind_more s given started kept id space size w from n h lt asks stood answers 
     let ended : Bool = ends_watch w s.changes from place in
     let left : ℤ = batch_id id w s.changes from place in
     let within = batch_within w s.changes from n (h.cursors_are id (watching w from) stood).0 in
-    let named = (request_reads (fields kept.command) (more id space size) asks).named in
+    let named = (request_reads (fields kept.command) (more id space size) asks).named.0 in
     parts_by s given started kept (asks_more id space) (gave left space (events_between w s.changes from place) (Some (token_of place))) [] (documents_at s) s.changes (put_cursor id (cursor_moved ended (watching w place)) s.cursors) given
     (asked_is kept.command (more id space size) asks)
     (told_reads (asks_more id space) kept.reply (more_reply s id space w from n) e ∙ gave_tells id space left space (events_between w s.changes from place) place named)
@@ -279,7 +279,7 @@ pub behind_query_more : (s : State) (given : ℕ) (started : Bool) (kept : Kept)
     → PartsBehind s given started kept (documents_at s) s.changes (put_cursor id (rest_of other (drop (batch_of_query n left) left)) s.cursors) given
 behind_query_more s given started kept id space other size left n h asks stood answers e =
     let held : ℕ = batch_of_query n left in
-    let named = (request_reads (fields kept.command) (more id space size) asks).named in
+    let named = (request_reads (fields kept.command) (more id space size) asks).named.0 in
     parts_by s given started kept (asks_more id space) (gave (id_while id (drop held left)) space (take held left) None) [] (documents_at s) s.changes (put_cursor id (rest_of other (drop held left)) s.cursors) given
     (asked_is kept.command (more id space size) asks)
     (told_reads (asks_more id space) kept.reply (query_more_reply id space left n) e ∙ more_found_tells id space (id_while id (drop held left)) space (take held left) named)

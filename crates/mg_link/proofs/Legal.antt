@@ -56,12 +56,12 @@ by_rules_push kept k h follows = by_rules_more nothing 0 false kept k h follows
 
 -- ---- legal
 
-follows_allowed : (s : State) (given : ℕ) (started : Bool) (kept : Kept) → IsStoreState s given started → length s.changes + length (made_of s given started kept).entries < 2 ^ 64 → Follows s given kept → IsAllowed s given started kept
+pub follows_allowed : (s : State) (given : ℕ) (started : Bool) (kept : Kept) → IsStoreState s given started → length s.changes + length (made_of s given started kept).entries < 2 ^ 64 → Follows s given kept → IsAllowed s given started kept
 follows_allowed s given started kept h lt (by_rules is) = rules_allowed s given started kept h lt is.read_back
 follows_allowed s given started kept h lt (by_choice code labels is) = refusal_allowed s given started kept code labels h lt is.read_back
 
 -- no entry is lost, so what fits at the end fits before
-fits_before : (s : State) (step : Step) (steps : List Step) → length (state_after s (step ∷ steps)).changes < 2 ^ 64 → length s.changes + length step.made.entries < 2 ^ 64
+pub fits_before : (s : State) (step : Step) (steps : List Step) → length (state_after s (step ∷ steps)).changes < 2 ^ 64 → length s.changes + length step.made.entries < 2 ^ 64
 unfolding state_after
 fits_before s step steps lt =
     let later = state_after-changes (step_after s step) steps in

@@ -69,4 +69,5 @@ pub mod Chunking
 pub mod Filed
 pub mod Batched
 pub mod Filling
+pub mod AtOnce
 pub mod Sorting

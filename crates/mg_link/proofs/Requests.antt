@@ -1,5 +1,5 @@
 -- What the store reads as a request is what the command asks for.
-use Rattle.std.proofs.Common.{◌≡◌, ℕ, ℤ, pos, negsuc, Bool, true, false, List, [], ◌∷◌, length, Option, Some, None, Result, Ok, Err, refl, sym, ap, ap₂, ◌∙◌, subst, inl, inr, ◌++◌}
+use Rattle.std.proofs.Common.{◌≡◌, ◌<◌, ℕ, zero, suc, ℤ, pos, negsuc, Bool, true, false, List, [], ◌∷◌, length, Option, Some, None, Result, Ok, Err, refl, sym, ap, ap₂, ◌∙◌, subst, inl, inr, ◌++◌, arith}
 use Rattle.std.specs.Prelude.{if◌then◌else◌, nat_lt, nat_le, ◌&&◌, option_and_then, option_map, unwrap_or, is_some, codes}
 use Rattle.std.specs.Ordering.{int_eq}
 use Rattle.std.specs.Str.{bytes_eq}
@@ -13,7 +13,7 @@ use Rattle.mg_link.specs.Namespace.{Space, Target, database, collection, cluster
 use Rattle.mg_link.specs.Filter.{Condition, has_dot}
 use Rattle.mg_link.specs.State.{Start, Index}
 use Rattle.mg_link.specs.Commands.{Asked, asks_insert, asks_watch, asks_more, asks_kill, asks_other, asked_by, asked, text_of, as_database, as_collection, database_at, space_at, as_integer, documents_in, integers_in, flag_or, insert_of, filter_stages, start_of, whole_target, target_by, target_of, watch_from, watch_of, more_of, kill_of, or_asks, pipeline_query, has_only, optional_count, batch_size, pipeline_fields, stages_in, asks_create, asks_indexes, create_fields, create_of, indexing_fields, indexing_of, indexes_in, further_by, asks_query, find_fields, find_stages, find_query, find_of, query_by, pipeline_of, piped, stage_by, stage_of, watch_by, watch_stage_options, asks_update, asks_delete, update_fields, update_of, update_parts, update_by, delete_fields, delete_of, delete_parts, delete_by, one_at, filter_at, modification_of, many_by, count_of, begin_without_dollar, may_set, setting, asks_drop, drop_fields, drop_of, collections_fields, collections_query, listing_of, indexes_fields, indexes_query, indexes_listed, optional_size, stages_by, selecting, KeepsId}
-use Rattle.mg_link.specs.Rules.{Request, insert, watch, more, kill, max_name, as_name, name_at, without_dot, named_space, as_id, id_of, array_at, insert_request, watch_options, behind_first, named_database, target_at, option_names, watch_with, watch_request, watch_space, some_size, more_request, ids_in, kill_request, bad_request, unknown_command, or_code, request_of, create_collection, create_indexes, create_request, indexes_request, find, find_request, query_space, pipeline_request, or_request, aggregate_request, update, delete, update_request, delete_request, drop_collection, drop_request, list_collections_request, list_indexes_request}
+use Rattle.mg_link.specs.Rules.{Request, insert, watch, more, kill, max_name, as_name, name_at, without_dot, named_space, as_id, id_of, array_at, insert_request, watch_options, behind_first, named_database, target_at, option_names, watch_with, watch_request, watch_space, size_of, some_size, more_request, ids_in, kill_request, bad_request, unknown_command, or_code, request_of, create_collection, create_indexes, create_request, indexes_request, find, find_request, query_space, pipeline_request, or_request, aggregate_request, update, delete, update_request, delete_request, drop_collection, drop_request, list_collections_request, list_indexes_request}
 use Rattle.mg_link.specs.Query.{Query, Source, of_collection, Stage, of_database, of_indexes}
 use Rattle.mg_link.specs.Write.{Modification, sets, puts}
 
@@ -121,7 +121,7 @@ abbrev pub HasName : Request → Type 0
 HasName (insert space documents ordered) = IsNamed space
 HasName (find q) = IsNamed (query_space q.source)
 HasName (watch w start resumes size) = IsNamed (watch_space w.target)
-HasName (more id space size) = IsNamed space
+HasName (more id space size) = IsNamed space × (0 < size_of size)
 HasName (kill ids) = Unit {0}
 HasName (create_collection space) = IsNamed space
 HasName (create_indexes space indexes) = IsNamed space
@@ -316,6 +316,12 @@ more_sized fs id space = optional_count (get (codes "batchSize") fs) >>= λ size
 abbrev more_on : Fields → ℤ → Option Request
 more_on fs id = named_space (codes "collection") fs >>= more_sized fs id
 
+-- a getMore asks for a document or more
+some_sized : (size : Option ℕ) → 0 < size_of (some_size size)
+some_sized None = let none : size_of (some_size None) ≡ 101 = refl in omega (arith, none)
+some_sized (Some zero) = let none : size_of (some_size (Some zero)) ≡ 101 = refl in omega (arith, none)
+some_sized (Some (suc n)) = let given : size_of (some_size (Some (suc n))) ≡ suc n = refl in omega (arith, given)
+
 more_reads : (fs : Fields) (r : Request) → more_request fs ≡ Some r → Reads (more_of fs) r
 unfolding more_request more_of
 more_reads fs r h =
@@ -327,7 +333,7 @@ more_reads fs r h =
     let space = space_some (codes "collection") fs b.0 b.1 in
     let id : option_and_then as_integer (get (codes "getMore") fs) ≡ Some a.0 = ap (option_and_then as_integer) t.1 ∙ id_some a.0 t.0 t.2 in
     let asks : more_of fs ≡ Some (asks_more a.0 b.0) = rw (id, space.here) refl in
-    reads_as (more_of fs) (more a.0 b.0 (some_size c.0)) r c.2 asks space.named
+    reads_as (more_of fs) (more a.0 b.0 (some_size c.0)) r c.2 asks (space.named, some_sized c.0)
 
 ids_read : (items : Items) (ids : List ℤ) → ids_in items ≡ Some ids → integers_in items ≡ Some ids
 ids_read no_items ids h = h

@@ -57,7 +57,16 @@ MeetsConcern (asks_indexes space indexes) bytes = (get (codes "writeConcernError
 MeetsConcern (asks_drop space) bytes = (get (codes "writeConcernError") (fields bytes) ≡ None) × ListsNone bytes
 MeetsConcern command bytes = Unit {0}
 
+-- the command was refused
+abbrev pub IsRefused : Told → Type 0
+IsRefused (refuses code labels) = Unit {0}
+IsRefused reply = ⊥
+
 -- the steps at these positions, which are a caller's own, were answered so
 abbrev pub IsPrompt : List ℕ → List Step → Type 0
 IsPrompt own history = (position : ℕ) (step : Step) → Contains own position → slice_get history position ≡ Some step →
     AnswersAtOnce (state_of (take position history)) (step_after (state_of (take position history)) step) (asked step.command) (told_at step) × MeetsConcern (asked step.command) step.reply
+
+-- so were those of each caller none of whose steps was refused
+pub record HoldsBackNone (history : List Step) : Type 0 where
+  pub each : (own : List ℕ) → ((position : ℕ) (step : Step) → Contains own position → slice_get history position ≡ Some step → IsRefused (told_at step) → ⊥) → IsPrompt own history

@@ -1,5 +1,5 @@
 //! What holds of the definitions.
-ghost use Rattle.std.specs.Prelude.{◌≡◌, ◌+◌, ◌<◌, ◌≤◌, ◌^◌, ◌++◌, ℕ, suc, ℤ, pos, Bool, Some, List, [], ◌∷◌, length, slice_get, slice_set, take, codes};
+ghost use Rattle.std.specs.Prelude.{◌≡◌, ◌⊎◌, ◌+◌, ◌<◌, ◌≤◌, ◌^◌, ◌++◌, ℕ, suc, ℤ, pos, Bool, Some, List, [], ◌∷◌, length, slice_get, take, codes};
 ghost use Rattle.std.specs.List.{concat};
 ghost use Rattle.mg_bson.specs.Raw.{fields};
 ghost use Rattle.mg_bson.specs.Tree.{Fields, Tree};
@@ -13,11 +13,12 @@ ghost use Rattle.mg_link.specs.Filter.{Condition};
 ghost use Rattle.mg_link.specs.Follow.{Follow, FollowsOn, IsOpen, Knows, Reads, holding, owner_of};
 ghost use Rattle.mg_link.specs.History.{IsLegal, OpensAt, Reached, Step, opening, state_of, told_at, view_of};
 ghost use Rattle.mg_link.specs.Ids.{counted_id};
-ghost use Rattle.mg_link.specs.Kept.{IsAllowed, IsByRules, IsStoreState, Kept, given_of, is_started, made_of, state_of_kept, steps_of};
+ghost use Rattle.mg_link.specs.Kept.{IsAllowed, IsByRules, IsStoreState, Kept, given_of, is_started, made_of, state_behind, state_of_kept, steps_of, told_kept};
 ghost use Rattle.mg_link.specs.Log.{Call, see, waiting};
 ghost use Rattle.mg_link.specs.Namespace.{Space};
 ghost use Rattle.mg_link.specs.NineBytes.{bucket, holds_file, nine_bytes, seven};
-ghost use Rattle.mg_link.specs.Owner.{AreApart, NamesItsOwn, Onward, Owner, Passes};
+ghost use Rattle.mg_link.specs.Owner.{NamesItsOwn, Onward};
+ghost use Rattle.mg_link.specs.Prompt.{AnswersAtOnce, HoldsBackNone, IsRefused, MeetsConcern};
 ghost use Rattle.mg_link.specs.Query.{Key, sorted};
 ghost use Rattle.mg_link.specs.Reader.{HasGiven, KnowsRead, Reader, owner_of_reader};
 ghost use Rattle.mg_link.specs.Rules.{IsFull, answer_of, batch_of_query, batch_place, refusal};
@@ -122,6 +123,22 @@ pub fn kept_is_legal()
         → IsLegal (steps_of kept) × IsStoreState (state_of_kept kept) (given_of kept) (is_started kept) }
 {}
 
+/// What the store answers by its rules holds nothing back, and meets its write concern, unless it refuses: so a batch of a
+/// watch or of a query is empty only where nothing is left, a cursor ends only behind an invalidate event or the last
+/// document, and a write lists no failures but those of the rules.
+pub fn rules_answer_at_once()
+    ensures { (s : State) (given : ℕ) (started : Bool) (kept : Kept) → IsStoreState s given started
+        → length s.changes + length (made_of s given started kept).entries < 2 ^ 64
+        → fields kept.reply ≡ (answer_of s (pos (suc given)) (fields kept.command)).reply
+        → IsRefused (told_kept kept) ⊎ (AnswersAtOnce s (state_behind s given started kept) (asked kept.command) (told_kept kept) × MeetsConcern (asked kept.command) kept.reply) }
+{}
+
+/// So a store that keeps to its rules, but for refusals that somebody chose, holds nothing back from a caller none of whose
+/// steps was refused.
+pub fn kept_holds_nothing_back()
+    ensures { (kept : List Kept) → IsByRules kept → length (state_of_kept kept).changes < 2 ^ 64 → HoldsBackNone (steps_of kept) }
+{}
+
 /// In such a history the events of inserts tell more than legal histories must: their kind, where the document stands, and
 /// the document.
 pub fn kept_tells_its_inserts()
@@ -166,12 +183,6 @@ pub fn readers_give()
 /// A reader goes on knowing while others call and leave its cursor alone.
 pub fn readers_go_on_knowing()
     ensures { (calls calls' : List Call) (r : Reader) → Onward calls calls' (owner_of_reader r) → KnowsRead calls r → KnowsRead calls' r }
-{}
-
-/// The jobs of a run stay apart: after the turn of one no two own the same cursor.
-pub fn jobs_stay_apart()
-    ensures { (calls calls' : List Call) (owners : List Owner) (k : ℕ) (o o' : Owner) → slice_get owners k ≡ Some o
-        → Passes calls calls' o o' → AreApart calls owners → AreApart calls' (slice_set owners k o') }
 {}
 
 /// A batch of a query holds as many documents as its size and its bytes allow: at least one where one is left and its size is

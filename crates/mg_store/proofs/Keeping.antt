@@ -17,6 +17,8 @@ use Rattle.mg_link.specs.Step.{documents_of, ends_cursor, cursors_refused}
 use Rattle.mg_link.specs.Rules.{is_id_among, refusal}
 use Rattle.mg_link.specs.Kept.{AreByRulesFrom, Kept, IsReply, by_choice, by_rules, given_after, given_of, given_from, is_started, state_behind, state_of_kept, steps_from, steps_of}
 use Rattle.mg_link.specs.History.{IsLegal, state_after}
+use Rattle.mg_link.specs.Prompt.{HoldsBackNone}
+use Rattle.mg_link.proofs.AtOnce.{kept_prompt}
 use Rattle.mg_link.proofs.Behind.{behind_refusal}
 use Rattle.mg_link.proofs.Indexed.{indexes_refused}
 use Rattle.mg_link.proofs.Legal.{by_rules_push, given_push, kept_is_legal, kept_state, state_push}
@@ -53,6 +55,10 @@ keeps_more c c' history command a h may lt commits =
 -- a list that is held has fewer than 2^64 entries, so the history is legal
 pub keeps_legal : (c : Content) (history : List Kept) → Keeps c history → length c.changes.items < 2 ^ 64 → IsLegal (steps_of history)
 keeps_legal c history h lt = kept_is_legal history h.by_rules (omega (arith, lt, changes-length c (state_of_kept history) (given_of history) h.content_is))
+
+-- and holds nothing back from a caller none of whose steps was refused
+pub keeps_prompt : (c : Content) (history : List Kept) → Keeps c history → length c.changes.items < 2 ^ 64 → HoldsBackNone (steps_of history)
+keeps_prompt c history h lt = kept_prompt history h.by_rules (omega (arith, lt, changes-length c (state_of_kept history) (given_of history) h.content_is))
 
 -- an answer by the rules may be kept
 pub may_by_rules : (history : List Kept) (command : List ℕ) (a : Answer) → AnswersBy (state_of_kept history) (given_of history) command a → MayKeep history command a

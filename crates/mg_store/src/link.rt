@@ -319,6 +319,7 @@ impl Model for MemLink {
 impl MemLink {
     ghost use Rattle.mg_link.specs.History.{IsLegal};
     ghost use Rattle.mg_link.specs.Kept.{IsByRules, steps_of};
+    ghost use Rattle.mg_link.specs.Prompt.{HoldsBackNone};
     ghost use Rattle.mg_link.specs.Standing.{Stands};
     ghost use Rattle.mg_store.specs.InMemory.{AreAsFates, AreKept, ArePlaced, AreSmall, IsPromptLink};
 
@@ -369,6 +370,7 @@ impl MemLink {
         ensures by_rules { IsByRules self.stored.history }
         ensures legal { IsLegal (steps_of self.stored.history) }
         ensures cursors { AreOpen (state_of_kept self.stored.history) self.stored.open_ids }
+        ensures prompt { HoldsBackNone (steps_of self.stored.history) }
         ensures stands { Stands self.calls (steps_of self.stored.history) }
         ensures within { ArePlaced self.stored.history self.calls }
         ensures fates { AreAsFates self.stored.history self.fates self.calls self.pended }

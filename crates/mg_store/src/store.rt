@@ -5,6 +5,7 @@ ghost use Rattle.mg_bson.specs.Raw.{fields};
 ghost use Rattle.mg_link.specs.History.{IsLegal};
 ghost use Rattle.mg_link.specs.Kept.{IsByRules, IsReply, given_of, state_of_kept, steps_of};
 ghost use Rattle.mg_link.specs.Namespace.{space};
+ghost use Rattle.mg_link.specs.Prompt.{HoldsBackNone};
 ghost use Rattle.mg_link.specs.Rules.{answer_of, refusal};
 ghost use Rattle.mg_link.specs.Step.{documents_of};
 ghost use Rattle.mg_store.specs.Contents.{MayKeep};
@@ -141,6 +142,8 @@ impl Store {
         ensures by_rules { IsByRules self.now.history }
         ensures legal { IsLegal (steps_of self.now.history) }
         ensures cursors { AreOpen (state_of_kept self.now.history) self.now.open_ids }
+        // It holds nothing back from a caller none of whose steps it refused.
+        ensures prompt { HoldsBackNone (steps_of self.now.history) }
     {
         // For the proof alone: the ids of the open cursors are those of the map.
         self.content.cursors.keys();

@@ -1,5 +1,5 @@
 use Rattle.mg_link.proofs.Runs.{apart_after}
-use Rattle.mg_link.proofs.laws.jobs_stay_apart.Goals as goal
+use Rattle.mg_jobs.proofs.laws.jobs_stay_apart.Goals as goal
 
 pub returns : goal.returns
 returns c = apart_after
