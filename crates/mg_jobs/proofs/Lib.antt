@@ -15,6 +15,7 @@ pub mod Left
 pub mod Fallings
 pub mod Telling
 pub mod Told
+pub mod Positions
 pub mod Waiting
 pub mod Creating
 pub mod Prompting

@@ -1,15 +1,15 @@
 -- What jobs come to over a link that loses nothing, where their server holds nothing back.
-use Rattle.std.specs.Prelude.{◌≡◌, ◌⊎◌, ◌≤◌, ◌++◌, Contains, Ok, ℕ, suc, ℤ, pos, true, List, [], ◌∷◌, length, take, Some, None, slice_get}
+use Rattle.std.specs.Prelude.{◌≡◌, ◌⊎◌, ◌≤◌, ◌++◌, Contains, Ok, ℕ, suc, ℤ, pos, true, List, [], ◌∷◌, length, take, Option, Some, None, option_and_then, slice_get}
 use Rattle.mg_bson.specs.Tree.{Fields, Tree}
 use Rattle.mg_bson.specs.Raw.{fields}
 use Rattle.mg_bson.specs.Writable.{max_len}
 use Rattle.mg_link.specs.Commands.{asked, asks_insert, asks_more}
 use Rattle.mg_link.specs.Errors.{plain}
-use Rattle.mg_link.specs.History.{Step, IsLegal, state_of}
+use Rattle.mg_link.specs.History.{Step, IsLegal, state_of, told_at}
 use Rattle.mg_link.specs.Link.{Told}
 use Rattle.mg_link.specs.Log.{Call}
 use Rattle.mg_link.specs.Namespace.{Space}
-use Rattle.mg_link.specs.Prompt.{IsPrompt}
+use Rattle.mg_link.specs.Prompt.{IsPrompt, IsRefused}
 use Rattle.mg_link.specs.Rules.{accept}
 use Rattle.mg_link.specs.Standing.{Stands}
 use Rattle.mg_link.specs.State.{Watch, events_between, watching}
@@ -23,7 +23,7 @@ use Rattle.mg_ops.specs.Naming.{IsNamed}
 use Rattle.mg_ops.specs.declared.aggregate.ChangeStreamAggregate.{ChangeStreamAggregate}
 use Rattle.mg_ops.specs.declared.change_stream.WatchArgs.{WatchArgs}
 use Rattle.mg_change.specs.ClientStreams.{resuming_in}
-use Rattle.mg_jobs.specs.Causes.{Course, SentIn, course}
+use Rattle.mg_jobs.specs.Causes.{Course, SentIn, course, places_of}
 use Rattle.mg_jobs.specs.Drawing.{as_sent}
 use Rattle.mg_jobs.specs.Follows.{IsArgsFor}
 use Rattle.mg_jobs.specs.Kinds.{OfFollow, OfInsert}
@@ -52,6 +52,19 @@ pub record AnswersWell (c : Course) (i : ℕ) (calls : List Call) : Type 0 where
   pub own : List ℕ
   pub positions : HasPositions c i calls own
   pub prompt : IsPrompt own history
+
+abbrev pub own_position : Option ℕ → List ℕ
+own_position None = []
+own_position (Some position) = position ∷ []
+
+-- the positions in a history of the steps of the calls at these places
+abbrev pub positions_at : List Call → List ℕ → List ℕ
+positions_at calls [] = []
+positions_at calls (place ∷ places) = own_position (option_and_then (λ (call : Call). call.position) (slice_get calls place)) ++ positions_at calls places
+
+-- none of the steps of job i was refused in this history
+abbrev pub NoneRefused : Course → ℕ → List Call → List Step → Type 0
+NoneRefused c i calls history = (position : ℕ) (step : Step) → Contains (positions_at calls (places_of c i)) position → slice_get history position ≡ Some step → IsRefused (told_at step) → ⊥
 
 -- ---- what an insert comes to
 

@@ -5,6 +5,7 @@ use Rattle.mg_link.specs.History.{IsLegal}
 use Rattle.mg_link.specs.Kept.{IsByRules, state_of_kept, steps_of}
 use Rattle.mg_link.specs.Log.{Call}
 use Rattle.mg_link.specs.Places.{out_at, polls_in}
+use Rattle.mg_link.specs.Prompt.{HoldsBackNone}
 use Rattle.mg_link.specs.Standing.{Stands}
 use Rattle.mg_link.proofs.Owners.{same_some}
 use Rattle.mg_link.proofs.Runs.{names_none_at_first}
@@ -24,6 +25,7 @@ use Rattle.mg_jobs.specs.Sends.{MaySend, SendsOnly}
 use Rattle.mg_script.specs.Plan.{Task, tasks}
 use Rattle.mg_script.specs.declared.script.Job.{Job}
 use Rattle.mg_jobs.proofs.Drawing.{sent_same}
+use Rattle.mg_jobs.proofs.Positions.{answered_well}
 use Rattle.mg_jobs.proofs.Tallies.{noted_rose, turns_counted}
 use Rattle.mg_jobs.proofs.program.run_over.Goals as goal
 
@@ -106,6 +108,9 @@ returns-clause-followed g c =
           (subst (λ (l : List Call). SendsOnly (MaySend (as_sent drawn (tasks script.jobs.items) script.order.items i t)) (course [] script.order.items notes) i l) (same_some sent.0 f.0 (sym sent.1 ∙ f.1))
           (subst (λ (js : List Job). SendsOnly (MaySend (as_sent drawn (tasks js) script.order.items i t)) (course [] script.order.items notes) i sent.0) jobs
           (subst (λ (o : List ℕ). SendsOnly (MaySend (as_sent drawn (tasks c.as_slice.result.now) o i t)) (course [] o notes) i sent.0) c.as_slice-2.ensures.value (sent.2 i t (ap (λ l. slice_get (tasks l) i) jobs ∙ ht)))));
+      prompt = λ i taken. answered_well (course [] c.args.script.order.items notes) i f.0 (steps_of c.into_parts-store.result.0.history) (subst (λ s. IsLegal (steps_of s.history)) stored c.into_parts-store.ensures.legal)
+          (subst (λ l. Stands l (steps_of c.into_parts-store.result.0.history)) calls (subst (λ s. Stands link.calls (steps_of s.history)) stored c.into_parts-store.ensures.stands))
+          (subst (λ s. HoldsBackNone (steps_of s.history)) stored c.into_parts-store.ensures.prompt) taken;
       well = λ kept i t r ht hr.
           let script = c.args.script in
           let fates = g.F.Fated.fates in

@@ -1,0 +1,53 @@
+-- The steps of a job in the history of its store.
+use Rattle.std.proofs.Common.{◌≡◌, ◌+◌, ◌<◌, ◌≤◌, ℕ, List, [], ◌∷◌, ◌++◌, length, Option, Some, Contains, refl, sym, ap, ◌∙◌, subst, inl, inr, arith}
+use Rattle.std.specs.Prelude.{cond, nat_eq, option_and_then, slice_get}
+use Rattle.std.proofs.lemmas.Bool.{eq-eqb}
+use Rattle.std.proofs.lemmas.List.Elements.{Contains-append_right}
+use Rattle.std.proofs.lemmas.List.Sums.{sum_by-cons}
+use Rattle.mg_link.specs.History.{IsLegal, Step}
+use Rattle.mg_link.specs.Log.{Call}
+use Rattle.mg_link.specs.Owner.{IsOf}
+use Rattle.mg_link.specs.Prompt.{HoldsBackNone}
+use Rattle.mg_link.specs.Standing.{Stands}
+use Rattle.mg_jobs.specs.Causes.{Course, SentIn, places_from, places_in, places_of}
+use Rattle.mg_jobs.specs.Completing.{AnswersWell, NoneRefused, own_position, positions_at}
+use Rattle.mg_jobs.proofs.Newest.{started_in}
+use Rattle.mg_jobs.proofs.Telling.{from_is, in_first, in_second}
+use Rattle.mg_script.specs.declared.outcome.Turned.{Turned}
+
+places_hold : (i : ℕ) (before : List ℕ) (noted : List Turned) (after : List ℕ) (note : Turned) (later : List Turned) (at place : ℕ) → length noted ≡ length before → at + started_in noted ≤ place → place < at + started_in noted + note.started → IsOf (places_in i (before ++ i ∷ after) (noted ++ note ∷ later) at) place
+places_hold i [] [] after note later at place abreast low high =
+    let none : started_in [] ≡ 0 = refl in
+    in_first (cond (nat_eq i i) (places_from at note.started) []) (places_in i after later (at + note.started)) place
+    (subst (λ b. IsOf (cond b (places_from at note.started) []) place) (sym (eq-eqb i i refl)) (from_is at note.started place (omega (arith, none, low)) (omega (arith, none, high))))
+places_hold i [] (m ∷ noted) after note later at place abreast low high = absurd (omega arith)
+places_hold i (n ∷ before) [] after note later at place abreast low high = absurd (omega arith)
+places_hold i (n ∷ before) (m ∷ noted) after note later at place abreast low high =
+    let sum : started_in (m ∷ noted) ≡ m.started + started_in noted = sum_by-cons (λ (t : Turned). t.started) m noted in
+    in_second (cond (nat_eq i n) (places_from at m.started) []) (places_in i (before ++ i ∷ after) (noted ++ note ∷ later) (at + m.started)) place
+    (places_hold i before noted after note later (at + m.started) place (omega (arith, abreast)) (omega (arith, sum, low)) (omega (arith, sum, high)))
+
+-- what a job sent in its turns it sent at its places
+pub sent_place : (c : Course) (i k place : ℕ) → SentIn c i k place → IsOf (places_of c i) place
+sent_place c i k place s =
+    subst (λ (order : List ℕ). IsOf (places_in i order c.notes c.begun) place) (sym s.order_is)
+    (subst (λ (notes : List Turned). IsOf (places_in i (s.before ++ i ∷ s.after) notes c.begun) place) (sym s.notes_are) (places_hold i s.before s.noted s.after s.note s.later c.begun place s.abreast s.from s.upto))
+
+has_position : (calls : List Call) (places : List ℕ) (place : ℕ) (call : Call) (position : ℕ) → IsOf places place → slice_get calls place ≡ Some call → call.position ≡ Some position → Contains (positions_at calls places) position
+has_position calls [] place call position of there at = absurd of
+has_position calls (first ∷ places) place call position (inl same) there at =
+    let is : option_and_then (λ (c : Call). c.position) (slice_get calls first) ≡ Some position = ap (option_and_then (λ (c : Call). c.position)) (ap (slice_get calls) same ∙ there) ∙ at in
+    subst (λ (o : Option ℕ). Contains (own_position o ++ positions_at calls places) position) (sym is) (0, omega arith, refl)
+has_position calls (first ∷ places) place call position (inr of) there at =
+    Contains-append_right (own_position (option_and_then (λ (c : Call). c.position) (slice_get calls first))) (positions_at calls places) position (has_position calls places place call position of there at)
+
+-- A history that holds nothing back answers a job at once none of whose steps it refused.
+pub answered_well : (c : Course) (i : ℕ) (calls : List Call) (history : List Step) → IsLegal history → Stands calls history → HoldsBackNone history → NoneRefused c i calls history → AnswersWell c i calls
+answered_well c i calls history legal stands prompt taken = record {
+  history = history;
+  legal = legal;
+  stands = stands;
+  own = positions_at calls (places_of c i);
+  positions = λ k place call position sent there at. has_position calls (places_of c i) place call position (sent_place c i k place sent) there at;
+  prompt = prompt.each (positions_at calls (places_of c i)) taken;
+}
