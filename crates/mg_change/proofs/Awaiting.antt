@@ -13,7 +13,7 @@ use Rattle.mg_change.specs.Causes.{ByCursor, ByDoing, CallWaits, SoFar, killing_
 use Rattle.mg_change.specs.ClientOpenings.{first_aggregate, sending_ticket}
 use Rattle.mg_change.specs.ClientStreams.{ClientStream, Doing, IsSound, SoundBy, follows, kills, owes, renewed, resumes, resuming_in, stream_ticket, ticket_by}
 use Rattle.mg_change.specs.ClosingCauses.{LastBy, LastSoFar, LastWaits, last_kill}
-use Rattle.mg_change.specs.ClosingStreams.{ClosingStream, Landing, ends, landing_ticket, lands, lands_aggregate, lands_older, stream_closing_ticket}
+use Rattle.mg_change.specs.ClosingStreams.{ClosingStream, Landing, ends, landing_ticket, lands, lands_aggregate, lands_replaced, stream_closing_ticket}
 use Rattle.mg_change.specs.OpeningCauses.{OpensSoFar}
 
 -- ---- no ticket
@@ -67,7 +67,7 @@ call_awaits awaited past lone at s sound so held = awaits_by awaited past lone a
 last_by : (awaited : Awaited) (past : Past) (last : ClientStream) (k : ClosingStream) (d : Landing) → IsNotAsking k.cursor.doing → LastBy awaited past last d → IsSome (landing_ticket k.cursor d) → LastWaits awaited past last
 last_by awaited past last k lands quiet so held = quiet_none k.cursor.doing quiet held
 last_by awaited past last k (lands_aggregate sending) quiet so held = absurd so
-last_by awaited past last k (lands_older before) quiet so held = absurd so
+last_by awaited past last k (lands_replaced before) quiet so held = absurd so
 last_by awaited past last k (ends sending) quiet so held = record { some_left = so.0; waits = awaited_by awaited past (last_kill last) sending.stage so.1 held }
 
 pub last_awaits : (awaited : Awaited) (past : Past) (last : ClientStream) (k : ClosingStream) → LastSoFar awaited past last k → IsSome (stream_closing_ticket k) → LastWaits awaited past last
@@ -97,7 +97,7 @@ call_own awaited past lone at s ticket sound so held = own_in awaited past lone 
 last_in : (awaited : Awaited) (past : Past) (last : ClientStream) (k : ClosingStream) (d : Landing) (ticket : ℕ) → IsNotAsking k.cursor.doing → LastBy awaited past last d → landing_ticket k.cursor d ≡ Some ticket → HoldsOwn awaited past ticket
 last_in awaited past last k lands ticket quiet so held = quiet_other k.cursor.doing ticket quiet held
 last_in awaited past last k (lands_aggregate sending) ticket quiet so held = absurd so
-last_in awaited past last k (lands_older before) ticket quiet so held = absurd so
+last_in awaited past last k (lands_replaced before) ticket quiet so held = absurd so
 last_in awaited past last k (ends sending) ticket quiet so held = own_by awaited past (last_kill last) sending.stage ticket so.1 held
 
 pub last_own : (awaited : Awaited) (past : Past) (last : ClientStream) (k : ClosingStream) (ticket : ℕ) → LastSoFar awaited past last k → stream_closing_ticket k ≡ Some ticket → HoldsOwn awaited past ticket

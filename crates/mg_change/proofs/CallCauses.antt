@@ -13,9 +13,9 @@ use Rattle.mg_cursor.specs.declared.polls.TryPoll.{TryPoll}
 use Rattle.mg_cursor.specs.declared.polls.TryPoll.TheVariants as try
 use Rattle.mg_cursor.specs.declared.results.AdvanceResult.TheVariants as result
 use Rattle.mg_change.specs.Causes.{ByCursor, ByDoing, CallCame, CallCaused, CallEmpty, CallFailed, CallFails, CallGave, CallNone, IsOwing, IsSettled, Next, SoFar, StaysSo, TryCame, TryCaused, as_it_was, batch_broken, came, came_empty, cannot_ask, cannot_resume, in_hand, is_lone, left, may_lose, no_id, no_memory, none_left, not_resumed, refused_more}
-use Rattle.mg_change.specs.ClientStreams.{ClientStream, Doing, IsSound, behind_event, follows, is_renewed, kills, let_go, owes, remembered_by, renewed, resumes, token_behind}
+use Rattle.mg_change.specs.ClientStreams.{ClientStream, Doing, IsSound, behind_event, follows, is_renewed, kills, lends_nothing, owes, remembered_by, renewed, resumes, token_behind}
 use Rattle.mg_change.specs.Steps.{DoesSteps}
-use Rattle.mg_change.specs.StreamCalls.{CallCopies, CallLends, CannotCopy, CopiesBehind, CopiesEvent, GivesEvent, LacksToken, LendsBehind, LendsEvent, event_ending, kept_behind, try_ending, uncounted, without_event}
+use Rattle.mg_change.specs.StreamCalls.{CallCopies, CallLends, CannotCopy, CopiesBehind, CopiesEvent, AnswersEvent, LacksToken, LendsBehind, LendsEvent, event_ending, kept_behind, try_ending, uncounted, without_event}
 use Rattle.mg_change.specs.declared.event_poll.EventPoll.{EventPoll}
 use Rattle.mg_change.specs.declared.event_poll.EventPoll.TheVariants as poll
 use Rattle.mg_change.specs.declared.event_poll.Stepped.{Stepped}
@@ -84,7 +84,7 @@ module _ (past : Past) (session : Option Session) (at s : ClientStream) where
 -- ---- behind an event that is next
 
 module _ (past : Past) (session : Option Session) (at found : ClientStream) (so : FoundSo past (is_lone session) at found) where
-  gave_so : (event : List ℕ) (given s' : ClientStream) → GivesEvent found given event → s' ≡ uncounted given → CallGave past (is_lone session) at s' event
+  gave_so : (event : List ℕ) (given s' : ClientStream) → AnswersEvent found given event → s' ≡ uncounted given → CallGave past (is_lone session) at s' event
   gave_so event given s' h is =
       let u : ClientStream = uncounted (behind_event event h.events h.id found) in
       subst (λ (x : ClientStream). CallGave past (is_lone session) at x event) (sym (is ∙ ap uncounted h.given))
@@ -168,27 +168,27 @@ module _ (awaited : Awaited) (past : Past) (session : Option Session) (at stoppe
 -- ---- a call
 
 -- the event that is lent is no part of how far it has come
-go_by_cursor : (awaited : Awaited) (past : Past) (at s : ClientStream) (d : cursors.Doing) → ByCursor awaited past at s d → ByCursor awaited past at (let_go s) d
+go_by_cursor : (awaited : Awaited) (past : Past) (at s : ClientStream) (d : cursors.Doing) → ByCursor awaited past at s d → ByCursor awaited past at (lends_nothing s) d
 go_by_cursor awaited past at s rests h = record { follows_on = h.follows_on; cursor = h.cursor; events = h.events }
 go_by_cursor awaited past at s (holds bytes) h = record { follows_on = h.follows_on; cursor = h.cursor; events = h.events }
 go_by_cursor awaited past at s (asks sending) h = h
 
-go_by : (awaited : Awaited) (past : Past) (lone : Bool) (at s : ClientStream) (d : Doing) → ByDoing awaited past lone at s d → ByDoing awaited past lone at (let_go s) d
+go_by : (awaited : Awaited) (past : Past) (lone : Bool) (at s : ClientStream) (d : Doing) → ByDoing awaited past lone at s d → ByDoing awaited past lone at (lends_nothing s) d
 go_by awaited past lone at s follows h = go_by_cursor awaited past at s s.cursor.doing h
 go_by awaited past lone at s owes h = h
 go_by awaited past lone at s (resumes sending) h = h
 go_by awaited past lone at s (kills before) h = record { bytes = h.bytes; resumed = h.resumed; underway = h.underway }
 go_by awaited past lone at s renewed h = record { old = h.old; bytes = h.bytes; resumed = h.resumed; killed = h.killed }
 
-pub lets_go : (awaited : Awaited) (past : Past) (lone : Bool) (at s : ClientStream) → SoFar awaited past lone at s → SoFar awaited past lone at (let_go s)
+pub lets_go : (awaited : Awaited) (past : Past) (lone : Bool) (at s : ClientStream) → SoFar awaited past lone at s → SoFar awaited past lone at (lends_nothing s)
 lets_go awaited past lone at s so = record { same = so.same; by = go_by awaited past lone at s s.doing so.by }
 
 pub lends_caused : (n : ℕ) (plain : Bool) (old new : Awaited) (log log' : Told) (wire : ℤ) (session : Option Session) (starts : ℕ) (s s' : ClientStream) (r : TryPoll) → IsSound plain s → CallLends n old new log log' wire session starts s s' r → TryCaused old new log log' wire session s s' r
 lends_caused n plain old new log log' wire session starts s s' r sound does = λ calls told places at so.
-    let h = steps_caused n old new log log' wire session session starts does.again at (let_go s) does.left does.came (sound_as false s (let_go s) refl refl refl refl (sound_any plain s sound)) (λ on. refl) (λ none. none) does.does places (length calls) calls told (omega arith) (lets_go old (past_of places (length calls) calls wire) (is_lone session) at s so) in
+    let h = steps_caused n old new log log' wire session session starts does.again at (lends_nothing s) does.left does.came (sound_as false s (lends_nothing s) refl refl refl refl (sound_any plain s sound)) (λ on. refl) (λ none. none) does.does places (length calls) calls told (omega arith) (lets_go old (past_of places (length calls) calls wire) (is_lone session) at s so) in
     (h.calls', h.told, h.keeps, lends_by new (past_of places (length calls) h.calls' wire) session at does.left does.again does.came h.came does.lent s' r does.lends does.kept)
 
 pub copies_caused : (n : ℕ) (plain : Bool) (old new : Awaited) (log log' : Told) (wire : ℤ) (session : Option Session) (starts : ℕ) (s s' : ClientStream) (r : EventPoll) → IsSound plain s → CallCopies n old new log log' wire session starts s s' r → CallCaused old new log log' wire session s s' r
 copies_caused n plain old new log log' wire session starts s s' r sound does = λ calls told places at so.
-    let h = steps_caused n old new log log' wire session session starts does.again at (let_go s) does.left does.came (sound_as false s (let_go s) refl refl refl refl (sound_any plain s sound)) (λ on. refl) (λ none. none) does.does places (length calls) calls told (omega arith) (lets_go old (past_of places (length calls) calls wire) (is_lone session) at s so) in
+    let h = steps_caused n old new log log' wire session session starts does.again at (lends_nothing s) does.left does.came (sound_as false s (lends_nothing s) refl refl refl refl (sound_any plain s sound)) (λ on. refl) (λ none. none) does.does places (length calls) calls told (omega arith) (lets_go old (past_of places (length calls) calls wire) (is_lone session) at s so) in
     (h.calls', h.told, h.keeps, copies_by new (past_of places (length calls) h.calls' wire) session at does.left does.again does.came h.came does.copied s' r does.copies does.kept)

@@ -24,10 +24,10 @@ use Rattle.mg_cursor.specs.declared.polls.TryPoll.{TryPoll}
 use Rattle.mg_cursor.specs.declared.polls.TryPoll.TheVariants as try
 use Rattle.mg_cursor.specs.declared.results.AdvanceResult.{AdvanceResult}
 use Rattle.mg_cursor.specs.declared.results.AdvanceResult.TheVariants as result
-use Rattle.mg_change.specs.ClientStreams.{Asks, ClientStream, Doing, FollowsBy, IsBetween, IsExhausted, IsIdle, IsSound, IsSpent, SoundBy, behind_event, follows, is_renewed, kills, let_go, owes, owing_with, passed_over, renewed, resumes, token_behind}
+use Rattle.mg_change.specs.ClientStreams.{Asks, ClientStream, Doing, FollowsBy, IsBetween, IsExhausted, IsIdle, IsSound, IsSpent, SoundBy, behind_event, follows, is_renewed, kills, lends_nothing, owes, owing_with, passed_over, renewed, resumes, token_behind}
 use Rattle.mg_change.specs.Following.{Turned, Turns, current_told, event_told, follow_of, try_told}
 use Rattle.mg_change.specs.Steps.{AsksMore, DoesLast, DoesStep, DoesSteps, FailsMore, HearsClosing, HearsResumption, IsLast, LooksAt, ReadsResumption, TakesMore, asks_more, broke, broken, closes, ends, final, finds, gave, goes_on, looks, no_memory, none, not_asked, not_resumed, renews, replaced_by, resumes_now, some, waits_more, waits_resumption}
-use Rattle.mg_change.specs.StreamCalls.{CallCopies, CallLends, CopiesBehind, CopiesEvent, EndsSeeking, GivesEvent, GoesBehind, LacksToken, LeavesCall, LeavesSeek, LeavesTry, LendsBehind, SeeksEvent, SeeksLast, SeeksOn, closed, event_ending, fails, finds as seek_finds, kept_behind, over, pends, session_behind, too_often, try_ending, uncounted, without_event}
+use Rattle.mg_change.specs.StreamCalls.{CallCopies, CallLends, CopiesBehind, CopiesEvent, EndsSeeking, AnswersEvent, GoesBehind, LacksToken, LeavesCall, LeavesSeek, LeavesTry, LendsBehind, SeeksEvent, SeeksLast, SeeksOn, closed, event_ending, fails, finds as seek_finds, kept_behind, over, pends, session_behind, too_often, try_ending, uncounted, without_event}
 use Rattle.mg_change.specs.declared.event_poll.EventPoll.{EventPoll}
 use Rattle.mg_change.specs.declared.event_poll.EventPoll.TheVariants as poll
 use Rattle.mg_change.specs.declared.event_poll.Stepped.{Stepped}
@@ -448,8 +448,8 @@ steps_went (suc n) plain old new log log' wire session starts again s s' r sound
 -- ---- a call that lends or copies the next event
 
 -- the counts and the event that is lent are no part of what is on its way
-let_go_sound : (plain : Bool) (s : ClientStream) → IsSound plain s → IsSound plain (let_go s)
-let_go_sound plain s h = sound_as plain s (let_go s) refl refl refl refl h
+let_go_sound : (plain : Bool) (s : ClientStream) → IsSound plain s → IsSound plain (lends_nothing s)
+let_go_sound plain s h = sound_as plain s (lends_nothing s) refl refl refl refl h
 
 pub uncounted_sound : (plain : Bool) (s : ClientStream) → IsSound plain s → IsSound plain (uncounted s)
 uncounted_sound plain s h = sound_as plain s (uncounted s) refl refl refl refl h
@@ -469,7 +469,7 @@ pub record Gave (plain : Bool) (s s' : ClientStream) (told : List Fields) : Type
   pub turns : Turns s s' told
   pub still : IsStill s'
 
-given_so : (plain : Bool) (s s' : ClientStream) (event : List ℕ) → IsSound plain s → FoundOne s → GivesEvent s s' event → Gave plain s s' (told_of event)
+given_so : (plain : Bool) (s s' : ClientStream) (event : List ℕ) → IsSound plain s → FoundOne s → AnswersEvent s s' event → Gave plain s s' (told_of event)
 given_so plain s s' event sound found h =
     subst (λ (x : ClientStream). Gave plain s x (told_of event)) (sym h.given)
     (record {
@@ -508,7 +508,7 @@ stays_so plain s s' sound found is = record {
 }
 
 -- what a call came to behind its last step: the stream, how it stands, and what was told
-module _ (plain : Bool) (old new : Awaited) (log log' : Told) (s left : ClientStream) (h : HasGone plain old new log log' (let_go s) left stepped.Found) where
+module _ (plain : Bool) (old new : Awaited) (log log' : Told) (s left : ClientStream) (h : HasGone plain old new log log' (lends_nothing s) left stepped.Found) where
   -- it moved on, and then gave this
   gave_moved : (s' : ClientStream) (told : List Fields) → Turns left s' told → (w : Watch) (start : Start) → Asks s.aggregate.args w start → (opened : Option ℕ) (answered : List Fields) → Moved log log' (follow_of old w start s opened answered) (follow_of new w start s' opened (answered ++ told))
   gave_moved s' told turns w start asks_so opened answered =
@@ -519,7 +519,7 @@ abbrev MovesTo : Awaited → Awaited → Told → Told → ClientStream → Clie
 MovesTo old new log log' s s' told = (w : Watch) (start : Start) → Asks s.aggregate.args w start → (opened : Option ℕ) (answered : List Fields) → Moved log log' (follow_of old w start s opened answered) (follow_of new w start s' opened (answered ++ told))
 
 -- without an event
-quiet_moved : (plain : Bool) (old new : Awaited) (log log' : Told) (s left : ClientStream) (r : Stepped) → HasGone plain old new log log' (let_go s) left r → MovesTo old new log log' s left []
+quiet_moved : (plain : Bool) (old new : Awaited) (log log' : Told) (s left : ClientStream) (r : Stepped) → HasGone plain old new log log' (lends_nothing s) left r → MovesTo old new log log' s left []
 quiet_moved plain old new log log' s left r h = λ w start asks_so opened answered. quietly log log' (follow_of old w start s opened answered) (λ l. follow_of new w start left opened l) answered (h.turned.moved w start asks_so opened answered)
 
 -- what is known of a call that lends, of its end
@@ -533,10 +533,10 @@ lent_uncounted : (plain : Bool) (old new : Awaited) (log log' : Told) (s t s' : 
 lent_uncounted plain old new log log' s t s' r is sound moves leaves =
     subst (λ (x : ClientStream). Lent plain old new log log' s x r) (sym is) (record { sound = uncounted_sound plain t sound; moves = moves; leaves = leaves })
 
-none_current : (s left : ClientStream) → Kept (let_go s) left → left.current ≡ None
+none_current : (s left : ClientStream) → Kept (lends_nothing s) left → left.current ≡ None
 none_current s left k = k.current
 
-lent_by : (plain : Bool) (old new : Awaited) (log log' : Told) (s left lent s' : ClientStream) (came : Stepped) (r : TryPoll) → HasGone plain old new log log' (let_go s) left came → LendsBehind came left lent r → s' ≡ kept_behind (try_ending r) lent → Lent plain old new log log' s s' r
+lent_by : (plain : Bool) (old new : Awaited) (log log' : Told) (s left lent s' : ClientStream) (came : Stepped) (r : TryPoll) → HasGone plain old new log log' (lends_nothing s) left came → LendsBehind came left lent r → s' ≡ kept_behind (try_ending r) lent → Lent plain old new log log' s s' r
 lent_by plain old new log log' s left lent s' stepped.Goes r h behind kept = absurd behind
 lent_by plain old new log log' s left lent s' stepped.Found try.Pending h behind kept = absurd behind
 lent_by plain old new log log' s left lent s' stepped.Found (try.Ready (result.Advanced t)) h behind kept =
@@ -556,7 +556,7 @@ lent_by plain old new log log' s left lent s' stepped.Found (try.Failed e) h beh
     (between_still lent g.still, ap (λ (x : ClientStream). x.current) behind.passed ∙ none_current s left h.kept)
 lent_by plain old new log log' s left lent s' (stepped.Gives p) r h behind kept = by_poll p r h behind.0 behind.1 kept
   where
-    by_poll : (q r : TryPoll) → HasGone plain old new log log' (let_go s) left (stepped.Gives q) → lent ≡ left → r ≡ q → s' ≡ kept_behind (try_ending r) lent → Lent plain old new log log' s s' r
+    by_poll : (q r : TryPoll) → HasGone plain old new log log' (lends_nothing s) left (stepped.Gives q) → lent ≡ left → r ≡ q → s' ≡ kept_behind (try_ending r) lent → Lent plain old new log log' s s' r
     by_poll try.Pending r h is answer kept =
         subst (Lent plain old new log log' s s') (sym answer)
         (subst (λ (x : ClientStream). Lent plain old new log log' s x try.Pending) (sym (subst (λ (x : TryPoll). s' ≡ kept_behind (try_ending x) lent) answer kept ∙ is))
@@ -577,7 +577,7 @@ lent_by plain old new log log' s left lent s' (stepped.Gives p) r h behind kept 
 
 pub lends_so : (n : ℕ) (plain : Bool) (old new : Awaited) (log log' : Told) (wire : ℤ) (session : Option Session) (starts : ℕ) (s s' : ClientStream) (r : TryPoll) → IsSound plain s → PlainIf plain session → CallLends n old new log log' wire session starts s s' r → Lent plain old new log log' s s' r
 lends_so n plain old new log log' wire session starts s s' r sound plainly h =
-    lent_by plain old new log log' s h.left h.lent s' h.came r (steps_went n plain old new log log' wire session starts h.again (let_go s) h.left h.came (let_go_sound plain s sound) plainly h.does) h.lends h.kept
+    lent_by plain old new log log' s h.left h.lent s' h.came r (steps_went n plain old new log log' wire session starts h.again (lends_nothing s) h.left h.came (let_go_sound plain s sound) plainly h.does) h.lends h.kept
 
 -- the same of a call that copies
 pub record Copied (plain : Bool) (old new : Awaited) (log log' : Told) (s s' : ClientStream) (r : EventPoll) : Type 0 where
@@ -590,7 +590,7 @@ copied_uncounted plain old new log log' s t s' r is sound moves leaves =
     subst (λ (x : ClientStream). Copied plain old new log log' s x r) (sym is) (record { sound = uncounted_sound plain t sound; moves = moves; leaves = leaves })
 
 -- behind an event that is next
-pub copied_found : (plain : Bool) (old new : Awaited) (log log' : Told) (s left copied s' : ClientStream) (r : EventPoll) → HasGone plain old new log log' (let_go s) left stepped.Found → CopiesEvent left copied r → s' ≡ kept_behind (event_ending r) copied → Copied plain old new log log' s s' r
+pub copied_found : (plain : Bool) (old new : Awaited) (log log' : Told) (s left copied s' : ClientStream) (r : EventPoll) → HasGone plain old new log log' (lends_nothing s) left stepped.Found → CopiesEvent left copied r → s' ≡ kept_behind (event_ending r) copied → Copied plain old new log log' s s' r
 copied_found plain old new log log' s left copied s' poll.Pending h behind kept = absurd behind
 copied_found plain old new log log' s left copied s' (poll.Ready None) h behind kept = absurd behind
 copied_found plain old new log log' s left copied s' (poll.Ready (Some event)) h behind kept =
@@ -606,7 +606,7 @@ copied_found plain old new log log' s left copied s' (poll.Failed e) h (inr behi
     copied_uncounted plain old new log log' s copied s' (poll.Failed e) kept g.sound (gave_moved plain old new log log' s left h copied [] g.turns)
     (between_still copied g.still, ap (λ (x : ClientStream). x.current) behind.same ∙ none_current s left h.kept)
 
-copied_by : (plain : Bool) (old new : Awaited) (log log' : Told) (s left copied s' : ClientStream) (came : Stepped) (r : EventPoll) → HasGone plain old new log log' (let_go s) left came → CopiesBehind came left copied r → s' ≡ kept_behind (event_ending r) copied → Copied plain old new log log' s s' r
+copied_by : (plain : Bool) (old new : Awaited) (log log' : Told) (s left copied s' : ClientStream) (came : Stepped) (r : EventPoll) → HasGone plain old new log log' (lends_nothing s) left came → CopiesBehind came left copied r → s' ≡ kept_behind (event_ending r) copied → Copied plain old new log log' s s' r
 copied_by plain old new log log' s left copied s' stepped.Goes r h behind kept = absurd behind
 copied_by plain old new log log' s left copied s' stepped.Found r h behind kept = copied_found plain old new log log' s left copied s' r h behind kept
 copied_by plain old new log log' s left copied s' (stepped.Gives p) r h behind kept = by_poll p h behind.0 behind.1
@@ -614,7 +614,7 @@ copied_by plain old new log log' s left copied s' (stepped.Gives p) r h behind k
     ended : (x : EventPoll) → r ≡ x → copied ≡ left → s' ≡ kept_behind (event_ending x) left
     ended x answer is = subst (λ (y : EventPoll). s' ≡ kept_behind (event_ending y) copied) answer kept ∙ ap (kept_behind (event_ending x)) is
 
-    by_poll : (q : TryPoll) → HasGone plain old new log log' (let_go s) left (stepped.Gives q) → copied ≡ left → r ≡ without_event q → Copied plain old new log log' s s' r
+    by_poll : (q : TryPoll) → HasGone plain old new log log' (lends_nothing s) left (stepped.Gives q) → copied ≡ left → r ≡ without_event q → Copied plain old new log log' s s' r
     by_poll try.Pending h is answer =
         subst (Copied plain old new log log' s s') (sym answer)
         (subst (λ (x : ClientStream). Copied plain old new log log' s x poll.Pending) (sym (ended poll.Pending answer is))
@@ -635,7 +635,7 @@ copied_by plain old new log log' s left copied s' (stepped.Gives p) r h behind k
 
 pub copies_so : (n : ℕ) (plain : Bool) (old new : Awaited) (log log' : Told) (wire : ℤ) (session : Option Session) (starts : ℕ) (s s' : ClientStream) (r : EventPoll) → IsSound plain s → PlainIf plain session → CallCopies n old new log log' wire session starts s s' r → Copied plain old new log log' s s' r
 copies_so n plain old new log log' wire session starts s s' r sound plainly h =
-    copied_by plain old new log log' s h.left h.copied s' h.came r (steps_went n plain old new log log' wire session starts h.again (let_go s) h.left h.came (let_go_sound plain s sound) plainly h.does) h.copies h.kept
+    copied_by plain old new log log' s h.left h.copied s' h.came r (steps_went n plain old new log log' wire session starts h.again (lends_nothing s) h.left h.came (let_go_sound plain s sound) plainly h.does) h.copies h.kept
 
 -- what is watched stays
 kept_args : (x : Ending) (s : ClientStream) → (kept_behind x s).aggregate.args ≡ s.aggregate.args
@@ -654,7 +654,7 @@ copied_args (stepped.Gives p) left copied r h = ap (λ (x : ClientStream). x.agg
 
 pub copies_args : (n : ℕ) (plain : Bool) (old new : Awaited) (log log' : Told) (wire : ℤ) (session : Option Session) (starts : ℕ) (s s' : ClientStream) (r : EventPoll) → IsSound plain s → PlainIf plain session → CallCopies n old new log log' wire session starts s s' r → s'.aggregate.args ≡ s.aggregate.args
 copies_args n plain old new log log' wire session starts s s' r sound plainly h =
-    let went = steps_went n plain old new log log' wire session starts h.again (let_go s) h.left h.came (let_go_sound plain s sound) plainly h.does in
+    let went = steps_went n plain old new log log' wire session starts h.again (lends_nothing s) h.left h.came (let_go_sound plain s sound) plainly h.does in
     ap (λ (x : ClientStream). x.aggregate.args) h.kept ∙ kept_args (event_ending r) h.copied ∙ copied_args h.came h.left h.copied r h.copies ∙ went.turned.args
 
 -- ---- a call that seeks an event
@@ -674,9 +674,9 @@ sought_copied plain old new log log' s left copied s' (poll.Ready None) behind c
 sought_copied plain old new log log' s left copied s' (poll.Ready (Some event)) behind c = record { sound = c.sound; moves = c.moves; leaves = c.leaves }
 sought_copied plain old new log log' s left copied s' (poll.Failed e) behind c = record { sound = c.sound; moves = c.moves; leaves = c.leaves }
 
-sought_by : (plain : Bool) (old new : Awaited) (log log' : Told) (s left ended s' : ClientStream) (again : Bool) (came : Stepped) (r : EventPoll) → HasGone plain old new log log' (let_go s) left came → EndsSeeking again came left ended r → s' ≡ kept_behind (event_ending r) ended → Sought plain old new log log' s s' r
+sought_by : (plain : Bool) (old new : Awaited) (log log' : Told) (s left ended s' : ClientStream) (again : Bool) (came : Stepped) (r : EventPoll) → HasGone plain old new log log' (lends_nothing s) left came → EndsSeeking again came left ended r → s' ≡ kept_behind (event_ending r) ended → Sought plain old new log log' s s' r
 sought_by plain old new log log' s left ended s' again came r h (seek_finds is behind) kept =
-    sought_copied plain old new log log' s left ended s' r behind (copied_found plain old new log log' s left ended s' r (subst (λ (x : Stepped). HasGone plain old new log log' (let_go s) left x) is h) behind kept)
+    sought_copied plain old new log log' s left ended s' r behind (copied_found plain old new log log' s left ended s' r (subst (λ (x : Stepped). HasGone plain old new log log' (lends_nothing s) left x) is h) behind kept)
 sought_by plain old new log log' s left ended s' again came r h (pends is same answer) kept =
     subst (Sought plain old new log log' s s') (sym answer)
     (subst (λ (x : ClientStream). Sought plain old new log log' s x poll.Pending) (sym (subst (λ (y : EventPoll). s' ≡ kept_behind (event_ending y) ended) answer kept ∙ same))
@@ -710,7 +710,7 @@ counting_gone plain old mid log log_mid s left counting again came h goes = (
   ap (λ (x : ClientStream). x.current) goes.counts ∙ h.kept.current,
 )
 
-let_go_same : (s : ClientStream) → s.current ≡ None → let_go s ≡ s
+let_go_same : (s : ClientStream) → s.current ≡ None → lends_nothing s ≡ s
 let_go_same s is = ap (λ (o : Option (List ℕ)). record s { current = o }) (sym is)
 
 pub seeks_so : (n : ℕ) (plain : Bool) (old new : Awaited) (log log' : Told) (wire : ℤ) (session : Option Session) (starts : ℕ) (s s' : ClientStream) (r : EventPoll) → IsSound plain s → s.current ≡ None → PlainIf plain session → SeeksEvent n old new log log' wire session starts s s' r → Sought plain old new log log' s s' r

@@ -34,7 +34,7 @@ use Rattle.mg_cursor.specs.declared.results.AdvanceResult.TheVariants as result
 use Rattle.mg_cursor.proofs.Hearing.{behind_broken, behind_rested}
 use Rattle.mg_change.specs.Causes.{ByCursor, ByDoing, CallEmpty, CallFailed, CallFails, HoldsFirst, IsRenewed, IsReplaced, IsSettled, IsStart, Killed, MayAskMore, MoreFailed, Next, Replied, Resumed, Resumes, SoFar, as_it_was, asking, batch_broken, broken as more_broken, came, came_empty, cannot_ask, cannot_resume, closing, first_broken, is_lone, left, may_lose, more, more_failed, no_memory as lacks_memory, none_held, none_left, not_resumed as fails_to_resume, once_more, opening, owed, refused_more, resuming, tried, untold, was_killed}
 use Rattle.mg_change.specs.ClientStreams.{ClientStream, Doing, FollowsBy, IsSound, SoundBy, follows, is_read_again, is_renewed, kills, owes, owing_with, remembered_empty, renewed, resumes, resuming_in, with_cursor}
-use Rattle.mg_change.specs.Steps.{AsksMore, CannotResume, DoesStep, FailsMore, HearsClosing, HearsResumption, LooksAt, OpensBy, ReadsResumption, RunsResumption, TakesMore, asks_more, broke, broken, closes, emptied, ends, final, finds, gave, goes_on, looks, no_memory, none as nothing_there, not_asked, not_resumed, renews, replaced_by, resumes_now, some as next_there, waits_more, waits_resumption}
+use Rattle.mg_change.specs.Steps.{AsksMore, CannotResume, DoesStep, FailsMore, HearsClosing, HearsResumption, LooksAt, OpensCursor, ReadsResumption, RunsResumption, TakesMore, asks_more, broke, broken, closes, emptied, ends, final, finds, gave, goes_on, looks, no_memory, none as nothing_there, not_asked, not_resumed, renews, replaced_by, resumes_now, some as next_there, waits_more, waits_resumption}
 use Rattle.mg_change.specs.declared.event_poll.Stepped.{Stepped}
 use Rattle.mg_change.specs.declared.event_poll.Stepped.TheVariants as stepped
 use Rattle.mg_change.proofs.Garbled.{still_waits}
@@ -220,7 +220,7 @@ module _ (new : Awaited) (now : Option Session) (at s : ClientStream) (same : s.
               why = why;
               heard = record { session = session; plainly = plainly; heard = heard; success = success };
               out = out;
-              opens = subst (λ (a : ChangeStreamAggregate). OpensBy a bytes out) same opens;
+              opens = subst (λ (a : ChangeStreamAggregate). OpensCursor a bytes out) same opens;
               cursor_is = refl;
             };
             underway = underway_quiet new past s.cursor s.cursor.doing quiet;

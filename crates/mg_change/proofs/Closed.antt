@@ -28,8 +28,8 @@ use Rattle.mg_cursor.specs.Polling.{Hears, ReadsReply, broke, gave}
 use Rattle.mg_cursor.specs.declared.polls.NextPoll.{NextPoll}
 use Rattle.mg_cursor.specs.declared.polls.NextPoll.TheVariants as next
 use Rattle.mg_change.specs.ClientStreams.{Asks, ClientStream, Doing, IsAggregate, IsSound, SoundBy, follows, kills, owes, renewed, resumes, stream_token}
-use Rattle.mg_change.specs.ClosingStreams.{BehindAggregate, BehindMore, BehindOlder, BehindOpening, ClosesStream, ClosingStream, HearsKill, IsLanding, IsSoundStream, KillsLeft, Landing, LandsFor, LandsForBy, LandsSoundly, PassesOver, ResumesWatch, RunsKill, begins, closed_stream, ends, goes_on, ids_left, kill_left, kills_all, landing_of, lands, lands_aggregate, lands_closing, lands_more, lands_older, lands_opening, not_built, nothing_left, opened_none, opened_one}
-use Rattle.mg_change.specs.Following.{OnPending, closing_by, events_in, follow_by, follow_closed, follow_closing, follow_of, held_by, idle_by, in_hand, left_as, older_by, unread, with_landing, with_more, with_older}
+use Rattle.mg_change.specs.ClosingStreams.{BehindAggregate, BehindMore, BehindReplaced, BehindOpening, ClosesStream, ClosingStream, HearsKill, IsLanding, IsSoundClosing, KillsLeft, Landing, LandsFor, LandsForBy, LandsSoundly, PassesOver, ResumesWatch, RunsKill, begins, closed_stream, ends, goes_on, ids_left, kill_left, kills_all, landing_of, lands, lands_aggregate, lands_closing, lands_more, lands_replaced, lands_opening, not_built, nothing_left, opened_none, opened_one}
+use Rattle.mg_change.specs.Following.{OnPending, closing_by, event_fields, follow_by, follow_closed, follow_closing, follow_of, held_by, idle_by, in_hand, left_as, older_by, unread, with_landing, with_more, with_older}
 use Rattle.mg_change.proofs.Garbled.{runs_once, still_waits}
 use Rattle.mg_change.proofs.Heeding.{MoreCame, ResumeCame, at_waiting, more_polled, more_taken, resume_polled, resume_taken, waits_still}
 use Rattle.mg_change.proofs.Turning.{ClosesTo, asks_again, at_same, left_id, older_same, up_to}
@@ -117,13 +117,13 @@ module _ (log : Told) (awaited : Awaited) (w : Watch) (start : Start) (opened : 
 
   more_down : (d : cursors.Doing) (events : List Fields) (upto : Option Tree) → Moved log log (with_more awaited d events upto from_idle) (with_landing awaited d from_idle)
   more_down rests events upto = hand_down log events upto w start opened cursor token answered
-  more_down (holds reply) events upto = keeps_down log (held_by (events_in reply) upto from_idle) tt
+  more_down (holds reply) events upto = keeps_down log (held_by (event_fields reply) upto from_idle) tt
   more_down (asks sending) events upto = stayed log log (with_more awaited (asks sending) events upto from_idle) refl
 
   -- the batch that was not looked at is let go
   unread_down : (d : cursors.Doing) (upto : Option Tree) → IsNotAsking d → Moved log log (unread d upto from_idle) (with_landing awaited d from_idle)
   unread_down rests upto quiet = stayed log log from_idle refl
-  unread_down (holds reply) upto quiet = keeps_down log (held_by (events_in reply) upto from_idle) tt
+  unread_down (holds reply) upto quiet = keeps_down log (held_by (event_fields reply) upto from_idle) tt
   unread_down (asks sending) upto quiet = absurd quiet
 
   idle_down : (d : cursors.Doing) → IsNotAsking d → Moved log log from_idle (with_landing awaited d from_idle)
@@ -134,9 +134,9 @@ module _ (log : Told) (awaited : Awaited) (w : Watch) (start : Start) (opened : 
   -- so it is while the cursor before is closed
   older_stage : (d : cursors.Doing) (upto : Option Tree) (id : ℤ) (stage : Stage) → IsNotAsking d → Moved log log (at_stage (record (unread d upto from_idle) { old = id }) (λ place. unread d upto from_idle) awaited stage) (at_stage (record from_idle { old = id }) (λ place. from_idle) awaited stage)
   older_stage rests upto id stage quiet = stayed log log (at_stage (record from_idle { old = id }) (λ place. from_idle) awaited stage) refl
-  older_stage (holds reply) upto id unsent quiet = keeps_down log (record (held_by (events_in reply) upto from_idle) { old = id }) tt
-  older_stage (holds reply) upto id (first ticket) quiet = keeps_down log (held_by (events_in reply) upto from_idle) tt
-  older_stage (holds reply) upto id (second ticket) quiet = keeps_down log (held_by (events_in reply) upto from_idle) tt
+  older_stage (holds reply) upto id unsent quiet = keeps_down log (record (held_by (event_fields reply) upto from_idle) { old = id }) tt
+  older_stage (holds reply) upto id (first ticket) quiet = keeps_down log (held_by (event_fields reply) upto from_idle) tt
+  older_stage (holds reply) upto id (second ticket) quiet = keeps_down log (held_by (event_fields reply) upto from_idle) tt
   older_stage (asks sending) upto id stage quiet = absurd quiet
 
   older_down : (d : cursors.Doing) (upto : Option Tree) (c : ClientCursor) (killing : Option Sending) → IsNotAsking d → Moved log log (older_by awaited c killing (unread d upto from_idle)) (older_by awaited c killing from_idle)
@@ -168,7 +168,7 @@ sound_by lent s (kills before) sound by = (by.0.quiet, by.2, by.3, refl)
 sound_by lent s renewed sound by = record { asks_its_own = sound.asks_its_own; named = sound.named; alone = refl }
 
 -- the closing of a sound stream is sound
-pub closed_sound : (lent : Bool) (s : ClientStream) → IsSound false s → IsSoundStream (closed_stream lent s)
+pub closed_sound : (lent : Bool) (s : ClientStream) → IsSound false s → IsSoundClosing (closed_stream lent s)
 closed_sound lent s sound = sound_by lent s s.doing sound sound.by
 
 for_by : (w : Watch) (start : Start) (s : ClientStream) (d : Doing) → IsSound false s → SoundBy false s d → Asks s.aggregate.args w start → LandsForBy w start (stream_token s) (landing_of d)
@@ -384,7 +384,7 @@ module _ (w : Watch) (start : Start) (token : Option Tree) (opened : Option ℕ)
         subst (λ (o : Option Sending). ClosesTo new log log' (older_by old before.cursor o (at_ids cursor older)) (at_ids cursor older) r) (sym at)
         (older_run before.cursor sending h.came r on.waits_on.command_is on.waits_on.single on.may.held h.runs h.hears)
 
-  closing_landed : (old mid new : Awaited) (log between log' : Told) (wire : ℤ) (k : ClosingStream) (r : Step ClosingStream (Unit {0})) (g : Follow) (came : Step ClosingCursor (Unit {0})) → ClosesTo mid log between g (at_ids k.cursor.id k.opened) came → BehindOlder mid new between log' wire k came r → Moved log log' g (closed_to new r)
+  closing_landed : (old mid new : Awaited) (log between log' : Told) (wire : ℤ) (k : ClosingStream) (r : Step ClosingStream (Unit {0})) (g : Follow) (came : Step ClosingCursor (Unit {0})) → ClosesTo mid log between g (at_ids k.cursor.id k.opened) came → BehindReplaced mid new between log' wire k came r → Moved log log' g (closed_to new r)
   closing_landed old mid new log between log' wire k r g (step.Pending before) m h =
       subst (λ (x : Step ClosingStream (Unit {0})). Moved log log' g (closed_to new x)) (sym h.1)
       (then_waits mid new log between log' (with_older mid before (at_ids k.cursor.id k.opened)) g (with_older new before (at_ids k.cursor.id k.opened)) h.0 (older_same mid new h.0.rest before.cursor before.killing (at_ids k.cursor.id k.opened)) m)
@@ -398,7 +398,7 @@ module _ (w : Watch) (start : Start) (token : Option Tree) (opened : Option ℕ)
   landing_quiet awaited (holds reply) f quiet = refl
   landing_quiet awaited (asks sending) f quiet = absurd quiet
 
-  module _ (old new : Awaited) (log log' : Told) (wire : ℤ) (k : ClosingStream) (r : Step ClosingStream (Unit {0})) (sound : IsSoundStream k) (is_for : LandsFor w start token k) where
+  module _ (old new : Awaited) (log log' : Told) (wire : ℤ) (k : ClosingStream) (r : Step ClosingStream (Unit {0})) (sound : IsSoundClosing k) (is_for : LandsFor w start token k) where
     -- what is on its way as it begins
     as_landing : (d : Landing) → k.doing ≡ d → (g : Follow) → closing_by old d k.cursor (at_ids k.cursor.id k.opened) ≡ g → Moved log log' g (closed_to new r) → Moved log log' (follow_closing old w start token k opened answered) (closed_to new r)
     as_landing d at g is m = subst (λ (f : Follow). Moved log log' f (closed_to new r)) (sym (ap (λ (x : Landing). closing_by old x k.cursor (at_ids k.cursor.id k.opened)) at ∙ is)) m
@@ -418,7 +418,7 @@ module _ (w : Watch) (start : Start) (token : Option Tree) (opened : Option ℕ)
     closes_moved (lands_closing before at b came polls behind) =
         let f = at_ids k.cursor.id k.opened in
         let parts = subst (LandsSoundly k) at sound in
-        as_landing (lands_older before) at (with_older old before f) refl
+        as_landing (lands_replaced before) at (with_older old before f) refl
         (closing_landed old b.awaited new log b.log log' wire k r (with_older old before f) came (older_polled old b.awaited log b.log wire k.cursor.id k.opened parts.3 before came parts.1 parts.2 polls) behind)
     closes_moved (goes_on sending at h) =
         let parts = subst (LandsSoundly k) at sound in
@@ -464,8 +464,8 @@ module _ (w : Watch) (start : Start) (token : Option Tree) where
   aggregate_for old mid new log between log' wire k sending (step.Done bytes) r is runs h = opening_for mid new between log' wire k bytes r h
   aggregate_for old mid new log between log' wire k sending (step.Failed e) r is runs h = passed_for mid new between log' wire (record k { doing = lands }) e r h
 
-  older_for : (old new : Awaited) (log log' : Told) (wire : ℤ) (k : ClosingStream) (came : Step ClosingCursor (Unit {0})) (r : Step ClosingStream (Unit {0})) → BehindOlder old new log log' wire k came r → OnPending r (LandsFor w start token)
-  older_for old new log log' wire k (step.Pending before) r h = for_as r (step.Pending (record k { doing = lands_older before })) h.1 tt
+  older_for : (old new : Awaited) (log log' : Told) (wire : ℤ) (k : ClosingStream) (came : Step ClosingCursor (Unit {0})) (r : Step ClosingStream (Unit {0})) → BehindReplaced old new log log' wire k came r → OnPending r (LandsFor w start token)
+  older_for old new log log' wire k (step.Pending before) r h = for_as r (step.Pending (record k { doing = lands_replaced before })) h.1 tt
   older_for old new log log' wire k (step.Done t) r h = left_for old new log log' wire (record k { doing = lands }) r h
   older_for old new log log' wire k (step.Failed e) r h = passed_for old new log log' wire (record k { doing = lands }) e r h
 

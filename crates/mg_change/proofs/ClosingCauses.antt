@@ -27,7 +27,7 @@ use Rattle.mg_cursor.proofs.Hearing.{behind_broken}
 use Rattle.mg_change.specs.ClientStreams.{ClientStream}
 use Rattle.mg_change.specs.ClosingCauses as causes
 use Rattle.mg_change.specs.ClosingCauses.{AggregateLeft, ClosingCaused, IsUnderway, LastBy, LastDone, LastFails, LastSoFar, LeftBy, MoreLeft, UnderwayBy, UnderwayByCursor, last_ids, last_kill, none_held, was_killed}
-use Rattle.mg_change.specs.ClosingStreams.{BehindAggregate, BehindMore, BehindOlder, BehindOpening, ClosesStream, ClosingStream, HearsKill, IsLanding, IsSoundStream, KillsLeft, Landing, LandsSoundly, PassesOver, RunsKill, begins, ends, goes_on, ids_left, kill_left, kills_all, landing_ticket, lands, lands_aggregate, lands_closing, lands_more, lands_older, lands_opening, not_built, nothing_left, opened_none, opened_one, stream_closing_ticket, unless_none}
+use Rattle.mg_change.specs.ClosingStreams.{BehindAggregate, BehindMore, BehindReplaced, BehindOpening, ClosesStream, ClosingStream, HearsKill, IsLanding, IsSoundClosing, KillsLeft, Landing, LandsSoundly, PassesOver, RunsKill, begins, ends, goes_on, ids_left, kill_left, kills_all, landing_ticket, lands, lands_aggregate, lands_closing, lands_more, lands_replaced, lands_opening, not_built, nothing_left, opened_none, opened_one, stream_closing_ticket, unless_none}
 use Rattle.mg_change.proofs.Garbled.{still_waits}
 use Rattle.mg_change.proofs.Growing.{closing_done_grows, closing_fails_grows, heard_more_grows, more_fails_grows}
 
@@ -46,8 +46,8 @@ module _ (past past' : Past) (grows : Grows past past') (k : ClosingStream) wher
   left_grows left (causes.same at quiet is) = causes.same at quiet is
   left_grows left (causes.more at c why is) = causes.more at c (more_left_grows c why) is
   left_grows left (causes.aggregate sending at why) = causes.aggregate sending at (aggregate_grows sending left why)
-  left_grows left (causes.older before at (inl h) is) = causes.older before at (inl (closing_done_grows past past' grows before h)) is
-  left_grows left (causes.older before at (inr h) is) = causes.older before at (inr (h.0, closing_fails_grows past past' grows before h.0 h.1, h.2)) is
+  left_grows left (causes.replaced before at (inl h) is) = causes.replaced before at (inl (closing_done_grows past past' grows before h)) is
+  left_grows left (causes.replaced before at (inr h) is) = causes.replaced before at (inr (h.0, closing_fails_grows past past' grows before h.0 h.1, h.2)) is
   left_grows left (causes.killing sending at is) = causes.killing sending at is
 
 -- nothing was sent: what is on its way has come as far
@@ -150,12 +150,12 @@ module _ (mid new : Awaited) (between log' : Told) (wire : ℤ) (k : ClosingStre
 
   -- ---- the closing of the cursor before
 
-  older_landed : (before : ClosingCursor) → k.doing ≡ lands_older before → (came : Step ClosingCursor (Unit {0})) → ClosingCame mid (past_of places since calls wire) before came → BehindOlder mid new between log' wire k came r → Ended new log' wire k calls places since r
+  older_landed : (before : ClosingCursor) → k.doing ≡ lands_replaced before → (came : Step ClosingCursor (Unit {0})) → ClosingCame mid (past_of places since calls wire) before came → BehindReplaced mid new between log' wire k came r → Ended new log' wire k calls places since r
   older_landed before at (step.Pending waiting) came h =
-      quiet_ended (step.Pending (record k { doing = lands_older waiting })) h.0 h.1
+      quiet_ended (step.Pending (record k { doing = lands_replaced waiting })) h.0 h.1
       (record { underway = closing_on mid new between log' (past_of places since calls wire) h.0 waiting.cursor waiting.killing waiting.cursor.doing came.0; token_is = refl; cursor_by = inl refl })
-  older_landed before at (step.Done t) came h = kills_caused (record k { doing = lands }) refl (causes.older before at (inl came) refl) h
-  older_landed before at (step.Failed e) came h = passes_caused (record k { doing = lands }) e refl (λ room. causes.older before at (inr (e, came, room)) refl) h
+  older_landed before at (step.Done t) came h = kills_caused (record k { doing = lands }) refl (causes.replaced before at (inl came) refl) h
+  older_landed before at (step.Failed e) came h = passes_caused (record k { doing = lands }) e refl (λ room. causes.replaced before at (inr (e, came, room)) refl) h
 
 -- ---- a poll
 
@@ -168,7 +168,7 @@ going_came old new log log' wire past k sending at some (step.Pending waiting) r
 going_came old new log log' wire past k sending at some (step.Done bytes) r runs came h = kill_came new past k k refl (causes.killing sending at refl) some old log log' wire sending (step.Done bytes) r runs came h
 going_came old new log log' wire past k sending at some (step.Failed e) r runs came h = kill_came new past k k refl (causes.killing sending at refl) some old log log' wire sending (step.Failed e) r runs came h
 
-pub closing_caused : (old new : Awaited) (log log' : Told) (wire : ℤ) (k : ClosingStream) (r : Step ClosingStream (Unit {0})) → IsSoundStream k → ClosesStream old new log log' wire k r → ClosingCaused old new log log' wire k r
+pub closing_caused : (old new : Awaited) (log log' : Told) (wire : ℤ) (k : ClosingStream) (r : Step ClosingStream (Unit {0})) → IsSoundClosing k → ClosesStream old new log log' wire k r → ClosingCaused old new log log' wire k r
 closing_caused old new log log' wire k r sound (begins at quiet h) = λ calls told places underway.
     let start : length calls ≤ length calls = omega arith in
     kills_caused old new log log' wire k r calls places (length calls) told start (record k { cursor = at_rest k.cursor }) refl (causes.same at quiet refl) h
@@ -190,7 +190,7 @@ closing_caused old new log log' wire k r sound (lands_opening sending at b came 
 closing_caused old new log log' wire k r sound (lands_closing before at b came polls behind) = λ calls told places underway.
     let past : Past = past_of places (length calls) calls wire in
     let parts = subst (LandsSoundly k) at sound in
-    let ran = cursor_caused old b.awaited log b.log wire before came parts.1 polls calls told places (underway_as old past k (lands_older before) at underway) in
+    let ran = cursor_caused old b.awaited log b.log wire before came parts.1 polls calls told places (underway_as old past k (lands_replaced before) at underway) in
     let longer = keeps_longer calls ran.0 ran.2 in
     let x = older_landed b.awaited new b.log log' wire k r ran.0 places (length calls) ran.1 longer before at came ran.3 behind in
     (x.0, x.1, keeps_on calls ran.0 x.0 ran.2 x.2, x.3)
@@ -245,7 +245,7 @@ module _ (old new : Awaited) (log log' : Told) (wire : ℤ) (last : ClientStream
       (subst (λ (stage : Stage). Flies old (past_of places (length calls) calls wire) (last_kill last) stage) (sym new_one.new) tt)
 
 -- A poll of the closing of a stream at rest.
-pub last_closes : (old new : Awaited) (log log' : Told) (wire : ℤ) (last : ClientStream) (k : ClosingStream) (r : Step ClosingStream (Unit {0})) → IsSoundStream k → ClosesStream old new log log' wire k r → (calls : List Call) → log ≡ Some calls → (places : List ℕ) → LastSoFar old (past_of places (length calls) calls wire) last k
+pub last_closes : (old new : Awaited) (log log' : Told) (wire : ℤ) (last : ClientStream) (k : ClosingStream) (r : Step ClosingStream (Unit {0})) → IsSoundClosing k → ClosesStream old new log log' wire k r → (calls : List Call) → log ≡ Some calls → (places : List ℕ) → LastSoFar old (past_of places (length calls) calls wire) last k
     → (calls' : List Call) × (log' ≡ Some calls') × Keeps calls calls' × LastCame new (past_of places (length calls) calls' wire) last r
 last_closes old new log log' wire last k r sound (begins at quiet h) calls told places so =
     last_left old new log log' wire last (record k { cursor = at_rest k.cursor }) r (last_same old (past_of places (length calls) calls wire) last k so) (kill_same old (past_of places (length calls) calls wire) last k so) so.id_is so.space_is so.none_opened tt h calls told places
@@ -261,7 +261,7 @@ module _ (past past' : Past) (grows : Grows past past') (last : ClientStream) wh
   last_by_grows : (awaited awaited' : Awaited) (c : ClientCursor) (d : Landing) → ((n : ℕ) → landing_ticket c d ≡ Some n → awaited' n ≡ awaited n) → LastBy awaited past last d → LastBy awaited' past' last d
   last_by_grows awaited awaited' c lands tickets h = tt
   last_by_grows awaited awaited' c (lands_aggregate sending) tickets h = absurd h
-  last_by_grows awaited awaited' c (lands_older before) tickets h = absurd h
+  last_by_grows awaited awaited' c (lands_replaced before) tickets h = absurd h
   last_by_grows awaited awaited' c (ends sending) tickets h = (h.0, flies_grows past past' grows awaited awaited' (last_kill last) sending.stage tickets h.1)
 
   pub last_grows : (awaited awaited' : Awaited) (k : ClosingStream) → ((n : ℕ) → stream_closing_ticket k ≡ Some n → awaited' n ≡ awaited n) → LastSoFar awaited past last k → LastSoFar awaited' past' last k

@@ -9,7 +9,7 @@ use Rattle.mg_cursor.specs.Causes.{HeardMore, MoreFails, TellsNoCursor}
 use Rattle.mg_cursor.specs.Client.{ClientCursor, at_rest, get_more, kill}
 use Rattle.mg_cursor.specs.Closing.{ClosingCursor, ClosingDone, ClosingFails, killed, not_killed, not_needed, out_of_memory}
 use Rattle.mg_cursor.proofs.ClosedCaused.{left_grows}
-use Rattle.mg_change.specs.Causes.{AggregateFails, CallEmpty, CallFailed, CallFails, CallGave, CallNone, HeardAggregate, Killed, MayLose, MoreFailed, Next, Replied, Resumed, Resumes, StaysSo, as_it_was, asking, batch_broken, broken, came, came_empty, cannot_ask, cannot_resume, closing, first_broken, in_hand, is_lone, left, may_lose, more, more_failed, no_id, no_memory, none_held, none_left, not_resumed, once_more, opening, owed, refused_more, resuming, tried, untold, was_killed}
+use Rattle.mg_change.specs.Causes.{ResumptionFails, CallEmpty, CallFailed, CallFails, CallGave, CallNone, HeardAggregate, Killed, MayLose, MoreFailed, Next, Replied, Resumed, Resumes, StaysSo, as_it_was, asking, batch_broken, broken, came, came_empty, cannot_ask, cannot_resume, closing, first_broken, in_hand, is_lone, left, may_lose, more, more_failed, no_id, no_memory, none_held, none_left, not_resumed, once_more, opening, owed, refused_more, resuming, tried, untold, was_killed}
 use Rattle.mg_change.specs.ClientStreams.{ClientStream, is_read_again, resuming_in}
 use Rattle.mg_change.specs.Steps.{CannotResume}
 
@@ -85,7 +85,7 @@ module _ (past past' : Past) (grows : Grows past past') where
   may_lose_grows lone at c (resuming why) = resuming (resumes_grows at (at_rest c) why)
   may_lose_grows lone at c (closing old bytes r held) = closing old bytes (resumed_grows lone at old bytes c r) held
 
-  aggregate_fails_grows : (lone : Bool) (at : ClientStream) (e : Error) → AggregateFails past lone at e → AggregateFails past' lone at e
+  aggregate_fails_grows : (lone : Bool) (at : ClientStream) (e : Error) → ResumptionFails past lone at e → ResumptionFails past' lone at e
   aggregate_fails_grows lone at e h = record {
     session = h.session;
     plainly = h.plainly;

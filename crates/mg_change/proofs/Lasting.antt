@@ -12,7 +12,7 @@ use Rattle.mg_cursor.specs.declared.polls.TryPoll.{TryPoll}
 use Rattle.mg_cursor.specs.declared.polls.TryPoll.TheVariants as try
 use Rattle.mg_cursor.specs.declared.results.AdvanceResult.TheVariants as result
 use Rattle.mg_change.specs.Causes.{ByCursor, ByDoing, SoFar, owed}
-use Rattle.mg_change.specs.ClientStreams.{ClientStream, Doing, IsBetween, IsIdle, IsSound, SoundBy, follows, kills, let_go, owes, renewed, resumes}
+use Rattle.mg_change.specs.ClientStreams.{ClientStream, Doing, IsBetween, IsIdle, IsSound, SoundBy, follows, kills, lends_nothing, owes, renewed, resumes}
 use Rattle.mg_change.specs.StreamCalls.{CallLends, CopiesEvent, EndsSeeking, LendsBehind, SeeksEvent, closed, event_ending, fails, finds, kept_behind, over, pends, session_behind, too_often, try_ending}
 use Rattle.mg_change.specs.declared.event_poll.EventPoll.{EventPoll}
 use Rattle.mg_change.specs.declared.event_poll.EventPoll.TheVariants as poll
@@ -31,8 +31,8 @@ kept_args pending s = refl
 kept_args finished s = refl
 kept_args (failed e) s = refl
 
-let_go_sound : (plain : Bool) (s : ClientStream) → IsSound plain s → IsSound plain (let_go s)
-let_go_sound plain s sound = sound_as plain s (let_go s) refl refl refl refl sound
+let_go_sound : (plain : Bool) (s : ClientStream) → IsSound plain s → IsSound plain (lends_nothing s)
+let_go_sound plain s sound = sound_as plain s (lends_nothing s) refl refl refl refl sound
 
 -- ---- a call that lends
 
@@ -47,7 +47,7 @@ lent_args (stepped.Gives p) left lent r h = ap args_of h.0
 
 pub lends_args : (n : ℕ) (plain : Bool) (old new : Awaited) (log log' : Told) (wire : ℤ) (session : Option Session) (starts : ℕ) (s s' : ClientStream) (r : TryPoll) → IsSound plain s → PlainIf plain session → CallLends n old new log log' wire session starts s s' r → s'.aggregate.args ≡ s.aggregate.args
 lends_args n plain old new log log' wire session starts s s' r sound plainly h =
-    let went = steps_went n plain old new log log' wire session starts h.again (let_go s) h.left h.came (let_go_sound plain s sound) plainly h.does in
+    let went = steps_went n plain old new log log' wire session starts h.again (lends_nothing s) h.left h.came (let_go_sound plain s sound) plainly h.does in
     ap args_of h.kept ∙ kept_args (try_ending r) h.lent ∙ lent_args h.came h.left h.lent r h.lends ∙ went.turned.args
 
 -- ---- a call that seeks an event
@@ -81,8 +81,8 @@ seeks_args (suc n) plain old new log log' wire session starts s s' r sound plain
     seeks_args n plain h.0 new h.1 log' wire (session_behind h.2 session) h.3 t s' r sound_so (plain_behind plain h.2 session plainly) h.7 ∙ ap args_of counts ∙ went.turned.args
 
 -- the same of a stream that lends nothing any more, as the call begins
-pub seeks_args_from : (n : ℕ) (plain : Bool) (old new : Awaited) (log log' : Told) (wire : ℤ) (session : Option Session) (starts : ℕ) (s s' : ClientStream) (r : EventPoll) → IsSound plain s → PlainIf plain session → SeeksEvent n old new log log' wire session starts (let_go s) s' r → s'.aggregate.args ≡ s.aggregate.args
-seeks_args_from n plain old new log log' wire session starts s s' r sound plainly h = seeks_args n plain old new log log' wire session starts (let_go s) s' r (let_go_sound plain s sound) plainly h
+pub seeks_args_from : (n : ℕ) (plain : Bool) (old new : Awaited) (log log' : Told) (wire : ℤ) (session : Option Session) (starts : ℕ) (s s' : ClientStream) (r : EventPoll) → IsSound plain s → PlainIf plain session → SeeksEvent n old new log log' wire session starts (lends_nothing s) s' r → s'.aggregate.args ≡ s.aggregate.args
+seeks_args_from n plain old new log log' wire session starts s s' r sound plainly h = seeks_args n plain old new log log' wire session starts (lends_nothing s) s' r (let_go_sound plain s sound) plainly h
 
 -- ---- where a call begins
 

@@ -16,8 +16,8 @@ use Rattle.mg_cursor.specs.declared.polls.TryPoll.TheVariants as try
 use Rattle.mg_cursor.specs.declared.results.AdvanceResult.TheVariants as result
 use Rattle.mg_cursor.proofs.Hearing.{failing, no_room, other_kind}
 use Rattle.mg_change.specs.ClientStreams.{ClientStream, Doing, follows, id_in, kills, owes, remembered_by, remembered_empty, renewed, resumes, stream_ticket, token_behind}
-use Rattle.mg_change.specs.StreamCalls.{CopiesBehind, CopiesEvent, EndsSeeking, GoesBehind, LendsBehind, closed, event_ending, fails, finds, kept_behind, over, pends, step_ending, too_often, try_ending, without_event}
-use Rattle.mg_change.specs.StreamView.{IsOwnPlace, IsPlaced, IsSavedPlace, IsStream, IsThere, SavesBy, SavesWhile, changes_of, doing_of, empty_place, is_lent, known_at, place_by, token_at}
+use Rattle.mg_change.specs.StreamCalls.{CopiesBehind, CopiesEvent, EndsSeeking, GoesBehind, LendsBehind, closed, event_ending, fails, finds, kept_behind, over, pends, stepped_ending, too_often, try_ending, without_event}
+use Rattle.mg_change.specs.StreamView.{IsOwnPlace, IsPlaced, IsSavedPlace, IsStream, IsThere, SavesBy, SavesWhile, changes_of, doing_of, empty_place, is_lent, known_at, place_by, token_lying}
 use Rattle.mg_change.specs.declared.changes.Changes.{Changes}
 use Rattle.mg_change.specs.declared.changes.Phase.{Phase}
 use Rattle.mg_change.specs.declared.changes.Phase.TheVariants as phase
@@ -46,7 +46,7 @@ behind_ticket lent s' left ending kept same = ap stream_ticket kept ∙ kept_tic
 no_token : (e : Error) → e ≡ plain kind.MissingResumeToken → e.kind ≡ kind.Io → ⊥
 no_token e is = other_kind e kind.MissingResumeToken is (λ bad. cc)
 
-pub lent_keeps : (m m' : Moment) (ticket : Option ℕ) (left lent s' : ClientStream) (came : Stepped) (r : TryPoll) → LinkKeeps m m' ticket (stream_ticket left) (step_ending came) → LendsBehind came left lent r → s' ≡ kept_behind (try_ending r) lent → LinkKeeps m m' ticket (stream_ticket s') (try_ending r)
+pub lent_keeps : (m m' : Moment) (ticket : Option ℕ) (left lent s' : ClientStream) (came : Stepped) (r : TryPoll) → LinkKeeps m m' ticket (stream_ticket left) (stepped_ending came) → LendsBehind came left lent r → s' ≡ kept_behind (try_ending r) lent → LinkKeeps m m' ticket (stream_ticket s') (try_ending r)
 lent_keeps m m' ticket left lent s' stepped.Goes r k behind kept = absurd behind
 lent_keeps m m' ticket left lent s' stepped.Found try.Pending k behind kept = absurd behind
 lent_keeps m m' ticket left lent s' stepped.Found (try.Ready (result.Advanced t)) k behind kept =
@@ -72,31 +72,31 @@ without_ending try.Pending = refl
 without_ending (try.Ready a) = refl
 without_ending (try.Failed e) = refl
 
-pub copied_keeps : (m m' : Moment) (ticket : Option ℕ) (left copied s' : ClientStream) (came : Stepped) (r : EventPoll) → LinkKeeps m m' ticket (stream_ticket left) (step_ending came) → CopiesBehind came left copied r → s' ≡ kept_behind (event_ending r) copied → LinkKeeps m m' ticket (stream_ticket s') (event_ending r)
+pub copied_keeps : (m m' : Moment) (ticket : Option ℕ) (left copied s' : ClientStream) (came : Stepped) (r : EventPoll) → LinkKeeps m m' ticket (stream_ticket left) (stepped_ending came) → CopiesBehind came left copied r → s' ≡ kept_behind (event_ending r) copied → LinkKeeps m m' ticket (stream_ticket s') (event_ending r)
 copied_keeps m m' ticket left copied s' stepped.Goes r k behind kept = absurd behind
 copied_keeps m m' ticket left copied s' stepped.Found r k behind kept = copied_event m m' ticket left copied s' r k behind kept
 copied_keeps m m' ticket left copied s' (stepped.Gives p) r k behind kept =
     as_given m m' ticket (stream_ticket left) (stream_ticket s') (try_ending p) (event_ending r) (behind_ticket copied s' left (event_ending r) kept (ap stream_ticket behind.0)) (ap event_ending behind.1 ∙ without_ending p) k
 
-pub sought_keeps : (m m' : Moment) (ticket : Option ℕ) (again : Bool) (left ended s' : ClientStream) (came : Stepped) (r : EventPoll) → LinkKeeps m m' ticket (stream_ticket left) (step_ending came) → EndsSeeking again came left ended r → s' ≡ kept_behind (event_ending r) ended → LinkKeeps m m' ticket (stream_ticket s') (event_ending r)
-sought_keeps m m' ticket again left ended s' came r k (finds is behind) kept = copied_event m m' ticket left ended s' r (subst (λ (x : Stepped). LinkKeeps m m' ticket (stream_ticket left) (step_ending x)) is k) behind kept
+pub sought_keeps : (m m' : Moment) (ticket : Option ℕ) (again : Bool) (left ended s' : ClientStream) (came : Stepped) (r : EventPoll) → LinkKeeps m m' ticket (stream_ticket left) (stepped_ending came) → EndsSeeking again came left ended r → s' ≡ kept_behind (event_ending r) ended → LinkKeeps m m' ticket (stream_ticket s') (event_ending r)
+sought_keeps m m' ticket again left ended s' came r k (finds is behind) kept = copied_event m m' ticket left ended s' r (subst (λ (x : Stepped). LinkKeeps m m' ticket (stream_ticket left) (stepped_ending x)) is k) behind kept
 sought_keeps m m' ticket again left ended s' came r k (pends is same answer) kept =
-    as_given m m' ticket (stream_ticket left) (stream_ticket s') (step_ending came) (event_ending r) (behind_ticket ended s' left (event_ending r) kept (ap stream_ticket same)) (ap event_ending answer ∙ ap step_ending (sym is)) k
+    as_given m m' ticket (stream_ticket left) (stream_ticket s') (stepped_ending came) (event_ending r) (behind_ticket ended s' left (event_ending r) kept (ap stream_ticket same)) (ap event_ending answer ∙ ap stepped_ending (sym is)) k
 sought_keeps m m' ticket again left ended s' came r k (over is same answer) kept =
-    as_given m m' ticket (stream_ticket left) (stream_ticket s') (step_ending came) (event_ending r) (behind_ticket ended s' left (event_ending r) kept (ap stream_ticket same)) (ap event_ending answer ∙ ap step_ending (sym is)) k
+    as_given m m' ticket (stream_ticket left) (stream_ticket s') (stepped_ending came) (event_ending r) (behind_ticket ended s' left (event_ending r) kept (ap stream_ticket same)) (ap event_ending answer ∙ ap stepped_ending (sym is)) k
 sought_keeps m m' ticket again left ended s' came r k (closed is none same answer) kept =
-    as_given m m' ticket (stream_ticket left) (stream_ticket s') (step_ending came) (event_ending r) (behind_ticket ended s' left (event_ending r) kept (ap stream_ticket same)) (ap event_ending answer ∙ ap step_ending (sym is)) k
+    as_given m m' ticket (stream_ticket left) (stream_ticket s') (stepped_ending came) (event_ending r) (behind_ticket ended s' left (event_ending r) kept (ap stream_ticket same)) (ap event_ending answer ∙ ap stepped_ending (sym is)) k
 sought_keeps m m' ticket again left ended s' came r k (too_often is held many same answer) kept =
     let e : Error = plain kind.EmptyBatches in
     as_given m m' ticket (stream_ticket left) (stream_ticket s') (failed e) (event_ending r) (behind_ticket ended s' left (event_ending r) kept (ap stream_ticket same)) (ap event_ending answer)
-    (failing m m' ticket (stream_ticket left) e (other_kind e kind.EmptyBatches refl (λ bad. cc)) (subst (λ (x : Stepped). LinkKeeps m m' ticket (stream_ticket left) (step_ending x)) is k))
+    (failing m m' ticket (stream_ticket left) e (other_kind e kind.EmptyBatches refl (λ bad. cc)) (subst (λ (x : Stepped). LinkKeeps m m' ticket (stream_ticket left) (stepped_ending x)) is k))
 sought_keeps m m' ticket again left ended s' came r k (fails e is same answer) kept =
-    as_given m m' ticket (stream_ticket left) (stream_ticket s') (step_ending came) (event_ending r) (behind_ticket ended s' left (event_ending r) kept (ap stream_ticket same)) (ap event_ending answer ∙ ap step_ending (sym is)) k
+    as_given m m' ticket (stream_ticket left) (stream_ticket s') (stepped_ending came) (event_ending r) (behind_ticket ended s' left (event_ending r) kept (ap stream_ticket same)) (ap event_ending answer ∙ ap stepped_ending (sym is)) k
 
 -- an empty reply behind which the call goes on
-pub going_keeps : (m m' : Moment) (ticket : Option ℕ) (again : Bool) (left counting : ClientStream) (came : Stepped) → LinkKeeps m m' ticket (stream_ticket left) (step_ending came) → GoesBehind again came left counting → LinkKeeps m m' ticket (stream_ticket counting) finished
+pub going_keeps : (m m' : Moment) (ticket : Option ℕ) (again : Bool) (left counting : ClientStream) (came : Stepped) → LinkKeeps m m' ticket (stream_ticket left) (stepped_ending came) → GoesBehind again came left counting → LinkKeeps m m' ticket (stream_ticket counting) finished
 going_keeps m m' ticket again left counting came k h =
-    subst (λ (t : Option ℕ). LinkKeeps m m' ticket t finished) (sym (ap stream_ticket h.counts)) (subst (λ (x : Stepped). LinkKeeps m m' ticket (stream_ticket left) (step_ending x)) h.empty k)
+    subst (λ (t : Option ℕ). LinkKeeps m m' ticket t finished) (sym (ap stream_ticket h.counts)) (subst (λ (x : Stepped). LinkKeeps m m' ticket (stream_ticket left) (stepped_ending x)) h.empty k)
 
 -- ---- where the token lies
 
@@ -167,7 +167,7 @@ or_false true = refl
 or_false false = refl
 
 -- the token behind the event that was given
-pub token_behind_is : (events : List (List ℕ)) (saved batch : Option Tree) (event : List ℕ) (id : Tree) → id_in event ≡ Some id → token_at (place_by events batch) saved (Some event) batch ≡ Some (token_behind events batch id)
+pub token_behind_is : (events : List (List ℕ)) (saved batch : Option Tree) (event : List ℕ) (id : Tree) → id_in event ≡ Some id → token_lying (place_by events batch) saved (Some event) batch ≡ Some (token_behind events batch id)
 token_behind_is [] saved (Some token) event id has = refl
 token_behind_is [] saved None event id has = has
 token_behind_is (e ∷ es) saved batch event id has = has

@@ -36,8 +36,8 @@ use Rattle.mg_ops.proofs.Reading.{batch_as, batch_read, named_read}
 use Rattle.mg_cursor.specs.Client.{PlainIf}
 use Rattle.mg_change.specs.ClientOpenings.{ClientOpening, HearsOpening, IsSoundOpening, OpensStream, RunsOpening, SendsSoundly, begins, broke, first_aggregate, goes_on, not_built, opened, opened_with}
 use Rattle.mg_change.specs.ClientStreams.{Asks, ClientStream, IsAggregate, IsOnItsWay, IsSound, SavedFor, is_read_again, resuming_in, stream_token}
-use Rattle.mg_change.specs.Following.{OpeningMoves, OpensTo, events_in, follow_of, not_open, opening_by}
-use Rattle.mg_change.specs.Steps.{OpensBy}
+use Rattle.mg_change.specs.Following.{OpeningMoves, OpensTo, event_fields, follow_of, not_open, opening_by}
+use Rattle.mg_change.specs.Steps.{OpensCursor}
 use Rattle.mg_change.proofs.Aimed.{aimed_at}
 use Rattle.mg_change.proofs.Garbled.{IsHeld, came, place_heard, start_garbled, still_waits}
 use Rattle.mg_change.proofs.Reading.{events_read}
@@ -121,21 +121,21 @@ waits_at w start place = record (not_open w start) { doing = starting place }
 abbrev cursor_read : CursorSpecification → Items → Cursor
 cursor_read out batch = record { id = out.info.id; space = space out.info.ns; token = out.post_batch_resume_token; batch = batch }
 
-opened_by : (mid log' : Told) (awaited : Awaited) (args : WatchArgs) (w : Watch) (start : Start) (place : Option ℕ) (wire : ℤ) (bytes : List ℕ) (out : CursorSpecification × Option Timestamp) (o : OpensBy (first_aggregate args) bytes out) (events : Option (List Fields)) → documents_in o.opens.opens.batch ≡ events → Asks args w start → IsSuccess bytes
+opened_by : (mid log' : Told) (awaited : Awaited) (args : WatchArgs) (w : Watch) (start : Start) (place : Option ℕ) (wire : ℤ) (bytes : List ℕ) (out : CursorSpecification × Option Timestamp) (o : OpensCursor (first_aggregate args) bytes out) (events : Option (List Fields)) → documents_in o.opens.opens.batch ≡ events → Asks args w start → IsSuccess bytes
     → Sees mid log' place (reply bytes) → Moved mid log' (waits_at w start place) (follow_of awaited w start (opened_with args wire out) place [])
 opened_by mid log' awaited args w start place wire bytes out o None has asks success sees =
     let c = cursor_read out.0 o.opens.opens.batch in
     let none : batch_of (fields bytes) ≡ None = batch_read (fields bytes) c o.opens.opens.says ∙ ap (option_map (batch_as c)) has in
-    start_garbled mid log' (waits_at w start place) place bytes out.0.info.id (events_in out.0.initial_reply) out.0.post_batch_resume_token (stream_token (opened_with args wire out)) refl (watch_spoiled w start bytes success none) sees
+    start_garbled mid log' (waits_at w start place) place bytes out.0.info.id (event_fields out.0.initial_reply) out.0.post_batch_resume_token (stream_token (opened_with args wire out)) refl (watch_spoiled w start bytes success none) sees
 opened_by mid log' awaited args w start place wire bytes out o (Some events) has asks success sees =
     let c = cursor_read out.0 o.opens.opens.batch in
     let some : batch_of (fields bytes) ≡ Some (batch_as c events) = batch_read (fields bytes) c o.opens.opens.says ∙ ap (option_map (batch_as c)) has in
     let heard = start_heard mid log' (waits_at w start place) place bytes (batch_as c events) refl (record { success = success; batch_is = some }) sees in
     let token : stream_token (opened_with args wire out) ≡ token_behind start events out.0.post_batch_resume_token = first_behind args.options start o.opens.opens.batch events out.0.is_empty out.0.post_batch_resume_token asks.from has o.opens.opens.first in
-    let ahead : events_in out.0.initial_reply ≡ events = ap events_in o.opens.opens.whole ∙ events_read bytes c o.opens.opens.says ∙ ap (λ (d : Option (List Fields)). unwrap_or d []) has in
+    let ahead : event_fields out.0.initial_reply ≡ events = ap event_fields o.opens.opens.whole ∙ events_read bytes c o.opens.opens.says ∙ ap (λ (d : Option (List Fields)). unwrap_or d []) has in
     let f : Follow = opened_at (waits_at w start place) place (batch_as c events) in
-    let with_ahead : Moved mid log' (waits_at w start place) (record f { ahead = events_in out.0.initial_reply }) = subst (λ (es : List Fields). Moved mid log' (waits_at w start place) (record f { ahead = es })) (sym ahead) heard in
-    subst (λ (t : Option Tree). Moved mid log' (waits_at w start place) (record f { ahead = events_in out.0.initial_reply; token = t })) (sym token) with_ahead
+    let with_ahead : Moved mid log' (waits_at w start place) (record f { ahead = event_fields out.0.initial_reply }) = subst (λ (es : List Fields). Moved mid log' (waits_at w start place) (record f { ahead = es })) (sym ahead) heard in
+    subst (λ (t : Option Tree). Moved mid log' (waits_at w start place) (record f { ahead = event_fields out.0.initial_reply; token = t })) (sym token) with_ahead
 
 -- ---- the request
 
@@ -162,7 +162,7 @@ module _ (args : WatchArgs) (w : Watch) (start : Start) (old new : Awaited) (log
       (ran s.command (not_open w start) (waits_at w start) (opened_at (not_open w start)) (opening_request s.command (not_open w start) (opening_asks args w start s asks is)) old new log log' wire s (step.Done bytes) refl runs).0
 
   -- A reply came, and a stream was made of it.
-  pub opening_came : (bytes : List ℕ) (out : CursorSpecification × Option Timestamp) → OpensBy (first_aggregate args) bytes out → (runs : Runs old new log log' wire s (step.Done bytes))
+  pub opening_came : (bytes : List ℕ) (out : CursorSpecification × Option Timestamp) → OpensCursor (first_aggregate args) bytes out → (runs : Runs old new log log' wire s (step.Done bytes))
       → Moved log log' (opening_by old (Some s) w start) (follow_of new w start (opened_with args wire out) (place_heard old new log log' wire s (step.Done bytes) runs) [])
   opening_came bytes out o runs =
       let place = place_heard old new log log' wire s (step.Done bytes) runs in
@@ -218,7 +218,7 @@ on_its_way (first ticket) held = tt
 on_its_way (second ticket) held = tt
 
 -- the stream of an opening is sound
-pub opened_sound : (plain : Bool) (args : WatchArgs) (wire : ℤ) (bytes : List ℕ) (out : CursorSpecification × Option Timestamp) → OpensBy (first_aggregate args) bytes out → IsSound plain (opened_with args wire out)
+pub opened_sound : (plain : Bool) (args : WatchArgs) (wire : ℤ) (bytes : List ℕ) (out : CursorSpecification × Option Timestamp) → OpensCursor (first_aggregate args) bytes out → IsSound plain (opened_with args wire out)
 opened_sound plain args wire bytes out o = record {
   saved = saved_for args.options wire out.0.is_empty (is_some out.0.post_batch_resume_token) out.1;
   named = named_read (fields bytes) (cursor_read out.0 o.opens.opens.batch) o.opens.opens.says;

@@ -20,7 +20,7 @@ use Rattle.mg_ops.proofs.Unread.{unread_fails}
 use Rattle.mg_cursor.specs.Causes.{TellsNoCursor}
 use Rattle.mg_change.specs.ClientOpenings.{ClientOpening, HearsOpening, OpensStream, ReadsOpening, RunsOpening, begins, broke, first_aggregate, goes_on, not_built, opened, opened_with, sending_ticket}
 use Rattle.mg_change.specs.ClientStreams.{ClientStream, is_read_again, resuming_in}
-use Rattle.mg_change.specs.OpeningCauses.{FliesFirst, Opened, OpeningCame, OpeningCaused, OpeningFails, OpensSoFar, not_built as cannot_build, out_of_memory, request}
+use Rattle.mg_change.specs.OpeningCauses.{FliesFirst, StreamOpened, OpeningCame, OpeningCaused, OpeningFails, OpensSoFar, not_built as cannot_build, out_of_memory, request}
 use Rattle.mg_change.specs.Steps.{CannotResume}
 use Rattle.mg_change.proofs.Garbled.{still_waits}
 
@@ -96,7 +96,7 @@ module _ (past past' : Past) (grows : Grows past past') (args : WatchArgs) where
         last = subst (λ (w : ℤ). ((is_read_again session && is_retried (reply bytes)) ≡ false) ⊎ IsRetried past' h.place (resuming_in (first_aggregate args) w session)) (sym grows.wire) l.last;
       }
 
-  abbrev pub opened_grows : (s : ClientStream) → Opened past args s → Opened past' args s
+  abbrev pub opened_grows : (s : ClientStream) → StreamOpened past args s → StreamOpened past' args s
   opened_grows s h = record {
     bytes = h.bytes;
     session = h.session;

@@ -9,7 +9,7 @@ use Rattle.mg_link.specs.Acts.{ticket_after}
 use Rattle.mg_link.specs.Errors.{plain}
 use Rattle.mg_link.specs.Exec.{RunsStarting, Sending, ticket_at, ticket_of}
 use Rattle.mg_link.specs.Link.{Awaited, Told}
-use Rattle.mg_link.specs.Moment.{LinkKeeps, Moment, failed, finished, pending, step_ending as step_ended}
+use Rattle.mg_link.specs.Moment.{LinkKeeps, Moment, failed, finished, pending, step_ending}
 use Rattle.mg_link.specs.Session.{Session}
 use Rattle.mg_link.specs.declared.action.Step.{Step}
 use Rattle.mg_link.specs.declared.action.Step.TheVariants as step
@@ -37,11 +37,11 @@ use Rattle.mg_cursor.specs.declared.polls.TryPoll.TheVariants as try
 use Rattle.mg_cursor.specs.declared.results.AdvanceResult.TheVariants as result
 use Rattle.mg_cursor.proofs.Advancing.{breaks_not_io}
 use Rattle.mg_cursor.proofs.Hearing.{behind_rested, failing, keeps_from, keeps_quiet, no_room, other_kind, unread_not_io}
-use Rattle.mg_change.specs.ClientStreams.{ClientStream, Doing, IsAlive, IsHolding, IsOwed, IsSaved, IsSound, SoundBy, behind_event, follows, id_in, kills, next_has, no_counts, opened_by, owes, owing_with, remembered_empty, renewed, resumes, stream_ticket, ticket_by, token_in, with_cursor}
+use Rattle.mg_change.specs.ClientStreams.{ClientStream, Doing, IsAlive, IsHolding, IsOwed, IsSaved, IsSound, SoundBy, behind_event, follows, id_in, kills, next_has, no_counts, new_stream, owes, owing_with, remembered_empty, renewed, resumes, stream_ticket, ticket_by, token_known, with_cursor}
 use Rattle.mg_change.specs.ClosingStreams.{closed_stream, landing_of, landing_ticket, stream_closing_ticket}
-use Rattle.mg_change.specs.Steps.{CannotResume, DoesStep, FailsMore, FindsIn, HearsClosing, HearsResumption, IsBuilt, IsToAsk, LooksAt, ReadsResumption, RunsResumption, TakesMore, asks_more, asks_now, broke, broken, closes, emptied, ends, final, finds, gave, goes_on, is_empty, looks, next_is, no_memory, none, not_asked, not_now, not_resumed, renews, replaced_by, resumes_now, some, waits_more, waits_resumption}
-use Rattle.mg_change.specs.StreamCalls.{Falls, GivesEvent, LacksToken, event_ending, kept_behind, step_ending, steps_left, try_ending}
-use Rattle.mg_change.specs.StreamView.{IsOwnPlace, IsPlaced, IsSavedPlace, IsStream, IsThere, KeepsOwn, SavesBy, SavesWhile, changes_of, doing_of, empty_place, known_at, lent_if, place_by, returned, token_at, with_token}
+use Rattle.mg_change.specs.Steps.{CannotResume, DoesStep, FailsMore, FindsIn, HearsClosing, HearsResumption, NoneToBuild, Prepares, LooksAt, ReadsResumption, RunsResumption, TakesMore, asks_more, asks_now, broke, broken, closes, emptied, ends, final, finds, gave, goes_on, is_empty, looks, next_is, no_memory, none, not_asked, not_now, not_resumed, renews, replaced_by, resumes_now, some, waits_more, waits_resumption}
+use Rattle.mg_change.specs.StreamCalls.{Falls, AnswersEvent, LacksToken, event_ending, kept_behind, stepped_ending, steps_left, try_ending}
+use Rattle.mg_change.specs.StreamView.{IsOwnPlace, IsPlaced, IsSavedPlace, IsStream, IsThere, KeepsOwn, SavesBy, SavesWhile, changes_of, doing_of, empty_place, known_at, lent_if, place_by, returned, token_lying, with_token}
 use Rattle.mg_change.specs.declared.changes.Changes.{Changes}
 use Rattle.mg_change.specs.declared.changes.Phase.{Phase}
 use Rattle.mg_change.specs.declared.changes.Phase.TheVariants as phase
@@ -61,16 +61,16 @@ saved_same event batch None = refl
 saved_same event batch (Some known) = refl
 
 pub opens_as : (a : ChangeStreamAggregate) (out : CursorSpecification) (event : Option (List ℕ)) (batch : Option Tree) (c : ClientCursor) (events : List (List ℕ)) (n : Counts) → c ≡ new_client out → events ≡ [] → n ≡ no_counts
-    → record (opened_by a out) { aggregate = record a { resume = option_map (known_at place.Saved event batch) a.resume }; cursor = c; behind = events; counts = n } ≡ opened_by a out
+    → record (new_stream a out) { aggregate = record a { resume = option_map (known_at place.Saved event batch) a.resume }; cursor = c; behind = events; counts = n } ≡ new_stream a out
 opens_as a out event batch c events n same none_left uncounted =
-    ap (λ (o : Option ChangeStreamData). record (opened_by a out) { aggregate = record a { resume = o }; cursor = c; behind = events; counts = n }) (saved_same event batch a.resume)
-    ∙ ap (λ (x : ClientCursor). record (opened_by a out) { cursor = x; behind = events; counts = n }) same
-    ∙ ap (λ (es : List (List ℕ)). record (opened_by a out) { behind = es; counts = n }) none_left
-    ∙ ap (λ (m : Counts). record (opened_by a out) { counts = m }) uncounted
+    ap (λ (o : Option ChangeStreamData). record (new_stream a out) { aggregate = record a { resume = o }; cursor = c; behind = events; counts = n }) (saved_same event batch a.resume)
+    ∙ ap (λ (x : ClientCursor). record (new_stream a out) { cursor = x; behind = events; counts = n }) same
+    ∙ ap (λ (es : List (List ℕ)). record (new_stream a out) { behind = es; counts = n }) none_left
+    ∙ ap (λ (m : Counts). record (new_stream a out) { counts = m }) uncounted
 
 -- ---- what it tells
 
-pub token_cached : (at : TokenPlace) (event : Option (List ℕ)) (batch : Option Tree) (o : Option ChangeStreamData) {known : ChangeStreamData} → o ≡ Some known → token_at at (token_in o) event batch ≡ token_in (option_map (known_at at event batch) o)
+pub token_cached : (at : TokenPlace) (event : Option (List ℕ)) (batch : Option Tree) (o : Option ChangeStreamData) {known : ChangeStreamData} → o ≡ Some known → token_lying at (token_known o) event batch ≡ token_known (option_map (known_at at event batch) o)
 token_cached at event batch None is = absurd cc
 token_cached at event batch (Some known) is = refl
 
@@ -138,25 +138,25 @@ close_any s d (step.Failed e) s' r (inr h) = inr (h.0, h.1, h.2)
 overcome : (m m' : Moment) (t t' : Option ℕ) (e : Error) → LinkKeeps m m' t t' (failed e) → LinkKeeps m m' t t' finished
 overcome m m' t t' e k = record { tickets = k.tickets; pended = k.pended; lost = tt; prompt = λ is. tt; later = k.later }
 
-looks_keep : (m m' : Moment) (t : Option ℕ) (again : Bool) (s : ClientStream) (c : ClientCursor) (said : List ℕ) (s' : ClientStream) (r : Stepped) → c.doing ≡ rests → LooksAt again s c said s' r → LinkKeeps m m' t (client_ticket c) finished → LinkKeeps m m' t (stream_ticket s') (step_ending r)
-looks_keep m m' t again s c said s' r quiet (some event events these is answer) k = as_given m m' t (client_ticket c) (stream_ticket s') finished (step_ending r) (ap stream_ticket is) (ap step_ending answer) k
-looks_keep m m' t again s c said s' r quiet (none these is answer) k = as_given m m' t (client_ticket c) (stream_ticket s') finished (step_ending r) (ap stream_ticket is) (ap step_ending answer) k
+looks_keep : (m m' : Moment) (t : Option ℕ) (again : Bool) (s : ClientStream) (c : ClientCursor) (said : List ℕ) (s' : ClientStream) (r : Stepped) → c.doing ≡ rests → LooksAt again s c said s' r → LinkKeeps m m' t (client_ticket c) finished → LinkKeeps m m' t (stream_ticket s') (stepped_ending r)
+looks_keep m m' t again s c said s' r quiet (some event events these is answer) k = as_given m m' t (client_ticket c) (stream_ticket s') finished (stepped_ending r) (ap stream_ticket is) (ap stepped_ending answer) k
+looks_keep m m' t again s c said s' r quiet (none these is answer) k = as_given m m' t (client_ticket c) (stream_ticket s') finished (stepped_ending r) (ap stream_ticket is) (ap stepped_ending answer) k
 looks_keep m m' t false s c said s' r quiet (broken e breaks is answer) k =
-    as_given m m' t (client_ticket c) (stream_ticket s') finished (step_ending r) (ap stream_ticket is ∙ sym (ap cursors.ticket_by quiet)) (ap step_ending answer) k
+    as_given m m' t (client_ticket c) (stream_ticket s') finished (stepped_ending r) (ap stream_ticket is ∙ sym (ap cursors.ticket_by quiet)) (ap stepped_ending answer) k
 looks_keep m m' t true s c said s' r quiet (broken e breaks is answer) k =
-    as_given m m' t (client_ticket c) (stream_ticket s') (failed e) (step_ending r) (ap stream_ticket is ∙ sym (ap cursors.ticket_by quiet)) (ap step_ending answer)
+    as_given m m' t (client_ticket c) (stream_ticket s') (failed e) (stepped_ending r) (ap stream_ticket is ∙ sym (ap cursors.ticket_by quiet)) (ap stepped_ending answer)
     (failing m m' t (client_ticket c) e (breaks_not_io said e breaks) k)
 
-fails_keep : (m m' : Moment) (t : Option ℕ) (s : ClientStream) (c : ClientCursor) (e : Error) (s' : ClientStream) (r : Stepped) → s.doing ≡ follows → c.doing ≡ rests → FailsMore s c e s' r → LinkKeeps m m' t (client_ticket c) (failed e) → LinkKeeps m m' t (stream_ticket s') (step_ending r)
+fails_keep : (m m' : Moment) (t : Option ℕ) (s : ClientStream) (c : ClientCursor) (e : Error) (s' : ClientStream) (r : Stepped) → s.doing ≡ follows → c.doing ≡ rests → FailsMore s c e s' r → LinkKeeps m m' t (client_ticket c) (failed e) → LinkKeeps m m' t (stream_ticket s') (stepped_ending r)
 fails_keep m m' t s c e s' r on quiet (goes_on so is answer) k =
-    as_given m m' t (client_ticket c) (stream_ticket s') finished (step_ending r) (ap stream_ticket is ∙ sym (ap cursors.ticket_by quiet)) (ap step_ending answer) (overcome m m' t (client_ticket c) e k)
-fails_keep m m' t s c e s' r on quiet (no_memory room is answer) k = as_given m m' t (client_ticket c) (stream_ticket s') (failed e) (step_ending r) (ap stream_ticket is ∙ sym (ap cursors.ticket_by quiet)) (ap step_ending answer) k
-fails_keep m m' t s c e s' r on quiet (final not room is answer) k = as_given m m' t (client_ticket c) (stream_ticket s') (failed e) (step_ending r) (ap stream_ticket is ∙ ap (ticket_by c) on) (ap step_ending answer) k
+    as_given m m' t (client_ticket c) (stream_ticket s') finished (stepped_ending r) (ap stream_ticket is ∙ sym (ap cursors.ticket_by quiet)) (ap stepped_ending answer) (overcome m m' t (client_ticket c) e k)
+fails_keep m m' t s c e s' r on quiet (no_memory room is answer) k = as_given m m' t (client_ticket c) (stream_ticket s') (failed e) (stepped_ending r) (ap stream_ticket is ∙ sym (ap cursors.ticket_by quiet)) (ap stepped_ending answer) k
+fails_keep m m' t s c e s' r on quiet (final not room is answer) k = as_given m m' t (client_ticket c) (stream_ticket s') (failed e) (stepped_ending r) (ap stream_ticket is ∙ ap (ticket_by c) on) (ap stepped_ending answer) k
 
 -- the batch of a resumption is looked at, and the link is not called
-pub looked_keeps : (m : Moment) (s : ClientStream) (c : ClientCursor) (said : List ℕ) (s' : ClientStream) (r : Stepped) → c.doing ≡ rests → s.doing ≡ renewed → LooksAt true s c said s' r → LinkKeeps m m (stream_ticket s) (stream_ticket s') (step_ending r)
+pub looked_keeps : (m : Moment) (s : ClientStream) (c : ClientCursor) (said : List ℕ) (s' : ClientStream) (r : Stepped) → c.doing ≡ rests → s.doing ≡ renewed → LooksAt true s c said s' r → LinkKeeps m m (stream_ticket s) (stream_ticket s') (stepped_ending r)
 looked_keeps m s c said s' r quiet on h =
-    keeps_from m m None (stream_ticket s) (stream_ticket s') (step_ending r) (sym (ap (ticket_by s.cursor) on))
+    keeps_from m m None (stream_ticket s) (stream_ticket s') (stepped_ending r) (sym (ap (ticket_by s.cursor) on))
     (looks_keep m m None true s c said s' r quiet h (keeps_quiet m c quiet))
 
 not_asking_ticket : (d : cursors.Doing) → IsNotAsking d → cursors.ticket_by d ≡ None
@@ -164,21 +164,21 @@ not_asking_ticket rests h = refl
 not_asking_ticket (holds said) h = refl
 not_asking_ticket (asks sending) h = absurd h
 
-read_keeps : (m m' : Moment) (t : Option ℕ) (s : ClientStream) (said : List ℕ) (s' : ClientStream) (r : Stepped) → IsNotAsking s.cursor.doing → ReadsResumption s said s' r → LinkKeeps m m' t None finished → LinkKeeps m m' t (stream_ticket s') (step_ending r)
-read_keeps m m' t s said s' r quiet (gave out opens is answer) k = as_given m m' t None (stream_ticket s') finished (step_ending r) (ap stream_ticket is ∙ not_asking_ticket s.cursor.doing quiet) (ap step_ending answer) k
+read_keeps : (m m' : Moment) (t : Option ℕ) (s : ClientStream) (said : List ℕ) (s' : ClientStream) (r : Stepped) → IsNotAsking s.cursor.doing → ReadsResumption s said s' r → LinkKeeps m m' t None finished → LinkKeeps m m' t (stream_ticket s') (stepped_ending r)
+read_keeps m m' t s said s' r quiet (gave out opens is answer) k = as_given m m' t None (stream_ticket s') finished (stepped_ending r) (ap stream_ticket is ∙ not_asking_ticket s.cursor.doing quiet) (ap stepped_ending answer) k
 read_keeps m m' t s said s' r quiet (broke e fails_so is answer) k =
-    as_given m m' t None (stream_ticket s') (failed e) (step_ending r) (ap stream_ticket is) (ap step_ending answer) (failing m m' t None e (unread_not_io (fields said) e fails_so) k)
+    as_given m m' t None (stream_ticket s') (failed e) (stepped_ending r) (ap stream_ticket is) (ap stepped_ending answer) (failing m m' t None e (unread_not_io (fields said) e fails_so) k)
 
-pub resumption_keeps : (m m' : Moment) (t : Option ℕ) (s : ClientStream) (came : Step Sending (List ℕ)) (s' : ClientStream) (r : Stepped) → IsNotAsking s.cursor.doing → HearsResumption s came s' r → LinkKeeps m m' t (ticket_after ticket_of came) (step_ended came) → LinkKeeps m m' t (stream_ticket s') (step_ending r)
-resumption_keeps m m' t s (step.Pending sending) s' r quiet h k = as_given m m' t (ticket_of sending) (stream_ticket s') pending (step_ending r) (ap stream_ticket h.0) (ap step_ending h.1) k
+pub resumption_keeps : (m m' : Moment) (t : Option ℕ) (s : ClientStream) (came : Step Sending (List ℕ)) (s' : ClientStream) (r : Stepped) → IsNotAsking s.cursor.doing → HearsResumption s came s' r → LinkKeeps m m' t (ticket_after ticket_of came) (step_ending came) → LinkKeeps m m' t (stream_ticket s') (stepped_ending r)
+resumption_keeps m m' t s (step.Pending sending) s' r quiet h k = as_given m m' t (ticket_of sending) (stream_ticket s') pending (stepped_ending r) (ap stream_ticket h.0) (ap stepped_ending h.1) k
 resumption_keeps m m' t s (step.Done said) s' r quiet h k = read_keeps m m' t s said s' r quiet h k
-resumption_keeps m m' t s (step.Failed e) s' r quiet h k = as_given m m' t None (stream_ticket s') (failed e) (step_ending r) (ap stream_ticket h.0) (ap step_ending h.1) k
+resumption_keeps m m' t s (step.Failed e) s' r quiet h k = as_given m m' t None (stream_ticket s') (failed e) (stepped_ending r) (ap stream_ticket h.0) (ap stepped_ending h.1) k
 
-pub closing_keeps : (m m' : Moment) (t : Option ℕ) (s : ClientStream) (came : Step ClosingCursor (Unit {0})) (s' : ClientStream) (r : Stepped) → HearsClosing s came s' r → LinkKeeps m m' t (ticket_after closing_ticket came) (step_ended came) → LinkKeeps m m' t (stream_ticket s') (step_ending r)
-closing_keeps m m' t s (step.Pending before) s' r h k = as_given m m' t (closing_ticket before) (stream_ticket s') pending (step_ending r) (ap stream_ticket h.0) (ap step_ending h.1) k
-closing_keeps m m' t s (step.Done u) s' r h k = as_given m m' t None (stream_ticket s') finished (step_ending r) (ap stream_ticket h.0) (ap step_ending h.1) k
-closing_keeps m m' t s (step.Failed e) s' r (inl h) k = as_given m m' t None (stream_ticket s') (failed e) (step_ending r) (ap stream_ticket h.1) (ap step_ending h.2) k
-closing_keeps m m' t s (step.Failed e) s' r (inr h) k = as_given m m' t None (stream_ticket s') finished (step_ending r) (ap stream_ticket h.1) (ap step_ending h.2) (overcome m m' t None e k)
+pub closing_keeps : (m m' : Moment) (t : Option ℕ) (s : ClientStream) (came : Step ClosingCursor (Unit {0})) (s' : ClientStream) (r : Stepped) → HearsClosing s came s' r → LinkKeeps m m' t (ticket_after closing_ticket came) (step_ending came) → LinkKeeps m m' t (stream_ticket s') (stepped_ending r)
+closing_keeps m m' t s (step.Pending before) s' r h k = as_given m m' t (closing_ticket before) (stream_ticket s') pending (stepped_ending r) (ap stream_ticket h.0) (ap stepped_ending h.1) k
+closing_keeps m m' t s (step.Done u) s' r h k = as_given m m' t None (stream_ticket s') finished (stepped_ending r) (ap stream_ticket h.0) (ap stepped_ending h.1) k
+closing_keeps m m' t s (step.Failed e) s' r (inl h) k = as_given m m' t None (stream_ticket s') (failed e) (stepped_ending r) (ap stream_ticket h.1) (ap stepped_ending h.2) k
+closing_keeps m m' t s (step.Failed e) s' r (inr h) k = as_given m m' t None (stream_ticket s') finished (stepped_ending r) (ap stream_ticket h.1) (ap stepped_ending h.2) (overcome m m' t None e k)
 
 -- a resumption that is not built
 pub unresumed_not_io : (a : ChangeStreamAggregate) (wire : ℤ) (session : Option Session) (e : Error) → FailsBy (CannotResume a wire session) e → e.kind ≡ kind.Io → ⊥
@@ -187,9 +187,9 @@ unresumed_not_io a wire session e (inr (inl size)) = other_kind e (kind.InvalidA
 unresumed_not_io a wire session e (inr (inr limit)) = other_kind e kind.BsonSerialization limit.0 (λ bad. cc)
 
 -- the call fails, and a resumption is owed
-pub owing_keeps : (m : Moment) (s s' : ClientStream) (r : Stepped) (e : Error) → (e.kind ≡ kind.Io → ⊥) → s' ≡ record s { doing = owes } → r ≡ stepped.Gives (try.Failed e) → LinkKeeps m m None (stream_ticket s') (step_ending r)
+pub owing_keeps : (m : Moment) (s s' : ClientStream) (r : Stepped) (e : Error) → (e.kind ≡ kind.Io → ⊥) → s' ≡ record s { doing = owes } → r ≡ stepped.Gives (try.Failed e) → LinkKeeps m m None (stream_ticket s') (stepped_ending r)
 owing_keeps m s s' r e other is answer =
-    as_given m m None None (stream_ticket s') (failed e) (step_ending r) (ap stream_ticket is) (ap step_ending answer) (failing m m None None e other (keeps_same m None finished (λ n f. cc) refl tt tt))
+    as_given m m None None (stream_ticket s') (failed e) (stepped_ending r) (ap stream_ticket is) (ap stepped_ending answer) (failing m m None None e other (keeps_same m None finished (λ n f. cc) refl tt tt))
 
 -- ---- a step comes closer to the end of its call
 
@@ -264,7 +264,7 @@ takes_more s c came next.End s' r heard h = absurd (never_ends s.cursor came c h
 takes_more s c came (next.Failed e) s' r heard h = h
 
 -- a poll that builds no getMore
-pub poll_steps : (old new : Awaited) (log log' : Told) (wire : ℤ) (session : Option Session) (started : Bool) (s : ClientStream) (c : ClientCursor) (p : NextPoll) (s' : ClientStream) (r : Stepped) → s.doing ≡ follows → s.behind ≡ [] → IsBuilt s.cursor → PollsNext old new log log' wire session started s.cursor c p → TakesPoll s c p s' r → DoesStep old new log log' wire session started s s' r
+pub poll_steps : (old new : Awaited) (log log' : Told) (wire : ℤ) (session : Option Session) (started : Bool) (s : ClientStream) (c : ClientCursor) (p : NextPoll) (s' : ClientStream) (r : Stepped) → s.doing ≡ follows → s.behind ≡ [] → NoneToBuild s.cursor → PollsNext old new log log' wire session started s.cursor c p → TakesPoll s c p s' r → DoesStep old new log log' wire session started s s' r
 poll_steps old new log log' wire session started s c p s' r on none_left built (hands_out said at quiet unstarted is answer) h =
     looks on none_left said at quiet unstarted (subst (λ (x : ClientCursor). LooksAt false s x said s' r) is (subst (λ (q : NextPoll). TakesPoll s c q s' r) answer h))
 poll_steps old new log log' wire session started s c p s' r on none_left built (is_over at over_so quiet unstarted is answer) h =
@@ -293,7 +293,7 @@ poll_rests old new log log' wire session started c c' p ended (begins at may sen
 poll_rests old new log log' wire session started c c' p ended (polls_on sending at asked) = heard_rests c asked.came c' p ended asked.hears
 
 -- but at the end the token is saved
-pub poll_saves : (old new : Awaited) (log log' : Told) (wire : ℤ) (session : Option Session) (started : Bool) (t : TokenPlace) (c c' : ClientCursor) (p : NextPoll) → (p ≡ next.End → ⊥) → IsBuilt c → SavesWhile t c.doing → PollsNext old new log log' wire session started c c' p → IsSavedPlace t
+pub poll_saves : (old new : Awaited) (log log' : Told) (wire : ℤ) (session : Option Session) (started : Bool) (t : TokenPlace) (c c' : ClientCursor) (p : NextPoll) → (p ≡ next.End → ⊥) → NoneToBuild c → SavesWhile t c.doing → PollsNext old new log log' wire session started c c' p → IsSavedPlace t
 poll_saves old new log log' wire session started t c c' p more built saves (hands_out said at quiet unstarted is answer) = subst (SavesWhile t) at saves
 poll_saves old new log log' wire session started t c c' p more built saves (is_over at over_so quiet unstarted is answer) = absurd (more answer)
 poll_saves old new log log' wire session started t c c' p more built saves (not_polled at may e fails_so quiet unstarted is answer) = absurd (built at may)
@@ -301,21 +301,21 @@ poll_saves old new log log' wire session started t c c' p more built saves (begi
 poll_saves old new log log' wire session started t c c' p more built saves (polls_on sending at asked) = subst (SavesWhile t) at saves
 
 -- and there the cursor is the same
-pub poll_ends : (old new : Awaited) (log log' : Told) (wire : ℤ) (session : Option Session) (started : Bool) (c c' : ClientCursor) → IsBuilt c → PollsNext old new log log' wire session started c c' next.End → c' ≡ c
+pub poll_ends : (old new : Awaited) (log log' : Told) (wire : ℤ) (session : Option Session) (started : Bool) (c c' : ClientCursor) → NoneToBuild c → PollsNext old new log log' wire session started c c' next.End → c' ≡ c
 poll_ends old new log log' wire session started c c' built (hands_out said at quiet unstarted is answer) = absurd cc
 poll_ends old new log log' wire session started c c' built (is_over at over_so quiet unstarted is answer) = is
 poll_ends old new log log' wire session started c c' built (not_polled at may e fails_so quiet unstarted is answer) = absurd (built at may)
 poll_ends old new log log' wire session started c c' built (begins at may sending new_one asked) = absurd (built at may)
 poll_ends old new log log' wire session started c c' built (polls_on sending at asked) = absurd (never_ends c asked.came c' asked.hears)
 
-pub poll_keeps : (m m' : Moment) (s : ClientStream) (c : ClientCursor) (p : NextPoll) (s' : ClientStream) (r : Stepped) → s.doing ≡ follows → ((p ≡ next.Pending → ⊥) → c.doing ≡ rests) → TakesPoll s c p s' r → LinkKeeps m m' (client_ticket s.cursor) (client_ticket c) (next_ending p) → LinkKeeps m m' (stream_ticket s) (stream_ticket s') (step_ending r)
+pub poll_keeps : (m m' : Moment) (s : ClientStream) (c : ClientCursor) (p : NextPoll) (s' : ClientStream) (r : Stepped) → s.doing ≡ follows → ((p ≡ next.Pending → ⊥) → c.doing ≡ rests) → TakesPoll s c p s' r → LinkKeeps m m' (client_ticket s.cursor) (client_ticket c) (next_ending p) → LinkKeeps m m' (stream_ticket s) (stream_ticket s') (stepped_ending r)
 poll_keeps m m' s c p s' r on quiet h k =
-    keeps_from m m' (client_ticket s.cursor) (stream_ticket s) (stream_ticket s') (step_ending r) (sym (ap (ticket_by s.cursor) on)) (by_poll p quiet h k)
+    keeps_from m m' (client_ticket s.cursor) (stream_ticket s) (stream_ticket s') (stepped_ending r) (sym (ap (ticket_by s.cursor) on)) (by_poll p quiet h k)
   where
-    by_poll : (q : NextPoll) → ((q ≡ next.Pending → ⊥) → c.doing ≡ rests) → TakesPoll s c q s' r → LinkKeeps m m' (client_ticket s.cursor) (client_ticket c) (next_ending q) → LinkKeeps m m' (client_ticket s.cursor) (stream_ticket s') (step_ending r)
-    by_poll next.Pending still t j = as_given m m' (client_ticket s.cursor) (client_ticket c) (stream_ticket s') pending (step_ending r) (ap stream_ticket t.0 ∙ ap (ticket_by c) on) (ap step_ending t.1) j
+    by_poll : (q : NextPoll) → ((q ≡ next.Pending → ⊥) → c.doing ≡ rests) → TakesPoll s c q s' r → LinkKeeps m m' (client_ticket s.cursor) (client_ticket c) (next_ending q) → LinkKeeps m m' (client_ticket s.cursor) (stream_ticket s') (stepped_ending r)
+    by_poll next.Pending still t j = as_given m m' (client_ticket s.cursor) (client_ticket c) (stream_ticket s') pending (stepped_ending r) (ap stream_ticket t.0 ∙ ap (ticket_by c) on) (ap stepped_ending t.1) j
     by_poll (next.Batch said) still t j = looks_keep m m' (client_ticket s.cursor) false s c said s' r (still (λ e. cc)) t j
-    by_poll next.End still t j = as_given m m' (client_ticket s.cursor) (client_ticket c) (stream_ticket s') finished (step_ending r) (ap stream_ticket t.0 ∙ ap (ticket_by c) on) (ap step_ending t.1) j
+    by_poll next.End still t j = as_given m m' (client_ticket s.cursor) (client_ticket c) (stream_ticket s') finished (stepped_ending r) (ap stream_ticket t.0 ∙ ap (ticket_by c) on) (ap stepped_ending t.1) j
     by_poll (next.Failed e) still t j = fails_keep m m' (client_ticket s.cursor) s c e s' r on (still (λ f. cc)) t j
 
 -- ---- the batches of a stream
@@ -359,7 +359,7 @@ fail_with s t c e s' r same h = over_fail s c e s' r (subst (λ (x : ClientStrea
 -- ---- a getMore that was built
 
 pub built_so : (s u : Changes) (b : Batches) (session : Option Session) → changes_of u ≡ changes_of s → u.token ≡ place.Saved → ((client_of s.batches).doing ≡ rests) × MayAsk (client_of s.batches)
-    → (sending : Sending) × IsNew (get_more (client_of u.batches) session) sending × (client_of b ≡ asking_by sending (client_of u.batches)) → IsToAsk session (changes_of s) (changes_of (record u { batches = b }))
+    → (sending : Sending) × IsNew (get_more (client_of u.batches) session) sending × (client_of b ≡ asking_by sending (client_of u.batches)) → Prepares session (changes_of s) (changes_of (record u { batches = b }))
 built_so s u b session same saved to_ask h =
     asks_now to_ask.0 to_ask.1 h.0 (subst (λ (x : ClientStream). IsNew (get_more x.cursor session) h.0) same h.1)
     (batches_saved u b (saved_place u.token saved) ∙ ap (λ (x : ClientCursor). with_cursor x (changes_of u)) h.2 ∙ ap (λ (x : ClientStream). with_cursor (asking_by h.0 x.cursor) x) same)
@@ -369,23 +369,23 @@ unbuilt_same s u b same saved stays = batches_saved u b (saved_place u.token sav
 
 -- behind it the stream goes on
 
-pub ready_built : (session : Option Session) (s u : ClientStream) → IsToAsk session s u → IsBuilt u.cursor
+pub ready_built : (session : Option Session) (s u : ClientStream) → Prepares session s u → NoneToBuild u.cursor
 ready_built session s u (asks_now at may sending new_one is) = λ quiet may_so. let bad : asks sending ≡ rests = sym (ap (λ (x : ClientStream). x.cursor.doing) is) ∙ quiet in absurd cc
-ready_built session s u (not_now built is) = subst (λ (x : ClientStream). IsBuilt x.cursor) (sym is) built
+ready_built session s u (not_now built is) = subst (λ (x : ClientStream). NoneToBuild x.cursor) (sym is) built
 
-pub ready_doing : (session : Option Session) (s u : ClientStream) → IsToAsk session s u → u.doing ≡ s.doing
+pub ready_doing : (session : Option Session) (s u : ClientStream) → Prepares session s u → u.doing ≡ s.doing
 ready_doing session s u (asks_now at may sending new_one is) = ap (λ (x : ClientStream). x.doing) is
 ready_doing session s u (not_now built is) = ap (λ (x : ClientStream). x.doing) is
 
-pub ready_behind : (session : Option Session) (s u : ClientStream) → IsToAsk session s u → u.behind ≡ s.behind
+pub ready_behind : (session : Option Session) (s u : ClientStream) → Prepares session s u → u.behind ≡ s.behind
 ready_behind session s u (asks_now at may sending new_one is) = ap (λ (x : ClientStream). x.behind) is
 ready_behind session s u (not_now built is) = ap (λ (x : ClientStream). x.behind) is
 
-pub ready_current : (session : Option Session) (s u : ClientStream) → IsToAsk session s u → u.current ≡ s.current
+pub ready_current : (session : Option Session) (s u : ClientStream) → Prepares session s u → u.current ≡ s.current
 ready_current session s u (asks_now at may sending new_one is) = ap (λ (x : ClientStream). x.current) is
 ready_current session s u (not_now built is) = ap (λ (x : ClientStream). x.current) is
 
-pub ready_ticket : (session : Option Session) (s u : ClientStream) → s.doing ≡ follows → IsToAsk session s u → stream_ticket u ≡ stream_ticket s
+pub ready_ticket : (session : Option Session) (s u : ClientStream) → s.doing ≡ follows → Prepares session s u → stream_ticket u ≡ stream_ticket s
 ready_ticket session s u on (asks_now at may sending new_one is) =
     ap stream_ticket is ∙ ap (ticket_by (asking_by sending s.cursor)) on ∙ ap ticket_at new_one.new ∙ sym (ap cursors.ticket_by at) ∙ sym (ap (ticket_by s.cursor) on)
 ready_ticket session s u on (not_now built is) = ap stream_ticket is
@@ -438,7 +438,7 @@ module _ (old new : Awaited) (log log' : Told) (wire : ℤ) (session : Option Se
   asked_steps s' r (closes before on_so unstarted came polls h) = absurd (let bad : follows ≡ kills before = sym on ∙ on_so in cc)
   asked_steps s' r (renews on_so said at_so quiet unstarted h) = absurd (let bad : follows ≡ renewed = sym on ∙ on_so in cc)
 
-pub ready_steps : (old new : Awaited) (log log' : Told) (wire : ℤ) (session : Option Session) (started : Bool) (s u s' : ClientStream) (r : Stepped) → s.doing ≡ follows → s.behind ≡ [] → IsToAsk session s u → DoesStep old new log log' wire session started u s' r → DoesStep old new log log' wire session started s s' r
+pub ready_steps : (old new : Awaited) (log log' : Told) (wire : ℤ) (session : Option Session) (started : Bool) (s u s' : ClientStream) (r : Stepped) → s.doing ≡ follows → s.behind ≡ [] → Prepares session s u → DoesStep old new log log' wire session started u s' r → DoesStep old new log log' wire session started s s' r
 ready_steps old new log log' wire session started s u s' r on none_left (asks_now at may sending new_one is) h =
     asked_steps old new log log' wire session started s on none_left at may sending new_one s' r (subst (λ (x : ClientStream). DoesStep old new log log' wire session started x s' r) is h)
 ready_steps old new log log' wire session started s u s' r on none_left (not_now built is) h = subst (λ (x : ClientStream). DoesStep old new log log' wire session started x s' r) is h
@@ -599,7 +599,7 @@ module _ (s : Changes) (b : BatchBuffer) (t : TokenPlace) (there_so : Bool) (a :
   advanced_at : (n : NextOne (behind_of s.buffer)) → (current_of b ≡ Some n.event) × (behind_of b ≡ n.more) × (there_so ≡ true)
   advanced_at n = subst (λ (es : List (List ℕ)). AdvancesBy es b there_so) n.these advances
 
-  pub gives_so : (event : List ℕ) × GivesEvent (changes_of s) (changes_of (record s { aggregate = a; buffer = b; token = t; lends = true })) event × (Some event ≡ front_of (behind_of s.buffer))
+  pub gives_so : (event : List ℕ) × AnswersEvent (changes_of s) (changes_of (record s { aggregate = a; buffer = b; token = t; lends = true })) event × (Some event ≡ front_of (behind_of s.buffer))
   gives_so =
       let n = next_one (behind_of s.buffer) has in
       let at = advanced_at n in
@@ -618,20 +618,20 @@ module _ (s : Changes) (b : BatchBuffer) (t : TokenPlace) (there_so : Bool) (a :
       (subst (λ (x : Option (List ℕ)). IsThere (place_by (behind_of b) batch) x batch) (sym at.0) (there_event (behind_of b) batch n.event n.id n.has)))
 
 -- a copy of it is the same event
-pub copy_given : (s s' : ClientStream) (front : Option (List ℕ)) (event copy : List ℕ) → Some event ≡ front → Some copy ≡ front → GivesEvent s s' event → GivesEvent s s' copy
-copy_given s s' front event copy is copied h = subst (GivesEvent s s') (let same : event ≡ copy = same_one event copy (is ∙ sym copied) in same) h
+pub copy_given : (s s' : ClientStream) (front : Option (List ℕ)) (event copy : List ℕ) → Some event ≡ front → Some copy ≡ front → AnswersEvent s s' event → AnswersEvent s s' copy
+copy_given s s' front event copy is copied h = subst (AnswersEvent s s') (let same : event ≡ copy = same_one event copy (is ∙ sym copied) in same) h
   where
     same_one : (x y : List ℕ) → Some x ≡ Some y → x ≡ y
     same_one x y e = cc
 
 -- ---- the token is copied
 
-cached_by_place : (a : ChangeStreamAggregate) (o : Option ChangeStreamData) (at : TokenPlace) (event : Option (List ℕ)) (batch token : Option Tree) → token ≡ token_at at (token_in o) event batch
+cached_by_place : (a : ChangeStreamAggregate) (o : Option ChangeStreamData) (at : TokenPlace) (event : Option (List ℕ)) (batch token : Option Tree) → token ≡ token_lying at (token_known o) event batch
     → record a { resume = option_map (known_at place.Saved event batch) (option_map (λ (known : ChangeStreamData). record known { resume_token = token }) o) } ≡ record a { resume = option_map (known_at at event batch) o }
 cached_by_place a None at event batch token is = refl
 cached_by_place a (Some known) at event batch token is = ap (λ (t : Option Tree). record a { resume = Some (record known { resume_token = t }) }) is
 
-pub kept_same : (s : Changes) (a : ChangeStreamAggregate) (token : Option Tree) → token ≡ token_at s.token (token_in s.aggregate.resume) (current_of s.buffer) (client_of s.batches).token → a ≡ with_token token s.aggregate
+pub kept_same : (s : Changes) (a : ChangeStreamAggregate) (token : Option Tree) → token ≡ token_lying s.token (token_known s.aggregate.resume) (current_of s.buffer) (client_of s.batches).token → a ≡ with_token token s.aggregate
     → changes_of (record s { aggregate = a; token = place.Saved }) ≡ changes_of s
 kept_same s a token is kept =
     ap (λ (x : ChangeStreamAggregate). changes_of (record s { aggregate = x; token = place.Saved })) kept
@@ -706,7 +706,7 @@ look_taken s t s' c batch said r same is these h =
 -- ---- closing
 
 -- the token of a stream that is closed
-pub closed_token : (o : ChangeStreamOptions) (r : Option ChangeStreamData) (at : TokenPlace) (event : Option (List ℕ)) (batch : Option Tree) → IsSaved o r → token_at at (token_in r) event batch ≡ token_in (option_map (known_at at event batch) r)
+pub closed_token : (o : ChangeStreamOptions) (r : Option ChangeStreamData) (at : TokenPlace) (event : Option (List ℕ)) (batch : Option Tree) → IsSaved o r → token_lying at (token_known r) event batch ≡ token_known (option_map (known_at at event batch) r)
 closed_token o None at event batch h = absurd h
 closed_token o (Some known) at event batch h = refl
 

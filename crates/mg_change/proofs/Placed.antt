@@ -25,7 +25,7 @@ use Rattle.mg_change.specs.ClientOpenings.{ClientOpening, HearsOpening, IsSoundO
 use Rattle.mg_change.specs.ClientStreams.{ClientStream, IsNewAggregate, is_read_again, resuming_in}
 use Rattle.mg_change.specs.Following.{follow_of, opening_by}
 use Rattle.mg_change.specs.OpenedStreams.{OpenedAt}
-use Rattle.mg_change.specs.Steps.{OpensBy}
+use Rattle.mg_change.specs.Steps.{OpensCursor}
 use Rattle.mg_change.proofs.Garbled.{place_at, place_heard}
 use Rattle.mg_change.proofs.Opened.{first_is, not_open_yet, opening_came}
 use Rattle.mg_change.proofs.Turning.{IsResumption}
@@ -86,7 +86,7 @@ same_stream s t is = cc
 
 module _ (old new : Awaited) (log log' : Told) (wire : ℤ) (args : WatchArgs) (sending : Sending) (is : IsResumption (first_aggregate args) sending) where
   -- a reply came of which a stream was made
-  placed_by : (bytes : List ℕ) (out : CursorSpecification × Option Timestamp) (s : ClientStream) → OpensBy (first_aggregate args) bytes out → s ≡ opened_with args wire out → Runs old new log log' wire sending (step.Done bytes) → OpenedAt old new log log' wire args (Some sending) s
+  placed_by : (bytes : List ℕ) (out : CursorSpecification × Option Timestamp) (s : ClientStream) → OpensCursor (first_aggregate args) bytes out → s ≡ opened_with args wire out → Runs old new log log' wire sending (step.Done bytes) → OpenedAt old new log log' wire args (Some sending) s
   placed_by bytes out s opens same runs = record {
     place = place_heard old new log log' wire sending (step.Done bytes) runs;
     moved = λ w start asks.

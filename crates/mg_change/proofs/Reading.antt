@@ -7,11 +7,11 @@ use Rattle.mg_link.specs.Commands.{documents_in}
 use Rattle.mg_ops.specs.Cursors.{Cursor, cursor_of}
 use Rattle.mg_cursor.specs.Batches.{documents_of}
 use Rattle.mg_cursor.proofs.Batching.{documents_read}
-use Rattle.mg_change.specs.Following.{events_in}
+use Rattle.mg_change.specs.Following.{event_fields}
 
-pub events_read : (reply : List ℕ) (c : Cursor) → cursor_of (fields reply) ≡ Ok c → events_in reply ≡ unwrap_or (documents_in c.batch) []
+pub events_read : (reply : List ℕ) (c : Cursor) → cursor_of (fields reply) ≡ Ok c → event_fields reply ≡ unwrap_or (documents_in c.batch) []
 events_read reply c h = ap (λ (o : Option (List Fields)). unwrap_or o []) (sym (documents_read reply c h))
 
 -- the events of a reply whose batch was taken
-pub events_held : (reply : List ℕ) (documents : List (List ℕ)) → documents_of reply ≡ Some documents → events_in reply ≡ map fields documents
+pub events_held : (reply : List ℕ) (documents : List (List ℕ)) → documents_of reply ≡ Some documents → event_fields reply ≡ map fields documents
 events_held reply documents h = ap (λ (o : Option (List (List ℕ))). unwrap_or (option_map (map fields) o) []) h

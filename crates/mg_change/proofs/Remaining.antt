@@ -27,10 +27,10 @@ use Rattle.mg_cursor.specs.View.{client_of, current_of}
 use Rattle.mg_cursor.specs.declared.batches.Batches.{Batches}
 use Rattle.mg_cursor.specs.declared.polls.NextPoll.{NextPoll}
 use Rattle.mg_cursor.specs.declared.polls.NextPoll.TheVariants as next
-use Rattle.mg_change.specs.ClientStreams.{token_in}
-use Rattle.mg_change.specs.ClosingStreams.{BehindMore, BehindOpening, ClosesStream, ClosingStream, HearsKill, IsSoundStream, IsToKill, KillsLeft, Landing, LandsSoundly, PassesOver, RunsKill, begins, ends, handed_over, ids_left, kill_left, lands, lands_aggregate, lands_more, lands_older, opened_none, opened_one, unless_none}
+use Rattle.mg_change.specs.ClientStreams.{token_known}
+use Rattle.mg_change.specs.ClosingStreams.{BehindMore, BehindOpening, ClosesStream, ClosingStream, HearsKill, IsSoundClosing, IsToKill, KillsLeft, Landing, LandsSoundly, PassesOver, RunsKill, begins, ends, handed_over, ids_left, kill_left, lands, lands_aggregate, lands_more, lands_replaced, opened_none, opened_one, unless_none}
 use Rattle.mg_change.specs.ClosingView.{IsClosingIn, SavesIn, closing_in, remains_token}
-use Rattle.mg_change.specs.StreamView.{IsSavedPlace, SavesWhile, is_lent, token_at, with_token}
+use Rattle.mg_change.specs.StreamView.{IsSavedPlace, SavesWhile, is_lent, token_lying, with_token}
 use Rattle.mg_change.specs.declared.changes.TokenPlace.{TokenPlace}
 use Rattle.mg_change.specs.declared.changes.TokenPlace.TheVariants as place
 use Rattle.mg_change.specs.declared.closing.Remains.{Remains}
@@ -40,16 +40,16 @@ use Rattle.mg_change.specs.declared.closing.Remains.{Remains}
 saves_in : (at : TokenPlace) (d : Landing) (doing : cursors.Doing) → SavesWhile at doing → SavesIn at d doing
 saves_in at lands doing h = h
 saves_in at (lands_aggregate sending) doing h = tt
-saves_in at (lands_older old) doing h = tt
+saves_in at (lands_replaced old) doing h = tt
 saves_in at (ends sending) doing h = tt
 
 -- what is on its way is as it was taken over
-pub closing_begun : (r : Remains) (d d' : Landing) → d' ≡ d → IsSoundStream (closing_in r d) → SavesWhile r.token (client_of r.batches).doing → IsClosingIn r d'
+pub closing_begun : (r : Remains) (d d' : Landing) → d' ≡ d → IsSoundClosing (closing_in r d) → SavesWhile r.token (client_of r.batches).doing → IsClosingIn r d'
 closing_begun r d d' same sound saves = subst (IsClosingIn r) (sym same) (record { sound = sound; saves = saves_in r.token d (client_of r.batches).doing saves })
 
 -- ---- its token
 
-none_in : (o : Option ChangeStreamData) → token_in (option_map (λ (known : ChangeStreamData). record known { resume_token = None }) o) ≡ None
+none_in : (o : Option ChangeStreamData) → token_known (option_map (λ (known : ChangeStreamData). record known { resume_token = None }) o) ≡ None
 none_in None = refl
 none_in (Some known) = refl
 
@@ -62,7 +62,7 @@ as_handed t lent c opened d none own =
 pub saved_handed : (r : Remains) (a : ChangeStreamAggregate) (d : Landing) → r.token ≡ place.Saved → a ≡ with_token None r.aggregate → closing_in (record r { aggregate = a }) d ≡ handed_over (client_of r.batches).token (closing_in r d)
 saved_handed r a d saved same =
     as_handed (remains_token (record r { aggregate = a })) (is_lent r.token) (client_of r.batches) r.opened d
-    (ap (λ (t : TokenPlace). token_at t (token_in a.resume) (current_of r.buffer) (client_of r.batches).token) saved ∙ ap (λ (x : ChangeStreamAggregate). token_in x.resume) same ∙ none_in r.aggregate.resume)
+    (ap (λ (t : TokenPlace). token_lying t (token_known a.resume) (current_of r.buffer) (client_of r.batches).token) saved ∙ ap (λ (x : ChangeStreamAggregate). token_known x.resume) same ∙ none_in r.aggregate.resume)
     (ap is_lent saved)
 
 -- behind the batch, from where it was taken
@@ -85,7 +85,7 @@ still_sound left c (asks sending) h = record { session = h.session; plainly = h.
 still_lands : (left : Option Tree) (k : ClosingStream) (d : Landing) → LandsSoundly k d → LandsSoundly (handed_over left k) d
 still_lands left k lands h = record { asks_its_own = still_sound left k.cursor k.cursor.doing h.asks_its_own; named = h.named; alone = h.alone }
 still_lands left k (lands_aggregate sending) h = h
-still_lands left k (lands_older old) h = h
+still_lands left k (lands_replaced old) h = h
 still_lands left k (ends sending) h = h
 
 saved_while : (doing : cursors.Doing) → SavesWhile place.Saved doing
@@ -95,7 +95,7 @@ saved_while (asks sending) = tt
 
 pub handed_closing : (r r' : Remains) (d : Landing) (left : Option Tree) → r'.token ≡ place.Saved → closing_in r' d ≡ handed_over left (closing_in r d) → IsClosingIn r d → IsClosingIn r' d
 handed_closing r r' d left gone same is = record {
-  sound = subst IsSoundStream (sym same) (still_lands left (closing_in r d) d is.sound);
+  sound = subst IsSoundClosing (sym same) (still_lands left (closing_in r d) d is.sound);
   saves = subst (λ (at : TokenPlace). SavesIn at d (client_of r'.batches).doing) (sym gone) (saves_in place.Saved d (client_of r'.batches).doing (saved_while (client_of r'.batches).doing));
 }
 
@@ -117,16 +117,16 @@ module _ (answer : Result (Option Tree) Error) (r r' : Remains) (d : Landing) wh
 
 -- ---- its cursor
 
-saved_one : (at : TokenPlace) (saved : Option Tree) (event : Option (List ℕ)) (t u : Option Tree) → IsSavedPlace at → token_at at saved event t ≡ token_at at saved event u
+saved_one : (at : TokenPlace) (saved : Option Tree) (event : Option (List ℕ)) (t u : Option Tree) → IsSavedPlace at → token_lying at saved event t ≡ token_lying at saved event u
 saved_one place.Saved saved event t u is = refl
 saved_one place.Event saved event t u is = absurd is
 saved_one place.Batch saved event t u is = absurd is
 
 module _ (old mid : Awaited) (log log_mid : Told) (wire : ℤ) (r : Remains) (b : Batches) where
   same_token : (p : NextPoll) → SavesWhile r.token (client_of r.batches).doing → LandsIn old mid log log_mid wire (client_of r.batches) (client_of b) p → remains_token (record r { batches = b }) ≡ remains_token r
-  same_token p saves (quiet not same_awaited same_log is answer) = ap (λ (c : ClientCursor). token_at r.token (token_in r.aggregate.resume) (current_of r.buffer) c.token) is
+  same_token p saves (quiet not same_awaited same_log is answer) = ap (λ (c : ClientCursor). token_lying r.token (token_known r.aggregate.resume) (current_of r.buffer) c.token) is
   same_token p saves (heard sending at came runs hears) =
-      saved_one r.token (token_in r.aggregate.resume) (current_of r.buffer) (client_of b).token (client_of r.batches).token (subst (SavesWhile r.token) at saves)
+      saved_one r.token (token_known r.aggregate.resume) (current_of r.buffer) (client_of b).token (client_of r.batches).token (subst (SavesWhile r.token) at saves)
 
   pub landed_as : (p : NextPoll) → SavesWhile r.token (client_of r.batches).doing → LandsIn old mid log log_mid wire (client_of r.batches) (client_of b) p → closing_in (record r { batches = b }) lands ≡ record (closing_in r lands) { cursor = client_of b }
   landed_as p saves landed = ap (λ (t : Option Tree). record { token = t; lent = is_lent r.token; cursor = client_of b; opened = r.opened; doing = lands }) (same_token p saves landed)

@@ -13,7 +13,7 @@ use Rattle.mg_ops.specs.Aims.{aim}
 use Rattle.mg_ops.specs.Naming.{start_in, watches_all}
 use Rattle.mg_ops.specs.Resuming.{options_for, or_time, resume_at, resume_behind, resume_by, times_from}
 use Rattle.mg_ops.specs.declared.change_stream.ChangeStreamData.{ChangeStreamData}
-use Rattle.mg_change.specs.ClientStreams.{IsSaved, SavedFor, token_in}
+use Rattle.mg_change.specs.ClientStreams.{IsSaved, SavedFor, token_known}
 
 -- ---- what is watched
 
@@ -103,6 +103,6 @@ begins_by None o known wire start saved from = begins_at known.initial_operation
 begins_by (Some token) o known wire start saved from = begins_behind (is_some o.start_after && not known.document_returned) o known.document_returned token start refl from
 
 -- a resumption begins behind the token, and without one at the time that the stream began at
-pub begins_again : (o : ChangeStreamOptions) (r : Option ChangeStreamData) (wire : ℤ) (start : Start) → IsSaved o r → start_in o ≡ Some start → Begins (options_for o r wire) start (token_in r)
+pub begins_again : (o : ChangeStreamOptions) (r : Option ChangeStreamData) (wire : ℤ) (start : Start) → IsSaved o r → start_in o ≡ Some start → Begins (options_for o r wire) start (token_known r)
 begins_again o None wire start saved from = absurd saved
 begins_again o (Some known) wire start saved from = begins_by known.resume_token o known wire start saved from

@@ -25,7 +25,7 @@ use Rattle.mg_cursor.specs.Batches.{BreaksBatch, bad_item, no_batch}
 use Rattle.mg_cursor.specs.Causes.{TellsNoCursor}
 use Rattle.mg_cursor.specs.Client.{get_more}
 use Rattle.mg_change.specs.Causes.{ByCursor, ByDoing, CallCame, CallEmpty, CallFailed, CallFails, CallGave, IsSettled, SoFar, batch_broken, cannot_ask, cannot_resume, is_lone, may_lose, no_id, no_memory, not_resumed, refused_more}
-use Rattle.mg_change.specs.ClientStreams.{ClientStream, IsExhausted, IsSound, is_read_again, let_go, resuming_in}
+use Rattle.mg_change.specs.ClientStreams.{ClientStream, IsExhausted, IsSound, is_read_again, lends_nothing, resuming_in}
 use Rattle.mg_change.specs.SeekCauses.{CallPart, IsNotEmptyBatches, IsTooMany, PartCame, Row, SeekCame, SeekCaused, begins, one_more, part_past}
 use Rattle.mg_change.specs.StreamCalls.{CopiesEvent, EndsSeeking, SeeksEvent, closed, counted, event_ending, fails, finds, got, kept_behind, over, pends, session_behind, too_many, too_often, uncounted}
 use Rattle.mg_change.specs.declared.counts.Counts.{Counts}
@@ -229,9 +229,9 @@ parts_caused (suc n) old new log log' wire first session starts s s' r sound non
     let rest = parts_caused n mid new log_mid log' wire first (session_behind h.2 session) h.3 t s' r sound_t (λ none. ap (session_behind h.2) (none_then none)) (lone_behind h.2 session ∙ same) h.7 start x.calls' x.told going in
     record { calls' = rest.calls'; told = rest.told; keeps = keeps_on calls x.calls' rest.calls' x.keeps rest.keeps; came = rest.came }
 
-pub seeks_caused : (n : ℕ) (b : Bool) (old new : Awaited) (log log' : Told) (wire : ℤ) (session : Option Session) (starts : ℕ) (s s' : ClientStream) (r : EventPoll) → IsSound b (let_go s) → SeeksEvent n old new log log' wire session starts (let_go s) s' r → SeekCaused old new log log' wire session s s' r
+pub seeks_caused : (n : ℕ) (b : Bool) (old new : Awaited) (log log' : Told) (wire : ℤ) (session : Option Session) (starts : ℕ) (s s' : ClientStream) (r : EventPoll) → IsSound b (lends_nothing s) → SeeksEvent n old new log log' wire session starts (lends_nothing s) s' r → SeekCaused old new log log' wire session s s' r
 seeks_caused n b old new log log' wire session starts s s' r sound does = λ calls told places at so.
     let start : CallPart = record { at = at; counts = s.counts; places = places; since = length calls } in
-    let x = parts_caused n old new log log' wire session session starts (let_go s) s' r (sound_any b (let_go s) sound) (λ none. none) refl does start calls told
+    let x = parts_caused n old new log log' wire session session starts (lends_nothing s) s' r (sound_any b (lends_nothing s) sound) (λ none. none) refl does start calls told
     (record { part = start; room = omega arith; counts = refl; row = begins; so_far = lets_go old (part_past start calls wire) (is_lone session) at s so }) in
     (x.calls', x.told, x.keeps, x.came)

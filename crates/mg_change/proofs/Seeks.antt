@@ -9,7 +9,7 @@ use Rattle.mg_cursor.specs.declared.polls.TryPoll.TheVariants as try
 use Rattle.mg_cursor.specs.declared.results.AdvanceResult.TheVariants as result
 use Rattle.mg_change.specs.ClientStreams.{ClientStream, Doing, IsSound, follows, is_renewed, kills, owes, renewed, resumes, stream_ticket}
 use Rattle.mg_change.specs.Steps.{DoesStep, IsLast}
-use Rattle.mg_change.specs.StreamCalls.{CountsIfOpen, EndsBehind, EndsEmpty, EndsSeeking, Falls, GoesBehind, MayEnd, SeeksOnBehind, SeeksOnGiven, closed, counted, fails, finds, got, over, pends, step_ending, steps_left, too_many, too_often}
+use Rattle.mg_change.specs.StreamCalls.{CountsIfOpen, EndsBehind, EndsEmpty, EndsSeeking, Falls, GoesBehind, MayEnd, SeeksOnBehind, SeeksOnGiven, closed, counted, fails, finds, got, over, pends, stepped_ending, steps_left, too_many, too_often}
 use Rattle.mg_change.specs.declared.counts.Counts.{Counts}
 use Rattle.mg_change.specs.declared.event_poll.EventPoll.{EventPoll}
 use Rattle.mg_change.specs.declared.event_poll.Stepped.{Stepped}
@@ -125,9 +125,9 @@ smaller_by again came before left now same falls (by_reply last h) =
 
 -- ---- what goes on behind it
 
-pub link_by : (m m' : Moment) (ticket : Option ℕ) (again : Bool) (came : Stepped) (left now : ClientStream) → GoesOn again came left now → LinkKeeps m m' ticket (stream_ticket left) (step_ending came) → LinkKeeps m m' ticket (stream_ticket now) finished
+pub link_by : (m m' : Moment) (ticket : Option ℕ) (again : Bool) (came : Stepped) (left now : ClientStream) → GoesOn again came left now → LinkKeeps m m' ticket (stream_ticket left) (stepped_ending came) → LinkKeeps m m' ticket (stream_ticket now) finished
 link_by m m' ticket again came left now (by_step is same) k =
-    subst (λ (s : ClientStream). LinkKeeps m m' ticket (stream_ticket s) finished) (sym same) (subst (λ (x : Stepped). LinkKeeps m m' ticket (stream_ticket left) (step_ending x)) is k)
+    subst (λ (s : ClientStream). LinkKeeps m m' ticket (stream_ticket s) finished) (sym same) (subst (λ (x : Stepped). LinkKeeps m m' ticket (stream_ticket left) (stepped_ending x)) is k)
 link_by m m' ticket again came left now (by_reply last h) k = going_keeps m m' ticket again left now came k h
 
 pub sound_by : (again : Bool) (came : Stepped) (left now : ClientStream) → GoesOn again came left now → IsSound false left → IsSound false now

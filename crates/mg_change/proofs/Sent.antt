@@ -30,8 +30,8 @@ use Rattle.mg_cursor.specs.declared.polls.NextPoll.TheVariants as next
 use Rattle.mg_cursor.specs.declared.polls.TryPoll.{TryPoll}
 use Rattle.mg_cursor.specs.declared.polls.TryPoll.TheVariants as try
 use Rattle.mg_cursor.specs.declared.results.AdvanceResult.TheVariants as result
-use Rattle.mg_change.specs.ClientStreams.{ClientStream, Doing, IsAggregate, IsSound, SoundBy, follows, kills, let_go, owes, renewed, resumes}
-use Rattle.mg_change.specs.Sent.{AreSought, AsksMoreOf, CallSent, Falling, IsAt, IsSought, KeepsBy, KillsOne, PollSent, ResumesBy, SeekSent, Sent, TrySent, asking_places, asks_more as asks_for, ending_places, killing_places, kills_one, more_places, places, places_behind, places_by, resumes_it, resuming_places}
+use Rattle.mg_change.specs.ClientStreams.{ClientStream, Doing, IsAggregate, IsSound, SoundBy, follows, kills, lends_nothing, owes, renewed, resumes}
+use Rattle.mg_change.specs.Sent.{AreSought, AsksMoreOf, CallSent, Falling, IsSentAt, IsSought, KeepsBy, KillsOne, PollSent, ResumesBy, SeekSent, Sent, TrySent, asking_places, asks_more as asks_for, ending_places, killing_places, kills_one, more_places, places, places_behind, places_by, resumes_it, resuming_places}
 use Rattle.mg_change.specs.Steps.{AsksMore, DoesStep, DoesSteps, FailsMore, HearsClosing, HearsResumption, LooksAt, ReadsResumption, RunsResumption, TakesMore, asks_more, broke, broken, closes, ends, final, finds, gave, goes_on, looks, no_memory, none as none_there, not_asked, not_resumed, renews, resumes_now, some, waits_more, waits_resumption}
 use Rattle.mg_change.specs.StreamCalls.{CallCopies, CallLends, CopiesBehind, LendsBehind, SeeksEvent, event_ending, kept_behind, session_behind, try_ending, without_event}
 use Rattle.mg_change.specs.declared.event_poll.EventPoll.{EventPoll}
@@ -188,7 +188,7 @@ module _ (at : ℕ → Fields → Type 0) (old new : Awaited) (log log' : Told) 
 -- ---- the same places of another stream
 
 -- neither what it gives nor how it stands says what its commands are
-same_at : (s t : ClientStream) → t.aggregate ≡ s.aggregate → t.cursor ≡ s.cursor → (place : ℕ) (command : Fields) → IsAt t place command → IsAt s place command
+same_at : (s t : ClientStream) → t.aggregate ≡ s.aggregate → t.cursor ≡ s.cursor → (place : ℕ) (command : Fields) → IsSentAt t place command → IsSentAt s place command
 same_at s t a c zero command h = h
 same_at s t a c (suc zero) command h = subst (λ (x : ChangeStreamAggregate). ResumesBy x command) a h
 same_at s t a c (suc (suc zero)) command h = subst (λ (x : ChangeStreamAggregate). ResumesBy x command) a h
@@ -196,17 +196,17 @@ same_at s t a c (suc (suc (suc zero))) command h = subst (λ (x : ClientCursor).
 same_at s t a c (suc (suc (suc (suc place)))) command h = h
 
 -- behind its getMore the cursor says nothing of them
-later_at : (s t : ClientStream) → t.aggregate ≡ s.aggregate → (place : ℕ) → place < 3 → (command : Fields) → IsAt t place command → IsAt s place command
+later_at : (s t : ClientStream) → t.aggregate ≡ s.aggregate → (place : ℕ) → place < 3 → (command : Fields) → IsSentAt t place command → IsSentAt s place command
 later_at s t a zero less command h = h
 later_at s t a (suc zero) less command h = subst (λ (x : ChangeStreamAggregate). ResumesBy x command) a h
 later_at s t a (suc (suc zero)) less command h = subst (λ (x : ChangeStreamAggregate). ResumesBy x command) a h
 later_at s t a (suc (suc (suc place))) less command h = absurd (omega arith)
 
-falling_as : (s t : ClientStream) → ((place : ℕ) (command : Fields) → IsAt t place command → IsAt s place command) → (n : ℕ) (cs : List Fields) (m : ℕ) → Falling (IsAt t) n cs m → Falling (IsAt s) n cs m
+falling_as : (s t : ClientStream) → ((place : ℕ) (command : Fields) → IsSentAt t place command → IsSentAt s place command) → (n : ℕ) (cs : List Fields) (m : ℕ) → Falling (IsSentAt t) n cs m → Falling (IsSentAt s) n cs m
 falling_as s t same n [] m f = f
 falling_as s t same n (c ∷ cs) m f = (f.0, f.1, same f.0 c f.2, falling_as s t same f.0 cs m f.3)
 
-falling_later : (s t : ClientStream) → t.aggregate ≡ s.aggregate → (n : ℕ) → n ≤ 3 → (cs : List Fields) (m : ℕ) → Falling (IsAt t) n cs m → Falling (IsAt s) n cs m
+falling_later : (s t : ClientStream) → t.aggregate ≡ s.aggregate → (n : ℕ) → n ≤ 3 → (cs : List Fields) (m : ℕ) → Falling (IsSentAt t) n cs m → Falling (IsSentAt s) n cs m
 falling_later s t a n few [] m f = f
 falling_later s t a n few (c ∷ cs) m f =
     let here : f.0 < n = f.1 in
@@ -228,20 +228,20 @@ StepKeeps (stepped.Gives p) s s' = KeepsBy (try_ending p) s s'
 
 -- what a step sent
 pub record StepSent (log log' : Told) (s s' : ClientStream) (r : Stepped) : Type 0 where
-  pub tried : Tried (IsAt s) log log' (places s) (step_places r s')
+  pub tried : Tried (IsSentAt s) log log' (places s) (step_places r s')
   pub keeps : StepKeeps r s s'
 
 sent_as : (log log' : Told) (s s' t : ClientStream) (r r' : Stepped) → s' ≡ t → r' ≡ r → StepSent log log' s t r → StepSent log log' s s' r'
 sent_as log log' s s' t r r' is answer h = subst (λ (x : Stepped). StepSent log log' s s' x) (sym answer) (subst (λ (x : ClientStream). StepSent log log' s x r) (sym is) h)
 
 -- the call has ended with it
-sent_end : (log log' : Told) (s s' : ClientStream) (r : Stepped) (m : ℕ) → step_places r s' ≡ 0 → StepKeeps r s s' → Tried (IsAt s) log log' (places s) m → StepSent log log' s s' r
+sent_end : (log log' : Told) (s s' : ClientStream) (r : Stepped) (m : ℕ) → step_places r s' ≡ 0 → StepKeeps r s s' → Tried (IsSentAt s) log log' (places s) m → StepSent log log' s s' r
 sent_end log log' s s' r m none_left keeps a = record {
-  tried = subst (λ (n : ℕ). Tried (IsAt s) log log' (places s) n) (sym none_left) (tried_below (IsAt s) log log' (places s) m 0 (omega arith) a);
+  tried = subst (λ (n : ℕ). Tried (IsSentAt s) log log' (places s) n) (sym none_left) (tried_below (IsSentAt s) log log' (places s) m 0 (omega arith) a);
   keeps = keeps;
 }
 
-nothing : (log log' : Told) (s : ClientStream) (n : ℕ) → log' ≡ log → n ≤ places s → Tried (IsAt s) log log' (places s) n
+nothing : (log log' : Told) (s : ClientStream) (n : ℕ) → log' ≡ log → n ≤ places s → Tried (IsSentAt s) log log' (places s) n
 nothing log log' s n same less = record { commands = []; adds = sent_none log log' same; falling = less }
 
 -- nothing is sent, and the stream stays as it is
@@ -249,14 +249,14 @@ sent_quiet : (old new : Awaited) (log log' : Told) (s s' : ClientStream) (e : Er
 sent_quiet old new log log' s s' e r quiet is answer = sent_as log log' s s' s (stepped.Gives (try.Failed e)) r is answer (sent_end log log' s s (stepped.Gives (try.Failed e)) (places s) refl tt (nothing log log' s (places s) quiet.log_same (omega arith)))
 
 -- a batch was looked at
-sent_looked : (again : Bool) (log log' : Told) (s : ClientStream) (c : ClientCursor) (said : List ℕ) (s' : ClientStream) (r : Stepped) (m : ℕ) → (again ≡ false → 3 ≤ m) → Tried (IsAt s) log log' (places s) m → LooksAt again s c said s' r → StepSent log log' s s' r
+sent_looked : (again : Bool) (log log' : Told) (s : ClientStream) (c : ClientCursor) (said : List ℕ) (s' : ClientStream) (r : Stepped) (m : ℕ) → (again ≡ false → 3 ≤ m) → Tried (IsSentAt s) log log' (places s) m → LooksAt again s c said s' r → StepSent log log' s s' r
 sent_looked again log log' s c said s' r m many a (some event events at is answer) = sent_as log log' s s' _ stepped.Found r is answer (sent_end log log' s _ stepped.Found m refl tt a)
 sent_looked again log log' s c said s' r m many a (none_there at is answer) = sent_as log log' s s' _ (stepped.Gives (try.Ready result.Waiting)) r is answer (sent_end log log' s _ (stepped.Gives (try.Ready result.Waiting)) m refl tt a)
 sent_looked true log log' s c said s' r m many a (broken e breaks is answer) = sent_as log log' s s' _ (stepped.Gives (try.Failed e)) r is answer (sent_end log log' s _ (stepped.Gives (try.Failed e)) m refl tt a)
 sent_looked false log log' s c said s' r m many a (broken e breaks is answer) =
-    sent_as log log' s s' _ stepped.Goes r is answer (record { tried = tried_below (IsAt s) log log' (places s) m 3 (many refl) a; keeps = (refl, omega arith) })
+    sent_as log log' s s' _ stepped.Goes r is answer (record { tried = tried_below (IsSentAt s) log log' (places s) m 3 (many refl) a; keeps = (refl, omega arith) })
 
-sent_failed : (log log' : Told) (s : ClientStream) (c : ClientCursor) (e : Error) (s' : ClientStream) (r : Stepped) → Tried (IsAt s) log log' (places s) 3 → FailsMore s c e s' r → StepSent log log' s s' r
+sent_failed : (log log' : Told) (s : ClientStream) (c : ClientCursor) (e : Error) (s' : ClientStream) (r : Stepped) → Tried (IsSentAt s) log log' (places s) 3 → FailsMore s c e s' r → StepSent log log' s s' r
 sent_failed log log' s c e s' r a (goes_on so is answer) = sent_as log log' s s' _ stepped.Goes r is answer (record { tried = a; keeps = (refl, omega arith) })
 sent_failed log log' s c e s' r a (no_memory room is answer) = sent_as log log' s s' _ (stepped.Gives (try.Failed e)) r is answer (sent_end log log' s _ (stepped.Gives (try.Failed e)) 3 refl tt a)
 sent_failed log log' s c e s' r a (final not room is answer) = sent_as log log' s s' _ (stepped.Gives (try.Failed e)) r is answer (sent_end log log' s _ (stepped.Gives (try.Failed e)) 3 refl tt a)
@@ -271,16 +271,16 @@ sent_more : (old new : Awaited) (log log' : Told) (wire : ℤ) (started : Bool) 
     → AsksMore old new log log' wire started s sending s' r → StepSent log log' s s' r
 sent_more old new log log' wire started s sending s' r sound on is single many h = by_came h.runs.came (runs_of old new log log' wire sending h.runs.came started h.runs.runs) h.left h.poll h.runs.hears h.takes
   where
-    all : (came : Step Sending (List ℕ)) → Runs old new log log' wire sending came → Tried (IsAt s) log log' (places s) 3
-    all came runs = subst (λ (n : ℕ). Tried (IsAt s) log log' n 3) (sym many) (more_sent (IsAt s) old new log log' wire sending single came is runs)
+    all : (came : Step Sending (List ℕ)) → Runs old new log log' wire sending came → Tried (IsSentAt s) log log' (places s) 3
+    all came runs = subst (λ (n : ℕ). Tried (IsSentAt s) log log' n 3) (sym many) (more_sent (IsSentAt s) old new log log' wire sending single came is runs)
 
     by_came : (came : Step Sending (List ℕ)) → Runs old new log log' wire sending came → (c : ClientCursor) (p : NextPoll) → Hears s.cursor came c p → TakesMore s c p s' r → StepSent log log' s s' r
     by_came (step.Pending later) runs c p heard takes =
         let t : (s' ≡ record s { cursor = c }) × (r ≡ stepped.Gives try.Pending) = subst (λ (x : NextPoll). TakesMore s c x s' r) heard.1 takes in
-        let held : 3 ≡ asking_places later.stage = more_held (IsAt s) old new log log' wire sending single later runs in
+        let held : 3 ≡ asking_places later.stage = more_held (IsSentAt s) old new log log' wire sending single later runs in
         let left : places (record s { cursor = c }) ≡ 3 = ap (λ (d : Doing). places_by d c) on ∙ ap (λ (x : ClientCursor). more_places x.doing) heard.0 ∙ sym held in
         sent_as log log' s s' (record s { cursor = c }) (stepped.Gives try.Pending) r t.0 t.1
-        (record { tried = subst (λ (n : ℕ). Tried (IsAt s) log log' (places s) n) (sym left) (all (step.Pending later) runs); keeps = refl })
+        (record { tried = subst (λ (n : ℕ). Tried (IsSentAt s) log log' (places s) n) (sym left) (all (step.Pending later) runs); keeps = refl })
     by_came (step.Done bytes) runs c next.Pending heard takes = absurd (not_pending s.cursor bytes c heard)
     by_came (step.Done bytes) runs c (next.Batch said) heard takes = sent_looked false log log' s c said s' r 3 (λ e. omega arith) (all (step.Done bytes) runs) takes
     by_came (step.Done bytes) runs c next.End heard takes = absurd takes
@@ -291,8 +291,8 @@ sent_more old new log log' wire started s sending s' r sound on is single many h
 sent_resumption : (old new : Awaited) (log log' : Told) (wire : ℤ) (started : Bool) (s : ClientStream) (sending : Sending) (s' : ClientStream) (r : Stepped) → ResumesBy s.aggregate (fields sending.command) → places s ≡ resuming_places sending.stage → RunsResumption old new log log' wire started s sending s' r → StepSent log log' s s' r
 sent_resumption old new log log' wire started s sending s' r is many h = by_came h.came (runs_of old new log log' wire sending h.came started h.runs) h.hears
   where
-    all : (came : Step Sending (List ℕ)) → Runs old new log log' wire sending came → Tried (IsAt s) log log' (places s) 1
-    all came runs = subst (λ (n : ℕ). Tried (IsAt s) log log' n 1) (sym many) (resume_sent (IsAt s) old new log log' wire sending is is came runs)
+    all : (came : Step Sending (List ℕ)) → Runs old new log log' wire sending came → Tried (IsSentAt s) log log' (places s) 1
+    all came runs = subst (λ (n : ℕ). Tried (IsSentAt s) log log' n 1) (sym many) (resume_sent (IsSentAt s) old new log log' wire sending is is came runs)
 
     by_read : (bytes : List ℕ) → Runs old new log log' wire sending (step.Done bytes) → ReadsResumption s bytes s' r → StepSent log log' s s' r
     by_read bytes runs (gave out opens at answer) = sent_as log log' s s' _ stepped.Goes r at answer (record { tried = all (step.Done bytes) runs; keeps = (refl, omega arith) })
@@ -301,15 +301,15 @@ sent_resumption old new log log' wire started s sending s' r is many h = by_came
     by_came : (came : Step Sending (List ℕ)) → Runs old new log log' wire sending came → HearsResumption s came s' r → StepSent log log' s s' r
     by_came (step.Pending later) runs heard =
         sent_as log log' s s' (record s { doing = resumes later }) (stepped.Gives try.Pending) r heard.0 heard.1
-        (record { tried = subst (λ (n : ℕ). Tried (IsAt s) log log' n (resuming_places later.stage)) (sym many) (resume_waits (IsAt s) old new log log' wire sending is is later runs); keeps = refl })
+        (record { tried = subst (λ (n : ℕ). Tried (IsSentAt s) log log' n (resuming_places later.stage)) (sym many) (resume_waits (IsSentAt s) old new log log' wire sending is is later runs); keeps = refl })
     by_came (step.Done bytes) runs heard = by_read bytes runs heard
     by_came (step.Failed e) runs heard = sent_as log log' s s' _ (stepped.Gives (try.Failed e)) r heard.0 heard.1 (sent_end log log' s _ (stepped.Gives (try.Failed e)) 1 refl tt (all (step.Failed e) runs))
 
 -- the closing of the cursor before: what it sent, and what is left where it pends
 abbrev ClosingSent : Told → Told → ClientStream → ℕ → Step ClosingCursor (Unit {0}) → Type 0
-ClosingSent log log' s n (step.Pending k) = Tried (IsAt s) log log' n (killing_places k.killing)
-ClosingSent log log' s n (step.Done t) = Tried (IsAt s) log log' n 0
-ClosingSent log log' s n (step.Failed e) = Tried (IsAt s) log log' n 0
+ClosingSent log log' s n (step.Pending k) = Tried (IsSentAt s) log log' n (killing_places k.killing)
+ClosingSent log log' s n (step.Done t) = Tried (IsSentAt s) log log' n 0
+ClosingSent log log' s n (step.Failed e) = Tried (IsSentAt s) log log' n 0
 
 as_closing : (log log' : Told) (s : ClientStream) (n : ℕ) (r r' : Step ClosingCursor (Unit {0})) → r' ≡ r → ClosingSent log log' s n r → ClosingSent log log' s n r'
 as_closing log log' s n r r' is h = subst (ClosingSent log log' s n) (sym is) h
@@ -323,11 +323,11 @@ sent_kill old new log log' wire s c sending came r command_is single held runs h
     by_came : (x : Step Sending (List ℕ)) → Runs old new log log' wire sending x → KillHears c x r → ClosingSent log log' s (ending_places sending.stage) r
     by_came (step.Pending later) ran heard =
         as_closing log log' s (ending_places sending.stage) (step.Pending (killed_by c later)) r heard
-        (subst (λ (n : ℕ). Tried (IsAt s) log log' (ending_places sending.stage) n) (kill_held (IsAt s) old new log log' wire sending single later ran) (kill_sent (IsAt s) old new log log' wire sending single (step.Pending later) one_kill ran))
-    by_came (step.Done bytes) ran heard = as_closing log log' s (ending_places sending.stage) (step.Done tt) r heard (kill_sent (IsAt s) old new log log' wire sending single (step.Done bytes) one_kill ran)
-    by_came (step.Failed e) ran heard = as_closing log log' s (ending_places sending.stage) (step.Failed e) r heard (kill_sent (IsAt s) old new log log' wire sending single (step.Failed e) one_kill ran)
+        (subst (λ (n : ℕ). Tried (IsSentAt s) log log' (ending_places sending.stage) n) (kill_held (IsSentAt s) old new log log' wire sending single later ran) (kill_sent (IsSentAt s) old new log log' wire sending single (step.Pending later) one_kill ran))
+    by_came (step.Done bytes) ran heard = as_closing log log' s (ending_places sending.stage) (step.Done tt) r heard (kill_sent (IsSentAt s) old new log log' wire sending single (step.Done bytes) one_kill ran)
+    by_came (step.Failed e) ran heard = as_closing log log' s (ending_places sending.stage) (step.Failed e) r heard (kill_sent (IsSentAt s) old new log log' wire sending single (step.Failed e) one_kill ran)
 
-none_killed : (log log' : Told) (s : ClientStream) → log' ≡ log → Tried (IsAt s) log log' 1 0
+none_killed : (log log' : Told) (s : ClientStream) → log' ≡ log → Tried (IsSentAt s) log log' 1 0
 none_killed log log' s same = record { commands = []; adds = sent_none log log' same; falling = omega arith }
 
 sent_closing : (old new : Awaited) (log log' : Told) (wire : ℤ) (s : ClientStream) (before : ClosingCursor) (r : Step ClosingCursor (Unit {0})) → IsClosing before → IsLanded before → ClosingPolls old new log log' wire before r → ClosingSent log log' s (killing_places before.killing) r
@@ -388,13 +388,13 @@ step_sent old new log log' wire session started s s' r sound (renews on said at 
 
 sent_on_step : (log mid log' : Told) (s t s' : ClientStream) (r : Stepped) → StepSent log mid s t stepped.Goes → StepSent mid log' t s' r → StepSent log log' s s' r
 sent_on_step log mid log' s t s' r a b = record {
-  tried = tried_on (IsAt s) log mid log' (places s) (places t) (step_places r s') a.tried
+  tried = tried_on (IsSentAt s) log mid log' (places s) (places t) (step_places r s') a.tried
       (record { commands = b.tried.commands; adds = b.tried.adds; falling = falling_later s t a.keeps.0 (places t) a.keeps.1 b.tried.commands (step_places r s') b.tried.falling });
   keeps = keeps_by r b.keeps;
 }
   where
     falls_so : step_places r s' ≤ places t
-    falls_so = falls (IsAt t) (places t) b.tried.commands (step_places r s') b.tried.falling
+    falls_so = falls (IsSentAt t) (places t) b.tried.commands (step_places r s') b.tried.falling
 
     by_poll : (p : TryPoll) → KeepsBy (try_ending p) t s' → KeepsBy (try_ending p) s s'
     by_poll try.Pending k = k ∙ a.keeps.0
@@ -417,15 +417,15 @@ steps_sent (suc n) old new log log' wire session starts again s s' r sound h =
 -- ---- calls
 
 -- what is sent by a call is that of the stream without what it lends
-poll_sent : (log log' : Told) (s s' : ClientStream) (ending : Ending) → PollSent log log' (let_go s) s' ending → PollSent log log' s s' ending
+poll_sent : (log log' : Told) (s s' : ClientStream) (ending : Ending) → PollSent log log' (lends_nothing s) s' ending → PollSent log log' s s' ending
 poll_sent log log' s s' ending h = record {
   commands = h.commands;
   adds = h.adds;
-  falling = falling_as s (let_go s) (same_at s (let_go s) refl refl) (places s) h.commands (places_behind ending s') h.falling;
+  falling = falling_as s (lends_nothing s) (same_at s (lends_nothing s) refl refl) (places s) h.commands (places_behind ending s') h.falling;
   keeps = keeps_by ending h.keeps;
 }
   where
-    keeps_by : (x : Ending) → KeepsBy x (let_go s) s' → KeepsBy x s s'
+    keeps_by : (x : Ending) → KeepsBy x (lends_nothing s) s' → KeepsBy x s s'
     keeps_by pending k = k
     keeps_by finished k = tt
     keeps_by (failed e) k = tt
@@ -435,7 +435,7 @@ over_sent : (log log' : Told) (s left s' : ClientStream) (r : Stepped) (ending :
 over_sent log log' s left s' r ending none_left keeps h = record {
   commands = h.tried.commands;
   adds = h.tried.adds;
-  falling = subst (λ (n : ℕ). Falling (IsAt s) (places s) h.tried.commands n) (sym none_left) (falling_below (IsAt s) (places s) h.tried.commands (step_places r left) 0 h.tried.falling (omega arith));
+  falling = subst (λ (n : ℕ). Falling (IsSentAt s) (places s) h.tried.commands n) (sym none_left) (falling_below (IsSentAt s) (places s) h.tried.commands (step_places r left) 0 h.tried.falling (omega arith));
   keeps = keeps;
 }
 
@@ -454,7 +454,7 @@ lent_sent log log' s left lent s' (stepped.Gives p) (try.Failed e) h behind kept
 pub lends_sent : (n : ℕ) (plain : Bool) (old new : Awaited) (log log' : Told) (wire : ℤ) (session : Option Session) (starts : ℕ) (s s' : ClientStream) (r : TryPoll) → IsSound plain s → CallLends n old new log log' wire session starts s s' r → TrySent log log' s s' r
 lends_sent n plain old new log log' wire session starts s s' r sound h =
     poll_sent log log' s s' (try_ending r)
-    (lent_sent log log' (let_go s) h.left h.lent s' h.came r (steps_sent n old new log log' wire session starts h.again (let_go s) h.left h.came (sound_as false s (let_go s) refl refl refl refl (sound_any plain s sound)) h.does) h.lends h.kept)
+    (lent_sent log log' (lends_nothing s) h.left h.lent s' h.came r (steps_sent n old new log log' wire session starts h.again (lends_nothing s) h.left h.came (sound_as false s (lends_nothing s) refl refl refl refl (sound_any plain s sound)) h.does) h.lends h.kept)
 
 pends_by : (p : TryPoll) → poll.Pending ≡ without_event p → p ≡ try.Pending
 pends_by try.Pending h = refl
@@ -473,18 +473,18 @@ copied_sent log log' s left copied s' (stepped.Gives p) (poll.Failed e) h behind
 pub copies_sent : (n : ℕ) (plain : Bool) (old new : Awaited) (log log' : Told) (wire : ℤ) (session : Option Session) (starts : ℕ) (s s' : ClientStream) (r : EventPoll) → IsSound plain s → CallCopies n old new log log' wire session starts s s' r → CallSent log log' s s' r
 copies_sent n plain old new log log' wire session starts s s' r sound h =
     poll_sent log log' s s' (event_ending r)
-    (copied_sent log log' (let_go s) h.left h.copied s' h.came r (steps_sent n old new log log' wire session starts h.again (let_go s) h.left h.came (sound_as false s (let_go s) refl refl refl refl (sound_any plain s sound)) h.does) h.copies h.kept)
+    (copied_sent log log' (lends_nothing s) h.left h.copied s' h.came r (steps_sent n old new log log' wire session starts h.again (lends_nothing s) h.left h.came (sound_as false s (lends_nothing s) refl refl refl refl (sound_any plain s sound)) h.does) h.copies h.kept)
 
 -- ---- a call that seeks an event
 
-sought_at : (s : ClientStream) (place : ℕ) (command : Fields) → IsAt s place command → IsSought s.aggregate.args command
+sought_at : (s : ClientStream) (place : ℕ) (command : Fields) → IsSentAt s place command → IsSought s.aggregate.args command
 sought_at s zero command h = kills_one h
 sought_at s (suc zero) command h = resumes_it s.aggregate refl h
 sought_at s (suc (suc zero)) command h = resumes_it s.aggregate refl h
 sought_at s (suc (suc (suc zero))) command h = asks_for s.cursor h
 sought_at s (suc (suc (suc (suc place)))) command h = absurd h
 
-all_sought : (s : ClientStream) (n : ℕ) (cs : List Fields) (m : ℕ) → Falling (IsAt s) n cs m → AreSought s.aggregate.args cs
+all_sought : (s : ClientStream) (n : ℕ) (cs : List Fields) (m : ℕ) → Falling (IsSentAt s) n cs m → AreSought s.aggregate.args cs
 all_sought s n [] m f = tt
 all_sought s n (x ∷ cs) m f = (sought_at s f.0 x f.2, all_sought s f.0 cs m f.3)
 

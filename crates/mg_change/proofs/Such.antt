@@ -15,8 +15,8 @@ use Rattle.mg_ops.specs.declared.change_stream.WatchArgs.{WatchArgs}
 use Rattle.mg_cursor.specs.Client.{ClientCursor, IsAsking, get_more}
 use Rattle.mg_cursor.specs.Client as cursors
 use Rattle.mg_cursor.specs.Seeking.{session_after}
-use Rattle.mg_change.specs.ClientStreams.{ClientStream, Doing, IsAggregate, IsSound, SoundBy, follows, let_go, resuming_in}
-use Rattle.mg_change.specs.Sent.{Falling, IsAt, Sent, asking_places, ending_places, killing_places, places, places_by, resuming_places}
+use Rattle.mg_change.specs.ClientStreams.{ClientStream, Doing, IsAggregate, IsSound, SoundBy, follows, lends_nothing, resuming_in}
+use Rattle.mg_change.specs.Sent.{Falling, IsSentAt, Sent, asking_places, ending_places, killing_places, places, places_by, resuming_places}
 use Rattle.mg_change.specs.Steps.{DoesStep, DoesSteps}
 use Rattle.mg_change.specs.Steps as steps
 use Rattle.mg_change.specs.StreamCalls.{CallCopies}
@@ -95,12 +95,12 @@ module _ (may : Fields → Type 0) (args : WatchArgs) (of_more : (c : ClientCurs
   resumed_by a wire command same is = subst may (sym is) (of_resumption a wire same)
 
   -- the lowest place is that of a killing
-  killed_at : (s : ClientStream) (place : ℕ) (command : Fields) → place < 1 → IsAt s place command → may command
+  killed_at : (s : ClientStream) (place : ℕ) (command : Fields) → place < 1 → IsSentAt s place command → may command
   killed_at s zero command less is = subst may (sym is.kills_so) (of_killing is.at (is.id ∷ []))
   killed_at s (suc place) command less is = absurd (omega (arith, less))
 
-  killed_all : (s : ClientStream) (n : ℕ) (commands : List Fields) (m : ℕ) → n ≤ 1 → Falling (IsAt s) n commands m → AreAll may commands
-  killed_all s n commands m few falling = all_falling may (IsAt s) n commands m (λ place command less is. killed_at s place command (omega (arith, less, few)) is) falling
+  killed_all : (s : ClientStream) (n : ℕ) (commands : List Fields) (m : ℕ) → n ≤ 1 → Falling (IsSentAt s) n commands m → AreAll may commands
+  killed_all s n commands m few falling = all_falling may (IsSentAt s) n commands m (λ place command less is. killed_at s place command (omega (arith, less, few)) is) falling
 
   module _ (old new : Awaited) (log log' : Told) (wire : ℤ) (started : Bool) (s s' : ClientStream) (r : Stepped) (sound : IsSound true s) (args_are : s.aggregate.args ≡ args) (manner : s.doing ≡ follows → s.cursor.manner ≡ watch_manner args.options) where
     step_such : DoesStep old new log log' wire None started s s' r → AddsSuch may log log'
@@ -141,4 +141,4 @@ module _ (may : Fields → Type 0) (args : WatchArgs) (of_more : (c : ClientCurs
 
   pub call_such : (n : ℕ) (old new : Awaited) (log log' : Told) (wire : ℤ) (starts : ℕ) (s s' : ClientStream) (r : EventPoll) → IsSound true s → s.aggregate.args ≡ args → (s.doing ≡ follows → s.cursor.manner ≡ watch_manner args.options) → CallCopies n old new log log' wire None starts s s' r → AddsSuch may log log'
   call_such n old new log log' wire starts s s' r sound same manner does =
-      steps_such n old new log log' wire starts does.again (let_go s) does.left does.came (sound_as true s (let_go s) refl refl refl refl sound) same manner does.does
+      steps_such n old new log log' wire starts does.again (lends_nothing s) does.left does.came (sound_as true s (lends_nothing s) refl refl refl refl sound) same manner does.does

@@ -39,9 +39,9 @@ use Rattle.mg_cursor.specs.Closing.{ClosesBy, ClosingCursor, ClosingPolls, IsClo
 use Rattle.mg_cursor.specs.Polling.{Hears, ReadsReply, broke as unread, gave as read}
 use Rattle.mg_cursor.specs.declared.polls.NextPoll.{NextPoll}
 use Rattle.mg_cursor.specs.declared.polls.NextPoll.TheVariants as next
-use Rattle.mg_change.specs.ClientStreams.{Asks, ClientStream, Doing, IsAggregate, IsHolding, IsSaved, IsSound, SoundBy, behind_event, follows, id_in, kills, owes, owing_with, remembered, remembered_empty, renewed, resumes, resuming_in, stream_token, token_behind, token_in}
-use Rattle.mg_change.specs.Following.{Turned, Turns, events_in, follow_by, follow_of, held_by, idle_by, in_hand, older_by, unread as unread_batch, with_more, with_older}
-use Rattle.mg_change.specs.StreamCalls.{GivesEvent, LacksToken}
+use Rattle.mg_change.specs.ClientStreams.{Asks, ClientStream, Doing, IsAggregate, IsHolding, IsSaved, IsSound, SoundBy, behind_event, follows, id_in, kills, owes, owing_with, remembered, remembered_empty, renewed, resumes, resuming_in, stream_token, token_behind, token_known}
+use Rattle.mg_change.specs.Following.{Turned, Turns, event_fields, follow_by, follow_of, held_by, idle_by, in_hand, older_by, unread as unread_batch, with_more, with_older}
+use Rattle.mg_change.specs.StreamCalls.{AnswersEvent, LacksToken}
 use Rattle.mg_change.specs.Steps.{AsksMore, DoesStep, FailsMore, HearsClosing, HearsResumption, LooksAt, ReadsResumption, RunsResumption, TakesMore, asks_more, broke, broken, closes, ends, final, finds, gave, goes_on, looks, no_memory, none, not_asked, not_resumed, renews, resumes_now, some, waits_more, waits_resumption}
 use Rattle.mg_change.specs.declared.event_poll.Stepped.{Stepped}
 use Rattle.mg_change.proofs.Forgetting.{gives_up, rest_forgets, resting_only}
@@ -110,12 +110,12 @@ quiet_turns old new log log' s s' quiet is =
 -- ---- tokens
 
 -- a new token is the one of the stream
-pub token_remembered : (o : ChangeStreamOptions) (r : Option ChangeStreamData) (token : Tree) (returned : Bool) → IsSaved o r → token_in (option_map (remembered token returned) r) ≡ Some token
+pub token_remembered : (o : ChangeStreamOptions) (r : Option ChangeStreamData) (token : Tree) (returned : Bool) → IsSaved o r → token_known (option_map (remembered token returned) r) ≡ Some token
 token_remembered o (Some known) token returned saved = refl
 token_remembered o None token returned saved = absurd saved
 
 -- behind an empty batch
-pub token_empty : (o : ChangeStreamOptions) (upto : Option Tree) (a : ChangeStreamAggregate) → IsSaved o a.resume → token_in (remembered_empty upto a).resume ≡ empty_token upto (token_in a.resume)
+pub token_empty : (o : ChangeStreamOptions) (upto : Option Tree) (a : ChangeStreamAggregate) → IsSaved o a.resume → token_known (remembered_empty upto a).resume ≡ empty_token upto (token_known a.resume)
 token_empty o None a saved = refl
 token_empty o (Some token) a saved = token_remembered o a.resume token false saved
 
@@ -147,15 +147,15 @@ looked_args again s c said s' r (broken e breaks is answer) = ap (λ (x : Client
 -- where a stream is whose batch is looked at
 abbrev Looked : Told → ClientStream → ClientCursor → List ℕ → ClientStream → Type 0
 Looked log s c said s' = (awaited : Awaited) (w : Watch) (start : Start) (opened : Option ℕ) (answered : List Fields)
-    → Moved log log (held_by (events_in said) c.token (idle_by w start opened c.id (stream_token s) answered)) (follow_of awaited w start s' opened answered)
+    → Moved log log (held_by (event_fields said) c.token (idle_by w start opened c.id (stream_token s) answered)) (follow_of awaited w start s' opened answered)
 
 pub looked : (log : Told) (again : Bool) (s : ClientStream) (c : ClientCursor) (said : List ℕ) (s' : ClientStream) (r : Stepped) → c.doing ≡ rests → IsSaved s.aggregate.args.options s.aggregate.resume → LooksAt again s c said s' r → (s'.aggregate.args ≡ s.aggregate.args) × Looked log s c said s'
 looked log again s c said s' r quiet saved (some event events at is answer) = (
   ap (λ (x : ClientStream). x.aggregate.args) is,
   λ awaited w start opened answered.
       let f = idle_by w start opened c.id (stream_token s) answered in
-      subst (λ (x : ClientStream). Moved log log (held_by (events_in said) c.token f) (follow_of awaited w start x opened answered)) (sym is)
-      (same log (held_by (events_in said) c.token f) (with_more awaited c.doing (map fields (event ∷ events)) c.token f)
+      subst (λ (x : ClientStream). Moved log log (held_by (event_fields said) c.token f) (follow_of awaited w start x opened answered)) (sym is)
+      (same log (held_by (event_fields said) c.token f) (with_more awaited c.doing (map fields (event ∷ events)) c.token f)
       (ap (λ (es : List Fields). held_by es c.token f) (events_held said (event ∷ events) at)
       ∙ ap (λ (d : cursors.Doing). with_more awaited d (map fields (event ∷ events)) c.token f) (sym quiet))),
 )
@@ -164,16 +164,16 @@ looked log again s c said s' r quiet saved (none at is answer) =
       ap (λ (x : ClientStream). x.aggregate.args) is ∙ args_empty c.token s.aggregate,
       λ awaited w start opened answered.
           let f = idle_by w start opened c.id (stream_token s) answered in
-          let g = idle_by w start opened c.id (token_in a.resume) answered in
-          subst (λ (x : ClientStream). Moved log log (held_by (events_in said) c.token f) (follow_of awaited w start x opened answered)) (sym is)
-          (subst (λ (d : cursors.Doing). Moved log log (held_by (events_in said) c.token f) (with_more awaited d [] c.token g)) (sym quiet)
+          let g = idle_by w start opened c.id (token_known a.resume) answered in
+          subst (λ (x : ClientStream). Moved log log (held_by (event_fields said) c.token f) (follow_of awaited w start x opened answered)) (sym is)
+          (subst (λ (d : cursors.Doing). Moved log log (held_by (event_fields said) c.token f) (with_more awaited d [] c.token g)) (sym quiet)
           (subst (λ (es : List Fields). Moved log log (held_by es c.token f) (record g { doing = resting })) (sym (events_held said [] at))
-          (emptied_moved log w start opened c.id (stream_token s) (token_in a.resume) c.token answered (token_empty s.aggregate.args.options c.token s.aggregate saved)))),
+          (emptied_moved log w start opened c.id (stream_token s) (token_known a.resume) c.token answered (token_empty s.aggregate.args.options c.token s.aggregate saved)))),
     )
 looked log again s c said s' r quiet saved (broken e breaks is answer) = (
   ap (λ (x : ClientStream). x.aggregate.args) is,
   λ awaited w start opened answered.
-      let f = held_by (events_in said) c.token (idle_by w start opened c.id (stream_token s) answered) in
+      let f = held_by (event_fields said) c.token (idle_by w start opened c.id (stream_token s) answered) in
       subst (λ (x : ClientStream). Moved log log f (follow_of awaited w start x opened answered)) (sym is) (gives_up log f tt),
 )
 
@@ -189,12 +189,12 @@ module _ (old : Awaited) (s : ClientStream) (w : Watch) (start : Start) (opened 
   as_following : (d : cursors.Doing) → s.doing ≡ follows → s.cursor.doing ≡ d → at ≡ with_more old d (map fields s.behind) s.cursor.token (idle w start s opened answered)
   as_following d on is = as_doing follows on ∙ ap (λ (x : cursors.Doing). with_more old x (map fields s.behind) s.cursor.token (idle w start s opened answered)) is
 
-  as_unread : (said : List ℕ) → s.doing ≡ renewed → s.cursor.doing ≡ holds said → at ≡ held_by (events_in said) s.cursor.token (idle w start s opened answered)
+  as_unread : (said : List ℕ) → s.doing ≡ renewed → s.cursor.doing ≡ holds said → at ≡ held_by (event_fields said) s.cursor.token (idle w start s opened answered)
   as_unread said on is = as_doing renewed on ∙ ap (λ (x : cursors.Doing). unread_batch x s.cursor.token (idle w start s opened answered)) is
 
 -- its batch is looked at, and nothing is sent
 looks_turn : (again : Bool) (old new : Awaited) (log log' : Told) (s : ClientStream) (said : List ℕ) (s' : ClientStream) (r : Stepped) → SendsNothing old new log log' → IsSaved s.aggregate.args.options s.aggregate.resume
-    → ((w : Watch) (start : Start) (opened : Option ℕ) (answered : List Fields) → follow_of old w start s opened answered ≡ held_by (events_in said) s.cursor.token (idle w start s opened answered)) → LooksAt again s (at_rest s.cursor) said s' r → Turned old new log log' s s'
+    → ((w : Watch) (start : Start) (opened : Option ℕ) (answered : List Fields) → follow_of old w start s opened answered ≡ held_by (event_fields said) s.cursor.token (idle w start s opened answered)) → LooksAt again s (at_rest s.cursor) said s' r → Turned old new log log' s s'
 looks_turn again old new log log' s said s' r quiet saved stands h =
     let m = looked log again s (at_rest s.cursor) said s' r refl saved h in
     record {
@@ -202,7 +202,7 @@ looks_turn again old new log log' s said s' r quiet saved stands h =
       moved = λ w start asks_so opened answered.
           let f = follow_of old w start s opened answered in
           let g = follow_of new w start s' opened answered in
-          subst (λ (l : Told). Moved log l f g) (sym quiet.log_same) (from_here log log f (held_by (events_in said) s.cursor.token (idle w start s opened answered)) g (stands w start opened answered) (m.1 new w start opened answered));
+          subst (λ (l : Told). Moved log l f g) (sym quiet.log_same) (from_here log log f (held_by (event_fields said) s.cursor.token (idle w start s opened answered)) g (stands w start opened answered) (m.1 new w start opened answered));
     }
 
 -- ---- a getMore
@@ -262,7 +262,7 @@ module _ (new : Awaited) (log log' : Told) (s : ClientStream) (none_left : s.beh
       let looks_so : LooksAt false s c bytes s' r = subst (λ (x : NextPoll). TakesMore s c x s' r) answer takes in
       let at_so : LooksAt false s (behind_reply said s.cursor) bytes s' r = subst (λ (x : ClientCursor). LooksAt false s x bytes s' r) is looks_so in
       let l = looked log' false s (behind_reply said s.cursor) bytes s' r refl saved at_so in
-      let f = held_by (events_in bytes) said.token (idle_by w start opened said.id (stream_token s) answered) in (
+      let f = held_by (event_fields bytes) said.token (idle_by w start opened said.id (stream_token s) answered) in (
         l.0,
         moved log log' log' g f (follow_of new w start s' opened answered)
             (subst (λ (es : List Fields). Moved log log' g (held_by es said.token (idle_by w start opened said.id (stream_token s) answered))) (sym (events_read bytes said says))
@@ -336,7 +336,7 @@ pub record AsksAgain (w : Watch) (start : Start) (token : Option Tree) (sending 
   pub resumes_at : ResumesAt start token begin
   pub asks_so : asked sending.command ≡ asks_watch w begin
 
-pub asks_again : (a : ChangeStreamAggregate) (sending : Sending) (w : Watch) (start : Start) → IsSaved a.args.options a.resume → Asks a.args w start → IsResumption a sending → AsksAgain w start (token_in a.resume) sending
+pub asks_again : (a : ChangeStreamAggregate) (sending : Sending) (w : Watch) (start : Start) → IsSaved a.args.options a.resume → Asks a.args w start → IsResumption a sending → AsksAgain w start (token_known a.resume) sending
 asks_again a sending w start saved asks_so is =
     let o = options_for a.args.options a.resume is.wire in
     let b = begins_again a.args.options a.resume is.wire start saved asks_so.from in
@@ -354,7 +354,7 @@ resumed_so new log log' s said s' r g w start opened answered (gave out opens is
     let o = opens.opens.opens in
     let c : Cursor = record { id = out.0.info.id; space = space out.0.info.ns; token = out.0.post_batch_resume_token; batch = o.batch } in
     let f = idle w start s opened answered in
-    let events : unwrap_or (documents_in o.batch) [] ≡ events_in out.0.initial_reply = sym (ap events_in o.whole ∙ events_read said c o.says) in
+    let events : unwrap_or (documents_in o.batch) [] ≡ event_fields out.0.initial_reply = sym (ap event_fields o.whole ∙ events_read said c o.says) in
     subst (λ (x : ClientStream). Moved log log' g (follow_of new w start x opened answered)) (sym is)
     (subst (λ (es : List Fields). Moved log log' g (record f { doing = holding; cursor = out.0.info.id; old = s.cursor.id; ahead = es; upto = out.0.post_batch_resume_token })) events
     (resume_taken f log log' g said c success o.says m))
@@ -444,13 +444,13 @@ closes_so f is alone old new log log' wire before r closing landed (kill_goes_on
 
 -- what the stream does behind it
 closing_so : (new : Awaited) (log log' : Told) (s : ClientStream) (said : List ℕ) (s' : ClientStream) (r : Stepped) (came : Step ClosingCursor (Unit {0})) (g : Follow) (w : Watch) (start : Start) (opened : Option ℕ) (answered : List Fields) → s.cursor.doing ≡ holds said
-    → HearsClosing s came s' r → ClosesTo new log log' g (held_by (events_in said) s.cursor.token (idle w start s opened answered)) came → Moved log log' g (follow_of new w start s' opened answered)
+    → HearsClosing s came s' r → ClosesTo new log log' g (held_by (event_fields said) s.cursor.token (idle w start s opened answered)) came → Moved log log' g (follow_of new w start s' opened answered)
 closing_so new log log' s said s' r came g w start opened answered at heard m = by_came came heard m
   where
-    stands : (d : cursors.Doing) → d ≡ holds said → unread_batch d s.cursor.token (idle w start s opened answered) ≡ held_by (events_in said) s.cursor.token (idle w start s opened answered)
+    stands : (d : cursors.Doing) → d ≡ holds said → unread_batch d s.cursor.token (idle w start s opened answered) ≡ held_by (event_fields said) s.cursor.token (idle w start s opened answered)
     stands d is = ap (λ (x : cursors.Doing). unread_batch x s.cursor.token (idle w start s opened answered)) is
 
-    by_came : (x : Step ClosingCursor (Unit {0})) → HearsClosing s x s' r → ClosesTo new log log' g (held_by (events_in said) s.cursor.token (idle w start s opened answered)) x → Moved log log' g (follow_of new w start s' opened answered)
+    by_came : (x : Step ClosingCursor (Unit {0})) → HearsClosing s x s' r → ClosesTo new log log' g (held_by (event_fields said) s.cursor.token (idle w start s opened answered)) x → Moved log log' g (follow_of new w start s' opened answered)
     by_came (step.Pending before) h c =
         subst (λ (x : ClientStream). Moved log log' g (follow_of new w start x opened answered)) (sym h.0)
         (subst (λ (f : Follow). Moved log log' g (with_older new before f)) (sym (stands s.cursor.doing at)) c)
@@ -459,7 +459,7 @@ closing_so new log log' s said s' r came g w start opened answered at heard m = 
         (subst (λ (f : Follow). Moved log log' g f) (sym (stands s.cursor.doing at)) c)
     by_came (step.Failed e) (inl h) c =
         subst (λ (x : ClientStream). Moved log log' g (follow_of new w start x opened answered)) (sym h.1)
-        (moved log log' log' g (held_by (events_in said) s.cursor.token (idle w start s opened answered)) (idle w start s opened answered) c (gives_up log' (held_by (events_in said) s.cursor.token (idle w start s opened answered)) tt))
+        (moved log log' log' g (held_by (event_fields said) s.cursor.token (idle w start s opened answered)) (idle w start s opened answered) c (gives_up log' (held_by (event_fields said) s.cursor.token (idle w start s opened answered)) tt))
     by_came (step.Failed e) (inr h) c =
         subst (λ (x : ClientStream). Moved log log' g (follow_of new w start x opened answered)) (sym h.1)
         (subst (λ (f : Follow). Moved log log' g f) (sym (stands s.cursor.doing at)) c)
@@ -511,7 +511,7 @@ step_turns old new log log' wire session started s s' r sound (closes before on 
     record {
       args = closing_args s s' r came h;
       moved = λ w start asks_so opened answered.
-          let f = held_by (events_in reply_so.0) s.cursor.token (idle w start s opened answered) in
+          let f = held_by (event_fields reply_so.0) s.cursor.token (idle w start s opened answered) in
           closing_so new log log' s reply_so.0 s' r came (follow_of old w start s opened answered) w start opened answered reply_so.1 h
           (subst (λ (g : Follow). ClosesTo new log log' g f came)
           (sym (as_doing old s w start opened answered (kills before) on ∙ ap (λ (d : cursors.Doing). with_older old before (unread_batch d s.cursor.token (idle w start s opened answered))) reply_so.1))
@@ -556,7 +556,7 @@ module _ (awaited : Awaited) (s : ClientStream) (at_event : StandsAtEvent s) (ev
   stands_held =
       as_following awaited s w start opened answered rests at_event.follows_on at_event.quiet ∙ ap (λ (es : List (List ℕ)). in_hand (map fields es) s.cursor.token (idle w start s opened answered)) these
 
-pub gives_turns : (s s' : ClientStream) (event : List ℕ) → IsSaved s.aggregate.args.options s.aggregate.resume → StandsAtEvent s → GivesEvent s s' event → Turns s s' (told_of event)
+pub gives_turns : (s s' : ClientStream) (event : List ℕ) → IsSaved s.aggregate.args.options s.aggregate.resume → StandsAtEvent s → AnswersEvent s s' event → Turns s s' (told_of event)
 gives_turns s s' event saved at_event h =
     record {
       args = ap (λ (x : ClientStream). x.aggregate.args) h.given;

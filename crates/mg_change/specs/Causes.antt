@@ -27,7 +27,7 @@ use Rattle.mg_cursor.specs.declared.polls.TryPoll.TheVariants as try
 use Rattle.mg_cursor.specs.declared.results.AdvanceResult.{AdvanceResult}
 use Rattle.mg_cursor.specs.declared.results.AdvanceResult.TheVariants as result
 use Rattle.mg_change.specs.ClientStreams.{ClientStream, Doing, follows, id_in, is_read_again, kills, owes, remembered_by, remembered_empty, renewed, resumes, resuming_in, token_behind}
-use Rattle.mg_change.specs.Steps.{CannotResume, OpensBy}
+use Rattle.mg_change.specs.Steps.{CannotResume, OpensCursor}
 use Rattle.mg_change.specs.declared.event_poll.EventPoll.{EventPoll}
 use Rattle.mg_change.specs.declared.event_poll.EventPoll.TheVariants as poll
 
@@ -90,7 +90,7 @@ pub record Resumed (past : Past) (lone : Bool) (at : ClientStream) (old : Client
   pub why : Resumes past at old
   pub heard : HeardAggregate past lone at bytes
   pub out : CursorSpecification × Option Timestamp
-  pub opens : OpensBy at.aggregate bytes out
+  pub opens : OpensCursor at.aggregate bytes out
   pub cursor_is : c ≡ new_client out.0
 
 -- what came of the cursor that a resumption replaced: the server held it no longer; or its killCursors had success, or failed, but not for want of memory
@@ -210,7 +210,7 @@ pub record IsFinal (e : Error) : Type 0 where
   pub room : e.kind ≢ kind.OutOfMemory
 
 -- the aggregate of a resumption failed, or the reply to it tells no cursor
-pub record AggregateFails (past : Past) (lone : Bool) (at : ClientStream) (e : Error) : Type 0 where
+pub record ResumptionFails (past : Past) (lone : Bool) (at : ClientStream) (e : Error) : Type 0 where
   pub session : Option Session
   pub plainly : PlainIf lone session
   pub fails : RequestFails past (resuming_in at.aggregate past.wire session) (is_read_again session) TellsNoCursor e
@@ -221,7 +221,7 @@ pub data CallFails (past : Past) (session : Option Session) (at after : ClientSt
   may_lose : e.kind ≡ kind.OutOfMemory → IsOwing after → MayLose past (is_lone session) at after.cursor → CallFails past session at after e
   -- or elsewhere
   no_memory : e.kind ≡ kind.OutOfMemory → StaysSo past (is_lone session) at after → CallFails past session at after e
-  not_resumed : IsOwing after → Resumes past at (at_rest after.cursor) → AggregateFails past (is_lone session) at e → CallFails past session at after e
+  not_resumed : IsOwing after → Resumes past at (at_rest after.cursor) → ResumptionFails past (is_lone session) at e → CallFails past session at after e
   -- the reply to the aggregate of a resumption has no batch of documents
   batch_broken : (bytes : List ℕ) → IsOwing after → Replied past (is_lone session) at true bytes after.cursor → BreaksBatch bytes e → CallFails past session at after e
   -- the aggregate cannot be built, for the session as it is now: none where the call names none

@@ -17,8 +17,8 @@ use Rattle.mg_ops.specs.declared.aggregate.ChangeStreamAggregate.{ChangeStreamAg
 use Rattle.mg_ops.specs.declared.change_stream.ChangeStreamData.{ChangeStreamData}
 use Rattle.mg_ops.specs.declared.change_stream.WatchArgs.{WatchArgs}
 use Rattle.mg_ops.specs.declared.cursor_reply.CursorSpecification.{CursorSpecification}
-use Rattle.mg_change.specs.ClientStreams.{ClientStream, IsAggregate, IsNewAggregate, opened_by, resuming_in}
-use Rattle.mg_change.specs.Steps.{CannotResume, OpensBy}
+use Rattle.mg_change.specs.ClientStreams.{ClientStream, IsAggregate, IsNewAggregate, new_stream, resuming_in}
+use Rattle.mg_change.specs.Steps.{CannotResume, OpensCursor}
 
 pub record ClientOpening : Type 0 where
   -- what is watched, and how
@@ -57,13 +57,13 @@ first_known args wire is_empty upto time = record {
 
 -- the stream of a reply to the aggregate, over a link of this wire version
 abbrev pub opened_with : WatchArgs → ℤ → CursorSpecification × Option Timestamp → ClientStream
-opened_with args wire out = opened_by (record { args = args; resume = Some (first_known args wire out.0.is_empty out.0.post_batch_resume_token out.1) }) out.0
+opened_with args wire out = new_stream (record { args = args; resume = Some (first_known args wire out.0.is_empty out.0.post_batch_resume_token out.1) }) out.0
 
 -- ---- a poll
 
 -- a reply to the aggregate opens the stream; or it breaks the grammar of a cursor, or memory ran out as it was read
 pub data ReadsOpening (wire : ℤ) (o : ClientOpening) (reply : List ℕ) (r : Step ClientOpening ClientStream) : Type 0 where
-  opened : (out : CursorSpecification × Option Timestamp) → OpensBy (first_aggregate o.args) reply out → r ≡ step.Done (opened_with o.args wire out) → ReadsOpening wire o reply r
+  opened : (out : CursorSpecification × Option Timestamp) → OpensCursor (first_aggregate o.args) reply out → r ≡ step.Done (opened_with o.args wire out) → ReadsOpening wire o reply r
   broke : (e : Error) → FailsBy (BreaksIn (fields reply)) e → r ≡ step.Failed e → ReadsOpening wire o reply r
 
 -- what comes of a poll of the aggregate

@@ -57,12 +57,12 @@ pub record ClientStream : Type 0 where
 -- ---- what it tells
 
 -- the token behind the last event that was given, or behind a batch that came empty
-abbrev pub token_in : Option ChangeStreamData → Option Tree
-token_in None = None
-token_in (Some known) = known.resume_token
+abbrev pub token_known : Option ChangeStreamData → Option Tree
+token_known None = None
+token_known (Some known) = known.resume_token
 
 abbrev pub stream_token : ClientStream → Option Tree
-stream_token s = token_in s.aggregate.resume
+stream_token s = token_known s.aggregate.resume
 
 -- a resumption is owed, or on its way
 abbrev pub IsOwed : Doing → Type 0
@@ -209,8 +209,8 @@ pub record IsExhausted (s : ClientStream) : Type 0 where
 
 -- ---- where it is behind what it heard
 
-abbrev pub let_go : ClientStream → ClientStream
-let_go s = record s { current = None }
+abbrev pub lends_nothing : ClientStream → ClientStream
+lends_nothing s = record s { current = None }
 
 -- with this cursor
 abbrev pub with_cursor : ClientCursor → ClientStream → ClientStream
@@ -263,5 +263,5 @@ next_has (event ∷ events) = is_some (id_in event)
 -- ---- a new stream
 
 -- of this aggregate, with the first batch of its cursor in hand
-abbrev pub opened_by : ChangeStreamAggregate → CursorSpecification → ClientStream
-opened_by a out = record { aggregate = a; cursor = new_client out; current = None; behind = []; counts = no_counts; doing = follows }
+abbrev pub new_stream : ChangeStreamAggregate → CursorSpecification → ClientStream
+new_stream a out = record { aggregate = a; cursor = new_client out; current = None; behind = []; counts = no_counts; doing = follows }

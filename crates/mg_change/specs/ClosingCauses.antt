@@ -17,7 +17,7 @@ use Rattle.mg_cursor.specs.Client.{ClientCursor, asks, at_rest, behind_failure, 
 use Rattle.mg_cursor.specs.Client as cursors
 use Rattle.mg_cursor.specs.Closing.{ClosingCursor, ClosingDone, ClosingFails, IsClosingUnderway, IsNotAsking}
 use Rattle.mg_change.specs.ClientStreams.{ClientStream}
-use Rattle.mg_change.specs.ClosingStreams.{ClosingStream, Landing, closed_stream, ends, ids_left, kill_left, lands, lands_aggregate, lands_older}
+use Rattle.mg_change.specs.ClosingStreams.{ClosingStream, Landing, closed_stream, ends, ids_left, kill_left, lands, lands_aggregate, lands_replaced}
 
 -- ---- how far it has come
 
@@ -30,7 +30,7 @@ UnderwayByCursor awaited past c (asks sending) = FliesMore awaited past c sendin
 abbrev pub UnderwayBy : Awaited → Past → ClosingStream → Landing → Type 0
 UnderwayBy awaited past k lands = UnderwayByCursor awaited past k.cursor k.cursor.doing
 UnderwayBy awaited past k (lands_aggregate sending) = Flies awaited past (fields sending.command) sending.stage
-UnderwayBy awaited past k (lands_older before) = IsClosingUnderway awaited past before
+UnderwayBy awaited past k (lands_replaced before) = IsClosingUnderway awaited past before
 UnderwayBy awaited past k (ends sending) = Flies awaited past (kill_left k) sending.stage
 
 abbrev pub IsUnderway : Awaited → Past → ClosingStream → Type 0
@@ -53,7 +53,7 @@ pub data LeftBy (past : Past) (k left : ClosingStream) : Type 0 where
   same : k.doing ≡ lands → IsNotAsking k.cursor.doing → left ≡ record k { cursor = at_rest k.cursor } → LeftBy past k left
   more : k.doing ≡ lands → (c : ClientCursor) → MoreLeft past k.cursor c → left ≡ record k { cursor = c } → LeftBy past k left
   aggregate : (sending : Sending) → k.doing ≡ lands_aggregate sending → AggregateLeft past sending k left → LeftBy past k left
-  older : (before : ClosingCursor) → k.doing ≡ lands_older before → ClosingDone past before ⊎ ((e : Error) × ClosingFails past before e × (e.kind ≢ kind.OutOfMemory)) → left ≡ record k { doing = lands } → LeftBy past k left
+  replaced : (before : ClosingCursor) → k.doing ≡ lands_replaced before → ClosingDone past before ⊎ ((e : Error) × ClosingFails past before e × (e.kind ≢ kind.OutOfMemory)) → left ≡ record k { doing = lands } → LeftBy past k left
   killing : (sending : Sending) → k.doing ≡ ends sending → left ≡ k → LeftBy past k left
 
 -- ---- answers
@@ -82,7 +82,7 @@ last_ids last = ids_left (closed_stream false last)
 abbrev pub LastBy : Awaited → Past → ClientStream → Landing → Type 0
 LastBy awaited past last lands = Unit {0}
 LastBy awaited past last (lands_aggregate sending) = ⊥
-LastBy awaited past last (lands_older before) = ⊥
+LastBy awaited past last (lands_replaced before) = ⊥
 LastBy awaited past last (ends sending) = (last_ids last ≢ []) × Flies awaited past (last_kill last) sending.stage
 
 pub record LastSoFar (awaited : Awaited) (past : Past) (last : ClientStream) (k : ClosingStream) : Type 0 where

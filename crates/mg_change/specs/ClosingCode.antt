@@ -8,7 +8,7 @@ use Rattle.mg_link.specs.declared.pinned.PinnedConnection.TheVariants as connect
 use Rattle.mg_cursor.specs.Client.{ClientCursor, rests}
 use Rattle.mg_cursor.specs.ClientCode.{coded_client, coded_sending}
 use Rattle.mg_cursor.specs.Closing.{ClosingCursor, closed, coded_closing}
-use Rattle.mg_change.specs.ClosingStreams.{ClosingStream, Landing, ends, lands, lands_aggregate, lands_older}
+use Rattle.mg_change.specs.ClosingStreams.{ClosingStream, Landing, ends, lands, lands_aggregate, lands_replaced}
 
 -- ---- what is on its way: a number for the case, the command, and the closing
 
@@ -21,19 +21,19 @@ no_cursor = record { id = pos 0; space = record { db = []; coll = [] }; manner =
 abbrev to_parts : Landing → ℕ × (Sending × ClosingCursor)
 to_parts lands = (0, (no_sending, closed no_cursor))
 to_parts (lands_aggregate sending) = (1, (sending, closed no_cursor))
-to_parts (lands_older before) = (2, (no_sending, before))
+to_parts (lands_replaced before) = (2, (no_sending, before))
 to_parts (ends sending) = (3, (sending, closed no_cursor))
 
 abbrev from_parts : ℕ → Sending → ClosingCursor → Landing
 from_parts zero sending before = lands
 from_parts (suc zero) sending before = lands_aggregate sending
-from_parts (suc (suc zero)) sending before = lands_older before
+from_parts (suc (suc zero)) sending before = lands_replaced before
 from_parts (suc (suc (suc n))) sending before = ends sending
 
 pub parts_back : (l : Landing) → from_parts (to_parts l).0 (to_parts l).1.0 (to_parts l).1.1 ≡ l
 parts_back lands = refl
 parts_back (lands_aggregate sending) = refl
-parts_back (lands_older before) = refl
+parts_back (lands_replaced before) = refl
 parts_back (ends sending) = refl
 
 abbrev coded_landing : Coded Landing

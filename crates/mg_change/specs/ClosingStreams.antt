@@ -19,11 +19,11 @@ use Rattle.mg_ops.specs.Naming.{IsNamed}
 use Rattle.mg_ops.specs.declared.aggregate.ChangeStreamAggregate.{ChangeStreamAggregate}
 use Rattle.mg_cursor.specs.Client.{ClientCursor, IsNew, WaitsFor, asks, at_rest, client_ticket}
 use Rattle.mg_cursor.specs.Client as cursors
-use Rattle.mg_cursor.specs.Closing.{ClosingCursor, ClosingPolls, IsClosing, IsLanded, IsNotAsking, closing_ticket as cursor_ticket}
+use Rattle.mg_cursor.specs.Closing.{ClosingCursor, ClosingPolls, IsClosing, IsLanded, IsNotAsking, closing_ticket}
 use Rattle.mg_cursor.specs.Polling.{Hears}
 use Rattle.mg_cursor.specs.declared.polls.NextPoll.{NextPoll}
 use Rattle.mg_cursor.specs.declared.polls.NextPoll.TheVariants as next
-use Rattle.mg_change.specs.ClientStreams.{Asks, ClientStream, Doing, IsSaved, follows, kills, owes, renewed, resumes, resuming_in, stream_token, token_in}
+use Rattle.mg_change.specs.ClientStreams.{Asks, ClientStream, Doing, IsSaved, follows, kills, owes, renewed, resumes, resuming_in, stream_token, token_known}
 
 -- what is on its way besides a getMore of the cursor
 pub data Landing : Type 0 where
@@ -32,7 +32,7 @@ pub data Landing : Type 0 where
   -- the aggregate of a resumption, whose cursor is to be killed too
   lands_aggregate : (sending : Sending) → Landing
   -- the closing of the cursor that a resumption replaced
-  lands_older : (old : ClosingCursor) → Landing
+  lands_replaced : (old : ClosingCursor) → Landing
   -- the killCursors of this closing
   ends : (sending : Sending) → Landing
 
@@ -51,7 +51,7 @@ abbrev pub landing_of : Doing → Landing
 landing_of follows = lands
 landing_of owes = lands
 landing_of (resumes sending) = lands_aggregate sending
-landing_of (kills old) = lands_older old
+landing_of (kills old) = lands_replaced old
 landing_of renewed = lands
 
 -- before anything of the closing is sent
@@ -67,7 +67,7 @@ handed_over left k = record k { token = None; lent = false; cursor = record k.cu
 abbrev pub landing_ticket : ClientCursor → Landing → Option ℕ
 landing_ticket c lands = client_ticket c
 landing_ticket c (lands_aggregate sending) = ticket_of sending
-landing_ticket c (lands_older old) = cursor_ticket old
+landing_ticket c (lands_replaced old) = closing_ticket old
 landing_ticket c (ends sending) = ticket_of sending
 
 abbrev pub stream_closing_ticket : ClosingStream → Option ℕ
@@ -98,12 +98,12 @@ pub record IsLanding (k : ClosingStream) : Type 0 where
 abbrev pub LandsSoundly : ClosingStream → Landing → Type 0
 LandsSoundly k lands = IsLanding k
 LandsSoundly k (lands_aggregate sending) = IsNotAsking k.cursor.doing
-LandsSoundly k (lands_older old) = IsNotAsking k.cursor.doing × IsClosing old × IsLanded old × (k.opened ≡ pos 0)
+LandsSoundly k (lands_replaced old) = IsNotAsking k.cursor.doing × IsClosing old × IsLanded old × (k.opened ≡ pos 0)
 LandsSoundly k (ends sending) = IsNotAsking k.cursor.doing × WaitsFor (kill_left k) sending × (ids_left k ≢ [])
 
 -- what is on its way is what it lands on, or its killCursors
-abbrev pub IsSoundStream : ClosingStream → Type 0
-IsSoundStream k = LandsSoundly k k.doing
+abbrev pub IsSoundClosing : ClosingStream → Type 0
+IsSoundClosing k = LandsSoundly k k.doing
 
 -- ---- the killing
 
@@ -152,10 +152,10 @@ BehindAggregate old new log log' wire k (step.Pending sending) r = SendsNothing 
 BehindAggregate old new log log' wire k (step.Done reply) r = BehindOpening old new log log' wire k reply r
 BehindAggregate old new log log' wire k (step.Failed e) r = PassesOver old new log log' wire (record k { doing = lands }) e r
 
-abbrev pub BehindOlder : Awaited → Awaited → Told → Told → ℤ → ClosingStream → Step ClosingCursor (Unit {0}) → Step ClosingStream (Unit {0}) → Type 0
-BehindOlder old new log log' wire k (step.Pending before) r = SendsNothing old new log log' × (r ≡ step.Pending (record k { doing = lands_older before }))
-BehindOlder old new log log' wire k (step.Done t) r = KillsLeft old new log log' wire (record k { doing = lands }) r
-BehindOlder old new log log' wire k (step.Failed e) r = PassesOver old new log log' wire (record k { doing = lands }) e r
+abbrev pub BehindReplaced : Awaited → Awaited → Told → Told → ℤ → ClosingStream → Step ClosingCursor (Unit {0}) → Step ClosingStream (Unit {0}) → Type 0
+BehindReplaced old new log log' wire k (step.Pending before) r = SendsNothing old new log log' × (r ≡ step.Pending (record k { doing = lands_replaced before }))
+BehindReplaced old new log log' wire k (step.Done t) r = KillsLeft old new log log' wire (record k { doing = lands }) r
+BehindReplaced old new log log' wire k (step.Failed e) r = PassesOver old new log log' wire (record k { doing = lands }) e r
 
 -- ---- a poll
 
@@ -174,7 +174,7 @@ pub data ClosesStream (old new : Awaited) (log log' : Told) (wire : ℤ) (k : Cl
   -- the aggregate of a resumption
   lands_opening : (sending : Sending) → k.doing ≡ lands_aggregate sending → (b : Between) (came : Step Sending (List ℕ)) → Runs old b.awaited log b.log wire sending came → BehindAggregate b.awaited new b.log log' wire k came r → ClosesStream old new log log' wire k r
   -- the closing of the cursor before
-  lands_closing : (before : ClosingCursor) → k.doing ≡ lands_older before → (b : Between) (came : Step ClosingCursor (Unit {0})) → ClosingPolls old b.awaited log b.log wire before came → BehindOlder b.awaited new b.log log' wire k came r → ClosesStream old new log log' wire k r
+  lands_closing : (before : ClosingCursor) → k.doing ≡ lands_replaced before → (b : Between) (came : Step ClosingCursor (Unit {0})) → ClosingPolls old b.awaited log b.log wire before came → BehindReplaced b.awaited new b.log log' wire k came r → ClosesStream old new log log' wire k r
   -- its killCursors
   goes_on : (sending : Sending) → k.doing ≡ ends sending → RunsKill old new log log' wire k sending r → ClosesStream old new log log' wire k r
 
@@ -185,7 +185,7 @@ pub record ResumesWatch (w : Watch) (start : Start) (token : Option Tree) (sendi
   pub aggregate : ChangeStreamAggregate
   pub asks : Asks aggregate.args w start
   pub saved : IsSaved aggregate.args.options aggregate.resume
-  pub token_is : token_in aggregate.resume ≡ token
+  pub token_is : token_known aggregate.resume ≡ token
   pub wire : ℤ
   pub session : Option Session
   pub command_is : fields sending.command ≡ resuming_in aggregate wire session
@@ -193,7 +193,7 @@ pub record ResumesWatch (w : Watch) (start : Start) (token : Option Tree) (sendi
 abbrev pub LandsForBy : Watch → Start → Option Tree → Landing → Type 0
 LandsForBy w start token lands = Unit {0}
 LandsForBy w start token (lands_aggregate sending) = ResumesWatch w start token sending
-LandsForBy w start token (lands_older before) = Unit {0}
+LandsForBy w start token (lands_replaced before) = Unit {0}
 LandsForBy w start token (ends sending) = Unit {0}
 
 -- what is on its way is of the stream of this watch, whose token was this one

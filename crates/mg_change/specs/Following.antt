@@ -20,7 +20,7 @@ use Rattle.mg_cursor.specs.declared.results.AdvanceResult.{AdvanceResult}
 use Rattle.mg_cursor.specs.declared.results.AdvanceResult.TheVariants as result
 use Rattle.mg_change.specs.ClientOpenings.{ClientOpening}
 use Rattle.mg_change.specs.ClientStreams.{Asks, ClientStream, Doing, follows, kills, owes, renewed, resumes, stream_token}
-use Rattle.mg_change.specs.ClosingStreams.{ClosingStream, Landing, ends, lands, lands_aggregate, lands_older}
+use Rattle.mg_change.specs.ClosingStreams.{ClosingStream, Landing, ends, lands, lands_aggregate, lands_replaced}
 use Rattle.mg_change.specs.declared.event_poll.EventPoll.{EventPoll}
 use Rattle.mg_change.specs.declared.event_poll.EventPoll.TheVariants as poll
 
@@ -29,8 +29,8 @@ abbrev pub AsksNothing : WatchArgs → Type 0
 AsksNothing a = (w : Watch) (start : Start) → Asks a w start → ⊥
 
 -- the events of a reply's batch; none where it breaks its grammar
-abbrev pub events_in : List ℕ → List Fields
-events_in reply = unwrap_or (option_map (map fields) (documents_of reply)) []
+abbrev pub event_fields : List ℕ → List Fields
+event_fields reply = unwrap_or (option_map (map fields) (documents_of reply)) []
 
 -- a stream of which nothing but its cursor, its token and what it answered is known
 abbrev pub idle_by : Watch → Start → Option ℕ → ℤ → Option Tree → List Fields → Follow
@@ -58,13 +58,13 @@ in_hand (e ∷ es) upto f = held_by (e ∷ es) upto f
 -- the batch of the reply in hand, which was not looked at
 abbrev pub unread : cursors.Doing → Option Tree → Follow → Follow
 unread rests upto f = f
-unread (holds reply) upto f = held_by (events_in reply) upto f
+unread (holds reply) upto f = held_by (event_fields reply) upto f
 unread (asks sending) upto f = f
 
 -- by what its cursor asks for
 abbrev pub with_more : Awaited → cursors.Doing → List Fields → Option Tree → Follow → Follow
 with_more awaited rests events upto f = in_hand events upto f
-with_more awaited (holds reply) events upto f = held_by (events_in reply) upto f
+with_more awaited (holds reply) events upto f = held_by (event_fields reply) upto f
 with_more awaited (asks sending) events upto f = at_stage (record f { doing = resting }) (λ place. record f { doing = asking place }) awaited sending.stage
 
 -- an old cursor that is to be killed, where that was not tried yet
@@ -125,7 +125,7 @@ with_landing awaited (asks sending) f = at_stage (record f { doing = resting }) 
 abbrev pub closing_by : Awaited → Landing → ClientCursor → Follow → Follow
 closing_by awaited lands c f = with_landing awaited c.doing f
 closing_by awaited (lands_aggregate sending) c f = at_stage f (λ place. record f { doing = resuming place }) awaited sending.stage
-closing_by awaited (lands_older before) c f = with_older awaited before f
+closing_by awaited (lands_replaced before) c f = with_older awaited before f
 closing_by awaited (ends sending) c f = f
 
 -- what a closing is doing, whose stream had this token, and has answered these events

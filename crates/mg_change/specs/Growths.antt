@@ -13,8 +13,8 @@ use Rattle.mg_change.specs.ClientOpenings.{ClientOpening}
 use Rattle.mg_change.specs.ClientStreams.{ClientStream}
 
 -- Each call is still there, what was seen is still seen, and where the log stands in a legal history it stood in an earlier one.
-abbrev pub Grows : Told → Told → Type 0
-Grows log log' = (calls : List Call) → log ≡ Some calls → (calls' : List Call) × (log' ≡ Some calls') × Onward calls calls' nobody
+abbrev pub GoesOnward : Told → Told → Type 0
+GoesOnward log log' = (calls : List Call) → log ≡ Some calls → (calls' : List Call) × (log' ≡ Some calls') × Onward calls calls' nobody
 
 -- no server that is honest could have given this log
 abbrev pub StandsNowhere : List Call → Type 0

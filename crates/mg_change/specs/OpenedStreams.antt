@@ -16,7 +16,7 @@ use Rattle.mg_ops.specs.declared.change_stream.WatchArgs.{WatchArgs}
 use Rattle.mg_change.specs.ClientOpenings.{ClientOpening, first_aggregate}
 use Rattle.mg_change.specs.ClientStreams.{Asks, ClientStream, IsBetween, resuming_in}
 use Rattle.mg_change.specs.Following.{OpensTo, follow_of, not_open, opening_by}
-use Rattle.mg_change.specs.OpeningCauses.{Opened, OpeningCame, OpensSoFar}
+use Rattle.mg_change.specs.OpeningCauses.{StreamOpened, OpeningCame, OpensSoFar}
 use Rattle.mg_change.specs.Sent.{Falling, Sent}
 
 -- A stream was opened by the call of the log at whose place its aggregate heard the reply: from there on the stream knows what it watches.
@@ -24,7 +24,7 @@ pub record OpenedAt (old new : Awaited) (log log' : Told) (wire : ℤ) (args : W
   pub place : Option ℕ
   pub moved : (w : Watch) (start : Start) → Asks args w start → Moved log log' (opening_by old before w start) (follow_of new w start s place [])
   pub caused : (calls : List Call) → log ≡ Some calls → (places : List ℕ) → OpensSoFar old (past_of places (length calls) calls wire) args before
-      → (calls' : List Call) × (log' ≡ Some calls') × (was : Opened (past_of places (length calls) calls' wire) args s) × (place ≡ Some was.heard.place)
+      → (calls' : List Call) × (log' ≡ Some calls') × (was : StreamOpened (past_of places (length calls) calls' wire) args s) × (place ≡ Some was.heard.place)
 
 -- A stream that was opened has these arguments, and stands between two calls.
 pub record Begins (args : WatchArgs) (s : ClientStream) : Type 0 where

@@ -17,7 +17,7 @@ use Rattle.mg_ops.specs.declared.cursor_reply.CursorSpecification.{CursorSpecifi
 use Rattle.mg_cursor.specs.Causes.{TellsNoCursor}
 use Rattle.mg_change.specs.ClientOpenings.{ClientOpening, first_aggregate, opened_with}
 use Rattle.mg_change.specs.ClientStreams.{ClientStream, is_read_again, resuming_in}
-use Rattle.mg_change.specs.Steps.{CannotResume, OpensBy}
+use Rattle.mg_change.specs.Steps.{CannotResume, OpensCursor}
 
 -- its aggregate, which it sent in this session where there is one, has come so far
 pub record FliesFirst (awaited : Awaited) (past : Past) (args : WatchArgs) (sending : Sending) : Type 0 where
@@ -37,19 +37,19 @@ pub data OpeningFails (past : Past) (session : Option Session) (args : WatchArgs
   not_built : CannotResume (first_aggregate args) past.wire session e → OpeningFails past session args e
 
 -- the stream that was opened, by this reply
-pub record Opened (past : Past) (args : WatchArgs) (s : ClientStream) : Type 0 where
+pub record StreamOpened (past : Past) (args : WatchArgs) (s : ClientStream) : Type 0 where
   pub bytes : List ℕ
   pub session : Option Session
   pub heard : HeardLast past (resuming_in (first_aggregate args) past.wire session) (is_read_again session) (reply bytes)
   pub success : IsSuccess bytes
   pub out : CursorSpecification × Option Timestamp
-  pub opens : OpensBy (first_aggregate args) bytes out
+  pub opens : OpensCursor (first_aggregate args) bytes out
   pub stream_is : s ≡ opened_with args past.wire out
 
 -- what a poll of an opening comes to
 abbrev pub OpeningCame : Awaited → Past → Option Session → WatchArgs → Step ClientOpening ClientStream → Type 0
 OpeningCame awaited past session args (step.Pending o) = OpensSoFar awaited past args o.sending
-OpeningCame awaited past session args (step.Done s) = Opened past args s
+OpeningCame awaited past session args (step.Done s) = StreamOpened past args s
 OpeningCame awaited past session args (step.Failed e) = OpeningFails past session args e
 
 -- A poll led an opening on that had sent at these places before.

@@ -42,12 +42,12 @@ pub record KillsOne (command : Fields) : Type 0 where
   pub kills_so : command ≡ kill_command at (id ∷ [])
 
 -- the places of the commands of one call, counted down: the getMore, the aggregate, the aggregate once more, the killing
-abbrev pub IsAt : ClientStream → ℕ → Fields → Type 0
-IsAt s zero command = KillsOne command
-IsAt s (suc zero) command = ResumesBy s.aggregate command
-IsAt s (suc (suc zero)) command = ResumesBy s.aggregate command
-IsAt s (suc (suc (suc zero))) command = AsksMoreOf s.cursor command
-IsAt s (suc (suc (suc (suc place)))) command = ⊥
+abbrev pub IsSentAt : ClientStream → ℕ → Fields → Type 0
+IsSentAt s zero command = KillsOne command
+IsSentAt s (suc zero) command = ResumesBy s.aggregate command
+IsSentAt s (suc (suc zero)) command = ResumesBy s.aggregate command
+IsSentAt s (suc (suc (suc zero))) command = AsksMoreOf s.cursor command
+IsSentAt s (suc (suc (suc (suc place)))) command = ⊥
 
 -- the commands stand at places that fall, all below `n` and none below `m`
 abbrev pub Falling : (ℕ → Fields → Type 0) → ℕ → List Fields → ℕ → Type 0
@@ -111,7 +111,7 @@ KeepsBy (failed e) s s' = Unit {0}
 pub record PollSent (log log' : Told) (s s' : ClientStream) (ending : Ending) : Type 0 where
   pub commands : List Fields
   pub adds : Sent log log' commands
-  pub falling : Falling (IsAt s) (places s) commands (places_behind ending s')
+  pub falling : Falling (IsSentAt s) (places s) commands (places_behind ending s')
   pub keeps : KeepsBy ending s s'
 
 abbrev pub CallSent : Told → Told → ClientStream → ClientStream → EventPoll → Type 0

@@ -77,12 +77,12 @@ abbrev pub CannotResume : ChangeStreamAggregate → ℤ → Option Session → E
 CannotResume a wire session e = HasBadSize a.args.options.batch_size e ⊎ CannotBeSent (resuming_in a wire session) e
 
 -- how the reply to an aggregate of these arguments opens a cursor
-abbrev pub OpensBy : ChangeStreamAggregate → List ℕ → CursorSpecification × Option Timestamp → Type 0
-OpensBy a reply out = OpensWithTime a.args.options.batch_size a.args.options.max_await_time a.args.options.comment reply out
+abbrev pub OpensCursor : ChangeStreamAggregate → List ℕ → CursorSpecification × Option Timestamp → Type 0
+OpensCursor a reply out = OpensWithTime a.args.options.batch_size a.args.options.max_await_time a.args.options.comment reply out
 
 -- a reply to its aggregate gives the new cursor; or it breaks the grammar of a cursor, or memory ran out as it was read
 pub data ReadsResumption (s : ClientStream) (reply : List ℕ) (s' : ClientStream) (r : Stepped) : Type 0 where
-  gave : (out : CursorSpecification × Option Timestamp) → OpensBy s.aggregate reply out → s' ≡ replaced_by out.0 s → r ≡ stepped.Goes → ReadsResumption s reply s' r
+  gave : (out : CursorSpecification × Option Timestamp) → OpensCursor s.aggregate reply out → s' ≡ replaced_by out.0 s → r ≡ stepped.Goes → ReadsResumption s reply s' r
   broke : (e : Error) → FailsBy (BreaksIn (fields reply)) e → s' ≡ record s { doing = owes } → r ≡ stepped.Gives (try.Failed e) → ReadsResumption s reply s' r
 
 -- what comes of a poll of the aggregate
@@ -158,13 +158,13 @@ DoesSteps (suc n) old new log log' wire session starts again s s' r = (between :
 -- ---- for private clauses
 
 -- no getMore is left to be built: it is on its way, or a reply is in hand, or none may be sent
-abbrev pub IsBuilt : ClientCursor → Type 0
-IsBuilt c = c.doing ≡ rests → MayAsk c → ⊥
+abbrev pub NoneToBuild : ClientCursor → Type 0
+NoneToBuild c = c.doing ≡ rests → MayAsk c → ⊥
 
 -- the getMore is built where one is to be sent now, and all else stays
-pub data IsToAsk (session : Option Session) (s s' : ClientStream) : Type 0 where
-  asks_now : s.cursor.doing ≡ rests → MayAsk s.cursor → (sending : Sending) → IsNew (get_more s.cursor session) sending → s' ≡ with_cursor (asking_by sending s.cursor) s → IsToAsk session s s'
-  not_now : IsBuilt s.cursor → s' ≡ s → IsToAsk session s s'
+pub data Prepares (session : Option Session) (s s' : ClientStream) : Type 0 where
+  asks_now : s.cursor.doing ≡ rests → MayAsk s.cursor → (sending : Sending) → IsNew (get_more s.cursor session) sending → s' ≡ with_cursor (asking_by sending s.cursor) s → Prepares session s s'
+  not_now : NoneToBuild s.cursor → s' ≡ s → Prepares session s s'
 
 -- an event is next; or the batch that was just taken is empty
 pub data FindsIn (s s' : ClientStream) (r : Stepped) : Type 0 where

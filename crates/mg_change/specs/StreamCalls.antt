@@ -11,7 +11,7 @@ use Rattle.mg_cursor.specs.Seeking.{times}
 use Rattle.mg_cursor.specs.declared.polls.TryPoll.{TryPoll}
 use Rattle.mg_cursor.specs.declared.polls.TryPoll.TheVariants as try
 use Rattle.mg_cursor.specs.declared.results.AdvanceResult.TheVariants as result
-use Rattle.mg_change.specs.ClientStreams.{ClientStream, Doing, IsBetween, IsExhausted, IsSpent, behind_event, follows, id_in, kills, let_go, no_counts, owes, passed_over, renewed, resumes}
+use Rattle.mg_change.specs.ClientStreams.{ClientStream, Doing, IsBetween, IsExhausted, IsSpent, behind_event, follows, id_in, kills, lends_nothing, no_counts, owes, passed_over, renewed, resumes}
 use Rattle.mg_change.specs.Steps.{DoesSteps}
 use Rattle.mg_change.specs.declared.counts.Counts.{Counts}
 use Rattle.mg_change.specs.declared.event_poll.EventPoll.{EventPoll}
@@ -31,7 +31,7 @@ pub record LacksToken (s s' : ClientStream) (e : Error) : Type 0 where
   pub error : e ≡ plain kind.MissingResumeToken
 
 -- the next event is given, and its token is the one of the stream
-pub record GivesEvent (s s' : ClientStream) (event : List ℕ) : Type 0 where
+pub record AnswersEvent (s s' : ClientStream) (event : List ℕ) : Type 0 where
   pub events : List (List ℕ)
   pub next_is : s.behind ≡ event ∷ events
   pub id : Tree
@@ -41,7 +41,7 @@ pub record GivesEvent (s s' : ClientStream) (event : List ℕ) : Type 0 where
 -- the next event is lent, which takes no memory
 abbrev pub LendsEvent : ClientStream → ClientStream → TryPoll → Type 0
 LendsEvent s s' try.Pending = ⊥
-LendsEvent s s' (try.Ready (result.Advanced t)) = (event : List ℕ) × GivesEvent s s' event
+LendsEvent s s' (try.Ready (result.Advanced t)) = (event : List ℕ) × AnswersEvent s s' event
 LendsEvent s s' (try.Ready result.Exhausted) = ⊥
 LendsEvent s s' (try.Ready result.Waiting) = ⊥
 LendsEvent s s' (try.Failed e) = LacksToken s s' e
@@ -56,7 +56,7 @@ pub record CannotCopy (s s' : ClientStream) (e : Error) : Type 0 where
 abbrev pub CopiesEvent : ClientStream → ClientStream → EventPoll → Type 0
 CopiesEvent s s' poll.Pending = ⊥
 CopiesEvent s s' (poll.Ready None) = ⊥
-CopiesEvent s s' (poll.Ready (Some event)) = GivesEvent s s' event
+CopiesEvent s s' (poll.Ready (Some event)) = AnswersEvent s s' event
 CopiesEvent s s' (poll.Failed e) = LacksToken s s' e ⊎ CannotCopy s s' e
 
 -- ---- one call
@@ -81,10 +81,10 @@ event_ending (poll.Ready event) = finished
 event_ending (poll.Failed e) = failed e
 
 -- a step that goes on, or finds an event, has neither pended nor failed
-abbrev pub step_ending : Stepped → Ending
-step_ending stepped.Goes = finished
-step_ending stepped.Found = finished
-step_ending (stepped.Gives p) = try_ending p
+abbrev pub stepped_ending : Stepped → Ending
+stepped_ending stepped.Goes = finished
+stepped_ending stepped.Found = finished
+stepped_ending (stepped.Gives p) = try_ending p
 
 -- nothing is there: the batch was empty, or the server holds no cursor
 abbrev pub without_event : TryPoll → EventPoll
@@ -109,7 +109,7 @@ pub record CallLends (steps : ℕ) (old new : Awaited) (log log' : Told) (wire :
   pub again : Bool
   pub came : Stepped
   pub left : ClientStream
-  pub does : DoesSteps steps old new log log' wire session starts again (let_go s) left came
+  pub does : DoesSteps steps old new log log' wire session starts again (lends_nothing s) left came
   pub lent : ClientStream
   pub lends : LendsBehind came left lent r
   pub kept : s' ≡ kept_behind (try_ending r) lent
@@ -119,7 +119,7 @@ pub record CallCopies (steps : ℕ) (old new : Awaited) (log log' : Told) (wire 
   pub again : Bool
   pub came : Stepped
   pub left : ClientStream
-  pub does : DoesSteps steps old new log log' wire session starts again (let_go s) left came
+  pub does : DoesSteps steps old new log log' wire session starts again (lends_nothing s) left came
   pub copied : ClientStream
   pub copies : CopiesBehind came left copied r
   pub kept : s' ≡ kept_behind (event_ending r) copied

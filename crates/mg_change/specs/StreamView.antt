@@ -23,13 +23,13 @@ doing_of (phase.Kills old) = kills old
 doing_of phase.Renewed = renewed
 
 -- the cached token, by where it lies: in the stream, in its last event, or behind its newest batch
-abbrev pub token_at : TokenPlace → Option Tree → Option (List ℕ) → Option Tree → Option Tree
-token_at place.Saved saved event batch = saved
-token_at place.Event saved event batch = option_and_then id_in event
-token_at place.Batch saved event batch = batch
+abbrev pub token_lying : TokenPlace → Option Tree → Option (List ℕ) → Option Tree → Option Tree
+token_lying place.Saved saved event batch = saved
+token_lying place.Event saved event batch = option_and_then id_in event
+token_lying place.Batch saved event batch = batch
 
 abbrev pub known_at : TokenPlace → Option (List ℕ) → Option Tree → ChangeStreamData → ChangeStreamData
-known_at at event batch known = record known { resume_token = token_at at known.resume_token event batch }
+known_at at event batch known = record known { resume_token = token_lying at known.resume_token event batch }
 
 -- the aggregate that resumes it, with the cached token
 abbrev pub aggregate_of : Changes → ChangeStreamAggregate

@@ -11,15 +11,15 @@ ghost use Rattle.mg_cursor.specs.Client.{MayAsk, PlainIf, rests};
 ghost use Rattle.mg_cursor.specs.Polling.{CannotAsk};
 ghost use Rattle.mg_cursor.specs.Seeking.{one_if, times};
 ghost use Rattle.mg_cursor.specs.View.{client_of, current_of};
-ghost use Rattle.mg_change.specs.ClientStreams.{Asks, IsAlive, IsOwed, follows, is_renewed, let_go, opened_by, stream_ticket, stream_token, token_in};
+ghost use Rattle.mg_change.specs.ClientStreams.{Asks, IsAlive, IsOwed, follows, is_renewed, lends_nothing, new_stream, stream_ticket, stream_token, token_known};
 ghost use Rattle.mg_change.specs.ClosingStreams.{closed_stream};
 ghost use Rattle.mg_change.specs.Following.{event_told, follow_of, try_told};
 ghost use Rattle.mg_change.specs.Causes.{CallCaused, TryCaused};
 ghost use Rattle.mg_change.specs.SeekCauses.{SeekCaused};
 ghost use Rattle.mg_change.specs.Sent.{CallSent, SeekSent, TrySent};
-ghost use Rattle.mg_change.specs.Steps.{DoesStep, FailsMore, IsBuilt, IsToAsk, LooksAt};
-ghost use Rattle.mg_change.specs.StreamCalls.{CallCopies, CallLends, Falls, LeavesCall, LeavesSeek, LeavesTry, SeeksEvent, event_ending, step_ending, steps_left, try_ending, without_event};
-ghost use Rattle.mg_change.specs.StreamView.{IsOwnPlace, IsPlaced, IsSavedPlace, IsStream, KeepsOwn, SavesWhile, changes_of, doing_of, is_lent, token_at};
+ghost use Rattle.mg_change.specs.Steps.{DoesStep, FailsMore, NoneToBuild, Prepares, LooksAt};
+ghost use Rattle.mg_change.specs.StreamCalls.{CallCopies, CallLends, Falls, LeavesCall, LeavesSeek, LeavesTry, SeeksEvent, event_ending, stepped_ending, steps_left, try_ending, without_event};
+ghost use Rattle.mg_change.specs.StreamView.{IsOwnPlace, IsPlaced, IsSavedPlace, IsStream, KeepsOwn, SavesWhile, changes_of, doing_of, is_lent, token_lying};
 
 mod answering;
 mod resuming;
@@ -100,7 +100,7 @@ impl Changes {
         aggregate: ChangeStreamAggregate,
         opened: CursorSpecification,
     ) -> Changes
-        ensures seen { changes_of result ≡ opened_by aggregate opened }
+        ensures seen { changes_of result ≡ new_stream aggregate opened }
         ensures saved { IsSavedPlace result.token }
     {
         Changes {
@@ -213,7 +213,7 @@ impl Changes {
             (moment (L.awaited link.new) (L.log link.new) (L.faults link.new) (L.pends link.new) (L.wire link.new) (L.prompt link.new))
             (stream_ticket (changes_of self.old)) (stream_ticket (changes_of self.new)) (event_ending result) }
         // Which commands it sent, how many empty replies it got, what it gave, and how the stream stands behind that.
-        ensures does { (empties starts : ℕ) × SeeksEvent empties (L.awaited link.old) (L.awaited link.new) (L.log link.old) (L.log link.new) (L.wire link.old) (H.asked handle.old) starts (let_go (changes_of self.old)) (changes_of self.new) result
+        ensures does { (empties starts : ℕ) × SeeksEvent empties (L.awaited link.old) (L.awaited link.new) (L.log link.old) (L.log link.new) (L.wire link.old) (H.asked handle.old) starts (lends_nothing (changes_of self.old)) (changes_of self.new) result
             × (handle.new ≡ times starts H.told handle.old) }
         ensures sound { (plain : Bool) → IsStream plain self.old → PlainIf plain (H.asked handle.old) → IsStream plain self.new }
         // A token that lies in no event that was lent lies in none afterwards.
@@ -263,7 +263,7 @@ impl Changes {
 
     // The token where it lies.
     fn cached_token(&self) -> Option<TokenRef<'_>>
-        ensures { result ≡ token_at self.now.token (token_in self.now.aggregate.resume) (current_of self.now.buffer) (client_of self.now.batches).token }
+        ensures { result ≡ token_lying self.now.token (token_known self.now.aggregate.resume) (current_of self.now.buffer) (client_of self.now.batches).token }
     {
         match self.token {
             TokenPlace::Saved => saved_token(&self.aggregate),
@@ -334,7 +334,7 @@ impl Changes {
         // The tickets of others, the counts, the wire version and the promptness of the link.
         ensures keeps { LinkKeeps (moment (L.awaited link.old) (L.log link.old) (L.faults link.old) (L.pends link.old) (L.wire link.old) (L.prompt link.old))
             (moment (L.awaited link.new) (L.log link.new) (L.faults link.new) (L.pends link.new) (L.wire link.new) (L.prompt link.new))
-            (stream_ticket (changes_of self.old)) (stream_ticket (changes_of self.new)) (step_ending result) }
+            (stream_ticket (changes_of self.old)) (stream_ticket (changes_of self.new)) (stepped_ending result) }
         ensures does { (started : Bool) × DoesStep (L.awaited link.old) (L.awaited link.new) (L.log link.old) (L.log link.new) (L.wire link.old) (H.asked handle.old) started (changes_of self.old) (changes_of self.new) result
             × (handle.new ≡ times (one_if started) H.told handle.old) }
         ensures placed { IsPlaced self.new }
@@ -383,7 +383,7 @@ impl Changes {
         // The tickets of others, the counts, the wire version and the promptness of the link.
         ensures keeps { LinkKeeps (moment (L.awaited link.old) (L.log link.old) (L.faults link.old) (L.pends link.old) (L.wire link.old) (L.prompt link.old))
             (moment (L.awaited link.new) (L.log link.new) (L.faults link.new) (L.pends link.new) (L.wire link.new) (L.prompt link.new))
-            (stream_ticket (changes_of self.old)) (stream_ticket (changes_of self.new)) (step_ending result) }
+            (stream_ticket (changes_of self.old)) (stream_ticket (changes_of self.new)) (stepped_ending result) }
         ensures does { (started : Bool) × DoesStep (L.awaited link.old) (L.awaited link.new) (L.log link.old) (L.log link.new) (L.wire link.old) (H.asked handle.old) started (changes_of self.old) (changes_of self.new) result
             × (handle.new ≡ times (one_if started) H.told handle.old) }
         ensures placed { IsPlaced self.new }
@@ -404,7 +404,7 @@ impl Changes {
         requires held { IsOut (L.awaited link.old) (stream_ticket (changes_of self.old)) }
         requires follows { (changes_of self.old).doing ≡ follows }
         requires none_left { (changes_of self.old).behind ≡ [] }
-        requires built { IsBuilt (changes_of self.old).cursor }
+        requires built { NoneToBuild (changes_of self.old).cursor }
         requires saved { SavesWhile self.old.token (client_of self.old.batches).doing }
         requires placed { IsPlaced self.old }
         // No event is lent.
@@ -412,7 +412,7 @@ impl Changes {
         // The tickets of others, the counts, the wire version and the promptness of the link.
         ensures keeps { LinkKeeps (moment (L.awaited link.old) (L.log link.old) (L.faults link.old) (L.pends link.old) (L.wire link.old) (L.prompt link.old))
             (moment (L.awaited link.new) (L.log link.new) (L.faults link.new) (L.pends link.new) (L.wire link.new) (L.prompt link.new))
-            (stream_ticket (changes_of self.old)) (stream_ticket (changes_of self.new)) (step_ending result) }
+            (stream_ticket (changes_of self.old)) (stream_ticket (changes_of self.new)) (stepped_ending result) }
         ensures does { (started : Bool) × DoesStep (L.awaited link.old) (L.awaited link.new) (L.log link.old) (L.log link.new) (L.wire link.old) (H.asked handle.old) started (changes_of self.old) (changes_of self.new) result
             × (handle.new ≡ times (one_if started) H.told handle.old) }
         ensures placed { IsPlaced self.new }
@@ -431,7 +431,7 @@ impl Changes {
     fn prepare<H: ClientSessionHandle>(&mut self, handle: &H, wire: i32) -> Result<(), Error>
         requires sound { IsStream false self.old }
         requires follows { (changes_of self.old).doing ≡ follows }
-        ensures ready { OnOk result (IsToAsk (H.asked handle.now) (changes_of self.old) (changes_of self.new)) }
+        ensures ready { OnOk result (Prepares (H.asked handle.now) (changes_of self.old) (changes_of self.new)) }
         ensures fails { IfErr result (λ e. FailsBy (CannotAsk (changes_of self.old).cursor (H.asked handle.now)) e) }
         ensures asks { OnErr result (((changes_of self.old).cursor.doing ≡ rests) × MayAsk (changes_of self.old).cursor) }
         ensures stays { OnErr result (changes_of self.new ≡ changes_of self.old) }

@@ -12,12 +12,12 @@ ghost use Rattle.mg_link.specs.declared.error.ErrorKind.TheVariants as kind;
 ghost use Rattle.mg_cursor.specs.Client.{client_ticket};
 ghost use Rattle.mg_cursor.specs.Closing.{IsNotAsking, closing_ticket};
 ghost use Rattle.mg_cursor.specs.View.{client_of, current_of};
-ghost use Rattle.mg_change.specs.ClientStreams.{id_in, token_in};
+ghost use Rattle.mg_change.specs.ClientStreams.{id_in, token_known};
 ghost use Rattle.mg_change.specs.ClosingCauses.{ClosingCaused};
-ghost use Rattle.mg_change.specs.ClosingStreams.{BehindOpening, ClosesStream, IsSoundStream, IsToKill, KillsLeft, Landing, LandsFor, PassesOver, RunsKill, handed_over, ids_left, landing_of, landing_ticket, lands, lands_aggregate, lands_older, stream_closing_ticket, unless_none};
+ghost use Rattle.mg_change.specs.ClosingStreams.{BehindOpening, ClosesStream, IsSoundClosing, IsToKill, KillsLeft, Landing, LandsFor, PassesOver, RunsKill, handed_over, ids_left, landing_of, landing_ticket, lands, lands_aggregate, lands_replaced, stream_closing_ticket, unless_none};
 ghost use Rattle.mg_change.specs.ClosingView.{IsClosingIn, closing_in, landing_in, remains_token};
 ghost use Rattle.mg_change.specs.Following.{OnPending, follow_closed, follow_closing};
-ghost use Rattle.mg_change.specs.StreamView.{SavesWhile, doing_of, is_lent, token_at, with_token};
+ghost use Rattle.mg_change.specs.StreamView.{SavesWhile, doing_of, is_lent, token_lying, with_token};
 
 use crate::changes::{Phase, TokenPlace, event_token, saved_token};
 use crate::commands::kill;
@@ -31,12 +31,12 @@ use std::marker::Model;
 
 // What is on its way as a stream is closed, besides a getMore of its cursor.
 #[derive(Drop)]
-pub(crate) enum Flight {
+pub(crate) enum Underway {
     Lands,
     // The aggregate of a resumption, whose cursor is to be killed too.
     Aggregate(Exec),
     // The closing of the cursor that a resumption replaced.
-    Older(mg_cursor::Closing),
+    Replaced(mg_cursor::Closing),
     // The killCursors of this closing.
     Last(Exec),
 }
@@ -157,7 +157,7 @@ fn owned_token(token: &TokenRef<'_>) -> Result<Option<ResumeToken>, Error>
 
 // Takes the saved token out.
 fn take_saved(aggregate: &mut ChangeStreamAggregate) -> Option<ResumeToken>
-    ensures token { result ≡ token_in aggregate.old.resume }
+    ensures token { result ≡ token_known aggregate.old.resume }
     ensures gone { aggregate.new ≡ with_token None aggregate.old }
 {
     match &mut aggregate.resume {
@@ -173,7 +173,7 @@ fn take_saved(aggregate: &mut ChangeStreamAggregate) -> Option<ResumeToken>
 /// still.
 pub struct Closing {
     remains: Remains,
-    flight: Flight,
+    underway: Underway,
 }
 
 // By hand, so that letting one go is one call.
@@ -181,7 +181,7 @@ impl Drop for Closing {
     fn drop(self) {
         let Closing {
             remains: _,
-            flight: _,
+            underway: _,
         } = self;
     }
 }
@@ -195,21 +195,21 @@ impl Model for Closing {
 
     ghost coded = { coded_stream_closing };
 
-    ghost view = { λ k. closing_in k.remains (landing_in k.flight) };
+    ghost view = { λ k. closing_in k.remains (landing_in k.underway) };
 
-    ghost invariant = { λ k. IsClosingIn k.remains (landing_in k.flight) };
+    ghost invariant = { λ k. IsClosingIn k.remains (landing_in k.underway) };
 }
 
 // What is on its way.
-fn flight_of(phase: Phase) -> Flight
+fn underway_of(phase: Phase) -> Underway
     ensures { landing_in result ≡ landing_of (doing_of phase) }
 {
     match phase {
-        Phase::Follows => Flight::Lands,
-        Phase::Owes => Flight::Lands,
-        Phase::Resumes(exec) => Flight::Aggregate(exec),
-        Phase::Kills(closing) => Flight::Older(closing),
-        Phase::Renewed => Flight::Lands,
+        Phase::Follows => Underway::Lands,
+        Phase::Owes => Underway::Lands,
+        Phase::Resumes(exec) => Underway::Aggregate(exec),
+        Phase::Kills(closing) => Underway::Replaced(closing),
+        Phase::Renewed => Underway::Lands,
     }
 }
 
@@ -228,7 +228,7 @@ fn land<L: Link>(link: &mut L, remains: Remains) -> Step<Closing, ()>
         NextPoll::Pending => {
             let still = Closing {
                 remains,
-                flight: Flight::Lands,
+                underway: Underway::Lands,
             };
             Step::Pending(still)
         }
@@ -241,7 +241,7 @@ fn land<L: Link>(link: &mut L, remains: Remains) -> Step<Closing, ()>
 // Waits for the reply to the aggregate of a resumption.
 fn land_aggregate<L: Link>(link: &mut L, remains: Remains, exec: Exec) -> Step<Closing, ()>
     requires held { IsOut (L.awaited link.old) (ticket_of exec) }
-    requires sound { IsSoundStream (closing_in remains (lands_aggregate exec)) }
+    requires sound { IsSoundClosing (closing_in remains (lands_aggregate exec)) }
     // The tickets of others, the counts, the wire version and the promptness of the link.
     ensures keeps { LinkKeeps (moment (L.awaited link.old) (L.log link.old) (L.faults link.old) (L.pends link.old) (L.wire link.old) (L.prompt link.old))
         (moment (L.awaited link.new) (L.log link.new) (L.faults link.new) (L.pends link.new) (L.wire link.new) (L.prompt link.new))
@@ -252,7 +252,7 @@ fn land_aggregate<L: Link>(link: &mut L, remains: Remains, exec: Exec) -> Step<C
         Step::Pending(exec) => {
             let still = Closing {
                 remains,
-                flight: Flight::Aggregate(exec),
+                underway: Underway::Aggregate(exec),
             };
             Step::Pending(still)
         }
@@ -285,24 +285,24 @@ fn aggregate_came<L: Link>(
 }
 
 // Waits for the closing of the cursor before.
-fn land_older<L: Link>(
+fn land_replaced<L: Link>(
     link: &mut L,
     remains: Remains,
     closing: mg_cursor::Closing,
 ) -> Step<Closing, ()>
     requires held { IsOut (L.awaited link.old) (closing_ticket closing) }
-    requires sound { IsSoundStream (closing_in remains (lands_older closing)) }
+    requires sound { IsSoundClosing (closing_in remains (lands_replaced closing)) }
     // The tickets of others, the counts, the wire version and the promptness of the link.
     ensures keeps { LinkKeeps (moment (L.awaited link.old) (L.log link.old) (L.faults link.old) (L.pends link.old) (L.wire link.old) (L.prompt link.old))
         (moment (L.awaited link.new) (L.log link.new) (L.faults link.new) (L.pends link.new) (L.wire link.new) (L.prompt link.new))
         (closing_ticket closing) (ticket_after stream_closing_ticket result) (step_ending result) }
-    ensures closes { ClosesStream (L.awaited link.old) (L.awaited link.new) (L.log link.old) (L.log link.new) (L.wire link.old) (closing_in remains (lands_older closing)) result }
+    ensures closes { ClosesStream (L.awaited link.old) (L.awaited link.new) (L.log link.old) (L.log link.new) (L.wire link.old) (closing_in remains (lands_replaced closing)) result }
 {
     match closing.poll(link) {
         Step::Pending(closing) => {
             let still = Closing {
                 remains,
-                flight: Flight::Older(closing),
+                underway: Underway::Replaced(closing),
             };
             Step::Pending(still)
         }
@@ -379,7 +379,7 @@ fn wait<L: Link>(link: &mut L, remains: Remains, exec: Exec) -> Step<Closing, ()
         Step::Pending(exec) => {
             let still = Closing {
                 remains,
-                flight: Flight::Last(exec),
+                underway: Underway::Last(exec),
             };
             Step::Pending(still)
         }
@@ -389,32 +389,32 @@ fn wait<L: Link>(link: &mut L, remains: Remains, exec: Exec) -> Step<Closing, ()
 }
 
 // Waits for what is on its way.
-fn go_on<L: Link>(link: &mut L, remains: Remains, flight: Flight) -> Step<Closing, ()>
-    requires held { IsOut (L.awaited link.old) (landing_ticket (client_of remains.batches) (landing_in flight)) }
-    requires sound { IsClosingIn remains (landing_in flight) }
+fn go_on<L: Link>(link: &mut L, remains: Remains, underway: Underway) -> Step<Closing, ()>
+    requires held { IsOut (L.awaited link.old) (landing_ticket (client_of remains.batches) (landing_in underway)) }
+    requires sound { IsClosingIn remains (landing_in underway) }
     // The tickets of others, the counts, the wire version and the promptness of the link.
     ensures keeps { LinkKeeps (moment (L.awaited link.old) (L.log link.old) (L.faults link.old) (L.pends link.old) (L.wire link.old) (L.prompt link.old))
         (moment (L.awaited link.new) (L.log link.new) (L.faults link.new) (L.pends link.new) (L.wire link.new) (L.prompt link.new))
-        (landing_ticket (client_of remains.batches) (landing_in flight)) (ticket_after stream_closing_ticket result) (step_ending result) }
-    ensures closes { ClosesStream (L.awaited link.old) (L.awaited link.new) (L.log link.old) (L.log link.new) (L.wire link.old) (closing_in remains (landing_in flight)) result }
+        (landing_ticket (client_of remains.batches) (landing_in underway)) (ticket_after stream_closing_ticket result) (step_ending result) }
+    ensures closes { ClosesStream (L.awaited link.old) (L.awaited link.new) (L.log link.old) (L.log link.new) (L.wire link.old) (closing_in remains (landing_in underway)) result }
 {
-    match flight {
-        Flight::Lands => land(link, remains),
-        Flight::Aggregate(exec) => land_aggregate(link, remains, exec),
-        Flight::Older(closing) => land_older(link, remains, closing),
-        Flight::Last(exec) => wait(link, remains, exec),
+    match underway {
+        Underway::Lands => land(link, remains),
+        Underway::Aggregate(exec) => land_aggregate(link, remains, exec),
+        Underway::Replaced(closing) => land_replaced(link, remains, closing),
+        Underway::Last(exec) => wait(link, remains, exec),
     }
 }
 
 // The number of the ticket that is held.
-fn held(batches: &Batches, flight: &Flight) -> Option<u64>
-    ensures { result ≡ landing_ticket (client_of batches.now) (landing_in flight.now) }
+fn held(batches: &Batches, underway: &Underway) -> Option<u64>
+    ensures { result ≡ landing_ticket (client_of batches.now) (landing_in underway.now) }
 {
-    match flight {
-        Flight::Lands => batches.ticket_number(),
-        Flight::Aggregate(exec) => exec.ticket_number(),
-        Flight::Older(closing) => closing.ticket_number(),
-        Flight::Last(exec) => exec.ticket_number(),
+    match underway {
+        Underway::Lands => batches.ticket_number(),
+        Underway::Aggregate(exec) => exec.ticket_number(),
+        Underway::Replaced(closing) => closing.ticket_number(),
+        Underway::Last(exec) => exec.ticket_number(),
     }
 }
 
@@ -444,10 +444,10 @@ impl Closing {
         token: TokenPlace,
         phase: Phase,
     ) -> Closing
-        requires sound { IsSoundStream (record { token = token_at token (token_in aggregate.resume) (current_of buffer) (client_of batches).token; lent = is_lent token; cursor = client_of batches; opened = pos 0; doing = landing_of (doing_of phase) }) }
+        requires sound { IsSoundClosing (record { token = token_lying token (token_known aggregate.resume) (current_of buffer) (client_of batches).token; lent = is_lent token; cursor = client_of batches; opened = pos 0; doing = landing_of (doing_of phase) }) }
         // Its token is saved while a getMore is on its way.
         requires saves { SavesWhile token (client_of batches).doing }
-        ensures { result ≡ record { token = token_at token (token_in aggregate.resume) (current_of buffer) (client_of batches).token; lent = is_lent token; cursor = client_of batches; opened = pos 0; doing = landing_of (doing_of phase) } }
+        ensures { result ≡ record { token = token_lying token (token_known aggregate.resume) (current_of buffer) (client_of batches).token; lent = is_lent token; cursor = client_of batches; opened = pos 0; doing = landing_of (doing_of phase) } }
     {
         Closing {
             remains: Remains {
@@ -458,7 +458,7 @@ impl Closing {
                 token,
                 opened: 0,
             },
-            flight: flight_of(phase),
+            underway: underway_of(phase),
         }
     }
 
@@ -484,7 +484,7 @@ impl Closing {
     pub fn ticket_number(&self) -> Option<u64>
         ensures { result ≡ stream_closing_ticket self.now }
     {
-        held(&self.remains.batches, &self.flight)
+        held(&self.remains.batches, &self.underway)
     }
 }
 
@@ -513,7 +513,7 @@ impl Action for Closing {
         // What is on its way is of the same stream still.
         ensures lands_for { (w : Watch) (start : Start) (token : Option Tree) → LandsFor w start token self → OnPending result (LandsFor w start token) }
     {
-        let Closing { remains, flight } = self;
-        go_on(link, remains, flight)
+        let Closing { remains, underway } = self;
+        go_on(link, remains, underway)
     }
 }

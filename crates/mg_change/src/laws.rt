@@ -12,7 +12,7 @@ ghost use Rattle.mg_cursor.specs.Client.{PlainIf};
 ghost use Rattle.mg_cursor.specs.declared.polls.TryPoll.{TryPoll};
 ghost use Rattle.mg_change.specs.Causes.{SoFar};
 ghost use Rattle.mg_change.specs.ClientOpenings.{ClientOpening, IsSoundOpening, OpensStream};
-ghost use Rattle.mg_change.specs.ClientStreams.{ClientStream, IsBetween, IsSound, let_go, stream_ticket, stream_token};
+ghost use Rattle.mg_change.specs.ClientStreams.{ClientStream, IsBetween, IsSound, lends_nothing, stream_ticket, stream_token};
 ghost use Rattle.mg_change.specs.ClosingStreams.{closed_stream};
 ghost use Rattle.mg_change.specs.Following.{AsksNothing, follow_closing, follow_of, idle_by};
 ghost use Rattle.mg_change.specs.Growths.{OpensInVain};
@@ -53,7 +53,7 @@ pub fn calls_keep_arguments()
     ensures copies { (plain : Bool) (steps : ℕ) (old new : Awaited) (log log' : Told) (wire : ℤ) (session : Option Session) (starts : ℕ) (s s' : ClientStream) (r : EventPoll)
         → IsSound plain s → PlainIf plain session → CallCopies steps old new log log' wire session starts s s' r → s'.aggregate.args ≡ s.aggregate.args }
     ensures seeks { (plain : Bool) (empties : ℕ) (old new : Awaited) (log log' : Told) (wire : ℤ) (session : Option Session) (starts : ℕ) (s s' : ClientStream) (r : EventPoll)
-        → IsSound plain s → PlainIf plain session → SeeksEvent empties old new log log' wire session starts (let_go s) s' r → s'.aggregate.args ≡ s.aggregate.args }
+        → IsSound plain s → PlainIf plain session → SeeksEvent empties old new log log' wire session starts (lends_nothing s) s' r → s'.aggregate.args ≡ s.aggregate.args }
 {}
 
 /// A stream between two calls holds no ticket, and the events that it has in hand may be forgotten: it still knows what it answered.

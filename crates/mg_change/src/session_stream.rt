@@ -8,7 +8,7 @@ ghost use Rattle.mg_link.specs.Session.{after_command};
 ghost use Rattle.mg_link.specs.State.{Start, Watch};
 ghost use Rattle.mg_cursor.specs.Seeking.{times};
 ghost use Rattle.mg_change.specs.Causes.{CallCaused, TryCaused};
-ghost use Rattle.mg_change.specs.ClientStreams.{Asks, IsAlive, let_go, stream_ticket, stream_token};
+ghost use Rattle.mg_change.specs.ClientStreams.{Asks, IsAlive, lends_nothing, stream_ticket, stream_token};
 ghost use Rattle.mg_change.specs.ClosingStreams.{LandsFor, closed_stream, stream_closing_ticket};
 ghost use Rattle.mg_change.specs.Following.{event_told, follow_of, try_told};
 ghost use Rattle.mg_change.specs.SeekCauses.{SeekCaused};
@@ -142,7 +142,7 @@ impl<T> SessionChangeStream<T> {
         // A token of its own stays its own.
         ensures owned { OwnsSessionToken self.old → OwnsSessionToken self.new }
         // Which commands it sent, how many empty replies it got, what it gave, and how the stream stands behind that.
-        ensures does { (empties starts : ℕ) × SeeksEvent empties (L.awaited link.old) (L.awaited link.new) (L.log link.old) (L.log link.new) (L.wire link.old) (Some session.old) starts (let_go (session_stream_of self.old)) (session_stream_of self.new) result
+        ensures does { (empties starts : ℕ) × SeeksEvent empties (L.awaited link.old) (L.awaited link.new) (L.log link.old) (L.log link.new) (L.wire link.old) (Some session.old) starts (lends_nothing (session_stream_of self.old)) (session_stream_of self.new) result
             × (session.new ≡ times starts after_command session.old) }
         // A call that has ended leaves nothing on its way; nothing is answered only where nothing is owed or in hand.
         ensures leaves { LeavesSeek result (session_stream_of self.new) }

@@ -6,7 +6,7 @@ ghost use Rattle.mg_link.specs.Follow.{Moved};
 ghost use Rattle.mg_link.specs.Moment.{LinkKeeps, moment};
 ghost use Rattle.mg_link.specs.State.{Start, Watch};
 ghost use Rattle.mg_change.specs.Causes.{CallCaused, TryCaused};
-ghost use Rattle.mg_change.specs.ClientStreams.{Asks, IsAlive, let_go, stream_ticket, stream_token};
+ghost use Rattle.mg_change.specs.ClientStreams.{Asks, IsAlive, lends_nothing, stream_ticket, stream_token};
 ghost use Rattle.mg_change.specs.ClosingStreams.{LandsFor, closed_stream, stream_closing_ticket};
 ghost use Rattle.mg_change.specs.Following.{event_told, follow_of, try_told};
 ghost use Rattle.mg_change.specs.SeekCauses.{SeekCaused};
@@ -129,7 +129,7 @@ impl<T> ChangeStream<T> {
         // A token of its own stays its own.
         ensures owned { OwnsToken self.old → OwnsToken self.new }
         // Which commands it sent, how many empty replies it got, what it gave, and how the stream stands behind that.
-        ensures does { (empties starts : ℕ) × SeeksEvent empties (L.awaited link.old) (L.awaited link.new) (L.log link.old) (L.log link.new) (L.wire link.old) None starts (let_go (stream_of self.old)) (stream_of self.new) result }
+        ensures does { (empties starts : ℕ) × SeeksEvent empties (L.awaited link.old) (L.awaited link.new) (L.log link.old) (L.log link.new) (L.wire link.old) None starts (lends_nothing (stream_of self.old)) (stream_of self.new) result }
         // A call that has ended leaves nothing on its way; nothing is answered only where nothing is owed or in hand.
         ensures leaves { LeavesSeek result (stream_of self.new) }
         // getMores and killings of its cursors, and aggregates that resume it, and nothing else.

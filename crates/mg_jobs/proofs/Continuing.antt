@@ -12,8 +12,8 @@ use Rattle.mg_cursor.specs.Client as cursors
 use Rattle.mg_cursor.specs.Closing.{closing_ticket_by}
 use Rattle.mg_change.specs.ClientOpenings.{ClientOpening, opening_ticket, sending_ticket}
 use Rattle.mg_change.specs.ClientStreams.{ClientStream, Doing, follows, kills, owes, renewed, resumes, stream_ticket, stream_token, ticket_by}
-use Rattle.mg_change.specs.ClosingStreams.{ClosingStream, Landing, ends, landing_ticket, lands, lands_aggregate, lands_older, stream_closing_ticket}
-use Rattle.mg_change.specs.Following.{closing_by, events_in, follow_by, follow_closing, follow_of, held_by, idle_by, in_hand, left_as, not_open, older_by, opening_by, opening_in, unread, with_landing, with_more}
+use Rattle.mg_change.specs.ClosingStreams.{ClosingStream, Landing, ends, landing_ticket, lands, lands_aggregate, lands_replaced, stream_closing_ticket}
+use Rattle.mg_change.specs.Following.{closing_by, event_fields, follow_by, follow_closing, follow_of, held_by, idle_by, in_hand, left_as, not_open, older_by, opening_by, opening_in, unread, with_landing, with_more}
 
 -- ---- its own ticket
 
@@ -57,7 +57,7 @@ same_landing old new (asks sending) f same = same_at_stage old new (record f { d
 same_closing_by : (old new : Awaited) (d : Landing) (c : ClientCursor) (f : Follow) → ((m : ℕ) → landing_ticket c d ≡ Some m → new m ≡ old m) → closing_by old d c f ≡ closing_by new d c f
 same_closing_by old new lands c f same = same_landing old new c.doing f same
 same_closing_by old new (lands_aggregate sending) c f same = same_at_stage old new f (λ place. record f { doing = resuming place }) sending.stage same
-same_closing_by old new (lands_older before) c f same = same_older old new before.cursor before.killing f same
+same_closing_by old new (lands_replaced before) c f same = same_older old new before.cursor before.killing f same
 same_closing_by old new (ends sending) c f same = refl
 
 pub same_closing : (old new : Awaited) (w : Watch) (start : Start) (token : Option Tree) (k : ClosingStream) (opened : Option ℕ) (answered : List Fields) → ((m : ℕ) → stream_closing_ticket k ≡ Some m → new m ≡ old m) → follow_closing old w start token k opened answered ≡ follow_closing new w start token k opened answered
@@ -67,7 +67,7 @@ same_closing old new w start token k opened answered same = same_closing_by old 
 pub same_without : (awaited : Awaited) (left : Option Tree) (d : Landing) (c : ClientCursor) (f : Follow) → closing_by awaited d c f ≡ closing_by awaited d (record c { token = left }) f
 same_without awaited left lands c f = refl
 same_without awaited left (lands_aggregate sending) c f = refl
-same_without awaited left (lands_older before) c f = refl
+same_without awaited left (lands_replaced before) c f = refl
 same_without awaited left (ends sending) c f = refl
 
 -- ---- what stays the same, whatever is on its way
@@ -109,12 +109,12 @@ continues_resuming awaited sending f is_open =
 
 continues_more : (awaited : Awaited) (d : cursors.Doing) (events : List Fields) (upto : Option Tree) (f : Follow) → Continues f (with_more awaited d events upto f)
 continues_more awaited rests events upto f = continues_hand f events upto
-continues_more awaited (holds reply) events upto f = continues_held f (events_in reply) upto
+continues_more awaited (holds reply) events upto f = continues_held f (event_fields reply) upto
 continues_more awaited (asks sending) events upto f = continues_asking awaited sending f
 
 continues_unread : (d : cursors.Doing) (upto : Option Tree) (f : Follow) → IsOpen f.doing → Continues f (unread d upto f)
 continues_unread rests upto f is_open = continues_itself f is_open
-continues_unread (holds reply) upto f is_open = continues_held f (events_in reply) upto
+continues_unread (holds reply) upto f is_open = continues_held f (event_fields reply) upto
 continues_unread (asks sending) upto f is_open = continues_itself f is_open
 
 older_aside : (f g : Follow) (id : ℤ) → Continues f g → Continues f (record g { old = id })
@@ -143,7 +143,7 @@ continues_landing awaited (asks sending) f is_open = continues_asking awaited se
 continues_closing_by : (awaited : Awaited) (d : Landing) (c : ClientCursor) (f : Follow) → IsOpen f.doing → Continues f (closing_by awaited d c f)
 continues_closing_by awaited lands c f is_open = continues_landing awaited c.doing f is_open
 continues_closing_by awaited (lands_aggregate sending) c f is_open = continues_resuming awaited sending f is_open
-continues_closing_by awaited (lands_older before) c f is_open = continues_older awaited before.cursor before.killing f f (continues_itself f is_open)
+continues_closing_by awaited (lands_replaced before) c f is_open = continues_older awaited before.cursor before.killing f f (continues_itself f is_open)
 continues_closing_by awaited (ends sending) c f is_open = continues_itself f is_open
 
 -- So is one that is being closed.

@@ -16,7 +16,7 @@ use Rattle.mg_change.specs.ClientOpenings.{ClientOpening, HearsOpening, IsSoundO
 use Rattle.mg_change.specs.ClientOpenings as openings
 use Rattle.mg_change.specs.ClientStreams.{ClientStream, IsAggregate, resuming_in}
 use Rattle.mg_change.specs.ClosingCauses.{last_kill}
-use Rattle.mg_change.specs.ClosingStreams.{ClosesStream, ClosingStream, HearsKill, IsSoundStream, KillsLeft, LandsSoundly, ids_left, kill_left, unless_none}
+use Rattle.mg_change.specs.ClosingStreams.{ClosesStream, ClosingStream, HearsKill, IsSoundClosing, KillsLeft, LandsSoundly, ids_left, kill_left, unless_none}
 use Rattle.mg_change.specs.ClosingStreams as closings
 use Rattle.mg_change.specs.OpenedStreams.{IsOpening}
 use Rattle.mg_change.specs.Sent.{ending_places, resuming_places, opening_places}
@@ -91,7 +91,7 @@ module _ (old new : Awaited) (log log' : Told) (wire : ℤ) (last : ClientStream
   left_falls k is (closings.kills_all some sending new_one h) = subst (λ (n : ℕ). KillsDown n r) (ap ending_places new_one.new) (kill_came k sending (new_one.command_is ∙ is) new_one.single h.came h.runs h.hears)
 
   -- the killing of what is left, once at most
-  pub closing_falls : (k : ClosingStream) → kill_left k ≡ last_kill last → IsLast k.cursor.doing k.opened k.doing → IsSoundStream k → ClosesStream old new log log' wire k r → KillsDown (landing_places k.doing) r
+  pub closing_falls : (k : ClosingStream) → kill_left k ≡ last_kill last → IsLast k.cursor.doing k.opened k.doing → IsSoundClosing k → ClosesStream old new log log' wire k r → KillsDown (landing_places k.doing) r
   closing_falls k is alone sound (closings.begins at quiet h) = subst (λ (n : ℕ). KillsDown n r) (sym (ap landing_places at)) (left_falls (record k { cursor = at_rest k.cursor }) is h)
   closing_falls k is alone sound (closings.lands_more at sending asks_so b came left poll runs hears behind) = absurd (subst (λ (d : cursors.Doing). IsLast d k.opened closings.lands) asks_so (subst (IsLast k.cursor.doing k.opened) at alone)).0
   closing_falls k is alone sound (closings.lands_opening sending at b came runs behind) = absurd (subst (IsLast k.cursor.doing k.opened) at alone)

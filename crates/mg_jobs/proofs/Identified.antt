@@ -52,7 +52,7 @@ use Rattle.mg_change.specs.ClientOpenings.{first_aggregate}
 use Rattle.mg_change.specs.ClientStreams.{ClientStream, is_read_again, remembered_empty, resuming_in}
 use Rattle.mg_change.specs.ClientStreams as streams
 use Rattle.mg_change.proofs.Turning.{left_id}
-use Rattle.mg_change.specs.OpeningCauses.{Opened}
+use Rattle.mg_change.specs.OpeningCauses.{StreamOpened}
 use Rattle.mg_ops.proofs.Reading.{named_read}
 use Rattle.mg_jobs.specs.Causes.{Answered, sent_at}
 use Rattle.mg_jobs.specs.Follows.{poll_of}
@@ -356,7 +356,7 @@ module _ (watched : ℤ → Type 0) (are_its : WatchArgs → Type 0) (past : Pas
 -- ---- the opening
 
 module _ (watched : ℤ → Type 0) (are_its : WatchArgs → Type 0) (past : Past) (honest : IsHonest watched past) (args : WatchArgs) (its : are_its args) where
-  pub opened_well : (first : ClientStream) → Opened past args first → StandsWell watched are_its first
+  pub opened_well : (first : ClientStream) → StreamOpened past args first → StandsWell watched are_its first
   opened_well first o =
       let heard = honest.watch (target args.target) args.pipeline.items args.options o.session o.bytes (heard_by past (resuming_in (first_aggregate args) past.wire o.session) (is_read_again o.session) (reply o.bytes) o.heard) o.success in
       subst (StandsWell watched are_its) (sym o.stream_is)

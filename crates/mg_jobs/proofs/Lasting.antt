@@ -12,19 +12,19 @@ use Rattle.mg_link.proofs.Waits.{IsFirstTry, waits_still}
 use Rattle.mg_cursor.specs.Client.{WaitsFor, at_rest}
 use Rattle.mg_cursor.specs.Client as cursors
 use Rattle.mg_cursor.specs.Closing.{IsNotAsking}
-use Rattle.mg_change.specs.ClosingStreams.{ClosesStream, ClosingStream, HearsKill, IsSoundStream, KillsLeft, Landing, LandsFor, LandsForBy, LandsSoundly, ids_left, kill_left}
+use Rattle.mg_change.specs.ClosingStreams.{ClosesStream, ClosingStream, HearsKill, IsSoundClosing, KillsLeft, Landing, LandsFor, LandsForBy, LandsSoundly, ids_left, kill_left}
 use Rattle.mg_change.specs.ClosingStreams as closings
 use Rattle.mg_jobs.specs.Playing.{IsLast}
 
 -- the closing and what it lands on keep what they have to
 abbrev pub Lasts : ClosingStream → Type 0
-Lasts k = IsLast k.cursor.doing k.opened k.doing × IsSoundStream k
+Lasts k = IsLast k.cursor.doing k.opened k.doing × IsSoundClosing k
 
 -- nothing on its way is of the stream but the killing of its cursor
 for_by : (w : Watch) (start : Start) (token : Option Tree) (c : cursors.Doing) (opened : ℤ) (d : Landing) → IsLast c opened d → LandsForBy w start token d
 for_by w start token c opened closings.lands last = tt
 for_by w start token c opened (closings.lands_aggregate sending) last = absurd last
-for_by w start token c opened (closings.lands_older before) last = absurd last
+for_by w start token c opened (closings.lands_replaced before) last = absurd last
 for_by w start token c opened (closings.ends sending) last = tt
 
 pub last_for : (w : Watch) (start : Start) (token : Option Tree) (k : ClosingStream) → Lasts k → LandsFor w start token k
@@ -59,7 +59,7 @@ module _ (old new : Awaited) (log log' : Told) (wire : ℤ) (k' : ClosingStream)
   alone_by : (c : cursors.Doing) (opened : ℤ) (d : Landing) → IsLast c opened d → opened ≡ pos 0
   alone_by c opened closings.lands last = last.1
   alone_by c opened (closings.lands_aggregate sending) last = absurd last
-  alone_by c opened (closings.lands_older before) last = absurd last
+  alone_by c opened (closings.lands_replaced before) last = absurd last
   alone_by c opened (closings.ends sending) last = last.1
 
   pub still_lasts : (k : ClosingStream) → Lasts k → ClosesStream old new log log' wire k (step.Pending k') → Lasts k'

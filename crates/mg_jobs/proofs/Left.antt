@@ -5,7 +5,7 @@ use Rattle.mg_link.specs.Exec.{Sending, Stage, first, second, ticket_at, unsent}
 use Rattle.mg_cursor.specs.Client.{ClientCursor, asks, holds, rests}
 use Rattle.mg_cursor.specs.Client as cursors
 use Rattle.mg_change.specs.ClientStreams.{Doing, follows, kills, owes, renewed, resumes, ticket_by}
-use Rattle.mg_change.specs.ClosingStreams.{Landing, ends, lands, lands_aggregate, lands_older}
+use Rattle.mg_change.specs.ClosingStreams.{Landing, ends, lands, lands_aggregate, lands_replaced}
 use Rattle.mg_change.specs.Sent.{asking_places, ending_places, killing_places, more_places, places_by, resuming_places}
 use Rattle.mg_jobs.specs.Telling.{landing_places}
 
@@ -47,7 +47,7 @@ places_few c renewed = omega arith
 pub landing_few : (l : Landing) → landing_places l ≤ 1
 landing_few lands = omega arith
 landing_few (lands_aggregate sending) = omega arith
-landing_few (lands_older before) = omega arith
+landing_few (lands_replaced before) = omega arith
 landing_few (ends sending) = ending_few sending.stage
 
 -- ---- where a reply is waited for, no getMore is to be sent

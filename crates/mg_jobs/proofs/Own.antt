@@ -27,7 +27,7 @@ use Rattle.mg_change.specs.Causes.{CallEmpty, CallFails, CallGave, CallNone, Cal
 use Rattle.mg_change.specs.Causes as causes
 use Rattle.mg_change.specs.ClientOpenings.{first_aggregate, first_known}
 use Rattle.mg_change.specs.ClientStreams.{ClientStream, is_read_again, remembered, remembered_by, remembered_empty, resuming_in, token_behind}
-use Rattle.mg_change.specs.OpeningCauses.{Opened}
+use Rattle.mg_change.specs.OpeningCauses.{StreamOpened}
 use Rattle.mg_jobs.specs.Follows.{poll_of}
 use Rattle.mg_jobs.specs.Own.{IsBehind, IsBrought, IsOwnCursor, IsOwnToken, KnowsOwn, of_batch, of_event, to_resume, to_start}
 use Rattle.mg_script.specs.declared.outcome.Answer.{Answer}
@@ -252,7 +252,7 @@ module _ (heard : List ℕ → Type 0) (past : Past) (hears : (command : Fields)
 
   -- ---- the opening
 
-  pub opened_own : (args : WatchArgs) (first : ClientStream) → Opened past args first → StandsOwn heard first
+  pub opened_own : (args : WatchArgs) (first : ClientStream) → StreamOpened past args first → StandsOwn heard first
   opened_own args first o =
       let command = resuming_in (first_aggregate args) past.wire o.session in
       let in_reply = hears command o.bytes (heard_by past command (is_read_again o.session) (reply o.bytes) o.heard) in

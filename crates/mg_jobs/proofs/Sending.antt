@@ -12,9 +12,9 @@ use Rattle.mg_cursor.specs.Client as cursors
 use Rattle.mg_change.specs.ClientOpenings.{ClientOpening, IsSoundOpening, OpensStream, RunsOpening, SendsSoundly, first_aggregate}
 use Rattle.mg_change.specs.ClientOpenings as openings
 use Rattle.mg_change.specs.ClientStreams.{ClientStream, IsAggregate, IsSound, follows, resuming_in}
-use Rattle.mg_change.specs.ClosingStreams.{ClosesStream, ClosingStream, IsSoundStream, KillsLeft, LandsSoundly, RunsKill, ids_left, kill_left}
+use Rattle.mg_change.specs.ClosingStreams.{ClosesStream, ClosingStream, IsSoundClosing, KillsLeft, LandsSoundly, RunsKill, ids_left, kill_left}
 use Rattle.mg_change.specs.ClosingStreams as closings
-use Rattle.mg_change.specs.Growths.{Grows}
+use Rattle.mg_change.specs.Growths.{GoesOnward}
 use Rattle.mg_change.specs.Sent.{ending_places}
 use Rattle.mg_change.specs.StreamCalls.{CallCopies}
 use Rattle.mg_change.specs.declared.event_poll.EventPoll.{EventPoll}
@@ -59,7 +59,7 @@ module _ (are_its : WatchArgs → Type 0) (old new : Awaited) (log log' : Told) 
   left_such k (closings.kills_all some sending new_one h) = kill_run k sending new_one.command_is new_one.single h
 
   -- of a stream at rest
-  pub closing_such : (k : ClosingStream) → IsLast k.cursor.doing k.opened k.doing → IsSoundStream k → ClosesStream old new log log' wire k r → AddsSuch (IsCommandOf are_its) log log'
+  pub closing_such : (k : ClosingStream) → IsLast k.cursor.doing k.opened k.doing → IsSoundClosing k → ClosesStream old new log log' wire k r → AddsSuch (IsCommandOf are_its) log log'
   closing_such k last sound (closings.begins at quiet h) = left_such (record k { cursor = at_rest k.cursor }) h
   closing_such k last sound (closings.lands_more at sending asks_so b came left poll runs hears behind) = absurd (subst (λ (d : cursors.Doing). IsLast d k.opened closings.lands) asks_so (subst (IsLast k.cursor.doing k.opened) at last)).0
   closing_such k last sound (closings.lands_opening sending at b came runs behind) = absurd (subst (IsLast k.cursor.doing k.opened) at last)
@@ -69,7 +69,7 @@ module _ (are_its : WatchArgs → Type 0) (old new : Awaited) (log log' : Told) 
       kill_run k sending own.command_is own.single h
 
 -- so the log grows by it, whatever its server does
-pub closing_grows : (old new : Awaited) (log log' : Told) (wire : ℤ) (k : ClosingStream) (r : Step ClosingStream (Unit {0})) → IsLast k.cursor.doing k.opened k.doing × IsSoundStream k → ClosesStream old new log log' wire k r → Grows log log'
+pub closing_grows : (old new : Awaited) (log log' : Told) (wire : ℤ) (k : ClosingStream) (r : Step ClosingStream (Unit {0})) → IsLast k.cursor.doing k.opened k.doing × IsSoundClosing k → ClosesStream old new log log' wire k r → GoesOnward log log'
 closing_grows old new log log' wire k r last closes calls told =
     let s = closing_such (λ (a : WatchArgs). Unit {0}) old new log log' wire r k last.0 last.1 closes in
     let m = s.adds calls told in

@@ -21,8 +21,8 @@ use Rattle.mg_cursor.specs.Client.{ClientCursor, at_rest, behind_failure, behind
 use Rattle.mg_change.specs.Causes.{CallFails, CallNone, Called, MayLose, MoreFailed, Next, Replied, Resumed, Resumes, SoFar, StaysSo}
 use Rattle.mg_change.specs.Causes as causes
 use Rattle.mg_change.specs.ClientStreams.{ClientStream, Doing, follows, remembered_empty}
-use Rattle.mg_change.specs.OpeningCauses.{Opened}
-use Rattle.mg_change.specs.Steps.{OpensBy}
+use Rattle.mg_change.specs.OpeningCauses.{StreamOpened}
+use Rattle.mg_change.specs.Steps.{OpensCursor}
 use Rattle.mg_jobs.specs.Causes.{Answered, Course, SentIn, sent_at}
 use Rattle.mg_jobs.specs.Drawing.{has_turn}
 use Rattle.mg_jobs.specs.Follows.{poll_of}
@@ -80,7 +80,7 @@ module _ (args : WatchArgs) (past : Past) (at : ClientStream) (fit : IsFor args 
   asked_behind e c is = asked_same c (ap (λ (x : ClientCursor). x.manner) is ∙ manner_behind e.kind at.cursor)
 
   -- a new one
-  asked_again : (bytes : List ℕ) (out : CursorSpecification × Option Timestamp) (c : ClientCursor) → OpensBy at.aggregate bytes out → c ≡ new_client out.0 → IsAsked c
+  asked_again : (bytes : List ℕ) (out : CursorSpecification × Option Timestamp) (c : ClientCursor) → OpensCursor at.aggregate bytes out → c ≡ new_client out.0 → IsAsked c
   asked_again bytes out c opens is = ap (λ (x : ClientCursor). x.manner) is ∙ manner_read at.aggregate.args.options bytes out.0 opens.opens ∙ ap (λ (a : WatchArgs). watch_manner a.options) fit.args_are
 
   asked_resumed : (old : ClientCursor) (bytes : List ℕ) (c : ClientCursor) → Resumed past true at old bytes c → IsAsked c
@@ -151,7 +151,7 @@ for_answered args calls wire at (own ∷ owns) (answer ∷ said) last a fit = fo
 for_answered args calls wire at [] (answer ∷ said) last a fit = absurd a
 for_answered args calls wire at (own ∷ owns) [] last a fit = absurd a
 
-pub for_opened : (args : WatchArgs) (past : Past) (opened : ClientStream) → Opened past args opened → IsFor args opened
+pub for_opened : (args : WatchArgs) (past : Past) (opened : ClientStream) → StreamOpened past args opened → IsFor args opened
 for_opened args past opened o =
     subst (IsFor args) (sym o.stream_is) (record { args_are = refl; manner_is = manner_read args.options o.bytes o.out.0 o.opens.opens })
 

@@ -20,10 +20,10 @@ use Rattle.mg_change.specs.ClientStreams.{ClientStream, IsAlive, IsBetween, IsSo
 use Rattle.mg_change.specs.ClosingCauses.{LastSoFar}
 use Rattle.mg_change.specs.ClosingStreams.{ClosesStream, ClosingStream, closed_stream, handed_over}
 use Rattle.mg_change.specs.OpenedStreams.{IsOpening}
-use Rattle.mg_change.specs.OpeningCauses.{Opened, OpeningCaused, OpeningFails, OpensSoFar}
+use Rattle.mg_change.specs.OpeningCauses.{StreamOpened, OpeningCaused, OpeningFails, OpensSoFar}
 use Rattle.mg_change.specs.OpeningView.{IsPlainOpening, opening_of}
 use Rattle.mg_change.specs.Sent as calling
-use Rattle.mg_change.specs.Sent.{CallSent, IsAt, places_behind, opening_places}
+use Rattle.mg_change.specs.Sent.{CallSent, IsSentAt, places_behind, opening_places}
 use Rattle.mg_change.specs.StreamCalls.{CallCopies, event_ending}
 use Rattle.mg_change.specs.StreamView.{IsPlainStream, stream_of}
 use Rattle.mg_change.specs.declared.event_poll.EventPoll.{EventPoll}
@@ -125,13 +125,13 @@ grows_ended places since calls wire =
 pub answered_later : (calls calls' : List Call) (wire : ℤ) → Keeps calls calls' → (owns : List (List ℕ)) (said : List Answer) (first last : ClientStream) → Answered calls wire first owns said last → Answered calls' wire first owns said last
 answered_later calls calls' wire keeps [] [] first last a = a
 answered_later calls calls' wire keeps (places ∷ owns) (answer ∷ said) first last a =
-    (a.0, called_grows (sent_at places calls wire) (sent_at places calls' wire) (grows_later places calls calls' wire keeps) None first a.0 (poll_of answer) a.1, answered_later calls calls' wire keeps owns said a.0 last a.2, falls_later (IsAt first) calls calls' 4 places 0 keeps a.3)
+    (a.0, called_grows (sent_at places calls wire) (sent_at places calls' wire) (grows_later places calls calls' wire keeps) None first a.0 (poll_of answer) a.1, answered_later calls calls' wire keeps owns said a.0 last a.2, falls_later (IsSentAt first) calls calls' 4 places 0 keeps a.3)
 answered_later calls calls' wire keeps [] (answer ∷ said) first last a = absurd a
 answered_later calls calls' wire keeps (places ∷ owns) [] first last a = absurd a
 
-answered_more : (calls : List Call) (wire : ℤ) (owns : List (List ℕ)) (said : List Answer) (first mid last : ClientStream) (places : List ℕ) (answer : Answer) → Answered calls wire first owns said mid → Called (sent_at places calls wire) None mid last (poll_of answer) → FallsAt (IsAt mid) calls 4 places 0 → Answered calls wire first (owns ++ places ∷ []) (said ++ answer ∷ []) last
+answered_more : (calls : List Call) (wire : ℤ) (owns : List (List ℕ)) (said : List Answer) (first mid last : ClientStream) (places : List ℕ) (answer : Answer) → Answered calls wire first owns said mid → Called (sent_at places calls wire) None mid last (poll_of answer) → FallsAt (IsSentAt mid) calls 4 places 0 → Answered calls wire first (owns ++ places ∷ []) (said ++ answer ∷ []) last
 answered_more calls wire [] [] first mid last places answer a called sends =
-    (last, subst (λ (x : ClientStream). Called (sent_at places calls wire) None x last (poll_of answer)) a called, refl, subst (λ (x : ClientStream). FallsAt (IsAt x) calls 4 places 0) a sends)
+    (last, subst (λ (x : ClientStream). Called (sent_at places calls wire) None x last (poll_of answer)) a called, refl, subst (λ (x : ClientStream). FallsAt (IsSentAt x) calls 4 places 0) a sends)
 answered_more calls wire (own ∷ owns) (other ∷ said) first mid last places answer a called sends = (a.0, a.1, answered_more calls wire owns said a.0 mid last places answer a.2 called sends, a.3)
 answered_more calls wire [] (other ∷ said) first mid last places answer a called sends = absurd a
 answered_more calls wire (own ∷ owns) [] first mid last places answer a called sends = absurd a
@@ -187,7 +187,7 @@ tells_later old new calls calls' wire q (stage.Open stream) k at keeps same t = 
   open_later calls calls' wire q.opened q.owns k.watched k.opened k.said k.alive t.0 at keeps t.1,
   so_far_grows (sent_at q.now calls wire) (sent_at q.now calls' wire) (grows_later q.now calls calls' wire keeps) old new t.0 (stream_of stream) same t.2,
   t.3,
-  record { falls = falls_later (IsAt t.0) calls calls' 4 q.now (calling.places (stream_of stream)) keeps t.4.falls; cursor = t.4.cursor },
+  record { falls = falls_later (IsSentAt t.0) calls calls' 4 q.now (calling.places (stream_of stream)) keeps t.4.falls; cursor = t.4.cursor },
 )
 tells_later old new calls calls' wire q (stage.Closes closing) k at keeps same t = (
   t.0,
@@ -410,7 +410,7 @@ SaysAlive alive s = IsTrue alive ↔ IsAlive s
 -- the opening heard its reply at this place
 abbrev HeardAtPlace : Told → Told → Awaited → ℤ → ClientOpening → ClientStream → Option ℕ → Type 0
 HeardAtPlace log log' old wire o first place = (calls : List Call) → log ≡ Some calls → (places : List ℕ) → OpensSoFar old (past_of places (length calls) calls wire) o.args o.sending
-    → (calls' : List Call) × (log' ≡ Some calls') × (opened : Opened (past_of places (length calls) calls' wire) o.args first) × (place ≡ Some opened.heard.place)
+    → (calls' : List Call) × (log' ≡ Some calls') × (opened : StreamOpened (past_of places (length calls) calls' wire) o.args first) × (place ≡ Some opened.heard.place)
 
 -- The stream is open; the rest of the turn follows.
 pub open_done_tells : (old mid new : Awaited) (log log_mid log' : Told) (wire wire_mid : ℤ) (k k1 : Kept) (opening : Opening Fields) (stream : ChangeStream Fields) (s' : Stage) (k' : Kept) → RestTells new log_mid log' wire_mid (stream_of stream) k1 s' k' → k1.watched ≡ k.watched → HasGiven k1.opened → k1.said ≡ k.said → SaysAlive k1.alive (stream_of stream) → wire_mid ≡ wire
@@ -457,11 +457,11 @@ call_adds v old new log log' wire s s1 r calls calls' q k last at sound does t s
 
 module _ (log log' : Told) (at : ClientStream) (own : List ℕ) (s s1 : ClientStream) (calls calls' : List Call) (told : log ≡ Some calls) (told' : log' ≡ Some calls') (keeps : Keeps calls calls') (same : s.aggregate ≡ at.aggregate) where
   -- what a poll sent stands behind what was sent before
-  call_falls : (r : EventPoll) → CallSent log log' s s1 r → SendsSoFar calls at own s → FallsAt (IsAt at) calls' 4 (sent_since own (length calls) (length calls')) (places_behind (event_ending r) s1)
+  call_falls : (r : EventPoll) → CallSent log log' s s1 r → SendsSoFar calls at own s → FallsAt (IsSentAt at) calls' 4 (sent_since own (length calls) (length calls')) (places_behind (event_ending r) s1)
   call_falls r sent so =
       let n : ℕ = calling.places s in
       let m : ℕ = places_behind (event_ending r) s1 in
-      falls_more (IsAt at) log log' calls calls' 4 own n m sent.commands told told' keeps so.falls sent.adds (began_as at s same n sent.commands m so.cursor sent.falling)
+      falls_more (IsSentAt at) log log' calls calls' 4 own n m sent.commands told told' keeps so.falls sent.adds (began_as at s same n sent.commands m so.cursor sent.falling)
 
   -- a call that waits has sent its getMore, or needs none
   call_goes_on : IsSome (stream_ticket s1) → CallSent log log' s s1 polls.Pending → SendsSoFar calls at own s → SendsSoFar calls' at (sent_since own (length calls) (length calls')) s1
@@ -517,7 +517,7 @@ call_answers_tells old mid new log log_mid log' wire wire_mid k k1 s s1 r answer
     let after = stream_of s1 in
     let before = open_later calls c.0 wire q.opened q.owns k.watched k.opened k.said k.alive at place c.2 t.1 in
     let called : Called (sent_at own c.0 wire) None at after (poll_of answer) = called_grows (past_of q.now (length calls) c.0 wire) (sent_at own c.0 wire) (grows_ended q.now (length calls) c.0 wire) None at after (poll_of answer) (came_called mid (past_of q.now (length calls) c.0 wire) at after answer c.3) in
-    let sends : FallsAt (IsAt at) c.0 4 own 0 = subst (λ (m : ℕ). FallsAt (IsAt at) c.0 4 own m) (ap (λ (x : EventPoll). places_behind (event_ending x) after) is ∙ ends_places answer after)
+    let sends : FallsAt (IsSentAt at) c.0 4 own 0 = subst (λ (m : ℕ). FallsAt (IsSentAt at) c.0 4 own m) (ap (λ (x : EventPoll). places_behind (event_ending x) after) is ∙ ends_places answer after)
     (call_falls log log_mid at q.now (stream_of s) after calls c.0 told c.1 c.2 t.2.same r sent t.4) in
     let opened : TellsOpen c.0 wire q1.opened q1.owns k1.watched k1.opened k1.said k1.alive after place = record {
       given = subst (λ (o : Ended (Unit {0})). HasGiven o) (sym given) before.given;
@@ -546,7 +546,7 @@ rest_stays_tells awaited log wire stream k sound rest calls calls' told told' q 
       begins awaited (sent_at q.now calls wire) (stream_of stream) sound rest,
       sound,
       record {
-        falls = none_now (IsAt (stream_of stream)) calls 4 q (calling.places (stream_of stream)) none (places_few (stream_of stream).cursor (stream_of stream).doing);
+        falls = none_now (IsSentAt (stream_of stream)) calls 4 q (calling.places (stream_of stream)) none (places_few (stream_of stream).cursor (stream_of stream).doing);
         cursor = λ many. refl;
       },
     )

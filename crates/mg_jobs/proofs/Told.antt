@@ -16,7 +16,7 @@ use Rattle.mg_link.specs.declared.error.Error.{Error}
 use Rattle.mg_link.proofs.Places.{get_within}
 use Rattle.mg_ops.specs.declared.aggregate.ChangeStreamAggregate.{ChangeStreamAggregate}
 use Rattle.mg_ops.specs.declared.change_stream.WatchArgs.{WatchArgs}
-use Rattle.mg_change.specs.ClientStreams.{ClientStream, stream_ticket, stream_token, token_in}
+use Rattle.mg_change.specs.ClientStreams.{ClientStream, stream_ticket, stream_token, token_known}
 use Rattle.mg_change.specs.OpenedStreams.{IsOpening}
 use Rattle.mg_change.specs.Sent as calling
 use Rattle.mg_change.specs.OpeningView.{opening_of}
@@ -358,7 +358,7 @@ module _ (awaited : Awaited) (c : Course) (i : ℕ) (calls : List Call) (wire : 
         waits = opening_awaits_plainly awaited (sent_at told.places.now calls wire) (opening_of opening).args (opening_of opening).sending told.tells.2.sound told.tells.3 (at_stage.1 ∙ pended);
       })
   stage_caused (stage.Open stream) count is at_stage told =
-      open_caused count told.places (suc (length job.answers.items)) told.tells.0 told.sent told.tells.1 (ap (λ (s : Stage). token_at s job.token) (sym is) ∙ ap (λ (a : ChangeStreamAggregate). token_in a.resume) told.tells.2.same)
+      open_caused count told.places (suc (length job.answers.items)) told.tells.0 told.sent told.tells.1 (ap (λ (s : Stage). token_at s job.token) (sym is) ∙ ap (λ (a : ChangeStreamAggregate). token_known a.resume) told.tells.2.same)
       (still_open count told.tells.0 told.places.now job.closed at_stage.0.closed (rests_or_waits count pended_last refl stream told at_stage.0 at_stage.1))
   stage_caused (stage.Closes closing) count is at_stage told =
       open_caused count told.places (length job.answers.items) told.tells.0 told.sent told.tells.1 (ap (λ (s : Stage). token_at s job.token) (sym is) ∙ told.tells.2)

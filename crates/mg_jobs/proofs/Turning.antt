@@ -19,7 +19,7 @@ use Rattle.mg_change.proofs.Keeping.{sound_any}
 use Rattle.mg_change.proofs.Resting.{between_holds_none}
 use Rattle.mg_change.specs.ClientStreams.{Asks, ClientStream, Doing, IsBetween, IsIdle, IsSound, stream_ticket, stream_token}
 use Rattle.mg_change.specs.ClientStreams as streams
-use Rattle.mg_change.specs.ClosingStreams.{ClosingStream, IsSoundStream, LandsSoundly, closed_stream, handed_over, landing_of, landing_ticket, stream_closing_ticket}
+use Rattle.mg_change.specs.ClosingStreams.{ClosingStream, IsSoundClosing, LandsSoundly, closed_stream, handed_over, landing_of, landing_ticket, stream_closing_ticket}
 use Rattle.mg_change.specs.Following.{follow_closing, follow_of, idle_by, left_as, not_open, opening_by, opening_in}
 use Rattle.mg_change.specs.OpeningView.{IsPlainOpening, opening_of}
 use Rattle.mg_change.specs.StreamCalls.{LeavesCall}
@@ -410,9 +410,9 @@ quiet_none (cursors.asks sending) quiet = absurd quiet
 
 -- whose token was handed over
 module _ (s : ClientStream) (lent : Bool) (left : Option Tree) (k : ClosingStream) (is : k ≡ handed_over left (closed_stream lent s)) (rest : IsBetween s) where
-  pub closes_last : IsSound true s → IsLast k.cursor.doing k.opened k.doing × IsSoundStream k
+  pub closes_last : IsSound true s → IsLast k.cursor.doing k.opened k.doing × IsSoundClosing k
   closes_last sound =
-      subst (λ (x : ClosingStream). IsLast x.cursor.doing x.opened x.doing × IsSoundStream x) (sym is)
+      subst (λ (x : ClosingStream). IsLast x.cursor.doing x.opened x.doing × IsSoundClosing x) (sym is)
       (last_by s.doing s.cursor.doing rest.idle rest.quiet, lands_by s.doing (handed_over left (closed_stream lent s)) rest.idle rest.quiet sound.named refl)
 
   -- it holds no ticket

@@ -9,7 +9,7 @@ use Rattle.mg_link.specs.Log.{Call}
 use Rattle.mg_link.specs.Owner.{Onward, nobody}
 use Rattle.mg_link.proofs.Apart.{holds_nobody, passes_on, passes_same}
 use Rattle.mg_change.specs.Following.{AsksNothing}
-use Rattle.mg_change.specs.Growths.{Grows, HasCommand, IsInFlight, OpensInVain, StandsNowhere}
+use Rattle.mg_change.specs.Growths.{GoesOnward, HasCommand, IsInFlight, OpensInVain, StandsNowhere}
 use Rattle.mg_change.specs.ClientOpenings.{sending_ticket}
 use Rattle.mg_change.specs.ClosingStreams.{ClosingStream}
 use Rattle.mg_change.specs.OpeningView.{IsPlainOpening, opening_of}
@@ -78,7 +78,7 @@ vain_stays : (awaited : Awaited) (log : Told) (s : Stage) (p : FollowPlayer) (s'
 vain_stays awaited log s p s' p' on calls told v = (calls, told, on calls v, passes_same calls nobody (holds_nobody calls))
 
 -- an open stream of it goes on: no honest server could have given the log
-vain_grows : (old new : Awaited) (log log' : Told) (s : Stage) (p : FollowPlayer) (s' : Stage) (p' : FollowPlayer) → Grows log log' → p'.watched ≡ p.watched → (IsInOrder p s → HasGiven p.opened) → (IsInOrder p s → IsInOrder p' s') → ((calls : List Call) → IsInVain new calls s') → VainMoves old new log log' s p s' p'
+vain_grows : (old new : Awaited) (log log' : Told) (s : Stage) (p : FollowPlayer) (s' : Stage) (p' : FollowPlayer) → GoesOnward log log' → p'.watched ≡ p.watched → (IsInOrder p s → HasGiven p.opened) → (IsInOrder p s → IsInOrder p' s') → ((calls : List Call) → IsInVain new calls s') → VainMoves old new log log' s p s' p'
 vain_grows old new log log' s p s' p' grows same given order vain calls told v =
     let m = grows calls told in
     let nowhere = v.never (given v.in_order) in (
@@ -187,7 +187,7 @@ vain_to_close awaited log p p' stream closing same =
       never = λ given. v.never v.in_order;
     })
 
-sent_grows : (log log' : Told) (commands : List Fields) → Sent log log' commands → Grows log log'
+sent_grows : (log log' : Told) (commands : List Fields) → Sent log log' commands → GoesOnward log log'
 sent_grows log log' commands sent calls told = let m = sent calls told in (m.0, m.1, m.3)
 
 -- A call of the stream pends, or answered.
@@ -196,11 +196,11 @@ vain_call old new log log' p p' stream stream' commands watched opened sent =
     vain_grows old new log log' (stage.Open stream) p (stage.Open stream') p' (sent_grows log log' commands sent) watched (λ order. order) (λ order. subst (λ o. HasGiven o) (sym opened) order) (λ calls. tt)
 
 -- The killing of its cursors pends.
-pub vain_close_pends : (old new : Awaited) (log log' : Told) (p : FollowPlayer) (closing closing' : ClosingStream) → Grows log log' → VainMoves old new log log' (stage.Closes closing) p (stage.Closes closing') p
+pub vain_close_pends : (old new : Awaited) (log log' : Told) (p : FollowPlayer) (closing closing' : ClosingStream) → GoesOnward log log' → VainMoves old new log log' (stage.Closes closing) p (stage.Closes closing') p
 vain_close_pends old new log log' p closing closing' grows = vain_grows old new log log' (stage.Closes closing) p (stage.Closes closing') p grows refl (λ order. order) (λ order. order) (λ calls. tt)
 
 -- The stream is closed, or its closing failed.
-pub vain_close_ends : (old new : Awaited) (log log' : Told) (p p' : FollowPlayer) (closing : ClosingStream) → KeepsOpen p p' → Grows log log' → VainMoves old new log log' (stage.Closes closing) p stage.Ended p'
+pub vain_close_ends : (old new : Awaited) (log log' : Told) (p p' : FollowPlayer) (closing : ClosingStream) → KeepsOpen p p' → GoesOnward log log' → VainMoves old new log log' (stage.Closes closing) p stage.Ended p'
 vain_close_ends old new log log' p p' closing same grows =
     vain_grows old new log log' (stage.Closes closing) p stage.Ended p' grows same.watched (λ order. order) (λ order. ends_given p'.opened p' (subst (λ o. HasGiven o) (sym same.opened) order)) (λ calls. tt)
 

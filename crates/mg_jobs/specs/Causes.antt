@@ -19,8 +19,8 @@ use Rattle.mg_change.specs.ClientOpenings.{first_aggregate}
 use Rattle.mg_change.specs.ClientStreams.{ClientStream, IsAlive, resuming_in, stream_token}
 use Rattle.mg_change.specs.ClosingCauses.{LastDone, LastFails, LastWaits, last_kill}
 use Rattle.mg_change.specs.OpenedStreams.{IsOpening}
-use Rattle.mg_change.specs.OpeningCauses.{Opened, OpeningFails}
-use Rattle.mg_change.specs.Sent.{Falling, IsAt}
+use Rattle.mg_change.specs.OpeningCauses.{StreamOpened, OpeningFails}
+use Rattle.mg_change.specs.Sent.{Falling, IsSentAt}
 use Rattle.mg_ops.specs.Appended.{Appended}
 use Rattle.mg_jobs.specs.Counts.{PolledBy, one_if}
 use Rattle.mg_jobs.specs.Drawing.{as_sent}
@@ -135,10 +135,10 @@ pub record InsertEnds (awaited : Awaited) (c : Course) (i : ℕ) (calls : List C
 
 -- The calls of a stream, one behind the other: at which places each sent its commands, what it answered with its cause, and how the stream stood
 -- before the first of them and behind the last. A call sends at most the getMore of its cursor, then at most twice the aggregate that resumes the stream,
--- then at most one killing (`IsAt`).
+-- then at most one killing (`IsSentAt`).
 abbrev pub Answered : List Call → ℤ → ClientStream → List (List ℕ) → List Answer → ClientStream → Type 0
 Answered calls wire at [] [] last = last ≡ at
-Answered calls wire at (places ∷ owns) (answer ∷ said) last = (after : ClientStream) × Called (sent_at places calls wire) None at after (poll_of answer) × Answered calls wire after owns said last × FallsAt (IsAt at) calls 4 places 0
+Answered calls wire at (places ∷ owns) (answer ∷ said) last = (after : ClientStream) × Called (sent_at places calls wire) None at after (poll_of answer) × Answered calls wire after owns said last × FallsAt (IsSentAt at) calls 4 places 0
 Answered calls wire at [] (answer ∷ said) last = ⊥
 Answered calls wire at (places ∷ owns) [] last = ⊥
 
@@ -147,7 +147,7 @@ pub record HasAnswered (c : Course) (i : ℕ) (calls : List Call) (wire : ℤ) (
   pub first : ClientStream
   pub places : List ℕ
   pub sent : AllSentIn c i 0 places
-  pub opened : Opened (sent_at places calls wire) args first
+  pub opened : StreamOpened (sent_at places calls wire) args first
   -- its aggregate, at most twice
   pub opens : FallsAt (IsOpening args wire None) calls 3 places 1
   pub owns : List (List ℕ)
@@ -173,9 +173,9 @@ pub record Closed {A : Type 0} (c : Course) (i k : ℕ) (calls : List Call) (wir
 -- Where an open stream stands of whose calls so many were answered, and which sent at these places since.
 pub data OpenStands (awaited : Awaited) (c : Course) (i count answered : ℕ) (calls : List Call) (wire : ℤ) (last : ClientStream) (now : List ℕ) : Type 0 where
   -- its newest turn did not pend, and a call is left
-  at_rest : pends_last i c.order c.notes ≡ false → answered < count → FallsAt (IsAt last) calls 4 now 0 → OpenStands awaited c i count answered calls wire last now
+  at_rest : pends_last i c.order c.notes ≡ false → answered < count → FallsAt (IsSentAt last) calls 4 now 0 → OpenStands awaited c i count answered calls wire last now
   -- its next call waits for a reply
-  in_call : pends_last i c.order c.notes ≡ true → answered < count → AllSentIn c i (suc answered) now → CallWaits awaited (sent_at now calls wire) true last → FallsAt (IsAt last) calls 4 now 0 → OpenStands awaited c i count answered calls wire last now
+  in_call : pends_last i c.order c.notes ≡ true → answered < count → AllSentIn c i (suc answered) now → CallWaits awaited (sent_at now calls wire) true last → FallsAt (IsSentAt last) calls 4 now 0 → OpenStands awaited c i count answered calls wire last now
   -- all its calls are answered, and its closing waits for a reply
   in_closing : pends_last i c.order c.notes ≡ true → answered ≡ count → AllSentIn c i answered now → LastWaits awaited (sent_at now calls wire) last → FallsAt (KillsLast last) calls 1 now 0 → OpenStands awaited c i count answered calls wire last now
 

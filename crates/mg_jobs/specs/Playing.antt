@@ -3,7 +3,7 @@ use Rattle.std.specs.Prelude.{◌≡◌, ◌<◌, ℕ, ℤ, pos, Bool, true, fal
 use Rattle.mg_cursor.specs.Client as cursors
 use Rattle.mg_cursor.specs.Closing.{IsNotAsking}
 use Rattle.mg_change.specs.ClientStreams.{stream_ticket}
-use Rattle.mg_change.specs.ClosingStreams.{IsSoundStream, Landing, ends, lands, lands_aggregate, lands_older, stream_closing_ticket}
+use Rattle.mg_change.specs.ClosingStreams.{IsSoundClosing, Landing, ends, lands, lands_aggregate, lands_replaced, stream_closing_ticket}
 use Rattle.mg_change.specs.OpeningView.{IsPlainOpening, ticket_in}
 use Rattle.mg_change.specs.StreamView.{IsPlainStream, OwnsToken, stream_of}
 use Rattle.mg_ops.specs.Inserts.{SendsPlain, insert_ticket}
@@ -72,7 +72,7 @@ follow_ended stage.Ended = true
 abbrev pub IsLast : cursors.Doing → ℤ → Landing → Type 0
 IsLast c opened lands = IsNotAsking c × (opened ≡ pos 0)
 IsLast c opened (lands_aggregate sending) = ⊥
-IsLast c opened (lands_older before) = ⊥
+IsLast c opened (lands_replaced before) = ⊥
 IsLast c opened (ends sending) = IsNotAsking c × (opened ≡ pos 0)
 
 -- its stream keeps what it has to
@@ -80,7 +80,7 @@ abbrev pub StageHolds : Stage → Type 0
 StageHolds stage.Unopened = Unit {0}
 StageHolds (stage.Opens opening) = IsPlainOpening opening
 StageHolds (stage.Open stream) = IsPlainStream stream × OwnsToken stream
-StageHolds (stage.Closes closing) = IsLast closing.cursor.doing closing.opened closing.doing × IsSoundStream closing
+StageHolds (stage.Closes closing) = IsLast closing.cursor.doing closing.opened closing.doing × IsSoundClosing closing
 StageHolds stage.Ended = Unit {0}
 
 -- there is a place for one more answer

@@ -13,12 +13,12 @@ use Rattle.mg_ops.specs.declared.change_stream.WatchArgs.{WatchArgs}
 use Rattle.mg_change.specs.Causes.{SoFar}
 use Rattle.mg_change.specs.ClientStreams.{ClientStream, IsAlive, IsSound, stream_token}
 use Rattle.mg_change.specs.ClosingCauses.{LastSoFar}
-use Rattle.mg_change.specs.ClosingStreams.{Landing, ends, lands, lands_aggregate, lands_older}
+use Rattle.mg_change.specs.ClosingStreams.{Landing, ends, lands, lands_aggregate, lands_replaced}
 use Rattle.mg_change.specs.OpenedStreams.{IsOpening}
-use Rattle.mg_change.specs.OpeningCauses.{Opened, OpeningFails, OpensSoFar}
+use Rattle.mg_change.specs.OpeningCauses.{StreamOpened, OpeningFails, OpensSoFar}
 use Rattle.mg_change.specs.OpeningView.{IsPlainOpening, opening_of}
 use Rattle.mg_change.specs.Sent as calling
-use Rattle.mg_change.specs.Sent.{IsAt, ending_places, opening_places}
+use Rattle.mg_change.specs.Sent.{IsSentAt, ending_places, opening_places}
 use Rattle.mg_change.specs.StreamView.{stream_of}
 use Rattle.mg_jobs.specs.Causes.{Answered, AreInLog, ClosedBy, Course, EndsBy, EndsSent, FallsAt, KillsLast, AllSentIn, SentNoneBehind, commands_at, course, places_of, sent_at}
 use Rattle.mg_jobs.specs.Follows.{FollowTurns, HasGiven, IsArgsFor, Placing, filter_in}
@@ -73,7 +73,7 @@ pub record TellsOpen (calls : List Call) (wire : ℤ) (places : List ℕ) (owns 
   pub args : WatchArgs
   pub args_are : IsWatchArgs v args
   pub first : ClientStream
-  pub opened : Opened (sent_at places calls wire) args first
+  pub opened : StreamOpened (sent_at places calls wire) args first
   pub here : at ≡ Some opened.heard.place
   pub opens : FallsAt (IsOpening args wire None) calls 3 places 1
   pub answered : Answered calls wire first owns said last
@@ -99,12 +99,12 @@ TellsEnd calls wire q k at (ended.Failed e) = (e.kind ≡ kind.OutOfMemory) ⊎ 
 abbrev pub landing_places : Landing → ℕ
 landing_places lands = 1
 landing_places (lands_aggregate sending) = 1
-landing_places (lands_older before) = 1
+landing_places (lands_replaced before) = 1
 landing_places (ends sending) = ending_places sending.stage
 
 -- A call that began where its stream stood so sent its commands at these places; where it may still send its getMore, that is of the cursor which it began with.
 pub record SendsSoFar (calls : List Call) (at : ClientStream) (own : List ℕ) (s : ClientStream) : Type 0 where
-  pub falls : FallsAt (IsAt at) calls 4 own (calling.places s)
+  pub falls : FallsAt (IsSentAt at) calls 4 own (calling.places s)
   pub cursor : 4 ≤ calling.places s → s.cursor ≡ at.cursor
 
 -- what it can tell at each stage, where the call at this place opened its stream

@@ -5,10 +5,10 @@ ghost use Rattle.mg_link.specs.Errors.{plain};
 ghost use Rattle.mg_link.specs.declared.error.ErrorKind.TheVariants as kind;
 ghost use Rattle.mg_cursor.specs.Client.{rests};
 ghost use Rattle.mg_cursor.specs.View.{behind_of, client_of, current_of};
-ghost use Rattle.mg_change.specs.ClientStreams.{id_in, next_has, no_counts, token_in};
+ghost use Rattle.mg_change.specs.ClientStreams.{id_in, next_has, no_counts, token_known};
 ghost use Rattle.mg_change.specs.Steps.{FindsIn};
-ghost use Rattle.mg_change.specs.StreamCalls.{CannotCopy, CopiesEvent, CountsIfOpen, EndsBehind, EndsEmpty, EndsGiven, GivesEvent, LacksToken, LendsEvent, MayEnd, SeeksOnBehind, SeeksOnGiven, event_ending, kept_behind, try_ending};
-ghost use Rattle.mg_change.specs.StreamView.{IsOwnPlace, IsPlaced, IsSavedPlace, KeepsOwn, changes_of, empty_place, is_lent, place_by, returned, token_at, with_token};
+ghost use Rattle.mg_change.specs.StreamCalls.{CannotCopy, CopiesEvent, CountsIfOpen, EndsBehind, EndsEmpty, EndsGiven, AnswersEvent, LacksToken, LendsEvent, MayEnd, SeeksOnBehind, SeeksOnGiven, event_ending, kept_behind, try_ending};
+ghost use Rattle.mg_change.specs.StreamView.{IsOwnPlace, IsPlaced, IsSavedPlace, KeepsOwn, changes_of, empty_place, is_lent, place_by, returned, token_lying, with_token};
 
 use super::{Changes, Phase, TokenPlace};
 use crate::counts::Counts;
@@ -85,7 +85,7 @@ impl Changes {
         requires rests { (client_of self.old.batches).doing ≡ rests }
         requires follows { self.old.phase ≡ Phase.Follows }
         requires placed { IsPlaced self.old }
-        ensures ok { IfOk result (λ event. GivesEvent (changes_of self.old) (changes_of self.new) event) }
+        ensures ok { IfOk result (λ event. AnswersEvent (changes_of self.old) (changes_of self.new) event) }
         ensures err { IfErr result (λ e. LacksToken (changes_of self.old) (changes_of self.new) e ⊎ CannotCopy (changes_of self.old) (changes_of self.new) e) }
         ensures placed { IsPlaced self.new }
         ensures owned { KeepsOwn self.old.token self.new.token }
@@ -129,7 +129,7 @@ impl Changes {
         requires rests { (client_of self.old.batches).doing ≡ rests }
         requires follows { self.old.phase ≡ Phase.Follows }
         requires placed { IsPlaced self.old }
-        ensures ok { OnOk result ((event : List ℕ) × GivesEvent (changes_of self.old) (changes_of self.new) event) }
+        ensures ok { OnOk result ((event : List ℕ) × AnswersEvent (changes_of self.old) (changes_of self.new) event) }
         ensures err { IfErr result (λ e. LacksToken (changes_of self.old) (changes_of self.new) e) }
         ensures placed { IsPlaced self.new }
     {
@@ -168,7 +168,7 @@ impl Changes {
         requires has { next_has (changes_of self.old).behind ≡ true }
         requires rests { (client_of self.old.batches).doing ≡ rests }
         requires follows { self.old.phase ≡ Phase.Follows }
-        ensures gives { (event : List ℕ) × GivesEvent (changes_of self.old) (changes_of self.new) event × (Some event ≡ front_of (changes_of self.old).behind) }
+        ensures gives { (event : List ℕ) × AnswersEvent (changes_of self.old) (changes_of self.new) event × (Some event ≡ front_of (changes_of self.old).behind) }
         ensures event { current_of self.new.buffer ≡ front_of (changes_of self.old).behind }
         ensures placed { IsPlaced self.new }
     {
@@ -236,7 +236,7 @@ impl Changes {
 
     // A copy of the token.
     fn token_copy(&self) -> Result<Option<ResumeToken>, Error>
-        ensures ok { IfOk result (λ token. token ≡ token_at self.now.token (token_in self.now.aggregate.resume) (current_of self.now.buffer) (client_of self.now.batches).token) }
+        ensures ok { IfOk result (λ token. token ≡ token_lying self.now.token (token_known self.now.aggregate.resume) (current_of self.now.buffer) (client_of self.now.batches).token) }
         ensures err { IfErr result (λ e. e ≡ plain kind.OutOfMemory) }
     {
         match self.cached_token() {
@@ -247,7 +247,7 @@ impl Changes {
 
     // Keeps a copy of the token.
     fn save(&mut self, token: Option<ResumeToken>)
-        requires { token ≡ token_at self.old.token (token_in self.old.aggregate.resume) (current_of self.old.buffer) (client_of self.old.batches).token }
+        requires { token ≡ token_lying self.old.token (token_known self.old.aggregate.resume) (current_of self.old.buffer) (client_of self.old.batches).token }
         ensures same { changes_of self.new ≡ changes_of self.old }
         ensures saved { self.new.token ≡ TokenPlace.Saved }
     {
@@ -425,7 +425,7 @@ fn mark_returned(aggregate: &mut ChangeStreamAggregate)
 
 // The token that is saved.
 pub(crate) fn saved_token(aggregate: &ChangeStreamAggregate) -> Option<TokenRef<'_>>
-    ensures { result ≡ token_in aggregate.now.resume }
+    ensures { result ≡ token_known aggregate.now.resume }
 {
     match &aggregate.resume {
         Some(known) => match &known.resume_token {

@@ -9,7 +9,7 @@ ghost use Rattle.mg_cursor.specs.Seeking.{one_if, times};
 ghost use Rattle.mg_cursor.specs.View.{client_of};
 ghost use Rattle.mg_change.specs.ClientStreams.{IsHolding, owes, renewed, stream_ticket};
 ghost use Rattle.mg_change.specs.Steps.{ClosesOne, DoesStep, HearsClosing, HearsResumption, LooksAt, ReadsResumption, RunsResumption, replaced_by};
-ghost use Rattle.mg_change.specs.StreamCalls.{Falls, step_ending, steps_left};
+ghost use Rattle.mg_change.specs.StreamCalls.{Falls, stepped_ending, steps_left};
 ghost use Rattle.mg_change.specs.StreamView.{IsOwnPlace, IsPlaced, IsSavedPlace, changes_of, doing_of};
 
 use super::{Changes, Phase};
@@ -35,7 +35,7 @@ impl Changes {
         // The tickets of others, the counts, the wire version and the promptness of the link.
         ensures keeps { LinkKeeps (moment (L.awaited link.old) (L.log link.old) (L.faults link.old) (L.pends link.old) (L.wire link.old) (L.prompt link.old))
             (moment (L.awaited link.new) (L.log link.new) (L.faults link.new) (L.pends link.new) (L.wire link.new) (L.prompt link.new))
-            (None) (stream_ticket (changes_of self.new)) (step_ending result) }
+            (None) (stream_ticket (changes_of self.new)) (stepped_ending result) }
         ensures does { (started : Bool) × DoesStep (L.awaited link.old) (L.awaited link.new) (L.log link.old) (L.log link.new) (L.wire link.old) (H.asked handle.old) started (record (changes_of self.old) { doing = owes }) (changes_of self.new) result
             × (handle.new ≡ times (one_if started) H.told handle.old) }
         ensures falls { Falls result 3 (steps_left (doing_of self.new.phase)) }
@@ -66,7 +66,7 @@ impl Changes {
         // The tickets of others, the counts, the wire version and the promptness of the link.
         ensures keeps { LinkKeeps (moment (L.awaited link.old) (L.log link.old) (L.faults link.old) (L.pends link.old) (L.wire link.old) (L.prompt link.old))
             (moment (L.awaited link.new) (L.log link.new) (L.faults link.new) (L.pends link.new) (L.wire link.new) (L.prompt link.new))
-            (ticket_of exec) (stream_ticket (changes_of self.new)) (step_ending result) }
+            (ticket_of exec) (stream_ticket (changes_of self.new)) (stepped_ending result) }
         ensures runs { (started : Bool) × RunsResumption (L.awaited link.old) (L.awaited link.new) (L.log link.old) (L.log link.new) (L.wire link.old) started (changes_of self.old) exec (changes_of self.new) result
             × (handle.new ≡ times (one_if started) H.told handle.old) }
         ensures falls { Falls result 2 (steps_left (doing_of self.new.phase)) }
@@ -133,7 +133,7 @@ impl Changes {
         // The tickets of others, the counts, the wire version and the promptness of the link.
         ensures keeps { LinkKeeps (moment (L.awaited link.old) (L.log link.old) (L.faults link.old) (L.pends link.old) (L.wire link.old) (L.prompt link.old))
             (moment (L.awaited link.new) (L.log link.new) (L.faults link.new) (L.pends link.new) (L.wire link.new) (L.prompt link.new))
-            (closing_ticket closing) (stream_ticket (changes_of self.new)) (step_ending result) }
+            (closing_ticket closing) (stream_ticket (changes_of self.new)) (stepped_ending result) }
         ensures closes { ClosesOne (L.awaited link.old) (L.awaited link.new) (L.log link.old) (L.log link.new) (L.wire link.old) closing (changes_of self.old) (changes_of self.new) result }
         ensures falls { Falls result 1 (steps_left (doing_of self.new.phase)) }
         ensures place { self.new.token ≡ self.old.token }

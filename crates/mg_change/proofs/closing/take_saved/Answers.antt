@@ -1,11 +1,11 @@
 use Rattle.std.proofs.Common.{Option, Some, None, option_map, sym, ap, ◌∙◌}
 use Rattle.mg_bson.specs.Tree.{Tree}
 use Rattle.mg_ops.specs.declared.change_stream.ChangeStreamData.{ChangeStreamData}
-use Rattle.mg_change.specs.ClientStreams.{token_in}
+use Rattle.mg_change.specs.ClientStreams.{token_known}
 use Rattle.mg_change.proofs.closing.take_saved.Goals as goal
 
 pub returns-in-Some-clause-token : goal.returns-in-Some-clause-token
-returns-in-Some-clause-token c = c.take.ensures.value ∙ sym (ap token_in c.in-Some.is)
+returns-in-Some-clause-token c = c.take.ensures.value ∙ sym (ap token_known c.in-Some.is)
 
 pub returns-in-Some-clause-gone : goal.returns-in-Some-clause-gone
 returns-in-Some-clause-gone c =
@@ -15,7 +15,7 @@ returns-in-Some-clause-gone c =
     ∙ sym (ap (λ (o : Option ChangeStreamData). record a { resume = option_map (λ (k : ChangeStreamData). record k { resume_token = None }) o }) c.in-Some.is)
 
 pub returns-in-None-clause-token : goal.returns-in-None-clause-token
-returns-in-None-clause-token c = sym (ap token_in c.in-None.is)
+returns-in-None-clause-token c = sym (ap token_known c.in-None.is)
 
 pub returns-in-None-clause-gone : goal.returns-in-None-clause-gone
 returns-in-None-clause-gone c =

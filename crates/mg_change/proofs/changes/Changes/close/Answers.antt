@@ -3,9 +3,9 @@ use Rattle.mg_bson.specs.Tree.{Tree}
 use Rattle.mg_options.specs.declared.change_stream.ChangeStreamOptions.{ChangeStreamOptions}
 use Rattle.mg_ops.specs.declared.change_stream.ChangeStreamData.{ChangeStreamData}
 use Rattle.mg_cursor.specs.View.{client_of, current_of}
-use Rattle.mg_change.specs.ClientStreams.{IsSaved, token_in}
-use Rattle.mg_change.specs.ClosingStreams.{IsSoundStream, closed_stream}
-use Rattle.mg_change.specs.StreamView.{changes_of, is_lent, known_at, token_at}
+use Rattle.mg_change.specs.ClientStreams.{IsSaved, token_known}
+use Rattle.mg_change.specs.ClosingStreams.{IsSoundClosing, closed_stream}
+use Rattle.mg_change.specs.StreamView.{changes_of, is_lent, known_at, token_lying}
 use Rattle.mg_change.specs.declared.changes.Changes.{Changes}
 use Rattle.mg_change.specs.declared.changes.TokenPlace.{TokenPlace}
 use Rattle.mg_change.proofs.Closed.{closed_sound}
@@ -17,7 +17,7 @@ saved_so : (o : ChangeStreamOptions) (r : Option ChangeStreamData) (at : TokenPl
 saved_so o None at event batch h = h
 saved_so o (Some known) at event batch h = h
 
-token_so : (s : Changes) → IsSaved s.aggregate.args.options (changes_of s).aggregate.resume → token_at s.token (token_in s.aggregate.resume) (current_of s.buffer) (client_of s.batches).token ≡ token_in (changes_of s).aggregate.resume
+token_so : (s : Changes) → IsSaved s.aggregate.args.options (changes_of s).aggregate.resume → token_lying s.token (token_known s.aggregate.resume) (current_of s.buffer) (client_of s.batches).token ≡ token_known (changes_of s).aggregate.resume
 token_so s h =
     let batch = (client_of s.batches).token in
     closed_token s.aggregate.args.options s.aggregate.resume s.token (current_of s.buffer) batch (saved_so s.aggregate.args.options s.aggregate.resume s.token (current_of s.buffer) batch h)
@@ -25,7 +25,7 @@ token_so s h =
 pub new-requires-clause-sound : goal.new-requires-clause-sound
 new-requires-clause-sound c =
     let s = c.args.self in
-    subst (λ (t : Option Tree). IsSoundStream (record (closed_stream (is_lent s.token) (changes_of s)) { token = t })) (sym (token_so s c.requires.sound.saved)) (closed_sound (is_lent s.token) (changes_of s) c.requires.sound)
+    subst (λ (t : Option Tree). IsSoundClosing (record (closed_stream (is_lent s.token) (changes_of s)) { token = t })) (sym (token_so s c.requires.sound.saved)) (closed_sound (is_lent s.token) (changes_of s) c.requires.sound)
 
 pub new-requires-clause-saves : goal.new-requires-clause-saves
 new-requires-clause-saves c = c.requires.placed.saves_so

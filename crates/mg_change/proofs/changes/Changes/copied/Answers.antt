@@ -4,7 +4,7 @@ use Rattle.std.proofs.lemmas.Result.{err_from_is_err_and}
 use Rattle.mg_bson.specs.Walks.{front_of}
 use Rattle.mg_cursor.specs.View.{behind_of}
 use Rattle.mg_change.specs.ClientStreams.{ClientStream, id_in}
-use Rattle.mg_change.specs.StreamCalls.{GivesEvent}
+use Rattle.mg_change.specs.StreamCalls.{AnswersEvent}
 use Rattle.mg_change.specs.StreamView.{changes_of}
 use Rattle.mg_change.proofs.Parts.{copy_given, has_one, owns_still}
 use Rattle.mg_change.proofs.changes.Changes.copied.Goals as goal
@@ -74,7 +74,7 @@ pub returns-clause-ok : goal.returns-clause-ok
 returns-clause-ok c =
     let gave = c.give.ensures.gives in
     copy_given (changes_of c.args.self.now) (changes_of c.own.new.self) (front_of (behind_of c.args.self.now.buffer)) gave.0 c.in_ok-copy.copy gave.2 c.in_ok-copy.ensures.ok
-    (subst (λ (s : ClientStream). GivesEvent (changes_of c.args.self.now) s gave.0) (sym c.own.ensures.same) gave.1)
+    (subst (λ (s : ClientStream). AnswersEvent (changes_of c.args.self.now) s gave.0) (sym c.own.ensures.same) gave.1)
 
 pub returns-clause-owned : goal.returns-clause-owned
 returns-clause-owned c = λ own. c.own.ensures.owned

@@ -1,7 +1,7 @@
 use Rattle.std.proofs.Common.{sym, ap, ◌∙◌, subst}
 use Rattle.mg_cursor.specs.View.{client_of, current_of}
-use Rattle.mg_change.specs.ClientStreams.{token_in}
-use Rattle.mg_change.specs.StreamView.{IsOwnPlace, is_lent, token_at}
+use Rattle.mg_change.specs.ClientStreams.{token_known}
+use Rattle.mg_change.specs.StreamView.{IsOwnPlace, is_lent, token_lying}
 use Rattle.mg_change.specs.declared.changes.TokenPlace.{TokenPlace}
 use Rattle.mg_change.proofs.Linking.{own_saved, placed_saved, saved_place}
 use Rattle.mg_change.proofs.changes.Changes.own.Goals as goal
@@ -9,7 +9,7 @@ use Rattle.mg_change.proofs.changes.Changes.own.Goals as goal
 pub save-requires : goal.save-requires
 save-requires c =
     let s = c.args.self.now in
-    c.requires.is (ap is_lent c.in-Event.is) ∙ sym (ap (λ (t : TokenPlace). token_at t (token_in s.aggregate.resume) (current_of s.buffer) (client_of s.batches).token) c.in-Event.is)
+    c.requires.is (ap is_lent c.in-Event.is) ∙ sym (ap (λ (t : TokenPlace). token_lying t (token_known s.aggregate.resume) (current_of s.buffer) (client_of s.batches).token) c.in-Event.is)
 
 pub returns-in-Saved-clause-placed : goal.returns-in-Saved-clause-placed
 returns-in-Saved-clause-placed c = c.requires.placed

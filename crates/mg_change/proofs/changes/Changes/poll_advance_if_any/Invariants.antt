@@ -1,7 +1,7 @@
 use Rattle.std.proofs.Common.{◌≡◌, ℕ, None, false}
 use Rattle.mg_link.specs.Moment.{LinkKeeps, finished, moment}
 use Rattle.mg_cursor.specs.Seeking.{times}
-use Rattle.mg_change.specs.ClientStreams.{let_go, stream_ticket}
+use Rattle.mg_change.specs.ClientStreams.{lends_nothing, stream_ticket}
 use Rattle.mg_change.specs.StreamCalls.{steps_left}
 use Rattle.mg_change.specs.StreamView.{IsStream, changes_of, doing_of}
 use Rattle.mg_change.proofs.Calls.{Went}
@@ -15,7 +15,7 @@ invariant-steps g l = record {
   stream : IsStream false l.self;
   given : (changes_of l.self).current ≡ None;
   went : (starts : ℕ) × (l.handle ≡ times starts g.H.ClientSessionHandle.told l.fn.handle)
-      × Went (g.L.Link.awaited l.fn.link) (g.L.Link.awaited l.link) (g.L.Link.log l.fn.link) (g.L.Link.log l.link) (g.L.Link.wire l.fn.link) (g.H.ClientSessionHandle.asked l.fn.handle) (g.H.ClientSessionHandle.asked l.handle) starts (let_go (changes_of l.fn.self)) (changes_of l.self);
+      × Went (g.L.Link.awaited l.fn.link) (g.L.Link.awaited l.link) (g.L.Link.log l.fn.link) (g.L.Link.log l.link) (g.L.Link.wire l.fn.link) (g.H.ClientSessionHandle.asked l.fn.handle) (g.H.ClientSessionHandle.asked l.handle) starts (lends_nothing (changes_of l.fn.self)) (changes_of l.self);
 }
 
 abbrev pub decreases-steps : goal.decreases-steps

@@ -4,9 +4,9 @@ use Rattle.mg_link.proofs.Moments.{keeps_on, keeps_same}
 use Rattle.mg_cursor.specs.Client.{rests}
 use Rattle.mg_cursor.specs.Seeking.{one_if, times}
 use Rattle.mg_cursor.proofs.Sought.{asked_on, times_on}
-use Rattle.mg_change.specs.ClientStreams.{ClientStream, is_renewed, let_go, stream_ticket}
+use Rattle.mg_change.specs.ClientStreams.{ClientStream, is_renewed, lends_nothing, stream_ticket}
 use Rattle.mg_change.specs.Steps.{DoesStep}
-use Rattle.mg_change.specs.StreamCalls.{EndsBehind, EndsSeeking, MayEnd, event_ending, kept_behind, step_ending}
+use Rattle.mg_change.specs.StreamCalls.{EndsBehind, EndsSeeking, MayEnd, event_ending, kept_behind, stepped_ending}
 use Rattle.mg_change.specs.StreamView.{IsOwnPlace, changes_of}
 use Rattle.mg_change.specs.declared.changes.Changes.{Changes}
 use Rattle.mg_change.specs.declared.event_poll.EventPoll.{EventPoll}
@@ -27,7 +27,7 @@ steps-init g c =
       stream = lends_none false c.args.self.now c.requires.sound;
       given = refl;
       owned = λ own. own;
-      went = (0, refl, part_begins (g.L.Link.awaited link) (g.L.Link.log link) (g.L.Link.wire link) (g.H.ClientSessionHandle.asked c.args.handle.now) (let_go (changes_of c.args.self.now)));
+      went = (0, refl, part_begins (g.L.Link.awaited link) (g.L.Link.log link) (g.L.Link.wire link) (g.H.ClientSessionHandle.asked c.args.handle.now) (lends_nothing (changes_of c.args.self.now)));
     }
 
 pub step-stepped-requires-clause-held : goal.step-stepped-requires-clause-held
@@ -70,7 +70,7 @@ steps-preserved g c =
       went = (
         so.went.0 + one_if did.0,
         did.2 ∙ ap (times (one_if did.0) told) so.went.1 ∙ times_on so.went.0 (one_if did.0) told c.args.handle.now,
-        part_by (g.L.Link.awaited link) (g.L.Link.awaited mid) (g.L.Link.awaited later) (g.L.Link.log link) (g.L.Link.log mid) (g.L.Link.log later) (g.L.Link.wire link) (asked c.args.handle.now) (asked c.steps.handle) (asked c.step-stepped.new.handle) so.went.0 did.0 (let_go (changes_of c.args.self.now)) before (ap asked did.2 ∙ asked_on asked told g.met.H.ClientSessionHandle.moves did.0 c.steps.handle) so.went.2 left now came
+        part_by (g.L.Link.awaited link) (g.L.Link.awaited mid) (g.L.Link.awaited later) (g.L.Link.log link) (g.L.Link.log mid) (g.L.Link.log later) (g.L.Link.wire link) (asked c.args.handle.now) (asked c.steps.handle) (asked c.step-stepped.new.handle) so.went.0 did.0 (lends_nothing (changes_of c.args.self.now)) before (ap asked did.2 ∙ asked_on asked told g.met.H.ClientSessionHandle.moves did.0 c.steps.handle) so.went.2 left now came
             (subst (λ (w : ℤ). DoesStep (g.L.Link.awaited mid) (g.L.Link.awaited later) (g.L.Link.log mid) (g.L.Link.log later) w (asked c.steps.handle) did.0 before left came) so.keeps.later.wire did.1) here,
       );
     }
@@ -105,7 +105,7 @@ steps-preserved-else-not-seeks_on-2 g c =
       went = (
         so.went.0 + one_if did.0,
         did.2 ∙ ap (times (one_if did.0) told) so.went.1 ∙ times_on so.went.0 (one_if did.0) told c.args.handle.now,
-        part_by (g.L.Link.awaited link) (g.L.Link.awaited mid) (g.L.Link.awaited later) (g.L.Link.log link) (g.L.Link.log mid) (g.L.Link.log later) (g.L.Link.wire link) (asked c.args.handle.now) (asked c.steps.handle) (asked c.step-stepped.new.handle) so.went.0 did.0 (let_go (changes_of c.args.self.now)) before (ap asked did.2 ∙ asked_on asked told g.met.H.ClientSessionHandle.moves did.0 c.steps.handle) so.went.2 left now came
+        part_by (g.L.Link.awaited link) (g.L.Link.awaited mid) (g.L.Link.awaited later) (g.L.Link.log link) (g.L.Link.log mid) (g.L.Link.log later) (g.L.Link.wire link) (asked c.args.handle.now) (asked c.steps.handle) (asked c.step-stepped.new.handle) so.went.0 did.0 (lends_nothing (changes_of c.args.self.now)) before (ap asked did.2 ∙ asked_on asked told g.met.H.ClientSessionHandle.moves did.0 c.steps.handle) so.went.2 left now came
             (subst (λ (w : ℤ). DoesStep (g.L.Link.awaited mid) (g.L.Link.awaited later) (g.L.Link.log mid) (g.L.Link.log later) w (asked c.steps.handle) did.0 before left came) so.keeps.later.wire did.1) here,
       );
     }
@@ -212,7 +212,7 @@ returns-then-not-seeks_on-clause-keeps g c =
     let ends_here = subst (EndsSeeking (is_renewed before.doing) came left ended) (sym poll_is) ends_so in
     let kept = subst (λ (x : EventPoll). changes_of c.end_call.new.self ≡ kept_behind (event_ending x) ended) (sym poll_is) c.end_call.ensures.kept in
     sought_keeps m o (stream_ticket (changes_of c.args.self.now)) (is_renewed before.doing) left ended (changes_of c.end_call.new.self) came c.end_call.result
-    (keeps_on m n o (stream_ticket (changes_of c.args.self.now)) (stream_ticket before) (stream_ticket left) finished (step_ending came) so.keeps so.keeps.pended c.step-stepped.ensures.keeps) ends_here kept
+    (keeps_on m n o (stream_ticket (changes_of c.args.self.now)) (stream_ticket before) (stream_ticket left) finished (stepped_ending came) so.keeps so.keeps.pended c.step-stepped.ensures.keeps) ends_here kept
 
 pub returns-then-not-seeks_on-clause-does : goal.returns-then-not-seeks_on-clause-does
 returns-then-not-seeks_on-clause-does g c =
@@ -237,7 +237,7 @@ returns-then-not-seeks_on-clause-does g c =
     let ends_so = ends_by (is_renewed before.doing) came left ended c.end_seeking-poll.result stop.1 leaves (subst (λ (x : ClientStream). EndsBehind came x ended c.end_seeking-poll.result) stop.0 c.end_seeking-poll.ensures.ends) in
     let ends_here = subst (EndsSeeking (is_renewed before.doing) came left ended) (sym poll_is) ends_so in
     let kept = subst (λ (x : EventPoll). changes_of c.end_call.new.self ≡ kept_behind (event_ending x) ended) (sym poll_is) c.end_call.ensures.kept in
-    let x = part_over (g.L.Link.awaited link) (g.L.Link.awaited mid) (g.L.Link.awaited later) (g.L.Link.log link) (g.L.Link.log mid) (g.L.Link.log later) (g.L.Link.wire link) (asked c.args.handle.now) (asked c.steps.handle) (asked c.step-stepped.new.handle) so.went.0 did.0 (let_go (changes_of c.args.self.now)) before (ap asked did.2 ∙ asked_on asked told g.met.H.ClientSessionHandle.moves did.0 c.steps.handle) so.went.2 left ended (changes_of c.end_call.new.self) came c.end_call.result
+    let x = part_over (g.L.Link.awaited link) (g.L.Link.awaited mid) (g.L.Link.awaited later) (g.L.Link.log link) (g.L.Link.log mid) (g.L.Link.log later) (g.L.Link.wire link) (asked c.args.handle.now) (asked c.steps.handle) (asked c.step-stepped.new.handle) so.went.0 did.0 (lends_nothing (changes_of c.args.self.now)) before (ap asked did.2 ∙ asked_on asked told g.met.H.ClientSessionHandle.moves did.0 c.steps.handle) so.went.2 left ended (changes_of c.end_call.new.self) came c.end_call.result
     (subst (λ (w : ℤ). DoesStep (g.L.Link.awaited mid) (g.L.Link.awaited later) (g.L.Link.log mid) (g.L.Link.log later) w (asked c.steps.handle) did.0 before left came) so.keeps.later.wire did.1) (last_by (is_renewed before.doing) came left stop.1) ends_here kept in
     (x.0, so.went.0 + one_if did.0, x.1, did.2 ∙ ap (times (one_if did.0) told) so.went.1 ∙ times_on so.went.0 (one_if did.0) told c.args.handle.now)
 
@@ -245,7 +245,7 @@ pub returns-then-not-seeks_on-clause-sound : goal.returns-then-not-seeks_on-clau
 returns-then-not-seeks_on-clause-sound g c = λ plain sound plainly.
     let d = returns-then-not-seeks_on-clause-does g c in
     record {
-      sound = (seeks_so d.0 plain (g.L.Link.awaited c.args.link.now) (g.L.Link.awaited c.step-stepped.new.link) (g.L.Link.log c.args.link.now) (g.L.Link.log c.step-stepped.new.link) (g.L.Link.wire c.args.link.now) (g.H.ClientSessionHandle.asked c.args.handle.now) d.1 (let_go (changes_of c.args.self.now)) (changes_of c.end_call.new.self) c.end_call.result (lends_none plain c.args.self.now sound).sound refl plainly d.2).sound;
+      sound = (seeks_so d.0 plain (g.L.Link.awaited c.args.link.now) (g.L.Link.awaited c.step-stepped.new.link) (g.L.Link.log c.args.link.now) (g.L.Link.log c.step-stepped.new.link) (g.L.Link.wire c.args.link.now) (g.H.ClientSessionHandle.asked c.args.handle.now) d.1 (lends_nothing (changes_of c.args.self.now)) (changes_of c.end_call.new.self) c.end_call.result (lends_none plain c.args.self.now sound).sound refl plainly d.2).sound;
       placed = placed_counting c.end_seeking-poll.new.self c.end_call.new.self c.end_call.ensures.rest c.end_seeking-poll.ensures.placed;
     }
 
@@ -257,17 +257,17 @@ returns-then-not-seeks_on-clause-owned g c = λ own.
 pub returns-then-not-seeks_on-clause-leaves : goal.returns-then-not-seeks_on-clause-leaves
 returns-then-not-seeks_on-clause-leaves g c =
     let d = returns-then-not-seeks_on-clause-does g c in
-    (seeks_so d.0 false (g.L.Link.awaited c.args.link.now) (g.L.Link.awaited c.step-stepped.new.link) (g.L.Link.log c.args.link.now) (g.L.Link.log c.step-stepped.new.link) (g.L.Link.wire c.args.link.now) (g.H.ClientSessionHandle.asked c.args.handle.now) d.1 (let_go (changes_of c.args.self.now)) (changes_of c.end_call.new.self) c.end_call.result (lends_none false c.args.self.now c.requires.sound).sound refl tt d.2).leaves
+    (seeks_so d.0 false (g.L.Link.awaited c.args.link.now) (g.L.Link.awaited c.step-stepped.new.link) (g.L.Link.log c.args.link.now) (g.L.Link.log c.step-stepped.new.link) (g.L.Link.wire c.args.link.now) (g.H.ClientSessionHandle.asked c.args.handle.now) d.1 (lends_nothing (changes_of c.args.self.now)) (changes_of c.end_call.new.self) c.end_call.result (lends_none false c.args.self.now c.requires.sound).sound refl tt d.2).leaves
 
 pub returns-then-not-seeks_on-clause-moved : goal.returns-then-not-seeks_on-clause-moved
 returns-then-not-seeks_on-clause-moved g c =
     let d = returns-then-not-seeks_on-clause-does g c in
-    (seeks_so d.0 false (g.L.Link.awaited c.args.link.now) (g.L.Link.awaited c.step-stepped.new.link) (g.L.Link.log c.args.link.now) (g.L.Link.log c.step-stepped.new.link) (g.L.Link.wire c.args.link.now) (g.H.ClientSessionHandle.asked c.args.handle.now) d.1 (let_go (changes_of c.args.self.now)) (changes_of c.end_call.new.self) c.end_call.result (lends_none false c.args.self.now c.requires.sound).sound refl tt d.2).moves
+    (seeks_so d.0 false (g.L.Link.awaited c.args.link.now) (g.L.Link.awaited c.step-stepped.new.link) (g.L.Link.log c.args.link.now) (g.L.Link.log c.step-stepped.new.link) (g.L.Link.wire c.args.link.now) (g.H.ClientSessionHandle.asked c.args.handle.now) d.1 (lends_nothing (changes_of c.args.self.now)) (changes_of c.end_call.new.self) c.end_call.result (lends_none false c.args.self.now c.requires.sound).sound refl tt d.2).moves
 
 pub returns-then-not-seeks_on-clause-sent : goal.returns-then-not-seeks_on-clause-sent
 returns-then-not-seeks_on-clause-sent g c =
     let d = returns-then-not-seeks_on-clause-does g c in
-    seeks_sent d.0 false (g.L.Link.awaited c.args.link.now) (g.L.Link.awaited c.step-stepped.new.link) (g.L.Link.log c.args.link.now) (g.L.Link.log c.step-stepped.new.link) (g.L.Link.wire c.args.link.now) (g.H.ClientSessionHandle.asked c.args.handle.now) d.1 (let_go (changes_of c.args.self.now)) (changes_of c.end_call.new.self) c.end_call.result (lends_none false c.args.self.now c.requires.sound).sound d.2
+    seeks_sent d.0 false (g.L.Link.awaited c.args.link.now) (g.L.Link.awaited c.step-stepped.new.link) (g.L.Link.log c.args.link.now) (g.L.Link.log c.step-stepped.new.link) (g.L.Link.wire c.args.link.now) (g.H.ClientSessionHandle.asked c.args.handle.now) d.1 (lends_nothing (changes_of c.args.self.now)) (changes_of c.end_call.new.self) c.end_call.result (lends_none false c.args.self.now c.requires.sound).sound d.2
 
 pub returns-then-not-seeks_on-clause-caused : goal.returns-then-not-seeks_on-clause-caused
 returns-then-not-seeks_on-clause-caused g c =

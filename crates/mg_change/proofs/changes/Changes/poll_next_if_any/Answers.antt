@@ -3,7 +3,7 @@ use Rattle.mg_link.specs.Moment.{finished, moment}
 use Rattle.mg_link.proofs.Moments.{keeps_on, keeps_same}
 use Rattle.mg_cursor.specs.Seeking.{one_if, times}
 use Rattle.mg_cursor.proofs.Sought.{asked_on, times_on}
-use Rattle.mg_change.specs.ClientStreams.{is_renewed, let_go, stream_ticket}
+use Rattle.mg_change.specs.ClientStreams.{is_renewed, lends_nothing, stream_ticket}
 use Rattle.mg_change.specs.Steps.{DoesStep}
 use Rattle.mg_change.specs.StreamCalls.{CopiesBehind, event_ending, kept_behind}
 use Rattle.mg_change.specs.StreamView.{IsOwnPlace, changes_of}
@@ -25,7 +25,7 @@ steps-init g c =
       stream = lends_none false c.args.self.now c.requires.sound;
       given = refl;
       owned = λ own. own;
-      went = (0, refl, went_none (g.L.Link.awaited link) (g.L.Link.log link) (g.L.Link.wire link) (g.H.ClientSessionHandle.asked c.args.handle.now) (let_go (changes_of c.args.self.now)));
+      went = (0, refl, went_none (g.L.Link.awaited link) (g.L.Link.log link) (g.L.Link.wire link) (g.H.ClientSessionHandle.asked c.args.handle.now) (lends_nothing (changes_of c.args.self.now)));
     }
 
 pub step-requires-clause-held : goal.step-requires-clause-held
@@ -64,7 +64,7 @@ steps-preserved g c =
         so.went.0 + one_if did.0,
         did.2 ∙ ap (times (one_if did.0) told) so.went.1 ∙ times_on so.went.0 (one_if did.0) told c.args.handle.now,
         went_on (g.L.Link.awaited link) (g.L.Link.awaited mid) (g.L.Link.awaited later) (g.L.Link.log link) (g.L.Link.log mid) (g.L.Link.log later) (g.L.Link.wire link) (asked c.args.handle.now) (asked c.steps.handle) (asked c.step.new.handle) so.went.0 did.0
-            (let_go (changes_of c.args.self.now)) (changes_of c.steps.self) (changes_of c.step.new.self) (ap asked did.2 ∙ asked_on asked told g.met.H.ClientSessionHandle.moves did.0 c.steps.handle) so.went.2
+            (lends_nothing (changes_of c.args.self.now)) (changes_of c.steps.self) (changes_of c.step.new.self) (ap asked did.2 ∙ asked_on asked told g.met.H.ClientSessionHandle.moves did.0 c.steps.handle) so.went.2
             (subst (λ (w : ℤ). DoesStep (g.L.Link.awaited mid) (g.L.Link.awaited later) (g.L.Link.log mid) (g.L.Link.log later) w (asked c.steps.handle) did.0 (changes_of c.steps.self) (changes_of c.step.new.self) stepped.Goes) so.keeps.later.wire did.1),
       );
     }
@@ -119,7 +119,7 @@ returns-in-Found-clause-does g c =
     let n = moment (g.L.Link.awaited mid) (g.L.Link.log mid) (g.L.Link.faults mid) (g.L.Link.pends mid) (g.L.Link.wire mid) (g.L.Link.prompt mid) in
     let o = moment (g.L.Link.awaited later) (g.L.Link.log later) (g.L.Link.faults later) (g.L.Link.pends later) (g.L.Link.wire later) (g.L.Link.prompt later) in
     let did = c.in-Found.ensures.does in
-    let last = went_last (g.L.Link.awaited link) (g.L.Link.awaited mid) (g.L.Link.awaited later) (g.L.Link.log link) (g.L.Link.log mid) (g.L.Link.log later) (g.L.Link.wire link) (asked c.args.handle.now) (asked c.steps.handle) so.went.0 did.0 (let_go (changes_of c.args.self.now)) (changes_of c.steps.self) (changes_of c.step.new.self) stepped.Found so.went.2
+    let last = went_last (g.L.Link.awaited link) (g.L.Link.awaited mid) (g.L.Link.awaited later) (g.L.Link.log link) (g.L.Link.log mid) (g.L.Link.log later) (g.L.Link.wire link) (asked c.args.handle.now) (asked c.steps.handle) so.went.0 did.0 (lends_nothing (changes_of c.args.self.now)) (changes_of c.steps.self) (changes_of c.step.new.self) stepped.Found so.went.2
     (subst (λ (w : ℤ). DoesStep (g.L.Link.awaited mid) (g.L.Link.awaited later) (g.L.Link.log mid) (g.L.Link.log later) w (asked c.steps.handle) did.0 (changes_of c.steps.self) (changes_of c.step.new.self) stepped.Found) so.keeps.later.wire did.1) tt in (
       last.0,
       so.went.0 + one_if did.0,
@@ -195,7 +195,7 @@ returns-in-Gives-clause-does g c =
     let n = moment (g.L.Link.awaited mid) (g.L.Link.log mid) (g.L.Link.faults mid) (g.L.Link.pends mid) (g.L.Link.wire mid) (g.L.Link.prompt mid) in
     let o = moment (g.L.Link.awaited later) (g.L.Link.log later) (g.L.Link.faults later) (g.L.Link.pends later) (g.L.Link.wire later) (g.L.Link.prompt later) in
     let did = c.in-Gives.ensures.does in
-    let last = went_last (g.L.Link.awaited link) (g.L.Link.awaited mid) (g.L.Link.awaited later) (g.L.Link.log link) (g.L.Link.log mid) (g.L.Link.log later) (g.L.Link.wire link) (asked c.args.handle.now) (asked c.steps.handle) so.went.0 did.0 (let_go (changes_of c.args.self.now)) (changes_of c.steps.self) (changes_of c.step.new.self) (stepped.Gives c.in-Gives.poll) so.went.2
+    let last = went_last (g.L.Link.awaited link) (g.L.Link.awaited mid) (g.L.Link.awaited later) (g.L.Link.log link) (g.L.Link.log mid) (g.L.Link.log later) (g.L.Link.wire link) (asked c.args.handle.now) (asked c.steps.handle) so.went.0 did.0 (lends_nothing (changes_of c.args.self.now)) (changes_of c.steps.self) (changes_of c.step.new.self) (stepped.Gives c.in-Gives.poll) so.went.2
     (subst (λ (w : ℤ). DoesStep (g.L.Link.awaited mid) (g.L.Link.awaited later) (g.L.Link.log mid) (g.L.Link.log later) w (asked c.steps.handle) did.0 (changes_of c.steps.self) (changes_of c.step.new.self) (stepped.Gives c.in-Gives.poll)) so.keeps.later.wire did.1) tt in (
       last.0,
       so.went.0 + one_if did.0,

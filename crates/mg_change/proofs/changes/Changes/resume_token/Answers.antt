@@ -1,7 +1,7 @@
 use Rattle.std.proofs.Common.{Option, option_map, sym, ap, ◌∙◌}
 use Rattle.mg_ops.specs.declared.change_stream.ChangeStreamData.{ChangeStreamData}
 use Rattle.mg_cursor.specs.View.{client_of, current_of}
-use Rattle.mg_change.specs.ClientStreams.{token_in}
+use Rattle.mg_change.specs.ClientStreams.{token_known}
 use Rattle.mg_change.specs.StreamView.{known_at}
 use Rattle.mg_change.proofs.Parts.{token_cached}
 use Rattle.mg_change.proofs.changes.Changes.resume_token.Goals as goal
@@ -14,4 +14,4 @@ returns-in-Some c =
 pub returns-in-None : goal.returns-in-None
 returns-in-None c =
     let s = c.args.self.now in
-    sym (ap (λ (o : Option ChangeStreamData). token_in (option_map (known_at s.token (current_of s.buffer) (client_of s.batches).token) o)) c.in-None.is)
+    sym (ap (λ (o : Option ChangeStreamData). token_known (option_map (known_at s.token (current_of s.buffer) (client_of s.batches).token) o)) c.in-None.is)

@@ -2,7 +2,7 @@ use Rattle.std.proofs.Common.{sym, ap, subst}
 use Rattle.mg_link.specs.Acts.{IsOut}
 use Rattle.mg_cursor.proofs.Hearing.{keeps_from}
 use Rattle.mg_cursor.proofs.Killing.{at_once_step, lost_step, pended_step}
-use Rattle.mg_change.specs.ClosingStreams.{ClosesStream, ClosingStream, IsSoundStream, stream_closing_ticket}
+use Rattle.mg_change.specs.ClosingStreams.{ClosesStream, ClosingStream, IsSoundClosing, stream_closing_ticket}
 use Rattle.mg_change.proofs.Closed.{closes_for, closes_moved}
 use Rattle.mg_change.proofs.ClosingCauses.{closing_caused}
 use Rattle.mg_change.proofs.closing.ClosingAction.poll.Goals as goal
@@ -41,14 +41,14 @@ returns-clause-closes g c =
 pub returns-clause-caused : goal.returns-clause-caused
 returns-clause-caused g c =
     closing_caused (g.L.Link.awaited c.args.link.now) (g.L.Link.awaited c.go_on.new.link) (g.L.Link.log c.args.link.now) (g.L.Link.log c.go_on.new.link) (g.L.Link.wire c.args.link.now) c.args.self c.go_on.result
-    (subst IsSoundStream c.self.view_is c.self.invariant.sound) (returns-clause-closes g c)
+    (subst IsSoundClosing c.self.view_is c.self.invariant.sound) (returns-clause-closes g c)
 
 -- ---- where its stream is
 
 pub returns-clause-moved : goal.returns-clause-moved
 returns-clause-moved g c = λ w start token is_for opened answered.
     closes_moved w start token opened answered (g.L.Link.awaited c.args.link.now) (g.L.Link.awaited c.go_on.new.link) (g.L.Link.log c.args.link.now) (g.L.Link.log c.go_on.new.link) (g.L.Link.wire c.args.link.now) c.args.self c.go_on.result
-    (subst IsSoundStream c.self.view_is c.self.invariant.sound) is_for (returns-clause-closes g c)
+    (subst IsSoundClosing c.self.view_is c.self.invariant.sound) is_for (returns-clause-closes g c)
 
 pub returns-clause-lands_for : goal.returns-clause-lands_for
 returns-clause-lands_for g c = λ w start token is_for.

@@ -1,21 +1,21 @@
 use Rattle.std.proofs.Common.{sym, ap, ◌∙◌}
 use Rattle.mg_cursor.specs.View.{client_of, current_of}
-use Rattle.mg_change.specs.ClientStreams.{token_in}
-use Rattle.mg_change.specs.StreamView.{token_at}
+use Rattle.mg_change.specs.ClientStreams.{token_known}
+use Rattle.mg_change.specs.StreamView.{token_lying}
 use Rattle.mg_change.specs.declared.changes.TokenPlace.{TokenPlace}
 use Rattle.mg_change.proofs.closing.Remains.known_token.Goals as goal
 
 pub returns-in-Saved : goal.returns-in-Saved
 returns-in-Saved c =
     let r = c.args.self.now in
-    c.saved_token.ensures ∙ sym (ap (λ (t : TokenPlace). token_at t (token_in r.aggregate.resume) (current_of r.buffer) (client_of r.batches).token) c.in-Saved.is)
+    c.saved_token.ensures ∙ sym (ap (λ (t : TokenPlace). token_lying t (token_known r.aggregate.resume) (current_of r.buffer) (client_of r.batches).token) c.in-Saved.is)
 
 pub returns-in-Event : goal.returns-in-Event
 returns-in-Event c =
     let r = c.args.self.now in
-    c.event_token.ensures ∙ sym (ap (λ (t : TokenPlace). token_at t (token_in r.aggregate.resume) (current_of r.buffer) (client_of r.batches).token) c.in-Event.is)
+    c.event_token.ensures ∙ sym (ap (λ (t : TokenPlace). token_lying t (token_known r.aggregate.resume) (current_of r.buffer) (client_of r.batches).token) c.in-Event.is)
 
 pub returns-in-Batch : goal.returns-in-Batch
 returns-in-Batch c =
     let r = c.args.self.now in
-    c.token.ensures ∙ sym (ap (λ (t : TokenPlace). token_at t (token_in r.aggregate.resume) (current_of r.buffer) (client_of r.batches).token) c.in-Batch.is)
+    c.token.ensures ∙ sym (ap (λ (t : TokenPlace). token_lying t (token_known r.aggregate.resume) (current_of r.buffer) (client_of r.batches).token) c.in-Batch.is)

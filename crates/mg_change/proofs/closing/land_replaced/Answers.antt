@@ -7,7 +7,7 @@ use Rattle.mg_change.specs.ClosingStreams.{lands, lands_closing}
 use Rattle.mg_change.specs.ClosingView.{closing_in}
 use Rattle.mg_change.proofs.Keeping.{closing_pends}
 use Rattle.mg_change.proofs.Remaining.{keeps_then, kills_at, passes_at}
-use Rattle.mg_change.proofs.closing.land_older.Goals as goal
+use Rattle.mg_change.proofs.closing.land_replaced.Goals as goal
 
 -- ---- it pends still
 
