@@ -3,7 +3,7 @@ use Rattle.std.proofs.Common.{◌≡◌, ℕ, List, [], ◌∷◌, ◌++◌, Opt
 use Rattle.mg_bson.specs.Tree.{Fields}
 use Rattle.mg_bson.specs.Raw.{fields}
 use Rattle.mg_link.specs.Follow.{Moved}
-use Rattle.mg_link.specs.Link.{Awaited, Told}
+use Rattle.mg_link.specs.Link.{Awaited, LogTold}
 use Rattle.mg_link.proofs.Answering.{follows_on, knows_new}
 use Rattle.mg_link.proofs.Moves.{moved, stayed}
 use Rattle.mg_ops.specs.declared.change_stream.WatchArgs.{WatchArgs}
@@ -13,7 +13,7 @@ use Rattle.mg_change.proofs.Resting.{between_forgets}
 use Rattle.example_follower.specs.Follower.{Answers, Opens, Reports, ReportsAll, lines_of, line_of, popped_told}
 
 -- nothing was polled, and nothing answered
-pub answers_none : (awaited : Awaited) (log : Told) (s : ClientStream) → Answers awaited awaited log log s s []
+pub answers_none : (awaited : Awaited) (log : LogTold) (s : ClientStream) → Answers awaited awaited log log s s []
 answers_none awaited log s =
     record {
       args = refl;
@@ -23,7 +23,7 @@ answers_none awaited log s =
     }
 
 -- answers behind answers
-pub answers_on : (old mid new : Awaited) (log between log' : Told) (s t s' : ClientStream) (told more : List Fields) → Answers old mid log between s t told → Answers mid new between log' t s' more → Answers old new log log' s s' (told ++ more)
+pub answers_on : (old mid new : Awaited) (log between log' : LogTold) (s t s' : ClientStream) (told more : List Fields) → Answers old mid log between s t told → Answers mid new between log' t s' more → Answers old new log log' s s' (told ++ more)
 answers_on old mid new log between log' s t s' told more a b =
     record {
       args = b.args ∙ a.args;
@@ -41,11 +41,11 @@ lines_join (e ∷ es) fs = ap (λ (l : List ℕ). line_of e ++ l) (lines_join es
 
 -- ---- the report, event by event
 
-pub reports_none : (awaited : Awaited) (log : Told) (s : ClientStream) (report : List ℕ) → Reports awaited awaited log log s s report report
+pub reports_none : (awaited : Awaited) (log : LogTold) (s : ClientStream) (report : List ℕ) → Reports awaited awaited log log s s report report
 reports_none awaited log s report = record { events = []; answered = answers_none awaited log s; lines = sym (append-nil report) }
 
 -- an event was answered, and its line added
-pub reports_one : (old mid new : Awaited) (log between log' : Told) (s t s' : ClientStream) (report here report' : List ℕ) (given : Option (List ℕ)) (event : List ℕ)
+pub reports_one : (old mid new : Awaited) (log between log' : LogTold) (s t s' : ClientStream) (report here report' : List ℕ) (given : Option (List ℕ)) (event : List ℕ)
     → Reports old mid log between s t report here → Answers mid new between log' t s' (popped_told (Ok given)) → given ≡ Some event → report' ≡ here ++ line_of (fields event) → Reports old new log log' s s' report report'
 reports_one old mid new log between log' s t s' report here report' given event r turned is added =
     let line : List ℕ = line_of (fields event) in
@@ -60,7 +60,7 @@ reports_one old mid new log between log' s t s' report here report' given event 
     }
 
 -- nothing more was there
-pub reports_end : (old mid new : Awaited) (log between log' : Told) (s t s' : ClientStream) (report here : List ℕ) (given : Option (List ℕ))
+pub reports_end : (old mid new : Awaited) (log between log' : LogTold) (s t s' : ClientStream) (report here : List ℕ) (given : Option (List ℕ))
     → Reports old mid log between s t report here → Answers mid new between log' t s' (popped_told (Ok given)) → given ≡ None → Reports old new log log' s s' report here
 reports_end old mid new log between log' s t s' report here given r turned is =
     record {
@@ -73,7 +73,7 @@ reports_end old mid new log between log' s t s' report here given r turned is =
 
 -- ---- what this comes to
 
-pub follows_all : (old new : Awaited) (log between log' : Told) (args : WatchArgs) (s s' : ClientStream) (report report' : List ℕ)
+pub follows_all : (old new : Awaited) (log between log' : LogTold) (args : WatchArgs) (s s' : ClientStream) (report report' : List ℕ)
     → Opens old log between args s → IsBetween s' → Reports old new between log' s s' report report' → ReportsAll log log' args s' report report'
 follows_all old new log between log' args s s' report report' opens rests r =
     record {

@@ -5,7 +5,7 @@ use Rattle.mg_bson.specs.Literal.{◌⇒◌⨾◌, empty}
 use Rattle.mg_bson.specs.Tree.{Tree, Fields}
 use Rattle.mg_link.specs.declared.error.Error.{Error}
 use Rattle.mg_link.specs.Follow.{FollowsOn, Moved}
-use Rattle.mg_link.specs.Link.{Awaited, Told}
+use Rattle.mg_link.specs.Link.{Awaited, LogTold}
 use Rattle.mg_link.specs.Log.{Call}
 use Rattle.mg_link.specs.State.{Start, Watch}
 use Rattle.mg_options.specs.Options.{no_options}
@@ -40,12 +40,12 @@ lines_of (event ∷ more) = line_of event ++ lines_of more
 -- ---- what a stream answered
 
 -- the stream was opened with these arguments, and has answered nothing
-pub record Opens (awaited : Awaited) (log log' : Told) (args : WatchArgs) (s : ClientStream) : Type 0 where
+pub record Opens (awaited : Awaited) (log log' : LogTold) (args : WatchArgs) (s : ClientStream) : Type 0 where
   pub args_are : s.aggregate.args ≡ args
   pub moved : (w : Watch) (start : Start) → Asks args w start → (opened : Option ℕ) × Moved log log' (not_open w start) (follow_of awaited w start s opened [])
 
 -- polls of the stream led it on, and it answered these events
-pub record Answers (old new : Awaited) (log log' : Told) (s s' : ClientStream) (told : List Fields) : Type 0 where
+pub record Answers (old new : Awaited) (log log' : LogTold) (s s' : ClientStream) (told : List Fields) : Type 0 where
   pub args : s'.aggregate.args ≡ s.aggregate.args
   pub moved : (w : Watch) (start : Start) → Asks s.aggregate.args w start → (opened : Option ℕ) (answered : List Fields) → Moved log log' (follow_of old w start s opened answered) (follow_of new w start s' opened (answered ++ told))
 
@@ -55,19 +55,19 @@ popped_told (Ok event) = event_told (poll.Ready event)
 popped_told (Err e) = []
 
 -- the stream answered events, and the report has just their lines more
-pub record Reports (old new : Awaited) (log log' : Told) (s s' : ClientStream) (report report' : List ℕ) : Type 0 where
+pub record Reports (old new : Awaited) (log log' : LogTold) (s s' : ClientStream) (report report' : List ℕ) : Type 0 where
   pub events : List Fields
   pub answered : Answers old new log log' s s' events
   pub lines : report' ≡ report ++ lines_of events
 
 -- Where the link tells its log: in every legal history in which that stands, the events are the first that the watch shows from its opening place
 -- on, each once and in order, just up to the place that the stream's token names.
-abbrev pub Followed : Told → Told → WatchArgs → ClientStream → List Fields → Type 0
+abbrev pub Followed : LogTold → LogTold → WatchArgs → ClientStream → List Fields → Type 0
 Followed log log' args s events = (w : Watch) (start : Start) → Asks args w start → (calls : List Call) → log ≡ Some calls
     → (calls' : List Call) × (log' ≡ Some calls') × (opened : Option ℕ) × FollowsOn calls' (idle_by w start opened s.cursor.id (stream_token s) events)
 
 -- a new stream followed, and the report has just the lines of its events more
-pub record ReportsAll (log log' : Told) (args : WatchArgs) (s : ClientStream) (report report' : List ℕ) : Type 0 where
+pub record ReportsAll (log log' : LogTold) (args : WatchArgs) (s : ClientStream) (report report' : List ℕ) : Type 0 where
   pub events : List Fields
   pub followed : Followed log log' args s events
   pub lines : report' ≡ report ++ lines_of events

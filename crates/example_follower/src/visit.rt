@@ -3,7 +3,7 @@ ghost use Rattle.std.specs.Prelude.{◌≡◌, ◌++◌, IfOk, OnOk, option_and_
 ghost use Rattle.mg_bson.specs.Find.{as_document, as_string, get};
 ghost use Rattle.mg_bson.specs.Raw.{fields};
 ghost use Rattle.mg_link.specs.Acts.{IsOut};
-ghost use Rattle.mg_link.specs.Link.{Told};
+ghost use Rattle.mg_link.specs.Link.{LogTold};
 ghost use Rattle.mg_ops.specs.declared.change_stream.WatchArgs.{WatchArgs};
 ghost use Rattle.mg_change.specs.ClientStreams.{IsBetween, stream_ticket};
 ghost use Rattle.mg_change.specs.StreamView.{IsPlainStream, stream_of};
@@ -71,7 +71,7 @@ fn tell_all<L: Link>(
     ensures rests { OnOk result (IsBetween (stream_of stream.new)) }
     ensures reports { OnOk result (Reports (L.awaited link.old) (L.awaited link.new) (L.log link.old) (L.log link.new) (stream_of stream.old) (stream_of stream.new)
         (string_bytes report.old) (string_bytes report.new)) }
-    ensures follows { (log : Told) (args : WatchArgs) → Opens (L.awaited link.old) log (L.log link.old) args (stream_of stream.old)
+    ensures follows { (log : LogTold) (args : WatchArgs) → Opens (L.awaited link.old) log (L.log link.old) args (stream_of stream.old)
         → OnOk result (ReportsAll log (L.log link.new) args (stream_of stream.new) (string_bytes report.old) (string_bytes report.new)) }
 {
     'events: for _event in 0..EVENTS {

@@ -1,7 +1,7 @@
 -- What the polls of a call are caused by: its steps, joined.
 use Rattle.std.proofs.Common.{◌≡◌, ◌≤◌, ℕ, zero, suc, ℤ, Bool, true, false, List, length, Option, Some, None, refl, sym, ap, ◌∙◌, subst, inl, inr, arith}
 use Rattle.mg_link.specs.Calls.{Past, past_of}
-use Rattle.mg_link.specs.Link.{Awaited, Told}
+use Rattle.mg_link.specs.Link.{Awaited, LogTold}
 use Rattle.mg_link.specs.Log.{Call}
 use Rattle.mg_link.specs.Session.{Session}
 use Rattle.mg_link.specs.declared.error.Error.{Error}
@@ -26,14 +26,14 @@ use Rattle.mg_change.proofs.Keeping.{sound_any, sound_as, step_sound}
 
 -- ---- the steps of a call
 
-as_again : (new : Awaited) (places : List ℕ) (since : ℕ) (calls : List Call) (log' : Told) (wire : ℤ) (now : Option Session) (at : ClientStream) (a b : Bool) (s' : ClientStream) (r : Stepped) → a ≡ b → StepCalled new places since calls log' wire now at a s' r → StepCalled new places since calls log' wire now at b s' r
+as_again : (new : Awaited) (places : List ℕ) (since : ℕ) (calls : List Call) (log' : LogTold) (wire : ℤ) (now : Option Session) (at : ClientStream) (a b : Bool) (s' : ClientStream) (r : Stepped) → a ≡ b → StepCalled new places since calls log' wire now at a s' r → StepCalled new places since calls log' wire now at b s' r
 as_again new places since calls log' wire now at a b s' r is h = subst (λ (x : Bool). StepCalled new places since calls log' wire now at x s' r) is h
 
 none_after : (started : Bool) → session_after started None ≡ None
 none_after true = refl
 none_after false = refl
 
-pub steps_caused : (n : ℕ) (old new : Awaited) (log log' : Told) (wire : ℤ) (session now : Option Session) (starts : ℕ) (again : Bool) (at s s' : ClientStream) (r : Stepped) → IsSound false s → (s.doing ≡ follows → now ≡ session) → (now ≡ None → session ≡ None) → DoesSteps n old new log log' wire session starts again s s' r
+pub steps_caused : (n : ℕ) (old new : Awaited) (log log' : LogTold) (wire : ℤ) (session now : Option Session) (starts : ℕ) (again : Bool) (at s s' : ClientStream) (r : Stepped) → IsSound false s → (s.doing ≡ follows → now ≡ session) → (now ≡ None → session ≡ None) → DoesSteps n old new log log' wire session starts again s s' r
     → (places : List ℕ) (since : ℕ) (calls : List Call) → log ≡ Some calls → since ≤ length calls → SoFar old (past_of places since calls wire) (is_lone now) at s → StepCalled new places since calls log' wire now at again s' r
 unfolding DoesSteps
 steps_caused zero old new log log' wire session now starts again at s s' r sound first plainly h places since calls told room so =
@@ -183,12 +183,12 @@ go_by awaited past lone at s renewed h = record { old = h.old; bytes = h.bytes; 
 pub lets_go : (awaited : Awaited) (past : Past) (lone : Bool) (at s : ClientStream) → SoFar awaited past lone at s → SoFar awaited past lone at (lends_nothing s)
 lets_go awaited past lone at s so = record { same = so.same; by = go_by awaited past lone at s s.doing so.by }
 
-pub lends_caused : (n : ℕ) (plain : Bool) (old new : Awaited) (log log' : Told) (wire : ℤ) (session : Option Session) (starts : ℕ) (s s' : ClientStream) (r : TryPoll) → IsSound plain s → CallLends n old new log log' wire session starts s s' r → TryCaused old new log log' wire session s s' r
+pub lends_caused : (n : ℕ) (plain : Bool) (old new : Awaited) (log log' : LogTold) (wire : ℤ) (session : Option Session) (starts : ℕ) (s s' : ClientStream) (r : TryPoll) → IsSound plain s → CallLends n old new log log' wire session starts s s' r → TryCaused old new log log' wire session s s' r
 lends_caused n plain old new log log' wire session starts s s' r sound does = λ calls told places at so.
     let h = steps_caused n old new log log' wire session session starts does.again at (lends_nothing s) does.left does.came (sound_as false s (lends_nothing s) refl refl refl refl (sound_any plain s sound)) (λ on. refl) (λ none. none) does.does places (length calls) calls told (omega arith) (lets_go old (past_of places (length calls) calls wire) (is_lone session) at s so) in
     (h.calls', h.told, h.keeps, lends_by new (past_of places (length calls) h.calls' wire) session at does.left does.again does.came h.came does.lent s' r does.lends does.kept)
 
-pub copies_caused : (n : ℕ) (plain : Bool) (old new : Awaited) (log log' : Told) (wire : ℤ) (session : Option Session) (starts : ℕ) (s s' : ClientStream) (r : EventPoll) → IsSound plain s → CallCopies n old new log log' wire session starts s s' r → CallCaused old new log log' wire session s s' r
+pub copies_caused : (n : ℕ) (plain : Bool) (old new : Awaited) (log log' : LogTold) (wire : ℤ) (session : Option Session) (starts : ℕ) (s s' : ClientStream) (r : EventPoll) → IsSound plain s → CallCopies n old new log log' wire session starts s s' r → CallCaused old new log log' wire session s s' r
 copies_caused n plain old new log log' wire session starts s s' r sound does = λ calls told places at so.
     let h = steps_caused n old new log log' wire session session starts does.again at (lends_nothing s) does.left does.came (sound_as false s (lends_nothing s) refl refl refl refl (sound_any plain s sound)) (λ on. refl) (λ none. none) does.does places (length calls) calls told (omega arith) (lets_go old (past_of places (length calls) calls wire) (is_lone session) at s so) in
     (h.calls', h.told, h.keeps, copies_by new (past_of places (length calls) h.calls' wire) session at does.left does.again does.came h.came does.copied s' r does.copies does.kept)

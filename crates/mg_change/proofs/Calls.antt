@@ -3,7 +3,7 @@ use Rattle.std.proofs.Common.{◌≡◌, ◌+◌, ◌++◌, ℕ, zero, suc, ℤ,
 use Rattle.mg_bson.specs.Tree.{Fields}
 use Rattle.mg_link.specs.Exec.{Sending}
 use Rattle.mg_link.specs.Follow.{Moved}
-use Rattle.mg_link.specs.Link.{Awaited, Told}
+use Rattle.mg_link.specs.Link.{Awaited, LogTold}
 use Rattle.mg_link.specs.Moment.{Ending, failed, finished, pending}
 use Rattle.mg_link.specs.Session.{Session, after_command}
 use Rattle.mg_link.specs.State.{Start, Watch}
@@ -61,24 +61,24 @@ plain_told_often asked told moves plain n h h' is plainly = subst (PlainIf plain
 -- ---- steps so far
 
 -- A call came from one link, session and stream to others by steps behind which it goes on, and started so many commands: it does the steps that it does from there.
-pub record Went (old mid : Awaited) (log between : Told) (wire : ℤ) (session now : Option Session) (starts : ℕ) (s t : ClientStream) : Type 0 where
-  pub goes : (new : Awaited) (log' : Told) (n later : ℕ) (again : Bool) (s' : ClientStream) (r : Stepped) → DoesSteps n mid new between log' wire now later again t s' r → (steps : ℕ) × DoesSteps steps old new log log' wire session (starts + later) again s s' r
+pub record Went (old mid : Awaited) (log between : LogTold) (wire : ℤ) (session now : Option Session) (starts : ℕ) (s t : ClientStream) : Type 0 where
+  pub goes : (new : Awaited) (log' : LogTold) (n later : ℕ) (again : Bool) (s' : ClientStream) (r : Stepped) → DoesSteps n mid new between log' wire now later again t s' r → (steps : ℕ) × DoesSteps steps old new log log' wire session (starts + later) again s s' r
 
-pub went_none : (old : Awaited) (log : Told) (wire : ℤ) (session : Option Session) (s : ClientStream) → Went old old log log wire session session 0 s s
+pub went_none : (old : Awaited) (log : LogTold) (wire : ℤ) (session : Option Session) (s : ClientStream) → Went old old log log wire session session 0 s s
 went_none old log wire session s = record {
   goes = λ new log' n later again s' r h. (n, subst (λ (k : ℕ). DoesSteps n old new log log' wire session k again s s' r) (let e : later ≡ 0 + later = omega arith in e) h);
 }
 
-one_more : (n : ℕ) (old between new : Awaited) (log log_between log' : Told) (wire : ℤ) (session : Option Session) (started : Bool) (later : ℕ) (again : Bool) (s t s' : ClientStream) (r : Stepped) → DoesStep old between log log_between wire session started s t stepped.Goes → DoesSteps n between new log_between log' wire (session_after started session) later again t s' r
+one_more : (n : ℕ) (old between new : Awaited) (log log_between log' : LogTold) (wire : ℤ) (session : Option Session) (started : Bool) (later : ℕ) (again : Bool) (s t s' : ClientStream) (r : Stepped) → DoesStep old between log log_between wire session started s t stepped.Goes → DoesSteps n between new log_between log' wire (session_after started session) later again t s' r
     → DoesSteps (suc n) old new log log' wire session (one_if started + later) again s s' r
 unfolding DoesSteps
 one_more n old between new log log_between log' wire session started later again s t s' r does h = (between, log_between, started, later, t, does, refl, h)
 
-only_one : (old new : Awaited) (log log' : Told) (wire : ℤ) (session : Option Session) (starts : ℕ) (again : Bool) (s s' : ClientStream) (r : Stepped) → DoesLast old new log log' wire session starts again s s' r → DoesSteps zero old new log log' wire session starts again s s' r
+only_one : (old new : Awaited) (log log' : LogTold) (wire : ℤ) (session : Option Session) (starts : ℕ) (again : Bool) (s s' : ClientStream) (r : Stepped) → DoesLast old new log log' wire session starts again s s' r → DoesSteps zero old new log log' wire session starts again s s' r
 unfolding DoesSteps
 only_one old new log log' wire session starts again s s' r h = h
 
-pub went_on : (old mid between : Awaited) (log log_mid log_between : Told) (wire : ℤ) (session now now' : Option Session) (starts : ℕ) (started : Bool) (s t u : ClientStream) → now' ≡ session_after started now → Went old mid log log_mid wire session now starts s t → DoesStep mid between log_mid log_between wire now started t u stepped.Goes
+pub went_on : (old mid between : Awaited) (log log_mid log_between : LogTold) (wire : ℤ) (session now now' : Option Session) (starts : ℕ) (started : Bool) (s t u : ClientStream) → now' ≡ session_after started now → Went old mid log log_mid wire session now starts s t → DoesStep mid between log_mid log_between wire now started t u stepped.Goes
     → Went old between log log_between wire session now' (starts + one_if started) s u
 went_on old mid between log log_mid log_between wire session now now' starts started s t u told so does =
     subst (λ (x : Option Session). Went old between log log_between wire session x (starts + one_if started) s u) (sym told)
@@ -89,7 +89,7 @@ went_on old mid between log log_mid log_between wire session now now' starts sta
     })
 
 -- the last one
-pub went_last : (old mid new : Awaited) (log log_mid log' : Told) (wire : ℤ) (session now : Option Session) (starts : ℕ) (started : Bool) (s t s' : ClientStream) (r : Stepped) → Went old mid log log_mid wire session now starts s t → DoesStep mid new log_mid log' wire now started t s' r → IsLast r
+pub went_last : (old mid new : Awaited) (log log_mid log' : LogTold) (wire : ℤ) (session now : Option Session) (starts : ℕ) (started : Bool) (s t s' : ClientStream) (r : Stepped) → Went old mid log log_mid wire session now starts s t → DoesStep mid new log_mid log' wire now started t s' r → IsLast r
     → (steps : ℕ) × DoesSteps steps old new log log' wire session (starts + one_if started) (is_renewed t.doing) s s' r
 went_last old mid new log log_mid log' wire session now starts started s t s' r so does last =
     so.goes new log' zero (one_if started) (is_renewed t.doing) s' r
@@ -98,24 +98,24 @@ went_last old mid new log log_mid log' wire session now starts started s t s' r 
 -- ---- parts of a call that seeks
 
 -- The same of parts that got an empty reply.
-pub record SoughtOn (old mid : Awaited) (log between : Told) (wire : ℤ) (session now : Option Session) (starts : ℕ) (s t : ClientStream) : Type 0 where
-  pub goes : (new : Awaited) (log' : Told) (n later : ℕ) (s' : ClientStream) (r : EventPoll) → SeeksEvent n mid new between log' wire now later t s' r → (empties : ℕ) × SeeksEvent empties old new log log' wire session (starts + later) s s' r
+pub record SoughtOn (old mid : Awaited) (log between : LogTold) (wire : ℤ) (session now : Option Session) (starts : ℕ) (s t : ClientStream) : Type 0 where
+  pub goes : (new : Awaited) (log' : LogTold) (n later : ℕ) (s' : ClientStream) (r : EventPoll) → SeeksEvent n mid new between log' wire now later t s' r → (empties : ℕ) × SeeksEvent empties old new log log' wire session (starts + later) s s' r
 
-sought_none : (old : Awaited) (log : Told) (wire : ℤ) (session : Option Session) (s : ClientStream) → SoughtOn old old log log wire session session 0 s s
+sought_none : (old : Awaited) (log : LogTold) (wire : ℤ) (session : Option Session) (s : ClientStream) → SoughtOn old old log log wire session session 0 s s
 sought_none old log wire session s = record {
   goes = λ new log' n later s' r h. (n, subst (λ (k : ℕ). SeeksEvent n old new log log' wire session k s s' r) (let e : later ≡ 0 + later = omega arith in e) h);
 }
 
-part_more : (n : ℕ) (old between new : Awaited) (log log_between log' : Told) (wire : ℤ) (session : Option Session) (now later : ℕ) (s t s' : ClientStream) (r : EventPoll) → SeeksOn old between log log_between wire session now s t → SeeksEvent n between new log_between log' wire (session_behind now session) later t s' r
+part_more : (n : ℕ) (old between new : Awaited) (log log_between log' : LogTold) (wire : ℤ) (session : Option Session) (now later : ℕ) (s t s' : ClientStream) (r : EventPoll) → SeeksOn old between log log_between wire session now s t → SeeksEvent n between new log_between log' wire (session_behind now session) later t s' r
     → SeeksEvent (suc n) old new log log' wire session (now + later) s s' r
 unfolding SeeksEvent
 part_more n old between new log log_between log' wire session now later s t s' r on h = (between, log_between, now, later, t, on, refl, h)
 
-part_last : (old new : Awaited) (log log' : Told) (wire : ℤ) (session : Option Session) (starts : ℕ) (s s' : ClientStream) (r : EventPoll) → SeeksLast old new log log' wire session starts s s' r → SeeksEvent zero old new log log' wire session starts s s' r
+part_last : (old new : Awaited) (log log' : LogTold) (wire : ℤ) (session : Option Session) (starts : ℕ) (s s' : ClientStream) (r : EventPoll) → SeeksLast old new log log' wire session starts s s' r → SeeksEvent zero old new log log' wire session starts s s' r
 unfolding SeeksEvent
 part_last old new log log' wire session starts s s' r h = h
 
-sought_on : (old mid between : Awaited) (log log_mid log_between : Told) (wire : ℤ) (session now now' : Option Session) (starts more : ℕ) (s t u : ClientStream) → now' ≡ session_behind more now → SoughtOn old mid log log_mid wire session now starts s t → SeeksOn mid between log_mid log_between wire now more t u
+sought_on : (old mid between : Awaited) (log log_mid log_between : LogTold) (wire : ℤ) (session now now' : Option Session) (starts more : ℕ) (s t u : ClientStream) → now' ≡ session_behind more now → SoughtOn old mid log log_mid wire session now starts s t → SeeksOn mid between log_mid log_between wire now more t u
     → SoughtOn old between log log_between wire session now' (starts + more) s u
 sought_on old mid between log log_mid log_between wire session now now' starts more s t u told so on =
     subst (λ (x : Option Session). SoughtOn old between log log_between wire session x (starts + more) s u) (sym told)
@@ -126,9 +126,9 @@ sought_on old mid between log log_mid log_between wire session now now' starts m
     })
 
 -- A call stands in a part, which began there.
-pub record InPart (old mid : Awaited) (log between : Told) (wire : ℤ) (session now : Option Session) (starts : ℕ) (s t : ClientStream) : Type 0 where
+pub record InPart (old mid : Awaited) (log between : LogTold) (wire : ℤ) (session now : Option Session) (starts : ℕ) (s t : ClientStream) : Type 0 where
   pub from : Awaited
-  pub from_log : Told
+  pub from_log : LogTold
   pub from_session : Option Session
   pub before : ℕ
   pub later : ℕ
@@ -138,7 +138,7 @@ pub record InPart (old mid : Awaited) (log between : Told) (wire : ℤ) (session
   pub starts_are : starts ≡ before + later
   pub now_is : now ≡ session_behind later from_session
 
-pub part_begins : (old : Awaited) (log : Told) (wire : ℤ) (session : Option Session) (s : ClientStream) → InPart old old log log wire session session 0 s s
+pub part_begins : (old : Awaited) (log : LogTold) (wire : ℤ) (session : Option Session) (s : ClientStream) → InPart old old log log wire session session 0 s s
 part_begins old log wire session s = record {
   from = old;
   from_log = log;
@@ -161,7 +161,7 @@ one_behind true n (Some s) = ap Some (after_times n s) ∙ ap (λ (k : ℕ). Som
     after_times zero x = refl
     after_times (suc k) x = after_times k (after_command x)
 
-module _ (old mid new : Awaited) (log log_mid log' : Told) (wire : ℤ) (session now now' : Option Session) (starts : ℕ) (started : Bool) (s t : ClientStream) (told : now' ≡ session_after started now) (so : InPart old mid log log_mid wire session now starts s t) where
+module _ (old mid new : Awaited) (log log_mid log' : LogTold) (wire : ℤ) (session now now' : Option Session) (starts : ℕ) (started : Bool) (s t : ClientStream) (told : now' ≡ session_after started now) (so : InPart old mid log log_mid wire session now starts s t) where
   more_starts : starts + one_if started ≡ so.before + (so.later + one_if started)
   more_starts = let e : starts ≡ so.before + so.later = so.starts_are in omega arith
 
@@ -254,7 +254,7 @@ closed_kept s (step.Done t) s' r h = kept_as s s' _ h.0 (record { current = refl
 closed_kept s (step.Failed e) s' r (inl h) = kept_as s s' _ h.1 (record { current = refl; counts = refl })
 closed_kept s (step.Failed e) s' r (inr h) = kept_as s s' _ h.1 (record { current = refl; counts = refl })
 
-pub step_kept : (old new : Awaited) (log log' : Told) (wire : ℤ) (session : Option Session) (started : Bool) (s s' : ClientStream) (r : Stepped) → DoesStep old new log log' wire session started s s' r → Kept s s'
+pub step_kept : (old new : Awaited) (log log' : LogTold) (wire : ℤ) (session : Option Session) (started : Bool) (s s' : ClientStream) (r : Stepped) → DoesStep old new log log' wire session started s s' r → Kept s s'
 step_kept old new log log' wire session started s s' r (finds on left quiet unstarted is answer) = kept_as s s' s is (kept_same s)
 step_kept old new log log' wire session started s s' r (looks on none_left said at quiet unstarted h) = looked_kept false s (at_rest s.cursor) said s' r h
 step_kept old new log log' wire session started s s' r (ends on none_left at overs quiet unstarted is answer) = kept_as s s' s is (kept_same s)
@@ -309,7 +309,7 @@ failed_leaves s c e s' r on quiet (goes_on so is answer) = leaves_as _ s' steppe
 failed_leaves s c e s' r on quiet (no_memory room is answer) = leaves_as _ s' (stepped.Gives (try.Failed e)) r is answer (record { idle = tt; quiet = quiet_rests c quiet })
 failed_leaves s c e s' r on quiet (final not room is answer) = leaves_as _ s' (stepped.Gives (try.Failed e)) r is answer (still_following (record s { cursor = c }) on (quiet_rests c quiet))
 
-more_leaves : (old new : Awaited) (log log' : Told) (wire : ℤ) (started : Bool) (s : ClientStream) (sending : Sending) (s' : ClientStream) (r : Stepped) → IsSound false s → s.doing ≡ follows → AsksMore old new log log' wire started s sending s' r → StepLeaves r s'
+more_leaves : (old new : Awaited) (log log' : LogTold) (wire : ℤ) (started : Bool) (s : ClientStream) (sending : Sending) (s' : ClientStream) (r : Stepped) → IsSound false s → s.doing ≡ follows → AsksMore old new log log' wire started s sending s' r → StepLeaves r s'
 more_leaves old new log log' wire started s sending s' r sound on h = by_poll h.poll h.left h.runs.hears h.takes
   where
     by_poll : (p : NextPoll) (c : ClientCursor) → Hears s.cursor h.runs.came c p → TakesMore s c p s' r → StepLeaves r s'
@@ -338,7 +338,7 @@ over_ended : (c : ClientCursor) → c.pinned ≡ connection.Unpinned → IsOver 
 over_ended c unbound (inl ended) = ended
 over_ended c unbound (inr lost) = let bad : false ≡ true = sym (ap is_invalid unbound) ∙ lost in absurd cc
 
-pub step_leaves : (old new : Awaited) (log log' : Told) (wire : ℤ) (session : Option Session) (started : Bool) (s s' : ClientStream) (r : Stepped) → IsSound false s → DoesStep old new log log' wire session started s s' r → StepLeaves r s'
+pub step_leaves : (old new : Awaited) (log log' : LogTold) (wire : ℤ) (session : Option Session) (started : Bool) (s s' : ClientStream) (r : Stepped) → IsSound false s → DoesStep old new log log' wire session started s s' r → StepLeaves r s'
 step_leaves old new log log' wire session started s s' r sound (finds on left quiet unstarted is answer) =
     leaves_as s' s' stepped.Found r refl answer (found_stands old new log log' wire session started s s' sound (finds on left quiet unstarted is refl))
 step_leaves old new log log' wire session started s s' r sound (looks on none_left said at quiet unstarted h) = looked_leaves false s (at_rest s.cursor) said s' r refl h
@@ -400,7 +400,7 @@ closed_away s (step.Done x) t h is = away t (record s { doing = renewed }) h.0 t
 closed_away s (step.Failed e) t (inl h) is = last_not (stepped.Gives (try.Failed e)) h.2 tt
 closed_away s (step.Failed e) t (inr h) is = away t (record s { doing = renewed }) h.1 tt is
 
-pub goes_away : (old new : Awaited) (log log' : Told) (wire : ℤ) (session : Option Session) (started : Bool) (s t : ClientStream) → DoesStep old new log log' wire session started s t stepped.Goes → t.doing ≡ follows → ⊥
+pub goes_away : (old new : Awaited) (log log' : LogTold) (wire : ℤ) (session : Option Session) (started : Bool) (s t : ClientStream) → DoesStep old new log log' wire session started s t stepped.Goes → t.doing ≡ follows → ⊥
 goes_away old new log log' wire session started s t (finds on there nothing not_so at_so answer) is = last_not stepped.Found answer tt
 goes_away old new log log' wire session started s t (looks on empty reply held nothing not_so looked_so) is = looked_away false s (at_rest s.cursor) reply t looked_so is
 goes_away old new log log' wire session started s t (ends on empty quiet over_so nothing not_so at_so answer) is = last_not (stepped.Gives (try.Ready result.Exhausted)) answer tt
@@ -414,13 +414,13 @@ goes_away old new log log' wire session started s t (closes before on not_so cam
 goes_away old new log log' wire session started s t (renews on reply held nothing not_so looked_so) is = looked_away true s (at_rest s.cursor) reply t looked_so is
 
 -- what is true of all steps of a call: they keep the stream sound, move it on, and leave it so
-pub record HasGone (plain : Bool) (old new : Awaited) (log log' : Told) (s s' : ClientStream) (r : Stepped) : Type 0 where
+pub record HasGone (plain : Bool) (old new : Awaited) (log log' : LogTold) (s s' : ClientStream) (r : Stepped) : Type 0 where
   pub sound : IsSound plain s'
   pub turned : Turned old new log log' s s'
   pub kept : Kept s s'
   pub leaves : StepLeaves r s'
 
-one_went : (plain : Bool) (old new : Awaited) (log log' : Told) (wire : ℤ) (session : Option Session) (started : Bool) (s s' : ClientStream) (r : Stepped) → IsSound plain s → PlainIf plain session → DoesStep old new log log' wire session started s s' r → HasGone plain old new log log' s s' r
+one_went : (plain : Bool) (old new : Awaited) (log log' : LogTold) (wire : ℤ) (session : Option Session) (started : Bool) (s s' : ClientStream) (r : Stepped) → IsSound plain s → PlainIf plain session → DoesStep old new log log' wire session started s s' r → HasGone plain old new log log' s s' r
 one_went plain old new log log' wire session started s s' r sound plainly does = record {
   sound = step_sound plain old new log log' wire session started s s' r sound plainly does;
   turned = step_turns old new log log' wire session started s s' r (sound_any plain s sound) does;
@@ -428,7 +428,7 @@ one_went plain old new log log' wire session started s s' r sound plainly does =
   leaves = step_leaves old new log log' wire session started s s' r (sound_any plain s sound) does;
 }
 
-pub steps_went : (n : ℕ) (plain : Bool) (old new : Awaited) (log log' : Told) (wire : ℤ) (session : Option Session) (starts : ℕ) (again : Bool) (s s' : ClientStream) (r : Stepped) → IsSound plain s → PlainIf plain session → DoesSteps n old new log log' wire session starts again s s' r → HasGone plain old new log log' s s' r
+pub steps_went : (n : ℕ) (plain : Bool) (old new : Awaited) (log log' : LogTold) (wire : ℤ) (session : Option Session) (starts : ℕ) (again : Bool) (s s' : ClientStream) (r : Stepped) → IsSound plain s → PlainIf plain session → DoesSteps n old new log log' wire session starts again s s' r → HasGone plain old new log log' s s' r
 unfolding DoesSteps
 steps_went zero plain old new log log' wire session starts again s s' r sound plainly h = one_went plain old new log log' wire session h.started s s' r sound plainly h.does
 steps_went (suc n) plain old new log log' wire session starts again s s' r sound plainly h =
@@ -508,35 +508,35 @@ stays_so plain s s' sound found is = record {
 }
 
 -- what a call came to behind its last step: the stream, how it stands, and what was told
-module _ (plain : Bool) (old new : Awaited) (log log' : Told) (s left : ClientStream) (h : HasGone plain old new log log' (lends_nothing s) left stepped.Found) where
+module _ (plain : Bool) (old new : Awaited) (log log' : LogTold) (s left : ClientStream) (h : HasGone plain old new log log' (lends_nothing s) left stepped.Found) where
   -- it moved on, and then gave this
   gave_moved : (s' : ClientStream) (told : List Fields) → Turns left s' told → (w : Watch) (start : Start) → Asks s.aggregate.args w start → (opened : Option ℕ) (answered : List Fields) → Moved log log' (follow_of old w start s opened answered) (follow_of new w start s' opened (answered ++ told))
   gave_moved s' told turns w start asks_so opened answered =
       moved log log' log' (follow_of old w start s opened answered) (follow_of new w start left opened answered) (follow_of new w start s' opened (answered ++ told))
       (h.turned.moved w start asks_so opened answered) (turns.moved log' new w start opened answered)
 
-abbrev MovesTo : Awaited → Awaited → Told → Told → ClientStream → ClientStream → List Fields → Type 0
+abbrev MovesTo : Awaited → Awaited → LogTold → LogTold → ClientStream → ClientStream → List Fields → Type 0
 MovesTo old new log log' s s' told = (w : Watch) (start : Start) → Asks s.aggregate.args w start → (opened : Option ℕ) (answered : List Fields) → Moved log log' (follow_of old w start s opened answered) (follow_of new w start s' opened (answered ++ told))
 
 -- without an event
-quiet_moved : (plain : Bool) (old new : Awaited) (log log' : Told) (s left : ClientStream) (r : Stepped) → HasGone plain old new log log' (lends_nothing s) left r → MovesTo old new log log' s left []
+quiet_moved : (plain : Bool) (old new : Awaited) (log log' : LogTold) (s left : ClientStream) (r : Stepped) → HasGone plain old new log log' (lends_nothing s) left r → MovesTo old new log log' s left []
 quiet_moved plain old new log log' s left r h = λ w start asks_so opened answered. quietly log log' (follow_of old w start s opened answered) (λ l. follow_of new w start left opened l) answered (h.turned.moved w start asks_so opened answered)
 
 -- what is known of a call that lends, of its end
-pub record Lent (plain : Bool) (old new : Awaited) (log log' : Told) (s s' : ClientStream) (r : TryPoll) : Type 0 where
+pub record Lent (plain : Bool) (old new : Awaited) (log log' : LogTold) (s s' : ClientStream) (r : TryPoll) : Type 0 where
   pub sound : IsSound plain s'
   pub moves : (w : Watch) (start : Start) → Asks s.aggregate.args w start → (opened : Option ℕ) (answered : List Fields) → Moved log log' (follow_of old w start s opened answered) (follow_of new w start s' opened (answered ++ try_told r s'.current))
   pub leaves : LeavesTry r s'
 
 -- the counts are no part of it
-lent_uncounted : (plain : Bool) (old new : Awaited) (log log' : Told) (s t s' : ClientStream) (r : TryPoll) → s' ≡ uncounted t → IsSound plain t → MovesTo old new log log' s t (try_told r t.current) → LeavesTry r (uncounted t) → Lent plain old new log log' s s' r
+lent_uncounted : (plain : Bool) (old new : Awaited) (log log' : LogTold) (s t s' : ClientStream) (r : TryPoll) → s' ≡ uncounted t → IsSound plain t → MovesTo old new log log' s t (try_told r t.current) → LeavesTry r (uncounted t) → Lent plain old new log log' s s' r
 lent_uncounted plain old new log log' s t s' r is sound moves leaves =
     subst (λ (x : ClientStream). Lent plain old new log log' s x r) (sym is) (record { sound = uncounted_sound plain t sound; moves = moves; leaves = leaves })
 
 none_current : (s left : ClientStream) → Kept (lends_nothing s) left → left.current ≡ None
 none_current s left k = k.current
 
-lent_by : (plain : Bool) (old new : Awaited) (log log' : Told) (s left lent s' : ClientStream) (came : Stepped) (r : TryPoll) → HasGone plain old new log log' (lends_nothing s) left came → LendsBehind came left lent r → s' ≡ kept_behind (try_ending r) lent → Lent plain old new log log' s s' r
+lent_by : (plain : Bool) (old new : Awaited) (log log' : LogTold) (s left lent s' : ClientStream) (came : Stepped) (r : TryPoll) → HasGone plain old new log log' (lends_nothing s) left came → LendsBehind came left lent r → s' ≡ kept_behind (try_ending r) lent → Lent plain old new log log' s s' r
 lent_by plain old new log log' s left lent s' stepped.Goes r h behind kept = absurd behind
 lent_by plain old new log log' s left lent s' stepped.Found try.Pending h behind kept = absurd behind
 lent_by plain old new log log' s left lent s' stepped.Found (try.Ready (result.Advanced t)) h behind kept =
@@ -575,22 +575,22 @@ lent_by plain old new log log' s left lent s' (stepped.Gives p) r h behind kept 
         (lent_uncounted plain old new log log' s left s' (try.Failed e) (subst (λ (x : TryPoll). s' ≡ kept_behind (try_ending x) lent) answer kept ∙ ap uncounted is) h.sound (quiet_moved plain old new log log' s left (stepped.Gives (try.Failed e)) h)
         (between_still left h.leaves, none_current s left h.kept))
 
-pub lends_so : (n : ℕ) (plain : Bool) (old new : Awaited) (log log' : Told) (wire : ℤ) (session : Option Session) (starts : ℕ) (s s' : ClientStream) (r : TryPoll) → IsSound plain s → PlainIf plain session → CallLends n old new log log' wire session starts s s' r → Lent plain old new log log' s s' r
+pub lends_so : (n : ℕ) (plain : Bool) (old new : Awaited) (log log' : LogTold) (wire : ℤ) (session : Option Session) (starts : ℕ) (s s' : ClientStream) (r : TryPoll) → IsSound plain s → PlainIf plain session → CallLends n old new log log' wire session starts s s' r → Lent plain old new log log' s s' r
 lends_so n plain old new log log' wire session starts s s' r sound plainly h =
     lent_by plain old new log log' s h.left h.lent s' h.came r (steps_went n plain old new log log' wire session starts h.again (lends_nothing s) h.left h.came (let_go_sound plain s sound) plainly h.does) h.lends h.kept
 
 -- the same of a call that copies
-pub record Copied (plain : Bool) (old new : Awaited) (log log' : Told) (s s' : ClientStream) (r : EventPoll) : Type 0 where
+pub record Copied (plain : Bool) (old new : Awaited) (log log' : LogTold) (s s' : ClientStream) (r : EventPoll) : Type 0 where
   pub sound : IsSound plain s'
   pub moves : (w : Watch) (start : Start) → Asks s.aggregate.args w start → (opened : Option ℕ) (answered : List Fields) → Moved log log' (follow_of old w start s opened answered) (follow_of new w start s' opened (answered ++ event_told r))
   pub leaves : LeavesCall r s'
 
-copied_uncounted : (plain : Bool) (old new : Awaited) (log log' : Told) (s t s' : ClientStream) (r : EventPoll) → s' ≡ uncounted t → IsSound plain t → MovesTo old new log log' s t (event_told r) → LeavesCall r (uncounted t) → Copied plain old new log log' s s' r
+copied_uncounted : (plain : Bool) (old new : Awaited) (log log' : LogTold) (s t s' : ClientStream) (r : EventPoll) → s' ≡ uncounted t → IsSound plain t → MovesTo old new log log' s t (event_told r) → LeavesCall r (uncounted t) → Copied plain old new log log' s s' r
 copied_uncounted plain old new log log' s t s' r is sound moves leaves =
     subst (λ (x : ClientStream). Copied plain old new log log' s x r) (sym is) (record { sound = uncounted_sound plain t sound; moves = moves; leaves = leaves })
 
 -- behind an event that is next
-pub copied_found : (plain : Bool) (old new : Awaited) (log log' : Told) (s left copied s' : ClientStream) (r : EventPoll) → HasGone plain old new log log' (lends_nothing s) left stepped.Found → CopiesEvent left copied r → s' ≡ kept_behind (event_ending r) copied → Copied plain old new log log' s s' r
+pub copied_found : (plain : Bool) (old new : Awaited) (log log' : LogTold) (s left copied s' : ClientStream) (r : EventPoll) → HasGone plain old new log log' (lends_nothing s) left stepped.Found → CopiesEvent left copied r → s' ≡ kept_behind (event_ending r) copied → Copied plain old new log log' s s' r
 copied_found plain old new log log' s left copied s' poll.Pending h behind kept = absurd behind
 copied_found plain old new log log' s left copied s' (poll.Ready None) h behind kept = absurd behind
 copied_found plain old new log log' s left copied s' (poll.Ready (Some event)) h behind kept =
@@ -606,7 +606,7 @@ copied_found plain old new log log' s left copied s' (poll.Failed e) h (inr behi
     copied_uncounted plain old new log log' s copied s' (poll.Failed e) kept g.sound (gave_moved plain old new log log' s left h copied [] g.turns)
     (between_still copied g.still, ap (λ (x : ClientStream). x.current) behind.same ∙ none_current s left h.kept)
 
-copied_by : (plain : Bool) (old new : Awaited) (log log' : Told) (s left copied s' : ClientStream) (came : Stepped) (r : EventPoll) → HasGone plain old new log log' (lends_nothing s) left came → CopiesBehind came left copied r → s' ≡ kept_behind (event_ending r) copied → Copied plain old new log log' s s' r
+copied_by : (plain : Bool) (old new : Awaited) (log log' : LogTold) (s left copied s' : ClientStream) (came : Stepped) (r : EventPoll) → HasGone plain old new log log' (lends_nothing s) left came → CopiesBehind came left copied r → s' ≡ kept_behind (event_ending r) copied → Copied plain old new log log' s s' r
 copied_by plain old new log log' s left copied s' stepped.Goes r h behind kept = absurd behind
 copied_by plain old new log log' s left copied s' stepped.Found r h behind kept = copied_found plain old new log log' s left copied s' r h behind kept
 copied_by plain old new log log' s left copied s' (stepped.Gives p) r h behind kept = by_poll p h behind.0 behind.1
@@ -633,7 +633,7 @@ copied_by plain old new log log' s left copied s' (stepped.Gives p) r h behind k
         (copied_uncounted plain old new log log' s left s' (poll.Failed e) (ended (poll.Failed e) answer is) h.sound (quiet_moved plain old new log log' s left (stepped.Gives (try.Failed e)) h)
         (between_still left h.leaves, none_current s left h.kept))
 
-pub copies_so : (n : ℕ) (plain : Bool) (old new : Awaited) (log log' : Told) (wire : ℤ) (session : Option Session) (starts : ℕ) (s s' : ClientStream) (r : EventPoll) → IsSound plain s → PlainIf plain session → CallCopies n old new log log' wire session starts s s' r → Copied plain old new log log' s s' r
+pub copies_so : (n : ℕ) (plain : Bool) (old new : Awaited) (log log' : LogTold) (wire : ℤ) (session : Option Session) (starts : ℕ) (s s' : ClientStream) (r : EventPoll) → IsSound plain s → PlainIf plain session → CallCopies n old new log log' wire session starts s s' r → Copied plain old new log log' s s' r
 copies_so n plain old new log log' wire session starts s s' r sound plainly h =
     copied_by plain old new log log' s h.left h.copied s' h.came r (steps_went n plain old new log log' wire session starts h.again (lends_nothing s) h.left h.came (let_go_sound plain s sound) plainly h.does) h.copies h.kept
 
@@ -652,29 +652,29 @@ copied_args stepped.Found left copied (poll.Failed e) (inl h) = ap (λ (x : Clie
 copied_args stepped.Found left copied (poll.Failed e) (inr h) = ap (λ (x : ClientStream). x.aggregate.args) h.same
 copied_args (stepped.Gives p) left copied r h = ap (λ (x : ClientStream). x.aggregate.args) h.0
 
-pub copies_args : (n : ℕ) (plain : Bool) (old new : Awaited) (log log' : Told) (wire : ℤ) (session : Option Session) (starts : ℕ) (s s' : ClientStream) (r : EventPoll) → IsSound plain s → PlainIf plain session → CallCopies n old new log log' wire session starts s s' r → s'.aggregate.args ≡ s.aggregate.args
+pub copies_args : (n : ℕ) (plain : Bool) (old new : Awaited) (log log' : LogTold) (wire : ℤ) (session : Option Session) (starts : ℕ) (s s' : ClientStream) (r : EventPoll) → IsSound plain s → PlainIf plain session → CallCopies n old new log log' wire session starts s s' r → s'.aggregate.args ≡ s.aggregate.args
 copies_args n plain old new log log' wire session starts s s' r sound plainly h =
     let went = steps_went n plain old new log log' wire session starts h.again (lends_nothing s) h.left h.came (let_go_sound plain s sound) plainly h.does in
     ap (λ (x : ClientStream). x.aggregate.args) h.kept ∙ kept_args (event_ending r) h.copied ∙ copied_args h.came h.left h.copied r h.copies ∙ went.turned.args
 
 -- ---- a call that seeks an event
 
-pub record Sought (plain : Bool) (old new : Awaited) (log log' : Told) (s s' : ClientStream) (r : EventPoll) : Type 0 where
+pub record Sought (plain : Bool) (old new : Awaited) (log log' : LogTold) (s s' : ClientStream) (r : EventPoll) : Type 0 where
   pub sound : IsSound plain s'
   pub moves : (w : Watch) (start : Start) → Asks s.aggregate.args w start → (opened : Option ℕ) (answered : List Fields) → Moved log log' (follow_of old w start s opened answered) (follow_of new w start s' opened (answered ++ event_told r))
   pub leaves : LeavesSeek r s'
 
-sought_uncounted : (plain : Bool) (old new : Awaited) (log log' : Told) (s t s' : ClientStream) (r : EventPoll) → s' ≡ uncounted t → IsSound plain t → MovesTo old new log log' s t (event_told r) → LeavesSeek r (uncounted t) → Sought plain old new log log' s s' r
+sought_uncounted : (plain : Bool) (old new : Awaited) (log log' : LogTold) (s t s' : ClientStream) (r : EventPoll) → s' ≡ uncounted t → IsSound plain t → MovesTo old new log log' s t (event_told r) → LeavesSeek r (uncounted t) → Sought plain old new log log' s s' r
 sought_uncounted plain old new log log' s t s' r is sound moves leaves =
     subst (λ (x : ClientStream). Sought plain old new log log' s x r) (sym is) (record { sound = uncounted_sound plain t sound; moves = moves; leaves = leaves })
 
-sought_copied : (plain : Bool) (old new : Awaited) (log log' : Told) (s left copied s' : ClientStream) (r : EventPoll) → CopiesEvent left copied r → Copied plain old new log log' s s' r → Sought plain old new log log' s s' r
+sought_copied : (plain : Bool) (old new : Awaited) (log log' : LogTold) (s left copied s' : ClientStream) (r : EventPoll) → CopiesEvent left copied r → Copied plain old new log log' s s' r → Sought plain old new log log' s s' r
 sought_copied plain old new log log' s left copied s' poll.Pending behind c = absurd behind
 sought_copied plain old new log log' s left copied s' (poll.Ready None) behind c = absurd behind
 sought_copied plain old new log log' s left copied s' (poll.Ready (Some event)) behind c = record { sound = c.sound; moves = c.moves; leaves = c.leaves }
 sought_copied plain old new log log' s left copied s' (poll.Failed e) behind c = record { sound = c.sound; moves = c.moves; leaves = c.leaves }
 
-sought_by : (plain : Bool) (old new : Awaited) (log log' : Told) (s left ended s' : ClientStream) (again : Bool) (came : Stepped) (r : EventPoll) → HasGone plain old new log log' (lends_nothing s) left came → EndsSeeking again came left ended r → s' ≡ kept_behind (event_ending r) ended → Sought plain old new log log' s s' r
+sought_by : (plain : Bool) (old new : Awaited) (log log' : LogTold) (s left ended s' : ClientStream) (again : Bool) (came : Stepped) (r : EventPoll) → HasGone plain old new log log' (lends_nothing s) left came → EndsSeeking again came left ended r → s' ≡ kept_behind (event_ending r) ended → Sought plain old new log log' s s' r
 sought_by plain old new log log' s left ended s' again came r h (seek_finds is behind) kept =
     sought_copied plain old new log log' s left ended s' r behind (copied_found plain old new log log' s left ended s' r (subst (λ (x : Stepped). HasGone plain old new log log' (lends_nothing s) left x) is h) behind kept)
 sought_by plain old new log log' s left ended s' again came r h (pends is same answer) kept =
@@ -703,7 +703,7 @@ sought_by plain old new log log' s left ended s' again came r h (fails e is same
     (between_still left still, none_current s left h.kept))
 
 -- a part with an empty reply: the stream is sound behind it, and moved on
-counting_gone : (plain : Bool) (old mid : Awaited) (log log_mid : Told) (s left counting : ClientStream) (again : Bool) (came : Stepped) → HasGone plain old mid log log_mid s left came → GoesBehind again came left counting → IsSound plain counting × Turned old mid log log_mid s counting × (counting.current ≡ s.current)
+counting_gone : (plain : Bool) (old mid : Awaited) (log log_mid : LogTold) (s left counting : ClientStream) (again : Bool) (came : Stepped) → HasGone plain old mid log log_mid s left came → GoesBehind again came left counting → IsSound plain counting × Turned old mid log log_mid s counting × (counting.current ≡ s.current)
 counting_gone plain old mid log log_mid s left counting again came h goes = (
   sound_as plain left counting (ap (λ (x : ClientStream). x.aggregate) goes.counts) (ap (λ (x : ClientStream). x.cursor) goes.counts) (ap (λ (x : ClientStream). x.behind) goes.counts) (ap (λ (x : ClientStream). x.doing) goes.counts) h.sound,
   subst (λ (x : ClientStream). Turned old mid log log_mid s x) (sym goes.counts) (record { args = h.turned.args; moved = h.turned.moved }),
@@ -713,7 +713,7 @@ counting_gone plain old mid log log_mid s left counting again came h goes = (
 let_go_same : (s : ClientStream) → s.current ≡ None → lends_nothing s ≡ s
 let_go_same s is = ap (λ (o : Option (List ℕ)). record s { current = o }) (sym is)
 
-pub seeks_so : (n : ℕ) (plain : Bool) (old new : Awaited) (log log' : Told) (wire : ℤ) (session : Option Session) (starts : ℕ) (s s' : ClientStream) (r : EventPoll) → IsSound plain s → s.current ≡ None → PlainIf plain session → SeeksEvent n old new log log' wire session starts s s' r → Sought plain old new log log' s s' r
+pub seeks_so : (n : ℕ) (plain : Bool) (old new : Awaited) (log log' : LogTold) (wire : ℤ) (session : Option Session) (starts : ℕ) (s s' : ClientStream) (r : EventPoll) → IsSound plain s → s.current ≡ None → PlainIf plain session → SeeksEvent n old new log log' wire session starts s s' r → Sought plain old new log log' s s' r
 unfolding SeeksEvent
 seeks_so zero plain old new log log' wire session starts s s' r sound lent plainly h =
     let gone = steps_went h.steps plain old new log log' wire session starts h.again s h.left h.came sound plainly h.does in

@@ -4,7 +4,7 @@ use Rattle.mg_bson.specs.Raw.{fields}
 use Rattle.mg_link.specs.Calls.{Came, Flies, Grows, HeardLast, Keeps, NoneBroken, Past, RequestFails, out_of_memory, past_of, was_broken}
 use Rattle.mg_link.specs.Errors.{plain}
 use Rattle.mg_link.specs.Exec.{IsSuccess, Runs, Sending, Stage}
-use Rattle.mg_link.specs.Link.{Awaited, SendsNothing, Told}
+use Rattle.mg_link.specs.Link.{Awaited, SendsNothing, LogTold}
 use Rattle.mg_link.specs.Log.{Call, reply}
 use Rattle.mg_link.specs.Resumable.{is_resumable}
 use Rattle.mg_link.specs.Session.{Session}
@@ -65,7 +65,7 @@ StepCame awaited past session at again s stepped.Found = FoundSo past (is_lone s
 StepCame awaited past session at again s (stepped.Gives p) = GivenCame awaited past session at again s p
 
 -- a step of a call that had sent at these places, and from this one on
-pub record StepCalled (new : Awaited) (places : List ℕ) (since : ℕ) (calls : List Call) (log' : Told) (wire : ℤ) (session : Option Session) (at : ClientStream) (again : Bool) (s' : ClientStream) (r : Stepped) : Type 0 where
+pub record StepCalled (new : Awaited) (places : List ℕ) (since : ℕ) (calls : List Call) (log' : LogTold) (wire : ℤ) (session : Option Session) (at : ClientStream) (again : Bool) (s' : ClientStream) (r : Stepped) : Type 0 where
   pub calls' : List Call
   pub told : log' ≡ Some calls'
   pub room : since ≤ length calls'
@@ -144,7 +144,7 @@ module _ (awaited : Awaited) (past : Past) (session : Option Session) (at s : Cl
       by_cause (inr full_so) = absurd (room (kind_of_plain e full_so))
 
 -- the getMore was polled, and the call had sent it in this session
-module _ (old new : Awaited) (log log' : Told) (wire : ℤ) (now : Option Session) (at s : ClientStream) (same : s.aggregate ≡ at.aggregate) (may : MayAskMore at) (rested_at : at_rest s.cursor ≡ at.cursor) (none_here : s.behind ≡ []) (on : s.doing ≡ follows) (session : Option Session) (sending : Sending) (command_is : fields sending.command ≡ get_more s.cursor session) (single : sending.retries ≡ false) (places : List ℕ) (since : ℕ) where
+module _ (old new : Awaited) (log log' : LogTold) (wire : ℤ) (now : Option Session) (at s : ClientStream) (same : s.aggregate ≡ at.aggregate) (may : MayAskMore at) (rested_at : at_rest s.cursor ≡ at.cursor) (none_here : s.behind ≡ []) (on : s.doing ≡ follows) (session : Option Session) (sending : Sending) (command_is : fields sending.command ≡ get_more s.cursor session) (single : sending.retries ≡ false) (places : List ℕ) (since : ℕ) where
   own_command : fields sending.command ≡ get_more at.cursor session
   own_command = command_is ∙ ap (λ (c : ClientCursor). get_more c session) rested_at
 
@@ -236,7 +236,7 @@ module _ (new : Awaited) (now : Option Session) (at s : ClientStream) (same : s.
         (record { same = same; by = (why, record { session = session; plainly = plainly; command_is = command_is; retries_is = retries_is; flies = flies }) })
 
   -- it was polled, and the call had sent it in this session
-  pub resumption_caused : (old : Awaited) (log log' : Told) (wire : ℤ) (started : Bool) (sending : Sending) (s' : ClientStream) (r : Stepped) → RunsResumption old new log log' wire started s sending s' r → (places : List ℕ) (since : ℕ) (calls : List Call) → log ≡ Some calls → since ≤ length calls
+  pub resumption_caused : (old : Awaited) (log log' : LogTold) (wire : ℤ) (started : Bool) (sending : Sending) (s' : ClientStream) (r : Stepped) → RunsResumption old new log log' wire started s sending s' r → (places : List ℕ) (since : ℕ) (calls : List Call) → log ≡ Some calls → since ≤ length calls
       → Resumes (past_of places since calls wire) at (at_rest s.cursor) → fields sending.command ≡ resuming_in at.aggregate wire session → sending.retries ≡ is_read_again session → Flies old (past_of places since calls wire) (resuming_in at.aggregate wire session) sending.stage
       → StepCalled new places since calls log' wire now at false s' r
   resumption_caused old log log' wire started sending s' r h places since calls told room why command_is retries_is flies =
@@ -271,14 +271,14 @@ KillCame awaited past c (step.Done t) = Killed past (at_rest c)
 KillCame awaited past c (step.Failed e) = MayAsk (at_rest c) × (e.kind ≢ kind.OutOfMemory → Killed past (at_rest c))
 
 -- a poll of it, of a call that had sent at these places, and from this one on
-record ClosingRan (new : Awaited) (places : List ℕ) (since : ℕ) (calls : List Call) (log' : Told) (wire : ℤ) (c : ClientCursor) (r : Step ClosingCursor (Unit {0})) : Type 0 where
+record ClosingRan (new : Awaited) (places : List ℕ) (since : ℕ) (calls : List Call) (log' : LogTold) (wire : ℤ) (c : ClientCursor) (r : Step ClosingCursor (Unit {0})) : Type 0 where
   calls' : List Call
   told : log' ≡ Some calls'
   room : since ≤ length calls'
   grows : Grows (past_of places since calls wire) (past_of places since calls' wire)
   came : KillCame new (past_of places since calls' wire) c r
 
-module _ (old new : Awaited) (log log' : Told) (wire : ℤ) (c : ClientCursor) (places : List ℕ) (since : ℕ) (calls : List Call) (told : log ≡ Some calls) (room : since ≤ length calls) where
+module _ (old new : Awaited) (log log' : LogTold) (wire : ℤ) (c : ClientCursor) (places : List ℕ) (since : ℕ) (calls : List Call) (told : log ≡ Some calls) (room : since ≤ length calls) where
   quiet_ran : (r x : Step ClosingCursor (Unit {0})) → SendsNothing old new log log' → r ≡ x → KillCame new (past_of places since calls wire) c x → ClosingRan new places since calls log' wire c r
   quiet_ran r x none is came_so = record {
     calls' = calls;
@@ -313,7 +313,7 @@ module _ (old new : Awaited) (log log' : Told) (wire : ℤ) (c : ClientCursor) (
   begun_ran r (kill_sends may sending new_one runs) =
       killing_ran sending r may runs new_one.command_is new_one.single (subst (λ (stage : Stage). Flies old (past_of places since calls wire) (kill c) stage) (sym new_one.new) tt)
 
-closing_ran : (old new : Awaited) (log log' : Told) (wire : ℤ) (before : ClosingCursor) (places : List ℕ) (since : ℕ) (calls : List Call) (r : Step ClosingCursor (Unit {0})) → log ≡ Some calls → since ≤ length calls → IsClosing before → IsLanded before
+closing_ran : (old new : Awaited) (log log' : LogTold) (wire : ℤ) (before : ClosingCursor) (places : List ℕ) (since : ℕ) (calls : List Call) (r : Step ClosingCursor (Unit {0})) → log ≡ Some calls → since ≤ length calls → IsClosing before → IsLanded before
     → IsClosingUnderway old (past_of places since calls wire) before → ClosingPolls old new log log' wire before r → ClosingRan new places since calls log' wire before.cursor r
 closing_ran old new log log' wire before places since calls r told room closing_so landed underway (kill_lands none sending asks_so h) =
     absurd (subst (λ (d : cursors.Doing). LandedBy None d) asks_so (subst (λ (o : Option Sending). LandedBy o before.cursor.doing) none landed))
@@ -341,7 +341,7 @@ module _ (new : Awaited) (past : Past) (now : Option Session) (at s : ClientStre
       (record { same = same; by = record { old = at_rest c; bytes = bytes; resumed = resumed; killed = h.1 heard.0 } })
 
 -- it was polled
-pub closing_caused : (old new : Awaited) (log log' : Told) (wire : ℤ) (now : Option Session) (at s : ClientStream) (before : ClosingCursor) → s.aggregate ≡ at.aggregate → s.behind ≡ [] → IsClosing before → IsLanded before → (came_so : Step ClosingCursor (Unit {0})) → ClosingPolls old new log log' wire before came_so → (s' : ClientStream) (r : Stepped) → HearsClosing s came_so s' r
+pub closing_caused : (old new : Awaited) (log log' : LogTold) (wire : ℤ) (now : Option Session) (at s : ClientStream) (before : ClosingCursor) → s.aggregate ≡ at.aggregate → s.behind ≡ [] → IsClosing before → IsLanded before → (came_so : Step ClosingCursor (Unit {0})) → ClosingPolls old new log log' wire before came_so → (s' : ClientStream) (r : Stepped) → HearsClosing s came_so s' r
     → (places : List ℕ) (since : ℕ) (calls : List Call) → log ≡ Some calls → since ≤ length calls → IsReplaced old (past_of places since calls wire) (is_lone now) at s before → StepCalled new places since calls log' wire now at false s' r
 closing_caused old new log log' wire now at s before same none_here closing_so landed came_so polls s' r heard places since calls told room replaced =
     let ran = closing_ran old new log log' wire before places since calls came_so told room closing_so landed replaced.underway polls in
@@ -376,7 +376,7 @@ so_far_by awaited past lone at s d is so = subst (ByDoing awaited past lone at s
 by_cursor : (awaited : Awaited) (past : Past) (at s : ClientStream) (d : cursors.Doing) → s.cursor.doing ≡ d → ByCursor awaited past at s s.cursor.doing → ByCursor awaited past at s d
 by_cursor awaited past at s d is h = subst (ByCursor awaited past at s) is h
 
-module _ (new : Awaited) (log log' : Told) (wire : ℤ) (now : Option Session) (at s : ClientStream) (places : List ℕ) (since : ℕ) (calls : List Call) (told : log ≡ Some calls) (room : since ≤ length calls) where
+module _ (new : Awaited) (log log' : LogTold) (wire : ℤ) (now : Option Session) (at s : ClientStream) (places : List ℕ) (since : ℕ) (calls : List Call) (told : log ≡ Some calls) (room : since ≤ length calls) where
   abbrev so : Past
   so = past_of places since calls wire
 
@@ -417,7 +417,7 @@ module _ (new : Awaited) (log log' : Told) (wire : ℤ) (now : Option Session) (
       once_more refl h.old s.cursor (subst (λ (x : List ℕ). Resumed so (is_lone now) at h.old x s.cursor) whole h.resumed) h.killed refl
 
 -- A step of a call that had sent at these places; its session is this one, but where a step before it told it of a command.
-module _ (old new : Awaited) (log log' : Told) (wire : ℤ) (session now : Option Session) (started : Bool) (at s s' : ClientStream) (r : Stepped) (sound : IsSound false s) (first : s.doing ≡ follows → now ≡ session) (plainly : now ≡ None → session ≡ None) (places : List ℕ) (since : ℕ) (calls : List Call) (told : log ≡ Some calls) (room : since ≤ length calls) (so_far : SoFar old (past_of places since calls wire) (is_lone now) at s) where
+module _ (old new : Awaited) (log log' : LogTold) (wire : ℤ) (session now : Option Session) (started : Bool) (at s s' : ClientStream) (r : Stepped) (sound : IsSound false s) (first : s.doing ≡ follows → now ≡ session) (plainly : now ≡ None → session ≡ None) (places : List ℕ) (since : ℕ) (calls : List Call) (told : log ≡ Some calls) (room : since ≤ length calls) (so_far : SoFar old (past_of places since calls wire) (is_lone now) at s) where
   abbrev past : Past
   past = past_of places since calls wire
 

@@ -7,7 +7,7 @@ use Rattle.mg_bson.specs.Tree.{Fields, Tree}
 use Rattle.mg_link.specs.Commands.{asks_kill, asked, documents_in}
 use Rattle.mg_link.specs.Exec.{Attempt, Runs, Sending, Stage, Tries, first, second, unsent}
 use Rattle.mg_link.specs.Follow.{Follow, IsOpen, Moved, ResumesAt, owing, owner_of, resting, resuming}
-use Rattle.mg_link.specs.Link.{Awaited, SendsNothing, Told}
+use Rattle.mg_link.specs.Link.{Awaited, SendsNothing, LogTold}
 use Rattle.mg_link.specs.Owner.{IsOf, NamesOwn}
 use Rattle.mg_link.specs.State.{Start, Watch}
 use Rattle.mg_link.specs.declared.action.Step.{Step}
@@ -41,7 +41,7 @@ abbrev pub down : Follow → ℤ → ℤ → Follow
 down f cursor opened = record f { doing = owing; cursor = cursor; old = opened; ahead = []; upto = None }
 
 -- it lets go of all others
-pub lets_down : (log : Told) (f : Follow) (cursor opened : ℤ) → IsOpen f.doing → IdsFrom f (down f cursor opened) → Moved log log f (down f cursor opened)
+pub lets_down : (log : LogTold) (f : Follow) (cursor opened : ℤ) → IsOpen f.doing → IdsFrom f (down f cursor opened) → Moved log log f (down f cursor opened)
 lets_down log f cursor opened is_open ids calls told = (
   calls,
   told,
@@ -56,7 +56,7 @@ lets_down log f cursor opened is_open ids calls told = (
 )
 
 -- it keeps its cursors
-keeps_down : (log : Told) (f : Follow) → IsOpen f.doing → Moved log log f (down f f.cursor f.old)
+keeps_down : (log : LogTold) (f : Follow) → IsOpen f.doing → Moved log log f (down f f.cursor f.old)
 keeps_down log f is_open = lets_down log f f.cursor f.old is_open (λ x of ne. of)
 
 none_left : (x : ℤ) → IsOf (pos 0 ∷ pos 0 ∷ []) x → x ≢ pos 0 → ⊥
@@ -65,7 +65,7 @@ none_left x (inr (inl e)) ne = ne (sym e)
 none_left x (inr (inr none)) ne = none
 
 -- it is closed
-dropped : (log : Told) (f : Follow) → IsOpen f.doing → Moved log log f (down f (pos 0) (pos 0))
+dropped : (log : LogTold) (f : Follow) → IsOpen f.doing → Moved log log f (down f (pos 0) (pos 0))
 dropped log f is_open = lets_down log f (pos 0) (pos 0) is_open (λ x of ne. absurd (none_left x of ne))
 
 -- all but an older one, where there is none
@@ -100,18 +100,18 @@ left_by false false c o x p q (inr (inl e)) = (inr (inl e), λ z. let bad : true
 left_by false false c o x p q (inr (inr none)) = absurd none
 
 -- a command of the stream's own cursors
-own_tried : (old new : Awaited) (log log' : Told) (g : Follow) (command : List ℕ) (stage : Stage) (attempt : Attempt) → NamesOwn (owner_of (owed g)) (asked command) → Tries old new log log' command stage attempt → Moved log log' (owed g) (owed g)
+own_tried : (old new : Awaited) (log log' : LogTold) (g : Follow) (command : List ℕ) (stage : Stage) (attempt : Attempt) → NamesOwn (owner_of (owed g)) (asked command) → Tries old new log log' command stage attempt → Moved log log' (owed g) (owed g)
 own_tried old new log log' g command unsent attempt own t = close_begun old new log log' (owed g) command attempt tt own t
 own_tried old new log log' g command (first ticket) attempt own t = close_gone_on old new log log' g ticket attempt t
 own_tried old new log log' g command (second ticket) attempt own t = close_gone_on old new log log' g ticket attempt t
 
 -- ---- from the stream to its closing
 
-hand_down : (log : Told) (events : List Fields) (upto : Option Tree) (w : Watch) (start : Start) (opened : Option ℕ) (cursor : ℤ) (token : Option Tree) (answered : List Fields) → Moved log log (in_hand events upto (idle_by w start opened cursor token answered)) (idle_by w start opened cursor token answered)
+hand_down : (log : LogTold) (events : List Fields) (upto : Option Tree) (w : Watch) (start : Start) (opened : Option ℕ) (cursor : ℤ) (token : Option Tree) (answered : List Fields) → Moved log log (in_hand events upto (idle_by w start opened cursor token answered)) (idle_by w start opened cursor token answered)
 hand_down log [] upto w start opened cursor token answered = keeps_down log (in_hand [] upto (idle_by w start opened cursor token answered)) tt
 hand_down log (e ∷ es) upto w start opened cursor token answered = keeps_down log (in_hand (e ∷ es) upto (idle_by w start opened cursor token answered)) tt
 
-module _ (log : Told) (awaited : Awaited) (w : Watch) (start : Start) (opened : Option ℕ) (cursor : ℤ) (token : Option Tree) (answered : List Fields) where
+module _ (log : LogTold) (awaited : Awaited) (w : Watch) (start : Start) (opened : Option ℕ) (cursor : ℤ) (token : Option Tree) (answered : List Fields) where
   abbrev from_idle : Follow
   from_idle = idle_by w start opened cursor token answered
 
@@ -143,7 +143,7 @@ module _ (log : Told) (awaited : Awaited) (w : Watch) (start : Start) (opened : 
   older_down d upto c None quiet = older_stage d upto c.id unsent quiet
   older_down d upto c (Some sending) quiet = older_stage d upto c.id sending.stage quiet
 
-close_by : (log : Told) (awaited : Awaited) (w : Watch) (start : Start) (s : ClientStream) (d : Doing) → SoundBy false s d → (events answered : List Fields) (opened : Option ℕ) (token : Option Tree)
+close_by : (log : LogTold) (awaited : Awaited) (w : Watch) (start : Start) (s : ClientStream) (d : Doing) → SoundBy false s d → (events answered : List Fields) (opened : Option ℕ) (token : Option Tree)
     → Moved log log (follow_by awaited d s.cursor events (idle_by w start opened s.cursor.id token answered)) (closing_by awaited (landing_of d) s.cursor (idle_by w start opened s.cursor.id token answered))
 close_by log awaited w start s follows sound events answered opened token = more_down log awaited w start opened s.cursor.id token answered s.cursor.doing events s.cursor.token
 close_by log awaited w start s owes sound events answered opened token = idle_down log awaited w start opened s.cursor.id token answered s.cursor.doing sound.quiet
@@ -154,7 +154,7 @@ close_by log awaited w start s (kills before) sound events answered opened token
 close_by log awaited w start s renewed sound events answered opened token = unread_down log awaited w start opened s.cursor.id token answered s.cursor.doing s.cursor.token sound.0.quiet
 
 -- The stream is to be closed: nothing is sent. Its token may have been handed out.
-pub close_moved : (log : Told) (awaited : Awaited) (w : Watch) (start : Start) (lent : Bool) (s : ClientStream) (opened : Option ℕ) (answered : List Fields) → IsSound false s
+pub close_moved : (log : LogTold) (awaited : Awaited) (w : Watch) (start : Start) (lent : Bool) (s : ClientStream) (opened : Option ℕ) (answered : List Fields) → IsSound false s
     → Moved log log (follow_of awaited w start s opened answered) (follow_closing awaited w start (stream_token s) (closed_stream lent s) opened answered)
 close_moved log awaited w start lent s opened answered sound = close_by log awaited w start s s.doing sound.by (map fields s.behind) answered opened (stream_token s)
 
@@ -195,10 +195,10 @@ module _ (w : Watch) (start : Start) (token : Option Tree) (opened : Option ℕ)
   abbrev pub closed_to : Awaited → Step ClosingStream (Unit {0}) → Follow
   closed_to awaited r = follow_closed awaited w start token opened answered r
 
-  all_dropped : (log log' : Told) (g : Follow) (cursor older : ℤ) → Moved log log' g (at_ids cursor older) → Moved log log' g (at_ids (pos 0) (pos 0))
+  all_dropped : (log log' : LogTold) (g : Follow) (cursor older : ℤ) → Moved log log' g (at_ids cursor older) → Moved log log' g (at_ids (pos 0) (pos 0))
   all_dropped log log' g cursor older m = moved log log' log' g (at_ids cursor older) (at_ids (pos 0) (pos 0)) m (dropped log' (at_ids cursor older) tt)
 
-  module _ (old new : Awaited) (log log' : Told) (wire : ℤ) (k : ClosingStream) (r : Step ClosingStream (Unit {0})) where
+  module _ (old new : Awaited) (log log' : LogTold) (wire : ℤ) (k : ClosingStream) (r : Step ClosingStream (Unit {0})) where
     -- its killCursors was polled
     last_ran : (sending : Sending) (came : Step Sending (List ℕ)) → fields sending.command ≡ kill_left k → sending.retries ≡ false → Runs old new log log' wire sending came → Moved log log' (at_ids k.cursor.id k.opened) (at_ids k.cursor.id k.opened)
     last_ran sending came command_is single runs =
@@ -236,19 +236,19 @@ module _ (w : Watch) (start : Start) (token : Option Tree) (opened : Option ℕ)
     passed_moved e (inr other) = left_moved other.1
 
   -- behind what was on its way
-  then_left : (old mid new : Awaited) (log between log' : Told) (wire : ℤ) (k : ClosingStream) (r : Step ClosingStream (Unit {0})) (g : Follow) → Moved log between g (at_ids k.cursor.id k.opened) → KillsLeft mid new between log' wire k r → Moved log log' g (closed_to new r)
+  then_left : (old mid new : Awaited) (log between log' : LogTold) (wire : ℤ) (k : ClosingStream) (r : Step ClosingStream (Unit {0})) (g : Follow) → Moved log between g (at_ids k.cursor.id k.opened) → KillsLeft mid new between log' wire k r → Moved log log' g (closed_to new r)
   then_left old mid new log between log' wire k r g m h = moved log between log' g (at_ids k.cursor.id k.opened) (closed_to new r) m (left_moved mid new between log' wire k r h)
 
-  then_passed : (old mid new : Awaited) (log between log' : Told) (wire : ℤ) (k : ClosingStream) (r : Step ClosingStream (Unit {0})) (g : Follow) (e : Error) → Moved log between g (at_ids k.cursor.id k.opened) → PassesOver mid new between log' wire k e r → Moved log log' g (closed_to new r)
+  then_passed : (old mid new : Awaited) (log between log' : LogTold) (wire : ℤ) (k : ClosingStream) (r : Step ClosingStream (Unit {0})) (g : Follow) (e : Error) → Moved log between g (at_ids k.cursor.id k.opened) → PassesOver mid new between log' wire k e r → Moved log log' g (closed_to new r)
   then_passed old mid new log between log' wire k r g e m h = moved log between log' g (at_ids k.cursor.id k.opened) (closed_to new r) m (passed_moved mid new between log' wire k r e h)
 
   -- it pends still, and nothing was sent behind that
-  then_waits : (mid new : Awaited) (log between log' : Told) (f g h : Follow) → SendsNothing mid new between log' → f ≡ h → Moved log between g f → Moved log log' g h
+  then_waits : (mid new : Awaited) (log between log' : LogTold) (f g h : Follow) → SendsNothing mid new between log' → f ≡ h → Moved log between g f → Moved log log' g h
   then_waits mid new log between log' f g h nothing is m = moved log between log' g f h m (up_to between log' f f h is (stayed between log' f nothing.log_same))
 
   -- ---- the getMore of its cursor
 
-  more_landed : (old mid new : Awaited) (log between log' : Told) (wire : ℤ) (k : ClosingStream) (r : Step ClosingStream (Unit {0})) (sending : Sending) → k.doing ≡ lands → IsLanding k → IsAsking false k.cursor sending → (came : Step Sending (List ℕ)) (left : ClientCursor) (poll : NextPoll) → Runs old mid log between wire sending came → Hears k.cursor came left poll
+  more_landed : (old mid new : Awaited) (log between log' : LogTold) (wire : ℤ) (k : ClosingStream) (r : Step ClosingStream (Unit {0})) (sending : Sending) → k.doing ≡ lands → IsLanding k → IsAsking false k.cursor sending → (came : Step Sending (List ℕ)) (left : ClientCursor) (poll : NextPoll) → Runs old mid log between wire sending came → Hears k.cursor came left poll
       → BehindMore mid new between log' wire (record k { cursor = left }) poll r → Moved log log' (at_stage (record (at_ids k.cursor.id k.opened) { doing = resting }) (asks_at (at_ids k.cursor.id k.opened)) old sending.stage) (closed_to new r)
   more_landed old mid new log between log' wire k r sending at landing is came left poll runs hears behind = by_came came hears polled
     where
@@ -296,7 +296,7 @@ module _ (w : Watch) (start : Start) (token : Option Tree) (opened : Option ℕ)
 
   -- ---- the aggregate of a resumption
 
-  aggregate_landed : (old mid new : Awaited) (log between log' : Told) (wire : ℤ) (k : ClosingStream) (r : Step ClosingStream (Unit {0})) (sending : Sending) → ResumesWatch w start token sending → (came : Step Sending (List ℕ)) → Runs old mid log between wire sending came → BehindAggregate mid new between log' wire k came r
+  aggregate_landed : (old mid new : Awaited) (log between log' : LogTold) (wire : ℤ) (k : ClosingStream) (r : Step ClosingStream (Unit {0})) (sending : Sending) → ResumesWatch w start token sending → (came : Step Sending (List ℕ)) → Runs old mid log between wire sending came → BehindAggregate mid new between log' wire k came r
       → Moved log log' (at_stage (at_ids k.cursor.id k.opened) (λ place. record (at_ids k.cursor.id k.opened) { doing = resuming place }) old sending.stage) (closed_to new r)
   aggregate_landed old mid new log between log' wire k r sending is came runs behind = by_came came behind polled
     where
@@ -332,7 +332,7 @@ module _ (w : Watch) (start : Start) (token : Option Tree) (opened : Option ℕ)
 
   -- ---- the closing of the cursor before
 
-  older_tried : (old new : Awaited) (log log' : Told) (cursor older id : ℤ) (command : List ℕ) (stage : Stage) (attempt : Attempt) → older ≡ pos 0 → id ≢ pos 0 → asked command ≡ asks_kill (id ∷ []) → Tries old new log log' command stage attempt
+  older_tried : (old new : Awaited) (log log' : LogTold) (cursor older id : ℤ) (command : List ℕ) (stage : Stage) (attempt : Attempt) → older ≡ pos 0 → id ≢ pos 0 → asked command ≡ asks_kill (id ∷ []) → Tries old new log log' command stage attempt
       → Moved log log' (at_stage (at_ids cursor id) (λ place. at_ids cursor older) old stage) (at_ids cursor older)
   older_tried old new log log' cursor older id command unsent attempt alone there asks_so t =
       moved log log' log' (at_ids cursor id) (at_ids cursor id) (at_ids cursor older)
@@ -342,7 +342,7 @@ module _ (w : Watch) (start : Start) (token : Option Tree) (opened : Option ℕ)
   older_tried old new log log' cursor older id command (first ticket) attempt alone there asks_so t = close_gone_on old new log log' (at_ids cursor older) ticket attempt t
   older_tried old new log log' cursor older id command (second ticket) attempt alone there asks_so t = close_gone_on old new log log' (at_ids cursor older) ticket attempt t
 
-  module _ (old new : Awaited) (log log' : Told) (wire : ℤ) (cursor older : ℤ) (alone : older ≡ pos 0) where
+  module _ (old new : Awaited) (log log' : LogTold) (wire : ℤ) (cursor older : ℤ) (alone : older ≡ pos 0) where
     older_heard : (c : ClientCursor) (sending : Sending) (came : Step Sending (List ℕ)) (r : Step ClosingCursor (Unit {0})) → Runs old new log log' wire sending came → KillHears c came r → Moved log log' (at_stage (at_ids cursor c.id) (λ place. at_ids cursor older) old sending.stage) (at_ids cursor older)
         → ClosesTo new log log' (at_stage (at_ids cursor c.id) (λ place. at_ids cursor older) old sending.stage) (at_ids cursor older) r
     older_heard c sending (step.Pending waiting) r runs h m =
@@ -384,7 +384,7 @@ module _ (w : Watch) (start : Start) (token : Option Tree) (opened : Option ℕ)
         subst (λ (o : Option Sending). ClosesTo new log log' (older_by old before.cursor o (at_ids cursor older)) (at_ids cursor older) r) (sym at)
         (older_run before.cursor sending h.came r on.waits_on.command_is on.waits_on.single on.may.held h.runs h.hears)
 
-  closing_landed : (old mid new : Awaited) (log between log' : Told) (wire : ℤ) (k : ClosingStream) (r : Step ClosingStream (Unit {0})) (g : Follow) (came : Step ClosingCursor (Unit {0})) → ClosesTo mid log between g (at_ids k.cursor.id k.opened) came → BehindReplaced mid new between log' wire k came r → Moved log log' g (closed_to new r)
+  closing_landed : (old mid new : Awaited) (log between log' : LogTold) (wire : ℤ) (k : ClosingStream) (r : Step ClosingStream (Unit {0})) (g : Follow) (came : Step ClosingCursor (Unit {0})) → ClosesTo mid log between g (at_ids k.cursor.id k.opened) came → BehindReplaced mid new between log' wire k came r → Moved log log' g (closed_to new r)
   closing_landed old mid new log between log' wire k r g (step.Pending before) m h =
       subst (λ (x : Step ClosingStream (Unit {0})). Moved log log' g (closed_to new x)) (sym h.1)
       (then_waits mid new log between log' (with_older mid before (at_ids k.cursor.id k.opened)) g (with_older new before (at_ids k.cursor.id k.opened)) h.0 (older_same mid new h.0.rest before.cursor before.killing (at_ids k.cursor.id k.opened)) m)
@@ -398,7 +398,7 @@ module _ (w : Watch) (start : Start) (token : Option Tree) (opened : Option ℕ)
   landing_quiet awaited (holds reply) f quiet = refl
   landing_quiet awaited (asks sending) f quiet = absurd quiet
 
-  module _ (old new : Awaited) (log log' : Told) (wire : ℤ) (k : ClosingStream) (r : Step ClosingStream (Unit {0})) (sound : IsSoundClosing k) (is_for : LandsFor w start token k) where
+  module _ (old new : Awaited) (log log' : LogTold) (wire : ℤ) (k : ClosingStream) (r : Step ClosingStream (Unit {0})) (sound : IsSoundClosing k) (is_for : LandsFor w start token k) where
     -- what is on its way as it begins
     as_landing : (d : Landing) → k.doing ≡ d → (g : Follow) → closing_by old d k.cursor (at_ids k.cursor.id k.opened) ≡ g → Moved log log' g (closed_to new r) → Moved log log' (follow_closing old w start token k opened answered) (closed_to new r)
     as_landing d at g is m = subst (λ (f : Follow). Moved log log' f (closed_to new r)) (sym (ap (λ (x : Landing). closing_by old x k.cursor (at_ids k.cursor.id k.opened)) at ∙ is)) m
@@ -435,22 +435,22 @@ module _ (w : Watch) (start : Start) (token : Option Tree) where
   heard_for k (step.Done bytes) r h = for_as r (step.Done tt) h tt
   heard_for k (step.Failed e) r h = for_as r (step.Failed e) h tt
 
-  left_for : (old new : Awaited) (log log' : Told) (wire : ℤ) (k : ClosingStream) (r : Step ClosingStream (Unit {0})) → KillsLeft old new log log' wire k r → OnPending r (LandsFor w start token)
+  left_for : (old new : Awaited) (log log' : LogTold) (wire : ℤ) (k : ClosingStream) (r : Step ClosingStream (Unit {0})) → KillsLeft old new log log' wire k r → OnPending r (LandsFor w start token)
   left_for old new log log' wire k r (nothing_left none nothing answer) = for_as r (step.Done tt) answer tt
   left_for old new log log' wire k r (not_built some e fails nothing answer) = for_as r (step.Failed e) answer tt
   left_for old new log log' wire k r (kills_all some sending new_one h) = heard_for k h.came r h.hears
 
-  passed_for : (old new : Awaited) (log log' : Told) (wire : ℤ) (k : ClosingStream) (e : Error) (r : Step ClosingStream (Unit {0})) → PassesOver old new log log' wire k e r → OnPending r (LandsFor w start token)
+  passed_for : (old new : Awaited) (log log' : LogTold) (wire : ℤ) (k : ClosingStream) (e : Error) (r : Step ClosingStream (Unit {0})) → PassesOver old new log log' wire k e r → OnPending r (LandsFor w start token)
   passed_for old new log log' wire k e r (inl memory) = for_as r (step.Failed e) memory.2 tt
   passed_for old new log log' wire k e r (inr other) = left_for old new log log' wire k r other.1
 
-  more_for : (old new : Awaited) (log log' : Told) (wire : ℤ) (k : ClosingStream) (poll : NextPoll) (r : Step ClosingStream (Unit {0})) → k.doing ≡ lands → BehindMore old new log log' wire k poll r → OnPending r (LandsFor w start token)
+  more_for : (old new : Awaited) (log log' : LogTold) (wire : ℤ) (k : ClosingStream) (poll : NextPoll) (r : Step ClosingStream (Unit {0})) → k.doing ≡ lands → BehindMore old new log log' wire k poll r → OnPending r (LandsFor w start token)
   more_for old new log log' wire k next.Pending r at h = for_as r (step.Pending k) h.1 (subst (LandsForBy w start token) (sym at) tt)
   more_for old new log log' wire k (next.Batch bytes) r at h = left_for old new log log' wire k r h
   more_for old new log log' wire k next.End r at h = absurd h
   more_for old new log log' wire k (next.Failed e) r at h = passed_for old new log log' wire k e r h
 
-  opening_for : (old new : Awaited) (log log' : Told) (wire : ℤ) (k : ClosingStream) (bytes : List ℕ) (r : Step ClosingStream (Unit {0})) → BehindOpening old new log log' wire k bytes r → OnPending r (LandsFor w start token)
+  opening_for : (old new : Awaited) (log log' : LogTold) (wire : ℤ) (k : ClosingStream) (bytes : List ℕ) (r : Step ClosingStream (Unit {0})) → BehindOpening old new log log' wire k bytes r → OnPending r (LandsFor w start token)
   opening_for old new log log' wire k bytes r (opened_one said says killing) = left_for old new log log' wire (record k { opened = said.id; doing = lands }) r killing
   opening_for old new log log' wire k bytes r (opened_none e by passes) = passed_for old new log log' wire (record k { doing = lands }) e r passes
 
@@ -458,19 +458,19 @@ module _ (w : Watch) (start : Start) (token : Option Tree) where
   still_for : (sending waiting : Sending) → waiting.command ≡ sending.command → ResumesWatch w start token sending → ResumesWatch w start token waiting
   still_for sending waiting same h = record { aggregate = h.aggregate; asks = h.asks; saved = h.saved; token_is = h.token_is; wire = h.wire; session = h.session; command_is = ap fields same ∙ h.command_is }
 
-  aggregate_for : (old mid new : Awaited) (log between log' : Told) (wire : ℤ) (k : ClosingStream) (sending : Sending) (came : Step Sending (List ℕ)) (r : Step ClosingStream (Unit {0})) → ResumesWatch w start token sending → Runs old mid log between wire sending came → BehindAggregate mid new between log' wire k came r → OnPending r (LandsFor w start token)
+  aggregate_for : (old mid new : Awaited) (log between log' : LogTold) (wire : ℤ) (k : ClosingStream) (sending : Sending) (came : Step Sending (List ℕ)) (r : Step ClosingStream (Unit {0})) → ResumesWatch w start token sending → Runs old mid log between wire sending came → BehindAggregate mid new between log' wire k came r → OnPending r (LandsFor w start token)
   aggregate_for old mid new log between log' wire k sending (step.Pending waiting) r is runs h =
       for_as r (step.Pending (record k { doing = lands_aggregate waiting })) h.1 (still_for sending waiting (still_waits old mid log between wire sending waiting runs).same_command is)
   aggregate_for old mid new log between log' wire k sending (step.Done bytes) r is runs h = opening_for mid new between log' wire k bytes r h
   aggregate_for old mid new log between log' wire k sending (step.Failed e) r is runs h = passed_for mid new between log' wire (record k { doing = lands }) e r h
 
-  older_for : (old new : Awaited) (log log' : Told) (wire : ℤ) (k : ClosingStream) (came : Step ClosingCursor (Unit {0})) (r : Step ClosingStream (Unit {0})) → BehindReplaced old new log log' wire k came r → OnPending r (LandsFor w start token)
+  older_for : (old new : Awaited) (log log' : LogTold) (wire : ℤ) (k : ClosingStream) (came : Step ClosingCursor (Unit {0})) (r : Step ClosingStream (Unit {0})) → BehindReplaced old new log log' wire k came r → OnPending r (LandsFor w start token)
   older_for old new log log' wire k (step.Pending before) r h = for_as r (step.Pending (record k { doing = lands_replaced before })) h.1 tt
   older_for old new log log' wire k (step.Done t) r h = left_for old new log log' wire (record k { doing = lands }) r h
   older_for old new log log' wire k (step.Failed e) r h = passed_for old new log log' wire (record k { doing = lands }) e r h
 
   -- what is on its way is of the same stream still
-  pub closes_for : (old new : Awaited) (log log' : Told) (wire : ℤ) (k : ClosingStream) (r : Step ClosingStream (Unit {0})) → LandsFor w start token k → ClosesStream old new log log' wire k r → OnPending r (LandsFor w start token)
+  pub closes_for : (old new : Awaited) (log log' : LogTold) (wire : ℤ) (k : ClosingStream) (r : Step ClosingStream (Unit {0})) → LandsFor w start token k → ClosesStream old new log log' wire k r → OnPending r (LandsFor w start token)
   closes_for old new log log' wire k r is (begins at quiet h) = left_for old new log log' wire (record k { cursor = at_rest k.cursor }) r h
   closes_for old new log log' wire k r is (lands_more at sending asks_so b came left poll runs hears behind) = more_for b.awaited new b.log log' wire (record k { cursor = left }) poll r at behind
   closes_for old new log log' wire k r is (lands_opening sending at b came runs behind) = aggregate_for old b.awaited new log b.log log' wire k sending came r (subst (LandsForBy w start token) at is) runs behind

@@ -4,7 +4,7 @@ use Rattle.mg_bson.specs.Raw.{fields}
 use Rattle.mg_bson.specs.Tree.{Fields}
 use Rattle.mg_link.specs.Calls.{Came, Flies, Grows, HeardLast, Keeps, NoneBroken, Past, RequestFails, past_of, was_broken}
 use Rattle.mg_link.specs.Exec.{IsSuccess, Runs, Sending, Stage}
-use Rattle.mg_link.specs.Link.{Awaited, SendsNothing, Told}
+use Rattle.mg_link.specs.Link.{Awaited, SendsNothing, LogTold}
 use Rattle.mg_link.specs.Log.{Call, reply}
 use Rattle.mg_link.specs.Namespace.{Space}
 use Rattle.mg_link.specs.Session.{Session}
@@ -51,7 +51,7 @@ module _ (past past' : Past) (grows : Grows past past') (k : ClosingStream) wher
   left_grows left (causes.killing sending at is) = causes.killing sending at is
 
 -- nothing was sent: what is on its way has come as far
-module _ (old new : Awaited) (log log' : Told) (past : Past) (nothing : SendsNothing old new log log') where
+module _ (old new : Awaited) (log log' : LogTold) (past : Past) (nothing : SendsNothing old new log log') where
   flies_on : (command : Fields) (stage : Stage) → Flies old past command stage → Flies new past command stage
   flies_on command stage f = flies_grows past past (record { own = λ place call there own. own; keeps = same_keeps past.calls; wire = refl }) old new command stage (λ n held. nothing.rest n) f
 
@@ -64,18 +64,18 @@ module _ (old new : Awaited) (log log' : Told) (past : Past) (nothing : SendsNot
 -- ---- the killing
 
 -- a poll of the closing, of a call that had sent at these places, and from this one on
-abbrev Ended : Awaited → Told → ℤ → ClosingStream → List Call → List ℕ → ℕ → Step ClosingStream (Unit {0}) → Type 0
+abbrev Ended : Awaited → LogTold → ℤ → ClosingStream → List Call → List ℕ → ℕ → Step ClosingStream (Unit {0}) → Type 0
 Ended new log' wire k calls places since r = (calls' : List Call) × (log' ≡ Some calls') × Keeps calls calls' × causes.ClosingCame new (past_of places since calls' wire) k r
 
 module _ (new : Awaited) (past : Past) (k left : ClosingStream) (token_is : left.token ≡ k.token) (why : LeftBy past k left) (some : ids_left left ≢ []) where
   -- the killCursors came to this
-  kill_came : (old : Awaited) (log log' : Told) (wire : ℤ) (sending : Sending) (came : Step Sending (List ℕ)) (r : Step ClosingStream (Unit {0})) → Runs old new log log' wire sending came → Came new past (kill_left left) false came → HearsKill left came r → causes.ClosingCame new past k r
+  kill_came : (old : Awaited) (log log' : LogTold) (wire : ℤ) (sending : Sending) (came : Step Sending (List ℕ)) (r : Step ClosingStream (Unit {0})) → Runs old new log log' wire sending came → Came new past (kill_left left) false came → HearsKill left came r → causes.ClosingCame new past k r
   kill_came old log log' wire sending (step.Pending waiting) r runs came h = subst (causes.ClosingCame new past k) (sym h) (record { underway = came; token_is = token_is; cursor_by = inr (left, why, refl, refl) })
   kill_came old log log' wire sending (step.Done bytes) r runs came h =
       subst (causes.ClosingCame new past k) (sym h) (causes.killed left why some bytes (heard_by past (kill_left left) false (reply bytes) came) (success_ran old new log log' wire sending bytes runs))
   kill_came old log log' wire sending (step.Failed e) r runs came h = subst (causes.ClosingCame new past k) (sym h) (causes.not_killed left why some (inl came))
 
-module _ (mid new : Awaited) (between log' : Told) (wire : ℤ) (k : ClosingStream) (r : Step ClosingStream (Unit {0})) (calls : List Call) (places : List ℕ) (since : ℕ) (told : between ≡ Some calls) (room : since ≤ length calls) where
+module _ (mid new : Awaited) (between log' : LogTold) (wire : ℤ) (k : ClosingStream) (r : Step ClosingStream (Unit {0})) (calls : List Call) (places : List ℕ) (since : ℕ) (told : between ≡ Some calls) (room : since ≤ length calls) where
   -- nothing is sent any more
   quiet_ended : (x : Step ClosingStream (Unit {0})) → SendsNothing mid new between log' → r ≡ x → causes.ClosingCame new (past_of places since calls wire) k x → Ended new log' wire k calls places since r
   quiet_ended x nothing answer came = (calls, nothing.log_same ∙ told, same_keeps calls, subst (causes.ClosingCame new (past_of places since calls wire) k) (sym answer) came)
@@ -111,7 +111,7 @@ module _ (mid new : Awaited) (between log' : Told) (wire : ℤ) (k : ClosingStre
       passes_caused (record k { cursor = left }) e refl (λ room. causes.more at left (causes.not_given e fails room (is ∙ sym (behind_broken (fields bytes) e k.cursor breaks))) refl)
       (subst (λ (x : NextPoll). BehindMore mid new between log' wire (record k { cursor = left }) x r) answer behind)
 
-  more_landed : k.doing ≡ lands → (old : Awaited) (log : Told) (session : Option Session) (sending : Sending) → fields sending.command ≡ get_more k.cursor session → (came : Step Sending (List ℕ)) (left : ClientCursor) (poll : NextPoll) → Runs old mid log between wire sending came → Came mid (past_of places since calls wire) (get_more k.cursor session) false came
+  more_landed : k.doing ≡ lands → (old : Awaited) (log : LogTold) (session : Option Session) (sending : Sending) → fields sending.command ≡ get_more k.cursor session → (came : Step Sending (List ℕ)) (left : ClientCursor) (poll : NextPoll) → Runs old mid log between wire sending came → Came mid (past_of places since calls wire) (get_more k.cursor session) false came
       → Hears k.cursor came left poll → BehindMore mid new between log' wire (record k { cursor = left }) poll r → Ended new log' wire k calls places since r
   more_landed at old log session sending command_is (step.Pending waiting) left poll runs came h behind =
       let past : Past = past_of places since calls wire in
@@ -137,7 +137,7 @@ module _ (mid new : Awaited) (between log' : Told) (wire : ℤ) (k : ClosingStre
   opening_read sending at bytes heard success (opened_none e (inr breaks) passes) =
       passes_caused (record k { doing = lands }) e refl (λ room. causes.aggregate sending at (causes.opened_none e (was_broken bytes heard success breaks) room refl)) passes
 
-  aggregate_landed : (old : Awaited) (log : Told) (sending : Sending) → k.doing ≡ lands_aggregate sending → (came : Step Sending (List ℕ)) → Runs old mid log between wire sending came → Came mid (past_of places since calls wire) (fields sending.command) sending.retries came → BehindAggregate mid new between log' wire k came r → Ended new log' wire k calls places since r
+  aggregate_landed : (old : Awaited) (log : LogTold) (sending : Sending) → k.doing ≡ lands_aggregate sending → (came : Step Sending (List ℕ)) → Runs old mid log between wire sending came → Came mid (past_of places since calls wire) (fields sending.command) sending.retries came → BehindAggregate mid new between log' wire k came r → Ended new log' wire k calls places since r
   aggregate_landed old log sending at (step.Pending waiting) runs came h =
       let past : Past = past_of places since calls wire in
       let same = ap fields (still_waits old mid log between wire sending waiting runs).same_command in
@@ -163,12 +163,12 @@ underway_as : (awaited : Awaited) (past : Past) (k : ClosingStream) (d : Landing
 underway_as awaited past k d is h = subst (UnderwayBy awaited past k) is h
 
 -- a killCursors that was on its way
-going_came : (old new : Awaited) (log log' : Told) (wire : ℤ) (past : Past) (k : ClosingStream) (sending : Sending) → k.doing ≡ ends sending → ids_left k ≢ [] → (came : Step Sending (List ℕ)) (r : Step ClosingStream (Unit {0})) → Runs old new log log' wire sending came → Came new past (kill_left k) false came → HearsKill k came r → causes.ClosingCame new past k r
+going_came : (old new : Awaited) (log log' : LogTold) (wire : ℤ) (past : Past) (k : ClosingStream) (sending : Sending) → k.doing ≡ ends sending → ids_left k ≢ [] → (came : Step Sending (List ℕ)) (r : Step ClosingStream (Unit {0})) → Runs old new log log' wire sending came → Came new past (kill_left k) false came → HearsKill k came r → causes.ClosingCame new past k r
 going_came old new log log' wire past k sending at some (step.Pending waiting) r runs came h = subst (causes.ClosingCame new past k) (sym h) (record { underway = came; token_is = refl; cursor_by = inl refl })
 going_came old new log log' wire past k sending at some (step.Done bytes) r runs came h = kill_came new past k k refl (causes.killing sending at refl) some old log log' wire sending (step.Done bytes) r runs came h
 going_came old new log log' wire past k sending at some (step.Failed e) r runs came h = kill_came new past k k refl (causes.killing sending at refl) some old log log' wire sending (step.Failed e) r runs came h
 
-pub closing_caused : (old new : Awaited) (log log' : Told) (wire : ℤ) (k : ClosingStream) (r : Step ClosingStream (Unit {0})) → IsSoundClosing k → ClosesStream old new log log' wire k r → ClosingCaused old new log log' wire k r
+pub closing_caused : (old new : Awaited) (log log' : LogTold) (wire : ℤ) (k : ClosingStream) (r : Step ClosingStream (Unit {0})) → IsSoundClosing k → ClosesStream old new log log' wire k r → ClosingCaused old new log log' wire k r
 closing_caused old new log log' wire k r sound (begins at quiet h) = λ calls told places underway.
     let start : length calls ≤ length calls = omega arith in
     kills_caused old new log log' wire k r calls places (length calls) told start (record k { cursor = at_rest k.cursor }) refl (causes.same at quiet refl) h
@@ -216,7 +216,7 @@ LastCame awaited past last (step.Pending k) = LastSoFar awaited past last k
 LastCame awaited past last (step.Done t) = LastDone past last
 LastCame awaited past last (step.Failed e) = LastFails past last e
 
-module _ (old new : Awaited) (log log' : Told) (wire : ℤ) (last : ClientStream) (k : ClosingStream) (r : Step ClosingStream (Unit {0})) (ids_are : ids_left k ≡ last_ids last) (kill_is : kill_left k ≡ last_kill last) where
+module _ (old new : Awaited) (log log' : LogTold) (wire : ℤ) (last : ClientStream) (k : ClosingStream) (r : Step ClosingStream (Unit {0})) (ids_are : ids_left k ≡ last_ids last) (kill_is : kill_left k ≡ last_kill last) where
   -- it is still the closing of this stream
   last_heard : (past : Past) (sending : Sending) → k.cursor.id ≡ last.cursor.id → k.cursor.space ≡ last.cursor.space → k.opened ≡ pos 0 → IsNotAsking k.cursor.doing → last_ids last ≢ [] → (came : Step Sending (List ℕ)) → Runs old new log log' wire sending came → Came new past (last_kill last) false came → HearsKill k came r → LastCame new past last r
   last_heard past sending id_is space_is none_opened quiet some (step.Pending waiting) runs came h =
@@ -245,7 +245,7 @@ module _ (old new : Awaited) (log log' : Told) (wire : ℤ) (last : ClientStream
       (subst (λ (stage : Stage). Flies old (past_of places (length calls) calls wire) (last_kill last) stage) (sym new_one.new) tt)
 
 -- A poll of the closing of a stream at rest.
-pub last_closes : (old new : Awaited) (log log' : Told) (wire : ℤ) (last : ClientStream) (k : ClosingStream) (r : Step ClosingStream (Unit {0})) → IsSoundClosing k → ClosesStream old new log log' wire k r → (calls : List Call) → log ≡ Some calls → (places : List ℕ) → LastSoFar old (past_of places (length calls) calls wire) last k
+pub last_closes : (old new : Awaited) (log log' : LogTold) (wire : ℤ) (last : ClientStream) (k : ClosingStream) (r : Step ClosingStream (Unit {0})) → IsSoundClosing k → ClosesStream old new log log' wire k r → (calls : List Call) → log ≡ Some calls → (places : List ℕ) → LastSoFar old (past_of places (length calls) calls wire) last k
     → (calls' : List Call) × (log' ≡ Some calls') × Keeps calls calls' × LastCame new (past_of places (length calls) calls' wire) last r
 last_closes old new log log' wire last k r sound (begins at quiet h) calls told places so =
     last_left old new log log' wire last (record k { cursor = at_rest k.cursor }) r (last_same old (past_of places (length calls) calls wire) last k so) (kill_same old (past_of places (length calls) calls wire) last k so) so.id_is so.space_is so.none_opened tt h calls told places

@@ -1,7 +1,7 @@
 -- The moves of a stream that forgets what it had in hand.
 use Rattle.std.proofs.Common.{◌≡◌, [], None, refl}
 use Rattle.mg_link.specs.Follow.{resting, owing, Follow, IsOpen, Moved}
-use Rattle.mg_link.specs.Link.{Told}
+use Rattle.mg_link.specs.Link.{LogTold}
 use Rattle.mg_link.proofs.Moving.{known, known_as, hand_as, moved_here, same_opened}
 
 -- nothing is in hand
@@ -12,7 +12,7 @@ abbrev pub resting_only : Follow → Follow
 resting_only f = record f { doing = resting; ahead = []; upto = None }
 
 -- An open stream gave up what it had in hand, and owes.
-pub gives_up : (log : Told) (f : Follow) → IsOpen f.doing → Moved log log f (owing_only f)
+pub gives_up : (log : LogTold) (f : Follow) → IsOpen f.doing → Moved log log f (owing_only f)
 gives_up log f is_open calls told = (
   calls,
   told,
@@ -27,7 +27,7 @@ gives_up log f is_open calls told = (
 )
 
 -- A stream at rest has nothing in hand.
-pub rest_forgets : (log : Told) (f : Follow) → f.doing ≡ resting → Moved log log f (resting_only f)
+pub rest_forgets : (log : LogTold) (f : Follow) → f.doing ≡ resting → Moved log log f (resting_only f)
 rest_forgets log f is calls told = (
   calls,
   told,

@@ -47,24 +47,24 @@ as_waiting s s' stage held same =
       held = subst (λ (x : Sending). IsHeld x.stage) (sym same) held;
     }
 
-pub still_waits : (old new : Awaited) (log log' : link.Told) (wire : ℤ) (s s' : Sending) → Runs old new log log' wire s (step.Pending s') → Waiting s s'
+pub still_waits : (old new : Awaited) (log log' : link.LogTold) (wire : ℤ) (s s' : Sending) → Runs old new log log' wire s (step.Pending s') → Waiting s s'
 still_waits old new log log' wire s s' (inl once) = let g = once.gives in as_waiting s s' (held_at s.stage g.0) (holding_held s.stage g.0) g.2
 still_waits old new log log' wire s s' (inr twice) = let g = twice.gives in as_waiting s s' (second g.0) tt g.2
 
 -- a command that is sent once has one attempt
-pub runs_once : (old new : Awaited) (log log' : link.Told) (wire : ℤ) (s : Sending) (result : Polled Sending (List ℕ)) → s.retries ≡ false → Runs old new log log' wire s result → Once old new log log' wire s result
+pub runs_once : (old new : Awaited) (log log' : link.LogTold) (wire : ℤ) (s : Sending) (result : Polled Sending (List ℕ)) → s.retries ≡ false → Runs old new log log' wire s result → Once old new log log' wire s result
 runs_once old new log log' wire s result single (inl once) = once
 runs_once old new log log' wire s result single (inr twice) = absurd (never_again s.retries s.stage twice.attempt single twice.repeated)
 
 -- ---- how a reply came
 
 -- a call that was sent and answered in one was out in between
-record Midway (log log' : link.Told) (command : List ℕ) (seen : Sight) : Type 0 where
-  mid : link.Told
+record Midway (log log' : link.LogTold) (command : List ℕ) (seen : Sight) : Type 0 where
+  mid : link.LogTold
   adds : Adds log mid command waiting
   sees : Sees mid log' (next_place log) seen
 
-midway : (log log' : link.Told) (command : List ℕ) (seen : Sight) → Adds log log' command seen → Midway log log' command seen
+midway : (log log' : link.LogTold) (command : List ℕ) (seen : Sight) → Adds log log' command seen → Midway log log' command seen
 midway None log' command seen adds = record { mid = None; adds = λ calls is. absurd cc; sees = λ calls is. absurd cc }
 midway (Some calls) log' command seen adds =
     let add = adds calls refl in
@@ -84,39 +84,39 @@ midway (Some calls) log' command seen adds =
     }
 
 -- the place at which a reply to an attempt is heard, by the stage before it
-abbrev pub place_at : Awaited → link.Told → Stage → Option ℕ
+abbrev pub place_at : Awaited → link.LogTold → Stage → Option ℕ
 place_at old log unsent = next_place log
 place_at old log (first ticket) = old ticket
 place_at old log (second ticket) = old ticket
 
 -- the same of a poll: it is that of its last attempt
-abbrev pub place_heard : (old new : Awaited) (log log' : link.Told) (wire : ℤ) (s : Sending) (result : Polled Sending (List ℕ)) → Runs old new log log' wire s result → Option ℕ
+abbrev pub place_heard : (old new : Awaited) (log log' : link.LogTold) (wire : ℤ) (s : Sending) (result : Polled Sending (List ℕ)) → Runs old new log log' wire s result → Option ℕ
 place_heard old new log log' wire s result (inl once) = place_at old log s.stage
 place_heard old new log log' wire s result (inr twice) = next_place twice.log_between
 
 -- A poll ended with a reply: the request was out, and then this was seen at its place.
-pub record Came (waiting_at : Option ℕ → Follow) (log log' : link.Told) (f : Follow) (bytes : List ℕ) (place : Option ℕ) : Type 0 where
-  pub mid : link.Told
+pub record Came (waiting_at : Option ℕ → Follow) (log log' : link.LogTold) (f : Follow) (bytes : List ℕ) (place : Option ℕ) : Type 0 where
+  pub mid : link.LogTold
   pub out : Moved log mid f (waiting_at place)
   pub sees : Sees mid log' place (reply bytes)
   pub success : IsSuccess bytes
 
 module _ (command : List ℕ) (idle : Follow) (waiting_at : Option ℕ → Follow) (done : Option ℕ → Batch → Follow) (r : Request command idle waiting_at done) where
-  came_begun : (old new : Awaited) (log log' : link.Told) (bytes : List ℕ) → IsSuccess bytes → Begins old new log log' command (answered (reply bytes)) → Came waiting_at log log' idle bytes (next_place log)
+  came_begun : (old new : Awaited) (log log' : link.LogTold) (bytes : List ℕ) → IsSuccess bytes → Begins old new log log' command (answered (reply bytes)) → Came waiting_at log log' idle bytes (next_place log)
   came_begun old new log log' bytes success b =
       let m = midway log log' command (reply bytes) b.adds in
       record { mid = m.mid; out = r.sent log m.mid (next_place log) m.adds (next_is log); sees = m.sees; success = success }
 
-  came_on : (old new : Awaited) (log log' : link.Told) (ticket : ℕ) (bytes : List ℕ) → IsSuccess bytes → GoesOn old new log log' ticket (answered (reply bytes)) → Came waiting_at log log' (waiting_at (old ticket)) bytes (old ticket)
+  came_on : (old new : Awaited) (log log' : link.LogTold) (ticket : ℕ) (bytes : List ℕ) → IsSuccess bytes → GoesOn old new log log' ticket (answered (reply bytes)) → Came waiting_at log log' (waiting_at (old ticket)) bytes (old ticket)
   came_on old new log log' ticket bytes success g = record { mid = log; out = stayed log log (waiting_at (old ticket)) refl; sees = g.sees; success = success }
 
-  came_tried : (old new : Awaited) (log log' : link.Told) (stage : Stage) (bytes : List ℕ) → IsSuccess bytes → Tries old new log log' command stage (answered (reply bytes)) → Came waiting_at log log' (at_stage idle waiting_at old stage) bytes (place_at old log stage)
+  came_tried : (old new : Awaited) (log log' : link.LogTold) (stage : Stage) (bytes : List ℕ) → IsSuccess bytes → Tries old new log log' command stage (answered (reply bytes)) → Came waiting_at log log' (at_stage idle waiting_at old stage) bytes (place_at old log stage)
   came_tried old new log log' unsent bytes success t = came_begun old new log log' bytes success t
   came_tried old new log log' (first ticket) bytes success t = came_on old new log log' ticket bytes success t
   came_tried old new log log' (second ticket) bytes success t = came_on old new log log' ticket bytes success t
 
   -- an attempt behind which the command is sent once more left the stream idle
-  idle_again : (old new : Awaited) (log log' : link.Told) (retries : Bool) (stage : Stage) (attempt : Attempt) → is_repeated retries stage attempt ≡ true → Tries old new log log' command stage attempt → Moved log log' (at_stage idle waiting_at old stage) idle
+  idle_again : (old new : Awaited) (log log' : link.LogTold) (retries : Bool) (stage : Stage) (attempt : Attempt) → is_repeated retries stage attempt ≡ true → Tries old new log log' command stage attempt → Moved log log' (at_stage idle waiting_at old stage) idle
   idle_again old new log log' retries stage not_sent again t = tried command idle waiting_at done r old new log log' stage not_sent t
   idle_again old new log log' retries stage (waits ticket) again t = absurd (not_repeated retries stage ticket again)
     where
@@ -128,7 +128,7 @@ module _ (command : List ℕ) (idle : Follow) (waiting_at : Option ℕ → Follo
       not_repeated retries (second old) ticket h = cc
   idle_again old new log log' retries stage (answered seen) again t = (tried command idle waiting_at done r old new log log' stage (answered seen) t).0
 
-  pub came : (old new : Awaited) (log log' : link.Told) (wire : ℤ) (s : Sending) (bytes : List ℕ) → s.command ≡ command → (runs : Runs old new log log' wire s (step.Done bytes)) → Came waiting_at log log' (at_stage idle waiting_at old s.stage) bytes (place_heard old new log log' wire s (step.Done bytes) runs)
+  pub came : (old new : Awaited) (log log' : link.LogTold) (wire : ℤ) (s : Sending) (bytes : List ℕ) → s.command ≡ command → (runs : Runs old new log log' wire s (step.Done bytes)) → Came waiting_at log log' (at_stage idle waiting_at old s.stage) bytes (place_heard old new log log' wire s (step.Done bytes) runs)
   came old new log log' wire s bytes is (inl once) =
       let t = subst (λ (c : List ℕ). Tries old new log log' c s.stage once.attempt) is once.tries in
       came_tried old new log log' s.stage bytes once.gives.1 (subst (λ (a : Attempt). Tries old new log log' command s.stage a) once.gives.0 t)
@@ -151,7 +151,7 @@ abbrev pub opened_as : Follow → Option ℕ → ℤ → List Fields → Option 
 opened_as f place cursor ahead upto token = record f { doing = holding; opened = place; cursor = cursor; ahead = ahead; upto = upto; token = token }
 
 -- The reply to an opening is none that a server may give: whatever is kept of it, in no legal history does the log stand.
-pub start_garbled : (log log' : link.Told) (f : Follow) (place : Option ℕ) (bytes : List ℕ) (cursor : ℤ) (ahead : List Fields) (upto token : Option Tree) → f.doing ≡ starting place → told (asks_watch f.watch f.start) bytes ≡ garbled → Sees log log' place (reply bytes)
+pub start_garbled : (log log' : link.LogTold) (f : Follow) (place : Option ℕ) (bytes : List ℕ) (cursor : ℤ) (ahead : List Fields) (upto token : Option Tree) → f.doing ≡ starting place → told (asks_watch f.watch f.start) bytes ≡ garbled → Sees log log' place (reply bytes)
     → Moved log log' f (opened_as f place cursor ahead upto token)
 start_garbled log log' f place bytes cursor ahead upto token is spoiled sees calls is_told =
     let s = sees calls is_told in

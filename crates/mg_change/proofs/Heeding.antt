@@ -7,9 +7,9 @@ use Rattle.mg_bson.specs.Tree.{Fields, no_fields}
 use Rattle.mg_link.specs.Namespace.{Space}
 use Rattle.mg_link.specs.State.{Start}
 use Rattle.mg_link.specs.Commands.{Batch, asks_kill, asks_more, asks_watch, asked, batch_of, documents_in}
-use Rattle.mg_link.specs.Exec.{Stage, unsent, first, second, Sending, Attempt, not_sent, waits, answered, Begins, FailsAs, AttemptFails, FailsByReply, Gives, IsSuccess, Runs, Tries, holding as held_at, is_repeated, ticket_at}
+use Rattle.mg_link.specs.Exec.{Stage, unsent, first, second, Sending, Attempt, not_sent, waits, answered, Begins, FailsAs, AttemptFails, FailsByReply, AttemptGives, IsSuccess, Runs, Tries, holding as held_at, is_repeated, ticket_at}
 use Rattle.mg_link.specs.Follow.{Follow, holding, resting, resuming, IsOpen, Moved, Reads, ResumesAt}
-use Rattle.mg_link.specs.Link.{Awaited, Told, Sees}
+use Rattle.mg_link.specs.Link.{Awaited, LogTold, Sees}
 use Rattle.mg_link.specs.Log.{waiting, reply, fault, memory}
 use Rattle.mg_link.specs.Reply.{verdict_of}
 use Rattle.mg_link.specs.Resumable.{is_resumable}
@@ -34,19 +34,19 @@ use Rattle.mg_ops.proofs.Reading.{batch_as, batch_read}
 -- ---- where a stream is behind its request, as it likes
 
 -- Behind a getMore that failed so: it owes, or it rests where the server refused for good.
-pub record MoreFailed (f : Follow) (log log' : Told) (g : Follow) (e : Error) : Type 0 where
+pub record MoreFailed (f : Follow) (log log' : LogTold) (g : Follow) (e : Error) : Type 0 where
   pub lost : Moved log log' g (owed f)
   pub rests : is_resumable e.kind e.labels e.wire_version ≡ false → (e.kind ≡ kind.OutOfMemory → ⊥) → (cursor : ℤ) → (cursor ≡ f.cursor) ⊎ (cursor ≡ pos 0) → Moved log log' g (rested f cursor)
 
 -- Behind a reply to the aggregate of its resumption: it owes; or a batch was read; or the reply is none that a server may give.
-pub record Resumed (f : Follow) (log log' : Told) (g : Follow) (bytes : List ℕ) : Type 0 where
+pub record Resumed (f : Follow) (log log' : LogTold) (g : Follow) (bytes : List ℕ) : Type 0 where
   pub lost : Moved log log' g f
   pub heard : (batch : Batch) → Reads bytes batch → Moved log log' g (resumed_with f batch)
   pub spoiled : batch_of (fields bytes) ≡ None → (batch : Batch) → Moved log log' g (resumed_with f batch)
 
 -- ---- the batch that is read, or none that a server may give
 
-module _ (f : Follow) (log log' : Told) (g : Follow) (bytes : List ℕ) (c : Cursor) (success : IsSuccess bytes) (says : cursor_of (fields bytes) ≡ Ok c) where
+module _ (f : Follow) (log log' : LogTold) (g : Follow) (bytes : List ℕ) (c : Cursor) (success : IsSuccess bytes) (says : cursor_of (fields bytes) ≡ Ok c) where
   batch_is : (o : Option (List Fields)) → documents_in c.batch ≡ o → batch_of (fields bytes) ≡ option_map (batch_as c) o
   batch_is o e = batch_read (fields bytes) c says ∙ ap (option_map (batch_as c)) e
 
@@ -81,7 +81,7 @@ refused_by None bytes wire e is fails final room =
     let bad : true ≡ false = sym (ap (λ (x : Error). is_resumable x.kind x.labels x.wire_version) fails) ∙ final in absurd cc
 refused_by (Some said) bytes wire e is fails final room = ap (λ (o : Option Fields). verdict_of (unwrap_or o no_fields)) is ∙ refused_as (verdict_of said) said wire e fails final room
 
-module _ (f : Follow) (new : Awaited) (log log' : Told) (g : Follow) (is_open : IsOpen g.doing) (owes : owed g ≡ owed f) (wire : ℤ) (e : Error) where
+module _ (f : Follow) (new : Awaited) (log log' : LogTold) (g : Follow) (is_open : IsOpen g.doing) (owes : owed g ≡ owed f) (wire : ℤ) (e : Error) where
   quit : Moved log log' g g → Moved log log' g (owed f)
   quit m = subst (λ (h : Follow). Moved log log' g h) owes (moved log log' log' g g (owed g) m (gave_up log' log' g is_open refl))
 
@@ -113,7 +113,7 @@ held_by s unsent ticket = record { ticket = ticket; held = refl }
 held_by s (first old) ticket = record { ticket = ticket; held = refl }
 held_by s (second old) ticket = record { ticket = ticket; held = refl }
 
-pub waits_still : (old new : Awaited) (log log' : Told) (wire : ℤ) (s s' : Sending) → Runs old new log log' wire s (step.Pending s') → Waits s'
+pub waits_still : (old new : Awaited) (log log' : LogTold) (wire : ℤ) (s s' : Sending) → Runs old new log log' wire s (step.Pending s') → Waits s'
 waits_still old new log log' wire s s' (inl once) = subst Waits (sym once.gives.2) (held_by s s.stage once.gives.0)
 waits_still old new log log' wire s s' (inr twice) = subst Waits (sym twice.gives.2) (record { ticket = twice.gives.0; held = refl })
 
@@ -128,7 +128,7 @@ at_waiting idle waiting_at awaited s w = stage_waits idle waiting_at awaited s.s
 
 -- ---- a getMore
 
-more_held : (f : Follow) (new : Awaited) (log log' : Told) (g : Follow) (s : Sending) (stage : Stage) (ticket : ℕ) → Moved log log' g (asks_at f (new ticket)) → Moved log log' g (at_stage (record f { doing = resting }) (asks_at f) new (held_at stage ticket))
+more_held : (f : Follow) (new : Awaited) (log log' : LogTold) (g : Follow) (s : Sending) (stage : Stage) (ticket : ℕ) → Moved log log' g (asks_at f (new ticket)) → Moved log log' g (at_stage (record f { doing = resting }) (asks_at f) new (held_at stage ticket))
 more_held f new log log' g s unsent ticket m = m
 more_held f new log log' g s (first old) ticket m = m
 more_held f new log log' g s (second old) ticket m = m
@@ -144,12 +144,12 @@ owed_at_rest f awaited (first ticket) = refl
 owed_at_rest f awaited (second ticket) = refl
 
 -- what a poll of a getMore comes to
-abbrev pub MoreCame : Follow → Awaited → Told → Told → Follow → Step Sending (List ℕ) → Type 0
+abbrev pub MoreCame : Follow → Awaited → LogTold → LogTold → Follow → Step Sending (List ℕ) → Type 0
 MoreCame f new log log' g (step.Pending s) = Moved log log' g (at_stage (record f { doing = resting }) (asks_at f) new s.stage)
 MoreCame f new log log' g (step.Done bytes) = MoreAnswered f log log' g (reply bytes) × IsSuccess bytes
 MoreCame f new log log' g (step.Failed e) = MoreFailed f log log' g e
 
-more_gives : (f : Follow) (old new : Awaited) (log log' : Told) (wire : ℤ) (s : Sending) (attempt : Attempt) (result : Step Sending (List ℕ)) → Gives attempt wire (λ ticket. record s { stage = held_at s.stage ticket }) result
+more_gives : (f : Follow) (old new : Awaited) (log log' : LogTold) (wire : ℤ) (s : Sending) (attempt : Attempt) (result : Step Sending (List ℕ)) → AttemptGives attempt wire (λ ticket. record s { stage = held_at s.stage ticket }) result
     → MoreAttempted f new log log' (at_stage (record f { doing = resting }) (asks_at f) old s.stage) attempt → MoreCame f new log log' (at_stage (record f { doing = resting }) (asks_at f) old s.stage) result
 more_gives f old new log log' wire s attempt (step.Pending s') gives m =
     let g = at_stage (record f { doing = resting }) (asks_at f) old s.stage in
@@ -161,7 +161,7 @@ more_gives f old new log log' wire s attempt (step.Failed e) gives m =
     more_failed f new log log' (at_stage (record f { doing = resting }) (asks_at f) old s.stage) (open_at_rest f old s.stage) (owed_at_rest f old s.stage) wire e attempt gives m
 
 -- A getMore of the stream's cursor was polled.
-pub more_polled : (f : Follow) (old new : Awaited) (log log' : Told) (wire : ℤ) (s : Sending) (space : Space) (result : Step Sending (List ℕ)) → f.cursor ≢ pos 0 → asked s.command ≡ asks_more f.cursor space → s.retries ≡ false → Runs old new log log' wire s result
+pub more_polled : (f : Follow) (old new : Awaited) (log log' : LogTold) (wire : ℤ) (s : Sending) (space : Space) (result : Step Sending (List ℕ)) → f.cursor ≢ pos 0 → asked s.command ≡ asks_more f.cursor space → s.retries ≡ false → Runs old new log log' wire s result
     → MoreCame f new log log' (at_stage (record f { doing = resting }) (asks_at f) old s.stage) result
 more_polled f old new log log' wire s space result held asks single runs =
     let r = more_ran f s.command space held asks old new log log' wire s result refl single runs in
@@ -169,20 +169,20 @@ more_polled f old new log log' wire s space result held asks single runs =
 
 -- ---- the aggregate of a resumption
 
-module _ (command : List ℕ) (idle : Follow) (waiting_at : Option ℕ → Follow) (done : Option ℕ → Batch → Follow) (r : Request command idle waiting_at done) (bytes : List ℕ) (bad : Follow) (spoil : (log log' : Told) (place : Option ℕ) → Sees log log' place (reply bytes) → Moved log log' (waiting_at place) bad) where
-  spoiled_begun : (old new : Awaited) (log log' : Told) (attempt : Attempt) → attempt ≡ answered (reply bytes) → Begins old new log log' command attempt → Moved log log' idle bad
+module _ (command : List ℕ) (idle : Follow) (waiting_at : Option ℕ → Follow) (done : Option ℕ → Batch → Follow) (r : Request command idle waiting_at done) (bytes : List ℕ) (bad : Follow) (spoil : (log log' : LogTold) (place : Option ℕ) → Sees log log' place (reply bytes) → Moved log log' (waiting_at place) bad) where
+  spoiled_begun : (old new : Awaited) (log log' : LogTold) (attempt : Attempt) → attempt ≡ answered (reply bytes) → Begins old new log log' command attempt → Moved log log' idle bad
   spoiled_begun old new log log' attempt is b =
       let s = subst (Begins old new log log' command) is b in
       at_once log log' command (reply bytes) (next_place log) idle (waiting_at (next_place log)) bad s.adds (next_is log)
       (λ mid a. r.sent log mid (next_place log) a (next_is log))
       (λ mid s. spoil mid log' (next_place log) s)
 
-  spoiled_tried : (old new : Awaited) (log log' : Told) (stage : Stage) (attempt : Attempt) → attempt ≡ answered (reply bytes) → Tries old new log log' command stage attempt → Moved log log' (at_stage idle waiting_at old stage) bad
+  spoiled_tried : (old new : Awaited) (log log' : LogTold) (stage : Stage) (attempt : Attempt) → attempt ≡ answered (reply bytes) → Tries old new log log' command stage attempt → Moved log log' (at_stage idle waiting_at old stage) bad
   spoiled_tried old new log log' unsent attempt is t = spoiled_begun old new log log' attempt is t
   spoiled_tried old new log log' (first ticket) attempt is t = spoil log log' (old ticket) (subst (Tries old new log log' command (first ticket)) is t).sees
   spoiled_tried old new log log' (second ticket) attempt is t = spoil log log' (old ticket) (subst (Tries old new log log' command (second ticket)) is t).sees
 
-  once_more : (retries : Bool) (stage : Stage) (attempt : Attempt) (new : Awaited) (log log' : Told) (g : Follow) → is_repeated retries stage attempt ≡ true → Attempted command idle waiting_at done r new log log' g attempt → Moved log log' g idle
+  once_more : (retries : Bool) (stage : Stage) (attempt : Attempt) (new : Awaited) (log log' : LogTold) (g : Follow) → is_repeated retries stage attempt ≡ true → Attempted command idle waiting_at done r new log log' g attempt → Moved log log' g idle
   once_more retries stage not_sent new log log' g again a = a
   once_more retries stage (answered seen) new log log' g again a = a.0
   once_more true unsent (waits ticket) new log log' g again a = absurd cc
@@ -192,7 +192,7 @@ module _ (command : List ℕ) (idle : Follow) (waiting_at : Option ℕ → Follo
   once_more retries (second old) (waits ticket) new log log' g again a = absurd cc
 
   -- the reply to a request is none that a server may give
-  spoiled_ran : (old new : Awaited) (log log' : Told) (wire : ℤ) (s : Sending) → s.command ≡ command → Runs old new log log' wire s (step.Done bytes) → Moved log log' (at_stage idle waiting_at old s.stage) bad
+  spoiled_ran : (old new : Awaited) (log log' : LogTold) (wire : ℤ) (s : Sending) → s.command ≡ command → Runs old new log log' wire s (step.Done bytes) → Moved log log' (at_stage idle waiting_at old s.stage) bad
   spoiled_ran old new log log' wire s is (inl once) =
       spoiled_tried old new log log' s.stage once.attempt once.gives.0 (subst (λ (c : List ℕ). Tries old new log log' c s.stage once.attempt) is once.tries)
   spoiled_ran old new log log' wire s is (inr twice) =
@@ -206,12 +206,12 @@ abbrev pub resumes_at : Follow → Option ℕ → Follow
 resumes_at f place = record f { doing = resuming place }
 
 -- what a poll of the aggregate comes to
-abbrev pub ResumeCame : Follow → Awaited → Told → Told → Follow → Step Sending (List ℕ) → Type 0
+abbrev pub ResumeCame : Follow → Awaited → LogTold → LogTold → Follow → Step Sending (List ℕ) → Type 0
 ResumeCame f new log log' g (step.Pending s) = Moved log log' g (at_stage (owed f) (resumes_at f) new s.stage)
 ResumeCame f new log log' g (step.Done bytes) = Resumed (owed f) log log' g bytes × IsSuccess bytes
 ResumeCame f new log log' g (step.Failed e) = Moved log log' g (owed f)
 
-module _ (f : Follow) (begin : Start) (old new : Awaited) (log log' : Told) (wire : ℤ) (s : Sending) (resumes : ResumesAt f.start f.token begin) (asks : asked s.command ≡ asks_watch f.watch begin) where
+module _ (f : Follow) (begin : Start) (old new : Awaited) (log log' : LogTold) (wire : ℤ) (s : Sending) (resumes : ResumesAt f.start f.token begin) (asks : asked s.command ≡ asks_watch f.watch begin) where
   request : Request s.command (owed f) (resumes_at f) (λ place batch. resumed_with f batch)
   request = resume_request s.command f begin resumes asks
 
@@ -244,7 +244,7 @@ module _ (f : Follow) (begin : Start) (old new : Awaited) (log log' : Told) (wir
 abbrev pub killed_at : Follow → ℤ → Awaited → Stage → Follow
 killed_at f old awaited stage = at_stage (record f { old = old }) (λ place. f) awaited stage
 
-module _ (f : Follow) (id : ℤ) (is : f.doing ≡ holding) (none : f.old ≡ pos 0) (there : id ≢ pos 0) (old new : Awaited) (log log' : Told) where
+module _ (f : Follow) (id : ℤ) (is : f.doing ≡ holding) (none : f.old ≡ pos 0) (there : id ≢ pos 0) (old new : Awaited) (log log' : LogTold) where
   go_to : Moved log log' (record f { old = id }) (let_go (record f { old = id })) → Moved log log' (record f { old = id }) f
   go_to m = subst (λ (h : Follow). Moved log log' (record f { old = id }) h) (ap (λ (d : ℤ). record f { doing = holding; old = d }) (sym none) ∙ ap (λ d. record f { doing = d }) (sym is)) m
 

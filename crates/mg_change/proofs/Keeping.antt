@@ -5,7 +5,7 @@ use Rattle.std.specs.Ordering.{int_eq}
 use Rattle.mg_bson.specs.Raw.{fields}
 use Rattle.mg_bson.specs.Tree.{Tree}
 use Rattle.mg_link.specs.Exec.{Runs, Sending, Stage, first, second, unsent}
-use Rattle.mg_link.specs.Link.{Awaited, Told}
+use Rattle.mg_link.specs.Link.{Awaited, LogTold}
 use Rattle.mg_link.specs.Namespace.{space}
 use Rattle.mg_link.specs.Pinned.{invalidated}
 use Rattle.mg_link.specs.Session.{Session}
@@ -200,7 +200,7 @@ module _ (s : ClientStream) (named : IsNamed s.cursor.space) (unbound : s.cursor
       none_read bytes (unread e fails is answer) = cc
   heard_pending (step.Failed e) c h = absurd (let bad : next.Pending ≡ next.Failed e = h.1 in cc)
 
-more_sound : (plain : Bool) (old new : Awaited) (log log' : Told) (wire : ℤ) (session : Option Session) (started : Bool) (s : ClientStream) (sending : Sending) (s' : ClientStream) (r : Stepped) → IsSound plain s → s.doing ≡ follows → s.behind ≡ [] → PlainIf plain session → IsPolled s.cursor session sending
+more_sound : (plain : Bool) (old new : Awaited) (log log' : LogTold) (wire : ℤ) (session : Option Session) (started : Bool) (s : ClientStream) (sending : Sending) (s' : ClientStream) (r : Stepped) → IsSound plain s → s.doing ≡ follows → s.behind ≡ [] → PlainIf plain session → IsPolled s.cursor session sending
     → AsksMore old new log log' wire started s sending s' r → IsSound plain s'
 more_sound plain old new log log' wire session started s sending s' r sound on none_left plainly is h = by_poll h.poll h.left h.runs.hears own h.takes
   where
@@ -237,7 +237,7 @@ record IsOwn (plain : Bool) (s : ClientStream) (sending : Sending) : Type 0 wher
   command_is : fields sending.command ≡ resuming_in s.aggregate wire session
   retries_is : sending.retries ≡ is_read_again session
 
-resumption_sound : (plain : Bool) (old new : Awaited) (log log' : Told) (wire : ℤ) (started : Bool) (s : ClientStream) (sending : Sending) (s' : ClientStream) (r : Stepped) → IsSound plain s → Aside s → IsOwn plain s sending → RunsResumption old new log log' wire started s sending s' r → IsSound plain s'
+resumption_sound : (plain : Bool) (old new : Awaited) (log log' : LogTold) (wire : ℤ) (started : Bool) (s : ClientStream) (sending : Sending) (s' : ClientStream) (r : Stepped) → IsSound plain s → Aside s → IsOwn plain s sending → RunsResumption old new log log' wire started s sending s' r → IsSound plain s'
 resumption_sound plain old new log log' wire started s sending s' r sound aside own h = by_came h.came (runs_of old new log log' wire sending h.came started h.runs) h.hears
   where
     owes_so : IsSound plain (record s { doing = owes })
@@ -284,18 +284,18 @@ record IsEnding (k : ClosingCursor) : Type 0 where
 same_closing : (x y : ClosingCursor) → ◌≡◌ {A = Step ClosingCursor (Unit {0})} (step.Pending x) (step.Pending y) → x ≡ y
 same_closing x y h = cc
 
-kill_pends : (old new : Awaited) (log log' : Told) (wire : ℤ) (c : ClientCursor) (sending : Sending) (came : Step Sending (List ℕ)) (k : ClosingCursor) → IsToKill c sending → Runs old new log log' wire sending came → KillHears c came (step.Pending k) → IsEnding k
+kill_pends : (old new : Awaited) (log log' : LogTold) (wire : ℤ) (c : ClientCursor) (sending : Sending) (came : Step Sending (List ℕ)) (k : ClosingCursor) → IsToKill c sending → Runs old new log log' wire sending came → KillHears c came (step.Pending k) → IsEnding k
 kill_pends old new log log' wire c sending (step.Pending waiting) k is runs h =
     subst IsEnding (sym (same_closing k (killed_by c waiting) h)) (record { closing = kills_still old new log log' wire c sending waiting is runs; landed = tt })
 kill_pends old new log log' wire c sending (step.Done bytes) k is runs h = absurd cc
 kill_pends old new log log' wire c sending (step.Failed e) k is runs h = absurd cc
 
-kills_pend : (old new : Awaited) (log log' : Told) (wire : ℤ) (c : ClientCursor) (k : ClosingCursor) → c.doing ≡ rests → KillsCursor old new log log' wire c (step.Pending k) → IsEnding k
+kills_pend : (old new : Awaited) (log log' : LogTold) (wire : ℤ) (c : ClientCursor) (k : ClosingCursor) → c.doing ≡ rests → KillsCursor old new log log' wire c (step.Pending k) → IsEnding k
 kills_pend old new log log' wire c k quiet (nothing_left over sends is) = absurd cc
 kills_pend old new log log' wire c k quiet (not_built may e fails sends is) = absurd cc
 kills_pend old new log log' wire c k quiet (kills_it may sending new_one runs) = kill_pends old new log log' wire c sending runs.came k (to_kill_new c sending quiet may new_one) runs.runs runs.hears
 
-pub closing_pends : (old new : Awaited) (log log' : Told) (wire : ℤ) (before k : ClosingCursor) → IsClosing before → IsLanded before → ClosingPolls old new log log' wire before (step.Pending k) → IsClosing k × IsLanded k
+pub closing_pends : (old new : Awaited) (log log' : LogTold) (wire : ℤ) (before k : ClosingCursor) → IsClosing before → IsLanded before → ClosingPolls old new log log' wire before (step.Pending k) → IsClosing k × IsLanded k
 closing_pends old new log log' wire before k closing landed (lands idle sending at h) =
     absurd (subst IsNotAsking at (subst (λ (o : Option Sending). LandedBy o before.cursor.doing) idle landed))
 closing_pends old new log log' wire before k closing landed (begins idle quiet h) = let e = kills_pend old new log log' wire (at_rest before.cursor) k refl h in (e.closing, e.landed)
@@ -304,7 +304,7 @@ closing_pends old new log log' wire before k closing landed (kill_goes_on sendin
     let e = kill_pends old new log log' wire before.cursor sending h.came k (to_kill before.cursor sending on) h.runs h.hears in
     (e.closing, e.landed)
 
-closing_sound : (plain : Bool) (old new : Awaited) (log log' : Told) (wire : ℤ) (s : ClientStream) (before : ClosingCursor) (s' : ClientStream) (r : Stepped) (came : Step ClosingCursor (Unit {0})) → IsSound plain s → SoundBy plain s (kills before) → ClosingPolls old new log log' wire before came → HearsClosing s came s' r → IsSound plain s'
+closing_sound : (plain : Bool) (old new : Awaited) (log log' : LogTold) (wire : ℤ) (s : ClientStream) (before : ClosingCursor) (s' : ClientStream) (r : Stepped) (came : Step ClosingCursor (Unit {0})) → IsSound plain s → SoundBy plain s (kills before) → ClosingPolls old new log log' wire before came → HearsClosing s came s' r → IsSound plain s'
 closing_sound plain old new log log' wire s before s' r came sound by polls h = by_came came polls h
   where
     with_doing : (d : Doing) → SoundBy plain (record s { doing = d }) d → IsSound plain (record s { doing = d })
@@ -327,7 +327,7 @@ closing_sound plain old new log log' wire s before s' r came sound by polls h = 
 rested_left : (plain : Bool) (s : ClientStream) → IsSound plain s → IsLeft (at_rest s.cursor)
 rested_left plain s h = record { quiet = refl; named = h.named; unbound = h.unbound }
 
-pub step_sound : (plain : Bool) (old new : Awaited) (log log' : Told) (wire : ℤ) (session : Option Session) (started : Bool) (s s' : ClientStream) (r : Stepped) → IsSound plain s → PlainIf plain session → DoesStep old new log log' wire session started s s' r → IsSound plain s'
+pub step_sound : (plain : Bool) (old new : Awaited) (log log' : LogTold) (wire : ℤ) (session : Option Session) (started : Bool) (s s' : ClientStream) (r : Stepped) → IsSound plain s → PlainIf plain session → DoesStep old new log log' wire session started s s' r → IsSound plain s'
 step_sound plain old new log log' wire session started s s' r sound plainly (finds on left quiet unstarted is answer) = subst (IsSound plain) (sym is) sound
 step_sound plain old new log log' wire session started s s' r sound plainly (looks on none_left said at quiet unstarted h) = looked_sound plain s sound (at_rest s.cursor) (rested_left plain s sound) false said s' r h
 step_sound plain old new log log' wire session started s s' r sound plainly (ends on none_left at over quiet unstarted is answer) = subst (IsSound plain) (sym is) sound
@@ -368,7 +368,7 @@ none_failed s c e s' (goes_on so is answer) = cc
 none_failed s c e s' (no_memory room is answer) = cc
 none_failed s c e s' (final not room is answer) = cc
 
-found_more : (old new : Awaited) (log log' : Told) (wire : ℤ) (started : Bool) (s : ClientStream) (sending : Sending) (s' : ClientStream) → IsNamed s.cursor.space → s.cursor.pinned ≡ connection.Unpinned → AsksMore old new log log' wire started s sending s' stepped.Found → FoundOne s'
+found_more : (old new : Awaited) (log log' : LogTold) (wire : ℤ) (started : Bool) (s : ClientStream) (sending : Sending) (s' : ClientStream) → IsNamed s.cursor.space → s.cursor.pinned ≡ connection.Unpinned → AsksMore old new log log' wire started s sending s' stepped.Found → FoundOne s'
 found_more old new log log' wire started s sending s' named unbound h = by_poll h.poll h.left h.runs.hears h.takes
   where
     by_poll : (p : NextPoll) (c : ClientCursor) → Hears s.cursor h.runs.came c p → TakesMore s c p s' stepped.Found → FoundOne s'
@@ -398,7 +398,7 @@ rests_with rests events h left = refl
 rests_with (holds said) events h left = absurd (left h)
 rests_with (asks sending) events h left = absurd (left h)
 
-pub found_stands : (old new : Awaited) (log log' : Told) (wire : ℤ) (session : Option Session) (started : Bool) (s s' : ClientStream) → IsSound false s → DoesStep old new log log' wire session started s s' stepped.Found → FoundOne s'
+pub found_stands : (old new : Awaited) (log log' : LogTold) (wire : ℤ) (session : Option Session) (started : Bool) (s s' : ClientStream) → IsSound false s → DoesStep old new log log' wire session started s s' stepped.Found → FoundOne s'
 found_stands old new log log' wire session started s s' sound (finds on left quiet unstarted is answer) =
     subst FoundOne (sym is) (record { at_event = record { follows_on = on; quiet = rests_with s.cursor.doing s.behind (subst (SoundBy false s) on sound.by) left }; some_left = left })
 found_stands old new log log' wire session started s s' sound (looks on none_left said at quiet unstarted h) = found_looked false s (at_rest s.cursor) said s' refl h

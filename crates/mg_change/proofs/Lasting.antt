@@ -1,7 +1,7 @@
 -- What a call of a stream leaves as it is, and how far one has come as it begins.
 use Rattle.std.proofs.Common.{◌≡◌, ℕ, zero, suc, ℤ, Bool, Option, Some, None, refl, ap, ◌∙◌, inl, inr}
 use Rattle.mg_link.specs.Calls.{Past}
-use Rattle.mg_link.specs.Link.{Awaited, Told}
+use Rattle.mg_link.specs.Link.{Awaited, LogTold}
 use Rattle.mg_link.specs.Moment.{Ending, pending, finished, failed}
 use Rattle.mg_link.specs.Session.{Session}
 use Rattle.mg_ops.specs.declared.change_stream.WatchArgs.{WatchArgs}
@@ -45,7 +45,7 @@ lent_args stepped.Found left lent (try.Ready result.Waiting) h = absurd h
 lent_args stepped.Found left lent (try.Failed e) h = ap args_of h.passed
 lent_args (stepped.Gives p) left lent r h = ap args_of h.0
 
-pub lends_args : (n : ℕ) (plain : Bool) (old new : Awaited) (log log' : Told) (wire : ℤ) (session : Option Session) (starts : ℕ) (s s' : ClientStream) (r : TryPoll) → IsSound plain s → PlainIf plain session → CallLends n old new log log' wire session starts s s' r → s'.aggregate.args ≡ s.aggregate.args
+pub lends_args : (n : ℕ) (plain : Bool) (old new : Awaited) (log log' : LogTold) (wire : ℤ) (session : Option Session) (starts : ℕ) (s s' : ClientStream) (r : TryPoll) → IsSound plain s → PlainIf plain session → CallLends n old new log log' wire session starts s s' r → s'.aggregate.args ≡ s.aggregate.args
 lends_args n plain old new log log' wire session starts s s' r sound plainly h =
     let went = steps_went n plain old new log log' wire session starts h.again (lends_nothing s) h.left h.came (let_go_sound plain s sound) plainly h.does in
     ap args_of h.kept ∙ kept_args (try_ending r) h.lent ∙ lent_args h.came h.left h.lent r h.lends ∙ went.turned.args
@@ -67,7 +67,7 @@ ended_args again came left ended r (closed is over_so same answer) = ap args_of 
 ended_args again came left ended r (too_often is open_still many same answer) = ap args_of same
 ended_args again came left ended r (fails e is same answer) = ap args_of same
 
-pub seeks_args : (n : ℕ) (plain : Bool) (old new : Awaited) (log log' : Told) (wire : ℤ) (session : Option Session) (starts : ℕ) (s s' : ClientStream) (r : EventPoll) → IsSound plain s → PlainIf plain session → SeeksEvent n old new log log' wire session starts s s' r → s'.aggregate.args ≡ s.aggregate.args
+pub seeks_args : (n : ℕ) (plain : Bool) (old new : Awaited) (log log' : LogTold) (wire : ℤ) (session : Option Session) (starts : ℕ) (s s' : ClientStream) (r : EventPoll) → IsSound plain s → PlainIf plain session → SeeksEvent n old new log log' wire session starts s s' r → s'.aggregate.args ≡ s.aggregate.args
 unfolding SeeksEvent
 seeks_args zero plain old new log log' wire session starts s s' r sound plainly h =
     let went = steps_went h.steps plain old new log log' wire session starts h.again s h.left h.came sound plainly h.does in
@@ -81,7 +81,7 @@ seeks_args (suc n) plain old new log log' wire session starts s s' r sound plain
     seeks_args n plain h.0 new h.1 log' wire (session_behind h.2 session) h.3 t s' r sound_so (plain_behind plain h.2 session plainly) h.7 ∙ ap args_of counts ∙ went.turned.args
 
 -- the same of a stream that lends nothing any more, as the call begins
-pub seeks_args_from : (n : ℕ) (plain : Bool) (old new : Awaited) (log log' : Told) (wire : ℤ) (session : Option Session) (starts : ℕ) (s s' : ClientStream) (r : EventPoll) → IsSound plain s → PlainIf plain session → SeeksEvent n old new log log' wire session starts (lends_nothing s) s' r → s'.aggregate.args ≡ s.aggregate.args
+pub seeks_args_from : (n : ℕ) (plain : Bool) (old new : Awaited) (log log' : LogTold) (wire : ℤ) (session : Option Session) (starts : ℕ) (s s' : ClientStream) (r : EventPoll) → IsSound plain s → PlainIf plain session → SeeksEvent n old new log log' wire session starts (lends_nothing s) s' r → s'.aggregate.args ≡ s.aggregate.args
 seeks_args_from n plain old new log log' wire session starts s s' r sound plainly h = seeks_args n plain old new log log' wire session starts (lends_nothing s) s' r (let_go_sound plain s sound) plainly h
 
 -- ---- where a call begins

@@ -5,7 +5,7 @@ use Rattle.mg_link.specs.Calls.{Grows, Past, past_of}
 use Rattle.mg_link.specs.Causes.{Rose, RoseJust}
 use Rattle.mg_link.specs.Exec.{Sending}
 use Rattle.mg_link.specs.Follow.{Follow, Moved}
-use Rattle.mg_link.specs.Link.{Awaited, Later, Told}
+use Rattle.mg_link.specs.Link.{Awaited, Later, LogTold}
 use Rattle.mg_link.specs.Log.{Call}
 use Rattle.mg_link.specs.Owner.{IsOf}
 use Rattle.mg_link.specs.Moment.{LinkKeeps, Moment, step_ending}
@@ -88,7 +88,7 @@ came_grows past past' grows awaited session args (step.Pending o) h = opens_grow
 came_grows past past' grows awaited session args (step.Done s) h = opened_grows past past' grows args s h
 came_grows past past' grows awaited session args (step.Failed e) h = opening_fails_grows past past' grows args session e h
 
-caused_on : (old new : Awaited) (log mid log' : Told) (wire : ℤ) (session : Option Session) (o : ClientOpening) (r : Step ClientOpening ClientStream) → OpenCaused old log mid wire session o.args (step.Pending o) → OpeningCaused old new mid log' wire session o r
+caused_on : (old new : Awaited) (log mid log' : LogTold) (wire : ℤ) (session : Option Session) (o : ClientOpening) (r : Step ClientOpening ClientStream) → OpenCaused old log mid wire session o.args (step.Pending o) → OpeningCaused old new mid log' wire session o r
     → OpenCaused new log log' wire session o.args r
 caused_on old new log mid log' wire session o r before polled = λ calls told.
     let a = before calls told in
@@ -104,14 +104,14 @@ caused_on old new log mid log' wire session o r before polled = λ calls told.
 
 -- ---- where the watch is
 
-moves_on : (new : Awaited) (log mid log' : Told) (f g : Follow) (w : Watch) (start : Start) (r : Step ClientOpening ClientStream) → Moved log mid f g → OpensTo new mid log' g w start r → OpensTo new log log' f w start r
+moves_on : (new : Awaited) (log mid log' : LogTold) (f g : Follow) (w : Watch) (start : Start) (r : Step ClientOpening ClientStream) → Moved log mid f g → OpensTo new mid log' g w start r → OpensTo new log log' f w start r
 moves_on new log mid log' f g w start (step.Pending o) before h = moved log mid log' f g (opening_in new w start o) before h
 moves_on new log mid log' f g w start (step.Done s) before h = (h.0, moved log mid log' f g (follow_of new w start s h.0 []) before h.1)
 moves_on new log mid log' f g w start (step.Failed e) before h = moved log mid log' f g (not_open w start) before h
 
 -- ---- what it has for arguments
 
-pub begins_on : (old new : Awaited) (log log' : Told) (wire : ℤ) (session : Option Session) (started : Bool) (o : ClientOpening) (args : WatchArgs) (r : Step ClientOpening ClientStream) → o.args ≡ args → OpensStream old new log log' wire session started o r → OpenBegins args r
+pub begins_on : (old new : Awaited) (log log' : LogTold) (wire : ℤ) (session : Option Session) (started : Bool) (o : ClientOpening) (args : WatchArgs) (r : Step ClientOpening ClientStream) → o.args ≡ args → OpensStream old new log log' wire session started o r → OpenBegins args r
 begins_on old new log log' wire session started o args (step.Pending next) same opens = opening_args old new log log' wire session started o (step.Pending next) opens next refl ∙ same
 begins_on old new log log' wire session started o args (step.Done s) same opens = record {
   args_are = opened_args old new log log' wire session started o (step.Done s) opens s refl ∙ same;
@@ -122,14 +122,14 @@ begins_on old new log log' wire session started o args (step.Failed e) same open
 -- ---- all of it
 
 -- what the polls so far came to
-pub record OpenGoes (new : Awaited) (log log' : Told) (wire : ℤ) (session : Option Session) (args : WatchArgs) (r : Step ClientOpening ClientStream) : Type 0 where
+pub record OpenGoes (new : Awaited) (log log' : LogTold) (wire : ℤ) (session : Option Session) (args : WatchArgs) (r : Step ClientOpening ClientStream) : Type 0 where
   pub begins : OpenBegins args r
   pub caused : OpenCaused new log log' wire session args r
   pub moves : OpenMoves new log log' args r
   pub sends : OpenSends log log' wire session args r
 
 -- nothing was polled
-pub open_goes : (awaited : Awaited) (log : Told) (wire : ℤ) (session : Option Session) (args : WatchArgs) (o : ClientOpening) → o ≡ record { args = args; sending = None } → OpenGoes awaited log log wire session args (step.Pending o)
+pub open_goes : (awaited : Awaited) (log : LogTold) (wire : ℤ) (session : Option Session) (args : WatchArgs) (o : ClientOpening) → o ≡ record { args = args; sending = None } → OpenGoes awaited log log wire session args (step.Pending o)
 open_goes awaited log wire session args o is =
     subst (λ (x : ClientOpening). OpenGoes awaited log log wire session args (step.Pending x)) (sym is)
     (record {
@@ -140,7 +140,7 @@ open_goes awaited log wire session args o is =
     })
 
 -- one poll more
-pub open_goes_on : {old new : Awaited} {log mid log' : Told} {wire wire' : ℤ} {session : Option Session} {args : WatchArgs} {o : ClientOpening} {r : Step ClientOpening ClientStream} → OpenGoes old log mid wire session args (step.Pending o) → wire' ≡ wire
+pub open_goes_on : {old new : Awaited} {log mid log' : LogTold} {wire wire' : ℤ} {session : Option Session} {args : WatchArgs} {o : ClientOpening} {r : Step ClientOpening ClientStream} → OpenGoes old log mid wire session args (step.Pending o) → wire' ≡ wire
     → (started : Bool) × OpensStream old new mid log' wire' session started o r → OpeningCaused old new mid log' wire' session o r → ((w : Watch) (start : Start) → Asks o.args w start → OpeningMoves old new mid log' w start o r) → OpenGoes new log log' wire session args r
 open_goes_on {old} {new} {log} {mid} {log'} {wire} {wire'} {session} {args} {o} {r} before same_wire opens causes moves = record {
   begins = begins_on old new mid log' wire' session opens.0 o args r before.begins opens.1;
@@ -157,13 +157,13 @@ open_goes_on {old} {new} {log} {mid} {log'} {wire} {wire'} {session} {args} {o} 
       (subst (λ (v : ℤ). OpensStream old new mid log' v session opens.0 o r) same_wire opens.1));
 }
 
-pub call_opens : {new : Awaited} {log log' : Told} {wire : ℤ} {session : Option Session} {args : WatchArgs} {r : Step ClientOpening ClientStream} → OpenGoes new log log' wire session args r → CallOpens new log log' wire session args r
+pub call_opens : {new : Awaited} {log log' : LogTold} {wire : ℤ} {session : Option Session} {args : WatchArgs} {r : Step ClientOpening ClientStream} → OpenGoes new log log' wire session args r → CallOpens new log log' wire session args r
 call_opens {new} {log} {log'} {wire} {session} {args} {r} h = record { begins = h.begins; sent = open_sent log log' wire session args r h.sends; caused = h.caused; moved = h.moves }
 
 -- ---- in a session
 
 -- the aggregate names the session as it stood when the call began
-opens_as : (old new : Awaited) (log log' : Told) (wire : ℤ) (session now : Option Session) (started : Bool) (o : ClientOpening) (r : Step ClientOpening ClientStream) → (o.sending ≡ None → now ≡ session) → OpensStream old new log log' wire now started o r → OpensStream old new log log' wire session started o r
+opens_as : (old new : Awaited) (log log' : LogTold) (wire : ℤ) (session now : Option Session) (started : Bool) (o : ClientOpening) (r : Step ClientOpening ClientStream) → (o.sending ≡ None → now ≡ session) → OpensStream old new log log' wire now started o r → OpensStream old new log log' wire session started o r
 opens_as old new log log' wire session now started o r same (not_built none e fails nothing not_so answer) =
     not_built none e (subst (λ (s : Option Session). FailsBy (CannotResume (first_aggregate o.args) wire s) e) (same none) fails) nothing not_so answer
 opens_as old new log log' wire session now started o r same (begins none sending new_one h) =
@@ -182,13 +182,13 @@ heard_sent wire o next (step.Done bytes) (broke e by answer) none = absurd cc
 heard_sent wire o next (step.Failed e) h none = absurd cc
 
 -- what pends has sent it
-pub pends_sent : (old new : Awaited) (log log' : Told) (wire : ℤ) (session : Option Session) (started : Bool) (o next : ClientOpening) → OpensStream old new log log' wire session started o (step.Pending next) → next.sending ≡ None → ⊥
+pub pends_sent : (old new : Awaited) (log log' : LogTold) (wire : ℤ) (session : Option Session) (started : Bool) (o next : ClientOpening) → OpensStream old new log log' wire session started o (step.Pending next) → next.sending ≡ None → ⊥
 pends_sent old new log log' wire session started o next (not_built none e fails nothing not_so answer) unsent = absurd cc
 pends_sent old new log log' wire session started o next (begins none sending new_one h) unsent = heard_sent wire o next h.came h.hears unsent
 pends_sent old new log log' wire session started o next (goes_on sending is h) unsent = heard_sent wire o next h.came h.hears unsent
 
 -- one poll more, of a session that has moved on once the aggregate is sent
-pub open_goes_in : {old new : Awaited} {log mid log' : Told} {wire wire' : ℤ} {session : Option Session} {args : WatchArgs} {o : ClientOpening} {r : Step ClientOpening ClientStream} → (now : Option Session) → OpenGoes old log mid wire session args (step.Pending o) → wire' ≡ wire → (o.sending ≡ None → now ≡ session) → IsSoundOpening false o
+pub open_goes_in : {old new : Awaited} {log mid log' : LogTold} {wire wire' : ℤ} {session : Option Session} {args : WatchArgs} {o : ClientOpening} {r : Step ClientOpening ClientStream} → (now : Option Session) → OpenGoes old log mid wire session args (step.Pending o) → wire' ≡ wire → (o.sending ≡ None → now ≡ session) → IsSoundOpening false o
     → (started : Bool) → OpensStream old new mid log' wire' now started o r → OpenGoes new log log' wire session args r
 open_goes_in {old} {new} {log} {mid} {log'} {wire} {wire'} {session} {args} {o} {r} now before same_wire same sound started opens =
     let as_begun = opens_as old new mid log' wire' session now started o r same opens in

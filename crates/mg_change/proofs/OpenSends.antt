@@ -3,7 +3,7 @@ use Rattle.std.proofs.Common.{◌≡◌, ◌<◌, ◌≤◌, ◌∷◌, [], List
 use Rattle.mg_bson.specs.Raw.{fields}
 use Rattle.mg_bson.specs.Tree.{Fields}
 use Rattle.mg_link.specs.Exec.{Runs, Sending, Stage, first, second, unsent}
-use Rattle.mg_link.specs.Link.{Awaited, Told}
+use Rattle.mg_link.specs.Link.{Awaited, LogTold}
 use Rattle.mg_link.specs.Session.{Session}
 use Rattle.mg_link.specs.declared.action.Step.{Step}
 use Rattle.mg_link.specs.declared.action.Step.TheVariants as step
@@ -45,16 +45,16 @@ SendsIt args wire session None = Unit {0}
 SendsIt args wire session (Some sending) = fields sending.command ≡ resuming_in (first_aggregate args) wire session
 
 -- what the polls so far sent
-abbrev pub OpenSends : Told → Told → ℤ → Option Session → WatchArgs → Step ClientOpening ClientStream → Type 0
+abbrev pub OpenSends : LogTold → LogTold → ℤ → Option Session → WatchArgs → Step ClientOpening ClientStream → Type 0
 OpenSends log log' wire session args (step.Pending o) = SendsIt args wire session o.sending × Tried (IsOpening args wire session) log log' 3 (opening_places o.sending)
 OpenSends log log' wire session args (step.Done s) = Tried (IsOpening args wire session) log log' 3 1
 OpenSends log log' wire session args (step.Failed e) = Tried (IsOpening args wire session) log log' 3 1
 
 -- nothing was polled
-pub sends_none : (log : Told) (wire : ℤ) (session : Option Session) (args : WatchArgs) → OpenSends log log wire session args (step.Pending (record { args = args; sending = None }))
+pub sends_none : (log : LogTold) (wire : ℤ) (session : Option Session) (args : WatchArgs) → OpenSends log log wire session args (step.Pending (record { args = args; sending = None }))
 sends_none log wire session args = (tt, tried_none (IsOpening args wire session) log 3)
 
-module _ (old new : Awaited) (log mid log' : Told) (wire : ℤ) (session : Option Session) (started : Bool) (o : ClientOpening) (r : Step ClientOpening ClientStream) where
+module _ (old new : Awaited) (log mid log' : LogTold) (wire : ℤ) (session : Option Session) (started : Bool) (o : ClientOpening) (r : Step ClientOpening ClientStream) where
   module _ (sending : Sending) (is : fields sending.command ≡ resuming_in (first_aggregate o.args) wire session) (before : Tried (IsOpening o.args wire session) log mid 3 (resuming_places sending.stage)) where
     sends_all : (came : Step Sending (List ℕ)) → Runs old new mid log' wire sending came → Tried (IsOpening o.args wire session) log log' 3 1
     sends_all came runs =
@@ -78,7 +78,7 @@ module _ (old new : Awaited) (log mid log' : Told) (wire : ℤ) (session : Optio
   pub sends_on : OpenSends log mid wire session o.args (step.Pending o) → OpensStream old new mid log' wire session started o r → OpenSends log log' wire session o.args r
   sends_on before (not_built none e fails nothing not_so answer) =
       subst (OpenSends log log' wire session o.args) (sym answer)
-      (subst (λ (l : Told). Tried (IsOpening o.args wire session) log l 3 1) (sym nothing.log_same)
+      (subst (λ (l : LogTold). Tried (IsOpening o.args wire session) log l 3 1) (sym nothing.log_same)
       (tried_below (IsOpening o.args wire session) log mid 3 (opening_places o.sending) 1 (one_opening o.sending) before.1))
   sends_on before (begins none sending new_one h) =
       sends_run sending new_one.command_is
@@ -89,11 +89,11 @@ module _ (old new : Awaited) (log mid log' : Told) (wire : ℤ) (session : Optio
 
 -- ---- all of it
 
-all_sent : (log log' : Told) (wire : ℤ) (session : Option Session) (args : WatchArgs) → Tried (IsOpening args wire session) log log' 3 1 → OpenSent log log' wire session args
+all_sent : (log log' : LogTold) (wire : ℤ) (session : Option Session) (args : WatchArgs) → Tried (IsOpening args wire session) log log' 3 1 → OpenSent log log' wire session args
 all_sent log log' wire session args t =
     record { commands = t.commands; adds = t.adds; falling = lower (λ (c : Fields). c ≡ resuming_in (first_aggregate args) wire session) 2 t.commands 0 t.falling }
 
-pub open_sent : (log log' : Told) (wire : ℤ) (session : Option Session) (args : WatchArgs) (r : Step ClientOpening ClientStream) → OpenSends log log' wire session args r → OpenSent log log' wire session args
+pub open_sent : (log log' : LogTold) (wire : ℤ) (session : Option Session) (args : WatchArgs) (r : Step ClientOpening ClientStream) → OpenSends log log' wire session args r → OpenSent log log' wire session args
 open_sent log log' wire session args (step.Pending o) h =
     all_sent log log' wire session args (tried_below (IsOpening args wire session) log log' 3 (opening_places o.sending) 1 (one_opening o.sending) h.1)
 open_sent log log' wire session args (step.Done s) h = all_sent log log' wire session args h

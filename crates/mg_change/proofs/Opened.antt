@@ -10,7 +10,7 @@ use Rattle.mg_link.specs.Namespace.{space, target}
 use Rattle.mg_link.specs.State.{Start, Watch, nowhere, after, at_time}
 use Rattle.mg_link.specs.Exec.{Sending, Stage, unsent, first, second, IsSuccess, Runs}
 use Rattle.mg_link.specs.Follow.{Follow, starting, start_token, first_token as token_behind, Moved}
-use Rattle.mg_link.specs.Link.{Awaited, Told, Sees}
+use Rattle.mg_link.specs.Link.{Awaited, LogTold, Sees}
 use Rattle.mg_link.specs.Log.{reply}
 use Rattle.mg_link.specs.Session.{Session}
 use Rattle.mg_link.specs.declared.action.Step.{Step}
@@ -121,7 +121,7 @@ waits_at w start place = record (not_open w start) { doing = starting place }
 abbrev cursor_read : CursorSpecification → Items → Cursor
 cursor_read out batch = record { id = out.info.id; space = space out.info.ns; token = out.post_batch_resume_token; batch = batch }
 
-opened_by : (mid log' : Told) (awaited : Awaited) (args : WatchArgs) (w : Watch) (start : Start) (place : Option ℕ) (wire : ℤ) (bytes : List ℕ) (out : CursorSpecification × Option Timestamp) (o : OpensCursor (first_aggregate args) bytes out) (events : Option (List Fields)) → documents_in o.opens.opens.batch ≡ events → Asks args w start → IsSuccess bytes
+opened_by : (mid log' : LogTold) (awaited : Awaited) (args : WatchArgs) (w : Watch) (start : Start) (place : Option ℕ) (wire : ℤ) (bytes : List ℕ) (out : CursorSpecification × Option Timestamp) (o : OpensCursor (first_aggregate args) bytes out) (events : Option (List Fields)) → documents_in o.opens.opens.batch ≡ events → Asks args w start → IsSuccess bytes
     → Sees mid log' place (reply bytes) → Moved mid log' (waits_at w start place) (follow_of awaited w start (opened_with args wire out) place [])
 opened_by mid log' awaited args w start place wire bytes out o None has asks success sees =
     let c = cursor_read out.0 o.opens.opens.batch in
@@ -139,7 +139,7 @@ opened_by mid log' awaited args w start place wire bytes out o (Some events) has
 
 -- ---- the request
 
-module _ (args : WatchArgs) (w : Watch) (start : Start) (old new : Awaited) (log log' : Told) (wire : ℤ) (s : Sending) (asks : Asks args w start) (is : IsResumption (first_aggregate args) s) where
+module _ (args : WatchArgs) (w : Watch) (start : Start) (old new : Awaited) (log log' : LogTold) (wire : ℤ) (s : Sending) (asks : Asks args w start) (is : IsResumption (first_aggregate args) s) where
   held_stage : (stage : Stage) → IsHeld stage → waits_at w start (place_of new stage) ≡ at_stage (not_open w start) (waits_at w start) new stage
   held_stage unsent held = absurd held
   held_stage (first ticket) held = refl
@@ -179,7 +179,7 @@ first_is plain args sending h = record { wire = h.wire; session = h.session; com
 pub not_open_yet : (awaited : Awaited) (w : Watch) (start : Start) (sending : Sending) → sending.stage ≡ unsent → opening_by awaited (Some sending) w start ≡ not_open w start
 not_open_yet awaited w start sending new = ap (at_stage (not_open w start) (waits_at w start) awaited) new
 
-module _ (old new : Awaited) (log log' : Told) (wire : ℤ) (session : Option Session) (started : Bool) (o : ClientOpening) (r : Step ClientOpening ClientStream) (w : Watch) (start : Start) (asks : Asks o.args w start) where
+module _ (old new : Awaited) (log log' : LogTold) (wire : ℤ) (session : Option Session) (started : Bool) (o : ClientOpening) (r : Step ClientOpening ClientStream) (w : Watch) (start : Start) (asks : Asks o.args w start) where
   heard_moved : (sending : Sending) → IsResumption (first_aggregate o.args) sending → (came_so : Step Sending (List ℕ)) → Runs old new log log' wire sending came_so → HearsOpening wire o came_so r → OpensTo new log log' (opening_by old (Some sending) w start) w start r
   heard_moved sending is (step.Pending waiting) runs h =
       subst (OpensTo new log log' (opening_by old (Some sending) w start) w start) (sym h) (opening_waits o.args w start old new log log' wire sending asks is waiting runs)
@@ -235,7 +235,7 @@ record IsPolled (plain : Bool) (args : WatchArgs) (sending : Sending) : Type 0 w
   command_is : fields sending.command ≡ resuming_in (first_aggregate args) wire session
   retries_is : sending.retries ≡ is_read_again session
 
-module _ (plain : Bool) (old new : Awaited) (log log' : Told) (wire : ℤ) (session : Option Session) (started : Bool) (o : ClientOpening) (r : Step ClientOpening ClientStream) where
+module _ (plain : Bool) (old new : Awaited) (log log' : LogTold) (wire : ℤ) (session : Option Session) (started : Bool) (o : ClientOpening) (r : Step ClientOpening ClientStream) where
   heard_sound : (sending : Sending) → IsPolled plain o.args sending → (came_so : Step Sending (List ℕ)) → Runs old new log log' wire sending came_so → HearsOpening wire o came_so r → SoundBehind plain r
   heard_sound sending is (step.Pending waiting) runs h =
       let still = still_waits old new log log' wire sending waiting runs in

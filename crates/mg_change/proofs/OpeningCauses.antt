@@ -4,7 +4,7 @@ use Rattle.std.specs.Prelude.{◌&&◌}
 use Rattle.mg_bson.specs.Raw.{fields}
 use Rattle.mg_link.specs.Calls.{Came, Flies, Grows, HeardAt, HeardLast, IsRetried, Keeps, Past, RequestFails, past_of}
 use Rattle.mg_link.specs.Exec.{IsSuccess, Runs, Sending, Stage}
-use Rattle.mg_link.specs.Link.{Awaited, Told}
+use Rattle.mg_link.specs.Link.{Awaited, LogTold}
 use Rattle.mg_link.specs.Log.{Call, reply}
 use Rattle.mg_link.specs.Retry.{is_retried}
 use Rattle.mg_link.specs.Session.{Session}
@@ -37,7 +37,7 @@ module _ (new : Awaited) (places : List ℕ) (since : ℕ) (calls : List Call) (
       (request sent (unread_fails (past_of places since calls wire) (resuming_in (first_aggregate o.args) wire sent) (is_read_again sent) TellsNoCursor bytes e by heard success))
 
   -- by what came of it
-  opening_heard : (old : Awaited) (log log' : Told) (sending : Sending) → fields sending.command ≡ resuming_in (first_aggregate o.args) wire sent → sending.retries ≡ is_read_again sent → (came : Step Sending (List ℕ)) → Runs old new log log' wire sending came
+  opening_heard : (old : Awaited) (log log' : LogTold) (sending : Sending) → fields sending.command ≡ resuming_in (first_aggregate o.args) wire sent → sending.retries ≡ is_read_again sent → (came : Step Sending (List ℕ)) → Runs old new log log' wire sending came
       → Came new (past_of places since calls wire) (resuming_in (first_aggregate o.args) wire sent) (is_read_again sent) came → (r : Step ClientOpening ClientStream) → HearsOpening wire o came r → OpeningCame new (past_of places since calls wire) session o.args r
   opening_heard old log log' sending command_is retries_is (step.Pending waiting) runs came r h =
       let still = still_waits old new log log' wire sending waiting runs in
@@ -50,7 +50,7 @@ module _ (new : Awaited) (places : List ℕ) (since : ℕ) (calls : List Call) (
 
 -- ---- a poll
 
-module _ (old new : Awaited) (log log' : Told) (wire : ℤ) (session : Option Session) (started : Bool) (o : ClientOpening) (r : Step ClientOpening ClientStream) where
+module _ (old new : Awaited) (log log' : LogTold) (wire : ℤ) (session : Option Session) (started : Bool) (o : ClientOpening) (r : Step ClientOpening ClientStream) where
   opening_ran : (sent : Option Session) (sending : Sending) → fields sending.command ≡ resuming_in (first_aggregate o.args) wire sent → sending.retries ≡ is_read_again sent → RunsOpening old new log log' wire started o sending r
       → (calls : List Call) → log ≡ Some calls → (places : List ℕ) → Flies old (past_of places (length calls) calls wire) (resuming_in (first_aggregate o.args) wire sent) sending.stage
       → (calls' : List Call) × (log' ≡ Some calls') × Keeps calls calls' × OpeningCame new (past_of places (length calls) calls' wire) session o.args r

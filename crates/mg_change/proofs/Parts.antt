@@ -8,7 +8,7 @@ use Rattle.mg_bson.specs.Walks.{front_of, without_front}
 use Rattle.mg_link.specs.Acts.{ticket_after}
 use Rattle.mg_link.specs.Errors.{plain}
 use Rattle.mg_link.specs.Exec.{RunsStarting, Sending, ticket_at, ticket_of}
-use Rattle.mg_link.specs.Link.{Awaited, Told}
+use Rattle.mg_link.specs.Link.{Awaited, LogTold}
 use Rattle.mg_link.specs.Moment.{LinkKeeps, Moment, failed, finished, pending, step_ending}
 use Rattle.mg_link.specs.Session.{Session}
 use Rattle.mg_link.specs.declared.action.Step.{Step}
@@ -123,7 +123,7 @@ hear_any s d (step.Pending sending) s' r h = (h.0, h.1)
 hear_any s d (step.Done said) s' r h = read_any s d said s' r h
 hear_any s d (step.Failed e) s' r h = (h.0, h.1)
 
-pub run_any : (old new : Awaited) (log log' : Told) (wire : ℤ) (started : Bool) (s : ClientStream) (d : Doing) (sending : Sending) (s' : ClientStream) (r : Stepped) → RunsResumption old new log log' wire started s sending s' r → RunsResumption old new log log' wire started (record s { doing = d }) sending s' r
+pub run_any : (old new : Awaited) (log log' : LogTold) (wire : ℤ) (started : Bool) (s : ClientStream) (d : Doing) (sending : Sending) (s' : ClientStream) (r : Stepped) → RunsResumption old new log log' wire started s sending s' r → RunsResumption old new log log' wire started (record s { doing = d }) sending s' r
 run_any old new log log' wire started s d sending s' r h = record { came = h.came; runs = h.runs; hears = hear_any s d h.came s' r h.hears }
 
 pub close_any : (s : ClientStream) (d : Doing) (came : Step ClosingCursor (Unit {0})) (s' : ClientStream) (r : Stepped) → HearsClosing s came s' r → HearsClosing (record s { doing = d }) came s' r
@@ -264,7 +264,7 @@ takes_more s c came next.End s' r heard h = absurd (never_ends s.cursor came c h
 takes_more s c came (next.Failed e) s' r heard h = h
 
 -- a poll that builds no getMore
-pub poll_steps : (old new : Awaited) (log log' : Told) (wire : ℤ) (session : Option Session) (started : Bool) (s : ClientStream) (c : ClientCursor) (p : NextPoll) (s' : ClientStream) (r : Stepped) → s.doing ≡ follows → s.behind ≡ [] → NoneToBuild s.cursor → PollsNext old new log log' wire session started s.cursor c p → TakesPoll s c p s' r → DoesStep old new log log' wire session started s s' r
+pub poll_steps : (old new : Awaited) (log log' : LogTold) (wire : ℤ) (session : Option Session) (started : Bool) (s : ClientStream) (c : ClientCursor) (p : NextPoll) (s' : ClientStream) (r : Stepped) → s.doing ≡ follows → s.behind ≡ [] → NoneToBuild s.cursor → PollsNext old new log log' wire session started s.cursor c p → TakesPoll s c p s' r → DoesStep old new log log' wire session started s s' r
 poll_steps old new log log' wire session started s c p s' r on none_left built (hands_out said at quiet unstarted is answer) h =
     looks on none_left said at quiet unstarted (subst (λ (x : ClientCursor). LooksAt false s x said s' r) is (subst (λ (q : NextPoll). TakesPoll s c q s' r) answer h))
 poll_steps old new log log' wire session started s c p s' r on none_left built (is_over at over_so quiet unstarted is answer) h =
@@ -285,7 +285,7 @@ heard_rests c (step.Done said) c' p ended h = read_rests c said c' p h
 heard_rests c (step.Failed e) c' p ended h = ap (λ (x : ClientCursor). x.doing) h.0
 
 -- where nothing pends, nothing is on its way behind it
-pub poll_rests : (old new : Awaited) (log log' : Told) (wire : ℤ) (session : Option Session) (started : Bool) (c c' : ClientCursor) (p : NextPoll) → (p ≡ next.Pending → ⊥) → PollsNext old new log log' wire session started c c' p → c'.doing ≡ rests
+pub poll_rests : (old new : Awaited) (log log' : LogTold) (wire : ℤ) (session : Option Session) (started : Bool) (c c' : ClientCursor) (p : NextPoll) → (p ≡ next.Pending → ⊥) → PollsNext old new log log' wire session started c c' p → c'.doing ≡ rests
 poll_rests old new log log' wire session started c c' p ended (hands_out said at quiet unstarted is answer) = ap (λ (x : ClientCursor). x.doing) is
 poll_rests old new log log' wire session started c c' p ended (is_over at over_so quiet unstarted is answer) = ap (λ (x : ClientCursor). x.doing) is ∙ at
 poll_rests old new log log' wire session started c c' p ended (not_polled at may e fails_so quiet unstarted is answer) = ap (λ (x : ClientCursor). x.doing) is ∙ at
@@ -293,7 +293,7 @@ poll_rests old new log log' wire session started c c' p ended (begins at may sen
 poll_rests old new log log' wire session started c c' p ended (polls_on sending at asked) = heard_rests c asked.came c' p ended asked.hears
 
 -- but at the end the token is saved
-pub poll_saves : (old new : Awaited) (log log' : Told) (wire : ℤ) (session : Option Session) (started : Bool) (t : TokenPlace) (c c' : ClientCursor) (p : NextPoll) → (p ≡ next.End → ⊥) → NoneToBuild c → SavesWhile t c.doing → PollsNext old new log log' wire session started c c' p → IsSavedPlace t
+pub poll_saves : (old new : Awaited) (log log' : LogTold) (wire : ℤ) (session : Option Session) (started : Bool) (t : TokenPlace) (c c' : ClientCursor) (p : NextPoll) → (p ≡ next.End → ⊥) → NoneToBuild c → SavesWhile t c.doing → PollsNext old new log log' wire session started c c' p → IsSavedPlace t
 poll_saves old new log log' wire session started t c c' p more built saves (hands_out said at quiet unstarted is answer) = subst (SavesWhile t) at saves
 poll_saves old new log log' wire session started t c c' p more built saves (is_over at over_so quiet unstarted is answer) = absurd (more answer)
 poll_saves old new log log' wire session started t c c' p more built saves (not_polled at may e fails_so quiet unstarted is answer) = absurd (built at may)
@@ -301,7 +301,7 @@ poll_saves old new log log' wire session started t c c' p more built saves (begi
 poll_saves old new log log' wire session started t c c' p more built saves (polls_on sending at asked) = subst (SavesWhile t) at saves
 
 -- and there the cursor is the same
-pub poll_ends : (old new : Awaited) (log log' : Told) (wire : ℤ) (session : Option Session) (started : Bool) (c c' : ClientCursor) → NoneToBuild c → PollsNext old new log log' wire session started c c' next.End → c' ≡ c
+pub poll_ends : (old new : Awaited) (log log' : LogTold) (wire : ℤ) (session : Option Session) (started : Bool) (c c' : ClientCursor) → NoneToBuild c → PollsNext old new log log' wire session started c c' next.End → c' ≡ c
 poll_ends old new log log' wire session started c c' built (hands_out said at quiet unstarted is answer) = absurd cc
 poll_ends old new log log' wire session started c c' built (is_over at over_so quiet unstarted is answer) = is
 poll_ends old new log log' wire session started c c' built (not_polled at may e fails_so quiet unstarted is answer) = absurd (built at may)
@@ -391,7 +391,7 @@ ready_ticket session s u on (asks_now at may sending new_one is) =
 ready_ticket session s u on (not_now built is) = ap stream_ticket is
 
 -- its getMore is the one that was built
-module _ (old new : Awaited) (log log' : Told) (wire : ℤ) (session : Option Session) (started : Bool) (s : ClientStream) (on : s.doing ≡ follows) (none_left : s.behind ≡ []) (at : s.cursor.doing ≡ rests) (may : MayAsk s.cursor) (sending : Sending) (new_one : IsNew (get_more s.cursor session) sending) where
+module _ (old new : Awaited) (log log' : LogTold) (wire : ℤ) (session : Option Session) (started : Bool) (s : ClientStream) (on : s.doing ≡ follows) (none_left : s.behind ≡ []) (at : s.cursor.doing ≡ rests) (may : MayAsk s.cursor) (sending : Sending) (new_one : IsNew (get_more s.cursor session) sending) where
   same_sending : (other : Sending) → asks sending ≡ asks other → other ≡ sending
   same_sending other h = cc
 
@@ -438,7 +438,7 @@ module _ (old new : Awaited) (log log' : Told) (wire : ℤ) (session : Option Se
   asked_steps s' r (closes before on_so unstarted came polls h) = absurd (let bad : follows ≡ kills before = sym on ∙ on_so in cc)
   asked_steps s' r (renews on_so said at_so quiet unstarted h) = absurd (let bad : follows ≡ renewed = sym on ∙ on_so in cc)
 
-pub ready_steps : (old new : Awaited) (log log' : Told) (wire : ℤ) (session : Option Session) (started : Bool) (s u s' : ClientStream) (r : Stepped) → s.doing ≡ follows → s.behind ≡ [] → Prepares session s u → DoesStep old new log log' wire session started u s' r → DoesStep old new log log' wire session started s s' r
+pub ready_steps : (old new : Awaited) (log log' : LogTold) (wire : ℤ) (session : Option Session) (started : Bool) (s u s' : ClientStream) (r : Stepped) → s.doing ≡ follows → s.behind ≡ [] → Prepares session s u → DoesStep old new log log' wire session started u s' r → DoesStep old new log log' wire session started s s' r
 ready_steps old new log log' wire session started s u s' r on none_left (asks_now at may sending new_one is) h =
     asked_steps old new log log' wire session started s on none_left at may sending new_one s' r (subst (λ (x : ClientStream). DoesStep old new log log' wire session started x s' r) is h)
 ready_steps old new log log' wire session started s u s' r on none_left (not_now built is) h = subst (λ (x : ClientStream). DoesStep old new log log' wire session started x s' r) is h

@@ -8,7 +8,7 @@ use Rattle.mg_bson.specs.declared.tree.Timestamp.{Timestamp}
 use Rattle.mg_link.specs.Calls.{Flies, HeardAt, HeardLast, Past, WaitsAt, past_of}
 use Rattle.mg_link.specs.Exec.{Attempt, answered, Begins, GoesOn, IsSuccess, Runs, Sending, Stage, Tries, first, second, unsent}
 use Rattle.mg_link.specs.Follow.{Follow, Moved}
-use Rattle.mg_link.specs.Link.{Awaited, Told}
+use Rattle.mg_link.specs.Link.{Awaited, LogTold}
 use Rattle.mg_link.specs.Log.{Call, reply}
 use Rattle.mg_link.specs.Reply.{verdict_of}
 use Rattle.mg_link.specs.Retry.{is_retried, is_retried_as, is_retried_reply}
@@ -33,26 +33,26 @@ use Rattle.mg_change.proofs.Turning.{IsResumption}
 -- ---- where a request heard its reply
 
 -- this was heard at a place of the log
-abbrev HeardThere : Told → List ℕ → ℕ → ℤ → Fields → List ℕ → Option ℕ → Type 0
+abbrev HeardThere : LogTold → List ℕ → ℕ → ℤ → Fields → List ℕ → Option ℕ → Type 0
 HeardThere log' places since wire command bytes at = (calls' : List Call) × (log' ≡ Some calls') × (place : ℕ) × (at ≡ Some place) × HeardAt (past_of places since calls' wire) place command (reply bytes)
 
 module _ (places : List ℕ) (since : ℕ) (wire : ℤ) (command : List ℕ) (bytes : List ℕ) where
-  begun_there : (old new : Awaited) (log log' : Told) (calls : List Call) → log ≡ Some calls → since ≤ length calls → Begins old new log log' command (answered (reply bytes)) → HeardThere log' places since wire (fields command) bytes (next_place log)
+  begun_there : (old new : Awaited) (log log' : LogTold) (calls : List Call) → log ≡ Some calls → since ≤ length calls → Begins old new log log' command (answered (reply bytes)) → HeardThere log' places since wire (fields command) bytes (next_place log)
   begun_there old new log log' calls told room b =
       let t = begun old new log log' calls told places since wire command (answered (reply bytes)) (λ place. place ≡ length calls) room refl b in
       (t.calls', t.told, t.stands.0, next_is log calls told ∙ ap Some (sym t.stands.2), t.stands.1)
 
-  on_there : (old new : Awaited) (log log' : Told) (calls : List Call) → log ≡ Some calls → (ticket place : ℕ) → WaitsAt old (past_of places since calls wire) ticket (fields command) place → GoesOn old new log log' ticket (answered (reply bytes)) → HeardThere log' places since wire (fields command) bytes (old ticket)
+  on_there : (old new : Awaited) (log log' : LogTold) (calls : List Call) → log ≡ Some calls → (ticket place : ℕ) → WaitsAt old (past_of places since calls wire) ticket (fields command) place → GoesOn old new log log' ticket (answered (reply bytes)) → HeardThere log' places since wire (fields command) bytes (old ticket)
   on_there old new log log' calls told ticket place w g =
       let t = gone_on old new log log' calls told places since wire ticket (fields command) (answered (reply bytes)) (λ p. old ticket ≡ Some p) place w w.at g in
       (t.calls', t.told, t.stands.0, t.stands.2, t.stands.1)
 
-  tried_there : (old new : Awaited) (log log' : Told) (calls : List Call) → log ≡ Some calls → since ≤ length calls → (stage : Stage) → Flies old (past_of places since calls wire) (fields command) stage → Tries old new log log' command stage (answered (reply bytes)) → HeardThere log' places since wire (fields command) bytes (place_at old log stage)
+  tried_there : (old new : Awaited) (log log' : LogTold) (calls : List Call) → log ≡ Some calls → since ≤ length calls → (stage : Stage) → Flies old (past_of places since calls wire) (fields command) stage → Tries old new log log' command stage (answered (reply bytes)) → HeardThere log' places since wire (fields command) bytes (place_at old log stage)
   tried_there old new log log' calls told room unsent flies t = begun_there old new log log' calls told room t
   tried_there old new log log' calls told room (first ticket) flies t = on_there old new log log' calls told ticket flies.0 flies.1 t
   tried_there old new log log' calls told room (second ticket) flies t = on_there old new log log' calls told ticket flies.0 flies.1 t
 
-ran_there : (places : List ℕ) (since : ℕ) (old new : Awaited) (log log' : Told) (wire : ℤ) (s : Sending) (bytes : List ℕ) (calls : List Call) → log ≡ Some calls → since ≤ length calls → Flies old (past_of places since calls wire) (fields s.command) s.stage → (runs : Runs old new log log' wire s (step.Done bytes))
+ran_there : (places : List ℕ) (since : ℕ) (old new : Awaited) (log log' : LogTold) (wire : ℤ) (s : Sending) (bytes : List ℕ) (calls : List Call) → log ≡ Some calls → since ≤ length calls → Flies old (past_of places since calls wire) (fields s.command) s.stage → (runs : Runs old new log log' wire s (step.Done bytes))
     → HeardThere log' places since wire (fields s.command) bytes (place_heard old new log log' wire s (step.Done bytes) runs)
 ran_there places since old new log log' wire s bytes calls told room flies (inl once) =
     tried_there places since wire s.command bytes old new log log' calls told room s.stage flies (subst (λ (a : Attempt). Tries old new log log' s.command s.stage a) once.gives.0 once.tries)
@@ -84,7 +84,7 @@ IsDone (step.Failed e) = ⊥
 same_stream : (s t : ClientStream) → ◌≡◌ {A = Step ClientOpening ClientStream} (step.Done s) (step.Done t) → s ≡ t
 same_stream s t is = cc
 
-module _ (old new : Awaited) (log log' : Told) (wire : ℤ) (args : WatchArgs) (sending : Sending) (is : IsResumption (first_aggregate args) sending) where
+module _ (old new : Awaited) (log log' : LogTold) (wire : ℤ) (args : WatchArgs) (sending : Sending) (is : IsResumption (first_aggregate args) sending) where
   -- a reply came of which a stream was made
   placed_by : (bytes : List ℕ) (out : CursorSpecification × Option Timestamp) (s : ClientStream) → OpensCursor (first_aggregate args) bytes out → s ≡ opened_with args wire out → Runs old new log log' wire sending (step.Done bytes) → OpenedAt old new log log' wire args (Some sending) s
   placed_by bytes out s opens same runs = record {
@@ -103,7 +103,7 @@ module _ (old new : Awaited) (log log' : Told) (wire : ℤ) (args : WatchArgs) (
   }
 
 -- the same of one that was not sent before
-unsent_placed : (old new : Awaited) (log log' : Told) (wire : ℤ) (session : Option Session) (args : WatchArgs) (sending : Sending) (s : ClientStream) → IsNewAggregate (resuming_in (first_aggregate args) wire session) session sending → OpenedAt old new log log' wire args (Some sending) s
+unsent_placed : (old new : Awaited) (log log' : LogTold) (wire : ℤ) (session : Option Session) (args : WatchArgs) (sending : Sending) (s : ClientStream) → IsNewAggregate (resuming_in (first_aggregate args) wire session) session sending → OpenedAt old new log log' wire args (Some sending) s
     → OpenedAt old new log log' wire args None s
 unsent_placed old new log log' wire session args sending s new_one h = record {
   place = h.place;
@@ -118,7 +118,7 @@ unsent_placed old new log log' wire session args sending s new_one h = record {
       });
 }
 
-module _ (old new : Awaited) (log log' : Told) (wire : ℤ) (session : Option Session) (started : Bool) (o : ClientOpening) (s : ClientStream) where
+module _ (old new : Awaited) (log log' : LogTold) (wire : ℤ) (session : Option Session) (started : Bool) (o : ClientOpening) (s : ClientStream) where
   heard_placed : (sending : Sending) → IsResumption (first_aggregate o.args) sending → (came : Step Sending (List ℕ)) → Runs old new log log' wire sending came → HearsOpening wire o came (step.Done s) → OpenedAt old new log log' wire o.args (Some sending) s
   heard_placed sending is (step.Pending waiting) runs h = absurd (subst IsDone h tt)
   heard_placed sending is (step.Done bytes) runs (opened out opens answer) = placed_by old new log log' wire o.args sending is bytes out s opens (same_stream s (opened_with o.args wire out) answer) runs

@@ -5,7 +5,7 @@ use Rattle.std.proofs.lemmas.Bool.{eqb-true}
 use Rattle.mg_bson.specs.Raw.{fields}
 use Rattle.mg_bson.specs.Tree.{Tree}
 use Rattle.mg_link.specs.Exec.{Runs, Sending, ticket_at, ticket_of}
-use Rattle.mg_link.specs.Link.{Awaited, Told}
+use Rattle.mg_link.specs.Link.{Awaited, LogTold}
 use Rattle.mg_link.specs.Moment.{Ending, LinkKeeps, Moment}
 use Rattle.mg_link.specs.Namespace.{Space}
 use Rattle.mg_link.specs.declared.action.Step.{Step}
@@ -122,7 +122,7 @@ saved_one place.Saved saved event t u is = refl
 saved_one place.Event saved event t u is = absurd is
 saved_one place.Batch saved event t u is = absurd is
 
-module _ (old mid : Awaited) (log log_mid : Told) (wire : ℤ) (r : Remains) (b : Batches) where
+module _ (old mid : Awaited) (log log_mid : LogTold) (wire : ℤ) (r : Remains) (b : Batches) where
   same_token : (p : NextPoll) → SavesWhile r.token (client_of r.batches).doing → LandsIn old mid log log_mid wire (client_of r.batches) (client_of b) p → remains_token (record r { batches = b }) ≡ remains_token r
   same_token p saves (quiet not same_awaited same_log is answer) = ap (λ (c : ClientCursor). token_lying r.token (token_known r.aggregate.resume) (current_of r.buffer) c.token) is
   same_token p saves (heard sending at came runs hears) =
@@ -162,7 +162,7 @@ none_ended c left (step.Done reply) h = none_read reply h
     none_read reply (broke e fails is answer) = cc
 none_ended c left (step.Failed e) h = let bad : next.End ≡ next.Failed e = h.1 in cc
 
-module _ (old mid new : Awaited) (log log_mid log' : Told) (wire wire' : ℤ) (same_wire : wire' ≡ wire) (r : Remains) (b : Batches) (saves : SavesWhile r.token (client_of r.batches).doing) (answer : Step ClosingStream (Unit {0})) where
+module _ (old mid new : Awaited) (log log_mid log' : LogTold) (wire wire' : ℤ) (same_wire : wire' ≡ wire) (r : Remains) (b : Batches) (saves : SavesWhile r.token (client_of r.batches).doing) (answer : Step ClosingStream (Unit {0})) where
   lands_behind : (p : NextPoll) → (p ≡ next.End → ⊥) → LandsIn old mid log log_mid wire (client_of r.batches) (client_of b) p → BehindMore mid new log_mid log' wire (record (closing_in r lands) { cursor = client_of b }) p answer
       → ClosesStream old new log log' wire (closing_in r lands) answer
   lands_behind p other (quiet not same_awaited same_log is ended) behind = absurd (other ended)
@@ -192,13 +192,13 @@ module _ (old mid new : Awaited) (log log_mid log' : Told) (wire wire' : ℤ) (s
   quiet_behind (quiet not same_awaited same_log is ended) kills =
       begins refl not
       (subst (λ (c : ClientCursor). KillsLeft old new log log' wire (record (closing_in r lands) { cursor = c }) answer) is
-      (subst (λ (l : Told). KillsLeft old new l log' wire (record (closing_in r lands) { cursor = client_of b }) answer) same_log
+      (subst (λ (l : LogTold). KillsLeft old new l log' wire (record (closing_in r lands) { cursor = client_of b }) answer) same_log
       (subst (λ (a : Awaited). KillsLeft a new log_mid log' wire (record (closing_in r lands) { cursor = client_of b }) answer) same_awaited
       (kills_over next.End (quiet not same_awaited same_log is ended) kills))))
   quiet_behind (heard sending at came runs hears) kills = absurd (none_ended (client_of r.batches) (client_of b) came hears)
 
 -- it pends still
-pub pending_behind : (old mid : Awaited) (log log_mid : Told) (wire : ℤ) (r : Remains) (b : Batches) → SavesWhile r.token (client_of r.batches).doing → LandsIn old mid log log_mid wire (client_of r.batches) (client_of b) next.Pending
+pub pending_behind : (old mid : Awaited) (log log_mid : LogTold) (wire : ℤ) (r : Remains) (b : Batches) → SavesWhile r.token (client_of r.batches).doing → LandsIn old mid log log_mid wire (client_of r.batches) (client_of b) next.Pending
     → ClosesStream old mid log log_mid wire (closing_in r lands) (step.Pending (closing_in (record r { batches = b }) lands))
 pending_behind old mid log log_mid wire r b saves landed =
     lands_behind old mid mid log log_mid log_mid wire wire refl r b saves (step.Pending (closing_in (record r { batches = b }) lands)) next.Pending (λ e. cc) landed
@@ -211,19 +211,19 @@ pub keeps_then : (m mid m' : Moment) (ticket ticket' : Option ℕ) (first outcom
 keeps_then m mid m' ticket ticket' first outcome k same j = keeps_on m mid m' ticket None ticket' first outcome k same j
 
 -- the wire version stays
-pub kills_at : (old new : Awaited) (log log' : Told) (wire wire' : ℤ) (k : ClosingStream) (r : Step ClosingStream (Unit {0})) → wire' ≡ wire → KillsLeft old new log log' wire' k r → KillsLeft old new log log' wire k r
+pub kills_at : (old new : Awaited) (log log' : LogTold) (wire wire' : ℤ) (k : ClosingStream) (r : Step ClosingStream (Unit {0})) → wire' ≡ wire → KillsLeft old new log log' wire' k r → KillsLeft old new log log' wire k r
 kills_at old new log log' wire wire' k r same h = subst (λ (v : ℤ). KillsLeft old new log log' v k r) same h
 
-pub passes_at : (old new : Awaited) (log log' : Told) (wire wire' : ℤ) (k : ClosingStream) (e : Error) (r : Step ClosingStream (Unit {0})) → wire' ≡ wire → PassesOver old new log log' wire' k e r → PassesOver old new log log' wire k e r
+pub passes_at : (old new : Awaited) (log log' : LogTold) (wire wire' : ℤ) (k : ClosingStream) (e : Error) (r : Step ClosingStream (Unit {0})) → wire' ≡ wire → PassesOver old new log log' wire' k e r → PassesOver old new log log' wire k e r
 passes_at old new log log' wire wire' k e r same h = subst (λ (v : ℤ). PassesOver old new log log' v k e r) same h
 
 -- a reply to the aggregate, at whose closing this was on its way
-pub opening_at : (old new : Awaited) (log log' : Told) (wire wire' : ℤ) (k : ClosingStream) (reply : List ℕ) (r : Step ClosingStream (Unit {0})) → wire' ≡ wire → BehindOpening old new log log' wire' (record k { doing = lands }) reply r → BehindOpening old new log log' wire k reply r
+pub opening_at : (old new : Awaited) (log log' : LogTold) (wire wire' : ℤ) (k : ClosingStream) (reply : List ℕ) (r : Step ClosingStream (Unit {0})) → wire' ≡ wire → BehindOpening old new log log' wire' (record k { doing = lands }) reply r → BehindOpening old new log log' wire k reply r
 opening_at old new log log' wire wire' k reply r same (opened_one said says kills) = opened_one said says (kills_at old new log log' wire wire' (record k { opened = said.id; doing = lands }) r same kills)
 opening_at old new log log' wire wire' k reply r same (opened_none e fails passes) = opened_none e fails (passes_at old new log log' wire wire' (record k { doing = lands }) e r same passes)
 
 -- the cursor that it opened
-pub opened_behind : (old new : Awaited) (log log' : Told) (wire : ℤ) (k : ClosingStream) (reply : List ℕ) (answer : Step ClosingStream (Unit {0})) (said : Cursor) (id : ℤ) → cursor_of (fields reply) ≡ Ok said → id ≡ said.id
+pub opened_behind : (old new : Awaited) (log log' : LogTold) (wire : ℤ) (k : ClosingStream) (reply : List ℕ) (answer : Step ClosingStream (Unit {0})) (said : Cursor) (id : ℤ) → cursor_of (fields reply) ≡ Ok said → id ≡ said.id
     → KillsLeft old new log log' wire (record k { opened = id; doing = lands }) answer → BehindOpening old new log log' wire k reply answer
 opened_behind old new log log' wire k reply answer said id says is kills = opened_one said says (subst (λ (i : ℤ). KillsLeft old new log log' wire (record k { opened = i; doing = lands }) answer) is kills)
 
@@ -235,7 +235,7 @@ hears_as k (step.Done bytes) r h = h
 hears_as k (step.Failed e) r h = h
 
 -- on its way already
-pub runs_as : (old new : Awaited) (log log' : Told) (wire : ℤ) (k : ClosingStream) (sending : Sending) (r : Step ClosingStream (Unit {0})) → RunsKill old new log log' wire (record k { doing = lands }) sending r → RunsKill old new log log' wire k sending r
+pub runs_as : (old new : Awaited) (log log' : LogTold) (wire : ℤ) (k : ClosingStream) (sending : Sending) (r : Step ClosingStream (Unit {0})) → RunsKill old new log log' wire (record k { doing = lands }) sending r → RunsKill old new log log' wire k sending r
 runs_as old new log log' wire k sending r h = record { came = h.came; runs = h.runs; hears = hears_as k h.came r h.hears }
 
 -- one that is built is to be sent
@@ -258,7 +258,7 @@ to_kill k sending h = record {
 }
 
 -- one that pends waits
-pub kill_still : (old new : Awaited) (log log' : Told) (wire : ℤ) (r : Remains) (sending waiting : Sending) → IsToKill (closing_in r lands) sending → Runs old new log log' wire sending (step.Pending waiting) → IsClosingIn r (ends waiting)
+pub kill_still : (old new : Awaited) (log log' : LogTold) (wire : ℤ) (r : Remains) (sending waiting : Sending) → IsToKill (closing_in r lands) sending → Runs old new log log' wire sending (step.Pending waiting) → IsClosingIn r (ends waiting)
 kill_still old new log log' wire r sending waiting is runs =
     let w = waits_still old new log log' wire sending waiting is.single is.first_try runs in
     record {

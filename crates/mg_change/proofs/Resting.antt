@@ -4,7 +4,7 @@ use Rattle.mg_bson.specs.Raw.{fields}
 use Rattle.mg_bson.specs.Tree.{Fields, Tree}
 use Rattle.mg_link.specs.Exec.{Sending}
 use Rattle.mg_link.specs.Follow.{Moved}
-use Rattle.mg_link.specs.Link.{Awaited, Told}
+use Rattle.mg_link.specs.Link.{Awaited, LogTold}
 use Rattle.mg_link.specs.Session.{Session}
 use Rattle.mg_link.specs.State.{Start, Watch}
 use Rattle.mg_link.specs.declared.action.Step.{Step}
@@ -61,7 +61,7 @@ heard_between wire o (step.Done reply) r (broke e fails answer) t is = not_done 
 heard_between wire o (step.Failed e) r h t is = not_done r _ h t is tt
 
 -- the stream that an opening gives is between two calls
-pub opened_between : (old new : Awaited) (log log' : Told) (wire : ℤ) (session : Option Session) (started : Bool) (o : ClientOpening) (r : Step ClientOpening ClientStream) → OpensStream old new log log' wire session started o r → (s : ClientStream) → r ≡ step.Done s → IsBetween s
+pub opened_between : (old new : Awaited) (log log' : LogTold) (wire : ℤ) (session : Option Session) (started : Bool) (o : ClientOpening) (r : Step ClientOpening ClientStream) → OpensStream old new log log' wire session started o r → (s : ClientStream) → r ≡ step.Done s → IsBetween s
 opened_between old new log log' wire session started o r (not_built unsent e fails nothing none answer) s is = not_done r _ answer s is tt
 opened_between old new log log' wire session started o r (begins unsent sending its runs) s is = heard_between wire o runs.came r runs.hears s is
 opened_between old new log log' wire session started o r (goes_on sending sent runs) s is = heard_between wire o runs.came r runs.hears s is
@@ -78,27 +78,27 @@ heard_args wire o (step.Done reply) r (opened out opens answer) = subst (HasArgs
 heard_args wire o (step.Done reply) r (broke e fails answer) = subst (HasArgs o.args) (sym answer) tt
 heard_args wire o (step.Failed e) r h = subst (HasArgs o.args) (sym h) tt
 
-keeps_args : (old new : Awaited) (log log' : Told) (wire : ℤ) (session : Option Session) (started : Bool) (o : ClientOpening) (r : Step ClientOpening ClientStream) → OpensStream old new log log' wire session started o r → HasArgs o.args r
+keeps_args : (old new : Awaited) (log log' : LogTold) (wire : ℤ) (session : Option Session) (started : Bool) (o : ClientOpening) (r : Step ClientOpening ClientStream) → OpensStream old new log log' wire session started o r → HasArgs o.args r
 keeps_args old new log log' wire session started o r (not_built unsent e fails nothing none answer) = subst (HasArgs o.args) (sym answer) tt
 keeps_args old new log log' wire session started o r (begins unsent sending its runs) = heard_args wire o runs.came r runs.hears
 keeps_args old new log log' wire session started o r (goes_on sending sent runs) = heard_args wire o runs.came r runs.hears
 
-pub opening_args : (old new : Awaited) (log log' : Told) (wire : ℤ) (session : Option Session) (started : Bool) (o : ClientOpening) (r : Step ClientOpening ClientStream) → OpensStream old new log log' wire session started o r → (next : ClientOpening) → r ≡ step.Pending next → next.args ≡ o.args
+pub opening_args : (old new : Awaited) (log log' : LogTold) (wire : ℤ) (session : Option Session) (started : Bool) (o : ClientOpening) (r : Step ClientOpening ClientStream) → OpensStream old new log log' wire session started o r → (next : ClientOpening) → r ≡ step.Pending next → next.args ≡ o.args
 opening_args old new log log' wire session started o r h next is = subst (HasArgs o.args) is (keeps_args old new log log' wire session started o r h)
 
-pub opened_args : (old new : Awaited) (log log' : Told) (wire : ℤ) (session : Option Session) (started : Bool) (o : ClientOpening) (r : Step ClientOpening ClientStream) → OpensStream old new log log' wire session started o r → (s : ClientStream) → r ≡ step.Done s → s.aggregate.args ≡ o.args
+pub opened_args : (old new : Awaited) (log log' : LogTold) (wire : ℤ) (session : Option Session) (started : Bool) (o : ClientOpening) (r : Step ClientOpening ClientStream) → OpensStream old new log log' wire session started o r → (s : ClientStream) → r ≡ step.Done s → s.aggregate.args ≡ o.args
 opened_args old new log log' wire session started o r h s is = subst (HasArgs o.args) is (keeps_args old new log log' wire session started o r h)
 
 -- ---- what it has in hand
 
-hand_forgets : (log : Told) (awaited : Awaited) (d : cursors.Doing) → IsNotAsking d → (events : List Fields) (upto : Option Tree) (w : Watch) (start : Start) (opened : Option ℕ) (cursor : ℤ) (token : Option Tree) (answered : List Fields)
+hand_forgets : (log : LogTold) (awaited : Awaited) (d : cursors.Doing) → IsNotAsking d → (events : List Fields) (upto : Option Tree) (w : Watch) (start : Start) (opened : Option ℕ) (cursor : ℤ) (token : Option Tree) (answered : List Fields)
     → Moved log log (with_more awaited d events upto (idle_by w start opened cursor token answered)) (idle_by w start opened cursor token answered)
 hand_forgets log awaited rests quiet [] upto w start first cursor token answered = gives_up log (with_more awaited rests [] upto (idle_by w start first cursor token answered)) tt
 hand_forgets log awaited rests quiet (e ∷ es) upto w start first cursor token answered = gives_up log (with_more awaited rests (e ∷ es) upto (idle_by w start first cursor token answered)) tt
 hand_forgets log awaited (holds bytes) quiet events upto w start first cursor token answered = gives_up log (with_more awaited (holds bytes) events upto (idle_by w start first cursor token answered)) tt
 hand_forgets log awaited (asks sending) quiet events upto w start first cursor token answered = absurd quiet
 
-forgets_by : (log : Told) (awaited : Awaited) (d : Doing) (c : ClientCursor) → IsIdle d → IsNotAsking c.doing → (events : List Fields) (w : Watch) (start : Start) (opened : Option ℕ) (token : Option Tree) (answered : List Fields)
+forgets_by : (log : LogTold) (awaited : Awaited) (d : Doing) (c : ClientCursor) → IsIdle d → IsNotAsking c.doing → (events : List Fields) (w : Watch) (start : Start) (opened : Option ℕ) (token : Option Tree) (answered : List Fields)
     → Moved log log (follow_by awaited d c events (idle_by w start opened c.id token answered)) (idle_by w start opened c.id token answered)
 forgets_by log awaited follows c idle quiet events w start first token answered = hand_forgets log awaited c.doing quiet events c.token w start first c.id token answered
 forgets_by log awaited owes c idle quiet events w start first token answered = stayed log log (idle_by w start first c.id token answered) refl
@@ -107,6 +107,6 @@ forgets_by log awaited (kills old) c idle quiet events w start first token answe
 forgets_by log awaited renewed c idle quiet events w start first token answered = absurd idle
 
 -- what a stream between two calls has in hand may be forgotten
-pub between_forgets : (log : Told) (awaited : Awaited) (w : Watch) (start : Start) (s : ClientStream) (opened : Option ℕ) (answered : List Fields) → IsBetween s
+pub between_forgets : (log : LogTold) (awaited : Awaited) (w : Watch) (start : Start) (s : ClientStream) (opened : Option ℕ) (answered : List Fields) → IsBetween s
     → Moved log log (follow_of awaited w start s opened answered) (idle_by w start opened s.cursor.id (stream_token s) answered)
 between_forgets log awaited w start s first answered b = forgets_by log awaited s.doing s.cursor b.idle b.quiet (map fields s.behind) w start first (stream_token s) answered

@@ -7,7 +7,7 @@ use Rattle.mg_link.specs.Calls.{Keeps, Past, RequestFails, out_of_memory, was_br
 use Rattle.mg_link.specs.Errors.{plain}
 use Rattle.mg_link.specs.Exec.{FailsAs, FailsByReply}
 use Rattle.mg_link.specs.Failures.{refusal_by}
-use Rattle.mg_link.specs.Link.{Awaited, Told}
+use Rattle.mg_link.specs.Link.{Awaited, LogTold}
 use Rattle.mg_link.specs.Log.{Call}
 use Rattle.mg_link.specs.Reply.{refusal_of, verdict_of}
 use Rattle.mg_link.specs.Session.{Session}
@@ -177,13 +177,13 @@ lone_behind n (Some named) = refl
 -- ---- all parts
 
 -- what the parts of a call come to behind such a row
-record PartsCame (new : Awaited) (calls : List Call) (log' : Told) (wire : ℤ) (first : Option Session) (start : CallPart) (s' : ClientStream) (r : EventPoll) : Type 0 where
+record PartsCame (new : Awaited) (calls : List Call) (log' : LogTold) (wire : ℤ) (first : Option Session) (start : CallPart) (s' : ClientStream) (r : EventPoll) : Type 0 where
   calls' : List Call
   told : log' ≡ Some calls'
   keeps : Keeps calls calls'
   came : SeekCame new calls' wire first start s' r
 
-parts_caused : (n : ℕ) (old new : Awaited) (log log' : Told) (wire : ℤ) (first session : Option Session) (starts : ℕ) (s s' : ClientStream) (r : EventPoll) → IsSound false s → (first ≡ None → session ≡ None) → is_lone session ≡ is_lone first → SeeksEvent n old new log log' wire session starts s s' r
+parts_caused : (n : ℕ) (old new : Awaited) (log log' : LogTold) (wire : ℤ) (first session : Option Session) (starts : ℕ) (s s' : ClientStream) (r : EventPoll) → IsSound false s → (first ≡ None → session ≡ None) → is_lone session ≡ is_lone first → SeeksEvent n old new log log' wire session starts s s' r
     → (start : CallPart) (calls : List Call) → log ≡ Some calls → RowSought old calls wire (is_lone first) start s → PartsCame new calls log' wire first start s' r
 unfolding SeeksEvent
 parts_caused zero old new log log' wire first session starts s s' r sound none_then same h start calls told so =
@@ -229,7 +229,7 @@ parts_caused (suc n) old new log log' wire first session starts s s' r sound non
     let rest = parts_caused n mid new log_mid log' wire first (session_behind h.2 session) h.3 t s' r sound_t (λ none. ap (session_behind h.2) (none_then none)) (lone_behind h.2 session ∙ same) h.7 start x.calls' x.told going in
     record { calls' = rest.calls'; told = rest.told; keeps = keeps_on calls x.calls' rest.calls' x.keeps rest.keeps; came = rest.came }
 
-pub seeks_caused : (n : ℕ) (b : Bool) (old new : Awaited) (log log' : Told) (wire : ℤ) (session : Option Session) (starts : ℕ) (s s' : ClientStream) (r : EventPoll) → IsSound b (lends_nothing s) → SeeksEvent n old new log log' wire session starts (lends_nothing s) s' r → SeekCaused old new log log' wire session s s' r
+pub seeks_caused : (n : ℕ) (b : Bool) (old new : Awaited) (log log' : LogTold) (wire : ℤ) (session : Option Session) (starts : ℕ) (s s' : ClientStream) (r : EventPoll) → IsSound b (lends_nothing s) → SeeksEvent n old new log log' wire session starts (lends_nothing s) s' r → SeekCaused old new log log' wire session s s' r
 seeks_caused n b old new log log' wire session starts s s' r sound does = λ calls told places at so.
     let start : CallPart = record { at = at; counts = s.counts; places = places; since = length calls } in
     let x = parts_caused n old new log log' wire session session starts (lends_nothing s) s' r (sound_any b (lends_nothing s) sound) (λ none. none) refl does start calls told

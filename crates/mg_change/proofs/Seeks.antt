@@ -1,6 +1,6 @@
 -- Where a call that seeks an event goes on behind a step, and where it ends.
 use Rattle.std.proofs.Common.{◌≡◌, ◌⊎◌, ◌<◌, ◌≤◌, ◌+◌, ◌*◌, ◌-◌, ℕ, ℤ, pos, Bool, true, false, Option, refl, sym, ap, ◌∙◌, subst, inl, inr, arith}
-use Rattle.mg_link.specs.Link.{Awaited, Told}
+use Rattle.mg_link.specs.Link.{Awaited, LogTold}
 use Rattle.mg_link.specs.Moment.{LinkKeeps, Moment, finished}
 use Rattle.mg_link.specs.Session.{Session}
 use Rattle.mg_cursor.specs.Seeking.{one_if, session_after}
@@ -135,7 +135,7 @@ sound_by again came left now (by_step is same) sound = subst (IsSound false) (sy
 sound_by again came left now (by_reply last h) sound =
     sound_as false left now (ap (λ (x : ClientStream). x.aggregate) h.counts) (ap (λ (x : ClientStream). x.cursor) h.counts) (ap (λ (x : ClientStream). x.behind) h.counts) (ap (λ (x : ClientStream). x.doing) h.counts) sound
 
-pub part_by : (old mid new : Awaited) (log log_mid log' : Told) (wire : ℤ) (session now_so then_so : Option Session) (starts : ℕ) (started : Bool) (s t : ClientStream) → then_so ≡ session_after started now_so → InPart old mid log log_mid wire session now_so starts s t → (left now : ClientStream) (came : Stepped) → DoesStep mid new log_mid log' wire now_so started t left came
+pub part_by : (old mid new : Awaited) (log log_mid log' : LogTold) (wire : ℤ) (session now_so then_so : Option Session) (starts : ℕ) (started : Bool) (s t : ClientStream) → then_so ≡ session_after started now_so → InPart old mid log log_mid wire session now_so starts s t → (left now : ClientStream) (came : Stepped) → DoesStep mid new log_mid log' wire now_so started t left came
     → GoesOn (is_renewed t.doing) came left now → InPart old new log log' wire session then_so (starts + one_if started) s now
 part_by old mid new log log_mid log' wire session now_so then_so starts started s t told so left now came does (by_step is same) =
     subst (λ (x : ClientStream). InPart old new log log' wire session then_so (starts + one_if started) s x) (sym same)

@@ -4,7 +4,7 @@ use Rattle.std.specs.Prelude.{IfErr, IfOk, OnErr}
 use Rattle.mg_bson.specs.Raw.{fields}
 use Rattle.mg_link.specs.Acts.{IsOut, ticket_after}
 use Rattle.mg_link.specs.Exec.{Sending, ticket_at, ticket_of}
-use Rattle.mg_link.specs.Link.{Awaited, Told}
+use Rattle.mg_link.specs.Link.{Awaited, LogTold}
 use Rattle.mg_link.specs.Moment.{LinkKeeps, Moment, finished, step_ending}
 use Rattle.mg_link.specs.Session.{Session, after_command}
 use Rattle.mg_link.specs.declared.action.Step.{Step}
@@ -94,7 +94,7 @@ hears_again wire args before after (step.Done bytes) r (opened out opens answer)
 hears_again wire args before after (step.Done bytes) r (broke e by answer) = broke e by answer
 hears_again wire args before after (step.Failed e) r h = h
 
-pub opens_next : (old new : Awaited) (log log' : Told) (wire : ℤ) (session : Option Session) (started : Bool) (args : WatchArgs) (before : Option Sending) (sending : Sending) (r : Step ClientOpening ClientStream) → IsNextSent (first_aggregate args) wire session before sending → RunsOpening old new log log' wire started (record { args = args; sending = None }) sending r
+pub opens_next : (old new : Awaited) (log log' : LogTold) (wire : ℤ) (session : Option Session) (started : Bool) (args : WatchArgs) (before : Option Sending) (sending : Sending) (r : Step ClientOpening ClientStream) → IsNextSent (first_aggregate args) wire session before sending → RunsOpening old new log log' wire started (record { args = args; sending = None }) sending r
     → OpensStream old new log log' wire session started (record { args = args; sending = before }) r
 opens_next old new log log' wire session started args None sending r next h = begins refl sending next h
 opens_next old new log log' wire session started args (Some sent) sending r next h =

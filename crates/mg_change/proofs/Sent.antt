@@ -5,7 +5,7 @@ use Rattle.std.specs.Prelude.{◌≢◌, ◌<◌, ◌≤◌}
 use Rattle.mg_bson.specs.Tree.{Fields}
 use Rattle.mg_bson.specs.Raw.{fields}
 use Rattle.mg_link.specs.Exec.{Stage, unsent, first, second, Sending, Attempt, not_sent, waits, answered, Begins, GoesOn, Runs, Tries, holding, is_repeated}
-use Rattle.mg_link.specs.Link.{Awaited, SendsNothing, Told, Adds, Sees}
+use Rattle.mg_link.specs.Link.{Awaited, SendsNothing, LogTold, Adds, Sees}
 use Rattle.mg_link.specs.Log.{Sight, waiting, Call, see}
 use Rattle.mg_link.specs.Moment.{Ending, failed, finished, pending}
 use Rattle.mg_link.specs.Owner.{nobody}
@@ -43,22 +43,22 @@ use Rattle.mg_change.proofs.Keeping.{sound_any, sound_as, step_sound}
 
 -- ---- logs
 
-sent_none : (log log' : Told) → log' ≡ log → Sent log log' []
+sent_none : (log log' : LogTold) → log' ≡ log → Sent log log' []
 sent_none log log' same calls told = (calls, same ∙ told, sym (append-nil (commands_sent calls)), onward_refl calls nobody)
 
-pub sent_on : (log mid log' : Told) (cs ds : List Fields) → Sent log mid cs → Sent mid log' ds → Sent log log' (cs ++ ds)
+pub sent_on : (log mid log' : LogTold) (cs ds : List Fields) → Sent log mid cs → Sent mid log' ds → Sent log log' (cs ++ ds)
 sent_on log mid log' cs ds p q calls told =
     let x = p calls told in
     let y = q x.0 x.1 in
     (y.0, y.1, y.2 ∙ ap (λ (l : List Fields). l ++ ds) x.2 ∙ append_assoc (commands_sent calls) cs ds, onward_on calls x.0 y.0 nobody x.3 y.3)
 
-sent_adds : (log log' : Told) (command : List ℕ) (seen : Sight) → Adds log log' command seen → Sent log log' (fields command ∷ [])
+sent_adds : (log log' : LogTold) (command : List ℕ) (seen : Sight) → Adds log log' command seen → Sent log log' (fields command ∷ [])
 sent_adds log log' command seen adds calls told =
     let add = adds calls told in
     let call : Call = record { command = command; position = add.0; seen = seen } in
     (calls ++ call ∷ [], add.1, map-append (λ (c : Call). fields c.command) calls (call ∷ []), onward_foreign calls call nobody (nobody_named calls call))
 
-sent_sees : (log log' : Told) (place : Option ℕ) (seen : Sight) → Sees log log' place seen → Sent log log' []
+sent_sees : (log log' : LogTold) (place : Option ℕ) (seen : Sight) → Sees log log' place seen → Sent log log' []
 sent_sees log log' place seen sees calls told =
     let s = sees calls told in
     (see s.0 seen calls, s.5, commands_seen s.0 seen calls ∙ sym (append-nil (commands_sent calls)), onward_seen s.0 seen calls s.1 nobody s.3 s.4)
@@ -84,21 +84,21 @@ falls at n (c ∷ cs) m f = let rest : m ≤ f.0 = falls at f.0 cs m f.3 in let 
 -- ---- what was tried
 
 -- commands were sent at places below `n`, and none below `m`
-pub record Tried (at : ℕ → Fields → Type 0) (log log' : Told) (n m : ℕ) : Type 0 where
+pub record Tried (at : ℕ → Fields → Type 0) (log log' : LogTold) (n m : ℕ) : Type 0 where
   pub commands : List Fields
   pub adds : Sent log log' commands
   pub falling : Falling at n commands m
 
-pub tried_none : (at : ℕ → Fields → Type 0) (log : Told) (n : ℕ) → Tried at log log n n
+pub tried_none : (at : ℕ → Fields → Type 0) (log : LogTold) (n : ℕ) → Tried at log log n n
 tried_none at log n = record { commands = []; adds = sent_none log log refl; falling = omega arith }
 
-pub tried_on : (at : ℕ → Fields → Type 0) (log mid log' : Told) (n k m : ℕ) → Tried at log mid n k → Tried at mid log' k m → Tried at log log' n m
+pub tried_on : (at : ℕ → Fields → Type 0) (log mid log' : LogTold) (n k m : ℕ) → Tried at log mid n k → Tried at mid log' k m → Tried at log log' n m
 tried_on at log mid log' n k m a b = record { commands = a.commands ++ b.commands; adds = sent_on log mid log' a.commands b.commands a.adds b.adds; falling = falling_on at n a.commands k b.commands m a.falling b.falling }
 
-pub tried_below : (at : ℕ → Fields → Type 0) (log log' : Told) (n m k : ℕ) → k ≤ m → Tried at log log' n m → Tried at log log' n k
+pub tried_below : (at : ℕ → Fields → Type 0) (log log' : LogTold) (n m k : ℕ) → k ≤ m → Tried at log log' n m → Tried at log log' n k
 tried_below at log log' n m k less a = record { commands = a.commands; adds = a.adds; falling = falling_below at n a.commands m k a.falling less }
 
-module _ (at : ℕ → Fields → Type 0) (command : List ℕ) (old new : Awaited) (log log' : Told) where
+module _ (at : ℕ → Fields → Type 0) (command : List ℕ) (old new : Awaited) (log log' : LogTold) where
   one : (place : ℕ) → at place (fields command) → Sent log log' (fields command ∷ []) → Tried at log log' (suc place) place
   one place is adds = record { commands = fields command ∷ []; adds = adds; falling = (place, omega arith, is, omega arith) }
 
@@ -117,7 +117,7 @@ module _ (at : ℕ → Fields → Type 0) (command : List ℕ) (old new : Awaite
 
 -- ---- a request that is sent once
 
-module _ (at : ℕ → Fields → Type 0) (old new : Awaited) (log log' : Told) (wire : ℤ) (s : Sending) (single : s.retries ≡ false) where
+module _ (at : ℕ → Fields → Type 0) (old new : Awaited) (log log' : LogTold) (wire : ℤ) (s : Sending) (single : s.retries ≡ false) where
   more_tries : (stage : Stage) (attempt : Attempt) → at 3 (fields s.command) → Tries old new log log' s.command stage attempt → Tried at log log' (asking_places stage) 3
   more_tries unsent attempt is t = begun at s.command old new log log' 3 attempt is t
   more_tries (first ticket) attempt is t = gone_on at s.command old new log log' 3 ticket attempt t
@@ -156,9 +156,9 @@ module _ (at : ℕ → Fields → Type 0) (old new : Awaited) (log log' : Told) 
 
 -- ---- a request that may be sent once more
 
-module _ (at : ℕ → Fields → Type 0) (old new : Awaited) (log log' : Told) (wire : ℤ) (s : Sending) (is : at 2 (fields s.command)) (again : at 1 (fields s.command)) where
+module _ (at : ℕ → Fields → Type 0) (old new : Awaited) (log log' : LogTold) (wire : ℤ) (s : Sending) (is : at 2 (fields s.command)) (again : at 1 (fields s.command)) where
   -- its first attempt was not the second
-  first_tries : (mid : Awaited) (between : Told) (retries : Bool) (stage : Stage) (attempt : Attempt) → is_repeated retries stage attempt ≡ true → Tries old mid log between s.command stage attempt → Tried at log between (resuming_places stage) 2
+  first_tries : (mid : Awaited) (between : LogTold) (retries : Bool) (stage : Stage) (attempt : Attempt) → is_repeated retries stage attempt ≡ true → Tries old mid log between s.command stage attempt → Tried at log between (resuming_places stage) 2
   first_tries mid between retries unsent attempt h t = begun at s.command old mid log between 2 attempt is t
   first_tries mid between retries (first ticket) attempt h t = gone_on at s.command old mid log between 2 ticket attempt t
   first_tries mid between retries (second ticket) attempt h t = let bad : false ≡ true = h in absurd cc
@@ -227,36 +227,36 @@ StepKeeps stepped.Found s s' = Unit {0}
 StepKeeps (stepped.Gives p) s s' = KeepsBy (try_ending p) s s'
 
 -- what a step sent
-pub record StepSent (log log' : Told) (s s' : ClientStream) (r : Stepped) : Type 0 where
+pub record StepSent (log log' : LogTold) (s s' : ClientStream) (r : Stepped) : Type 0 where
   pub tried : Tried (IsSentAt s) log log' (places s) (step_places r s')
   pub keeps : StepKeeps r s s'
 
-sent_as : (log log' : Told) (s s' t : ClientStream) (r r' : Stepped) → s' ≡ t → r' ≡ r → StepSent log log' s t r → StepSent log log' s s' r'
+sent_as : (log log' : LogTold) (s s' t : ClientStream) (r r' : Stepped) → s' ≡ t → r' ≡ r → StepSent log log' s t r → StepSent log log' s s' r'
 sent_as log log' s s' t r r' is answer h = subst (λ (x : Stepped). StepSent log log' s s' x) (sym answer) (subst (λ (x : ClientStream). StepSent log log' s x r) (sym is) h)
 
 -- the call has ended with it
-sent_end : (log log' : Told) (s s' : ClientStream) (r : Stepped) (m : ℕ) → step_places r s' ≡ 0 → StepKeeps r s s' → Tried (IsSentAt s) log log' (places s) m → StepSent log log' s s' r
+sent_end : (log log' : LogTold) (s s' : ClientStream) (r : Stepped) (m : ℕ) → step_places r s' ≡ 0 → StepKeeps r s s' → Tried (IsSentAt s) log log' (places s) m → StepSent log log' s s' r
 sent_end log log' s s' r m none_left keeps a = record {
   tried = subst (λ (n : ℕ). Tried (IsSentAt s) log log' (places s) n) (sym none_left) (tried_below (IsSentAt s) log log' (places s) m 0 (omega arith) a);
   keeps = keeps;
 }
 
-nothing : (log log' : Told) (s : ClientStream) (n : ℕ) → log' ≡ log → n ≤ places s → Tried (IsSentAt s) log log' (places s) n
+nothing : (log log' : LogTold) (s : ClientStream) (n : ℕ) → log' ≡ log → n ≤ places s → Tried (IsSentAt s) log log' (places s) n
 nothing log log' s n same less = record { commands = []; adds = sent_none log log' same; falling = less }
 
 -- nothing is sent, and the stream stays as it is
-sent_quiet : (old new : Awaited) (log log' : Told) (s s' : ClientStream) (e : Error) (r : Stepped) → SendsNothing old new log log' → s' ≡ s → r ≡ stepped.Gives (try.Failed e) → StepSent log log' s s' r
+sent_quiet : (old new : Awaited) (log log' : LogTold) (s s' : ClientStream) (e : Error) (r : Stepped) → SendsNothing old new log log' → s' ≡ s → r ≡ stepped.Gives (try.Failed e) → StepSent log log' s s' r
 sent_quiet old new log log' s s' e r quiet is answer = sent_as log log' s s' s (stepped.Gives (try.Failed e)) r is answer (sent_end log log' s s (stepped.Gives (try.Failed e)) (places s) refl tt (nothing log log' s (places s) quiet.log_same (omega arith)))
 
 -- a batch was looked at
-sent_looked : (again : Bool) (log log' : Told) (s : ClientStream) (c : ClientCursor) (said : List ℕ) (s' : ClientStream) (r : Stepped) (m : ℕ) → (again ≡ false → 3 ≤ m) → Tried (IsSentAt s) log log' (places s) m → LooksAt again s c said s' r → StepSent log log' s s' r
+sent_looked : (again : Bool) (log log' : LogTold) (s : ClientStream) (c : ClientCursor) (said : List ℕ) (s' : ClientStream) (r : Stepped) (m : ℕ) → (again ≡ false → 3 ≤ m) → Tried (IsSentAt s) log log' (places s) m → LooksAt again s c said s' r → StepSent log log' s s' r
 sent_looked again log log' s c said s' r m many a (some event events at is answer) = sent_as log log' s s' _ stepped.Found r is answer (sent_end log log' s _ stepped.Found m refl tt a)
 sent_looked again log log' s c said s' r m many a (none_there at is answer) = sent_as log log' s s' _ (stepped.Gives (try.Ready result.Waiting)) r is answer (sent_end log log' s _ (stepped.Gives (try.Ready result.Waiting)) m refl tt a)
 sent_looked true log log' s c said s' r m many a (broken e breaks is answer) = sent_as log log' s s' _ (stepped.Gives (try.Failed e)) r is answer (sent_end log log' s _ (stepped.Gives (try.Failed e)) m refl tt a)
 sent_looked false log log' s c said s' r m many a (broken e breaks is answer) =
     sent_as log log' s s' _ stepped.Goes r is answer (record { tried = tried_below (IsSentAt s) log log' (places s) m 3 (many refl) a; keeps = (refl, omega arith) })
 
-sent_failed : (log log' : Told) (s : ClientStream) (c : ClientCursor) (e : Error) (s' : ClientStream) (r : Stepped) → Tried (IsSentAt s) log log' (places s) 3 → FailsMore s c e s' r → StepSent log log' s s' r
+sent_failed : (log log' : LogTold) (s : ClientStream) (c : ClientCursor) (e : Error) (s' : ClientStream) (r : Stepped) → Tried (IsSentAt s) log log' (places s) 3 → FailsMore s c e s' r → StepSent log log' s s' r
 sent_failed log log' s c e s' r a (goes_on so is answer) = sent_as log log' s s' _ stepped.Goes r is answer (record { tried = a; keeps = (refl, omega arith) })
 sent_failed log log' s c e s' r a (no_memory room is answer) = sent_as log log' s s' _ (stepped.Gives (try.Failed e)) r is answer (sent_end log log' s _ (stepped.Gives (try.Failed e)) 3 refl tt a)
 sent_failed log log' s c e s' r a (final not room is answer) = sent_as log log' s s' _ (stepped.Gives (try.Failed e)) r is answer (sent_end log log' s _ (stepped.Gives (try.Failed e)) 3 refl tt a)
@@ -267,7 +267,7 @@ not_pending c bytes c' (read said says is answer) = cc
 not_pending c bytes c' (unread e by is answer) = cc
 
 -- the getMore was polled
-sent_more : (old new : Awaited) (log log' : Told) (wire : ℤ) (started : Bool) (s : ClientStream) (sending : Sending) (s' : ClientStream) (r : Stepped) → IsSound false s → s.doing ≡ follows → AsksMoreOf s.cursor (fields sending.command) → sending.retries ≡ false → places s ≡ asking_places sending.stage
+sent_more : (old new : Awaited) (log log' : LogTold) (wire : ℤ) (started : Bool) (s : ClientStream) (sending : Sending) (s' : ClientStream) (r : Stepped) → IsSound false s → s.doing ≡ follows → AsksMoreOf s.cursor (fields sending.command) → sending.retries ≡ false → places s ≡ asking_places sending.stage
     → AsksMore old new log log' wire started s sending s' r → StepSent log log' s s' r
 sent_more old new log log' wire started s sending s' r sound on is single many h = by_came h.runs.came (runs_of old new log log' wire sending h.runs.came started h.runs.runs) h.left h.poll h.runs.hears h.takes
   where
@@ -288,7 +288,7 @@ sent_more old new log log' wire started s sending s' r sound on is single many h
     by_came (step.Failed e) runs c p heard takes = sent_failed log log' s c e s' r (all (step.Failed e) runs) (subst (λ (x : NextPoll). TakesMore s c x s' r) heard.1 takes)
 
 -- the aggregate was polled
-sent_resumption : (old new : Awaited) (log log' : Told) (wire : ℤ) (started : Bool) (s : ClientStream) (sending : Sending) (s' : ClientStream) (r : Stepped) → ResumesBy s.aggregate (fields sending.command) → places s ≡ resuming_places sending.stage → RunsResumption old new log log' wire started s sending s' r → StepSent log log' s s' r
+sent_resumption : (old new : Awaited) (log log' : LogTold) (wire : ℤ) (started : Bool) (s : ClientStream) (sending : Sending) (s' : ClientStream) (r : Stepped) → ResumesBy s.aggregate (fields sending.command) → places s ≡ resuming_places sending.stage → RunsResumption old new log log' wire started s sending s' r → StepSent log log' s s' r
 sent_resumption old new log log' wire started s sending s' r is many h = by_came h.came (runs_of old new log log' wire sending h.came started h.runs) h.hears
   where
     all : (came : Step Sending (List ℕ)) → Runs old new log log' wire sending came → Tried (IsSentAt s) log log' (places s) 1
@@ -306,15 +306,15 @@ sent_resumption old new log log' wire started s sending s' r is many h = by_came
     by_came (step.Failed e) runs heard = sent_as log log' s s' _ (stepped.Gives (try.Failed e)) r heard.0 heard.1 (sent_end log log' s _ (stepped.Gives (try.Failed e)) 1 refl tt (all (step.Failed e) runs))
 
 -- the closing of the cursor before: what it sent, and what is left where it pends
-abbrev ClosingSent : Told → Told → ClientStream → ℕ → Step ClosingCursor (Unit {0}) → Type 0
+abbrev ClosingSent : LogTold → LogTold → ClientStream → ℕ → Step ClosingCursor (Unit {0}) → Type 0
 ClosingSent log log' s n (step.Pending k) = Tried (IsSentAt s) log log' n (killing_places k.killing)
 ClosingSent log log' s n (step.Done t) = Tried (IsSentAt s) log log' n 0
 ClosingSent log log' s n (step.Failed e) = Tried (IsSentAt s) log log' n 0
 
-as_closing : (log log' : Told) (s : ClientStream) (n : ℕ) (r r' : Step ClosingCursor (Unit {0})) → r' ≡ r → ClosingSent log log' s n r → ClosingSent log log' s n r'
+as_closing : (log log' : LogTold) (s : ClientStream) (n : ℕ) (r r' : Step ClosingCursor (Unit {0})) → r' ≡ r → ClosingSent log log' s n r → ClosingSent log log' s n r'
 as_closing log log' s n r r' is h = subst (ClosingSent log log' s n) (sym is) h
 
-sent_kill : (old new : Awaited) (log log' : Told) (wire : ℤ) (s : ClientStream) (c : ClientCursor) (sending : Sending) (came : Step Sending (List ℕ)) (r : Step ClosingCursor (Unit {0})) → fields sending.command ≡ kill c → sending.retries ≡ false → c.id ≢ pos 0 → Runs old new log log' wire sending came → KillHears c came r → ClosingSent log log' s (ending_places sending.stage) r
+sent_kill : (old new : Awaited) (log log' : LogTold) (wire : ℤ) (s : ClientStream) (c : ClientCursor) (sending : Sending) (came : Step Sending (List ℕ)) (r : Step ClosingCursor (Unit {0})) → fields sending.command ≡ kill c → sending.retries ≡ false → c.id ≢ pos 0 → Runs old new log log' wire sending came → KillHears c came r → ClosingSent log log' s (ending_places sending.stage) r
 sent_kill old new log log' wire s c sending came r command_is single held runs h = by_came came runs h
   where
     one_kill : KillsOne (fields sending.command)
@@ -327,10 +327,10 @@ sent_kill old new log log' wire s c sending came r command_is single held runs h
     by_came (step.Done bytes) ran heard = as_closing log log' s (ending_places sending.stage) (step.Done tt) r heard (kill_sent (IsSentAt s) old new log log' wire sending single (step.Done bytes) one_kill ran)
     by_came (step.Failed e) ran heard = as_closing log log' s (ending_places sending.stage) (step.Failed e) r heard (kill_sent (IsSentAt s) old new log log' wire sending single (step.Failed e) one_kill ran)
 
-none_killed : (log log' : Told) (s : ClientStream) → log' ≡ log → Tried (IsSentAt s) log log' 1 0
+none_killed : (log log' : LogTold) (s : ClientStream) → log' ≡ log → Tried (IsSentAt s) log log' 1 0
 none_killed log log' s same = record { commands = []; adds = sent_none log log' same; falling = omega arith }
 
-sent_closing : (old new : Awaited) (log log' : Told) (wire : ℤ) (s : ClientStream) (before : ClosingCursor) (r : Step ClosingCursor (Unit {0})) → IsClosing before → IsLanded before → ClosingPolls old new log log' wire before r → ClosingSent log log' s (killing_places before.killing) r
+sent_closing : (old new : Awaited) (log log' : LogTold) (wire : ℤ) (s : ClientStream) (before : ClosingCursor) (r : Step ClosingCursor (Unit {0})) → IsClosing before → IsLanded before → ClosingPolls old new log log' wire before r → ClosingSent log log' s (killing_places before.killing) r
 sent_closing old new log log' wire s before r closing landed (lands idle sending at h) =
     absurd (subst IsNotAsking at (subst (λ (o : Option Sending). LandedBy o before.cursor.doing) idle landed))
 sent_closing old new log log' wire s before r closing landed (kill_begins idle quiet h) = subst (λ (o : Option Sending). ClosingSent log log' s (killing_places o) r) (sym idle) (by_kills h)
@@ -346,7 +346,7 @@ sent_closing old new log log' wire s before r closing landed (kill_goes_on sendi
     subst (λ (o : Option Sending). ClosingSent log log' s (killing_places o) r) (sym at)
     (sent_kill old new log log' wire s before.cursor sending h.came r on.waits_on.command_is on.waits_on.single on.may.held h.runs h.hears)
 
-sent_closed : (log log' : Told) (s s' : ClientStream) (r : Stepped) (came : Step ClosingCursor (Unit {0})) → ClosingSent log log' s (places s) came → HearsClosing s came s' r → StepSent log log' s s' r
+sent_closed : (log log' : LogTold) (s s' : ClientStream) (r : Stepped) (came : Step ClosingCursor (Unit {0})) → ClosingSent log log' s (places s) came → HearsClosing s came s' r → StepSent log log' s s' r
 sent_closed log log' s s' r (step.Pending k) a h = sent_as log log' s s' (record s { doing = kills k }) (stepped.Gives try.Pending) r h.0 h.1 (record { tried = a; keeps = refl })
 sent_closed log log' s s' r (step.Done t) a h = sent_as log log' s s' (record s { doing = renewed }) stepped.Goes r h.0 h.1 (record { tried = a; keeps = (refl, omega arith) })
 sent_closed log log' s s' r (step.Failed e) a (inl h) = sent_as log log' s s' (record s { doing = owes }) (stepped.Gives (try.Failed e)) r h.1 h.2 (sent_end log log' s (record s { doing = owes }) (stepped.Gives (try.Failed e)) 0 refl tt a)
@@ -358,7 +358,7 @@ places_at s d is = ap (λ (x : Doing). places_by x s.cursor) is
 places_more : (s : ClientStream) (d : cursors.Doing) → s.doing ≡ follows → s.cursor.doing ≡ d → places s ≡ more_places d
 places_more s d on is = places_at s follows on ∙ ap more_places is
 
-pub step_sent : (old new : Awaited) (log log' : Told) (wire : ℤ) (session : Option Session) (started : Bool) (s s' : ClientStream) (r : Stepped) → IsSound false s → DoesStep old new log log' wire session started s s' r → StepSent log log' s s' r
+pub step_sent : (old new : Awaited) (log log' : LogTold) (wire : ℤ) (session : Option Session) (started : Bool) (s s' : ClientStream) (r : Stepped) → IsSound false s → DoesStep old new log log' wire session started s s' r → StepSent log log' s s' r
 step_sent old new log log' wire session started s s' r sound (finds on left quiet unstarted is answer) =
     sent_as log log' s s' s stepped.Found r is answer (sent_end log log' s s stepped.Found (places s) refl tt (nothing log log' s (places s) quiet.log_same (omega arith)))
 step_sent old new log log' wire session started s s' r sound (looks on none_left said at quiet unstarted h) =
@@ -386,7 +386,7 @@ step_sent old new log log' wire session started s s' r sound (renews on said at 
 
 -- ---- so many steps
 
-sent_on_step : (log mid log' : Told) (s t s' : ClientStream) (r : Stepped) → StepSent log mid s t stepped.Goes → StepSent mid log' t s' r → StepSent log log' s s' r
+sent_on_step : (log mid log' : LogTold) (s t s' : ClientStream) (r : Stepped) → StepSent log mid s t stepped.Goes → StepSent mid log' t s' r → StepSent log log' s s' r
 sent_on_step log mid log' s t s' r a b = record {
   tried = tried_on (IsSentAt s) log mid log' (places s) (places t) (step_places r s') a.tried
       (record { commands = b.tried.commands; adds = b.tried.adds; falling = falling_later s t a.keeps.0 (places t) a.keeps.1 b.tried.commands (step_places r s') b.tried.falling });
@@ -406,7 +406,7 @@ sent_on_step log mid log' s t s' r a b = record {
     keeps_by stepped.Found k = tt
     keeps_by (stepped.Gives p) k = by_poll p k
 
-pub steps_sent : (n : ℕ) (old new : Awaited) (log log' : Told) (wire : ℤ) (session : Option Session) (starts : ℕ) (again : Bool) (s s' : ClientStream) (r : Stepped) → IsSound false s → DoesSteps n old new log log' wire session starts again s s' r → StepSent log log' s s' r
+pub steps_sent : (n : ℕ) (old new : Awaited) (log log' : LogTold) (wire : ℤ) (session : Option Session) (starts : ℕ) (again : Bool) (s s' : ClientStream) (r : Stepped) → IsSound false s → DoesSteps n old new log log' wire session starts again s s' r → StepSent log log' s s' r
 unfolding DoesSteps
 steps_sent zero old new log log' wire session starts again s s' r sound h = step_sent old new log log' wire session h.started s s' r sound h.does
 steps_sent (suc n) old new log log' wire session starts again s s' r sound h =
@@ -417,7 +417,7 @@ steps_sent (suc n) old new log log' wire session starts again s s' r sound h =
 -- ---- calls
 
 -- what is sent by a call is that of the stream without what it lends
-poll_sent : (log log' : Told) (s s' : ClientStream) (ending : Ending) → PollSent log log' (lends_nothing s) s' ending → PollSent log log' s s' ending
+poll_sent : (log log' : LogTold) (s s' : ClientStream) (ending : Ending) → PollSent log log' (lends_nothing s) s' ending → PollSent log log' s s' ending
 poll_sent log log' s s' ending h = record {
   commands = h.commands;
   adds = h.adds;
@@ -431,7 +431,7 @@ poll_sent log log' s s' ending h = record {
     keeps_by (failed e) k = tt
 
 -- a call has ended, whatever it gave
-over_sent : (log log' : Told) (s left s' : ClientStream) (r : Stepped) (ending : Ending) → places_behind ending s' ≡ 0 → KeepsBy ending s s' → StepSent log log' s left r → PollSent log log' s s' ending
+over_sent : (log log' : LogTold) (s left s' : ClientStream) (r : Stepped) (ending : Ending) → places_behind ending s' ≡ 0 → KeepsBy ending s s' → StepSent log log' s left r → PollSent log log' s s' ending
 over_sent log log' s left s' r ending none_left keeps h = record {
   commands = h.tried.commands;
   adds = h.tried.adds;
@@ -439,10 +439,10 @@ over_sent log log' s left s' r ending none_left keeps h = record {
   keeps = keeps;
 }
 
-pending_sent : (log log' : Told) (s left s' : ClientStream) → s' ≡ left → StepSent log log' s left (stepped.Gives try.Pending) → PollSent log log' s s' pending
+pending_sent : (log log' : LogTold) (s left s' : ClientStream) → s' ≡ left → StepSent log log' s left (stepped.Gives try.Pending) → PollSent log log' s s' pending
 pending_sent log log' s left s' is h = subst (λ (x : ClientStream). PollSent log log' s x pending) (sym is) (record { commands = h.tried.commands; adds = h.tried.adds; falling = h.tried.falling; keeps = h.keeps })
 
-lent_sent : (log log' : Told) (s left lent s' : ClientStream) (came : Stepped) (r : TryPoll) → StepSent log log' s left came → LendsBehind came left lent r → s' ≡ kept_behind (try_ending r) lent → PollSent log log' s s' (try_ending r)
+lent_sent : (log log' : LogTold) (s left lent s' : ClientStream) (came : Stepped) (r : TryPoll) → StepSent log log' s left came → LendsBehind came left lent r → s' ≡ kept_behind (try_ending r) lent → PollSent log log' s s' (try_ending r)
 lent_sent log log' s left lent s' stepped.Goes r h behind kept = absurd behind
 lent_sent log log' s left lent s' stepped.Found try.Pending h behind kept = absurd behind
 lent_sent log log' s left lent s' stepped.Found (try.Ready x) h behind kept = over_sent log log' s left s' stepped.Found finished refl tt h
@@ -451,7 +451,7 @@ lent_sent log log' s left lent s' (stepped.Gives p) try.Pending h behind kept = 
 lent_sent log log' s left lent s' (stepped.Gives p) (try.Ready x) h behind kept = over_sent log log' s left s' (stepped.Gives p) finished refl tt h
 lent_sent log log' s left lent s' (stepped.Gives p) (try.Failed e) h behind kept = over_sent log log' s left s' (stepped.Gives p) (failed e) refl tt h
 
-pub lends_sent : (n : ℕ) (plain : Bool) (old new : Awaited) (log log' : Told) (wire : ℤ) (session : Option Session) (starts : ℕ) (s s' : ClientStream) (r : TryPoll) → IsSound plain s → CallLends n old new log log' wire session starts s s' r → TrySent log log' s s' r
+pub lends_sent : (n : ℕ) (plain : Bool) (old new : Awaited) (log log' : LogTold) (wire : ℤ) (session : Option Session) (starts : ℕ) (s s' : ClientStream) (r : TryPoll) → IsSound plain s → CallLends n old new log log' wire session starts s s' r → TrySent log log' s s' r
 lends_sent n plain old new log log' wire session starts s s' r sound h =
     poll_sent log log' s s' (try_ending r)
     (lent_sent log log' (lends_nothing s) h.left h.lent s' h.came r (steps_sent n old new log log' wire session starts h.again (lends_nothing s) h.left h.came (sound_as false s (lends_nothing s) refl refl refl refl (sound_any plain s sound)) h.does) h.lends h.kept)
@@ -461,7 +461,7 @@ pends_by try.Pending h = refl
 pends_by (try.Ready x) h = absurd cc
 pends_by (try.Failed e) h = absurd cc
 
-copied_sent : (log log' : Told) (s left copied s' : ClientStream) (came : Stepped) (r : EventPoll) → StepSent log log' s left came → CopiesBehind came left copied r → s' ≡ kept_behind (event_ending r) copied → PollSent log log' s s' (event_ending r)
+copied_sent : (log log' : LogTold) (s left copied s' : ClientStream) (came : Stepped) (r : EventPoll) → StepSent log log' s left came → CopiesBehind came left copied r → s' ≡ kept_behind (event_ending r) copied → PollSent log log' s s' (event_ending r)
 copied_sent log log' s left copied s' stepped.Goes r h behind kept = absurd behind
 copied_sent log log' s left copied s' stepped.Found poll.Pending h behind kept = absurd behind
 copied_sent log log' s left copied s' stepped.Found (poll.Ready x) h behind kept = over_sent log log' s left s' stepped.Found finished refl tt h
@@ -470,7 +470,7 @@ copied_sent log log' s left copied s' (stepped.Gives p) poll.Pending h behind ke
 copied_sent log log' s left copied s' (stepped.Gives p) (poll.Ready x) h behind kept = over_sent log log' s left s' (stepped.Gives p) finished refl tt h
 copied_sent log log' s left copied s' (stepped.Gives p) (poll.Failed e) h behind kept = over_sent log log' s left s' (stepped.Gives p) (failed e) refl tt h
 
-pub copies_sent : (n : ℕ) (plain : Bool) (old new : Awaited) (log log' : Told) (wire : ℤ) (session : Option Session) (starts : ℕ) (s s' : ClientStream) (r : EventPoll) → IsSound plain s → CallCopies n old new log log' wire session starts s s' r → CallSent log log' s s' r
+pub copies_sent : (n : ℕ) (plain : Bool) (old new : Awaited) (log log' : LogTold) (wire : ℤ) (session : Option Session) (starts : ℕ) (s s' : ClientStream) (r : EventPoll) → IsSound plain s → CallCopies n old new log log' wire session starts s s' r → CallSent log log' s s' r
 copies_sent n plain old new log log' wire session starts s s' r sound h =
     poll_sent log log' s s' (event_ending r)
     (copied_sent log log' (lends_nothing s) h.left h.copied s' h.came r (steps_sent n old new log log' wire session starts h.again (lends_nothing s) h.left h.came (sound_as false s (lends_nothing s) refl refl refl refl (sound_any plain s sound)) h.does) h.copies h.kept)
@@ -492,17 +492,17 @@ both_sought : (args : WatchArgs) (cs ds : List Fields) → AreSought args cs →
 both_sought args [] ds p q = q
 both_sought args (x ∷ cs) ds p q = (p.0, both_sought args cs ds p.1 q)
 
-sought_step : (log log' : Told) (s s' : ClientStream) (r : Stepped) → StepSent log log' s s' r → SeekSent log log' s.aggregate.args
+sought_step : (log log' : LogTold) (s s' : ClientStream) (r : Stepped) → StepSent log log' s s' r → SeekSent log log' s.aggregate.args
 sought_step log log' s s' r h = record { commands = h.tried.commands; adds = h.tried.adds; sought = all_sought s (places s) h.tried.commands (step_places r s') h.tried.falling }
 
-sought_on : (log mid log' : Told) (args args' : WatchArgs) → args' ≡ args → SeekSent log mid args → SeekSent mid log' args' → SeekSent log log' args
+sought_on : (log mid log' : LogTold) (args args' : WatchArgs) → args' ≡ args → SeekSent log mid args → SeekSent mid log' args' → SeekSent log log' args
 sought_on log mid log' args args' same a b = record {
   commands = a.commands ++ b.commands;
   adds = sent_on log mid log' a.commands b.commands a.adds b.adds;
   sought = both_sought args a.commands b.commands a.sought (subst (λ (x : WatchArgs). AreSought x b.commands) same b.sought);
 }
 
-pub seeks_sent : (n : ℕ) (plain : Bool) (old new : Awaited) (log log' : Told) (wire : ℤ) (session : Option Session) (starts : ℕ) (s s' : ClientStream) (r : EventPoll) → IsSound plain s → SeeksEvent n old new log log' wire session starts s s' r → SeekSent log log' s.aggregate.args
+pub seeks_sent : (n : ℕ) (plain : Bool) (old new : Awaited) (log log' : LogTold) (wire : ℤ) (session : Option Session) (starts : ℕ) (s s' : ClientStream) (r : EventPoll) → IsSound plain s → SeeksEvent n old new log log' wire session starts s s' r → SeekSent log log' s.aggregate.args
 unfolding SeeksEvent
 seeks_sent zero plain old new log log' wire session starts s s' r sound h = sought_step log log' s h.left h.came (steps_sent h.steps old new log log' wire session starts h.again s h.left h.came (sound_any plain s sound) h.does)
 seeks_sent (suc n) plain old new log log' wire session starts s s' r sound h =

@@ -3,7 +3,7 @@ use Rattle.std.proofs.Common.{◌≡◌, ◌<◌, ◌≤◌, ◌++◌, ◌∷◌
 use Rattle.mg_bson.specs.Raw.{fields}
 use Rattle.mg_bson.specs.Tree.{Fields}
 use Rattle.mg_link.specs.Exec.{RunsStarting, Sending, Stage, first, second, unsent}
-use Rattle.mg_link.specs.Link.{Awaited, Told}
+use Rattle.mg_link.specs.Link.{Awaited, LogTold}
 use Rattle.mg_link.specs.Namespace.{Space}
 use Rattle.mg_link.specs.Session.{Session}
 use Rattle.mg_link.specs.declared.action.Step.{Step}
@@ -40,22 +40,22 @@ all_falling may at n (command ∷ commands) m so f =
     (so f.0 command less f.2, all_falling may at f.0 commands m (λ place x below is. so place x (omega (arith, below, less)) is) f.3)
 
 -- such commands, and no others, were added
-pub record AddsSuch (may : Fields → Type 0) (log log' : Told) : Type 0 where
+pub record AddsSuch (may : Fields → Type 0) (log log' : LogTold) : Type 0 where
   pub commands : List Fields
   pub adds : Sent log log' commands
   pub such : AreAll may commands
 
-pub such_tried : (may : Fields → Type 0) (log log' : Told) (n m : ℕ) → Tried (λ (place : ℕ). may) log log' n m → AddsSuch may log log'
+pub such_tried : (may : Fields → Type 0) (log log' : LogTold) (n m : ℕ) → Tried (λ (place : ℕ). may) log log' n m → AddsSuch may log log'
 such_tried may log log' n m t = record { commands = t.commands; adds = t.adds; such = all_falling may (λ (place : ℕ). may) n t.commands m (λ place command less so. so) t.falling }
 
-pub such_none : (may : Fields → Type 0) (log log' : Told) → log' ≡ log → AddsSuch may log log'
-such_none may log log' same = subst (λ (l : Told). AddsSuch may log l) (sym same) (such_tried may log log 0 0 (tried_none (λ (place : ℕ). may) log 0))
+pub such_none : (may : Fields → Type 0) (log log' : LogTold) → log' ≡ log → AddsSuch may log log'
+such_none may log log' same = subst (λ (l : LogTold). AddsSuch may log l) (sym same) (such_tried may log log 0 0 (tried_none (λ (place : ℕ). may) log 0))
 
 all_joined : (may : Fields → Type 0) (cs ds : List Fields) → AreAll may cs → AreAll may ds → AreAll may (cs ++ ds)
 all_joined may [] ds a b = b
 all_joined may (c ∷ cs) ds a b = (a.0, all_joined may cs ds a.1 b)
 
-such_on : (may : Fields → Type 0) (log mid log' : Told) → AddsSuch may log mid → AddsSuch may mid log' → AddsSuch may log log'
+such_on : (may : Fields → Type 0) (log mid log' : LogTold) → AddsSuch may log mid → AddsSuch may mid log' → AddsSuch may log log'
 such_on may log mid log' a b = record {
   commands = a.commands ++ b.commands;
   adds = sent_on log mid log' a.commands b.commands a.adds b.adds;
@@ -63,11 +63,11 @@ such_on may log mid log' a b = record {
 }
 
 -- one request, which is sent once, or once more
-more_such : (may : Fields → Type 0) (old new : Awaited) (log log' : Told) (wire : ℤ) (s : Sending) (came : Step Sending (List ℕ)) (started : Bool) → s.retries ≡ false → may (fields s.command) → RunsStarting old new log log' wire s came started → AddsSuch may log log'
+more_such : (may : Fields → Type 0) (old new : Awaited) (log log' : LogTold) (wire : ℤ) (s : Sending) (came : Step Sending (List ℕ)) (started : Bool) → s.retries ≡ false → may (fields s.command) → RunsStarting old new log log' wire s came started → AddsSuch may log log'
 more_such may old new log log' wire s came started single is runs =
     such_tried may log log' (asking_places s.stage) 3 (more_sent (λ (place : ℕ). may) old new log log' wire s single came is (runs_of old new log log' wire s came started runs))
 
-pub again_such : (may : Fields → Type 0) (old new : Awaited) (log log' : Told) (wire : ℤ) (s : Sending) (came : Step Sending (List ℕ)) (started : Bool) → may (fields s.command) → RunsStarting old new log log' wire s came started → AddsSuch may log log'
+pub again_such : (may : Fields → Type 0) (old new : Awaited) (log log' : LogTold) (wire : ℤ) (s : Sending) (came : Step Sending (List ℕ)) (started : Bool) → may (fields s.command) → RunsStarting old new log log' wire s came started → AddsSuch may log log'
 again_such may old new log log' wire s came started is runs =
     such_tried may log log' (resuming_places s.stage) 1 (resume_sent (λ (place : ℕ). may) old new log log' wire s is is came (runs_of old new log log' wire s came started runs))
 
@@ -102,7 +102,7 @@ module _ (may : Fields → Type 0) (args : WatchArgs) (of_more : (c : ClientCurs
   killed_all : (s : ClientStream) (n : ℕ) (commands : List Fields) (m : ℕ) → n ≤ 1 → Falling (IsSentAt s) n commands m → AreAll may commands
   killed_all s n commands m few falling = all_falling may (IsSentAt s) n commands m (λ place command less is. killed_at s place command (omega (arith, less, few)) is) falling
 
-  module _ (old new : Awaited) (log log' : Told) (wire : ℤ) (started : Bool) (s s' : ClientStream) (r : Stepped) (sound : IsSound true s) (args_are : s.aggregate.args ≡ args) (manner : s.doing ≡ follows → s.cursor.manner ≡ watch_manner args.options) where
+  module _ (old new : Awaited) (log log' : LogTold) (wire : ℤ) (started : Bool) (s s' : ClientStream) (r : Stepped) (sound : IsSound true s) (args_are : s.aggregate.args ≡ args) (manner : s.doing ≡ follows → s.cursor.manner ≡ watch_manner args.options) where
     step_such : DoesStep old new log log' wire None started s s' r → AddsSuch may log log'
     step_such (steps.finds on there nothing unstarted is answer) = such_none may log log' nothing.log_same
     step_such (steps.looks on none_left said at nothing unstarted h) = such_none may log log' nothing.log_same
@@ -128,7 +128,7 @@ module _ (may : Fields → Type 0) (args : WatchArgs) (of_more : (c : ClientCurs
         record { commands = sent.tried.commands; adds = sent.tried.adds; such = killed_all s (places s) sent.tried.commands _ (omega (arith, few, at)) sent.tried.falling }
     step_such (steps.renews on said at nothing unstarted h) = such_none may log log' nothing.log_same
 
-  steps_such : (n : ℕ) (old new : Awaited) (log log' : Told) (wire : ℤ) (starts : ℕ) (again : Bool) (s s' : ClientStream) (r : Stepped) → IsSound true s → s.aggregate.args ≡ args → (s.doing ≡ follows → s.cursor.manner ≡ watch_manner args.options) → DoesSteps n old new log log' wire None starts again s s' r → AddsSuch may log log'
+  steps_such : (n : ℕ) (old new : Awaited) (log log' : LogTold) (wire : ℤ) (starts : ℕ) (again : Bool) (s s' : ClientStream) (r : Stepped) → IsSound true s → s.aggregate.args ≡ args → (s.doing ≡ follows → s.cursor.manner ≡ watch_manner args.options) → DoesSteps n old new log log' wire None starts again s s' r → AddsSuch may log log'
   unfolding DoesSteps
   steps_such zero old new log log' wire starts again s s' r sound same manner h = step_such old new log log' wire h.started s s' r sound same manner h.does
   steps_such (suc n) old new log log' wire starts again s s' r sound same manner h =
@@ -139,6 +139,6 @@ module _ (may : Fields → Type 0) (args : WatchArgs) (of_more : (c : ClientCurs
       (λ on. absurd (goes_away old h.0 log h.1 wire None h.2 s t h.5 on))
       (subst (λ (x : Option Session). DoesSteps n h.0 new h.1 log' wire x h.3 again t s' r) (none_after h.2) h.7))
 
-  pub call_such : (n : ℕ) (old new : Awaited) (log log' : Told) (wire : ℤ) (starts : ℕ) (s s' : ClientStream) (r : EventPoll) → IsSound true s → s.aggregate.args ≡ args → (s.doing ≡ follows → s.cursor.manner ≡ watch_manner args.options) → CallCopies n old new log log' wire None starts s s' r → AddsSuch may log log'
+  pub call_such : (n : ℕ) (old new : Awaited) (log log' : LogTold) (wire : ℤ) (starts : ℕ) (s s' : ClientStream) (r : EventPoll) → IsSound true s → s.aggregate.args ≡ args → (s.doing ≡ follows → s.cursor.manner ≡ watch_manner args.options) → CallCopies n old new log log' wire None starts s s' r → AddsSuch may log log'
   call_such n old new log log' wire starts s s' r sound same manner does =
       steps_such n old new log log' wire starts does.again (lends_nothing s) does.left does.came (sound_as true s (lends_nothing s) refl refl refl refl sound) same manner does.does

@@ -6,7 +6,7 @@ use Rattle.mg_bson.specs.Tree.{Tree, Fields}
 use Rattle.mg_link.specs.Commands.{asks_more as more_asked, asks_watch, asked, documents_in}
 use Rattle.mg_link.specs.Exec.{IsSuccess, Runs, Sending, Stage, first, second, unsent}
 use Rattle.mg_link.specs.Follow.{Follow, Moved, ResumesAt, asking, empty_token, holding, last_token, owing, resting, resuming}
-use Rattle.mg_link.specs.Link.{Awaited, SendsNothing, Told}
+use Rattle.mg_link.specs.Link.{Awaited, SendsNothing, LogTold}
 use Rattle.mg_link.specs.Log.{reply}
 use Rattle.mg_link.specs.Namespace.{space, target}
 use Rattle.mg_link.specs.Resumable.{is_resumable}
@@ -56,17 +56,17 @@ use Rattle.mg_change.proofs.Resumption.{aimed_still, begins_again}
 abbrev pub idle : Watch → Start → ClientStream → Option ℕ → List Fields → Follow
 idle w start s opened answered = idle_by w start opened s.cursor.id (stream_token s) answered
 
-pub quietly : (log log' : Told) (f : Follow) (g : List Fields → Follow) (answered : List Fields) → Moved log log' f (g answered) → Moved log log' f (g (answered ++ []))
+pub quietly : (log log' : LogTold) (f : Follow) (g : List Fields → Follow) (answered : List Fields) → Moved log log' f (g answered) → Moved log log' f (g (answered ++ []))
 quietly log log' f g answered m = subst (λ (l : List Fields). Moved log log' f (g l)) (sym (append-nil answered)) m
 
 -- nothing moved
-pub same : (log : Told) (f g : Follow) → f ≡ g → Moved log log f g
+pub same : (log : LogTold) (f g : Follow) → f ≡ g → Moved log log f g
 same log f g e = subst (λ (h : Follow). Moved log log f h) e (stayed log log f refl)
 
-from_here : (log log' : Told) (f g h : Follow) → f ≡ g → Moved log log' g h → Moved log log' f h
+from_here : (log log' : LogTold) (f g h : Follow) → f ≡ g → Moved log log' g h → Moved log log' f h
 from_here log log' f g h e m = subst (λ (x : Follow). Moved log log' x h) (sym e) m
 
-pub up_to : (log log' : Told) (f g h : Follow) → g ≡ h → Moved log log' f g → Moved log log' f h
+pub up_to : (log log' : LogTold) (f g h : Follow) → g ≡ h → Moved log log' f g → Moved log log' f h
 up_to log log' f g h e m = subst (λ (x : Follow). Moved log log' f x) e m
 
 -- ---- what is on its way, by how the link stands
@@ -95,7 +95,7 @@ module _ (old new : Awaited) (rest : (n : ℕ) → new n ≡ old n) where
   by_same renewed c events f = refl
 
 -- nothing is sent, and the stream stays as it is
-pub quiet_turns : (old new : Awaited) (log log' : Told) (s s' : ClientStream) → SendsNothing old new log log' → s' ≡ s → Turned old new log log' s s'
+pub quiet_turns : (old new : Awaited) (log log' : LogTold) (s s' : ClientStream) → SendsNothing old new log log' → s' ≡ s → Turned old new log log' s s'
 quiet_turns old new log log' s s' quiet is =
     subst (λ (x : ClientStream). Turned old new log log' s x) (sym is)
     (record {
@@ -130,7 +130,7 @@ last_behind None id = refl
 -- ---- a batch
 
 -- Nothing was answered from a batch that came empty.
-emptied_moved : (log : Told) (w : Watch) (start : Start) (opened : Option ℕ) (id : ℤ) (before token upto : Option Tree) (answered : List Fields) → token ≡ empty_token upto before
+emptied_moved : (log : LogTold) (w : Watch) (start : Start) (opened : Option ℕ) (id : ℤ) (before token upto : Option Tree) (answered : List Fields) → token ≡ empty_token upto before
     → Moved log log (held_by [] upto (idle_by w start opened id before answered)) (record (idle_by w start opened id token answered) { doing = resting })
 emptied_moved log w start opened id before token upto answered is =
     let f = held_by [] upto (idle_by w start opened id before answered) in
@@ -145,11 +145,11 @@ looked_args again s c said s' r (none at is answer) = ap (λ (x : ClientStream).
 looked_args again s c said s' r (broken e breaks is answer) = ap (λ (x : ClientStream). x.aggregate.args) is
 
 -- where a stream is whose batch is looked at
-abbrev Looked : Told → ClientStream → ClientCursor → List ℕ → ClientStream → Type 0
+abbrev Looked : LogTold → ClientStream → ClientCursor → List ℕ → ClientStream → Type 0
 Looked log s c said s' = (awaited : Awaited) (w : Watch) (start : Start) (opened : Option ℕ) (answered : List Fields)
     → Moved log log (held_by (event_fields said) c.token (idle_by w start opened c.id (stream_token s) answered)) (follow_of awaited w start s' opened answered)
 
-pub looked : (log : Told) (again : Bool) (s : ClientStream) (c : ClientCursor) (said : List ℕ) (s' : ClientStream) (r : Stepped) → c.doing ≡ rests → IsSaved s.aggregate.args.options s.aggregate.resume → LooksAt again s c said s' r → (s'.aggregate.args ≡ s.aggregate.args) × Looked log s c said s'
+pub looked : (log : LogTold) (again : Bool) (s : ClientStream) (c : ClientCursor) (said : List ℕ) (s' : ClientStream) (r : Stepped) → c.doing ≡ rests → IsSaved s.aggregate.args.options s.aggregate.resume → LooksAt again s c said s' r → (s'.aggregate.args ≡ s.aggregate.args) × Looked log s c said s'
 looked log again s c said s' r quiet saved (some event events at is answer) = (
   ap (λ (x : ClientStream). x.aggregate.args) is,
   λ awaited w start opened answered.
@@ -193,7 +193,7 @@ module _ (old : Awaited) (s : ClientStream) (w : Watch) (start : Start) (opened 
   as_unread said on is = as_doing renewed on ∙ ap (λ (x : cursors.Doing). unread_batch x s.cursor.token (idle w start s opened answered)) is
 
 -- its batch is looked at, and nothing is sent
-looks_turn : (again : Bool) (old new : Awaited) (log log' : Told) (s : ClientStream) (said : List ℕ) (s' : ClientStream) (r : Stepped) → SendsNothing old new log log' → IsSaved s.aggregate.args.options s.aggregate.resume
+looks_turn : (again : Bool) (old new : Awaited) (log log' : LogTold) (s : ClientStream) (said : List ℕ) (s' : ClientStream) (r : Stepped) → SendsNothing old new log log' → IsSaved s.aggregate.args.options s.aggregate.resume
     → ((w : Watch) (start : Start) (opened : Option ℕ) (answered : List Fields) → follow_of old w start s opened answered ≡ held_by (event_fields said) s.cursor.token (idle w start s opened answered)) → LooksAt again s (at_rest s.cursor) said s' r → Turned old new log log' s s'
 looks_turn again old new log log' s said s' r quiet saved stands h =
     let m = looked log again s (at_rest s.cursor) said s' r refl saved h in
@@ -202,7 +202,7 @@ looks_turn again old new log log' s said s' r quiet saved stands h =
       moved = λ w start asks_so opened answered.
           let f = follow_of old w start s opened answered in
           let g = follow_of new w start s' opened answered in
-          subst (λ (l : Told). Moved log l f g) (sym quiet.log_same) (from_here log log f (held_by (event_fields said) s.cursor.token (idle w start s opened answered)) g (stands w start opened answered) (m.1 new w start opened answered));
+          subst (λ (l : LogTold). Moved log l f g) (sym quiet.log_same) (from_here log log f (held_by (event_fields said) s.cursor.token (idle w start s opened answered)) g (stands w start opened answered) (m.1 new w start opened answered));
     }
 
 -- ---- a getMore
@@ -217,7 +217,7 @@ left_id (kind.Command refusal) c = by_code (ends_cursor refusal.code)
     by_code false = inl refl
 left_id _ c = inl refl
 
-left_moved : (log : Told) (f : Follow) (id : ℤ) → f.doing ≡ owing → f.old ≡ pos 0 → (id ≡ f.cursor) ⊎ (id ≡ pos 0) → Moved log log f (record f { cursor = id })
+left_moved : (log : LogTold) (f : Follow) (id : ℤ) → f.doing ≡ owing → f.old ≡ pos 0 → (id ≡ f.cursor) ⊎ (id ≡ pos 0) → Moved log log f (record f { cursor = id })
 left_moved log f id is alone (inl e) = same log f (record f { cursor = id }) (ap (λ (x : ℤ). record f { cursor = x }) (sym e))
 left_moved log f id is alone (inr e) =
     up_to log log f (record f { doing = owing; cursor = pos 0; old = pos 0 }) (record f { cursor = id })
@@ -233,7 +233,7 @@ fails_args s c e s' r (goes_on so is answer) = ap (λ (x : ClientStream). x.aggr
 fails_args s c e s' r (no_memory room is answer) = ap (λ (x : ClientStream). x.aggregate.args) is
 fails_args s c e s' r (final not room is answer) = ap (λ (x : ClientStream). x.aggregate.args) is
 
-module _ (new : Awaited) (log log' : Told) (s : ClientStream) (none_left : s.behind ≡ []) (on : s.doing ≡ follows) (w : Watch) (start : Start) (opened : Option ℕ) (answered : List Fields) (g : Follow) where
+module _ (new : Awaited) (log log' : LogTold) (s : ClientStream) (none_left : s.behind ≡ []) (on : s.doing ≡ follows) (w : Watch) (start : Start) (opened : Option ℕ) (answered : List Fields) (g : Follow) where
   abbrev here : Follow
   here = idle w start s opened answered
 
@@ -282,7 +282,7 @@ pub record IsAsked (c : ClientCursor) (sending : Sending) : Type 0 where
   pub held : c.id ≢ pos 0
 
 -- what a poll of the getMore comes to
-more_so : (old new : Awaited) (log log' : Told) (wire : ℤ) (started : Bool) (s : ClientStream) (sending : Sending) (s' : ClientStream) (r : Stepped) → s.behind ≡ [] → s.doing ≡ follows → IsNamed s.cursor.space → IsSaved s.aggregate.args.options s.aggregate.resume → IsAsked s.cursor sending
+more_so : (old new : Awaited) (log log' : LogTold) (wire : ℤ) (started : Bool) (s : ClientStream) (sending : Sending) (s' : ClientStream) (r : Stepped) → s.behind ≡ [] → s.doing ≡ follows → IsNamed s.cursor.space → IsSaved s.aggregate.args.options s.aggregate.resume → IsAsked s.cursor sending
     → ((w : Watch) (start : Start) (opened : Option ℕ) (answered : List Fields) → follow_of old w start s opened answered ≡ at_stage (record (idle w start s opened answered) { doing = resting }) (asks_at (idle w start s opened answered)) old sending.stage)
     → AsksMore old new log log' wire started s sending s' r → Turned old new log log' s s'
 more_so old new log log' wire started s sending s' r none_left on named saved is stands h =
@@ -348,7 +348,7 @@ asks_again a sending w start saved asks_so is =
     }
 
 -- its reply came
-resumed_so : (new : Awaited) (log log' : Told) (s : ClientStream) (said : List ℕ) (s' : ClientStream) (r : Stepped) (g : Follow) (w : Watch) (start : Start) (opened : Option ℕ) (answered : List Fields) → ReadsResumption s said s' r → Resumed (idle w start s opened answered) log log' g said → IsSuccess said
+resumed_so : (new : Awaited) (log log' : LogTold) (s : ClientStream) (said : List ℕ) (s' : ClientStream) (r : Stepped) (g : Follow) (w : Watch) (start : Start) (opened : Option ℕ) (answered : List Fields) → ReadsResumption s said s' r → Resumed (idle w start s opened answered) log log' g said → IsSuccess said
     → Moved log log' g (follow_of new w start s' opened answered)
 resumed_so new log log' s said s' r g w start opened answered (gave out opens is answer) m success =
     let o = opens.opens.opens in
@@ -365,7 +365,7 @@ pub resumed_args : (s : ClientStream) (said : List ℕ) (s' : ClientStream) (r :
 resumed_args s said s' r (gave out opens is answer) = ap (λ (x : ClientStream). x.aggregate.args) is
 resumed_args s said s' r (broke e fails is answer) = ap (λ (x : ClientStream). x.aggregate.args) is
 
-resumption_so : (old new : Awaited) (log log' : Told) (wire : ℤ) (started : Bool) (s : ClientStream) (sending : Sending) (s' : ClientStream) (r : Stepped) → IsSaved s.aggregate.args.options s.aggregate.resume → IsResumption s.aggregate sending
+resumption_so : (old new : Awaited) (log log' : LogTold) (wire : ℤ) (started : Bool) (s : ClientStream) (sending : Sending) (s' : ClientStream) (r : Stepped) → IsSaved s.aggregate.args.options s.aggregate.resume → IsResumption s.aggregate sending
     → ((w : Watch) (start : Start) (opened : Option ℕ) (answered : List Fields) → follow_of old w start s opened answered ≡ at_stage (idle w start s opened answered) (λ place. record (idle w start s opened answered) { doing = resuming place }) old sending.stage)
     → RunsResumption old new log log' wire started s sending s' r → Turned old new log log' s s'
 resumption_so old new log log' wire started s sending s' r saved is stands h =
@@ -391,15 +391,15 @@ resumption_so old new log log' wire started s sending s' r saved is stands h =
 -- ---- the closing of the cursor before
 
 -- where a stream is behind a poll of it
-abbrev pub ClosesTo : Awaited → Told → Told → Follow → Follow → Step ClosingCursor (Unit {0}) → Type 0
+abbrev pub ClosesTo : Awaited → LogTold → LogTold → Follow → Follow → Step ClosingCursor (Unit {0}) → Type 0
 ClosesTo new log log' g f (step.Pending before) = Moved log log' g (with_older new before f)
 ClosesTo new log log' g f (step.Done t) = Moved log log' g f
 ClosesTo new log log' g f (step.Failed e) = Moved log log' g f
 
-as_closes : (new : Awaited) (log log' : Told) (g f : Follow) (r r' : Step ClosingCursor (Unit {0})) → r' ≡ r → ClosesTo new log log' g f r → ClosesTo new log log' g f r'
+as_closes : (new : Awaited) (log log' : LogTold) (g f : Follow) (r r' : Step ClosingCursor (Unit {0})) → r' ≡ r → ClosesTo new log log' g f r → ClosesTo new log log' g f r'
 as_closes new log log' g f r r' is m = subst (ClosesTo new log log' g f) (sym is) m
 
-module _ (f : Follow) (is : f.doing ≡ holding) (alone : f.old ≡ pos 0) (old new : Awaited) (log log' : Told) (wire : ℤ) (c : ClientCursor) where
+module _ (f : Follow) (is : f.doing ≡ holding) (alone : f.old ≡ pos 0) (old new : Awaited) (log log' : LogTold) (wire : ℤ) (c : ClientCursor) where
   -- the old cursor was let go
   let_go_so : log' ≡ log → Moved log log' (record f { old = c.id }) f
   let_go_so same_log =
@@ -430,7 +430,7 @@ module _ (f : Follow) (is : f.doing ≡ holding) (alone : f.old ≡ pos 0) (old 
       (kill_so sending ran.came r new_one.command_is new_one.single may.held ran.runs ran.hears)
 
 -- a poll of the closing of a cursor whose getMore is not on its way
-pub closes_so : (f : Follow) → f.doing ≡ holding → f.old ≡ pos 0 → (old new : Awaited) (log log' : Told) (wire : ℤ) (before : ClosingCursor) (r : Step ClosingCursor (Unit {0})) → IsClosing before → IsLanded before → ClosingPolls old new log log' wire before r
+pub closes_so : (f : Follow) → f.doing ≡ holding → f.old ≡ pos 0 → (old new : Awaited) (log log' : LogTold) (wire : ℤ) (before : ClosingCursor) (r : Step ClosingCursor (Unit {0})) → IsClosing before → IsLanded before → ClosingPolls old new log log' wire before r
     → ClosesTo new log log' (with_older old before f) f r
 closes_so f is alone old new log log' wire before r closing landed (lands idle_so sending at h) =
     let quiet : IsNotAsking before.cursor.doing = subst (λ (o : Option Sending). LandedBy o before.cursor.doing) idle_so landed in
@@ -443,7 +443,7 @@ closes_so f is alone old new log log' wire before r closing landed (kill_goes_on
     (kill_so f is alone old new log log' wire before.cursor sending h.came r on.waits_on.command_is on.waits_on.single on.may.held h.runs h.hears)
 
 -- what the stream does behind it
-closing_so : (new : Awaited) (log log' : Told) (s : ClientStream) (said : List ℕ) (s' : ClientStream) (r : Stepped) (came : Step ClosingCursor (Unit {0})) (g : Follow) (w : Watch) (start : Start) (opened : Option ℕ) (answered : List Fields) → s.cursor.doing ≡ holds said
+closing_so : (new : Awaited) (log log' : LogTold) (s : ClientStream) (said : List ℕ) (s' : ClientStream) (r : Stepped) (came : Step ClosingCursor (Unit {0})) (g : Follow) (w : Watch) (start : Start) (opened : Option ℕ) (answered : List Fields) → s.cursor.doing ≡ holds said
     → HearsClosing s came s' r → ClosesTo new log log' g (held_by (event_fields said) s.cursor.token (idle w start s opened answered)) came → Moved log log' g (follow_of new w start s' opened answered)
 closing_so new log log' s said s' r came g w start opened answered at heard m = by_came came heard m
   where
@@ -478,7 +478,7 @@ held_reply (asks sending) h = absurd h
 
 -- ---- a step
 
-pub step_turns : (old new : Awaited) (log log' : Told) (wire : ℤ) (session : Option Session) (started : Bool) (s s' : ClientStream) (r : Stepped) → IsSound false s → DoesStep old new log log' wire session started s s' r → Turned old new log log' s s'
+pub step_turns : (old new : Awaited) (log log' : LogTold) (wire : ℤ) (session : Option Session) (started : Bool) (s s' : ClientStream) (r : Stepped) → IsSound false s → DoesStep old new log log' wire session started s s' r → Turned old new log log' s s'
 step_turns old new log log' wire session started s s' r sound (finds on left quiet unstarted is answer) = quiet_turns old new log log' s s' quiet is
 step_turns old new log log' wire session started s s' r sound (looks on none_left said at quiet unstarted h) =
     looks_turn false old new log log' s said s' r quiet sound.saved (λ w start opened answered. as_following old s w start opened answered (holds said) on at) h
@@ -526,7 +526,7 @@ abbrev pub told_of : List ℕ → List Fields
 told_of event = fields event ∷ []
 
 -- an event is answered, and these are behind it
-event_moved : (log : Told) (w : Watch) (start : Start) (opened : Option ℕ) (id : ℤ) (before : Option Tree) (event : List ℕ) (events : List (List ℕ)) (upto : Option Tree) (own : Tree) (answered : List Fields) → id_in event ≡ Some own
+event_moved : (log : LogTold) (w : Watch) (start : Start) (opened : Option ℕ) (id : ℤ) (before : Option Tree) (event : List ℕ) (events : List (List ℕ)) (upto : Option Tree) (own : Tree) (answered : List Fields) → id_in event ≡ Some own
     → Moved log log (held_by (fields event ∷ map fields events) upto (idle_by w start opened id before answered)) (in_hand (map fields events) upto (idle_by w start opened id (Some (token_behind events upto own)) (answered ++ fields event ∷ [])))
 event_moved log w start opened id before event [] upto own answered has =
     let f = held_by (fields event ∷ []) upto (idle_by w start opened id before answered) in
@@ -539,7 +539,7 @@ event_moved log w start opened id before event (next_one ∷ events) upto own an
     event_answered log log f (fields event) (map fields (next_one ∷ events)) own refl refl has refl
 
 -- an event without a token was passed over
-pub taken_by : (log : Told) (f : Follow) (event : List ℕ) (events : List (List ℕ)) (upto : Option Tree) → id_in event ≡ None → Moved log log (held_by (fields event ∷ map fields events) upto f) (in_hand (map fields events) upto (record f { doing = owing; ahead = []; upto = None }))
+pub taken_by : (log : LogTold) (f : Follow) (event : List ℕ) (events : List (List ℕ)) (upto : Option Tree) → id_in event ≡ None → Moved log log (held_by (fields event ∷ map fields events) upto f) (in_hand (map fields events) upto (record f { doing = owing; ahead = []; upto = None }))
 taken_by log f event [] upto lacks =
     let h = held_by (fields event ∷ []) upto f in
     let g = answering h resting [] f.token f.answered in
@@ -600,7 +600,7 @@ stays_turns s s' is =
 asks_still : (s s' : ClientStream) (w : Watch) (start : Start) → s'.aggregate.args ≡ s.aggregate.args → Asks s.aggregate.args w start → Asks s'.aggregate.args w start
 asks_still s s' w start is asks_so = subst (λ (a : _). Asks a w start) (sym is) asks_so
 
-pub turned_on : (old mid new : Awaited) (log between log' : Told) (s t s' : ClientStream) → Turned old mid log between s t → Turned mid new between log' t s' → Turned old new log log' s s'
+pub turned_on : (old mid new : Awaited) (log between log' : LogTold) (s t s' : ClientStream) → Turned old mid log between s t → Turned mid new between log' t s' → Turned old new log log' s s'
 turned_on old mid new log between log' s t s' a b =
     record {
       args = b.args ∙ a.args;

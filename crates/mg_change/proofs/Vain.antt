@@ -11,7 +11,7 @@ use Rattle.mg_link.specs.Exec.{Stage, unsent, first, second, Sending, waits, ans
 use Rattle.mg_link.specs.Filter.{Condition}
 use Rattle.mg_link.specs.History as history
 use Rattle.mg_link.specs.History.{IsLegalFrom, step_after, told_at}
-use Rattle.mg_link.specs.Link.{Awaited, Told}
+use Rattle.mg_link.specs.Link.{Awaited, LogTold}
 use Rattle.mg_link.specs.Log.{Call, Sight, reply, see, waiting}
 use Rattle.mg_link.specs.Namespace.{Target, target}
 use Rattle.mg_link.specs.Owner.{Passes, nobody}
@@ -77,7 +77,7 @@ never_given calls k call bytes found seen asks success h legal stands =
 -- ---- what a poll of it comes to
 
 -- a call of the log, which is told, has this command and has seen this
-record Sought (log : Told) (command : List ℕ) (seen : Sight) : Type 0 where
+record Sought (log : LogTold) (command : List ℕ) (seen : Sight) : Type 0 where
   calls : List Call
   is_told : log ≡ Some calls
   k : ℕ
@@ -87,38 +87,38 @@ record Sought (log : Told) (command : List ℕ) (seen : Sight) : Type 0 where
   saw : call.seen ≡ seen
 
 module _ (command : List ℕ) where
-  sought_begun : (old new : Awaited) (log log' : Told) (seen : Sight) (calls : List Call) → log ≡ Some calls → Begins old new log log' command (answered seen) → Sought log' command seen
+  sought_begun : (old new : Awaited) (log log' : LogTold) (seen : Sight) (calls : List Call) → log ≡ Some calls → Begins old new log log' command (answered seen) → Sought log' command seen
   sought_begun old new log log' seen calls is b =
       let add = b.adds calls is in
       let call : Call = record { command = command; position = add.0; seen = seen } in
       record { calls = calls ++ call ∷ []; is_told = add.1; k = length calls; call = call; found = get_seam calls [] call; command_is = refl; saw = refl }
 
-  sought_ended : (old new : Awaited) (log log' : Told) (ticket : ℕ) (seen : Sight) (calls : List Call) → log ≡ Some calls → HasCommand old calls command (Some ticket) → GoesOn old new log log' ticket (answered seen) → Sought log' command seen
+  sought_ended : (old new : Awaited) (log log' : LogTold) (ticket : ℕ) (seen : Sight) (calls : List Call) → log ≡ Some calls → HasCommand old calls command (Some ticket) → GoesOn old new log log' ticket (answered seen) → Sought log' command seen
   sought_ended old new log log' ticket seen calls is has g =
       let s = g.sees calls is in
       let at : s.0 ≡ has.0 = same_some s.0 has.0 (sym s.2 ∙ has.2) in
       let one : s.1 ≡ has.1 = same_some s.1 has.1 (sym s.3 ∙ subst (λ n. slice_get calls n ≡ Some has.1) (sym at) has.3) in
       record { calls = see s.0 seen calls; is_told = s.5; k = s.0; call = record s.1 { seen = seen }; found = see_here s.0 seen calls s.1 s.3; command_is = ap (λ (c : Call). c.command) one ∙ has.4; saw = refl }
 
-  sought_tried : (old new : Awaited) (log log' : Told) (stage : Stage) (seen : Sight) (calls : List Call) → log ≡ Some calls → HasCommand old calls command (ticket_at stage) → Tries old new log log' command stage (answered seen) → Sought log' command seen
+  sought_tried : (old new : Awaited) (log log' : LogTold) (stage : Stage) (seen : Sight) (calls : List Call) → log ≡ Some calls → HasCommand old calls command (ticket_at stage) → Tries old new log log' command stage (answered seen) → Sought log' command seen
   sought_tried old new log log' unsent seen calls is has t = sought_begun old new log log' seen calls is t
   sought_tried old new log log' (first ticket) seen calls is has t = sought_ended old new log log' ticket seen calls is has t
   sought_tried old new log log' (second ticket) seen calls is has t = sought_ended old new log log' ticket seen calls is has t
 
   -- it waits: its ticket is that of a call with this command
-  held_begun : (old new : Awaited) (log log' : Told) (ticket : ℕ) (calls calls' : List Call) → log ≡ Some calls → log' ≡ Some calls' → Begins old new log log' command (waits ticket) → HasCommand new calls' command (Some ticket)
+  held_begun : (old new : Awaited) (log log' : LogTold) (ticket : ℕ) (calls calls' : List Call) → log ≡ Some calls → log' ≡ Some calls' → Begins old new log log' command (waits ticket) → HasCommand new calls' command (Some ticket)
   held_begun old new log log' ticket calls calls' is is' b =
       let add = b.adds calls is in
       let call : Call = record { command = command; position = add.0; seen = waiting } in
       let same : calls ++ call ∷ [] ≡ calls' = same_some (calls ++ call ∷ []) calls' (sym add.1 ∙ is') in
       (length calls, call, b.place calls is, subst (λ l. slice_get l (length calls) ≡ Some call) same (get_seam calls [] call), refl)
 
-  held_on : (old new : Awaited) (log log' : Told) (ticket given : ℕ) (calls calls' : List Call) → log ≡ Some calls → log' ≡ Some calls' → HasCommand old calls command (Some ticket) → GoesOn old new log log' ticket (waits given) → HasCommand new calls' command (Some given)
+  held_on : (old new : Awaited) (log log' : LogTold) (ticket given : ℕ) (calls calls' : List Call) → log ≡ Some calls → log' ≡ Some calls' → HasCommand old calls command (Some ticket) → GoesOn old new log log' ticket (waits given) → HasCommand new calls' command (Some given)
   held_on old new log log' ticket given calls calls' is is' has g =
       let same : calls ≡ calls' = same_some calls calls' (sym is ∙ sym g.log_same ∙ is') in
       (has.0, has.1, g.rest given ∙ ap old g.same ∙ has.2, subst (λ l. slice_get l has.0 ≡ Some has.1) same has.3, has.4)
 
-  held_tried : (old new : Awaited) (log log' : Told) (stage : Stage) (ticket : ℕ) (calls calls' : List Call) → log ≡ Some calls → log' ≡ Some calls' → HasCommand old calls command (ticket_at stage) → Tries old new log log' command stage (waits ticket) → HasCommand new calls' command (Some ticket)
+  held_tried : (old new : Awaited) (log log' : LogTold) (stage : Stage) (ticket : ℕ) (calls calls' : List Call) → log ≡ Some calls → log' ≡ Some calls' → HasCommand old calls command (ticket_at stage) → Tries old new log log' command stage (waits ticket) → HasCommand new calls' command (Some ticket)
   held_tried old new log log' unsent ticket calls calls' is is' has t = held_begun old new log log' ticket calls calls' is is' t
   held_tried old new log log' (first given) ticket calls calls' is is' has t = held_on old new log log' given ticket calls calls' is is' has t
   held_tried old new log log' (second given) ticket calls calls' is is' has t = held_on old new log log' given ticket calls calls' is is' has t
@@ -128,7 +128,7 @@ holding_ticket unsent ticket = refl
 holding_ticket (first given) ticket = refl
 holding_ticket (second given) ticket = refl
 
-module _ (a : WatchArgs) (none : AsksNothing a) (exec : Sending) (is_first : IsResumption (first_aggregate a) exec) (old new : Awaited) (log log' : Told) (wire : ℤ) where
+module _ (a : WatchArgs) (none : AsksNothing a) (exec : Sending) (is_first : IsResumption (first_aggregate a) exec) (old new : Awaited) (log log' : LogTold) (wire : ℤ) where
   asks : asked exec.command ≡ asks_other
   asks = asks_nothing a exec none is_first
 
@@ -181,14 +181,14 @@ new_flight : (sending : Sending) (awaited : Awaited) (calls : List Call) → sen
 new_flight sending awaited calls new = subst (λ (st : Stage). HasCommand awaited calls sending.command (ticket_at st)) (sym new) tt
 
 -- nothing was sent
-vainly_unsent : (exec : Option Sending) (old new : Awaited) (log log' : Told) (e : Error) → log' ≡ log → OpensInVain old new log log' exec (step.Failed e)
+vainly_unsent : (exec : Option Sending) (old new : Awaited) (log log' : LogTold) (e : Error) → log' ≡ log → OpensInVain old new log log' exec (step.Failed e)
 vainly_unsent exec old new log log' e same calls is has =
     let p = plain_stayed log log' same calls is in
     (p.0, p.1, p.2, tt)
 
 -- ---- a poll
 
-module _ (old new : Awaited) (log log' : Told) (wire : ℤ) (session : Option Session) (started : Bool) (o : ClientOpening) (r : Step ClientOpening ClientStream) (none : AsksNothing o.args) where
+module _ (old new : Awaited) (log log' : LogTold) (wire : ℤ) (session : Option Session) (started : Bool) (o : ClientOpening) (r : Step ClientOpening ClientStream) (none : AsksNothing o.args) where
   heard_in_vain : (sending : Sending) → IsResumption (first_aggregate o.args) sending → (came : Step Sending (List ℕ)) → Runs old new log log' wire sending came → HearsOpening wire o came r → OpensInVain old new log log' (Some sending) r
   heard_in_vain sending is (step.Pending later) runs h =
       subst (OpensInVain old new log log' (Some sending)) (sym h) (vainly_held o.args none sending is old new log log' wire later runs)

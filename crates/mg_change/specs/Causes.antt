@@ -6,7 +6,7 @@ use Rattle.mg_bson.specs.declared.tree.Timestamp.{Timestamp}
 use Rattle.mg_link.specs.Calls.{Flies, HeardBy, HeardLast, IsAwaited, Keeps, NoneBroken, Past, RequestFails, past_of}
 use Rattle.mg_link.specs.Errors.{plain}
 use Rattle.mg_link.specs.Exec.{IsSuccess, Sending}
-use Rattle.mg_link.specs.Link.{Awaited, Told}
+use Rattle.mg_link.specs.Link.{Awaited, LogTold}
 use Rattle.mg_link.specs.Log.{Call, reply}
 use Rattle.mg_link.specs.Resumable.{is_resumable}
 use Rattle.mg_link.specs.Session.{Session}
@@ -272,10 +272,10 @@ TryCame awaited past session at s (try.Ready r) = ResultCame past (is_lone sessi
 TryCame awaited past session at s (try.Failed e) = CallFailed past session at s e
 
 -- A poll led a call on that had sent at these places before: it goes on, or has ended, with its cause.
-abbrev pub CallCaused : Awaited → Awaited → Told → Told → ℤ → Option Session → ClientStream → ClientStream → EventPoll → Type 0
+abbrev pub CallCaused : Awaited → Awaited → LogTold → LogTold → ℤ → Option Session → ClientStream → ClientStream → EventPoll → Type 0
 CallCaused old new log log' wire session s s' r = (calls : List Call) → log ≡ Some calls → (places : List ℕ) (at : ClientStream) → SoFar old (past_of places (length calls) calls wire) (is_lone session) at s
     → (calls' : List Call) × (log' ≡ Some calls') × Keeps calls calls' × CallCame new (past_of places (length calls) calls' wire) session at s' r
 
-abbrev pub TryCaused : Awaited → Awaited → Told → Told → ℤ → Option Session → ClientStream → ClientStream → TryPoll → Type 0
+abbrev pub TryCaused : Awaited → Awaited → LogTold → LogTold → ℤ → Option Session → ClientStream → ClientStream → TryPoll → Type 0
 TryCaused old new log log' wire session s s' r = (calls : List Call) → log ≡ Some calls → (places : List ℕ) (at : ClientStream) → SoFar old (past_of places (length calls) calls wire) (is_lone session) at s
     → (calls' : List Call) × (log' ≡ Some calls') × Keeps calls calls' × TryCame new (past_of places (length calls) calls' wire) session at s' r

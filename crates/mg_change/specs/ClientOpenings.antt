@@ -4,7 +4,7 @@ use Rattle.mg_bson.specs.Raw.{fields}
 use Rattle.mg_bson.specs.Tree.{Tree}
 use Rattle.mg_bson.specs.declared.tree.Timestamp.{Timestamp}
 use Rattle.mg_link.specs.Exec.{RunsStarting, Sending, ticket_of}
-use Rattle.mg_link.specs.Link.{Awaited, SendsNothing, Told}
+use Rattle.mg_link.specs.Link.{Awaited, SendsNothing, LogTold}
 use Rattle.mg_link.specs.Session.{Session}
 use Rattle.mg_link.specs.declared.action.Step.{Step}
 use Rattle.mg_link.specs.declared.action.Step.TheVariants as step
@@ -72,13 +72,13 @@ HearsOpening wire o (step.Pending sending) r = r ≡ step.Pending (record o { se
 HearsOpening wire o (step.Done reply) r = ReadsOpening wire o reply r
 HearsOpening wire o (step.Failed e) r = r ≡ step.Failed e
 
-pub record RunsOpening (old new : Awaited) (log log' : Told) (wire : ℤ) (started : Bool) (o : ClientOpening) (sending : Sending) (r : Step ClientOpening ClientStream) : Type 0 where
+pub record RunsOpening (old new : Awaited) (log log' : LogTold) (wire : ℤ) (started : Bool) (o : ClientOpening) (sending : Sending) (r : Step ClientOpening ClientStream) : Type 0 where
   pub came : Step Sending (List ℕ)
   pub runs : RunsStarting old new log log' wire sending came started
   pub hears : HearsOpening wire o came r
 
 -- What a poll of an opening does.
-pub data OpensStream (old new : Awaited) (log log' : Told) (wire : ℤ) (session : Option Session) (started : Bool) (o : ClientOpening) (r : Step ClientOpening ClientStream) : Type 0 where
+pub data OpensStream (old new : Awaited) (log log' : LogTold) (wire : ℤ) (session : Option Session) (started : Bool) (o : ClientOpening) (r : Step ClientOpening ClientStream) : Type 0 where
   -- the aggregate is not built, and nothing is sent
   not_built : o.sending ≡ None → (e : Error) → FailsBy (CannotResume (first_aggregate o.args) wire session) e → SendsNothing old new log log' → started ≡ false → r ≡ step.Failed e → OpensStream old new log log' wire session started o r
   -- it is sent

@@ -4,7 +4,7 @@ use Rattle.mg_bson.specs.Raw.{fields}
 use Rattle.mg_bson.specs.Tree.{Fields}
 use Rattle.mg_link.specs.Calls.{Flies, HeardBy, HeardLast, IsAwaited, Keeps, NoneBroken, Past, RequestFails, past_of}
 use Rattle.mg_link.specs.Exec.{IsSuccess, Sending}
-use Rattle.mg_link.specs.Link.{Awaited, Told}
+use Rattle.mg_link.specs.Link.{Awaited, LogTold}
 use Rattle.mg_link.specs.Log.{Call, reply}
 use Rattle.mg_link.specs.declared.action.Step.{Step}
 use Rattle.mg_link.specs.declared.action.Step.TheVariants as step
@@ -121,6 +121,6 @@ ClosingCame awaited past k (step.Done t) = StreamDone past k
 ClosingCame awaited past k (step.Failed e) = StreamFails past k e
 
 -- A poll led a closing on that had sent at these places before.
-abbrev pub ClosingCaused : Awaited → Awaited → Told → Told → ℤ → ClosingStream → Step ClosingStream (Unit {0}) → Type 0
+abbrev pub ClosingCaused : Awaited → Awaited → LogTold → LogTold → ℤ → ClosingStream → Step ClosingStream (Unit {0}) → Type 0
 ClosingCaused old new log log' wire k r = (calls : List Call) → log ≡ Some calls → (places : List ℕ) → IsUnderway old (past_of places (length calls) calls wire) k
     → (calls' : List Call) × (log' ≡ Some calls') × Keeps calls calls' × ClosingCame new (past_of places (length calls) calls' wire) k r

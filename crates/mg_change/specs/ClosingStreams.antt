@@ -4,7 +4,7 @@ use Rattle.std.specs.Ordering.{int_eq}
 use Rattle.mg_bson.specs.Raw.{fields}
 use Rattle.mg_bson.specs.Tree.{Tree, Fields}
 use Rattle.mg_link.specs.Exec.{Runs, Sending, ticket_of}
-use Rattle.mg_link.specs.Link.{Awaited, SendsNothing, Told}
+use Rattle.mg_link.specs.Link.{Awaited, SendsNothing, LogTold}
 use Rattle.mg_link.specs.Session.{Session}
 use Rattle.mg_link.specs.State.{Start, Watch}
 use Rattle.mg_link.specs.declared.action.Step.{Step}
@@ -113,13 +113,13 @@ HearsKill k (step.Pending sending) r = r ≡ step.Pending (record k { doing = en
 HearsKill k (step.Done bytes) r = r ≡ step.Done tt
 HearsKill k (step.Failed e) r = r ≡ step.Failed e
 
-pub record RunsKill (old new : Awaited) (log log' : Told) (wire : ℤ) (k : ClosingStream) (sending : Sending) (r : Step ClosingStream (Unit {0})) : Type 0 where
+pub record RunsKill (old new : Awaited) (log log' : LogTold) (wire : ℤ) (k : ClosingStream) (sending : Sending) (r : Step ClosingStream (Unit {0})) : Type 0 where
   pub came : Step Sending (List ℕ)
   pub runs : Runs old new log log' wire sending came
   pub hears : HearsKill k came r
 
 -- What a closing does once nothing else is on its way.
-pub data KillsLeft (old new : Awaited) (log log' : Told) (wire : ℤ) (k : ClosingStream) (r : Step ClosingStream (Unit {0})) : Type 0 where
+pub data KillsLeft (old new : Awaited) (log log' : LogTold) (wire : ℤ) (k : ClosingStream) (r : Step ClosingStream (Unit {0})) : Type 0 where
   -- the server holds no cursor, and nothing is sent
   nothing_left : ids_left k ≡ [] → SendsNothing old new log log' → r ≡ step.Done tt → KillsLeft old new log log' wire k r
   -- the killCursors is not built, and nothing is sent
@@ -130,29 +130,29 @@ pub data KillsLeft (old new : Awaited) (log log' : Told) (wire : ℤ) (k : Closi
 -- ---- what was on its way
 
 -- behind its failure: only want of memory is answered, and then nothing more is sent
-abbrev pub PassesOver : Awaited → Awaited → Told → Told → ℤ → ClosingStream → Error → Step ClosingStream (Unit {0}) → Type 0
+abbrev pub PassesOver : Awaited → Awaited → LogTold → LogTold → ℤ → ClosingStream → Error → Step ClosingStream (Unit {0}) → Type 0
 PassesOver old new log log' wire k e r =
     ((e.kind ≡ kind.OutOfMemory) × SendsNothing old new log log' × (r ≡ step.Failed e))
     ⊎ ((e.kind ≢ kind.OutOfMemory) × KillsLeft old new log log' wire k r)
 
 -- behind the getMore, by what it came to, which left the cursor so
-abbrev pub BehindMore : Awaited → Awaited → Told → Told → ℤ → ClosingStream → NextPoll → Step ClosingStream (Unit {0}) → Type 0
+abbrev pub BehindMore : Awaited → Awaited → LogTold → LogTold → ℤ → ClosingStream → NextPoll → Step ClosingStream (Unit {0}) → Type 0
 BehindMore old new log log' wire k next.Pending r = SendsNothing old new log log' × (r ≡ step.Pending k)
 BehindMore old new log log' wire k (next.Batch bytes) r = KillsLeft old new log log' wire k r
 BehindMore old new log log' wire k next.End r = ⊥
 BehindMore old new log log' wire k (next.Failed e) r = PassesOver old new log log' wire k e r
 
 -- behind a reply to the aggregate: with the cursor that it opened; or it breaks the grammar of a cursor, or memory ran out as it was read
-pub data BehindOpening (old new : Awaited) (log log' : Told) (wire : ℤ) (k : ClosingStream) (reply : List ℕ) (r : Step ClosingStream (Unit {0})) : Type 0 where
+pub data BehindOpening (old new : Awaited) (log log' : LogTold) (wire : ℤ) (k : ClosingStream) (reply : List ℕ) (r : Step ClosingStream (Unit {0})) : Type 0 where
   opened_one : (said : Cursor) → cursor_of (fields reply) ≡ Ok said → KillsLeft old new log log' wire (record k { opened = said.id; doing = lands }) r → BehindOpening old new log log' wire k reply r
   opened_none : (e : Error) → FailsBy (BreaksIn (fields reply)) e → PassesOver old new log log' wire (record k { doing = lands }) e r → BehindOpening old new log log' wire k reply r
 
-abbrev pub BehindAggregate : Awaited → Awaited → Told → Told → ℤ → ClosingStream → Step Sending (List ℕ) → Step ClosingStream (Unit {0}) → Type 0
+abbrev pub BehindAggregate : Awaited → Awaited → LogTold → LogTold → ℤ → ClosingStream → Step Sending (List ℕ) → Step ClosingStream (Unit {0}) → Type 0
 BehindAggregate old new log log' wire k (step.Pending sending) r = SendsNothing old new log log' × (r ≡ step.Pending (record k { doing = lands_aggregate sending }))
 BehindAggregate old new log log' wire k (step.Done reply) r = BehindOpening old new log log' wire k reply r
 BehindAggregate old new log log' wire k (step.Failed e) r = PassesOver old new log log' wire (record k { doing = lands }) e r
 
-abbrev pub BehindReplaced : Awaited → Awaited → Told → Told → ℤ → ClosingStream → Step ClosingCursor (Unit {0}) → Step ClosingStream (Unit {0}) → Type 0
+abbrev pub BehindReplaced : Awaited → Awaited → LogTold → LogTold → ℤ → ClosingStream → Step ClosingCursor (Unit {0}) → Step ClosingStream (Unit {0}) → Type 0
 BehindReplaced old new log log' wire k (step.Pending before) r = SendsNothing old new log log' × (r ≡ step.Pending (record k { doing = lands_replaced before }))
 BehindReplaced old new log log' wire k (step.Done t) r = KillsLeft old new log log' wire (record k { doing = lands }) r
 BehindReplaced old new log log' wire k (step.Failed e) r = PassesOver old new log log' wire (record k { doing = lands }) e r
@@ -162,10 +162,10 @@ BehindReplaced old new log log' wire k (step.Failed e) r = PassesOver old new lo
 -- the link between what was on its way and what comes behind it
 pub record Between : Type 0 where
   pub awaited : Awaited
-  pub log : Told
+  pub log : LogTold
 
 -- What a poll of a closing does, by what is on its way as it begins.
-pub data ClosesStream (old new : Awaited) (log log' : Told) (wire : ℤ) (k : ClosingStream) (r : Step ClosingStream (Unit {0})) : Type 0 where
+pub data ClosesStream (old new : Awaited) (log log' : LogTold) (wire : ℤ) (k : ClosingStream) (r : Step ClosingStream (Unit {0})) : Type 0 where
   -- nothing: a reply in hand is let go
   begins : k.doing ≡ lands → IsNotAsking k.cursor.doing → KillsLeft old new log log' wire (record k { cursor = at_rest k.cursor }) r → ClosesStream old new log log' wire k r
   -- the getMore of its cursor

@@ -4,7 +4,7 @@ use Rattle.mg_bson.specs.Raw.{fields}
 use Rattle.mg_bson.specs.Tree.{Tree, Fields}
 use Rattle.mg_link.specs.Exec.{Sending}
 use Rattle.mg_link.specs.Follow.{Follow, Moved, asking, holding, owing, resting, resuming, starting, unopened}
-use Rattle.mg_link.specs.Link.{Awaited, Told}
+use Rattle.mg_link.specs.Link.{Awaited, LogTold}
 use Rattle.mg_link.specs.State.{Start, Watch}
 use Rattle.mg_link.specs.declared.action.Step.{Step}
 use Rattle.mg_link.specs.declared.action.Step.TheVariants as step
@@ -102,12 +102,12 @@ abbrev pub opening_in : Awaited → Watch → Start → ClientOpening → Follow
 opening_in awaited w start o = opening_by awaited o.sending w start
 
 -- where a watch is behind a poll of its opening
-abbrev pub OpensTo : Awaited → Told → Told → Follow → Watch → Start → Step ClientOpening ClientStream → Type 0
+abbrev pub OpensTo : Awaited → LogTold → LogTold → Follow → Watch → Start → Step ClientOpening ClientStream → Type 0
 OpensTo new log log' f w start (step.Pending o) = Moved log log' f (opening_in new w start o)
 OpensTo new log log' f w start (step.Done s) = (opened : Option ℕ) × Moved log log' f (follow_of new w start s opened [])
 OpensTo new log log' f w start (step.Failed e) = Moved log log' f (not_open w start)
 
-abbrev pub OpeningMoves : Awaited → Awaited → Told → Told → Watch → Start → ClientOpening → Step ClientOpening ClientStream → Type 0
+abbrev pub OpeningMoves : Awaited → Awaited → LogTold → LogTold → Watch → Start → ClientOpening → Step ClientOpening ClientStream → Type 0
 OpeningMoves old new log log' w start o r = OpensTo new log log' (opening_in old w start o) w start r
 
 -- ---- closings
@@ -172,11 +172,11 @@ try_told (try.Failed e) current = []
 -- ---- steps
 
 -- a step led the stream on
-pub record Turned (old new : Awaited) (log log' : Told) (s s' : ClientStream) : Type 0 where
+pub record Turned (old new : Awaited) (log log' : LogTold) (s s' : ClientStream) : Type 0 where
   pub args : s'.aggregate.args ≡ s.aggregate.args
   pub moved : (w : Watch) (start : Start) → Asks s.aggregate.args w start → (opened : Option ℕ) (answered : List Fields) → Moved log log' (follow_of old w start s opened answered) (follow_of new w start s' opened answered)
 
 -- the same of what is given of the batch in hand, without a link
 pub record Turns (s s' : ClientStream) (told : List Fields) : Type 0 where
   pub args : s'.aggregate.args ≡ s.aggregate.args
-  pub moved : (log : Told) (awaited : Awaited) (w : Watch) (start : Start) (opened : Option ℕ) (answered : List Fields) → Moved log log (follow_of awaited w start s opened answered) (follow_of awaited w start s' opened (answered ++ told))
+  pub moved : (log : LogTold) (awaited : Awaited) (w : Watch) (start : Start) (opened : Option ℕ) (answered : List Fields) → Moved log log (follow_of awaited w start s opened answered) (follow_of awaited w start s' opened (answered ++ told))

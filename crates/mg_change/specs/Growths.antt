@@ -5,7 +5,7 @@ use Rattle.mg_link.specs.declared.action.Step.TheVariants as step
 use Rattle.mg_link.specs.Exec.{Sending, ticket_of}
 use Rattle.mg_link.specs.History as history
 use Rattle.mg_link.specs.History.{IsLegal}
-use Rattle.mg_link.specs.Link.{Awaited, Told}
+use Rattle.mg_link.specs.Link.{Awaited, LogTold}
 use Rattle.mg_link.specs.Log.{Call}
 use Rattle.mg_link.specs.Owner.{Onward, Passes, nobody}
 use Rattle.mg_link.specs.Standing.{Stands}
@@ -13,7 +13,7 @@ use Rattle.mg_change.specs.ClientOpenings.{ClientOpening}
 use Rattle.mg_change.specs.ClientStreams.{ClientStream}
 
 -- Each call is still there, what was seen is still seen, and where the log stands in a legal history it stood in an earlier one.
-abbrev pub GoesOnward : Told → Told → Type 0
+abbrev pub GoesOnward : LogTold → LogTold → Type 0
 GoesOnward log log' = (calls : List Call) → log ≡ Some calls → (calls' : List Call) × (log' ≡ Some calls') × Onward calls calls' nobody
 
 -- no server that is honest could have given this log
@@ -39,6 +39,6 @@ ComesToNothing awaited calls (step.Done s) = StandsNowhere calls
 ComesToNothing awaited calls (step.Failed e) = Unit {0}
 
 -- the poll of an opening that asks for nothing: it names no cursor and opens none
-abbrev pub OpensInVain : Awaited → Awaited → Told → Told → Option Sending → Step ClientOpening ClientStream → Type 0
+abbrev pub OpensInVain : Awaited → Awaited → LogTold → LogTold → Option Sending → Step ClientOpening ClientStream → Type 0
 OpensInVain old new log log' exec result = (calls : List Call) → log ≡ Some calls → IsInFlight old calls exec
     → (calls' : List Call) × (log' ≡ Some calls') × Passes calls calls' nobody nobody × ComesToNothing new calls' result

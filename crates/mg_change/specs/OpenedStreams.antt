@@ -5,7 +5,7 @@ use Rattle.mg_link.specs.Acts.{EndsAtOnce, FailsByFault, PendsBy, Tickets, ticke
 use Rattle.mg_link.specs.Calls.{Keeps, past_of}
 use Rattle.mg_link.specs.Exec.{Sending}
 use Rattle.mg_link.specs.Follow.{Moved}
-use Rattle.mg_link.specs.Link.{Awaited, Later, Told}
+use Rattle.mg_link.specs.Link.{Awaited, Later, LogTold}
 use Rattle.mg_link.specs.Log.{Call}
 use Rattle.mg_link.specs.Moment.{Moment}
 use Rattle.mg_link.specs.Session.{Session}
@@ -20,7 +20,7 @@ use Rattle.mg_change.specs.OpeningCauses.{StreamOpened, OpeningCame, OpensSoFar}
 use Rattle.mg_change.specs.Sent.{Falling, Sent}
 
 -- A stream was opened by the call of the log at whose place its aggregate heard the reply: from there on the stream knows what it watches.
-pub record OpenedAt (old new : Awaited) (log log' : Told) (wire : ℤ) (args : WatchArgs) (before : Option Sending) (s : ClientStream) : Type 0 where
+pub record OpenedAt (old new : Awaited) (log log' : LogTold) (wire : ℤ) (args : WatchArgs) (before : Option Sending) (s : ClientStream) : Type 0 where
   pub place : Option ℕ
   pub moved : (w : Watch) (start : Start) → Asks args w start → Moved log log' (opening_by old before w start) (follow_of new w start s place [])
   pub caused : (calls : List Call) → log ≡ Some calls → (places : List ℕ) → OpensSoFar old (past_of places (length calls) calls wire) args before
@@ -44,22 +44,22 @@ abbrev pub IsOpening : WatchArgs → ℤ → Option Session → ℕ → Fields �
 IsOpening args wire session place command = command ≡ resuming_in (first_aggregate args) wire session
 
 -- it sent the aggregate, at most twice, and nothing else
-pub record OpenSent (log log' : Told) (wire : ℤ) (session : Option Session) (args : WatchArgs) : Type 0 where
+pub record OpenSent (log log' : LogTold) (wire : ℤ) (session : Option Session) (args : WatchArgs) : Type 0 where
   pub commands : List Fields
   pub adds : Sent log log' commands
   pub falling : Falling (IsOpening args wire session) 2 commands 0
 
 -- what in the log is the cause of the answer: all that the call sent stands behind the log that it found
-abbrev pub OpenCaused : Awaited → Told → Told → ℤ → Option Session → WatchArgs → Step ClientOpening ClientStream → Type 0
+abbrev pub OpenCaused : Awaited → LogTold → LogTold → ℤ → Option Session → WatchArgs → Step ClientOpening ClientStream → Type 0
 OpenCaused new log log' wire session args r = (calls : List Call) → log ≡ Some calls
     → (calls' : List Call) × (log' ≡ Some calls') × Keeps calls calls' × OpeningCame new (past_of [] (length calls) calls' wire) session args r
 
 -- where the watch is
-abbrev pub OpenMoves : Awaited → Told → Told → WatchArgs → Step ClientOpening ClientStream → Type 0
+abbrev pub OpenMoves : Awaited → LogTold → LogTold → WatchArgs → Step ClientOpening ClientStream → Type 0
 OpenMoves new log log' args r = (w : Watch) (start : Start) → Asks args w start → OpensTo new log log' (not_open w start) w start r
 
 -- all of it
-pub record CallOpens (new : Awaited) (log log' : Told) (wire : ℤ) (session : Option Session) (args : WatchArgs) (r : Step ClientOpening ClientStream) : Type 0 where
+pub record CallOpens (new : Awaited) (log log' : LogTold) (wire : ℤ) (session : Option Session) (args : WatchArgs) (r : Step ClientOpening ClientStream) : Type 0 where
   pub begins : OpenBegins args r
   pub sent : OpenSent log log' wire session args
   pub caused : OpenCaused new log log' wire session args r

@@ -5,7 +5,7 @@ use Rattle.mg_bson.specs.declared.tree.Timestamp.{Timestamp}
 use Rattle.mg_link.specs.Calls.{Flies, HeardLast, Keeps, Past, RequestFails, past_of}
 use Rattle.mg_link.specs.Errors.{plain}
 use Rattle.mg_link.specs.Exec.{IsSuccess, Sending}
-use Rattle.mg_link.specs.Link.{Awaited, Told}
+use Rattle.mg_link.specs.Link.{Awaited, LogTold}
 use Rattle.mg_link.specs.Log.{Call, reply}
 use Rattle.mg_link.specs.Session.{Session}
 use Rattle.mg_link.specs.declared.action.Step.{Step}
@@ -53,6 +53,6 @@ OpeningCame awaited past session args (step.Done s) = StreamOpened past args s
 OpeningCame awaited past session args (step.Failed e) = OpeningFails past session args e
 
 -- A poll led an opening on that had sent at these places before.
-abbrev pub OpeningCaused : Awaited → Awaited → Told → Told → ℤ → Option Session → ClientOpening → Step ClientOpening ClientStream → Type 0
+abbrev pub OpeningCaused : Awaited → Awaited → LogTold → LogTold → ℤ → Option Session → ClientOpening → Step ClientOpening ClientStream → Type 0
 OpeningCaused old new log log' wire session o r = (calls : List Call) → log ≡ Some calls → (places : List ℕ) → OpensSoFar old (past_of places (length calls) calls wire) o.args o.sending
     → (calls' : List Call) × (log' ≡ Some calls') × Keeps calls calls' × OpeningCame new (past_of places (length calls) calls' wire) session o.args r

@@ -2,7 +2,7 @@
 use Rattle.std.specs.Prelude.{◌≡◌, ◌≢◌, ◌⊎◌, ◌<◌, ◌≤◌, ℕ, ℤ, pos, Bool, List, [], length, Option, Some, None}
 use Rattle.mg_link.specs.Calls.{Keeps, Past, past_of}
 use Rattle.mg_link.specs.Errors.{plain}
-use Rattle.mg_link.specs.Link.{Awaited, Told}
+use Rattle.mg_link.specs.Link.{Awaited, LogTold}
 use Rattle.mg_link.specs.Log.{Call}
 use Rattle.mg_link.specs.Session.{Session}
 use Rattle.mg_link.specs.declared.error.Error.{Error}
@@ -60,6 +60,6 @@ pub record SeekCame (awaited : Awaited) (calls : List Call) (wire : ℤ) (sessio
   pub came : PartCame awaited (part_past part calls wire) session part.at part.counts s r
 
 -- A poll led a call on whose part in hand had sent at these places before, and which had got so much in vain.
-abbrev pub SeekCaused : Awaited → Awaited → Told → Told → ℤ → Option Session → ClientStream → ClientStream → EventPoll → Type 0
+abbrev pub SeekCaused : Awaited → Awaited → LogTold → LogTold → ℤ → Option Session → ClientStream → ClientStream → EventPoll → Type 0
 SeekCaused old new log log' wire session s s' r = (calls : List Call) → log ≡ Some calls → (places : List ℕ) (at : ClientStream) → SoFar old (past_of places (length calls) calls wire) (is_lone session) at s
     → (calls' : List Call) × (log' ≡ Some calls') × Keeps calls calls' × SeekCame new calls' wire session (record { at = at; counts = s.counts; places = places; since = length calls }) s' r

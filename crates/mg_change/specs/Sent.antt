@@ -2,7 +2,7 @@
 use Rattle.std.specs.Prelude.{◌≡◌, ◌≢◌, ◌<◌, ◌≤◌, ◌++◌, ℕ, zero, suc, ℤ, pos, List, [], ◌∷◌, Option, Some, None}
 use Rattle.mg_bson.specs.Tree.{Fields}
 use Rattle.mg_link.specs.Exec.{Sending, Stage, first, second, unsent}
-use Rattle.mg_link.specs.Link.{Told}
+use Rattle.mg_link.specs.Link.{LogTold}
 use Rattle.mg_link.specs.Log.{Call}
 use Rattle.mg_link.specs.Moment.{Ending, failed, finished, pending}
 use Rattle.mg_link.specs.Namespace.{Space}
@@ -20,7 +20,7 @@ use Rattle.mg_change.specs.StreamCalls.{event_ending, try_ending}
 use Rattle.mg_change.specs.declared.event_poll.EventPoll.{EventPoll}
 
 -- these commands, and no others, were added to a log that is told, and what it had seen it has seen still
-abbrev pub Sent : Told → Told → List Fields → Type 0
+abbrev pub Sent : LogTold → LogTold → List Fields → Type 0
 Sent log log' commands = (calls : List Call) → log ≡ Some calls → (calls' : List Call) × (log' ≡ Some calls') × (commands_sent calls' ≡ commands_sent calls ++ commands) × Onward calls calls' nobody
 
 -- the getMore of the cursor
@@ -108,16 +108,16 @@ KeepsBy finished s s' = Unit {0}
 KeepsBy (failed e) s s' = Unit {0}
 
 -- What a poll sent: commands at places that were left, and above those that are left behind it.
-pub record PollSent (log log' : Told) (s s' : ClientStream) (ending : Ending) : Type 0 where
+pub record PollSent (log log' : LogTold) (s s' : ClientStream) (ending : Ending) : Type 0 where
   pub commands : List Fields
   pub adds : Sent log log' commands
   pub falling : Falling (IsSentAt s) (places s) commands (places_behind ending s')
   pub keeps : KeepsBy ending s s'
 
-abbrev pub CallSent : Told → Told → ClientStream → ClientStream → EventPoll → Type 0
+abbrev pub CallSent : LogTold → LogTold → ClientStream → ClientStream → EventPoll → Type 0
 CallSent log log' s s' r = PollSent log log' s s' (event_ending r)
 
-abbrev pub TrySent : Told → Told → ClientStream → ClientStream → TryPoll → Type 0
+abbrev pub TrySent : LogTold → LogTold → ClientStream → ClientStream → TryPoll → Type 0
 TrySent log log' s s' r = PollSent log log' s s' (try_ending r)
 
 -- ---- a call that seeks an event
@@ -133,7 +133,7 @@ AreSought args [] = Unit {0}
 AreSought args (command ∷ commands) = IsSought args command × AreSought args commands
 
 -- it sent such commands only
-pub record SeekSent (log log' : Told) (args : WatchArgs) : Type 0 where
+pub record SeekSent (log log' : LogTold) (args : WatchArgs) : Type 0 where
   pub commands : List Fields
   pub adds : Sent log log' commands
   pub sought : AreSought args commands

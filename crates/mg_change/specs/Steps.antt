@@ -3,7 +3,7 @@ use Rattle.std.specs.Prelude.{◌≡◌, ◌≢◌, ◌⊎◌, ◌+◌, ℕ, zer
 use Rattle.mg_bson.specs.Raw.{fields}
 use Rattle.mg_bson.specs.declared.tree.Timestamp.{Timestamp}
 use Rattle.mg_link.specs.Exec.{RunsStarting, Sending}
-use Rattle.mg_link.specs.Link.{Awaited, SendsNothing, Told}
+use Rattle.mg_link.specs.Link.{Awaited, SendsNothing, LogTold}
 use Rattle.mg_link.specs.Resumable.{is_resumable}
 use Rattle.mg_link.specs.Session.{Session}
 use Rattle.mg_link.specs.declared.action.Step.{Step}
@@ -60,7 +60,7 @@ TakesMore s c next.End s' r = ⊥
 TakesMore s c (next.Failed e) s' r = FailsMore s c e s' r
 
 -- a poll of the getMore over the link, and what comes of it
-pub record AsksMore (old new : Awaited) (log log' : Told) (wire : ℤ) (started : Bool) (s : ClientStream) (sending : Sending) (s' : ClientStream) (r : Stepped) : Type 0 where
+pub record AsksMore (old new : Awaited) (log log' : LogTold) (wire : ℤ) (started : Bool) (s : ClientStream) (sending : Sending) (s' : ClientStream) (r : Stepped) : Type 0 where
   pub left : ClientCursor
   pub poll : NextPoll
   pub runs : RunsMore old new log log' wire started s.cursor sending left poll
@@ -92,7 +92,7 @@ HearsResumption s (step.Done reply) s' r = ReadsResumption s reply s' r
 HearsResumption s (step.Failed e) s' r = (s' ≡ record s { doing = owes }) × (r ≡ stepped.Gives (try.Failed e))
 
 -- a poll of the aggregate over the link, and what comes of it
-pub record RunsResumption (old new : Awaited) (log log' : Told) (wire : ℤ) (started : Bool) (s : ClientStream) (sending : Sending) (s' : ClientStream) (r : Stepped) : Type 0 where
+pub record RunsResumption (old new : Awaited) (log log' : LogTold) (wire : ℤ) (started : Bool) (s : ClientStream) (sending : Sending) (s' : ClientStream) (r : Stepped) : Type 0 where
   pub came : Step Sending (List ℕ)
   pub runs : RunsStarting old new log log' wire sending came started
   pub hears : HearsResumption s came s' r
@@ -108,7 +108,7 @@ HearsClosing s (step.Failed e) s' r =
 -- ---- a step
 
 -- What a step does, by how the stream stands as it begins; `started` says whether a command of the session was started in it.
-pub data DoesStep (old new : Awaited) (log log' : Told) (wire : ℤ) (session : Option Session) (started : Bool) (s s' : ClientStream) (r : Stepped) : Type 0 where
+pub data DoesStep (old new : Awaited) (log log' : LogTold) (wire : ℤ) (session : Option Session) (started : Bool) (s s' : ClientStream) (r : Stepped) : Type 0 where
   -- an event that was received is next, and nothing is sent
   finds : s.doing ≡ follows → s.behind ≢ [] → SendsNothing old new log log' → started ≡ false → s' ≡ s → r ≡ stepped.Found → DoesStep old new log log' wire session started s s' r
   -- the batch of the opening is looked at, and nothing is sent
@@ -141,7 +141,7 @@ IsLast stepped.Found = Unit {0}
 IsLast (stepped.Gives p) = Unit {0}
 
 -- The last step of a call. `again` says whether it looked at the batch of a resumption.
-pub record DoesLast (old new : Awaited) (log log' : Told) (wire : ℤ) (session : Option Session) (starts : ℕ) (again : Bool) (s s' : ClientStream) (r : Stepped) : Type 0 where
+pub record DoesLast (old new : Awaited) (log log' : LogTold) (wire : ℤ) (session : Option Session) (starts : ℕ) (again : Bool) (s s' : ClientStream) (r : Stepped) : Type 0 where
   pub started : Bool
   pub starts_are : starts ≡ one_if started
   pub does : DoesStep old new log log' wire session started s s' r
@@ -149,9 +149,9 @@ pub record DoesLast (old new : Awaited) (log log' : Told) (wire : ℤ) (session 
   pub last : IsLast r
 
 -- So many steps, behind each of which the call goes on, and a last one.
-unfoldable pub DoesSteps : ℕ → Awaited → Awaited → Told → Told → ℤ → Option Session → ℕ → Bool → ClientStream → ClientStream → Stepped → Type 0
+unfoldable pub DoesSteps : ℕ → Awaited → Awaited → LogTold → LogTold → ℤ → Option Session → ℕ → Bool → ClientStream → ClientStream → Stepped → Type 0
 DoesSteps zero old new log log' wire session starts again s s' r = DoesLast old new log log' wire session starts again s s' r
-DoesSteps (suc n) old new log log' wire session starts again s s' r = (between : Awaited) × (log_between : Told) × (started : Bool) × (later : ℕ) × (t : ClientStream)
+DoesSteps (suc n) old new log log' wire session starts again s s' r = (between : Awaited) × (log_between : LogTold) × (started : Bool) × (later : ℕ) × (t : ClientStream)
     × DoesStep old between log log_between wire session started s t stepped.Goes × (starts ≡ one_if started + later)
     × DoesSteps n between new log_between log' wire (session_after started session) later again t s' r
 
@@ -172,7 +172,7 @@ pub data FindsIn (s s' : ClientStream) (r : Stepped) : Type 0 where
   is_empty : s.behind ≡ [] → s' ≡ emptied s.cursor s → r ≡ stepped.Gives (try.Ready result.Waiting) → FindsIn s s' r
 
 -- a poll of the closing of the cursor before, and what comes of it
-pub record ClosesOne (old new : Awaited) (log log' : Told) (wire : ℤ) (before : ClosingCursor) (s s' : ClientStream) (r : Stepped) : Type 0 where
+pub record ClosesOne (old new : Awaited) (log log' : LogTold) (wire : ℤ) (before : ClosingCursor) (s s' : ClientStream) (r : Stepped) : Type 0 where
   pub came : Step ClosingCursor (Unit {0})
   pub closes : ClosingPolls old new log log' wire before came
   pub hears : HearsClosing s came s' r

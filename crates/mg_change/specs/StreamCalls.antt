@@ -2,7 +2,7 @@
 use Rattle.std.specs.Prelude.{◌≡◌, ◌≢◌, ◌⊎◌, ◌<◌, ◌≤◌, ℕ, ℤ, zero, suc, ◌+◌, pos, Bool, true, false, List, [], ◌∷◌, Option, Some, None}
 use Rattle.mg_bson.specs.Tree.{Tree}
 use Rattle.mg_link.specs.Errors.{plain}
-use Rattle.mg_link.specs.Link.{Awaited, Told}
+use Rattle.mg_link.specs.Link.{Awaited, LogTold}
 use Rattle.mg_link.specs.Moment.{Ending, pending, finished, failed}
 use Rattle.mg_link.specs.Session.{Session, after_command}
 use Rattle.mg_link.specs.declared.error.Error.{Error}
@@ -105,7 +105,7 @@ CopiesBehind stepped.Found s s' r = CopiesEvent s s' r
 CopiesBehind (stepped.Gives p) s s' r = (s' ≡ s) × (r ≡ without_event p)
 
 -- What a call that lends the next event does, by so many steps before its last one; the session is told of so many commands.
-pub record CallLends (steps : ℕ) (old new : Awaited) (log log' : Told) (wire : ℤ) (session : Option Session) (starts : ℕ) (s s' : ClientStream) (r : TryPoll) : Type 0 where
+pub record CallLends (steps : ℕ) (old new : Awaited) (log log' : LogTold) (wire : ℤ) (session : Option Session) (starts : ℕ) (s s' : ClientStream) (r : TryPoll) : Type 0 where
   pub again : Bool
   pub came : Stepped
   pub left : ClientStream
@@ -115,7 +115,7 @@ pub record CallLends (steps : ℕ) (old new : Awaited) (log log' : Told) (wire :
   pub kept : s' ≡ kept_behind (try_ending r) lent
 
 -- The same of a call that copies it.
-pub record CallCopies (steps : ℕ) (old new : Awaited) (log log' : Told) (wire : ℤ) (session : Option Session) (starts : ℕ) (s s' : ClientStream) (r : EventPoll) : Type 0 where
+pub record CallCopies (steps : ℕ) (old new : Awaited) (log log' : LogTold) (wire : ℤ) (session : Option Session) (starts : ℕ) (s s' : ClientStream) (r : EventPoll) : Type 0 where
   pub again : Bool
   pub came : Stepped
   pub left : ClientStream
@@ -156,7 +156,7 @@ pub data EndsSeeking (again : Bool) (came : Stepped) (left s' : ClientStream) (r
   fails : (e : Error) → came ≡ stepped.Gives (try.Failed e) → s' ≡ left → r ≡ poll.Failed e → EndsSeeking again came left s' r
 
 -- its last part
-pub record SeeksLast (old new : Awaited) (log log' : Told) (wire : ℤ) (session : Option Session) (starts : ℕ) (s s' : ClientStream) (r : EventPoll) : Type 0 where
+pub record SeeksLast (old new : Awaited) (log log' : LogTold) (wire : ℤ) (session : Option Session) (starts : ℕ) (s s' : ClientStream) (r : EventPoll) : Type 0 where
   pub steps : ℕ
   pub again : Bool
   pub came : Stepped
@@ -167,7 +167,7 @@ pub record SeeksLast (old new : Awaited) (log log' : Told) (wire : ℤ) (session
   pub kept : s' ≡ kept_behind (event_ending r) ended
 
 -- a part with an empty reply, and the link behind it
-pub record SeeksOn (old between : Awaited) (log log_between : Told) (wire : ℤ) (session : Option Session) (starts : ℕ) (s counting : ClientStream) : Type 0 where
+pub record SeeksOn (old between : Awaited) (log log_between : LogTold) (wire : ℤ) (session : Option Session) (starts : ℕ) (s counting : ClientStream) : Type 0 where
   pub steps : ℕ
   pub again : Bool
   pub came : Stepped
@@ -181,9 +181,9 @@ session_behind n None = None
 session_behind n (Some s) = Some (times n after_command s)
 
 -- What a call that seeks an event does, which gets so many empty replies in this poll before its last part.
-unfoldable pub SeeksEvent : ℕ → Awaited → Awaited → Told → Told → ℤ → Option Session → ℕ → ClientStream → ClientStream → EventPoll → Type 0
+unfoldable pub SeeksEvent : ℕ → Awaited → Awaited → LogTold → LogTold → ℤ → Option Session → ℕ → ClientStream → ClientStream → EventPoll → Type 0
 SeeksEvent zero old new log log' wire session starts s s' r = SeeksLast old new log log' wire session starts s s' r
-SeeksEvent (suc n) old new log log' wire session starts s s' r = (between : Awaited) × (log_between : Told) × (now later : ℕ) × (t : ClientStream)
+SeeksEvent (suc n) old new log log' wire session starts s s' r = (between : Awaited) × (log_between : LogTold) × (now later : ℕ) × (t : ClientStream)
     × SeeksOn old between log log_between wire session now s t × (starts ≡ now + later)
     × SeeksEvent n between new log_between log' wire (session_behind now session) later t s' r
 

@@ -4,7 +4,7 @@ use Rattle.std.specs.Prelude.{option_and_then}
 use Rattle.mg_bson.specs.Raw.{fields}
 use Rattle.mg_bson.specs.Spans.{documents_inside}
 use Rattle.mg_link.specs.Exec.{Sending}
-use Rattle.mg_link.specs.Link.{Awaited, Told}
+use Rattle.mg_link.specs.Link.{Awaited, LogTold}
 use Rattle.mg_link.specs.Moment.{LinkKeeps, Moment, finished}
 use Rattle.mg_link.specs.Session.{Session}
 use Rattle.mg_link.specs.declared.action.Step.{Step}
@@ -119,7 +119,7 @@ keeps_filled m m' ticket d c bytes d' r (broken e breaks is answer) k =
 
 -- ---- what is on its way stays the getMore of the cursor
 
-pub advance_sound : (plain : Bool) (old new : Awaited) (log log' : Told) (wire : ℤ) (session : Option Session) (started : Bool) (d d' : DocumentCursor) (r : TryPoll) → IsSound plain d.cursor → PlainIf plain session → AdvancesOnce old new log log' wire session started d d' r → IsSound plain d'.cursor
+pub advance_sound : (plain : Bool) (old new : Awaited) (log log' : LogTold) (wire : ℤ) (session : Option Session) (started : Bool) (d d' : DocumentCursor) (r : TryPoll) → IsSound plain d.cursor → PlainIf plain session → AdvancesOnce old new log log' wire session started d d' r → IsSound plain d'.cursor
 advance_sound plain old new log log' wire session started d d' r h plainly (gives x xs these none same is answer) = subst (IsSound plain) (sym (ap (λ (y : DocumentCursor). y.cursor) is)) h
 advance_sound plain old new log log' wire session started d d' r h plainly (polls none_left c p asked takes) =
     subst (IsSound plain) (sym (takes_cursor d c p d' r takes)) (sound_next plain old new log log' wire session started d.cursor c p h plainly asked)
@@ -155,7 +155,7 @@ module _ (Heard : Type 0) (bytes : List ℕ) (c c' : ClientCursor) (r : NextPoll
   not_held d at other (inl held) = absurd (other (sym at ∙ held))
   not_held d at other (inr heard) = heard
 
-  pub passes_next : (old new : Awaited) (log log' : Told) (wire : ℤ) (session : Option Session) (started : Bool) → (c.doing ≡ holds bytes) ⊎ Heard → PollsNext old new log log' wire session started c c' r → Passes Heard bytes c c'
+  pub passes_next : (old new : Awaited) (log log' : LogTold) (wire : ℤ) (session : Option Session) (started : Bool) → (c.doing ≡ holds bytes) ⊎ Heard → PollsNext old new log log' wire session started c c' r → Passes Heard bytes c c'
   passes_next old new log log' wire session started heard (hands_out reply at none same is answer) =
       was_held (at ∙ ap holds (same_batch reply bytes (sym answer ∙ gives_it))) is
   passes_next old new log log' wire session started heard (is_over at over none same is answer) = let bad : next.End ≡ next.Batch bytes = sym answer ∙ gives_it in absurd cc
@@ -165,14 +165,14 @@ module _ (Heard : Type 0) (bytes : List ℕ) (c c' : ClientCursor) (r : NextPoll
 
 -- ---- an advance that got an empty reply
 
-pub record GotEmpty (old new : Awaited) (log log' : Told) (wire : ℤ) (session : Option Session) (started : Bool) (d d' : DocumentCursor) : Type 0 where
+pub record GotEmpty (old new : Awaited) (log log' : LogTold) (wire : ℤ) (session : Option Session) (started : Bool) (d d' : DocumentCursor) : Type 0 where
   pub bytes : List ℕ
   pub behind : ClientCursor
   pub asked : PollsNext old new log log' wire session started d.cursor behind (next.Batch bytes)
   pub empty : documents_of bytes ≡ Some []
   pub is : d' ≡ filled_with behind [] d
 
-module _ (old new : Awaited) (log log' : Told) (wire : ℤ) (session : Option Session) (started : Bool) (d d' : DocumentCursor) (r : TryPoll) (waits : r ≡ try.Ready result.Waiting) where
+module _ (old new : Awaited) (log log' : LogTold) (wire : ℤ) (session : Option Session) (started : Bool) (d d' : DocumentCursor) (r : TryPoll) (waits : r ≡ try.Ready result.Waiting) where
   empty_by : (bytes : List ℕ) (c : ClientCursor) (documents : List (List ℕ)) → PollsNext old new log log' wire session started d.cursor c (next.Batch bytes) → documents_of bytes ≡ Some documents → d' ≡ filled_with c documents d → r ≡ advance_by documents → GotEmpty old new log log' wire session started d d'
   empty_by bytes c [] asked these is answer = record { bytes = bytes; behind = c; asked = asked; empty = these; is = is }
   empty_by bytes c (x ∷ xs) asked these is answer = let bad : try.Ready (result.Advanced tt) ≡ try.Ready result.Waiting = sym answer ∙ waits in absurd cc
@@ -208,6 +208,6 @@ takes_count d c next.End d' r h = ap (λ (x : DocumentCursor). x.empty) h.0
 takes_count d c (next.Failed e) d' r h = ap (λ (x : DocumentCursor). x.empty) h.0
 
 -- an advance counts nothing
-pub advance_count : (old new : Awaited) (log log' : Told) (wire : ℤ) (session : Option Session) (started : Bool) (d d' : DocumentCursor) (r : TryPoll) → AdvancesOnce old new log log' wire session started d d' r → d'.empty ≡ d.empty
+pub advance_count : (old new : Awaited) (log log' : LogTold) (wire : ℤ) (session : Option Session) (started : Bool) (d d' : DocumentCursor) (r : TryPoll) → AdvancesOnce old new log log' wire session started d d' r → d'.empty ≡ d.empty
 advance_count old new log log' wire session started d d' r (gives x xs these none same is answer) = ap (λ (y : DocumentCursor). y.empty) is
 advance_count old new log log' wire session started d d' r (polls none_left c p asked takes) = takes_count d c p d' r takes

@@ -3,7 +3,7 @@ use Rattle.std.proofs.Common.{◌≡◌, ◌≤◌, ℕ, ℤ, Bool, false, List,
 use Rattle.mg_bson.specs.Raw.{fields}
 use Rattle.mg_link.specs.Calls.{Came, Flies, HeardLast, Keeps, Past, past_of, was_broken}
 use Rattle.mg_link.specs.Exec.{IsSuccess, Runs, Sending, Stage}
-use Rattle.mg_link.specs.Link.{Awaited, SendsNothing, Told}
+use Rattle.mg_link.specs.Link.{Awaited, SendsNothing, LogTold}
 use Rattle.mg_link.specs.Log.{Call, reply}
 use Rattle.mg_link.specs.Session.{Session}
 use Rattle.mg_link.specs.declared.action.Step.{Step}
@@ -27,7 +27,7 @@ module _ (new : Awaited) (past : Past) (now session : Option Session) (c : Clien
   read_came c' bytes r heard success (broke e (inr breaks) is answer) = subst (NextCame new past now c c') (sym answer) (inr (record { session = session; fails = was_broken bytes heard success breaks }))
 
   -- the getMore came to this
-  heard_came : (old : Awaited) (log log' : Told) (wire : ℤ) (c' : ClientCursor) (sending : Sending) (came : Step Sending (List ℕ)) (r : NextPoll) → IsPolled c session sending → Runs old new log log' wire sending came → Came new past (get_more c session) false came → Hears c came c' r → NextCame new past now c c' r
+  heard_came : (old : Awaited) (log log' : LogTold) (wire : ℤ) (c' : ClientCursor) (sending : Sending) (came : Step Sending (List ℕ)) (r : NextPoll) → IsPolled c session sending → Runs old new log log' wire sending came → Came new past (get_more c session) false came → Hears c came c' r → NextCame new past now c c' r
   heard_came old log log' wire c' sending (step.Pending next) r is runs flies h =
       let w = waits_still old new log log' wire sending next is.single is.at runs in
       let on : IsUnderway new past (record c { doing = asks next }) = record { session = session; command_is = ap fields w.same_command ∙ is.command_is; flies = flies } in
@@ -37,16 +37,16 @@ module _ (new : Awaited) (past : Past) (now session : Option Session) (c : Clien
       subst (NextCame new past now c c') (sym h.1) (inr (record { session = session; fails = fails_anyhow past (get_more c session) false TellsNoCursor e fails }))
 
 -- nothing was sent, and this is the cause
-quiet_came : (old new : Awaited) (log log' : Told) (wire : ℤ) (now : Option Session) (c c' : ClientCursor) (r : NextPoll) → SendsNothing old new log log' → ((past : Past) → NextCame new past now c c' r) → NextCaused old new log log' wire now c c' r
+quiet_came : (old new : Awaited) (log log' : LogTold) (wire : ℤ) (now : Option Session) (c c' : ClientCursor) (r : NextPoll) → SendsNothing old new log log' → ((past : Past) → NextCame new past now c c' r) → NextCaused old new log log' wire now c c' r
 quiet_came old new log log' wire now c c' r none came calls told places underway = (calls, none.log_same ∙ told, same_keeps calls, came (past_of places (length calls) calls wire))
 
 -- a getMore was polled, which the call had sent in this session where it sent it before
-polled_came : (old new : Awaited) (log log' : Told) (wire : ℤ) (now session : Option Session) (c c' : ClientCursor) (sending : Sending) (came : Step Sending (List ℕ)) (r : NextPoll) → IsPolled c session sending → Runs old new log log' wire sending came → Hears c came c' r → (calls : List Call) (told : log ≡ Some calls) (places : List ℕ)
+polled_came : (old new : Awaited) (log log' : LogTold) (wire : ℤ) (now session : Option Session) (c c' : ClientCursor) (sending : Sending) (came : Step Sending (List ℕ)) (r : NextPoll) → IsPolled c session sending → Runs old new log log' wire sending came → Hears c came c' r → (calls : List Call) (told : log ≡ Some calls) (places : List ℕ)
     → RequestRan new places (length calls) calls log' wire (get_more c session) false came → (calls' : List Call) × (log' ≡ Some calls') × Keeps calls calls' × NextCame new (past_of places (length calls) calls' wire) now c c' r
 polled_came old new log log' wire now session c c' sending came r is runs h calls told places ran =
     (ran.calls', ran.told, ran.grows.keeps, heard_came new (past_of places (length calls) ran.calls' wire) now session c old log log' wire c' sending came r is runs ran.came h)
 
-pub next_caused : (old new : Awaited) (log log' : Told) (wire : ℤ) (now : Option Session) (started : Bool) (c c' : ClientCursor) (r : NextPoll) → IsSound false c → PollsNext old new log log' wire now started c c' r → NextCaused old new log log' wire now c c' r
+pub next_caused : (old new : Awaited) (log log' : LogTold) (wire : ℤ) (now : Option Session) (started : Bool) (c c' : ClientCursor) (r : NextPoll) → IsSound false c → PollsNext old new log log' wire now started c c' r → NextCaused old new log log' wire now c c' r
 next_caused old new log log' wire now started c c' r sound (hands_out bytes at none same is answer) =
     quiet_came old new log log' wire now c c' r none (λ past. subst (NextCame new past now c c') (sym answer) (inl at))
 next_caused old new log log' wire now started c c' r sound (is_over at over none same is answer) =

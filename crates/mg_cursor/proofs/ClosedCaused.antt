@@ -3,7 +3,7 @@ use Rattle.std.proofs.Common.{◌≡◌, ◌≢◌, ◌≤◌, ℕ, ℤ, false, 
 use Rattle.mg_bson.specs.Raw.{fields}
 use Rattle.mg_link.specs.Calls.{Came, Flies, Grows, HeardLast, Keeps, Past, past_of, was_broken}
 use Rattle.mg_link.specs.Exec.{IsSuccess, Runs, Sending, Stage}
-use Rattle.mg_link.specs.Link.{Awaited, SendsNothing, Told}
+use Rattle.mg_link.specs.Link.{Awaited, SendsNothing, LogTold}
 use Rattle.mg_link.specs.Log.{Call, reply}
 use Rattle.mg_link.specs.Session.{Session}
 use Rattle.mg_link.specs.declared.action.Step.{Step}
@@ -31,24 +31,24 @@ module _ (past past' : Past) (grows : Grows past past') (k : ClosingCursor) wher
   left_grows c (not_given e h room is) = not_given e (record { session = h.session; fails = request_fails_grows past past' grows (get_more k.cursor h.session) false TellsNoCursor e h.fails }) room is
 
 -- the tickets are the same where nothing was sent
-flies_on : (old new : Awaited) (log log' : Told) (past : Past) (c : ClientCursor) (session : Option Session) (stage : Stage) → SendsNothing old new log log' → Flies old past (get_more c session) stage → Flies new past (get_more c session) stage
+flies_on : (old new : Awaited) (log log' : LogTold) (past : Past) (c : ClientCursor) (session : Option Session) (stage : Stage) → SendsNothing old new log log' → Flies old past (get_more c session) stage → Flies new past (get_more c session) stage
 flies_on old new log log' past c session stage none f = flies_grows past past (record { own = λ place call there own. own; keeps = same_keeps past.calls; wire = refl }) old new (get_more c session) stage (λ n held. none.rest n) f
 
 -- ---- the killing
 
 -- a poll of the closing, of a call that had sent at these places, and from this one on
-abbrev Killed : Awaited → Told → ℤ → ClosingCursor → List Call → List ℕ → ℕ → Step ClosingCursor (Unit {0}) → Type 0
+abbrev Killed : Awaited → LogTold → ℤ → ClosingCursor → List Call → List ℕ → ℕ → Step ClosingCursor (Unit {0}) → Type 0
 Killed new log' wire k calls places since r = (calls' : List Call) × (log' ≡ Some calls') × Keeps calls calls' × ClosingCame new (past_of places since calls' wire) k r
 
 module _ (new : Awaited) (past : Past) (k : ClosingCursor) (c : ClientCursor) (left : LeftBy past k c) (may : MayAsk c) where
   -- the killCursors came to this
-  pub kill_came : (old : Awaited) (log log' : Told) (wire : ℤ) (sending : Sending) (came : Step Sending (List ℕ)) (r : Step ClosingCursor (Unit {0})) → Runs old new log log' wire sending came → Came new past (kill c) false came → KillHears c came r → ClosingCame new past k r
+  pub kill_came : (old : Awaited) (log log' : LogTold) (wire : ℤ) (sending : Sending) (came : Step Sending (List ℕ)) (r : Step ClosingCursor (Unit {0})) → Runs old new log log' wire sending came → Came new past (kill c) false came → KillHears c came r → ClosingCame new past k r
   kill_came old log log' wire sending (step.Pending waiting) r runs came h = subst (ClosingCame new past k) (sym h) (came, inr left)
   kill_came old log log' wire sending (step.Done bytes) r runs came h =
       subst (ClosingCame new past k) (sym h) (killed c left may bytes (heard_by past (kill c) false (reply bytes) came) (success_ran old new log log' wire sending bytes runs))
   kill_came old log log' wire sending (step.Failed e) r runs came h = subst (ClosingCame new past k) (sym h) (not_killed c left may (inl came))
 
-pub kills_caused : (old new : Awaited) (log log' : Told) (wire : ℤ) (k : ClosingCursor) (c : ClientCursor) (r : Step ClosingCursor (Unit {0})) (calls : List Call) (places : List ℕ) (since : ℕ) → log ≡ Some calls → since ≤ length calls → LeftBy (past_of places since calls wire) k c → KillsCursor old new log log' wire c r → Killed new log' wire k calls places since r
+pub kills_caused : (old new : Awaited) (log log' : LogTold) (wire : ℤ) (k : ClosingCursor) (c : ClientCursor) (r : Step ClosingCursor (Unit {0})) (calls : List Call) (places : List ℕ) (since : ℕ) → log ≡ Some calls → since ≤ length calls → LeftBy (past_of places since calls wire) k c → KillsCursor old new log log' wire c r → Killed new log' wire k calls places since r
 kills_caused old new log log' wire k c r calls places since told room left (nothing_left over none is) =
     (calls, none.log_same ∙ told, same_keeps calls, subst (ClosingCame new (past_of places since calls wire) k) (sym is) (not_needed c left over))
 kills_caused old new log log' wire k c r calls places since told room left (not_built may e (inl memory) none is) =
@@ -63,7 +63,7 @@ kills_caused old new log log' wire k c r calls places since told room left (kill
 
 -- ---- the getMore that ends first
 
-module _ (mid new : Awaited) (log_mid log' : Told) (wire : ℤ) (k : ClosingCursor) (calls : List Call) (places : List ℕ) (since : ℕ) (told : log_mid ≡ Some calls) (room : since ≤ length calls) where
+module _ (mid new : Awaited) (log_mid log' : LogTold) (wire : ℤ) (k : ClosingCursor) (calls : List Call) (places : List ℕ) (since : ℕ) (told : log_mid ≡ Some calls) (room : since ≤ length calls) where
   -- the call behind the getMore
   abbrev behind_more : Past
   behind_more = past_of places since calls wire
@@ -86,7 +86,7 @@ module _ (mid new : Awaited) (log_mid log' : Told) (wire : ℤ) (k : ClosingCurs
       failed_landed left e r (λ other. not_given e fails other (is ∙ sym (behind_broken (fields bytes) e k.cursor breaks))) (subst (λ (x : NextPoll). BehindMore mid new log_mid log' wire left x r) answer behind)
 
   -- the getMore came to this
-  more_landed : (old : Awaited) (log : Told) (session : Option Session) (sending : Sending) (came : Step Sending (List ℕ)) (left : ClientCursor) (p : NextPoll) (r : Step ClosingCursor (Unit {0})) → IsPolled k.cursor session sending → Runs old mid log log_mid wire sending came → Came mid behind_more (get_more k.cursor session) false came → Hears k.cursor came left p
+  more_landed : (old : Awaited) (log : LogTold) (session : Option Session) (sending : Sending) (came : Step Sending (List ℕ)) (left : ClientCursor) (p : NextPoll) (r : Step ClosingCursor (Unit {0})) → IsPolled k.cursor session sending → Runs old mid log log_mid wire sending came → Came mid behind_more (get_more k.cursor session) false came → Hears k.cursor came left p
       → BehindMore mid new log_mid log' wire left p r → Killed new log' wire k calls places since r
   more_landed old log session sending (step.Pending waiting) left p r is runs came h behind =
       let waits = waits_still old mid log log_mid wire sending waiting is.single is.at runs in
@@ -111,7 +111,7 @@ closing_as k o is h = subst (ClosesBy k.cursor) is h
 landed_as : (k : ClosingCursor) (o : Option Sending) → k.killing ≡ o → LandedBy o k.cursor.doing → IsLanded k
 landed_as k o is h = subst (λ (x : Option Sending). LandedBy x k.cursor.doing) (sym is) h
 
-pub closing_caused : (old new : Awaited) (log log' : Told) (wire : ℤ) (k : ClosingCursor) (r : Step ClosingCursor (Unit {0})) → IsClosing k → ClosingPolls old new log log' wire k r → ClosingCaused old new log log' wire k r
+pub closing_caused : (old new : Awaited) (log log' : LogTold) (wire : ℤ) (k : ClosingCursor) (r : Step ClosingCursor (Unit {0})) → IsClosing k → ClosingPolls old new log log' wire k r → ClosingCaused old new log log' wire k r
 closing_caused old new log log' wire k r closing (lands none sending at h) = λ calls told places underway.
     let past : Past = past_of places (length calls) calls wire in
     let sound : IsSound false k.cursor = closing_as k None none closing in
@@ -137,7 +137,7 @@ closing_caused old new log log' wire k r closing (goes_on sending at runs) = λ 
     (ran.calls', ran.told, ran.grows.keeps, on_its_way old new log log' wire k sending runs.came r past' left may runs.runs ran.came runs.hears)
   where
     -- a killCursors that pends is that of the same cursor
-    on_its_way : (old new : Awaited) (log log' : Told) (wire : ℤ) (k : ClosingCursor) (sending : Sending) (came : Step Sending (List ℕ)) (r : Step ClosingCursor (Unit {0})) (past : Past) → LeftBy past k (at_rest k.cursor) → MayAsk (at_rest k.cursor) → Runs old new log log' wire sending came → Came new past (kill k.cursor) false came → KillHears k.cursor came r → ClosingCame new past k r
+    on_its_way : (old new : Awaited) (log log' : LogTold) (wire : ℤ) (k : ClosingCursor) (sending : Sending) (came : Step Sending (List ℕ)) (r : Step ClosingCursor (Unit {0})) (past : Past) → LeftBy past k (at_rest k.cursor) → MayAsk (at_rest k.cursor) → Runs old new log log' wire sending came → Came new past (kill k.cursor) false came → KillHears k.cursor came r → ClosingCame new past k r
     on_its_way old new log log' wire k sending (step.Pending waiting) r past left may runs came h = subst (ClosingCame new past k) (sym h) (came, inl refl)
     on_its_way old new log log' wire k sending (step.Done bytes) r past left may runs came h = kill_came new past k (at_rest k.cursor) left may old log log' wire sending (step.Done bytes) r runs came h
     on_its_way old new log log' wire k sending (step.Failed e) r past left may runs came h = kill_came new past k (at_rest k.cursor) left may old log log' wire sending (step.Failed e) r runs came h

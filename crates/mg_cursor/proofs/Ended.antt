@@ -1,7 +1,7 @@
 -- A cursor says that there is no further document only where nothing is asked for any more.
 use Rattle.std.proofs.Common.{◌≡◌, ℕ, zero, suc, ℤ, Bool, true, false, List, [], ◌∷◌, Option, refl, sym, subst}
 use Rattle.mg_link.specs.Exec.{Sending}
-use Rattle.mg_link.specs.Link.{Awaited, Told}
+use Rattle.mg_link.specs.Link.{Awaited, LogTold}
 use Rattle.mg_link.specs.Session.{Session}
 use Rattle.mg_link.specs.declared.action.Step.{Step}
 use Rattle.mg_link.specs.declared.action.Step.TheVariants as step
@@ -32,7 +32,7 @@ hears_goes_on c (step.Pending sending) c' h = let bad : next.End ≡ next.Pendin
 hears_goes_on c (step.Done bytes) c' h = reply_goes_on c bytes c' h
 hears_goes_on c (step.Failed e) c' h = let bad : next.End ≡ next.Failed e = h.1 in absurd cc
 
-next_ends : (old new : Awaited) (log log' : Told) (wire : ℤ) (session : Option Session) (started : Bool) (c c' : ClientCursor) → PollsNext old new log log' wire session started c c' next.End → EndsAt c'
+next_ends : (old new : Awaited) (log log' : LogTold) (wire : ℤ) (session : Option Session) (started : Bool) (c c' : ClientCursor) → PollsNext old new log log' wire session started c c' next.End → EndsAt c'
 next_ends old new log log' wire session started c c' (hands_out bytes doing quiet none is answer) = absurd cc
 next_ends old new log log' wire session started c c' (is_over doing over quiet none is answer) =
     subst EndsAt (sym is) (record { at_end = doing; over = over })
@@ -50,7 +50,7 @@ fills_never : (d : DocumentCursor) (c : ClientCursor) (bytes : List ℕ) (d' : D
 fills_never d c bytes d' (filled documents these is answer) = absurd (filled_none documents answer)
 fills_never d c bytes d' (broken e breaks is answer) = absurd cc
 
-module _ (old new : Awaited) (log log' : Told) (wire : ℤ) (session : Option Session) (started : Bool) (d : DocumentCursor) where
+module _ (old new : Awaited) (log log' : LogTold) (wire : ℤ) (session : Option Session) (started : Bool) (d : DocumentCursor) where
   takes_ends : (c : ClientCursor) (p : NextPoll) (d' : DocumentCursor) → PollsNext old new log log' wire session started d.cursor c p → TakesNext d c p d' (try.Ready result.Exhausted) → IsAtEnd d'
   takes_ends c next.Pending d' asked takes = let bad : try.Ready result.Exhausted ≡ try.Pending = takes.1 in absurd cc
   takes_ends c (next.Batch bytes) d' asked takes = fills_never d c bytes d' takes
@@ -74,7 +74,7 @@ not_there (result.Advanced t) is = let bad : advance.Ready false ≡ advance.Rea
 not_there result.Exhausted is = refl
 not_there result.Waiting is = absurd cc
 
-module _ (old new : Awaited) (log log' : Told) (wire : ℤ) (session : Option Session) (started : Bool) (d e d' : DocumentCursor) where
+module _ (old new : Awaited) (log log' : LogTold) (wire : ℤ) (session : Option Session) (started : Bool) (d e d' : DocumentCursor) where
   last_ends : (p : TryPoll) → AdvancesOnce old new log log' wire session started d e p → EndsSeeking p e d' (advance.Ready false) → IsAtEnd d'
   last_ends try.Pending tries ends = let bad : advance.Ready false ≡ advance.Pending = ends.1 in absurd cc
   last_ends (try.Ready a) tries ends =
@@ -82,7 +82,7 @@ module _ (old new : Awaited) (log log' : Told) (wire : ℤ) (session : Option Se
       subst IsAtEnd (sym ends.1) (uncounted_ends e (advance_ends old new log log' wire session started d e exhausted))
   last_ends (try.Failed f) tries ends = let bad : advance.Ready false ≡ advance.Failed f = ends.1 in absurd cc
 
-pub seek_ends : (n : ℕ) (old new : Awaited) (log log' : Told) (wire : ℤ) (session : Option Session) (starts : ℕ) (d d' : DocumentCursor) → SeeksDocument n old new log log' wire session starts d d' (advance.Ready false) → IsAtEnd d'
+pub seek_ends : (n : ℕ) (old new : Awaited) (log log' : LogTold) (wire : ℤ) (session : Option Session) (starts : ℕ) (d d' : DocumentCursor) → SeeksDocument n old new log log' wire session starts d d' (advance.Ready false) → IsAtEnd d'
 unfolding SeeksDocument
 seek_ends zero old new log log' wire session starts d d' last = last_ends old new log log' wire session last.started d last.advanced d' last.poll last.tries last.ends
 seek_ends (suc n) old new log log' wire session starts d d' more = seek_ends n more.0 new more.1 log' wire (session_after more.2 session) more.3 more.4 d' more.7

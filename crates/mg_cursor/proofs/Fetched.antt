@@ -4,9 +4,9 @@ use Rattle.std.specs.Prelude.{slice_get}
 use Rattle.mg_bson.specs.Raw.{fields}
 use Rattle.mg_bson.specs.Tree.{Fields}
 use Rattle.mg_link.specs.Commands.{Batch, asked, asks_more, asks_query, batch_of}
-use Rattle.mg_link.specs.Exec.{Attempt, AttemptFails, Gives, IsSuccess, Runs, Sending, Stage, answered, first, holding, not_sent, second, unsent, waits}
+use Rattle.mg_link.specs.Exec.{Attempt, AttemptFails, AttemptGives, IsSuccess, Runs, Sending, Stage, answered, first, holding, not_sent, second, unsent, waits}
 use Rattle.mg_link.specs.History.{Step, state_of}
-use Rattle.mg_link.specs.Link.{Awaited, Told}
+use Rattle.mg_link.specs.Link.{Awaited, LogTold}
 use Rattle.mg_link.specs.Log.{Call, reply}
 use Rattle.mg_link.specs.Namespace.{Space}
 use Rattle.mg_link.specs.Owner.{Holds, IsOf, Owner, Passes}
@@ -55,7 +55,7 @@ facts_weaker calls history position r r' w f = record {
 }
 
 -- what it knows of less
-pub read_weaker : (log log' : Told) (r r' : Reader) → log' ≡ log → IsWeaker r r' → ReadMoved log log' r r'
+pub read_weaker : (log log' : LogTold) (r r' : Reader) → log' ≡ log → IsWeaker r r' → ReadMoved log log' r r'
 read_weaker log log' r r' same w calls told_log =
     let owner = same_owner r r' w.cursor w.doing in (
       calls,
@@ -86,7 +86,7 @@ none_coming still is n of = of
 none_coming (fetching place) is n of = absurd cc
 
 -- it lets go of its cursor
-pub read_let_go : (log log' : Told) (r : Reader) → r.doing ≡ still → log' ≡ log → ReadMoved log log' r (record r { cursor = pos 0; refused = true })
+pub read_let_go : (log log' : LogTold) (r : Reader) → r.doing ≡ still → log' ≡ log → ReadMoved log log' r (record r { cursor = pos 0; refused = true })
 read_let_go log log' r rests same calls told_log =
     let left : Reader = record r { cursor = pos 0; refused = true } in (
       calls,
@@ -116,12 +116,12 @@ read_let_go log log' r rests same calls told_log =
 -- ---- a poll of its getMore
 
 -- a reply came: a batch was read, or it is none that a server may give; or it counts as lost
-pub record FetchAnswered (r : Reader) (log log' : Told) (g : Reader) (bytes : List ℕ) : Type 0 where
+pub record FetchAnswered (r : Reader) (log log' : LogTold) (g : Reader) (bytes : List ℕ) : Type 0 where
   pub heard : (batch : Batch) → batch_of (fields bytes) ≡ Some batch → ReadMoved log log' g (record r { doing = still; cursor = batch.id; ahead = r.ahead ++ batch.events })
   pub spoiled : batch_of (fields bytes) ≡ None → (cursor : ℤ) (ahead : List Fields) → ReadMoved log log' g (record r { doing = still; cursor = cursor; ahead = ahead })
   pub lost : ReadMoved log log' g (record r { doing = still; losses = r.losses + 1 })
 
-abbrev pub FetchCame : Reader → Awaited → Told → Told → Reader → Polled Sending (List ℕ) → Type 0
+abbrev pub FetchCame : Reader → Awaited → LogTold → LogTold → Reader → Polled Sending (List ℕ) → Type 0
 FetchCame r new log log' g (step.Pending s) = (ticket : ℕ) → s.stage ≡ first ticket → ReadMoved log log' g (record r { doing = fetching (new ticket) })
 FetchCame r new log log' g (step.Done bytes) = FetchAnswered r log log' g bytes
 FetchCame r new log log' g (step.Failed e) = ReadMoved log log' g (record r { doing = still; losses = r.losses + 1 })
@@ -131,7 +131,7 @@ held_ticket unsent ticket other is = cc
 held_ticket (first old) ticket other is = cc
 held_ticket (second old) ticket other is = absurd cc
 
-module _ (r : Reader) (new : Awaited) (log log' : Told) (g : Reader) where
+module _ (r : Reader) (new : Awaited) (log log' : LogTold) (g : Reader) where
   answered_so : (bytes : List ℕ) → IsSuccess bytes → fetches.FetchAnswered r log log' g (reply bytes) → FetchAnswered r log log' g bytes
   answered_so bytes success a = record {
     heard = λ batch is. a.heard bytes refl batch (record { success = success; batch_is = is });
@@ -145,7 +145,7 @@ module _ (r : Reader) (new : Awaited) (log log' : Told) (g : Reader) where
   failed_so (waits ticket) wire e fails m = absurd fails
   failed_so (answered seen) wire e fails m = m.lost r.cursor r.refused (inl refl)
 
-  came_so : (s : Sending) (attempt : Attempt) (wire : ℤ) (polled : Polled Sending (List ℕ)) → Gives attempt wire (λ ticket. record s { stage = holding s.stage ticket }) polled → fetches.FetchAttempted r new log log' g attempt → FetchCame r new log log' g polled
+  came_so : (s : Sending) (attempt : Attempt) (wire : ℤ) (polled : Polled Sending (List ℕ)) → AttemptGives attempt wire (λ ticket. record s { stage = holding s.stage ticket }) polled → fetches.FetchAttempted r new log log' g attempt → FetchCame r new log log' g polled
   came_so s attempt wire (step.Pending waiting) gives m = λ ticket at.
       let there : ReadMoved log log' g (record r { doing = fetching (new gives.0) }) = subst (λ (a : Attempt). fetches.FetchAttempted r new log log' g a) gives.1 m in
       let same = held_ticket s.stage gives.0 ticket (sym (ap (λ (x : Sending). x.stage) gives.2) ∙ at) in
@@ -159,7 +159,7 @@ at_stage r old (first ticket) = refl
 at_stage r old (second ticket) = refl
 
 -- the reader of the cursor behind it
-pub fetch_ran : (r : Reader) (old new : Awaited) (log log' : Told) (wire : ℤ) (s : Sending) (space : Space) (polled : Polled Sending (List ℕ)) → r.cursor ≢ pos 0 → asked s.command ≡ asks_more r.cursor space → s.retries ≡ false → Runs old new log log' wire s polled → FetchCame r new log log' (record r { doing = fetching_at old s.stage }) polled
+pub fetch_ran : (r : Reader) (old new : Awaited) (log log' : LogTold) (wire : ℤ) (s : Sending) (space : Space) (polled : Polled Sending (List ℕ)) → r.cursor ≢ pos 0 → asked s.command ≡ asks_more r.cursor space → s.retries ≡ false → Runs old new log log' wire s polled → FetchCame r new log log' (record r { doing = fetching_at old s.stage }) polled
 fetch_ran r old new log log' wire s space polled nz asks single runs =
     let x = fetches.fetch_ran r s.command space nz asks old new log log' wire s polled refl single runs in
     came_so r new log log' (record r { doing = fetching_at old s.stage }) s x.attempt wire polled x.gives (subst (λ (g : Reader). fetches.FetchAttempted r new log log' g x.attempt) (at_stage r old s.stage) x.moves)

@@ -9,7 +9,7 @@ use Rattle.mg_bson.specs.Tree.{Tree, Fields}
 use Rattle.mg_link.specs.Acts.{ticket_after}
 use Rattle.mg_link.specs.Errors.{command_code, plain}
 use Rattle.mg_link.specs.Exec.{Sending, ticket_of}
-use Rattle.mg_link.specs.Link.{Awaited, Told}
+use Rattle.mg_link.specs.Link.{Awaited, LogTold}
 use Rattle.mg_link.specs.Moment.{Ending, finished, failed, LinkKeeps, Moment, step_ending}
 use Rattle.mg_link.specs.Pinned.{is_invalid}
 use Rattle.mg_link.specs.Session.{Session}
@@ -100,7 +100,7 @@ hears_rested c (step.Pending sending) c' r h = (h.0, h.1)
 hears_rested c (step.Done reply) c' r h = read_rested c reply c' r h
 hears_rested c (step.Failed e) c' r h = (h.0 ∙ behind_rested e.kind c, h.1)
 
-pub runs_rested : (old new : Awaited) (log log' : Told) (wire : ℤ) (started : Bool) (c d : ClientCursor) (sending : Sending) (c' : ClientCursor) (r : NextPoll) → d ≡ at_rest c → RunsMore old new log log' wire started d sending c' r → RunsMore old new log log' wire started c sending c' r
+pub runs_rested : (old new : Awaited) (log log' : LogTold) (wire : ℤ) (started : Bool) (c d : ClientCursor) (sending : Sending) (c' : ClientCursor) (r : NextPoll) → d ≡ at_rest c → RunsMore old new log log' wire started d sending c' r → RunsMore old new log log' wire started c sending c' r
 runs_rested old new log log' wire started c d sending c' r is h = record { came = h.came; runs = h.runs; hears = hears_rested c h.came c' r (subst (λ (x : ClientCursor). Hears x h.came c' r) is h.hears) }
 
 -- ---- a cursor at rest
@@ -182,5 +182,5 @@ kept_as c said id pinned token doing same bound same_token quiet =
 
 -- ---- the same poll of a cursor that is seen otherwise
 
-pub polls_as : (old new : Awaited) (log log' : Told) (wire : ℤ) (session : Option Session) (started : Bool) (c d c' : ClientCursor) (r : NextPoll) → d ≡ c → PollsNext old new log log' wire session started d c' r → PollsNext old new log log' wire session started c c' r
+pub polls_as : (old new : Awaited) (log log' : LogTold) (wire : ℤ) (session : Option Session) (started : Bool) (c d c' : ClientCursor) (r : NextPoll) → d ≡ c → PollsNext old new log log' wire session started d c' r → PollsNext old new log log' wire session started c c' r
 polls_as old new log log' wire session started c d c' r is h = subst (λ (x : ClientCursor). PollsNext old new log log' wire session started x c' r) is h

@@ -2,7 +2,7 @@
 use Rattle.std.proofs.Common.{◌≡◌, ◌≢◌, ℕ, ℤ, Bool, true, false, List, Option, option_map, refl, sym, ap, ◌∙◌, subst}
 use Rattle.mg_bson.specs.Raw.{fields}
 use Rattle.mg_link.specs.Exec.{Runs, Sending, Stage, unsent, first, second}
-use Rattle.mg_link.specs.Link.{Awaited, Told}
+use Rattle.mg_link.specs.Link.{Awaited, LogTold}
 use Rattle.mg_link.specs.Session.{Session, after_command}
 use Rattle.mg_link.specs.declared.action.Step.{Step}
 use Rattle.mg_link.specs.declared.action.Step.TheVariants as step
@@ -50,7 +50,7 @@ sound_read : (plain : Bool) (c c' : ClientCursor) (reply : List ℕ) (r : NextPo
 sound_read plain c c' reply r (gave said read is answer) = subst (IsSound plain) (sym is) tt
 sound_read plain c c' reply r (broke e fails is answer) = subst (IsSound plain) (sym is) tt
 
-pub sound_heard : (plain : Bool) (old new : Awaited) (log log' : Told) (wire : ℤ) (session : Option Session) (c c' : ClientCursor) (sending : Sending) (came : Step Sending (List ℕ)) (r : NextPoll) → PlainIf plain session → IsPolled c session sending → Runs old new log log' wire sending came → Hears c came c' r → IsSound plain c'
+pub sound_heard : (plain : Bool) (old new : Awaited) (log log' : LogTold) (wire : ℤ) (session : Option Session) (c c' : ClientCursor) (sending : Sending) (came : Step Sending (List ℕ)) (r : NextPoll) → PlainIf plain session → IsPolled c session sending → Runs old new log log' wire sending came → Hears c came c' r → IsSound plain c'
 sound_heard plain old new log log' wire session c c' sending (step.Pending next) r plainly is runs h =
     let w = waits_still old new log log' wire sending next is.single is.at runs in
     let waits_on : WaitsFor (get_more c session) next = record { command_is = ap fields w.same_command ∙ is.command_is; single = w.same_retries ∙ is.single; first_try = first_try next.stage w.ticket w.waits_by } in
@@ -67,7 +67,7 @@ polled_on plain c sending h = record {
   may = h.may;
 }
 
-pub sound_next : (plain : Bool) (old new : Awaited) (log log' : Told) (wire : ℤ) (session : Option Session) (started : Bool) (c c' : ClientCursor) (r : NextPoll) → IsSound plain c → PlainIf plain session → PollsNext old new log log' wire session started c c' r → IsSound plain c'
+pub sound_next : (plain : Bool) (old new : Awaited) (log log' : LogTold) (wire : ℤ) (session : Option Session) (started : Bool) (c c' : ClientCursor) (r : NextPoll) → IsSound plain c → PlainIf plain session → PollsNext old new log log' wire session started c c' r → IsSound plain c'
 sound_next plain old new log log' wire session started c c' r h plainly (hands_out reply at none same is answer) = subst (IsSound plain) (sym is) tt
 sound_next plain old new log log' wire session started c c' r h plainly (is_over at over none same is answer) = subst (IsSound plain) (sym is) h
 sound_next plain old new log log' wire session started c c' r h plainly (not_built at may e fails none same is answer) = subst (IsSound plain) (sym is) h
@@ -81,7 +81,7 @@ sound_next plain old new log log' wire session started c c' r h plainly (goes_on
 -- ---- closings
 
 -- what is left where the getMore on its way landed
-pub sound_lands : (old new : Awaited) (log log' : Told) (wire : ℤ) (c c' : ClientCursor) (r : NextPoll) → IsSound false c → LandsIn old new log log' wire c c' r → IsSound false c'
+pub sound_lands : (old new : Awaited) (log log' : LogTold) (wire : ℤ) (c c' : ClientCursor) (r : NextPoll) → IsSound false c → LandsIn old new log log' wire c c' r → IsSound false c'
 sound_lands old new log log' wire c c' r h (quiet not same_awaited same_log is answer) = subst (IsSound false) (sym is) tt
 sound_lands old new log log' wire c c' r h (heard sending at came runs hears) =
     let on : IsAsking false c sending = subst (SoundBy false c) at h in
@@ -119,7 +119,7 @@ to_kill c sending h = record {
 }
 
 -- one that pends waits
-pub kills_still : (old new : Awaited) (log log' : Told) (wire : ℤ) (c : ClientCursor) (sending next : Sending) → IsToKill c sending → Runs old new log log' wire sending (step.Pending next) → IsKilling c next
+pub kills_still : (old new : Awaited) (log log' : LogTold) (wire : ℤ) (c : ClientCursor) (sending next : Sending) → IsToKill c sending → Runs old new log log' wire sending (step.Pending next) → IsKilling c next
 kills_still old new log log' wire c sending next is runs =
     let w = waits_still old new log log' wire sending next is.single (at_first sending.stage is.first_try) runs in
     record {

@@ -2,7 +2,7 @@
 use Rattle.std.proofs.Common.{◌≡◌, ℕ, ℤ, List, Option, Some, None, refl, sym, ap, subst}
 use Rattle.mg_link.specs.Acts.{EndsAtOnce, FailsByFault, Pended, ticket_after}
 use Rattle.mg_link.specs.Exec.{Sending, ticket_at, ticket_of}
-use Rattle.mg_link.specs.Link.{Awaited, Told}
+use Rattle.mg_link.specs.Link.{Awaited, LogTold}
 use Rattle.mg_link.specs.Moment.{Ending, IsAtOnce, LinkKeeps, LosesByFault, Moment, PendsJust, step_ending}
 use Rattle.mg_link.specs.declared.action.Step.{Step}
 use Rattle.mg_link.specs.declared.action.Step.TheVariants as step
@@ -43,7 +43,7 @@ heard_rest c (step.Pending sending) c' r ended h = absurd (ended h.1)
 heard_rest c (step.Done reply) c' r ended h = read_rest c reply c' r h
 heard_rest c (step.Failed e) c' r ended h = ap (λ (x : ClientCursor). x.doing) h.0
 
-pub lands_rest : (old new : Awaited) (log log' : Told) (wire : ℤ) (c c' : ClientCursor) (r : NextPoll) → (r ≡ next.Pending → ⊥) → LandsIn old new log log' wire c c' r → c'.doing ≡ rests
+pub lands_rest : (old new : Awaited) (log log' : LogTold) (wire : ℤ) (c c' : ClientCursor) (r : NextPoll) → (r ≡ next.Pending → ⊥) → LandsIn old new log log' wire c c' r → c'.doing ≡ rests
 lands_rest old new log log' wire c c' r ended (quiet not same_awaited same_log is answer) = ap (λ (x : ClientCursor). x.doing) is
 lands_rest old new log log' wire c c' r ended (heard sending at came runs hears) = heard_rest c came c' r ended hears
 
@@ -54,7 +54,7 @@ keeps_behind m mid m' ticket ticket' left first outcome is k same j =
 
 -- ---- what comes behind it
 
-module _ (old mid new : Awaited) (log log_mid log' : Told) (wire wire' : ℤ) (same_wire : wire' ≡ wire) (c left : ClientCursor) (r : Step ClosingCursor (Unit {0})) where
+module _ (old mid new : Awaited) (log log_mid log' : LogTold) (wire wire' : ℤ) (same_wire : wire' ≡ wire) (c left : ClientCursor) (r : Step ClosingCursor (Unit {0})) where
   pub lands_behind : (p : NextPoll) → (p ≡ next.End → ⊥) → LandsIn old mid log log_mid wire c left p → BehindMore mid new log_mid log' wire left p r → ClosingPolls old new log log' wire (closed c) r
   lands_behind p other (quiet not same_awaited same_log is answer) behind = absurd (other answer)
   lands_behind p other (heard sending at came runs hears) behind =
@@ -85,12 +85,12 @@ module _ (old mid new : Awaited) (log log_mid log' : Told) (wire wire' : ℤ) (s
   quiet_behind (quiet not same_awaited same_log is answer) kills_it =
       begins refl not
       (subst (λ (x : ClientCursor). KillsCursor old new log log' wire x r) is
-      (subst (λ (l : Told). KillsCursor old new l log' wire left r) same_log
+      (subst (λ (l : LogTold). KillsCursor old new l log' wire left r) same_log
       (subst (λ (a : Awaited). KillsCursor a new log_mid log' wire left r) same_awaited (kills_over kills_it))))
   quiet_behind (heard sending at came runs hears) kills_it = absurd (none_heard came hears)
 
 -- it pends still
-pub pending_behind : (old mid : Awaited) (log log_mid : Told) (wire : ℤ) (c left : ClientCursor) → LandsIn old mid log log_mid wire c left next.Pending → ClosingPolls old mid log log_mid wire (closed c) (step.Pending (closed left))
+pub pending_behind : (old mid : Awaited) (log log_mid : LogTold) (wire : ℤ) (c left : ClientCursor) → LandsIn old mid log log_mid wire c left next.Pending → ClosingPolls old mid log log_mid wire (closed c) (step.Pending (closed left))
 pending_behind old mid log log_mid wire c left landed =
     lands_behind old mid mid log log_mid log_mid wire wire refl c left (step.Pending (closed left)) next.Pending (λ e. cc) landed (record { rest = λ m. refl; log_same = refl }, refl)
 

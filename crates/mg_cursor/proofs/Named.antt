@@ -2,7 +2,7 @@
 use Rattle.std.proofs.Common.{◌≡◌, ℕ, zero, suc, ℤ, Bool, true, false, List, Option, refl, sym, ap, ◌∙◌, subst}
 use Rattle.mg_bson.specs.Raw.{fields}
 use Rattle.mg_link.specs.Exec.{Sending}
-use Rattle.mg_link.specs.Link.{Awaited, Told}
+use Rattle.mg_link.specs.Link.{Awaited, LogTold}
 use Rattle.mg_link.specs.Session.{Session}
 use Rattle.mg_link.specs.Step.{ends_cursor}
 use Rattle.mg_link.specs.declared.action.Step.{Step}
@@ -46,7 +46,7 @@ hears_named c (step.Pending sending) c' r h named = named_as c c' (ap (λ (x : C
 hears_named c (step.Done reply) c' r h named = read_named c reply c' r h named
 hears_named c (step.Failed e) c' r h named = named_as c c' (ap (λ (x : ClientCursor). x.space) h.0 ∙ behind_space e.kind c) named
 
-pub next_named : (old new : Awaited) (log log' : Told) (wire : ℤ) (session : Option Session) (started : Bool) (c c' : ClientCursor) (r : NextPoll) → PollsNext old new log log' wire session started c c' r → IsNamed c.space → IsNamed c'.space
+pub next_named : (old new : Awaited) (log log' : LogTold) (wire : ℤ) (session : Option Session) (started : Bool) (c c' : ClientCursor) (r : NextPoll) → PollsNext old new log log' wire session started c c' r → IsNamed c.space → IsNamed c'.space
 next_named old new log log' wire session started c c' r (hands_out reply doing quiet none is answer) named = named_as c c' (ap (λ (x : ClientCursor). x.space) is) named
 next_named old new log log' wire session started c c' r (is_over doing over quiet none is answer) named = named_as c c' (ap (λ (x : ClientCursor). x.space) is) named
 next_named old new log log' wire session started c c' r (not_built doing may e fails quiet none is answer) named = named_as c c' (ap (λ (x : ClientCursor). x.space) is) named
@@ -55,7 +55,7 @@ next_named old new log log' wire session started c c' r (goes_on sending doing r
 
 -- ---- an advance, and calls of advances
 
-advance_named : (old new : Awaited) (log log' : Told) (wire : ℤ) (session : Option Session) (started : Bool) (d d' : DocumentCursor) (r : TryPoll) → AdvancesOnce old new log log' wire session started d d' r → IsNamed d.cursor.space → IsNamed d'.cursor.space
+advance_named : (old new : Awaited) (log log' : LogTold) (wire : ℤ) (session : Option Session) (started : Bool) (d d' : DocumentCursor) (r : TryPoll) → AdvancesOnce old new log log' wire session started d d' r → IsNamed d.cursor.space → IsNamed d'.cursor.space
 advance_named old new log log' wire session started d d' r (gives x xs these quiet none is answer) named = named_as d.cursor d'.cursor (ap (λ (e : DocumentCursor). e.cursor.space) is) named
 advance_named old new log log' wire session started d d' r (polls none_left c p asked takes) named =
     named_as c d'.cursor (ap (λ (x : ClientCursor). x.space) (takes_cursor d c p d' r takes)) (next_named old new log log' wire session started d.cursor c p asked named)
@@ -65,7 +65,7 @@ kept_space try.Pending d = refl
 kept_space (try.Ready a) d = refl
 kept_space (try.Failed e) d = refl
 
-pub tries_named : (old new : Awaited) (log log' : Told) (wire : ℤ) (session : Option Session) (started : Bool) (d d' : DocumentCursor) (r : TryPoll) → TriesAdvance old new log log' wire session started d d' r → IsNamed d.cursor.space → IsNamed d'.cursor.space
+pub tries_named : (old new : Awaited) (log log' : LogTold) (wire : ℤ) (session : Option Session) (started : Bool) (d d' : DocumentCursor) (r : TryPoll) → TriesAdvance old new log log' wire session started d d' r → IsNamed d.cursor.space → IsNamed d'.cursor.space
 tries_named old new log log' wire session started d d' r h named =
     named_as h.advanced.cursor d'.cursor (ap (λ (e : DocumentCursor). e.cursor.space) h.kept ∙ kept_space r h.advanced) (advance_named old new log log' wire session started d h.advanced r h.tries named)
 
@@ -74,7 +74,7 @@ ended_named try.Pending e d' r ends = ap (λ (x : DocumentCursor). x.cursor.spac
 ended_named (try.Ready a) e d' r ends = ap (λ (x : DocumentCursor). x.cursor.space) ends.1
 ended_named (try.Failed f) e d' r ends = ap (λ (x : DocumentCursor). x.cursor.space) ends.0
 
-pub seeks_named : (n : ℕ) (old new : Awaited) (log log' : Told) (wire : ℤ) (session : Option Session) (starts : ℕ) (d d' : DocumentCursor) (r : AdvancePoll) → SeeksDocument n old new log log' wire session starts d d' r → IsNamed d.cursor.space → IsNamed d'.cursor.space
+pub seeks_named : (n : ℕ) (old new : Awaited) (log log' : LogTold) (wire : ℤ) (session : Option Session) (starts : ℕ) (d d' : DocumentCursor) (r : AdvancePoll) → SeeksDocument n old new log log' wire session starts d d' r → IsNamed d.cursor.space → IsNamed d'.cursor.space
 unfolding SeeksDocument
 seeks_named zero old new log log' wire session starts d d' r last named =
     named_as last.advanced.cursor d'.cursor (ended_named last.poll last.advanced d' r last.ends) (advance_named old new log log' wire session last.started d last.advanced last.poll last.tries named)

@@ -5,7 +5,7 @@ use Rattle.mg_bson.specs.Raw.{fields}
 use Rattle.mg_bson.specs.Tree.{Fields}
 use Rattle.mg_link.specs.Exec.{IsSuccess}
 use Rattle.mg_link.specs.Follow.{Reads}
-use Rattle.mg_link.specs.Link.{Awaited, Sees, Told}
+use Rattle.mg_link.specs.Link.{Awaited, Sees, LogTold}
 use Rattle.mg_link.specs.Log.{Call, reply}
 use Rattle.mg_link.specs.Namespace.{space}
 use Rattle.mg_link.specs.Owner.{Passes}
@@ -38,7 +38,7 @@ module _ (q : Query) (size : Option ℕ) (s : CursorSpecification) (documents : 
   same_reader : (n : ℕ) → opened_at q n (batch_as said (map fields documents)) ≡ reader_in awaited (new_client s) (new_reader q n)
   same_reader n = ap (λ (l : List Fields). record { query = q; opened = n; doing = still; cursor = s.info.id; given = []; ahead = l; losses = 0; refused = false }) (sym ahead_is)
 
-  pub reader_came : (log log' : Told) (place : Option ℕ) → Sees log log' place (reply bytes) → (calls : List Call) → log ≡ Some calls → KnowsFinding calls q place
+  pub reader_came : (log log' : LogTold) (place : Option ℕ) → Sees log log' place (reply bytes) → (calls : List Call) → log ≡ Some calls → KnowsFinding calls q place
       → (calls' : List Call) × (log' ≡ Some calls') × (n : ℕ) × (place ≡ Some n) × KnowsRead calls' (reader_in awaited (new_client s) (new_reader q n)) × Passes calls calls' (finder place) (owner_of_reader (reader_in awaited (new_client s) (new_reader q n)))
   reader_came log log' place sees calls told k =
       let r = read_opened log log' q place bytes (batch_as said (map fields documents)) reads sees calls told k in (

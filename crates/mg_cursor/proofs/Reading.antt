@@ -6,7 +6,7 @@ use Rattle.mg_bson.specs.Tree.{Fields}
 use Rattle.mg_link.specs.Commands.{asked, asks_more, batch_of}
 use Rattle.mg_link.specs.Errors.{plain}
 use Rattle.mg_link.specs.Exec.{Runs, Sending, Stage, first, second, unsent}
-use Rattle.mg_link.specs.Link.{Awaited, Told}
+use Rattle.mg_link.specs.Link.{Awaited, LogTold}
 use Rattle.mg_link.specs.Reader.{Fetching, ReadMoved, Reader, fetching, still}
 use Rattle.mg_link.specs.Session.{Session}
 use Rattle.mg_link.specs.Step.{ends_cursor}
@@ -66,7 +66,7 @@ lost_weaker doing cursor ahead q ends = weaker doing cursor q q.given ahead ahea
 
 -- ---- what a poll of a getMore comes to
 
-module _ (new : Awaited) (log log' : Told) (g : Reader) (q : Reader) where
+module _ (new : Awaited) (log log' : LogTold) (g : Reader) (q : Reader) where
   -- a failure that did not end the cursor, or did
   lost_so : (cursor : ℤ) (ends : Bool) → ReadMoved log log' g (reads_at still cursor [] (record q { losses = q.losses + 1 })) → ReadMoved log log' g (reads_at still cursor [] (record q { losses = q.losses + 1; refused = q.refused || ends }))
   lost_so cursor ends m =
@@ -125,18 +125,18 @@ module _ (new : Awaited) (log log' : Told) (g : Reader) (q : Reader) where
 
 -- ---- a poll for the next batch
 
-polled_read : (old new : Awaited) (log log' : Told) (wire : ℤ) (session : Option Session) (c c' : ClientCursor) (sending : Sending) (came : Step Sending (List ℕ)) (r : NextPoll) (q : Reader) → IsNamed c.space → IsPolled c session sending → Runs old new log log' wire sending came → Hears c came c' r → ReadMoved log log' (reads_at (fetching_at old sending.stage) c.id [] q) (reader_in new c' (told_next r q))
+polled_read : (old new : Awaited) (log log' : LogTold) (wire : ℤ) (session : Option Session) (c c' : ClientCursor) (sending : Sending) (came : Step Sending (List ℕ)) (r : NextPoll) (q : Reader) → IsNamed c.space → IsPolled c session sending → Runs old new log log' wire sending came → Hears c came c' r → ReadMoved log log' (reads_at (fetching_at old sending.stage) c.id [] q) (reader_in new c' (told_next r q))
 polled_read old new log log' wire session c c' sending came r q named is runs h =
     let asks_so : asked sending.command ≡ asks_more c.id c.space = asks_for_more sending.command c.id c.space c.manner.size c.manner.wait c.manner.comment session named is.command_is in
     came_read new log log' (reads_at (fetching_at old sending.stage) c.id [] q) q old wire c sending came c' r is.single is.at runs
     (fetch_ran (reads_at still c.id [] q) old new log log' wire sending c.space came is.may.held asks_so is.single runs) h
 
 -- where the cursor does this
-from_doing : (old : Awaited) (log log' : Told) (c : ClientCursor) (d : Doing) (q q' : Reader) → c.doing ≡ d → ReadMoved log log' (reads_at (fetching_by old d) c.id ([] ++ in_reply d) q) q' → ReadMoved log log' (reader_in old c q) q'
+from_doing : (old : Awaited) (log log' : LogTold) (c : ClientCursor) (d : Doing) (q q' : Reader) → c.doing ≡ d → ReadMoved log log' (reads_at (fetching_by old d) c.id ([] ++ in_reply d) q) q' → ReadMoved log log' (reader_in old c q) q'
 from_doing old log log' c d q q' is m = subst (λ (x : Doing). ReadMoved log log' (reads_at (fetching_by old x) c.id ([] ++ in_reply x) q) q') (sym is) m
 
 -- nothing was called, and the cursor is the same
-quiet_read : (old new : Awaited) (log log' : Told) (c c' : ClientCursor) (r r' : NextPoll) (q : Reader) → log' ≡ log → c.doing ≡ rests → c' ≡ c → r' ≡ r → IsWeaker (reads_at still c.id [] q) (reads_at still c.id [] (told_next r q)) → ReadMoved log log' (reader_in old c q) (reader_in new c' (told_next r' q))
+quiet_read : (old new : Awaited) (log log' : LogTold) (c c' : ClientCursor) (r r' : NextPoll) (q : Reader) → log' ≡ log → c.doing ≡ rests → c' ≡ c → r' ≡ r → IsWeaker (reads_at still c.id [] q) (reads_at still c.id [] (told_next r q)) → ReadMoved log log' (reader_in old c q) (reader_in new c' (told_next r' q))
 quiet_read old new log log' c c' r r' q same at_rest_so is answer w =
     from_doing old log log' c rests q (reader_in new c' (told_next r' q)) at_rest_so
     (subst (λ (x : NextPoll). ReadMoved log log' (reads_at still c.id [] q) (reader_in new c' (told_next x q))) (sym answer)
@@ -144,7 +144,7 @@ quiet_read old new log log' c c' r r' q same at_rest_so is answer w =
     (subst (λ (x : Doing). ReadMoved log log' (reads_at still c.id [] q) (reads_at (fetching_by new x) c.id ([] ++ in_reply x) (told_next r q))) (sym at_rest_so)
     (read_weaker log log' (reads_at still c.id [] q) (reads_at still c.id [] (told_next r q)) same w))))
 
-pub next_read : (plain : Bool) (old new : Awaited) (log log' : Told) (wire : ℤ) (session : Option Session) (started : Bool) (c c' : ClientCursor) (r : NextPoll) → IsSound plain c → IsNamed c.space → PollsNext old new log log' wire session started c c' r → (q : Reader) → ReadMoved log log' (reader_in old c q) (reader_in new c' (told_next r q))
+pub next_read : (plain : Bool) (old new : Awaited) (log log' : LogTold) (wire : ℤ) (session : Option Session) (started : Bool) (c c' : ClientCursor) (r : NextPoll) → IsSound plain c → IsNamed c.space → PollsNext old new log log' wire session started c c' r → (q : Reader) → ReadMoved log log' (reader_in old c q) (reader_in new c' (told_next r q))
 next_read plain old new log log' wire session started c c' r sound named (hands_out reply held none same is answer) = λ q.
     from_doing old log log' c (holds reply) q (reader_in new c' (told_next r q)) held
     (subst (λ (x : NextPoll). ReadMoved log log' (reads_at still c.id (batch_documents reply) q) (reader_in new c' (told_next x q))) (sym answer)
@@ -184,7 +184,7 @@ give_one q x xs left = sym (append_assoc q.given (x ∷ []) (xs ++ left))
 give_first : (q : Reader) (x : Fields) (xs left : List Fields) → (q.given ++ x ∷ xs) ++ left ≡ (q.given ++ x ∷ []) ++ (xs ++ left)
 give_first q x xs left = append_assoc q.given (x ∷ xs) left ∙ give_one q x xs left
 
-module _ (new : Awaited) (log' : Told) (d d' : DocumentCursor) (q : Reader) where
+module _ (new : Awaited) (log' : LogTold) (d d' : DocumentCursor) (q : Reader) where
   -- where the reader of the batch as a whole stands, there stands that of its documents
   filled_read : (c : ClientCursor) (documents : List (List ℕ)) → ReadMoved log' log' (reader_in new c (with_given (map fields documents) q)) (reader_of new (filled_with c documents d) (told_try (advance_by documents) (filled_with c documents d).current q))
   filled_read c [] =
@@ -200,7 +200,7 @@ module _ (new : Awaited) (log' : Told) (d d' : DocumentCursor) (q : Reader) wher
       read_weaker log' log' (reader_in new c (with_given [] q)) (reader_of new (filled_with c [] d) (with_loss e q)) refl
       (record { query = refl; opened = refl; doing = refl; cursor = refl; these = ap (λ (l : List Fields). l ++ in_reply c.doing) (append-nil q.given); losses = omega arith; refused = λ is. or_left q.refused (is_ending e.kind) is })
 
-  module _ (log : Told) (g : Reader) where
+  module _ (log : LogTold) (g : Reader) where
     -- the cursor and the poll, as they were seen
     as_seen : (e : DocumentCursor) (r r' : TryPoll) → d' ≡ e → r' ≡ r → ReadMoved log log' g (reader_of new e (told_try r e.current q)) → ReadMoved log log' g (reader_of new d' (told_try r' d'.current q))
     as_seen e r r' is answer m =
@@ -223,7 +223,7 @@ module _ (new : Awaited) (log' : Told) (d d' : DocumentCursor) (q : Reader) wher
     takes_read c next.End r h m = as_seen (filled_with c [] d) (try.Ready result.Exhausted) r h.0 h.1 m
     takes_read c (next.Failed e) r h m = as_seen (filled_with c [] d) (try.Failed e) r h.0 h.1 m
 
-pub advance_read : (plain : Bool) (old new : Awaited) (log log' : Told) (wire : ℤ) (session : Option Session) (started : Bool) (d d' : DocumentCursor) (r : TryPoll) → IsSound plain d.cursor → IsNamed d.cursor.space → AdvancesOnce old new log log' wire session started d d' r → (q : Reader) → ReadMoved log log' (reader_of old d q) (reader_of new d' (told_try r d'.current q))
+pub advance_read : (plain : Bool) (old new : Awaited) (log log' : LogTold) (wire : ℤ) (session : Option Session) (started : Bool) (d d' : DocumentCursor) (r : TryPoll) → IsSound plain d.cursor → IsNamed d.cursor.space → AdvancesOnce old new log log' wire session started d d' r → (q : Reader) → ReadMoved log log' (reader_of old d q) (reader_of new d' (told_try r d'.current q))
 advance_read plain old new log log' wire session started d d' r sound named (gives x xs these none same is answer) = λ q.
     let before : Reader = reads_at (fetching_by old d.cursor.doing) d.cursor.id (map fields (x ∷ xs) ++ in_reply d.cursor.doing) q in
     let e : DocumentCursor = record d { current = Some x; behind = xs } in
@@ -242,7 +242,7 @@ kept_read awaited try.Pending d q = refl
 kept_read awaited (try.Ready a) d q = refl
 kept_read awaited (try.Failed e) d q = refl
 
-pub tries_read : (plain : Bool) (old new : Awaited) (log log' : Told) (wire : ℤ) (session : Option Session) (started : Bool) (d d' : DocumentCursor) (r : TryPoll) → IsSound plain d.cursor → IsNamed d.cursor.space → TriesAdvance old new log log' wire session started d d' r → (q : Reader) → ReadMoved log log' (reader_of old d q) (reader_of new d' (told_try r d'.current q))
+pub tries_read : (plain : Bool) (old new : Awaited) (log log' : LogTold) (wire : ℤ) (session : Option Session) (started : Bool) (d d' : DocumentCursor) (r : TryPoll) → IsSound plain d.cursor → IsNamed d.cursor.space → TriesAdvance old new log log' wire session started d d' r → (q : Reader) → ReadMoved log log' (reader_of old d q) (reader_of new d' (told_try r d'.current q))
 tries_read plain old new log log' wire session started d d' r sound named h q =
     subst (λ (x : DocumentCursor). ReadMoved log log' (reader_of old d q) (reader_of new x (told_try r x.current q))) (sym h.kept)
     (subst (ReadMoved log log' (reader_of old d q)) (sym (kept_read new r h.advanced q)) (advance_read plain old new log log' wire session started d h.advanced r sound named h.tries q))
@@ -254,7 +254,7 @@ passes_named : (bytes : List ℕ) (c c' : ClientCursor) → IsNamed c.space → 
 passes_named bytes c c' named (was_held held is) = subst (λ (x : ClientCursor). IsNamed x.space) (sym is) named
 passes_named bytes c c' named (by_reply said heard says is) = subst (λ (x : ClientCursor). IsNamed x.space) (sym is) (named_read (fields bytes) said says)
 
-ready_read : (awaited : Awaited) (log log' : Told) (g : Reader) (e d' : DocumentCursor) (a : AdvanceResult (Unit {0})) (r : AdvancePoll) (q : Reader) → EndsSeeking (try.Ready a) e d' r → ReadMoved log log' g (reader_of awaited e (told_try (try.Ready a) e.current q)) → ReadMoved log log' g (reader_of awaited d' (told_advance r d'.current q))
+ready_read : (awaited : Awaited) (log log' : LogTold) (g : Reader) (e d' : DocumentCursor) (a : AdvanceResult (Unit {0})) (r : AdvancePoll) (q : Reader) → EndsSeeking (try.Ready a) e d' r → ReadMoved log log' g (reader_of awaited e (told_try (try.Ready a) e.current q)) → ReadMoved log log' g (reader_of awaited d' (told_advance r d'.current q))
 ready_read awaited log log' g e d' (result.Advanced t) r q ends m =
     subst (λ (x : AdvancePoll). ReadMoved log log' g (reader_of awaited d' (told_advance x d'.current q))) (sym ends.2) (subst (λ (x : DocumentCursor). ReadMoved log log' g (reader_of awaited x (with_current x.current q))) (sym ends.1) m)
 ready_read awaited log log' g e d' result.Exhausted r q ends m =
@@ -266,7 +266,7 @@ ready_read awaited log log' g e d' result.Waiting r q ends m =
     (reader_on log log' log' g (reader_of awaited e q) (reader_of awaited e (record q { losses = q.losses + 1; refused = q.refused || false })) m
     (read_weaker log' log' (reader_of awaited e q) (reader_of awaited e (record q { losses = q.losses + 1; refused = q.refused || false })) refl (lost_weaker (fetching_by awaited e.cursor.doing) e.cursor.id ahead q false))))
 
-ended_read : (awaited : Awaited) (log log' : Told) (g : Reader) (e d' : DocumentCursor) (p : TryPoll) (r : AdvancePoll) (q : Reader) → EndsSeeking p e d' r → ReadMoved log log' g (reader_of awaited e (told_try p e.current q)) → ReadMoved log log' g (reader_of awaited d' (told_advance r d'.current q))
+ended_read : (awaited : Awaited) (log log' : LogTold) (g : Reader) (e d' : DocumentCursor) (p : TryPoll) (r : AdvancePoll) (q : Reader) → EndsSeeking p e d' r → ReadMoved log log' g (reader_of awaited e (told_try p e.current q)) → ReadMoved log log' g (reader_of awaited d' (told_advance r d'.current q))
 ended_read awaited log log' g e d' try.Pending r q ends m =
     subst (λ (x : AdvancePoll). ReadMoved log log' g (reader_of awaited d' (told_advance x d'.current q))) (sym ends.1) (subst (λ (x : DocumentCursor). ReadMoved log log' g (reader_of awaited x q)) (sym ends.0) m)
 ended_read awaited log log' g e d' (try.Ready a) r q ends m = ready_read awaited log log' g e d' a r q ends m
@@ -277,7 +277,7 @@ ended_read awaited log log' g e d' (try.Failed f) r q ends m =
 sound_rest : (plain : Bool) (c : ClientCursor) → c.doing ≡ rests → IsSound plain c
 sound_rest plain c is = subst (SoundBy plain c) (sym is) tt
 
-pub seeks_read : (n : ℕ) (plain : Bool) (old new : Awaited) (log log' : Told) (wire : ℤ) (session : Option Session) (starts : ℕ) (d d' : DocumentCursor) (r : AdvancePoll) → IsSound plain d.cursor → IsNamed d.cursor.space → SeeksDocument n old new log log' wire session starts d d' r → (q : Reader) → ReadMoved log log' (reader_of old d q) (reader_of new d' (told_advance r d'.current q))
+pub seeks_read : (n : ℕ) (plain : Bool) (old new : Awaited) (log log' : LogTold) (wire : ℤ) (session : Option Session) (starts : ℕ) (d d' : DocumentCursor) (r : AdvancePoll) → IsSound plain d.cursor → IsNamed d.cursor.space → SeeksDocument n old new log log' wire session starts d d' r → (q : Reader) → ReadMoved log log' (reader_of old d q) (reader_of new d' (told_advance r d'.current q))
 unfolding SeeksDocument
 seeks_read zero plain old new log log' wire session starts d d' r sound named last = λ q.
     ended_read new log log' (reader_of old d q) last.advanced d' last.poll r q last.ends (advance_read plain old new log log' wire session last.started d last.advanced last.poll sound named last.tries q)
@@ -296,7 +296,7 @@ seeks_read (suc n) plain old new log log' wire session starts d d' r sound named
 -- ---- a copy of the document
 
 -- a copy that found no memory
-uncopied_read : (awaited : Awaited) (log log' : Told) (g : Reader) (d : DocumentCursor) (current : Option (List ℕ)) (e : Error) (q : Reader) → ReadMoved log log' g (reader_of awaited d (with_current current q)) → ReadMoved log log' g (reader_of awaited d (with_current current (with_loss e q)))
+uncopied_read : (awaited : Awaited) (log log' : LogTold) (g : Reader) (d : DocumentCursor) (current : Option (List ℕ)) (e : Error) (q : Reader) → ReadMoved log log' g (reader_of awaited d (with_current current q)) → ReadMoved log log' g (reader_of awaited d (with_current current (with_loss e q)))
 uncopied_read awaited log log' g d None e q m =
     let ahead : List Fields = map fields d.behind ++ in_reply d.cursor.doing in
     reader_on log log' log' g (reader_of awaited d q) (reader_of awaited d (with_loss e q)) m
@@ -307,7 +307,7 @@ uncopied_read awaited log log' g d (Some x) e q m =
     reader_on log log' log' g (reader_of awaited d given) (reader_of awaited d (with_loss e given)) m
     (read_weaker log' log' (reader_of awaited d given) (reader_of awaited d (with_loss e given)) refl (lost_weaker (fetching_by awaited d.cursor.doing) d.cursor.id ahead given (is_ending e.kind)))
 
-copied_read : (awaited : Awaited) (log log' : Told) (g : Reader) (d : DocumentCursor) (there : Bool) (r : ItemPoll) (q : Reader) → CopiesIf there d r → ReadMoved log log' g (reader_of awaited d (told_advance (advance.Ready there) d.current q)) → ReadMoved log log' g (reader_of awaited d (told_item r d.current q))
+copied_read : (awaited : Awaited) (log log' : LogTold) (g : Reader) (d : DocumentCursor) (there : Bool) (r : ItemPoll) (q : Reader) → CopiesIf there d r → ReadMoved log log' g (reader_of awaited d (told_advance (advance.Ready there) d.current q)) → ReadMoved log log' g (reader_of awaited d (told_item r d.current q))
 copied_read awaited log log' g d true r q (inl copy) m =
     subst (λ (x : ItemPoll). ReadMoved log log' g (reader_of awaited d (told_item x d.current q))) (sym copy.2) (subst (λ (o : Option (List ℕ)). ReadMoved log log' g (reader_of awaited d (with_current o q))) copy.1 m)
 copied_read awaited log log' g d true r q (inr room) m =
@@ -315,10 +315,10 @@ copied_read awaited log log' g d true r q (inr room) m =
 copied_read awaited log log' g d false r q none m = subst (λ (x : ItemPoll). ReadMoved log log' g (reader_of awaited d (told_item x d.current q))) (sym none) m
 
 -- a call that failed left no document
-failed_read_as : (awaited : Awaited) (log log' : Told) (g : Reader) (d : DocumentCursor) (e : Error) (q : Reader) → d.current ≡ None → ReadMoved log log' g (reader_of awaited d (with_loss e q)) → ReadMoved log log' g (reader_of awaited d (with_current d.current (with_loss e q)))
+failed_read_as : (awaited : Awaited) (log log' : LogTold) (g : Reader) (d : DocumentCursor) (e : Error) (q : Reader) → d.current ≡ None → ReadMoved log log' g (reader_of awaited d (with_loss e q)) → ReadMoved log log' g (reader_of awaited d (with_current d.current (with_loss e q)))
 failed_read_as awaited log log' g d e q none m = subst (λ (o : Option (List ℕ)). ReadMoved log log' g (reader_of awaited d (with_current o (with_loss e q)))) (sym none) m
 
-pub item_read : (awaited : Awaited) (log log' : Told) (g : Reader) (d : DocumentCursor) (p : AdvancePoll) (r : ItemPoll) (q : Reader) → SeekLeaves p d.current → CopiesCurrent p d r → ReadMoved log log' g (reader_of awaited d (told_advance p d.current q)) → ReadMoved log log' g (reader_of awaited d (told_item r d.current q))
+pub item_read : (awaited : Awaited) (log log' : LogTold) (g : Reader) (d : DocumentCursor) (p : AdvancePoll) (r : ItemPoll) (q : Reader) → SeekLeaves p d.current → CopiesCurrent p d r → ReadMoved log log' g (reader_of awaited d (told_advance p d.current q)) → ReadMoved log log' g (reader_of awaited d (told_item r d.current q))
 item_read awaited log log' g d advance.Pending r q leaves copies m = subst (λ (x : ItemPoll). ReadMoved log log' g (reader_of awaited d (told_item x d.current q))) (sym copies) m
 item_read awaited log log' g d (advance.Ready there) r q leaves copies m = copied_read awaited log log' g d there r q copies m
 item_read awaited log log' g d (advance.Failed e) r q leaves copies m =

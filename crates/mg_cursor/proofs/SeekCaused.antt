@@ -1,7 +1,7 @@
 -- What the polls of a call that seeks a document are caused by.
 use Rattle.std.proofs.Common.{◌≡◌, ◌⊎◌, ◌≤◌, ℕ, zero, suc, ℤ, Bool, true, false, List, [], ◌∷◌, length, Option, Some, option_map, refl, sym, ap, ◌∙◌, subst, inl, inr, le_trans}
 use Rattle.mg_link.specs.Calls.{Grows, IsOwn, Keeps, Past, past_of}
-use Rattle.mg_link.specs.Link.{Awaited, Told}
+use Rattle.mg_link.specs.Link.{Awaited, LogTold}
 use Rattle.mg_link.specs.Log.{Call}
 use Rattle.mg_link.specs.Moment.{Ending, pending, finished, failed}
 use Rattle.mg_link.specs.Session.{Session, after_command}
@@ -121,7 +121,7 @@ next_fails past session d e (inl (inl room)) = out_of_memory room
 next_fails past session d e (inl (inr cannot)) = not_built [] (at_rest d.cursor) 0 refl cannot
 next_fails past session d e (inr fails) = no_batch [] (at_rest d.cursor) refl (fails_rested past d.cursor e fails)
 
-module _ (awaited : Awaited) (past : Past) (old new : Awaited) (log log' : Told) (wire : ℤ) (session : Option Session) (started : Bool) (d d' : DocumentCursor) (r : TryPoll) where
+module _ (awaited : Awaited) (past : Past) (old new : Awaited) (log log' : LogTold) (wire : ℤ) (session : Option Session) (started : Bool) (d d' : DocumentCursor) (r : TryPoll) where
   gave_by : (bytes : List ℕ) (c : ClientCursor) (documents : List (List ℕ)) → d'.cursor ≡ c → documents_of bytes ≡ Some documents → Passes (HeardMore past d.cursor bytes) bytes d.cursor c → AdvanceCame awaited past session d d' (advance_by documents)
   gave_by bytes c [] is these passes = record { bytes = bytes; passes = subst (Passes (HeardMore past d.cursor bytes) bytes d.cursor) (sym is) passes; empty = these }
   gave_by bytes c (x ∷ xs) is these passes = tt
@@ -138,7 +138,7 @@ module _ (awaited : Awaited) (past : Past) (old new : Awaited) (log log' : Told)
   took_came c next.End asked came h = subst (AdvanceCame awaited past session d d') (sym h.1) tt
   took_came c (next.Failed e) asked came h = subst (AdvanceCame awaited past session d d') (sym h.1) (next_fails past session d e came)
 
-pub advance_caused : (old new : Awaited) (log log' : Told) (wire : ℤ) (session : Option Session) (started : Bool) (d d' : DocumentCursor) (r : TryPoll) → IsSound false d.cursor → AdvancesOnce old new log log' wire session started d d' r → (calls : List Call) → log ≡ Some calls → (places : List ℕ) → IsUnderway old (past_of places (length calls) calls wire) d.cursor
+pub advance_caused : (old new : Awaited) (log log' : LogTold) (wire : ℤ) (session : Option Session) (started : Bool) (d d' : DocumentCursor) (r : TryPoll) → IsSound false d.cursor → AdvancesOnce old new log log' wire session started d d' r → (calls : List Call) → log ≡ Some calls → (places : List ℕ) → IsUnderway old (past_of places (length calls) calls wire) d.cursor
     → (calls' : List Call) × (log' ≡ Some calls') × Keeps calls calls' × AdvanceCame new (past_of places (length calls) calls' wire) session d d' r
 advance_caused old new log log' wire session started d d' r sound (gives x xs these none same is answer) = λ calls told places underway.
     (calls, none.log_same ∙ told, same_keeps calls, subst (AdvanceCame new (past_of places (length calls) calls wire) session d d') (sym answer) tt)
@@ -153,7 +153,7 @@ tried_came awaited past session d e d' try.Pending came is = subst (λ (x : Docu
 tried_came awaited past session d e d' (try.Ready a) came is = tt
 tried_came awaited past session d e d' (try.Failed f) came is = came
 
-pub tries_caused : (old new : Awaited) (log log' : Told) (wire : ℤ) (session : Option Session) (started : Bool) (d d' : DocumentCursor) (r : TryPoll) → IsSound false d.cursor → TriesAdvance old new log log' wire session started d d' r → SeekCaused old new log log' wire session d d' (try_ending r)
+pub tries_caused : (old new : Awaited) (log log' : LogTold) (wire : ℤ) (session : Option Session) (started : Bool) (d d' : DocumentCursor) (r : TryPoll) → IsSound false d.cursor → TriesAdvance old new log log' wire session started d d' r → SeekCaused old new log log' wire session d d' (try_ending r)
 tries_caused old new log log' wire session started d d' r sound h = λ calls told places underway.
     let x = advance_caused old new log log' wire session started d h.advanced r sound h.tries calls told places underway in
     (x.0, x.1, x.2, tried_came new (past_of places (length calls) x.0 wire) session d h.advanced d' r x.3 h.kept)
@@ -216,7 +216,7 @@ pub underway_rest : (awaited : Awaited) (past : Past) (c : ClientCursor) → c.d
 underway_rest awaited past c is = subst (UnderwayBy awaited past c) (sym is) tt
 
 -- the rest of the polls, seen from where the call was before an empty batch
-more_caused : (old between new : Awaited) (log log_between log' : Told) (wire : ℤ) (session : Option Session) (started : Bool) (d a e d' : DocumentCursor) (outcome : Ending) → e.cursor ≡ a.cursor
+more_caused : (old between new : Awaited) (log log_between log' : LogTold) (wire : ℤ) (session : Option Session) (started : Bool) (d a e d' : DocumentCursor) (outcome : Ending) → e.cursor ≡ a.cursor
     → ((calls : List Call) → log ≡ Some calls → (places : List ℕ) → IsUnderway old (past_of places (length calls) calls wire) d.cursor → (calls' : List Call) × (log_between ≡ Some calls') × Keeps calls calls' × GaveNone (past_of places (length calls) calls' wire) d a)
     → ((rests_on : e.cursor.doing ≡ rests) → SeekCaused between new log_between log' wire (session_after started session) e d' outcome) → SeekCaused old new log log' wire session d d' outcome
 more_caused old between new log log_between log' wire session started d a e d' outcome same first rest calls told places underway =
@@ -230,7 +230,7 @@ more_caused old between new log log_between log' wire session started d a e d' o
     let passes = passes_grow mid past' (log_grows places (length calls) x.0 y.0 wire y.2) x.3.bytes d.cursor e.cursor handed in
     (y.0, y.1, keeps_on calls x.0 y.0 x.2 y.2, came_before new past' x.3.bytes session started d e d' outcome passes came)
 
-pub seeks_caused : (n : ℕ) (old new : Awaited) (log log' : Told) (wire : ℤ) (session : Option Session) (starts : ℕ) (d d' : DocumentCursor) (r : AdvancePoll) → IsSound false d.cursor → SeeksDocument n old new log log' wire session starts d d' r → SeekCaused old new log log' wire session d d' (advance_ending r)
+pub seeks_caused : (n : ℕ) (old new : Awaited) (log log' : LogTold) (wire : ℤ) (session : Option Session) (starts : ℕ) (d d' : DocumentCursor) (r : AdvancePoll) → IsSound false d.cursor → SeeksDocument n old new log log' wire session starts d d' r → SeekCaused old new log log' wire session d d' (advance_ending r)
 unfolding SeeksDocument
 seeks_caused zero old new log log' wire session starts d d' r sound last = λ calls told places underway.
     let x = advance_caused old new log log' wire session last.started d last.advanced last.poll sound last.tries calls told places underway in
@@ -253,7 +253,7 @@ item_came awaited past session d d' advance.Pending r h came = subst (λ (x : It
 item_came awaited past session d d' (advance.Ready there) r h came = copied_came awaited past session d d' there r h
 item_came awaited past session d d' (advance.Failed e) r h came = subst (λ (x : ItemPoll). SeekCame awaited past session d d' (item_ending x)) (sym h) came
 
-pub item_caused : (old new : Awaited) (log log' : Told) (wire : ℤ) (session : Option Session) (d d' : DocumentCursor) (p : AdvancePoll) (r : ItemPoll) → CopiesCurrent p d' r → SeekCaused old new log log' wire session d d' (advance_ending p) → SeekCaused old new log log' wire session d d' (item_ending r)
+pub item_caused : (old new : Awaited) (log log' : LogTold) (wire : ℤ) (session : Option Session) (d d' : DocumentCursor) (p : AdvancePoll) (r : ItemPoll) → CopiesCurrent p d' r → SeekCaused old new log log' wire session d d' (advance_ending p) → SeekCaused old new log log' wire session d d' (item_ending r)
 item_caused old new log log' wire session d d' p r copies caused = λ calls told places underway.
     let x = caused calls told places underway in
     (x.0, x.1, x.2, item_came new (past_of places (length calls) x.0 wire) session d d' p r copies x.3)

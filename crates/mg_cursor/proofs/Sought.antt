@@ -1,7 +1,7 @@
 -- A call that seeks a document, one advance behind another.
 use Rattle.std.proofs.Common.{◌≡◌, ◌<◌, ◌≤◌, ◌+◌, ◌-◌, ℕ, zero, suc, ℤ, Bool, true, false, List, [], ◌∷◌, Option, Some, None, is_some, option_map, refl, sym, ap, ◌∙◌, subst, inl, inr, arith}
 use Rattle.mg_link.specs.Errors.{plain}
-use Rattle.mg_link.specs.Link.{Awaited, Told}
+use Rattle.mg_link.specs.Link.{Awaited, LogTold}
 use Rattle.mg_link.specs.Moment.{LinkKeeps, Moment, finished}
 use Rattle.mg_link.specs.Session.{Session, after_command}
 use Rattle.mg_link.specs.declared.error.ErrorKind.TheVariants as kind
@@ -120,21 +120,21 @@ plain_after plain false session h = h
 -- ---- advances so far
 
 -- A call came from one link, session and cursor to others by advances that got empty replies, and started so many commands: it seeks a document as it does from there.
-pub record Sought (old mid : Awaited) (log between : Told) (wire : ℤ) (session now : Option Session) (starts : ℕ) (d e : DocumentCursor) : Type 0 where
-  pub goes : (new : Awaited) (log' : Told) (n later : ℕ) (d' : DocumentCursor) (r : AdvancePoll) → SeeksDocument n mid new between log' wire now later e d' r → (empties : ℕ) × SeeksDocument empties old new log log' wire session (starts + later) d d' r
+pub record Sought (old mid : Awaited) (log between : LogTold) (wire : ℤ) (session now : Option Session) (starts : ℕ) (d e : DocumentCursor) : Type 0 where
+  pub goes : (new : Awaited) (log' : LogTold) (n later : ℕ) (d' : DocumentCursor) (r : AdvancePoll) → SeeksDocument n mid new between log' wire now later e d' r → (empties : ℕ) × SeeksDocument empties old new log log' wire session (starts + later) d d' r
 
-pub sought_none : (old : Awaited) (log : Told) (wire : ℤ) (session : Option Session) (d : DocumentCursor) → Sought old old log log wire session session 0 d d
+pub sought_none : (old : Awaited) (log : LogTold) (wire : ℤ) (session : Option Session) (d : DocumentCursor) → Sought old old log log wire session session 0 d d
 sought_none old log wire session d = record {
   goes = λ new log' n later d' r h. (n, subst (λ (k : ℕ). SeeksDocument n old new log log' wire session k d d' r) (let e : later ≡ 0 + later = omega arith in e) h);
 }
 
 -- one step more, and the rest
-seeks_on : (n : ℕ) (old between new : Awaited) (log log_between log' : Told) (wire : ℤ) (session : Option Session) (started : Bool) (later : ℕ) (d e d' : DocumentCursor) (r : AdvancePoll) → SeeksOn old between log log_between wire session started d e → SeeksDocument n between new log_between log' wire (session_after started session) later e d' r
+seeks_on : (n : ℕ) (old between new : Awaited) (log log_between log' : LogTold) (wire : ℤ) (session : Option Session) (started : Bool) (later : ℕ) (d e d' : DocumentCursor) (r : AdvancePoll) → SeeksOn old between log log_between wire session started d e → SeeksDocument n between new log_between log' wire (session_after started session) later e d' r
     → SeeksDocument (suc n) old new log log' wire session (one_if started + later) d d' r
 unfolding SeeksDocument
 seeks_on n old between new log log_between log' wire session started later d e d' r on h = (between, log_between, started, later, e, on, refl, h)
 
-pub sought_on : (old mid between : Awaited) (log log_mid log_between : Told) (wire : ℤ) (session now : Option Session) (starts : ℕ) (started : Bool) (d e f : DocumentCursor) → Sought old mid log log_mid wire session now starts d e → SeeksOn mid between log_mid log_between wire now started e f
+pub sought_on : (old mid between : Awaited) (log log_mid log_between : LogTold) (wire : ℤ) (session now : Option Session) (starts : ℕ) (started : Bool) (d e f : DocumentCursor) → Sought old mid log log_mid wire session now starts d e → SeeksOn mid between log_mid log_between wire now started e f
     → Sought old between log log_between wire session (session_after started now) (starts + one_if started) d f
 sought_on old mid between log log_mid log_between wire session now starts started d e f so on = record {
   goes = λ new log' n later d' r h.
@@ -142,18 +142,18 @@ sought_on old mid between log log_mid log_between wire session now starts starte
       (x.0, subst (λ (k : ℕ). SeeksDocument x.0 old new log log' wire session k d d' r) (let e : starts + (one_if started + later) ≡ starts + one_if started + later = omega arith in e) x.1);
 }
 
-seeks_last : (old new : Awaited) (log log' : Told) (wire : ℤ) (session : Option Session) (starts : ℕ) (d d' : DocumentCursor) (r : AdvancePoll) → SeeksLast old new log log' wire session starts d d' r → SeeksDocument zero old new log log' wire session starts d d' r
+seeks_last : (old new : Awaited) (log log' : LogTold) (wire : ℤ) (session : Option Session) (starts : ℕ) (d d' : DocumentCursor) (r : AdvancePoll) → SeeksLast old new log log' wire session starts d d' r → SeeksDocument zero old new log log' wire session starts d d' r
 unfolding SeeksDocument
 seeks_last old new log log' wire session starts d d' r h = h
 
 -- the last advance
-pub sought_last : (old mid new : Awaited) (log log_mid log' : Told) (wire : ℤ) (session now : Option Session) (starts : ℕ) (started : Bool) (d e f d' : DocumentCursor) (p : TryPoll) (r : AdvancePoll) → Sought old mid log log_mid wire session now starts d e → AdvancesOnce mid new log_mid log' wire now started e f p → EndsSeeking p f d' r
+pub sought_last : (old mid new : Awaited) (log log_mid log' : LogTold) (wire : ℤ) (session now : Option Session) (starts : ℕ) (started : Bool) (d e f d' : DocumentCursor) (p : TryPoll) (r : AdvancePoll) → Sought old mid log log_mid wire session now starts d e → AdvancesOnce mid new log_mid log' wire now started e f p → EndsSeeking p f d' r
     → (empties : ℕ) × SeeksDocument empties old new log log' wire session (starts + one_if started) d d' r
 sought_last old mid new log log_mid log' wire session now starts started d e f d' p r so tries ends =
     so.goes new log' zero (one_if started) d' r (seeks_last mid new log_mid log' wire now (one_if started) e d' r (record { started = started; starts_are = refl; advanced = f; poll = p; tries = tries; ends = ends }))
 
 -- the advances over the link, by the wire version that the call began with
-module _ (old mid new : Awaited) (log log_mid log' : Told) (wire wire' : ℤ) (same_wire : wire' ≡ wire) (session now : Option Session) (starts : ℕ) (started : Bool) (d e f : DocumentCursor) (p : TryPoll) where
+module _ (old mid new : Awaited) (log log_mid log' : LogTold) (wire wire' : ℤ) (same_wire : wire' ≡ wire) (session now : Option Session) (starts : ℕ) (started : Bool) (d e f : DocumentCursor) (p : TryPoll) where
   over_wire : AdvancesOnce mid new log_mid log' wire' now started e f p → AdvancesOnce mid new log_mid log' wire now started e f p
   over_wire h = subst (λ (w : ℤ). AdvancesOnce mid new log_mid log' w now started e f p) same_wire h
 
@@ -173,7 +173,7 @@ module _ (old mid new : Awaited) (log log_mid log' : Told) (wire wire' : ℤ) (s
 
 -- ---- what is on its way stays the getMore of the cursor
 
-pub seeks_sound : (n : ℕ) (plain : Bool) (old new : Awaited) (log log' : Told) (wire : ℤ) (session : Option Session) (starts : ℕ) (d d' : DocumentCursor) (r : AdvancePoll) → IsSound plain d.cursor → PlainIf plain session → SeeksDocument n old new log log' wire session starts d d' r → IsSound plain d'.cursor
+pub seeks_sound : (n : ℕ) (plain : Bool) (old new : Awaited) (log log' : LogTold) (wire : ℤ) (session : Option Session) (starts : ℕ) (d d' : DocumentCursor) (r : AdvancePoll) → IsSound plain d.cursor → PlainIf plain session → SeeksDocument n old new log log' wire session starts d d' r → IsSound plain d'.cursor
 unfolding SeeksDocument
 seeks_sound zero plain old new log log' wire session starts d d' r h plainly last =
     subst (IsSound plain) (sym (ended_cursor last.poll last.advanced d' r last.ends)) (advance_sound plain old new log log' wire session last.started d last.advanced last.poll h plainly last.tries)
@@ -214,11 +214,11 @@ kept_current try.Pending d = refl
 kept_current (try.Ready a) d = refl
 kept_current (try.Failed e) d = refl
 
-advance_leaves : (old new : Awaited) (log log' : Told) (wire : ℤ) (session : Option Session) (started : Bool) (d d' : DocumentCursor) (r : TryPoll) → AdvancesOnce old new log log' wire session started d d' r → TryLeaves r d'.current
+advance_leaves : (old new : Awaited) (log log' : LogTold) (wire : ℤ) (session : Option Session) (started : Bool) (d d' : DocumentCursor) (r : TryPoll) → AdvancesOnce old new log log' wire session started d d' r → TryLeaves r d'.current
 advance_leaves old new log log' wire session started d d' r (gives x xs these none same is answer) = left_as (record d { current = Some x; behind = xs }) d' (try.Ready (result.Advanced tt)) r is answer refl
 advance_leaves old new log log' wire session started d d' r (polls none_left c p asked takes) = takes_leave d c p d' r takes
 
-pub tries_leave : (old new : Awaited) (log log' : Told) (wire : ℤ) (session : Option Session) (started : Bool) (d d' : DocumentCursor) (r : TryPoll) → TriesAdvance old new log log' wire session started d d' r → TryLeaves r d'.current
+pub tries_leave : (old new : Awaited) (log log' : LogTold) (wire : ℤ) (session : Option Session) (started : Bool) (d d' : DocumentCursor) (r : TryPoll) → TriesAdvance old new log log' wire session started d d' r → TryLeaves r d'.current
 tries_leave old new log log' wire session started d d' r h =
     subst (TryLeaves r) (sym (ap (λ (x : DocumentCursor). x.current) h.kept ∙ kept_current r h.advanced)) (advance_leaves old new log log' wire session started d h.advanced r h.tries)
 
@@ -236,7 +236,7 @@ ended_leaves try.Pending e d' r h ends = ended_as_left e d' advance.Pending r (a
 ended_leaves (try.Ready a) e d' r h ends = ended_as_left e d' (ended_as a) r (ap (λ (x : DocumentCursor). x.current) ends.1) ends.2 (ready_leaves a e.current h)
 ended_leaves (try.Failed f) e d' r h ends = ended_as_left e d' (advance.Failed f) r (ap (λ (x : DocumentCursor). x.current) ends.0) ends.1 h
 
-pub seeks_leave : (n : ℕ) (old new : Awaited) (log log' : Told) (wire : ℤ) (session : Option Session) (starts : ℕ) (d d' : DocumentCursor) (r : AdvancePoll) → SeeksDocument n old new log log' wire session starts d d' r → SeekLeaves r d'.current
+pub seeks_leave : (n : ℕ) (old new : Awaited) (log log' : LogTold) (wire : ℤ) (session : Option Session) (starts : ℕ) (d d' : DocumentCursor) (r : AdvancePoll) → SeeksDocument n old new log log' wire session starts d d' r → SeekLeaves r d'.current
 unfolding SeeksDocument
 seeks_leave zero old new log log' wire session starts d d' r last = ended_leaves last.poll last.advanced d' r (advance_leaves old new log log' wire session last.started d last.advanced last.poll last.tries) last.ends
 seeks_leave (suc n) old new log log' wire session starts d d' r more = seeks_leave n more.0 new more.1 log' wire (session_after more.2 session) more.3 more.4 d' r more.7

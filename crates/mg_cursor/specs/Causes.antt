@@ -3,7 +3,7 @@ use Rattle.std.specs.Prelude.{◌≡◌, ◌⊎◌, ℕ, ℤ, false, List, lengt
 use Rattle.mg_bson.specs.Raw.{fields}
 use Rattle.mg_link.specs.Calls.{Flies, HeardBy, Keeps, Past, RequestFails, past_of}
 use Rattle.mg_link.specs.Exec.{IsSuccess, Sending}
-use Rattle.mg_link.specs.Link.{Awaited, Told}
+use Rattle.mg_link.specs.Link.{Awaited, LogTold}
 use Rattle.mg_link.specs.Log.{Call, reply}
 use Rattle.mg_link.specs.Session.{Session}
 use Rattle.mg_link.specs.declared.error.Error.{Error}
@@ -52,6 +52,6 @@ NextCame awaited past session c c' next.End = (c.doing ≡ rests) × IsOver c
 NextCame awaited past session c c' (next.Failed e) = FailsBy (CannotAsk c session) e ⊎ MoreFails past c e
 
 -- A poll led on the call that had sent at these places before.
-abbrev pub NextCaused : Awaited → Awaited → Told → Told → ℤ → Option Session → ClientCursor → ClientCursor → NextPoll → Type 0
+abbrev pub NextCaused : Awaited → Awaited → LogTold → LogTold → ℤ → Option Session → ClientCursor → ClientCursor → NextPoll → Type 0
 NextCaused old new log log' wire session c c' r = (calls : List Call) → log ≡ Some calls → (places : List ℕ) → IsUnderway old (past_of places (length calls) calls wire) c
     → (calls' : List Call) × (log' ≡ Some calls') × Keeps calls calls' × NextCame new (past_of places (length calls) calls' wire) session c c' r

@@ -4,7 +4,7 @@ use Rattle.std.specs.Coded.{Coded, code_by, coded×, coded_option}
 use Rattle.mg_bson.specs.Raw.{fields}
 use Rattle.mg_link.specs.Calls.{Flies, HeardBy, Keeps, NoneBroken, Past, RequestFails, past_of}
 use Rattle.mg_link.specs.Exec.{IsSuccess, Runs, Sending, second, ticket_of}
-use Rattle.mg_link.specs.Link.{Awaited, SendsNothing, Told}
+use Rattle.mg_link.specs.Link.{Awaited, SendsNothing, LogTold}
 use Rattle.mg_link.specs.Log.{Call, reply}
 use Rattle.mg_link.specs.declared.action.Step.{Step}
 use Rattle.mg_link.specs.declared.action.Step.TheVariants as step
@@ -74,13 +74,13 @@ KillHears c (step.Done bytes) r = r ≡ step.Done tt
 KillHears c (step.Failed e) r = r ≡ step.Failed e
 
 -- a poll of the killCursors over the link, and what comes of it
-pub record KillRuns (old new : Awaited) (log log' : Told) (wire : ℤ) (c : ClientCursor) (sending : Sending) (r : Step ClosingCursor (Unit {0})) : Type 0 where
+pub record KillRuns (old new : Awaited) (log log' : LogTold) (wire : ℤ) (c : ClientCursor) (sending : Sending) (r : Step ClosingCursor (Unit {0})) : Type 0 where
   pub came : Step Sending (List ℕ)
   pub runs : Runs old new log log' wire sending came
   pub hears : KillHears c came r
 
 -- What a closing does once nothing else is on its way.
-pub data KillsCursor (old new : Awaited) (log log' : Told) (wire : ℤ) (c : ClientCursor) (r : Step ClosingCursor (Unit {0})) : Type 0 where
+pub data KillsCursor (old new : Awaited) (log log' : LogTold) (wire : ℤ) (c : ClientCursor) (r : Step ClosingCursor (Unit {0})) : Type 0 where
   -- there is nothing to kill, and nothing is sent
   nothing_left : IsOver c → SendsNothing old new log log' → r ≡ step.Done tt → KillsCursor old new log log' wire c r
   -- the killCursors is not built, and nothing is sent
@@ -91,23 +91,23 @@ pub data KillsCursor (old new : Awaited) (log log' : Told) (wire : ℤ) (c : Cli
 -- ---- a poll
 
 -- behind a getMore that failed: only want of memory is answered, and then nothing more is sent
-abbrev pub BehindFailure : Awaited → Awaited → Told → Told → ℤ → ClientCursor → Error → Step ClosingCursor (Unit {0}) → Type 0
+abbrev pub BehindFailure : Awaited → Awaited → LogTold → LogTold → ℤ → ClientCursor → Error → Step ClosingCursor (Unit {0}) → Type 0
 BehindFailure old new log log' wire c e r =
     ((e.kind ≡ kind.OutOfMemory) × SendsNothing old new log log' × (r ≡ step.Failed e))
     ⊎ ((e.kind ≢ kind.OutOfMemory) × KillsCursor old new log log' wire c r)
 
 -- what comes behind the getMore that was on its way, by what it came to
-abbrev pub BehindMore : Awaited → Awaited → Told → Told → ℤ → ClientCursor → NextPoll → Step ClosingCursor (Unit {0}) → Type 0
+abbrev pub BehindMore : Awaited → Awaited → LogTold → LogTold → ℤ → ClientCursor → NextPoll → Step ClosingCursor (Unit {0}) → Type 0
 BehindMore old new log log' wire c next.Pending r = SendsNothing old new log log' × (r ≡ step.Pending (closed c))
 BehindMore old new log log' wire c (next.Batch bytes) r = KillsCursor old new log log' wire c r
 BehindMore old new log log' wire c next.End r = ⊥
 BehindMore old new log log' wire c (next.Failed e) r = BehindFailure old new log log' wire c e r
 
 -- the getMore that was on its way ends first
-pub record LandsMore (old new : Awaited) (log log' : Told) (wire : ℤ) (c : ClientCursor) (sending : Sending) (r : Step ClosingCursor (Unit {0})) : Type 0 where
+pub record LandsMore (old new : Awaited) (log log' : LogTold) (wire : ℤ) (c : ClientCursor) (sending : Sending) (r : Step ClosingCursor (Unit {0})) : Type 0 where
   -- the link behind it
   pub between : Awaited
-  pub log_between : Told
+  pub log_between : LogTold
   pub came : Step Sending (List ℕ)
   pub runs : Runs old between log log_between wire sending came
   -- the cursor behind it, and what came of it
@@ -123,12 +123,12 @@ IsNotAsking (holds bytes) = Unit {0}
 IsNotAsking (asks sending) = ⊥
 
 -- What the getMore that is on its way comes to, for private clauses; where none is, the link is not called.
-pub data LandsIn (old new : Awaited) (log log' : Told) (wire : ℤ) (c c' : ClientCursor) (r : NextPoll) : Type 0 where
+pub data LandsIn (old new : Awaited) (log log' : LogTold) (wire : ℤ) (c c' : ClientCursor) (r : NextPoll) : Type 0 where
   quiet : IsNotAsking c.doing → new ≡ old → log' ≡ log → c' ≡ at_rest c → r ≡ next.End → LandsIn old new log log' wire c c' r
   heard : (sending : Sending) → c.doing ≡ asks sending → (came : Step Sending (List ℕ)) → Runs old new log log' wire sending came → Hears c came c' r → LandsIn old new log log' wire c c' r
 
 -- What a poll of a closing does, by what is on its way as it begins.
-pub data ClosingPolls (old new : Awaited) (log log' : Told) (wire : ℤ) (k : ClosingCursor) (r : Step ClosingCursor (Unit {0})) : Type 0 where
+pub data ClosingPolls (old new : Awaited) (log log' : LogTold) (wire : ℤ) (k : ClosingCursor) (r : Step ClosingCursor (Unit {0})) : Type 0 where
   lands : k.killing ≡ None → (sending : Sending) → k.cursor.doing ≡ asks sending → LandsMore old new log log' wire k.cursor sending r → ClosingPolls old new log log' wire k r
   begins : k.killing ≡ None → IsNotAsking k.cursor.doing → KillsCursor old new log log' wire (at_rest k.cursor) r → ClosingPolls old new log log' wire k r
   goes_on : (sending : Sending) → k.killing ≡ Some sending → KillRuns old new log log' wire k.cursor sending r → ClosingPolls old new log log' wire k r
@@ -179,6 +179,6 @@ ClosingCame awaited past k (step.Done t) = ClosingDone past k
 ClosingCame awaited past k (step.Failed e) = ClosingFails past k e
 
 -- A poll led on the closing that had sent at these places before.
-abbrev pub ClosingCaused : Awaited → Awaited → Told → Told → ℤ → ClosingCursor → Step ClosingCursor (Unit {0}) → Type 0
+abbrev pub ClosingCaused : Awaited → Awaited → LogTold → LogTold → ℤ → ClosingCursor → Step ClosingCursor (Unit {0}) → Type 0
 ClosingCaused old new log log' wire k r = (calls : List Call) → log ≡ Some calls → (places : List ℕ) → IsClosingUnderway old (past_of places (length calls) calls wire) k
     → (calls' : List Call) × (log' ≡ Some calls') × Keeps calls calls' × ClosingCame new (past_of places (length calls) calls' wire) k r

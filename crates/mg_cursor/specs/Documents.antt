@@ -1,7 +1,7 @@
 -- A cursor that gives its documents one by one: a list with a place.
 use Rattle.std.specs.Prelude.{◌≡◌, ◌≢◌, ◌⊎◌, refl, ℕ, ℤ, Bool, true, false, List, [], ◌∷◌, Option, Some, None, is_some, Result, Ok, Err}
 use Rattle.std.specs.Coded.{Coded, code_by, coded×, coded_ℕ, coded_list, coded_option}
-use Rattle.mg_link.specs.Link.{Awaited, SendsNothing, Told}
+use Rattle.mg_link.specs.Link.{Awaited, SendsNothing, LogTold}
 use Rattle.mg_link.specs.Moment.{Ending, pending, finished, failed}
 use Rattle.mg_link.specs.Session.{Session}
 use Rattle.mg_link.specs.declared.error.Error.{Error}
@@ -57,7 +57,7 @@ TakesNext d c next.End d' r = (d' ≡ filled_with c [] d) × (r ≡ try.Ready re
 TakesNext d c (next.Failed e) d' r = (d' ≡ filled_with c [] d) × (r ≡ try.Failed e)
 
 -- One advance: the next document received is given, and nothing is sent; where none is left, one batch is asked for.
-pub data AdvancesOnce (old new : Awaited) (log log' : Told) (wire : ℤ) (session : Option Session) (started : Bool) (d d' : DocumentCursor) (r : TryPoll) : Type 0 where
+pub data AdvancesOnce (old new : Awaited) (log log' : LogTold) (wire : ℤ) (session : Option Session) (started : Bool) (d d' : DocumentCursor) (r : TryPoll) : Type 0 where
   gives : (x : List ℕ) (xs : List (List ℕ)) → d.behind ≡ x ∷ xs → SendsNothing old new log log' → started ≡ false → d' ≡ record d { current = Some x; behind = xs } → r ≡ try.Ready (result.Advanced tt) → AdvancesOnce old new log log' wire session started d d' r
   polls : d.behind ≡ [] → (c : ClientCursor) (p : NextPoll) → PollsNext old new log log' wire session started d.cursor c p → TakesNext d c p d' r → AdvancesOnce old new log log' wire session started d d' r
 

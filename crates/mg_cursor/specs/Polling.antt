@@ -2,7 +2,7 @@
 use Rattle.std.specs.Prelude.{◌≡◌, ◌⊎◌, ℕ, ℤ, Bool, false, List, Option, Ok}
 use Rattle.mg_bson.specs.Raw.{fields}
 use Rattle.mg_link.specs.Exec.{RunsStarting, Sending}
-use Rattle.mg_link.specs.Link.{Awaited, SendsNothing, Told}
+use Rattle.mg_link.specs.Link.{Awaited, SendsNothing, LogTold}
 use Rattle.mg_link.specs.Moment.{Ending, pending, finished, failed}
 use Rattle.mg_link.specs.Session.{Session}
 use Rattle.mg_link.specs.declared.action.Step.{Step}
@@ -37,13 +37,13 @@ Hears c (step.Done reply) c' r = ReadsReply c reply c' r
 Hears c (step.Failed e) c' r = (c' ≡ behind_failure e c) × (r ≡ next.Failed e)
 
 -- A poll of a getMore over the link, and what comes of it.
-pub record RunsMore (old new : Awaited) (log log' : Told) (wire : ℤ) (started : Bool) (c : ClientCursor) (sending : Sending) (c' : ClientCursor) (r : NextPoll) : Type 0 where
+pub record RunsMore (old new : Awaited) (log log' : LogTold) (wire : ℤ) (started : Bool) (c : ClientCursor) (sending : Sending) (c' : ClientCursor) (r : NextPoll) : Type 0 where
   pub came : Step Sending (List ℕ)
   pub runs : RunsStarting old new log log' wire sending came started
   pub hears : Hears c came c' r
 
 -- What a poll for the next batch does, by what is in hand or on its way as it begins; `started` says whether a command was started in it.
-pub data PollsNext (old new : Awaited) (log log' : Told) (wire : ℤ) (session : Option Session) (started : Bool) (c c' : ClientCursor) (r : NextPoll) : Type 0 where
+pub data PollsNext (old new : Awaited) (log log' : LogTold) (wire : ℤ) (session : Option Session) (started : Bool) (c c' : ClientCursor) (r : NextPoll) : Type 0 where
   -- the reply in hand is handed out, and nothing is sent
   hands_out : (reply : List ℕ) → c.doing ≡ holds reply → SendsNothing old new log log' → started ≡ false → c' ≡ at_rest c → r ≡ next.Batch reply → PollsNext old new log log' wire session started c c' r
   -- nothing is asked for any more

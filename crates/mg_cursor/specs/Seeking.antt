@@ -3,7 +3,7 @@ use Rattle.std.specs.Prelude.{◌≡◌, ◌⊎◌, ◌<◌, ◌≤◌, ◌+◌,
 use Rattle.mg_bson.specs.Raw.{fields}
 use Rattle.mg_link.specs.Calls.{Keeps, Past, past_of}
 use Rattle.mg_link.specs.Errors.{plain}
-use Rattle.mg_link.specs.Link.{Awaited, Told}
+use Rattle.mg_link.specs.Link.{Awaited, LogTold}
 use Rattle.mg_link.specs.Log.{Call}
 use Rattle.mg_link.specs.Moment.{Ending, pending, finished, failed}
 use Rattle.mg_link.specs.Session.{Session, after_command}
@@ -64,7 +64,7 @@ kept_behind (try.Ready r) d = uncounted d
 kept_behind (try.Failed e) d = uncounted d
 
 -- What a call with one advance does.
-pub record TriesAdvance (old new : Awaited) (log log' : Told) (wire : ℤ) (session : Option Session) (started : Bool) (d d' : DocumentCursor) (r : TryPoll) : Type 0 where
+pub record TriesAdvance (old new : Awaited) (log log' : LogTold) (wire : ℤ) (session : Option Session) (started : Bool) (d d' : DocumentCursor) (r : TryPoll) : Type 0 where
   pub advanced : DocumentCursor
   pub tries : AdvancesOnce old new log log' wire session started d advanced r
   pub kept : d' ≡ kept_behind r advanced
@@ -90,7 +90,7 @@ EndsSeeking (try.Ready a) d d' r = IsEnough a d × (d' ≡ uncounted d) × (r �
 EndsSeeking (try.Failed e) d d' r = (d' ≡ uncounted d) × (r ≡ advance.Failed e)
 
 -- its last advance
-pub record SeeksLast (old new : Awaited) (log log' : Told) (wire : ℤ) (session : Option Session) (starts : ℕ) (d d' : DocumentCursor) (r : AdvancePoll) : Type 0 where
+pub record SeeksLast (old new : Awaited) (log log' : LogTold) (wire : ℤ) (session : Option Session) (starts : ℕ) (d d' : DocumentCursor) (r : AdvancePoll) : Type 0 where
   pub started : Bool
   pub starts_are : starts ≡ one_if started
   pub advanced : DocumentCursor
@@ -99,16 +99,16 @@ pub record SeeksLast (old new : Awaited) (log log' : Told) (wire : ℤ) (session
   pub ends : EndsSeeking poll advanced d' r
 
 -- an advance that gets an empty reply, and the link behind it
-pub record SeeksOn (old between : Awaited) (log log_between : Told) (wire : ℤ) (session : Option Session) (started : Bool) (d d' : DocumentCursor) : Type 0 where
+pub record SeeksOn (old between : Awaited) (log log_between : LogTold) (wire : ℤ) (session : Option Session) (started : Bool) (d d' : DocumentCursor) : Type 0 where
   pub advanced : DocumentCursor
   pub tries : AdvancesOnce old between log log_between wire session started d advanced (try.Ready result.Waiting)
   pub few : advanced.empty + 1 < most_empty
   pub counts : d' ≡ counted advanced
 
 -- What a call that seeks a document does, which gets so many empty replies in this poll before its last advance, and starts so many commands.
-unfoldable pub SeeksDocument : ℕ → Awaited → Awaited → Told → Told → ℤ → Option Session → ℕ → DocumentCursor → DocumentCursor → AdvancePoll → Type 0
+unfoldable pub SeeksDocument : ℕ → Awaited → Awaited → LogTold → LogTold → ℤ → Option Session → ℕ → DocumentCursor → DocumentCursor → AdvancePoll → Type 0
 SeeksDocument zero old new log log' wire session starts d d' r = SeeksLast old new log log' wire session starts d d' r
-SeeksDocument (suc n) old new log log' wire session starts d d' r = (between : Awaited) × (log_between : Told) × (started : Bool) × (later : ℕ) × (e : DocumentCursor)
+SeeksDocument (suc n) old new log log' wire session starts d d' r = (between : Awaited) × (log_between : LogTold) × (started : Bool) × (later : ℕ) × (e : DocumentCursor)
     × SeeksOn old between log log_between wire session started d e × (starts ≡ one_if started + later) × SeeksDocument n between new log_between log' wire (session_after started session) later e d' r
 
 -- ---- the document that is left
@@ -158,7 +158,7 @@ CopiesCurrent (advance.Ready there) d r = CopiesIf there d r
 CopiesCurrent (advance.Failed e) d r = r ≡ item.Failed e
 
 -- What a call that seeks a document and copies it does.
-pub record SeeksItem (empties : ℕ) (old new : Awaited) (log log' : Told) (wire : ℤ) (session : Option Session) (starts : ℕ) (d d' : DocumentCursor) (r : ItemPoll) : Type 0 where
+pub record SeeksItem (empties : ℕ) (old new : Awaited) (log log' : LogTold) (wire : ℤ) (session : Option Session) (starts : ℕ) (d d' : DocumentCursor) (r : ItemPoll) : Type 0 where
   pub poll : AdvancePoll
   pub seeks : SeeksDocument empties old new log log' wire session starts d d' poll
   pub copies : CopiesCurrent poll d' r
@@ -206,7 +206,7 @@ SeekCame awaited past session d d' finished = Unit {0}
 SeekCame awaited past session d d' (failed e) = SeekFails past session d e
 
 -- A poll led on the call that had sent at these places before.
-abbrev pub SeekCaused : Awaited → Awaited → Told → Told → ℤ → Option Session → DocumentCursor → DocumentCursor → Ending → Type 0
+abbrev pub SeekCaused : Awaited → Awaited → LogTold → LogTold → ℤ → Option Session → DocumentCursor → DocumentCursor → Ending → Type 0
 SeekCaused old new log log' wire session d d' outcome = (calls : List Call) → log ≡ Some calls → (places : List ℕ) → IsUnderway old (past_of places (length calls) calls wire) d.cursor
     → (calls' : List Call) × (log' ≡ Some calls') × Keeps calls calls' × SeekCame new (past_of places (length calls) calls' wire) session d d' outcome
 

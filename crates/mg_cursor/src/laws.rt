@@ -3,7 +3,7 @@ ghost use Rattle.std.specs.Prelude.{◌≡◌, ℕ, ℤ, Bool, List, [], Ok, Opt
 ghost use Rattle.mg_bson.specs.Tree.{Fields};
 ghost use Rattle.mg_link.specs.Commands.{asked, asks_query};
 ghost use Rattle.mg_link.specs.Exec.{IsSuccess};
-ghost use Rattle.mg_link.specs.Link.{Adds, Awaited, Sees, Told};
+ghost use Rattle.mg_link.specs.Link.{Adds, Awaited, Sees, LogTold};
 ghost use Rattle.mg_link.specs.Log.{Call, Sight, reply};
 ghost use Rattle.mg_link.specs.Owner.{Passes, nobody};
 ghost use Rattle.mg_link.specs.Query.{Query};
@@ -28,12 +28,12 @@ ghost use Rattle.mg_cursor.specs.declared.results.AdvanceResult.TheVariants as o
 /// The reader of a query's result, from the query's command on: the command is sent; it fails, and gives no cursor; or the reply to
 /// it comes, and a cursor is made of that.
 pub fn readers_open()
-    ensures sent { (log log' : Told) (q : Query) (place : Option ℕ) (command : List ℕ) (seen : Sight) → asked command ≡ asks_query q → Adds log log' command seen
+    ensures sent { (log log' : LogTold) (q : Query) (place : Option ℕ) (command : List ℕ) (seen : Sight) → asked command ≡ asks_query q → Adds log log' command seen
         → ((calls : List Call) → log ≡ Some calls → place ≡ Some (length calls)) → (calls : List Call) → log ≡ Some calls
         → (calls' : List Call) × (log' ≡ Some calls') × KnowsFinding calls' q place × Passes calls calls' nobody (finder place) }
-    ensures failed { (log log' : Told) (place : Option ℕ) (seen : Sight) → Sees log log' place seen → (q : Query) → (calls : List Call) → log ≡ Some calls → KnowsFinding calls q place
+    ensures failed { (log log' : LogTold) (place : Option ℕ) (seen : Sight) → Sees log log' place seen → (q : Query) → (calls : List Call) → log ≡ Some calls → KnowsFinding calls q place
         → (calls' : List Call) × (log' ≡ Some calls') × Passes calls calls' (finder place) nobody }
-    ensures came { (log log' : Told) (q : Query) (place size : Option ℕ) (s : CursorSpecification) (documents : List (List ℕ)) (awaited : Awaited) (bytes : List ℕ) → IsSuccess bytes → Opens size bytes s
+    ensures came { (log log' : LogTold) (q : Query) (place size : Option ℕ) (s : CursorSpecification) (documents : List (List ℕ)) (awaited : Awaited) (bytes : List ℕ) → IsSuccess bytes → Opens size bytes s
         → documents_of bytes ≡ Some documents → Sees log log' place (reply bytes) → (calls : List Call) → log ≡ Some calls → KnowsFinding calls q place
         → (calls' : List Call) × (log' ≡ Some calls') × (n : ℕ) × (place ≡ Some n) × KnowsRead calls' (reader_in awaited (new_client s) (new_reader q n))
         × Passes calls calls' (finder place) (owner_of_reader (reader_in awaited (new_client s) (new_reader q n))) }
@@ -43,11 +43,11 @@ pub fn readers_open()
 /// each poll.
 pub fn cursors_are_named()
     ensures told { (reply : Fields) (c : Cursor) → cursor_of reply ≡ Ok c → IsNamed c.space }
-    ensures polls { (old new : Awaited) (log log' : Told) (wire : ℤ) (session : Option Session) (started : Bool) (c c' : ClientCursor) (r : NextPoll)
+    ensures polls { (old new : Awaited) (log log' : LogTold) (wire : ℤ) (session : Option Session) (started : Bool) (c c' : ClientCursor) (r : NextPoll)
         → PollsNext old new log log' wire session started c c' r → IsNamed c.space → IsNamed c'.space }
-    ensures tries { (old new : Awaited) (log log' : Told) (wire : ℤ) (session : Option Session) (started : Bool) (d d' : DocumentCursor) (r : TryPoll)
+    ensures tries { (old new : Awaited) (log log' : LogTold) (wire : ℤ) (session : Option Session) (started : Bool) (d d' : DocumentCursor) (r : TryPoll)
         → TriesAdvance old new log log' wire session started d d' r → IsNamed d.cursor.space → IsNamed d'.cursor.space }
-    ensures seeks { (empties : ℕ) (old new : Awaited) (log log' : Told) (wire : ℤ) (session : Option Session) (starts : ℕ) (d d' : DocumentCursor) (r : AdvancePoll)
+    ensures seeks { (empties : ℕ) (old new : Awaited) (log log' : LogTold) (wire : ℤ) (session : Option Session) (starts : ℕ) (d d' : DocumentCursor) (r : AdvancePoll)
         → SeeksDocument empties old new log log' wire session starts d d' r → IsNamed d.cursor.space → IsNamed d'.cursor.space }
 {}
 
@@ -60,8 +60,8 @@ pub fn readers_end()
 /// A cursor says that there is no further document only where none is received and nothing is asked for any more: the server
 /// holds it no longer, or the connection that it is bound to was lost.
 pub fn ends_where_over()
-    ensures tries { (old new : Awaited) (log log' : Told) (wire : ℤ) (session : Option Session) (started : Bool) (d d' : DocumentCursor)
+    ensures tries { (old new : Awaited) (log log' : LogTold) (wire : ℤ) (session : Option Session) (started : Bool) (d d' : DocumentCursor)
         → AdvancesOnce old new log log' wire session started d d' (tried.Ready outcome.Exhausted) → IsAtEnd d' }
-    ensures seeks { (empties : ℕ) (old new : Awaited) (log log' : Told) (wire : ℤ) (session : Option Session) (starts : ℕ) (d d' : DocumentCursor)
+    ensures seeks { (empties : ℕ) (old new : Awaited) (log log' : LogTold) (wire : ℤ) (session : Option Session) (starts : ℕ) (d d' : DocumentCursor)
         → SeeksDocument empties old new log log' wire session starts d d' (advance.Ready false) → IsAtEnd d' }
 {}

@@ -2,7 +2,7 @@
 use Rattle.std.proofs.Common.{◌≡◌, ℕ, ℤ, Bool, true, false, List, [], length, Option, Some, None, refl, sym, ◌∙◌, subst, inl, inr, arith}
 use Rattle.std.specs.Prelude.{if◌then◌else◌}
 use Rattle.mg_link.specs.Calls.{Past, past_of}
-use Rattle.mg_link.specs.Link.{Awaited, Told}
+use Rattle.mg_link.specs.Link.{Awaited, LogTold}
 use Rattle.mg_link.specs.Log.{Call}
 use Rattle.mg_link.specs.declared.error.Error.{Error}
 use Rattle.mg_link.proofs.Calls.{same_keeps}
@@ -37,7 +37,7 @@ begun_underway : (awaited : Awaited) (past : Past) (aim : Aim) (t : Bool) → Ph
 begun_underway awaited past aim true = tt
 begun_underway awaited past aim false = tt
 
-module _ (checks_caused : ChecksCaused) (landings_caused : LandingsCaused) (old new : Awaited) (log log' : Told) (wire : ℤ) (u u' : ClientUpload) (sound : IsBetween u) where
+module _ (checks_caused : ChecksCaused) (landings_caused : LandingsCaused) (old new : Awaited) (log log' : LogTold) (wire : ℤ) (u u' : ClientUpload) (sound : IsBetween u) where
   sound_at : (d : Doing) → u.doing ≡ d → SoundBy u d
   sound_at d is = subst (SoundBy u) is sound.sound.by
 

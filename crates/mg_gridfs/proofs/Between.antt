@@ -1,6 +1,6 @@
 -- Between two polls an upload is sound, and behind an error it has ended.
 use Rattle.std.proofs.Common.{◌≡◌, ◌⊎◌, ◌<◌, ℕ, zero, suc, ℤ, List, [], length, Some, None, refl, sym, subst, inl, inr}
-use Rattle.mg_link.specs.Link.{Awaited, Told}
+use Rattle.mg_link.specs.Link.{Awaited, LogTold}
 use Rattle.mg_gridfs.specs.Calls.{Aborts, Closes, Drives, LeavesEnd, LeavesWrite, TakesNoClose, Writes, at_work, doing_behind, ended_by, first_phase, gives_up, gives_up_close, gives_up_write, goes_on, kept, landing_of, not_taken, refused, starts, stream_closed, with_bytes, write_in_progress, wrote_by}
 use Rattle.mg_gridfs.specs.Steps.{DoesSteps, IsLastStep, Stepped, done, failed, goes, ids_behind, waits}
 use Rattle.mg_gridfs.specs.Uploads as uploads
@@ -13,7 +13,7 @@ use Rattle.mg_gridfs.proofs.Keeping.{IsKept}
 use Rattle.mg_gridfs.proofs.Polled.{begun_sound, begun_writes, bounds_doing, landing_aborts, landing_closes, landing_sound, sound_doing}
 
 -- a poll ends with a last step
-last_step : (n : ℕ) (old new : Awaited) (log log' : Told) (wire : ℤ) (ids : ℕ → List ℕ) (drawn : ℕ) (u u' : ClientUpload) (p : Phase) (r : Stepped) → DoesSteps n old new log log' wire ids drawn u u' p r → IsLastStep r
+last_step : (n : ℕ) (old new : Awaited) (log log' : LogTold) (wire : ℤ) (ids : ℕ → List ℕ) (drawn : ℕ) (u u' : ClientUpload) (p : Phase) (r : Stepped) → DoesSteps n old new log log' wire ids drawn u u' p r → IsLastStep r
 unfolding DoesSteps
 last_step zero old new log log' wire ids drawn u u' p r d = d.1
 last_step (suc n) old new log log' wire ids drawn u u' p r d = last_step n d.0 new d.1 log' wire (ids_behind d.2 ids) d.3 d.4 u' d.5 r d.8
@@ -48,7 +48,7 @@ left_by close left done last stepped_so = refl
 left_by abort left done last stepped_so = refl
 left_by call left (failed e) last stepped_so = refl
 
-module _ (old new : Awaited) (log log' : Told) (wire : ℤ) (u u' : ClientUpload) (sound : IsBetween u) where
+module _ (old new : Awaited) (log log' : LogTold) (wire : ℤ) (u u' : ClientUpload) (sound : IsBetween u) where
   sound_at : (d : Doing) → u.doing ≡ d → SoundBy u d
   sound_at d is = subst (SoundBy u) is sound.sound.by
 

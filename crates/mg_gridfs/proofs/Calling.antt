@@ -3,7 +3,7 @@ use Rattle.std.proofs.Common.{◌≡◌, ℕ, ℤ, Bool, true, false, List, Opti
 use Rattle.std.specs.Prelude.{if◌then◌else◌}
 use Rattle.mg_link.specs.Acts.{IsOut}
 use Rattle.mg_link.specs.Errors.{plain}
-use Rattle.mg_link.specs.Link.{Awaited, Told}
+use Rattle.mg_link.specs.Link.{Awaited, LogTold}
 use Rattle.mg_link.specs.Moment.{Ending, LinkKeeps, Moment, failed, finished, pending}
 use Rattle.mg_link.specs.declared.error.Error.{Error}
 use Rattle.mg_link.specs.declared.error.ErrorKind.TheVariants as kind
@@ -185,7 +185,7 @@ module _ (u : ClientUpload) (between : IsBetween u) where
 
 -- ---- what a close does
 
-module _ (old new : Awaited) (log log' : Told) (wire : ℤ) (ids : ℕ → List ℕ) (drawn : ℕ) (moment : ℤ) (u u' : ClientUpload) (s : Stepped) (r : Step2) (answer : r ≡ ended_by s) where
+module _ (old new : Awaited) (log log' : LogTold) (wire : ℤ) (ids : ℕ → List ℕ) (drawn : ℕ) (moment : ℤ) (u u' : ClientUpload) (s : Stepped) (r : Step2) (answer : r ≡ ended_by s) where
   closes_on : (d : Doing) (p : Phase) → u.doing ≡ d → close_phase moment d ≡ Some p → Drives old new log log' wire ids drawn close u u' p s → Closes old new log log' wire ids drawn moment u u' r
   closes_on idle p is phase does = calls.starts is s (subst (λ (x : Phase). Drives old new log log' wire ids drawn close u u' x s) (sym (some_same (rests moment) p phase)) does) answer
   closes_on (busy (write piece) q) p is phase does = calls.gives_up piece q is s (subst (λ (x : Phase). Drives old new log log' wire ids drawn close u u' x s) (sym (some_same (landing_of q (Some write_in_progress)) p phase)) does) answer
@@ -225,7 +225,7 @@ no_close moment u none = no_close_at moment u.doing none
 
 -- ---- what an abort does
 
-module _ (old new : Awaited) (log log' : Told) (wire : ℤ) (u u' : ClientUpload) (s : Stepped) (r : Step2) (answer : r ≡ ended_by s) where
+module _ (old new : Awaited) (log log' : LogTold) (wire : ℤ) (u u' : ClientUpload) (s : Stepped) (r : Step2) (answer : r ≡ ended_by s) where
   aborts_on : (d : Doing) (p : Phase) → u.doing ≡ d → abort_phase d ≡ Some p → Abandons old new log log' wire u u' p s → Aborts old new log log' wire u u' r
   aborts_on idle p is phase does = calls.starts is s (subst (λ (x : Phase). Abandons old new log log' wire u u' x s) (sym (some_same (undoes None) p phase)) does) answer
   aborts_on (busy (write piece) q) p is phase does = calls.gives_up_write piece q is s (subst (λ (x : Phase). Abandons old new log log' wire u u' x s) (sym (some_same (landing_of q None) p phase)) does) answer

@@ -7,7 +7,7 @@ use Rattle.mg_bson.specs.Tree.{Fields}
 use Rattle.mg_link.specs.Calls.{Came, Flies, Grows, Past, past_of, was_broken}
 use Rattle.mg_link.specs.Exec.{Runs, Sending, Stage}
 use Rattle.mg_link.specs.Files.{AreChunks, chunked}
-use Rattle.mg_link.specs.Link.{Awaited, SendsNothing, Told}
+use Rattle.mg_link.specs.Link.{Awaited, SendsNothing, LogTold}
 use Rattle.mg_link.specs.Log.{Call, reply}
 use Rattle.mg_link.specs.declared.action.Step.{Step}
 use Rattle.mg_link.specs.declared.action.Step.TheVariants as came
@@ -121,7 +121,7 @@ as_undo close s (Some e) h = tt
 as_undo abort s None h = tt
 as_undo abort s (Some e) h = absurd h
 
-module _ (old new : Awaited) (log log' : Told) (u u' : ClientUpload) (r : Stepped) (bounds : HasBounds u) (calls : List Call) (told : log ≡ Some calls) (places : List ℕ) (since : ℕ) (room : since ≤ length calls) (wire : ℤ) (call : uploads.Call) where
+module _ (old new : Awaited) (log log' : LogTold) (u u' : ClientUpload) (r : Stepped) (bounds : HasBounds u) (calls : List Call) (told : log ≡ Some calls) (places : List ℕ) (since : ℕ) (room : since ≤ length calls) (wire : ℤ) (call : uploads.Call) where
   abbrev Behind : Type 0
   Behind = Grew places since calls log' wire (λ past. CausedStepped call new past u.aim r)
 
@@ -271,7 +271,7 @@ CheckTold check.passes awaited past aim = Unit {0}
 CheckTold (check.fails e) awaited past aim = CheckFails past aim.bucket e
 
 abbrev pub ChecksCaused : Type 0
-ChecksCaused = (old new : Awaited) (log log' : Told) (wire : ℤ) (aim : Aim) (c : ClientCheck) (t : CheckTurned) → IsSoundCheck aim.bucket c → ChecksOn old new log log' wire aim.bucket c t → (calls : List Call) → log ≡ Some calls → (places : List ℕ) (since : ℕ) → since ≤ length calls
+ChecksCaused = (old new : Awaited) (log log' : LogTold) (wire : ℤ) (aim : Aim) (c : ClientCheck) (t : CheckTurned) → IsSoundCheck aim.bucket c → ChecksOn old new log log' wire aim.bucket c t → (calls : List Call) → log ≡ Some calls → (places : List ℕ) (since : ℕ) → since ≤ length calls
     → CheckUnderway old (past_of places since calls wire) aim.bucket c → Grew places since calls log' wire (λ past. CheckTold t new past aim)
 
 abbrev pub LeftUnderway : Option ClientCheck → Awaited → Past → Aim → Type 0
@@ -279,12 +279,12 @@ LeftUnderway None awaited past aim = Unit {0}
 LeftUnderway (Some c) awaited past aim = CheckUnderway awaited past aim.bucket c
 
 abbrev pub LandingsCaused : Type 0
-LandingsCaused = (old new : Awaited) (log log' : Told) (wire : ℤ) (aim : Aim) (c : ClientCheck) (t : Option ClientCheck) → IsSoundCheck aim.bucket c → LandsCheck old new log log' wire c t → (calls : List Call) → log ≡ Some calls → (places : List ℕ) (since : ℕ) → since ≤ length calls
+LandingsCaused = (old new : Awaited) (log log' : LogTold) (wire : ℤ) (aim : Aim) (c : ClientCheck) (t : Option ClientCheck) → IsSoundCheck aim.bucket c → LandsCheck old new log log' wire c t → (calls : List Call) → log ≡ Some calls → (places : List ℕ) (since : ℕ) → since ≤ length calls
     → CheckUnderway old (past_of places since calls wire) aim.bucket c → Grew places since calls log' wire (λ past. LeftUnderway t new past aim)
 
 -- ---- a step
 
-module _ (checks_caused : ChecksCaused) (landings_caused : LandingsCaused) (old new : Awaited) (log log' : Told) (wire : ℤ) (u u' : ClientUpload) (p : Phase) (r : Stepped) (bounds : HasBounds u) (sound : IsSoundPhase u p) (calls : List Call) (told : log ≡ Some calls) (places : List ℕ) (since : ℕ) (room : since ≤ length calls) (call : uploads.Call) (of_call : IsOfCall call p) where
+module _ (checks_caused : ChecksCaused) (landings_caused : LandingsCaused) (old new : Awaited) (log log' : LogTold) (wire : ℤ) (u u' : ClientUpload) (p : Phase) (r : Stepped) (bounds : HasBounds u) (sound : IsSoundPhase u p) (calls : List Call) (told : log ≡ Some calls) (places : List ℕ) (since : ℕ) (room : since ≤ length calls) (call : uploads.Call) (of_call : IsOfCall call p) where
   as_step : (past : Past) (q : Stepped) → r ≡ q → CausedStepped call new past u.aim q → CausedStepped call new past u.aim r
   as_step past q is h = subst (λ (x : Stepped). CausedStepped call new past u.aim x) (sym is) h
 
@@ -370,7 +370,7 @@ module _ (checks_caused : ChecksCaused) (landings_caused : LandingsCaused) (old 
 
 -- ---- all steps
 
-pub steps_caused : ChecksCaused → LandingsCaused → (n : ℕ) (call : uploads.Call) (places : List ℕ) (since : ℕ) (wire : ℤ) (old new : Awaited) (log log' : Told) (ids : ℕ → List ℕ) (drawn : ℕ) (u u' : ClientUpload) (p : Phase) (r : Stepped) → HasBounds u → IsSoundPhase u p → IsOfCall call p
+pub steps_caused : ChecksCaused → LandingsCaused → (n : ℕ) (call : uploads.Call) (places : List ℕ) (since : ℕ) (wire : ℤ) (old new : Awaited) (log log' : LogTold) (ids : ℕ → List ℕ) (drawn : ℕ) (u u' : ClientUpload) (p : Phase) (r : Stepped) → HasBounds u → IsSoundPhase u p → IsOfCall call p
     → DoesSteps n old new log log' wire ids drawn u u' p r → (calls : List Call) → log ≡ Some calls → since ≤ length calls → PhaseUnderway old (past_of places since calls wire) u.aim p → Grew places since calls log' wire (λ past. CausedStepped call new past u.aim r)
 unfolding DoesSteps
 steps_caused checks_caused landings_caused zero call places since wire old new log log' ids drawn u u' p r bounds sound of_call d calls told room h = step_caused checks_caused landings_caused old new log log' wire u u' p r bounds sound calls told places since room call of_call ids drawn d.0 h

@@ -4,7 +4,7 @@ use Rattle.mg_bson.specs.Raw.{fields}
 use Rattle.mg_link.specs.Calls.{Came, Flies, Grows, Past, RequestFails, past_of, was_broken}
 use Rattle.mg_link.specs.Errors.{command_code}
 use Rattle.mg_link.specs.Exec.{Runs, Sending, Stage, unsent}
-use Rattle.mg_link.specs.Link.{Awaited, SendsNothing, Told}
+use Rattle.mg_link.specs.Link.{Awaited, SendsNothing, LogTold}
 use Rattle.mg_link.specs.Log.{Call}
 use Rattle.mg_link.specs.Moment.{Ending, pending, finished, failed}
 use Rattle.mg_link.specs.declared.action.Step.{Step}
@@ -97,7 +97,7 @@ module _ (new : Awaited) (past : Past) (aim : Aim) where
 
   -- ---- requests
 
-  module _ (old : Awaited) (log log' : Told) (wire : ℤ) (s : Sending) where
+  module _ (old : Awaited) (log log' : LogTold) (wire : ℤ) (s : Sending) where
     find_told : (c : Step Sending (List ℕ)) (t : CheckTurned) → Runs old new log log' wire s c → HearsFind aim.bucket c t → Came new past (fields_in (any_lines aim.bucket)) true c → IsTold t
     find_told (came.Pending s') t runs h flies = as_turned t (check.pends (finds s')) h flies
     find_told (came.Done bytes) t runs (check.some said says more is) heard = as_turned t check.passes is tt
@@ -162,7 +162,7 @@ module _ (new : Awaited) (past : Past) (aim : Aim) where
 -- ---- where the list stands behind an advance
 
 -- nothing was sent and the cursor is as it was, or nothing is on its way
-abbrev StandsBy : Awaited → Awaited → Told → Told → ClientCursor → ClientCursor → Type 0
+abbrev StandsBy : Awaited → Awaited → LogTold → LogTold → ClientCursor → ClientCursor → Type 0
 StandsBy old new log log' c c' = (SendsNothing old new log log' × (c' ≡ c)) ⊎ (c'.doing ≡ client.rests)
 
 abbrev IsReady : TryPoll → Type 0
@@ -176,7 +176,7 @@ answered d c (next.Batch bytes) d' r ready h = tt
 answered d c next.End d' r ready h = tt
 answered d c (next.Failed e) d' r ready h = tt
 
-advance_stands : (old new : Awaited) (log log' : Told) (wire : ℤ) (started : Bool) (d d' : DocumentCursor) (r : TryPoll) → IsReady r → AdvancesOnce old new log log' wire None started d d' r → StandsBy old new log log' d.cursor d'.cursor
+advance_stands : (old new : Awaited) (log log' : LogTold) (wire : ℤ) (started : Bool) (d d' : DocumentCursor) (r : TryPoll) → IsReady r → AdvancesOnce old new log log' wire None started d d' r → StandsBy old new log log' d.cursor d'.cursor
 advance_stands old new log log' wire started d d' r ready (gives x xs these quiet same is answer) = inl (quiet, ap (λ (e : DocumentCursor). e.cursor) is)
 advance_stands old new log log' wire started d d' r ready (polls none_left c p asked takes) =
     inr (ap (λ (x : ClientCursor). x.doing) (takes_cursor d c p d' r takes) ∙ next_rests old new log log' wire started d.cursor c p (answered d c p d' r ready takes) asked)
@@ -190,7 +190,7 @@ none_session : (started : Bool) → session_after started None ≡ None
 none_session true = refl
 none_session false = refl
 
-seek_stands : (n : ℕ) (old new : Awaited) (log log' : Told) (wire : ℤ) (starts : ℕ) (d d' : DocumentCursor) (r : AdvancePoll) → advance_ending r ≡ finished → SeeksDocument n old new log log' wire None starts d d' r → StandsBy old new log log' d.cursor d'.cursor
+seek_stands : (n : ℕ) (old new : Awaited) (log log' : LogTold) (wire : ℤ) (starts : ℕ) (d d' : DocumentCursor) (r : AdvancePoll) → advance_ending r ≡ finished → SeeksDocument n old new log log' wire None starts d d' r → StandsBy old new log log' d.cursor d'.cursor
 unfolding SeeksDocument
 seek_stands zero old new log log' wire starts d d' r over s =
     let ready = ready_of s.poll s.advanced d' r over s.ends in
@@ -208,7 +208,7 @@ seek_stands (suc n) old new log log' wire starts d d' r over s =
     ]
 
 -- what is known of a cursor that is as it was, or at rest
-stands_under : (old new : Awaited) (log log' : Told) (past past' : Past) (c c' : ClientCursor) → Grows past past' → IsUnderway old past c → StandsBy old new log log' c c' → IsUnderway new past' c'
+stands_under : (old new : Awaited) (log log' : LogTold) (past past' : Past) (c c' : ClientCursor) → Grows past past' → IsUnderway old past c → StandsBy old new log log' c c' → IsUnderway new past' c'
 stands_under old new log log' past past' c c' grows under (inr rested) = subst (UnderwayBy new past' c') (sym rested) tt
 stands_under old new log log' past past' c c' grows under (inl quiet) = subst (IsUnderway new past') (sym quiet.1) (same c.doing (underway_grow past past' grows old c c.doing under))
   where
@@ -219,7 +219,7 @@ stands_under old new log log' past past' c c' grows under (inl quiet) = subst (I
 
 -- ---- a step, and one that is given up
 
-module _ (old new : Awaited) (log log' : Told) (wire : ℤ) (aim : Aim) (calls : List Call) (told : log ≡ Some calls) (places : List ℕ) (since : ℕ) (room : since ≤ length calls) where
+module _ (old new : Awaited) (log log' : LogTold) (wire : ℤ) (aim : Aim) (calls : List Call) (told : log ≡ Some calls) (places : List ℕ) (since : ℕ) (room : since ≤ length calls) where
   ran_by : (again : Bool) (lines : List Line) (s : Sending) (c : Step Sending (List ℕ)) → IsRequest again lines s → Runs old new log log' wire s c → Flies old (past_of places since calls wire) (fields_in lines) s.stage → RequestRan new places since calls log' wire (fields_in lines) again c
   ran_by again lines s c own runs flies = request_ran old new log log' wire s (fields_in lines) again c own.command_is own.retries_is runs calls told places since room flies
 

@@ -5,7 +5,7 @@ use Rattle.mg_bson.specs.Raw.{fields}
 use Rattle.mg_bson.specs.Tree.{Fields}
 use Rattle.mg_link.specs.Acts.{ticket_after}
 use Rattle.mg_link.specs.Exec.{Runs, Sending, ticket_at, ticket_of}
-use Rattle.mg_link.specs.Link.{Awaited, Told}
+use Rattle.mg_link.specs.Link.{Awaited, LogTold}
 use Rattle.mg_link.specs.Moment.{LinkKeeps, Moment, failed, finished, step_ending}
 use Rattle.mg_link.specs.declared.action.Step.{Step}
 use Rattle.mg_link.specs.declared.action.Step.TheVariants as came
@@ -120,13 +120,13 @@ module _ (m m' : Moment) (t : Option ℕ) (r : CheckTurned) where
 
 -- ---- what a request came to, as a step of the check
 
-pub asked_checks : (old new : Awaited) (log log' : Told) (wire : ℤ) (b : ClientBucket) (r : Request) (s : Sending) (p : Step Sending (List ℕ)) (t : CheckTurned) → Runs old new log log' wire s p → HearsAsked b r p t → ChecksOn old new log log' wire b (asked_as r s) t
+pub asked_checks : (old new : Awaited) (log log' : LogTold) (wire : ℤ) (b : ClientBucket) (r : Request) (s : Sending) (p : Step Sending (List ℕ)) (t : CheckTurned) → Runs old new log log' wire s p → HearsAsked b r p t → ChecksOn old new log log' wire b (asked_as r s) t
 asked_checks old new log log' wire b request.Find s p t runs h = check.by_find s refl p runs h
 asked_checks old new log log' wire b (request.Create at) s p t runs h = check.by_creation at s refl p runs h
 asked_checks old new log log' wire b (request.List at) s p t runs h = check.by_listing at s refl p runs h
 asked_checks old new log log' wire b (request.Index at) s p t runs h = check.by_index at s refl p runs h
 
-pub asked_lands : (old new : Awaited) (log log' : Told) (wire : ℤ) (r : Request) (s : Sending) (p : Step Sending (List ℕ)) (t : Option ClientCheck) → Runs old new log log' wire s p → t ≡ option_map (asked_as r) (still_of p) → LandsCheck old new log log' wire (asked_as r s) t
+pub asked_lands : (old new : Awaited) (log log' : LogTold) (wire : ℤ) (r : Request) (s : Sending) (p : Step Sending (List ℕ)) (t : Option ClientCheck) → Runs old new log log' wire s p → t ≡ option_map (asked_as r) (still_of p) → LandsCheck old new log log' wire (asked_as r s) t
 asked_lands old new log log' wire request.Find s p t runs is = check.by_find s refl p runs is
 asked_lands old new log log' wire (request.Create at) s p t runs is = check.by_creation at s refl p runs is
 asked_lands old new log log' wire (request.List at) s p t runs is = check.by_listing at s refl p runs is

@@ -6,7 +6,7 @@ use Rattle.mg_bson.specs.Raw.{fields, items}
 use Rattle.mg_bson.specs.Tree.{Fields}
 use Rattle.mg_link.specs.Exec.{Sending, Stage, unsent, first, second, ticket_at}
 use Rattle.mg_link.specs.Files.{Bucket, chunks_space}
-use Rattle.mg_link.specs.Link.{Awaited, Told}
+use Rattle.mg_link.specs.Link.{Awaited, LogTold}
 use Rattle.mg_link.specs.Log.{Call}
 use Rattle.mg_link.specs.Owner.{Owner, Passes, nobody}
 use Rattle.mg_link.specs.Reader.{KnowsRead, Reader, coming_to, fetching}
@@ -97,7 +97,7 @@ named_heard c c' (step.Pending sending) r fine named h = named_as c c' named (ap
 named_heard c c' (step.Done reply) r fine named h = named_reply c c' reply r fine named h
 named_heard c c' (step.Failed e) r fine named h = absurd (subst IsNoFailure h.1 fine)
 
-pub next_named : (old new : Awaited) (log log' : Told) (wire : ℤ) (started : Bool) (c c' : ClientCursor) (r : NextPoll) → IsNoFailure r → IsNamed c.space → PollsNext old new log log' wire None started c c' r → IsNamed c'.space
+pub next_named : (old new : Awaited) (log log' : LogTold) (wire : ℤ) (started : Bool) (c c' : ClientCursor) (r : NextPoll) → IsNoFailure r → IsNamed c.space → PollsNext old new log log' wire None started c c' r → IsNamed c'.space
 next_named old new log log' wire started c c' r fine named (hands_out reply at none same is answer) = named_as c c' named (ap (λ (x : ClientCursor). x.space) is)
 next_named old new log log' wire started c c' r fine named (is_over at ended_so none same is answer) = named_as c c' named (ap (λ (x : ClientCursor). x.space) is)
 next_named old new log log' wire started c c' r fine named (not_built at may e fails_so none same is answer) = named_as c c' named (ap (λ (x : ClientCursor). x.space) is)
@@ -120,7 +120,7 @@ heard_rests c c' (step.Pending sending) r fine h = absurd (subst IsAnswer h.1 fi
 heard_rests c c' (step.Done reply) r fine h = reply_rests c c' reply r h
 heard_rests c c' (step.Failed e) r fine h = ap (λ (x : ClientCursor). x.doing) h.0
 
-pub next_rests : (old new : Awaited) (log log' : Told) (wire : ℤ) (started : Bool) (c c' : ClientCursor) (r : NextPoll) → IsAnswer r → PollsNext old new log log' wire None started c c' r → c'.doing ≡ client.rests
+pub next_rests : (old new : Awaited) (log log' : LogTold) (wire : ℤ) (started : Bool) (c c' : ClientCursor) (r : NextPoll) → IsAnswer r → PollsNext old new log log' wire None started c c' r → c'.doing ≡ client.rests
 next_rests old new log log' wire started c c' r fine (hands_out reply at none same is answer) = ap (λ (x : ClientCursor). x.doing) is
 next_rests old new log log' wire started c c' r fine (is_over at ended_so none same is answer) = ap (λ (x : ClientCursor). x.doing) is ∙ at
 next_rests old new log log' wire started c c' r fine (not_built at may e fails_so none same is answer) = ap (λ (x : ClientCursor). x.doing) is ∙ at
@@ -128,13 +128,13 @@ next_rests old new log log' wire started c c' r fine (begins at may sending new_
 next_rests old new log log' wire started c c' r fine (goes_on sending at asked) = heard_rests c c' asked.came r fine asked.hears
 
 -- the log, the reader and the cursor behind a poll
-record PolledOn (calls : List Call) (log' : Told) (old new : Awaited) (c c' : ClientCursor) (q' : Reader) : Type 0 where
+record PolledOn (calls : List Call) (log' : LogTold) (old new : Awaited) (c c' : ClientCursor) (q' : Reader) : Type 0 where
   calls' : List Call
   told : log' ≡ Some calls'
   knows : KnowsRead calls' (reader_in new c' q')
   passes : Passes calls calls' (cursor_owner old c) (cursor_owner new c')
 
-polled_on : (old new : Awaited) (log log' : Told) (wire : ℤ) (started : Bool) (c c' : ClientCursor) (r : NextPoll) (q : Reader) (calls : List Call) → IsSound true c → IsNamed c.space → PollsNext old new log log' wire None started c c' r → log ≡ Some calls → KnowsRead calls (reader_in old c q)
+polled_on : (old new : Awaited) (log log' : LogTold) (wire : ℤ) (started : Bool) (c c' : ClientCursor) (r : NextPoll) (q : Reader) (calls : List Call) → IsSound true c → IsNamed c.space → PollsNext old new log log' wire None started c c' r → log ≡ Some calls → KnowsRead calls (reader_in old c q)
     → PolledOn calls log' old new c c' (told_next r q)
 polled_on old new log log' wire started c c' r q calls sound named polls told knows =
     let m = next_read true old new log log' wire None started c c' r sound named polls q calls told in
@@ -175,7 +175,7 @@ taken_as (b ∷ bs) c missing empty d d' is =
     }
 
 -- where it is behind a batch
-record BatchKnown (calls : List Call) (log' : Told) (old new : Awaited) (at : Bucket) (d' : ClientDownload) (bytes : List ℕ) (c : ClientCursor) (place : ℕ) : Type 0 where
+record BatchKnown (calls : List Call) (log' : LogTold) (old new : Awaited) (at : Bucket) (d' : ClientDownload) (bytes : List ℕ) (c : ClientCursor) (place : ℕ) : Type 0 where
   calls' : List Call
   told : log' ≡ Some calls'
   cursor : ClientCursor
@@ -187,7 +187,7 @@ record BatchKnown (calls : List Call) (log' : Told) (old new : Awaited) (at : Bu
   knows : KnowsChunks new calls' at d' bytes cursor place
   passes : Passes calls calls' (cursor_owner old c) (cursor_owner new cursor)
 
-batch_known : (old new : Awaited) (log log' : Told) (wire : ℤ) (at : Bucket) (d d' : ClientDownload) (bytes : List ℕ) (c : ClientCursor) (m k place : ℕ) (calls : List Call) → d.doing ≡ reads c m k → IsSound true c → KnowsChunks old calls at d bytes c place → log ≡ Some calls → TakesOne old new log log' wire d d'
+batch_known : (old new : Awaited) (log log' : LogTold) (wire : ℤ) (at : Bucket) (d d' : ClientDownload) (bytes : List ℕ) (c : ClientCursor) (m k place : ℕ) (calls : List Call) → d.doing ≡ reads c m k → IsSound true c → KnowsChunks old calls at d bytes c place → log ≡ Some calls → TakesOne old new log log' wire d d'
     → BatchKnown calls log' old new at d' bytes c place
 batch_known old new log log' wire at d d' bytes c m k place calls doing sound know told one =
     let same : one.cursor ≡ c = same_cursor one.cursor c one.missing m one.empty k (sym one.at ∙ doing) in
@@ -238,13 +238,13 @@ AfterFetch awaited calls at d' bytes place waits = (c : ClientCursor) × (m : �
 AfterFetch awaited calls at d' bytes place enough = (c : ClientCursor) × (d'.doing ≡ idle c) × (c.doing ≡ client.rests) × KnowsChunks awaited calls at d' bytes c place
 AfterFetch awaited calls at d' bytes place (fails e) = Unit {0}
 
-pub record FetchKnown (calls : List Call) (log' : Told) (old new : Awaited) (at : Bucket) (d' : ClientDownload) (bytes : List ℕ) (c : ClientCursor) (place : ℕ) (r : Fetched) : Type 0 where
+pub record FetchKnown (calls : List Call) (log' : LogTold) (old new : Awaited) (at : Bucket) (d' : ClientDownload) (bytes : List ℕ) (c : ClientCursor) (place : ℕ) (r : Fetched) : Type 0 where
   pub calls' : List Call
   pub told : log' ≡ Some calls'
   pub passes : Passes calls calls' (cursor_owner old c) (doing_owner new d'.doing)
   pub after : AfterFetch new calls' at d' bytes place r
 
-module _ (old new : Awaited) (log log' : Told) (wire : ℤ) (at : Bucket) (d d' : ClientDownload) (bytes : List ℕ) (c : ClientCursor) (m k place : ℕ) (calls : List Call) (doing : d.doing ≡ reads c m k) (sound : IsSound true c) (rests_so : m ≡ 0 → c.doing ≡ client.rests) (know : KnowsChunks old calls at d bytes c place) (told : log ≡ Some calls) where
+module _ (old new : Awaited) (log log' : LogTold) (wire : ℤ) (at : Bucket) (d d' : ClientDownload) (bytes : List ℕ) (c : ClientCursor) (m k place : ℕ) (calls : List Call) (doing : d.doing ≡ reads c m k) (sound : IsSound true c) (rests_so : m ≡ 0 → c.doing ≡ client.rests) (know : KnowsChunks old calls at d bytes c place) (told : log ≡ Some calls) where
   polls_here : (started : Bool) (x behind : ClientCursor) (r : NextPoll) (m' k' : ℕ) → d.doing ≡ reads x m' k' → PollsNext old new log log' wire None started x behind r → PollsNext old new log log' wire None started c behind r
   polls_here started x behind r m' k' there polls = subst (λ (y : ClientCursor). PollsNext old new log log' wire None started y behind r) (same_cursor x c m' m k' k (sym there ∙ doing)) polls
 
@@ -309,7 +309,7 @@ module _ (old new : Awaited) (log log' : Told) (wire : ℤ) (at : Bucket) (d d' 
   ends_known f (no_more x m' k' there short started behind e polls is answer) = failed_known started x behind (next.Failed e) m' k' e f there polls is answer
   ends_known f (not_taken x m' k' there short started behind reply e polls why is answer) = failed_known started x behind (next.Batch reply) m' k' e f there polls is answer
 
-pub fetches_known : (n : ℕ) (old new : Awaited) (log log' : Told) (wire : ℤ) (at : Bucket) (d d' : ClientDownload) (bytes : List ℕ) (c : ClientCursor) (m k place : ℕ) (calls : List Call) (f : Fetched) → d.doing ≡ reads c m k → IsSound true c → (m ≡ 0 → c.doing ≡ client.rests) → KnowsChunks old calls at d bytes c place → log ≡ Some calls
+pub fetches_known : (n : ℕ) (old new : Awaited) (log log' : LogTold) (wire : ℤ) (at : Bucket) (d d' : ClientDownload) (bytes : List ℕ) (c : ClientCursor) (m k place : ℕ) (calls : List Call) (f : Fetched) → d.doing ≡ reads c m k → IsSound true c → (m ≡ 0 → c.doing ≡ client.rests) → KnowsChunks old calls at d bytes c place → log ≡ Some calls
     → Fetches n old new log log' wire d d' f → FetchKnown calls log' old new at d' bytes c place f
 unfolding Fetches
 fetches_known zero old new log log' wire at d d' bytes c m k place calls f doing sound rests_so know told ends = ends_known old new log log' wire at d d' bytes c m k place calls doing sound rests_so know told f ends
@@ -325,14 +325,14 @@ fetches_known (suc n) old new log log' wire at d d' bytes c m k place calls f do
 
 -- ---- what stays the same
 
-ends_same : (old new : Awaited) (log log' : Told) (wire : ℤ) (d d' : ClientDownload) (f : Fetched) → EndsFetch old new log log' wire d d' f → (d'.file ≡ d.file) × (d'.count ≡ d.count)
+ends_same : (old new : Awaited) (log log' : LogTold) (wire : ℤ) (d d' : ClientDownload) (f : Fetched) → EndsFetch old new log log' wire d d' f → (d'.file ≡ d.file) × (d'.count ≡ d.count)
 ends_same old new log log' wire d d' f (none_missing x empty there quiet is answer) = (ap (λ (y : ClientDownload). y.file) is, ap (λ (y : ClientDownload). y.count) is)
 ends_same old new log log' wire d d' f (over x m k there short started behind polls is answer) = (ap (λ (y : ClientDownload). y.file) is, ap (λ (y : ClientDownload). y.count) is)
 ends_same old new log log' wire d d' f (pends x m k there short started behind polls is answer) = (ap (λ (y : ClientDownload). y.file) is, ap (λ (y : ClientDownload). y.count) is)
 ends_same old new log log' wire d d' f (no_more x m k there short started behind e polls is answer) = (ap (λ (y : ClientDownload). y.file) is, ap (λ (y : ClientDownload). y.count) is)
 ends_same old new log log' wire d d' f (not_taken x m k there short started behind reply e polls why is answer) = (ap (λ (y : ClientDownload). y.file) is, ap (λ (y : ClientDownload). y.count) is)
 
-pub fetches_same : (n : ℕ) (old new : Awaited) (log log' : Told) (wire : ℤ) (d d' : ClientDownload) (f : Fetched) → Fetches n old new log log' wire d d' f → (d'.file ≡ d.file) × (d'.count ≡ d.count)
+pub fetches_same : (n : ℕ) (old new : Awaited) (log log' : LogTold) (wire : ℤ) (d d' : ClientDownload) (f : Fetched) → Fetches n old new log log' wire d d' f → (d'.file ≡ d.file) × (d'.count ≡ d.count)
 unfolding Fetches
 fetches_same zero old new log log' wire d d' f ends = ends_same old new log log' wire d d' f ends
 fetches_same (suc n) old new log log' wire d d' f more =

@@ -3,7 +3,7 @@ use Rattle.std.proofs.Common.{◌≡◌, ◌+◌, ◌*◌, ℕ, zero, suc, ℤ, 
 use Rattle.mg_bson.specs.Tree.{Fields, Tree}
 use Rattle.mg_link.specs.Calls.{past_of}
 use Rattle.mg_link.specs.Files.{Bucket, chunked}
-use Rattle.mg_link.specs.Link.{Awaited, Told}
+use Rattle.mg_link.specs.Link.{Awaited, LogTold}
 use Rattle.mg_link.specs.Log.{Call}
 use Rattle.mg_link.specs.declared.action.Step.{Step}
 use Rattle.mg_link.specs.declared.action.Step.TheVariants as came
@@ -61,7 +61,7 @@ module _ (ids ids' : ℕ → List ℕ) (same : (k : ℕ) → ids k ≡ ids' k) w
       steps.not_built some most e left (subst (λ (i : List ℕ). FailsBy (CannotEnd u (chunk_document i u.aim.id u.sent u.behind ∷ [])) e) (same 0) fails) is answer
 
   -- a step asks for its ids one by one
-  pub step_same : (old new : Awaited) (log log' : Told) (wire : ℤ) (drawn : ℕ) (u u' : ClientUpload) (p : Phase) (r : Stepped) → DoesStep old new log log' wire ids drawn u u' p r → DoesStep old new log log' wire ids' drawn u u' p r
+  pub step_same : (old new : Awaited) (log log' : LogTold) (wire : ℤ) (drawn : ℕ) (u u' : ClientUpload) (p : Phase) (r : Stepped) → DoesStep old new log log' wire ids drawn u u' p r → DoesStep old new log log' wire ids' drawn u u' p r
   step_same old new log log' wire drawn u u' p r (begins_check is quiet n does) = begins_check is quiet n does
   step_same old new log log' wire drawn u u' p r (checks_on c is n t checks_so leads) = checks_on c is n t checks_so leads
   step_same old new log log' wire drawn u u' p r (is_short is quiet n short at answer) = is_short is quiet n short at answer
@@ -75,7 +75,7 @@ module _ (ids ids' : ℕ → List ℕ) (same : (k : ℕ) → ids k ≡ ids' k) w
   step_same old new log log' wire drawn u u' p r (undoes_next error is quiet n does) = undoes_next error is quiet n does
   step_same old new log log' wire drawn u u' p r (removes_on s error is n c runs hears) = removes_on s error is n c runs hears
 
-pub steps_same : (n : ℕ) (ids ids' : ℕ → List ℕ) → ((k : ℕ) → ids k ≡ ids' k) → (old new : Awaited) (log log' : Told) (wire : ℤ) (drawn : ℕ) (u u' : ClientUpload) (p : Phase) (r : Stepped) → DoesSteps n old new log log' wire ids drawn u u' p r → DoesSteps n old new log log' wire ids' drawn u u' p r
+pub steps_same : (n : ℕ) (ids ids' : ℕ → List ℕ) → ((k : ℕ) → ids k ≡ ids' k) → (old new : Awaited) (log log' : LogTold) (wire : ℤ) (drawn : ℕ) (u u' : ClientUpload) (p : Phase) (r : Stepped) → DoesSteps n old new log log' wire ids drawn u u' p r → DoesSteps n old new log log' wire ids' drawn u u' p r
 unfolding DoesSteps
 steps_same zero ids ids' same old new log log' wire drawn u u' p r d = (step_same ids ids' same old new log log' wire drawn u u' p r d.0, d.1)
 steps_same (suc n) ids ids' same old new log log' wire drawn u u' p r d =
@@ -84,16 +84,16 @@ steps_same (suc n) ids ids' same old new log log' wire drawn u u' p r d =
 -- ---- one step after the other
 
 -- So far a poll has come, and goes on: whatever steps it does from here on, it does these and those.
-abbrev pub Drove : Awaited → Awaited → Told → Told → ℤ → (ℕ → List ℕ) → ℕ → ClientUpload → ClientUpload → Phase → Phase → Type 0
-Drove old between log log_between wire ids drawn u v p q = (new : Awaited) (log' : Told) (n later : ℕ) (u' : ClientUpload) (r : Stepped) → DoesSteps n between new log_between log' wire (ids_behind drawn ids) later v u' q r
+abbrev pub Drove : Awaited → Awaited → LogTold → LogTold → ℤ → (ℕ → List ℕ) → ℕ → ClientUpload → ClientUpload → Phase → Phase → Type 0
+Drove old between log log_between wire ids drawn u v p q = (new : Awaited) (log' : LogTold) (n later : ℕ) (u' : ClientUpload) (r : Stepped) → DoesSteps n between new log_between log' wire (ids_behind drawn ids) later v u' q r
     → (m : ℕ) × DoesSteps m old new log log' wire ids (drawn + later) u u' p r
 
-pub drove_none : (old : Awaited) (log : Told) (wire : ℤ) (ids : ℕ → List ℕ) (u : ClientUpload) (p : Phase) → Drove old old log log wire ids 0 u u p p
+pub drove_none : (old : Awaited) (log : LogTold) (wire : ℤ) (ids : ℕ → List ℕ) (u : ClientUpload) (p : Phase) → Drove old old log log wire ids 0 u u p p
 drove_none old log wire ids u p new log' n later u' r d =
     let e : later ≡ 0 + later = omega arith in
     (n, subst (λ (m : ℕ). DoesSteps n old new log log' wire ids m u u' p r) e (steps_same n (ids_behind 0 ids) ids (λ k. let f : 0 + k ≡ k = omega arith in ap ids f) old new log log' wire later u u' p r d))
 
-pub drove_on : (old between next : Awaited) (log log_between log_next : Told) (wire : ℤ) (ids : ℕ → List ℕ) (drawn first : ℕ) (u v w : ClientUpload) (p q s : Phase) → Drove old between log log_between wire ids drawn u v p q → DoesStep between next log_between log_next wire (ids_behind drawn ids) first v w q (goes s)
+pub drove_on : (old between next : Awaited) (log log_between log_next : LogTold) (wire : ℤ) (ids : ℕ → List ℕ) (drawn first : ℕ) (u v w : ClientUpload) (p q s : Phase) → Drove old between log log_between wire ids drawn u v p q → DoesStep between next log_between log_next wire (ids_behind drawn ids) first v w q (goes s)
     → Drove old next log log_next wire ids (drawn + first) u w p s
 unfolding DoesSteps
 drove_on old between next log log_between log_next wire ids drawn first u v w p q s drove does new log' n later u' r d =
@@ -103,7 +103,7 @@ drove_on old between next log log_between log_next wire ids drawn first u v w p 
     (x.0, subst (λ (m : ℕ). DoesSteps x.0 old new log log' wire ids m u u' p r) e x.1)
 
 -- the last steps of a poll
-pub drove_last : (old between new : Awaited) (log log_between log' : Told) (wire : ℤ) (ids : ℕ → List ℕ) (drawn later n : ℕ) (u v u' : ClientUpload) (p q : Phase) (r : Stepped) → Drove old between log log_between wire ids drawn u v p q → DoesSteps n between new log_between log' wire (ids_behind drawn ids) later v u' q r
+pub drove_last : (old between new : Awaited) (log log_between log' : LogTold) (wire : ℤ) (ids : ℕ → List ℕ) (drawn later n : ℕ) (u v u' : ClientUpload) (p q : Phase) (r : Stepped) → Drove old between log log_between wire ids drawn u v p q → DoesSteps n between new log_between log' wire (ids_behind drawn ids) later v u' q r
     → (m : ℕ) × DoesSteps m old new log log' wire ids (drawn + later) u u' p r
 drove_last old between new log log_between log' wire ids drawn later n u v u' p q r drove does = drove new log' n later u' r does
 
@@ -234,7 +234,7 @@ module _ (call : uploads.Call) (u u' : ClientUpload) (r : Stepped) where
   removal_call s error (came.Failed d) h hears = stepped_as call u' r (failed hears.0) hears.3 tt
 
 -- a step stays in its call
-pub call_kept : (call : uploads.Call) (old new : Awaited) (log log' : Told) (wire : ℤ) (ids : ℕ → List ℕ) (drawn : ℕ) (u u' : ClientUpload) (p : Phase) (r : Stepped) → IsOfCall call p → DoesStep old new log log' wire ids drawn u u' p r → CallStepped call u' r
+pub call_kept : (call : uploads.Call) (old new : Awaited) (log log' : LogTold) (wire : ℤ) (ids : ℕ → List ℕ) (drawn : ℕ) (u u' : ClientUpload) (p : Phase) (r : Stepped) → IsOfCall call p → DoesStep old new log log' wire ids drawn u u' p r → CallStepped call u' r
 call_kept call old new log log' wire ids drawn u u' p r h (begins_check is quiet n does) = begins_call call u u' r (writing_by call begins (λ x. x) (λ x. x) (subst (IsOfCall call) is h)) does
 call_kept call old new log log' wire ids drawn u u' p r h (checks_on c is n t checks_so leads) = check_call call u u' r (writing_by call (checks c) (λ x. x) (λ x. x) (subst (IsOfCall call) is h)) t leads
 call_kept call old new log log' wire ids drawn u u' p r h (is_short is quiet n short at answer) = stepped_as call u' r done answer (done_of call u' (subst IsShort (sym at) short))
@@ -259,7 +259,7 @@ placed_as at u v same placed =
     }
 
 -- They keep the upload sound.
-pub steps_kept : (n : ℕ) (call : uploads.Call) (old new : Awaited) (log log' : Told) (wire : ℤ) (ids : ℕ → List ℕ) (drawn : ℕ) (u u' : ClientUpload) (p : Phase) (r : Stepped) → HasBounds u → IsSoundPhase u p → IsOfCall call p → DoesSteps n old new log log' wire ids drawn u u' p r → IsKept u.aim u' r × CallStepped call u' r
+pub steps_kept : (n : ℕ) (call : uploads.Call) (old new : Awaited) (log log' : LogTold) (wire : ℤ) (ids : ℕ → List ℕ) (drawn : ℕ) (u u' : ClientUpload) (p : Phase) (r : Stepped) → HasBounds u → IsSoundPhase u p → IsOfCall call p → DoesSteps n old new log log' wire ids drawn u u' p r → IsKept u.aim u' r × CallStepped call u' r
 unfolding DoesSteps
 steps_kept zero call old new log log' wire ids drawn u u' p r bounds sound of_call d = (step_kept old new log log' wire u u' r bounds ids drawn p sound d.0, call_kept call old new log log' wire ids drawn u u' p r of_call d.0)
 steps_kept (suc n) call old new log log' wire ids drawn u u' p r bounds sound of_call d =
@@ -269,7 +269,7 @@ steps_kept (suc n) call old new log log' wire ids drawn u u' p r bounds sound of
     (subst (λ (a : Aim). IsKept a u' r) kept.same_aim rest.0, rest.1)
 
 -- And what is known of the file is known behind them: the main induction.
-pub steps_known : (n : ℕ) (call : uploads.Call) (at : Bucket) (taken places : List ℕ) (since : ℕ) (wire : ℤ) (old new : Awaited) (log log' : Told) (ids : ℕ → List ℕ) (drawn : ℕ) (u u' : ClientUpload) (p : Phase) (r : Stepped) → IsPlaced at u → HasBounds u → IsSoundPhase u p → IsOfCall call p
+pub steps_known : (n : ℕ) (call : uploads.Call) (at : Bucket) (taken places : List ℕ) (since : ℕ) (wire : ℤ) (old new : Awaited) (log log' : LogTold) (ids : ℕ → List ℕ) (drawn : ℕ) (u u' : ClientUpload) (p : Phase) (r : Stepped) → IsPlaced at u → HasBounds u → IsSoundPhase u p → IsOfCall call p
     → DoesSteps n old new log log' wire ids drawn u u' p r → (calls : List Call) → log ≡ Some calls → KnowsPhase old (past_of places since calls wire) at u taken p → Grew places since calls log' wire (λ past. KnowsStepped call new past at u' taken r)
 unfolding DoesSteps
 steps_known zero call at taken places since wire old new log log' ids drawn u u' p r placed bounds sound of_call d calls told k = step_known old new log log' at u u' p r placed bounds sound taken calls told places since wire call of_call ids drawn d.0 k

@@ -14,7 +14,7 @@ use Rattle.mg_bson.specs.declared.kind.Kind.{Kind}
 use Rattle.mg_bson.proofs.Numbers.{length-le32}
 use Rattle.mg_link.specs.Files.{chunked}
 use Rattle.mg_link.proofs.Chunking.{chunked-append, chunked_full, chunked_none, length-chunked}
-use Rattle.mg_ops.specs.InsertCauses.{FitTogether, max_batch, total}
+use Rattle.mg_ops.specs.InsertCauses.{FitTogether, max_piece, total}
 use Rattle.mg_ops.specs.Limits.{max_documents}
 use Rattle.mg_gridfs.specs.Commands.{chunk_document, chunk_documents}
 use Rattle.mg_gridfs.specs.Steps.{IsPortion, first_chunks}
@@ -170,7 +170,7 @@ length-docs ids k file n (c ∷ cs) = ap suc (length-docs ids (suc k) file (suc 
 -- ---- a portion
 
 module _ (u : ClientUpload) (ids : ℕ → List ℕ) (lt : 0 < u.aim.size) (count fitting held : ℕ) (some : 1 ≤ count) (first : Fields) (first_is : first ≡ chunk_document (ids 0) u.aim.id u.sent (take u.aim.size u.behind)) (fits : count ≤ fitting) (there : count ≤ held) (most : (count ≡ fitting) ⊎ (count ≡ held)) (few : fitting ≤ max_documents)
-    (together : (fitting * length (bytes first) ≤ max_batch) ⊎ (fitting ≡ 1)) (limit : (max_batch < (fitting + 1) * length (bytes first)) ⊎ (fitting ≡ max_documents)) (all : held * u.aim.size ≤ length u.behind) (behind_all : length u.behind < (held + 1) * u.aim.size) (twelve : (k : ℕ) → k < count → length (ids k) ≡ 12) where
+    (together : (fitting * length (bytes first) ≤ max_piece) ⊎ (fitting ≡ 1)) (limit : (max_piece < (fitting + 1) * length (bytes first)) ⊎ (fitting ≡ max_documents)) (all : held * u.aim.size ≤ length u.behind) (behind_all : length u.behind < (held + 1) * u.aim.size) (twelve : (k : ℕ) → k < count → length (ids k) ≡ 12) where
   within : count * u.aim.size ≤ length u.behind
   within = let le = mul-le count u.aim.size held u.aim.size there (omega arith) in omega (arith, le, all)
 
@@ -225,7 +225,7 @@ module _ (u : ClientUpload) (ids : ℕ → List ℕ) (lt : 0 < u.aim.size) (coun
     together = fit;
     most = elim most [
       | inl is ↦ elim limit [
-        | inl past ↦ inr (inr (first, ap (λ (l : List Fields). slice_get l 0) front, subst (λ (n : ℕ). max_batch < (n + 1) * length (bytes first)) (sym is) past))
+        | inl past ↦ inr (inr (first, ap (λ (l : List Fields). slice_get l 0) front, subst (λ (n : ℕ). max_piece < (n + 1) * length (bytes first)) (sym is) past))
         | inr greatest ↦ inr (inl (is ∙ greatest))
       ]
       | inr is ↦ inl (subst (λ (n : ℕ). length u.behind < (n + 1) * u.aim.size) (sym is) behind_all)

@@ -5,7 +5,7 @@ use Rattle.std.proofs.lemmas.Bool.{ne_eqb}
 use Rattle.mg_bson.specs.Raw.{fields}
 use Rattle.mg_bson.specs.Tree.{Fields, Items, Tree, item}
 use Rattle.mg_link.specs.Exec.{Runs, Sending}
-use Rattle.mg_link.specs.Link.{Awaited, Told}
+use Rattle.mg_link.specs.Link.{Awaited, LogTold}
 use Rattle.mg_link.specs.declared.action.Step.{Step}
 use Rattle.mg_link.specs.declared.action.Step.TheVariants as came
 use Rattle.mg_link.specs.declared.error.BadArgument.{BadArgument}
@@ -148,11 +148,11 @@ pub is_request : (lines : List Line) (s : Sending) → IsNewRequest true lines s
 is_request lines s new = record { command_is = new.command_is; retries_is = new.retries_is; at = tt }
 
 -- what waits is the command that was polled
-same_pending : (old new : Awaited) (log log' : Told) (wire : ℤ) (s s' : Sending) → Runs old new log log' wire s (came.Pending s') → (s'.command ≡ s.command) × (s'.retries ≡ s.retries)
+same_pending : (old new : Awaited) (log log' : LogTold) (wire : ℤ) (s s' : Sending) → Runs old new log log' wire s (came.Pending s') → (s'.command ≡ s.command) × (s'.retries ≡ s.retries)
 same_pending old new log log' wire s s' (inl once) = (ap (λ (x : Sending). x.command) once.gives.2, ap (λ (x : Sending). x.retries) once.gives.2)
 same_pending old new log log' wire s s' (inr twice) = (ap (λ (x : Sending). x.command) twice.gives.2, ap (λ (x : Sending). x.retries) twice.gives.2)
 
-waiting : (old new : Awaited) (log log' : Told) (wire : ℤ) (lines : List Line) (s s' : Sending) → IsRequest true lines s → Runs old new log log' wire s (came.Pending s') → IsRequest true lines s'
+waiting : (old new : Awaited) (log log' : LogTold) (wire : ℤ) (lines : List Line) (s s' : Sending) → IsRequest true lines s → Runs old new log log' wire s (came.Pending s') → IsRequest true lines s'
 waiting old new log log' wire lines s s' r runs =
     let same = same_pending old new log log' wire s s' runs in
     record { command_is = ap fields same.0 ∙ r.command_is; retries_is = same.1 ∙ r.retries_is; at = tt }
@@ -161,14 +161,14 @@ same_bucket : (b c : ClientBucket) → Some b ≡ Some c → b ≡ c
 same_bucket b c e = cc
 
 -- an opening that waits for its record
-pub finds_sound : (old new : Awaited) (log log' : Told) (wire : ℤ) (b : ClientBucket) (id : Tree) (s s' : Sending) → IsRequest true (found_lines b id) s → Runs old new log log' wire s (came.Pending s') → IsSoundFinding (record { bucket = Some b; id = id; doing = finds s' })
+pub finds_sound : (old new : Awaited) (log log' : LogTold) (wire : ℤ) (b : ClientBucket) (id : Tree) (s s' : Sending) → IsRequest true (found_lines b id) s → Runs old new log log' wire s (came.Pending s') → IsSoundFinding (record { bucket = Some b; id = id; doing = finds s' })
 finds_sound old new log log' wire b id s s' own runs = record {
   own = λ c is. subst (λ (x : ClientBucket). IsRequest true (found_lines x id) s') (same_bucket b c is) (waiting old new log log' wire (found_lines b id) s s' own runs);
   none = λ bad. absurd cc;
 }
 
 -- or for its chunks
-pub lists_sound : (old new : Awaited) (log log' : Told) (wire : ℤ) (b : ClientBucket) (id : Tree) (f : FileRecord) (count : ℕ) (s s' : Sending) → IsListing b f count s → Runs old new log log' wire s (came.Pending s') → IsSoundFinding (record { bucket = Some b; id = id; doing = lists f count s' })
+pub lists_sound : (old new : Awaited) (log log' : LogTold) (wire : ℤ) (b : ClientBucket) (id : Tree) (f : FileRecord) (count : ℕ) (s s' : Sending) → IsListing b f count s → Runs old new log log' wire s (came.Pending s') → IsSoundFinding (record { bucket = Some b; id = id; doing = lists f count s' })
 lists_sound old new log log' wire b id f count s s' own runs = record {
   own = λ c is. subst (λ (x : ClientBucket). IsListing x f count s') (same_bucket b c is) (record { some = own.some; counted = own.counted; request = waiting old new log log' wire (listed_lines b f.id) s s' own.request runs });
   none = λ bad. absurd cc;

@@ -6,7 +6,7 @@ use Rattle.std.proofs.lemmas.Bool.Decides.{Decides-int_eq}
 use Rattle.std.proofs.lemmas.List.{take_at}
 use Rattle.mg_bson.specs.Tree.{Tree}
 use Rattle.mg_link.specs.Files.{Bucket, chunks_space, files_space}
-use Rattle.mg_link.specs.Link.{Awaited, Told}
+use Rattle.mg_link.specs.Link.{Awaited, LogTold}
 use Rattle.mg_link.specs.Log.{Call}
 use Rattle.mg_link.specs.Owner.{Onward, Owner, Passes, nobody}
 use Rattle.mg_link.specs.Query.{Query}
@@ -23,7 +23,7 @@ use Rattle.mg_gridfs.specs.DownloadLaws.{DownloadsGoOn}
 use Rattle.mg_gridfs.specs.Downloaded.{AfterRead, HasAll, IsFront, KnowsBy, KnowsChunks, KnowsDownload, KnowsRecord, ReadKnows, chunks_query, cursor_owner, doing_owner, record_query}
 use Rattle.mg_gridfs.specs.Fetching.{ReadsAs}
 use Rattle.mg_gridfs.specs.ReadCauses.{cursor_in}
-use Rattle.mg_gridfs.specs.Reads.{Concludes, Fetched, FillsFront, Gives, Reads, ReadsNone, enough, fails, waits}
+use Rattle.mg_gridfs.specs.Reads.{Concludes, Fetched, FillsFront, HandsOut, Reads, ReadsNone, enough, fails, waits}
 use Rattle.mg_gridfs.specs.Reads as read_steps
 use Rattle.mg_gridfs.specs.declared.polls.ReadPoll.{ReadPoll}
 use Rattle.mg_gridfs.specs.declared.polls.ReadPoll.TheVariants as read
@@ -104,7 +104,7 @@ module _ (awaited : Awaited) (calls : List Call) (at : Bucket) (id : Tree) (d d'
   let_go : Passes calls calls (cursor_owner awaited c) nobody
   let_go = passes_here calls (cursor_owner awaited c) nobody (λ n is. is) (λ x is ne. absurd is) k.knows.owned
 
-  pub gives_known : Gives room c d d' given r → Passes calls calls (cursor_owner awaited c) (doing_owner awaited d'.doing) × AfterRead awaited calls at id d' bytes now r
+  pub gives_known : HandsOut room c d d' given r → Passes calls calls (cursor_owner awaited c) (doing_owner awaited d'.doing) × AfterRead awaited calls at id d' bytes now r
   gives_known (read_steps.goes_on more is there answer) = (
     subst (λ (x : ClientDownload). owner_left x.doing) (sym there) (passes_same calls (cursor_owner awaited c) k.knows.owned),
     as_read answer (goes_on_known is there),
@@ -179,7 +179,7 @@ downloads_go_on old new calls calls' at id d bytes onward same k =
 
 -- ---- a poll
 
-module _ (old new : Awaited) (log log' : Told) (wire : ℤ) (at : Bucket) (d d' : ClientDownload) (before now given : List ℕ) (r : ReadPoll) (sound : IsSoundDownload d) (fills : FillsFront before now given r) (calls : List Call) (told : log ≡ Some calls) (id : Tree) (bytes : List ℕ) (k : KnowsDownload old calls at id d bytes) where
+module _ (old new : Awaited) (log log' : LogTold) (wire : ℤ) (at : Bucket) (d d' : ClientDownload) (before now given : List ℕ) (r : ReadPoll) (sound : IsSoundDownload d) (fills : FillsFront before now given r) (calls : List Call) (told : log ≡ Some calls) (id : Tree) (bytes : List ℕ) (k : KnowsDownload old calls at id d bytes) where
   abbrev Known : Type 0
   Known = (calls' : List Call) × (log' ≡ Some calls') × Passes calls calls' (doing_owner old d.doing) (doing_owner new d'.doing) × AfterRead new calls' at id d' bytes now r
 
@@ -262,5 +262,5 @@ module _ (old new : Awaited) (log log' : Told) (wire : ℤ) (at : Bucket) (d d' 
       concluded room c fills_so.left fills_so.fetched (inr (missing, empty, is)) same.0 same.1 f fills_so.concludes
 
 -- as the clause says it
-pub read_knows : (old new : Awaited) (log log' : Told) (wire : ℤ) (at : Bucket) (d d' : ClientDownload) (before now : List ℕ) (r : ReadPoll) → IsSoundDownload d → ReadsAs old new log log' wire before now d d' r → ReadKnows old new log log' at d d' now r
+pub read_knows : (old new : Awaited) (log log' : LogTold) (wire : ℤ) (at : Bucket) (d d' : ClientDownload) (before now : List ℕ) (r : ReadPoll) → IsSoundDownload d → ReadsAs old new log log' wire before now d d' r → ReadKnows old new log log' at d d' now r
 read_knows old new log log' wire at d d' before now r sound h = λ calls told id bytes k. reads_known old new log log' wire at d d' before now h.0 r sound h.2 calls told id bytes k (length before) h.1

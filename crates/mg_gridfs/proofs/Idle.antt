@@ -1,7 +1,7 @@
 -- A list that is read has nothing on its way while documents are left.
 use Rattle.std.proofs.Common.{◌≡◌, ℕ, zero, suc, ℤ, Bool, List, [], ◌∷◌, Option, None, refl, sym, ap, ◌∙◌, subst, inl, inr}
 use Rattle.mg_link.specs.Exec.{Sending}
-use Rattle.mg_link.specs.Link.{Awaited, Told}
+use Rattle.mg_link.specs.Link.{Awaited, LogTold}
 use Rattle.mg_link.specs.Session.{Session}
 use Rattle.mg_link.specs.declared.action.Step.{Step}
 use Rattle.mg_link.specs.declared.action.Step.TheVariants as came
@@ -43,7 +43,7 @@ heard_idle c (came.Pending s) c' r h = subst (λ (x : NextPoll). NextIdle x c') 
 heard_idle c (came.Done reply) c' r h = read_idle c reply c' r h
 heard_idle c (came.Failed e) c' r h = idle_rest r c' (ap (λ (x : ClientCursor). x.doing) h.0)
 
-module _ (old new : Awaited) (log log' : Told) (wire : ℤ) (session : Option Session) (started : Bool) where
+module _ (old new : Awaited) (log log' : LogTold) (wire : ℤ) (session : Option Session) (started : Bool) where
   next_idle : (c c' : ClientCursor) (r : NextPoll) → PollsNext old new log log' wire session started c c' r → NextIdle r c'
   next_idle c c' r (hands_out reply at none same is answer) = idle_rest r c' (ap (λ (x : ClientCursor). x.doing) is)
   next_idle c c' r (is_over at over none same is answer) = idle_rest r c' (ap (λ (x : ClientCursor). x.doing) is ∙ at)
@@ -81,7 +81,7 @@ no_ticket : (d : DocumentCursor) (x : List ℕ) (xs : List (List ℕ)) → d.beh
 no_ticket d x xs these (inl empty) = let bad : x ∷ xs ≡ [] = sym these ∙ empty in absurd cc
 no_ticket d x xs these (inr none) = none
 
-advance_idle : (old new : Awaited) (log log' : Told) (wire : ℤ) (session : Option Session) (started : Bool) (d d' : DocumentCursor) (r : TryPoll) → IsIdleList d → AdvancesOnce old new log log' wire session started d d' r → TryIdle r d'
+advance_idle : (old new : Awaited) (log log' : LogTold) (wire : ℤ) (session : Option Session) (started : Bool) (d d' : DocumentCursor) (r : TryPoll) → IsIdleList d → AdvancesOnce old new log log' wire session started d d' r → TryIdle r d'
 advance_idle old new log log' wire session started d d' r idle (gives x xs these quiet same is answer) =
     subst (λ (p : TryPoll). TryIdle p d') (sym answer) (ap (λ (e : DocumentCursor). client_ticket e.cursor) is ∙ no_ticket d x xs these idle)
 advance_idle old new log log' wire session started d d' r idle (polls none c p polled takes) = takes_idle d c p d' r (next_idle old new log log' wire session started d.cursor c p polled) takes
@@ -91,7 +91,7 @@ kept_idle try.Pending d idle = idle
 kept_idle (try.Ready a) d idle = idle
 kept_idle (try.Failed e) d idle = idle
 
-pub tries_idle : (old new : Awaited) (log log' : Told) (wire : ℤ) (session : Option Session) (started : Bool) (d d' : DocumentCursor) (r : TryPoll) → IsIdleList d → TriesAdvance old new log log' wire session started d d' r → TryIdle r d'
+pub tries_idle : (old new : Awaited) (log log' : LogTold) (wire : ℤ) (session : Option Session) (started : Bool) (d d' : DocumentCursor) (r : TryPoll) → IsIdleList d → TriesAdvance old new log log' wire session started d d' r → TryIdle r d'
 tries_idle old new log log' wire session started d d' r idle t = subst (λ (e : DocumentCursor). TryIdle r e) (sym t.kept) (kept_idle r t.advanced (advance_idle old new log log' wire session started d t.advanced r idle t.tries))
 
 -- ---- up to a document
@@ -111,7 +111,7 @@ ends_idle try.Pending d d' r idle h = subst (λ (x : AdvancePoll). IdleBy x d') 
 ends_idle (try.Ready a) d d' r idle h = subst (λ (x : AdvancePoll). IdleBy x d') (sym h.2) (ended_idle a d' (ap (λ (e : DocumentCursor). client_ticket e.cursor) h.1 ∙ idle))
 ends_idle (try.Failed e) d d' r idle h = subst (λ (x : AdvancePoll). IdleBy x d') (sym h.1) (ap (λ (x : DocumentCursor). client_ticket x.cursor) h.0 ∙ idle)
 
-pub seeks_idle : (n : ℕ) (old new : Awaited) (log log' : Told) (wire : ℤ) (session : Option Session) (starts : ℕ) (d d' : DocumentCursor) (r : AdvancePoll) → IsIdleList d → SeeksDocument n old new log log' wire session starts d d' r → IdleBy r d'
+pub seeks_idle : (n : ℕ) (old new : Awaited) (log log' : LogTold) (wire : ℤ) (session : Option Session) (starts : ℕ) (d d' : DocumentCursor) (r : AdvancePoll) → IsIdleList d → SeeksDocument n old new log log' wire session starts d d' r → IdleBy r d'
 unfolding SeeksDocument
 seeks_idle zero old new log log' wire session starts d d' r idle s = ends_idle s.poll s.advanced d' r (advance_idle old new log log' wire session s.started d s.advanced s.poll idle s.tries) s.ends
 seeks_idle (suc n) old new log log' wire session starts d d' r idle s =

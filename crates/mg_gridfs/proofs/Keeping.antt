@@ -6,7 +6,7 @@ use Rattle.std.proofs.lemmas.Nat.{column_fits}
 use Rattle.mg_bson.specs.Raw.{fields}
 use Rattle.mg_link.specs.Exec.{Runs, Sending, Stage, unsent}
 use Rattle.mg_link.specs.Files.{chunked}
-use Rattle.mg_link.specs.Link.{Awaited, Told}
+use Rattle.mg_link.specs.Link.{Awaited, LogTold}
 use Rattle.mg_link.specs.declared.action.Step.{Step}
 use Rattle.mg_link.specs.declared.action.Step.TheVariants as came
 use Rattle.mg_link.specs.declared.error.Error.{Error}
@@ -41,18 +41,18 @@ pub new_request : (again : Bool) (lines : List Line) (s : Sending) → IsNewRequ
 new_request again lines s n = record { command_is = n.command_is; retries_is = n.retries_is; at = try_new again s.stage n.new }
 
 -- what waits is the command that was polled
-pub same_pending : (old new : Awaited) (log log' : Told) (wire : ℤ) (s s' : Sending) → Runs old new log log' wire s (came.Pending s') → (s'.command ≡ s.command) × (s'.retries ≡ s.retries)
+pub same_pending : (old new : Awaited) (log log' : LogTold) (wire : ℤ) (s s' : Sending) → Runs old new log log' wire s (came.Pending s') → (s'.command ≡ s.command) × (s'.retries ≡ s.retries)
 same_pending old new log log' wire s s' (inl once) = (ap (λ (x : Sending). x.command) once.gives.2, ap (λ (x : Sending). x.retries) once.gives.2)
 same_pending old new log log' wire s s' (inr twice) = (ap (λ (x : Sending). x.command) twice.gives.2, ap (λ (x : Sending). x.retries) twice.gives.2)
 
 -- a read that waits
-waiting_read : (old new : Awaited) (log log' : Told) (wire : ℤ) (lines : List Line) (s s' : Sending) → IsRequest true lines s → Runs old new log log' wire s (came.Pending s') → IsRequest true lines s'
+waiting_read : (old new : Awaited) (log log' : LogTold) (wire : ℤ) (lines : List Line) (s s' : Sending) → IsRequest true lines s → Runs old new log log' wire s (came.Pending s') → IsRequest true lines s'
 waiting_read old new log log' wire lines s s' r runs =
     let same = same_pending old new log log' wire s s' runs in
     record { command_is = ap fields same.0 ∙ r.command_is; retries_is = same.1 ∙ r.retries_is; at = tt }
 
 -- a write that waits
-pub waiting_write : (old new : Awaited) (log log' : Told) (wire : ℤ) (lines : List Line) (s s' : Sending) → IsRequest false lines s → Runs old new log log' wire s (came.Pending s') → IsRequest false lines s'
+pub waiting_write : (old new : Awaited) (log log' : LogTold) (wire : ℤ) (lines : List Line) (s s' : Sending) → IsRequest false lines s → Runs old new log log' wire s (came.Pending s') → IsRequest false lines s'
 waiting_write old new log log' wire lines s s' r runs =
     let w = waits_still old new log log' wire s s' r.retries_is r.at runs in
     record { command_is = ap fields w.same_command ∙ r.command_is; retries_is = w.same_retries ∙ r.retries_is; at = subst IsFirstTry (sym w.waits_by) tt }
@@ -104,7 +104,7 @@ indexed_sound : (b : ClientBucket) (k : Place) (reply : List ℕ) (t : CheckTurn
 indexed_sound b k reply t (check.done none behind) = behind_sound b k t behind
 indexed_sound b k reply t (check.unread e fails is) = turn_as b t (check.fails e) is tt
 
-module _ (old new : Awaited) (log log' : Told) (wire : ℤ) (b : ClientBucket) where
+module _ (old new : Awaited) (log log' : LogTold) (wire : ℤ) (b : ClientBucket) where
   found_sound : (s : Sending) (c : Step Sending (List ℕ)) (t : CheckTurned) → IsSoundCheck b (finds s) → Runs old new log log' wire s c → HearsFind b c t → IsSoundTurn b t
   found_sound s (came.Pending s') t sound runs h = turn_as b t (check.pends (finds s')) h (waiting_read old new log log' wire _ s s' sound runs)
   found_sound s (came.Done reply) t sound runs h = any_sound b reply t h
@@ -148,7 +148,7 @@ FlightLeft u (Some flight) = IsFlight u flight
 left_as : (b : ClientBucket) (t q : Option ClientCheck) → t ≡ q → CheckLeft b q → CheckLeft b t
 left_as b t q is left = subst (CheckLeft b) (sym is) left
 
-module _ (old new : Awaited) (log log' : Told) (wire : ℤ) where
+module _ (old new : Awaited) (log log' : LogTold) (wire : ℤ) where
   land_read : (b : ClientBucket) (lines : List Line) (next : Sending → ClientCheck) → ((s : Sending) → IsRequest true lines s → IsSoundCheck b (next s)) → (s : Sending) (c : Step Sending (List ℕ)) (t : Option ClientCheck) → IsRequest true lines s → Runs old new log log' wire s c → LandsRequest next c t → CheckLeft b t
   land_read b lines next sound s (came.Pending s') t r runs is = left_as b t (Some (next s')) is (sound s' (waiting_read old new log log' wire lines s s' r runs))
   land_read b lines next sound s (came.Done reply) t r runs is = left_as b t None is tt
@@ -219,7 +219,7 @@ some_bytes (b ∷ bs) some = omega arith
 undone_kept : (u u' : ClientUpload) (e : Error) (r : Stepped) → HasBounds u → u' ≡ u → r ≡ goes (undoes (Some e)) → IsKept u.aim u' r
 undone_kept u u' e r bounds is answer = kept_as u' u r (goes (undoes (Some e))) is answer (record { bounds = bounds; stepped_so = tt; same_aim = refl })
 
-module _ (old new : Awaited) (log log' : Told) (wire : ℤ) (u u' : ClientUpload) (r : Stepped) (bounds : HasBounds u) where
+module _ (old new : Awaited) (log log' : LogTold) (wire : ℤ) (u u' : ClientUpload) (r : Stepped) (bounds : HasBounds u) where
   begins_kept : u.checked ≡ false → BeginsCheck u u' r → IsKept u.aim u' r
   begins_kept none (steps.built s new_one is answer) = kept_as u' u r (goes (checks (finds s))) is answer (record { bounds = bounds; stepped_so = (new_request true _ s new_one, none); same_aim = refl })
   begins_kept none (steps.not_built e fails is answer) = kept_as u' u r (failed e) is answer (record { bounds = bounds; stepped_so = tt; same_aim = refl })

@@ -5,7 +5,7 @@ use Rattle.mg_bson.specs.Tree.{Fields, Tree}
 use Rattle.mg_link.specs.Commands.{Asked, asked, asks_create, asks_delete, asks_indexes, asks_insert}
 use Rattle.mg_link.specs.Exec.{Sending}
 use Rattle.mg_link.specs.Files.{has_value}
-use Rattle.mg_link.specs.Link.{Awaited, Told}
+use Rattle.mg_link.specs.Link.{Awaited, LogTold}
 use Rattle.mg_link.specs.Session.{Session}
 use Rattle.mg_link.specs.Standing.{Names}
 use Rattle.mg_ops.specs.Naming.{IsNamed}
@@ -49,12 +49,12 @@ next_fine d c (next.Batch bytes) d' r fine h = tt
 next_fine d c next.End d' r fine h = tt
 next_fine d c (next.Failed e) d' r fine h = subst TriesWell h.1 fine
 
-advance_named : (old new : Awaited) (log log' : Told) (wire : ℤ) (started : Bool) (d d' : DocumentCursor) (r : TryPoll) → TriesWell r → IsNamed d.cursor.space → AdvancesOnce old new log log' wire None started d d' r → IsNamed d'.cursor.space
+advance_named : (old new : Awaited) (log log' : LogTold) (wire : ℤ) (started : Bool) (d d' : DocumentCursor) (r : TryPoll) → TriesWell r → IsNamed d.cursor.space → AdvancesOnce old new log log' wire None started d d' r → IsNamed d'.cursor.space
 advance_named old new log log' wire started d d' r fine named (gives x xs these none same is answer) = subst (λ (y : DocumentCursor). IsNamed y.cursor.space) (sym is) named
 advance_named old new log log' wire started d d' r fine named (polls none_left c p ran takes) =
     subst (λ (y : ClientCursor). IsNamed y.space) (sym (takes_cursor d c p d' r takes)) (next_named old new log log' wire started d.cursor c p (next_fine d c p d' r fine takes) named ran)
 
-pub tries_named : (old new : Awaited) (log log' : Told) (wire : ℤ) (started : Bool) (d d' : DocumentCursor) (r : TryPoll) → TriesWell r → IsNamed d.cursor.space → TriesAdvance old new log log' wire None started d d' r → IsNamed d'.cursor.space
+pub tries_named : (old new : Awaited) (log log' : LogTold) (wire : ℤ) (started : Bool) (d d' : DocumentCursor) (r : TryPoll) → TriesWell r → IsNamed d.cursor.space → TriesAdvance old new log log' wire None started d d' r → IsNamed d'.cursor.space
 tries_named old new log log' wire started d d' r fine named h =
     let same : d'.cursor ≡ h.advanced.cursor = ap (λ (y : DocumentCursor). y.cursor) h.kept ∙ kept_cursor r h.advanced in
     subst (λ (y : ClientCursor). IsNamed y.space) (sym same) (advance_named old new log log' wire started d h.advanced r fine named h.tries)
@@ -68,7 +68,7 @@ none_after : (started : Bool) → session_after started None ≡ None
 none_after true = refl
 none_after false = refl
 
-pub seeks_named : (n : ℕ) (old new : Awaited) (log log' : Told) (wire : ℤ) (starts : ℕ) (d d' : DocumentCursor) (r : AdvancePoll) → SeeksWell r → IsNamed d.cursor.space → SeeksDocument n old new log log' wire None starts d d' r → IsNamed d'.cursor.space
+pub seeks_named : (n : ℕ) (old new : Awaited) (log log' : LogTold) (wire : ℤ) (starts : ℕ) (d d' : DocumentCursor) (r : AdvancePoll) → SeeksWell r → IsNamed d.cursor.space → SeeksDocument n old new log log' wire None starts d d' r → IsNamed d'.cursor.space
 unfolding SeeksDocument
 seeks_named zero old new log log' wire starts d d' r fine named last =
     subst (λ (y : ClientCursor). IsNamed y.space) (sym (ended_cursor last.poll last.advanced d' r last.ends))

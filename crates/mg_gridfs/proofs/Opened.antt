@@ -2,7 +2,7 @@
 use Rattle.std.proofs.Common.{◌≡◌, ◌≤◌, ℕ, ℤ, true, List, length, Option, Some, None, refl, sym, ap, ◌∙◌, subst, inl, inr, arith}
 use Rattle.mg_link.specs.Calls.{Came, Flies, Grows, Keeps, Past, past_of, was_broken}
 use Rattle.mg_link.specs.Exec.{Runs, Sending, Stage, unsent}
-use Rattle.mg_link.specs.Link.{Awaited, SendsNothing, Told}
+use Rattle.mg_link.specs.Link.{Awaited, SendsNothing, LogTold}
 use Rattle.mg_link.specs.Log.{Call, reply}
 use Rattle.mg_link.specs.declared.action.Step.{Step}
 use Rattle.mg_link.specs.declared.action.Step.TheVariants as came
@@ -43,15 +43,15 @@ opening_kind past b id Cause e leads (inr cause) = leads e cause
 
 module _ (b : ClientBucket) (id : Tree) (places : List ℕ) (since : ℕ) (wire : ℤ) where
   -- the log has grown, and this is the answer
-  abbrev Answers : Awaited → List Call → Told → Opened → Type 0
+  abbrev Answers : Awaited → List Call → LogTold → Opened → Type 0
   Answers new calls log' r = Grew places since calls log' wire (λ past. OpeningCame new past b id r)
 
-  quietly : (old new : Awaited) (log log' : Told) (calls : List Call) (r q : Opened) → log ≡ Some calls → SendsNothing old new log log' → r ≡ q → OpeningCame new (past_of places since calls wire) b id q → Answers new calls log' r
+  quietly : (old new : Awaited) (log log' : LogTold) (calls : List Call) (r q : Opened) → log ≡ Some calls → SendsNothing old new log log' → r ≡ q → OpeningCame new (past_of places since calls wire) b id q → Answers new calls log' r
   quietly old new log log' calls r q told none is h = (calls, none.log_same ∙ told, same_keeps calls, subst (OpeningCame new (past_of places since calls wire) b id) (sym is) h)
 
   -- ---- the list of chunks
 
-  module _ (old new : Awaited) (log log' : Told) (f : FileRecord) (count : ℕ) (s : Sending) (r : Opened) where
+  module _ (old new : Awaited) (log log' : LogTold) (f : FileRecord) (count : ℕ) (s : Sending) (r : Opened) where
     list_came : (c : Step Sending (List ℕ)) → Runs old new log log' wire s c → HearsList f count c r → (past : Past) → HeardRecord past b id (Some f) → Came new past (fields_in (listed_lines b f.id)) true c → OpeningCame new past b id r
     list_came (came.Pending s') runs h past heard flies = subst (OpeningCame new past b id) (sym h) (flies, heard)
     list_came (came.Done bytes) runs (finding.opened out opens_so is) past heard last = subst (OpeningCame new past b id) (sym is) heard
@@ -66,7 +66,7 @@ module _ (b : ClientBucket) (id : Tree) (places : List ℕ) (since : ℕ) (wire 
 
   -- ---- behind the record
 
-  opens_caused : (old new : Awaited) (log log' : Told) (f : FileRecord) (r : Opened) (calls : List Call) → log ≡ Some calls → since ≤ length calls → HeardRecord (past_of places since calls wire) b id (Some f) → OpensFile old new log log' wire b f r → Answers new calls log' r
+  opens_caused : (old new : Awaited) (log log' : LogTold) (f : FileRecord) (r : Opened) (calls : List Call) → log ≡ Some calls → since ≤ length calls → HeardRecord (past_of places since calls wire) b id (Some f) → OpensFile old new log log' wire b f r → Answers new calls log' r
   opens_caused old new log log' f r calls told room heard (finding.too_many m many none is) =
       quietly old new log log' calls r (fails (broken m)) told none is (causes.too_many f heard (subst (λ x. Breaks x (broken m)) (sym many) refl))
   opens_caused old new log log' f r calls told room heard (finding.is_empty zero_long none is) = quietly old new log log' calls r _ told none is heard
@@ -75,7 +75,7 @@ module _ (b : ClientBucket) (id : Tree) (places : List ℕ) (since : ℕ) (wire 
   opens_caused old new log log' f r calls told room heard (finding.listed some count counted s new_one on) =
       lists_caused old new log log' f count s r calls told room (new_request (listed_lines b f.id) s new_one) (flies_new old (past_of places since calls wire) (listed_lines b f.id) s new_one.new) heard on
 
-  hears_caused : (old new : Awaited) (log log' : Told) (bytes : List ℕ) (r : Opened) (calls : List Call) → log ≡ Some calls → since ≤ length calls → ((found : Option FileRecord) → ReadsRecord bytes found → HeardRecord (past_of places since calls wire) b id found)
+  hears_caused : (old new : Awaited) (log log' : LogTold) (bytes : List ℕ) (r : Opened) (calls : List Call) → log ≡ Some calls → since ≤ length calls → ((found : Option FileRecord) → ReadsRecord bytes found → HeardRecord (past_of places since calls wire) b id found)
       → ((e : Error) → BreaksRecord bytes e → OpeningFails (past_of places since calls wire) b id e) → HearsRecord old new log log' wire b id bytes r → Answers new calls log' r
   hears_caused old new log log' bytes r calls told room heard breaks (finding.none_found reads_so e not_there none is) = quietly old new log log' calls r (fails e) told none is (causes.not_found (heard None reads_so) not_there)
   hears_caused old new log log' bytes r calls told room heard breaks (finding.is_found f reads_so on) = opens_caused old new log log' f r calls told room (heard (Some f) reads_so) on
@@ -84,11 +84,11 @@ module _ (b : ClientBucket) (id : Tree) (places : List ℕ) (since : ℕ) (wire 
 
   -- ---- the find of the record
 
-  find_ran : (old new : Awaited) (log log' : Told) (s : Sending) (c : Step Sending (List ℕ)) (calls : List Call) → log ≡ Some calls → since ≤ length calls → IsRequest true (found_lines b id) s → Flies old (past_of places since calls wire) (fields_in (found_lines b id)) s.stage → Runs old new log log' wire s c
+  find_ran : (old new : Awaited) (log log' : LogTold) (s : Sending) (c : Step Sending (List ℕ)) (calls : List Call) → log ≡ Some calls → since ≤ length calls → IsRequest true (found_lines b id) s → Flies old (past_of places since calls wire) (fields_in (found_lines b id)) s.stage → Runs old new log log' wire s c
       → RequestRan new places since calls log' wire (fields_in (found_lines b id)) true c
   find_ran old new log log' s c calls told room own flies runs = request_ran old new log log' wire s (fields_in (found_lines b id)) true c own.command_is own.retries_is runs calls told places since room flies
 
-  finds_caused : (old new : Awaited) (log log' : Told) (s : Sending) (r : Opened) (calls : List Call) → log ≡ Some calls → since ≤ length calls → IsRequest true (found_lines b id) s → Flies old (past_of places since calls wire) (fields_in (found_lines b id)) s.stage → FindsOn old new log log' wire b id s r → Answers new calls log' r
+  finds_caused : (old new : Awaited) (log log' : LogTold) (s : Sending) (r : Opened) (calls : List Call) → log ≡ Some calls → since ≤ length calls → IsRequest true (found_lines b id) s → Flies old (past_of places since calls wire) (fields_in (found_lines b id)) s.stage → FindsOn old new log log' wire b id s r → Answers new calls log' r
   finds_caused old new log log' s r calls told room own flies (finding.pends still runs is) =
       let ran = find_ran old new log log' s (came.Pending still) calls told room own flies runs in
       (ran.calls', ran.told, ran.grows.keeps, subst (OpeningCame new (past_of places since ran.calls' wire) b id) (sym is) ran.came)
@@ -105,14 +105,14 @@ module _ (b : ClientBucket) (id : Tree) (places : List ℕ) (since : ℕ) (wire 
       let past = past_of places since ran.calls' wire in
       (ran.calls', ran.told, ran.grows.keeps, subst (OpeningCame new past b id) (sym is) (causes.by_find (fails_anyhow past (fields_in (found_lines b id)) true TellsNoRecord e ran.came)))
 
-  begins_caused : (old new : Awaited) (log log' : Told) (r : Opened) (calls : List Call) → log ≡ Some calls → since ≤ length calls → BeginsFind old new log log' wire b id r → Answers new calls log' r
+  begins_caused : (old new : Awaited) (log log' : LogTold) (r : Opened) (calls : List Call) → log ≡ Some calls → since ≤ length calls → BeginsFind old new log log' wire b id r → Answers new calls log' r
   begins_caused old new log log' r calls told room (finding.built s new_one on) = finds_caused old new log log' s r calls told room (new_request (found_lines b id) s new_one) (flies_new old (past_of places since calls wire) (found_lines b id) s new_one.new) on
   begins_caused old new log log' r calls told room (finding.not_built e fails_so none is) =
       quietly old new log log' calls r (fails e) told none is (opening_kind (past_of places since calls wire) b id (CannotSend (found_lines b id)) e (λ x cannot. causes.find_not_built cannot) fails_so)
 
 -- ---- a poll
 
-module _ (old new : Awaited) (log log' : Told) (wire : ℤ) (o : ClientFinding) (r : Opened) (sound : IsSoundFinding o) where
+module _ (old new : Awaited) (log log' : LogTold) (wire : ℤ) (o : ClientFinding) (r : Opened) (sound : IsSoundFinding o) where
   -- of its bucket
   for_bucket : (b : ClientBucket) → o.bucket ≡ Some b → (calls : List Call) (places : List ℕ) → Grew places (length calls) calls log' wire (λ past. OpeningCame new past b o.id r) → (calls' : List Call) × (log' ≡ Some calls') × Keeps calls calls' × ((x : ClientBucket) → o.bucket ≡ Some x → OpeningCame new (past_of places (length calls) calls' wire) x o.id r)
   for_bucket b is calls places g = (g.0, g.1, g.2, λ x at. subst (λ (y : ClientBucket). OpeningCame new (past_of places (length calls) g.0 wire) y o.id r) (same_some b x (sym is ∙ at)) g.3)

@@ -7,7 +7,7 @@ use Rattle.mg_link.specs.Commands.{Asked, Batch, asked, asked_by, asks_other, as
 use Rattle.mg_link.specs.Exec.{IsSuccess, Runs, Sending, Stage, first, second, unsent}
 use Rattle.mg_link.specs.Files.{Bucket, chunks_space, files_space}
 use Rattle.mg_link.specs.Follow.{Reads}
-use Rattle.mg_link.specs.Link.{Awaited, SendsNothing, Told}
+use Rattle.mg_link.specs.Link.{Awaited, SendsNothing, LogTold}
 use Rattle.mg_link.specs.Log.{Call}
 use Rattle.mg_link.specs.Namespace.{Space, space}
 use Rattle.mg_link.specs.Owner.{IsOf, Owner, Passes, nobody}
@@ -169,7 +169,7 @@ AfterIt awaited calls at id (opens d) = KnowsDownload awaited calls at id d []
 AfterIt awaited calls at id (fails e) = Unit {0}
 
 -- the log has grown, others are left alone, and this is known
-abbrev Grown : Awaited → List Call → Told → Bucket → Tree → Owner → Opened → Type 0
+abbrev Grown : Awaited → List Call → LogTold → Bucket → Tree → Owner → Opened → Type 0
 Grown new calls log' at id own r = (calls' : List Call) × (log' ≡ Some calls') × Passes calls calls' own (opened_owner new r) × AfterIt new calls' at id r
 
 -- it stands behind this place
@@ -186,12 +186,12 @@ behind_of new p (second ticket) h n (inl e) = h n e
 behind_of new p (second ticket) h n (inr none) = absurd none
 
 module _ (b : ClientBucket) (at : Bucket) (plain : IsPlainAt b at) (id : Tree) (wire : ℤ) where
-  quietly : (old new : Awaited) (log log' : Told) (calls : List Call) (r q : Opened) → log ≡ Some calls → SendsNothing old new log log' → r ≡ q → opened_owner new q ≡ nobody → AfterIt new calls at id q → Grown new calls log' at id nobody r
+  quietly : (old new : Awaited) (log log' : LogTold) (calls : List Call) (r q : Opened) → log ≡ Some calls → SendsNothing old new log log' → r ≡ q → opened_owner new q ≡ nobody → AfterIt new calls at id q → Grown new calls log' at id nobody r
   quietly old new log log' calls r q told_is none is owner after =
       (calls, none.log_same ∙ told_is, subst (λ (x : Opened). Passes calls calls nobody (opened_owner new x)) (sym is) (subst (λ (x : Owner). Passes calls calls nobody x) (sym owner) (passes_same calls nobody (holds_nobody calls))), subst (AfterIt new calls at id) (sym is) after)
 
   -- the list of chunks is waited for
-  lists_known : (old new : Awaited) (log log' : Told) (f : FileRecord) (count : ℕ) (s : Sending) (r : Opened) (calls : List Call) → log ≡ Some calls → fields s.command ≡ fields_in (listed_lines b f.id) → (k : KnowsRecord calls at id f) → FindingAt old calls (chunks_query (chunks_space at) f.id) s.stage → StandsBehind old k.front.place s.stage
+  lists_known : (old new : Awaited) (log log' : LogTold) (f : FileRecord) (count : ℕ) (s : Sending) (r : Opened) (calls : List Call) → log ≡ Some calls → fields s.command ≡ fields_in (listed_lines b f.id) → (k : KnowsRecord calls at id f) → FindingAt old calls (chunks_query (chunks_space at) f.id) s.stage → StandsBehind old k.front.place s.stage
       → ListsOn old new log log' wire f count s r → Grown new calls log' at id (finder_at old s.stage) r
   lists_known old new log log' f count s r calls told_is command k finding_so stands on = by_came on.came on.runs on.hears ran.2
     where
@@ -224,7 +224,7 @@ module _ (b : ClientBucket) (at : Bucket) (plain : IsPlainAt b at) (id : Tree) (
       by_came (came.Failed e) runs is h = (ran.0, ran.1, subst (λ (x : Opened). Passes calls ran.0 (finder_at old s.stage) (opened_owner new x)) (sym is) h, subst (AfterIt new ran.0 at id) (sym is) tt)
 
   -- behind the record
-  file_known : (old new : Awaited) (log log' : Told) (f : FileRecord) (r : Opened) (calls : List Call) → log ≡ Some calls → KnowsRecord calls at id f → OpensFile old new log log' wire b f r → Grown new calls log' at id nobody r
+  file_known : (old new : Awaited) (log log' : LogTold) (f : FileRecord) (r : Opened) (calls : List Call) → log ≡ Some calls → KnowsRecord calls at id f → OpensFile old new log log' wire b f r → Grown new calls log' at id nobody r
   file_known old new log log' f r calls told_is k (finding.too_many m many none is) = quietly old new log log' calls r (fails (broken m)) told_is none is refl tt
   file_known old new log log' f r calls told_is k (finding.is_empty no_length none is) =
       quietly old new log log' calls r (opens (empty_download f)) told_is none is refl (record { of_record = k; by = inl (record { no_length = no_length; none_read = refl; none_ahead = refl }) })
@@ -233,13 +233,13 @@ module _ (b : ClientBucket) (at : Bucket) (plain : IsPlainAt b at) (id : Tree) (
       let g = lists_known old new log log' f count s r calls told_is new_one.command_is k (subst (FindingAt old calls (chunks_query (chunks_space at) f.id)) (sym new_one.new) tt) (subst (StandsBehind old k.front.place) (sym new_one.new) tt) on in
       (g.0, g.1, subst (λ (stage : Stage). Passes calls g.0 (finder_at old stage) (opened_owner new r)) new_one.new g.2, g.3)
 
-  heard_known : (old new : Awaited) (log log' : Told) (bytes : List ℕ) (r : Opened) (calls : List Call) → log ≡ Some calls → ((f : FileRecord) → ReadsRecord bytes (Some f) → KnowsRecord calls at id f) → HearsRecord old new log log' wire b id bytes r → Grown new calls log' at id nobody r
+  heard_known : (old new : Awaited) (log log' : LogTold) (bytes : List ℕ) (r : Opened) (calls : List Call) → log ≡ Some calls → ((f : FileRecord) → ReadsRecord bytes (Some f) → KnowsRecord calls at id f) → HearsRecord old new log log' wire b id bytes r → Grown new calls log' at id nobody r
   heard_known old new log log' bytes r calls told_is known (finding.none_found reads_so e not_there none is) = quietly old new log log' calls r (fails e) told_is none is refl tt
   heard_known old new log log' bytes r calls told_is known (finding.is_found f reads_so on) = file_known old new log log' f r calls told_is (known f reads_so) on
   heard_known old new log log' bytes r calls told_is known (finding.broke e why none is) = quietly old new log log' calls r (fails e) told_is none is refl tt
 
   -- the record is waited for
-  finds_known : (old new : Awaited) (log log' : Told) (s : Sending) (r : Opened) (calls : List Call) → log ≡ Some calls → fields s.command ≡ fields_in (found_lines b id) → FindingAt old calls (record_query (files_space at) id) s.stage → FindsOn old new log log' wire b id s r → Grown new calls log' at id (finder_at old s.stage) r
+  finds_known : (old new : Awaited) (log log' : LogTold) (s : Sending) (r : Opened) (calls : List Call) → log ≡ Some calls → fields s.command ≡ fields_in (found_lines b id) → FindingAt old calls (record_query (files_space at) id) s.stage → FindsOn old new log log' wire b id s r → Grown new calls log' at id (finder_at old s.stage) r
   finds_known old new log log' s r calls told_is command finding_so (finding.pends still runs is) =
       let x = query_ran (record_query (files_space at) id) old new log log' wire s (came.Pending still) (found_asks b at plain id s.command command) runs calls told_is finding_so in
       (x.0, x.1, subst (λ (y : Opened). Passes calls x.0 (finder_at old s.stage) (opened_owner new y)) (sym is) x.2.1, subst (AfterIt new x.0 at id) (sym is) x.2.0)
@@ -251,13 +251,13 @@ module _ (b : ClientBucket) (at : Bucket) (plain : IsPlainAt b at) (id : Tree) (
       let x = query_ran (record_query (files_space at) id) old new log log' wire s (came.Failed e) (found_asks b at plain id s.command command) runs calls told_is finding_so in
       (x.0, x.1, subst (λ (y : Opened). Passes calls x.0 (finder_at old s.stage) (opened_owner new y)) (sym is) x.2, subst (AfterIt new x.0 at id) (sym is) tt)
 
-  begins_known : (old new : Awaited) (log log' : Told) (r : Opened) (calls : List Call) → log ≡ Some calls → BeginsFind old new log log' wire b id r → Grown new calls log' at id nobody r
+  begins_known : (old new : Awaited) (log log' : LogTold) (r : Opened) (calls : List Call) → log ≡ Some calls → BeginsFind old new log log' wire b id r → Grown new calls log' at id nobody r
   begins_known old new log log' r calls told_is (finding.built s new_one on) =
       let g = finds_known old new log log' s r calls told_is new_one.command_is (subst (FindingAt old calls (record_query (files_space at) id)) (sym new_one.new) tt) on in
       (g.0, g.1, subst (λ (stage : Stage). Passes calls g.0 (finder_at old stage) (opened_owner new r)) new_one.new g.2, g.3)
   begins_known old new log log' r calls told_is (finding.not_built e why none is) = quietly old new log log' calls r (fails e) told_is none is refl tt
 
-module _ (old new : Awaited) (log log' : Told) (wire : ℤ) (at : Bucket) (o : ClientFinding) (r : Opened) (sound : IsSoundFinding o) where
+module _ (old new : Awaited) (log log' : LogTold) (wire : ℤ) (at : Bucket) (o : ClientFinding) (r : Opened) (sound : IsSoundFinding o) where
   after_it : (calls : List Call) (q : Opened) → ((b : ClientBucket) → o.bucket ≡ Some b → IsPlainAt b at) → AfterIt new calls at o.id q → AfterOpening new calls at o q
   after_it calls (waits doing) placed h = record { placed = placed; by = h }
   after_it calls (opens d) placed h = h

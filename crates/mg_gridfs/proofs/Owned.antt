@@ -5,7 +5,7 @@ use Rattle.mg_bson.specs.Raw.{fields}
 use Rattle.mg_bson.specs.Tree.{Fields}
 use Rattle.mg_link.specs.Commands.{documents_in}
 use Rattle.mg_link.specs.Exec.{IsSuccess, Runs, Sending, unsent}
-use Rattle.mg_link.specs.Link.{Awaited, Told}
+use Rattle.mg_link.specs.Link.{Awaited, LogTold}
 use Rattle.mg_link.specs.Log.{Call}
 use Rattle.mg_link.specs.Namespace.{space}
 use Rattle.mg_link.specs.Owner.{Owner, Passes, nobody}
@@ -61,7 +61,7 @@ KnowsTurned awaited calls b check.passes = Unit {0}
 KnowsTurned awaited calls b (check.fails e) = Unit {0}
 
 -- it left others alone, and knows its own
-abbrev pub Turned : List Call → Told → Owner → Awaited → ClientBucket → CheckTurned → Type 0
+abbrev pub Turned : List Call → LogTold → Owner → Awaited → ClientBucket → CheckTurned → Type 0
 Turned calls log' own new b t = (calls' : List Call) × (log' ≡ Some calls') × Passes calls calls' own (turned_owner new t) × KnowsTurned new calls' b t
 
 abbrev pub left_owner : Awaited → Option ClientCheck → Owner
@@ -73,7 +73,7 @@ KnowsLeft awaited calls b None = Unit {0}
 KnowsLeft awaited calls b (Some c) = KnowsCheck awaited calls b c
 
 -- the same of one that was given up
-abbrev pub Left : List Call → Told → Owner → Awaited → ClientBucket → Option ClientCheck → Type 0
+abbrev pub Left : List Call → LogTold → Owner → Awaited → ClientBucket → Option ClientCheck → Type 0
 Left calls log' own new b t = (calls' : List Call) × (log' ≡ Some calls') × Passes calls calls' own (left_owner new t) × KnowsLeft new calls' b t
 
 -- a job that owns nothing any more
@@ -157,7 +157,7 @@ module _ (new : Awaited) (b : ClientBucket) where
 
 -- ---- a step
 
-module _ (old new : Awaited) (log log' : Told) (wire : ℤ) (b : ClientBucket) (files : IsNamed b.files) (chunks : IsNamed b.chunks) (calls : List Call) (told : log ≡ Some calls) where
+module _ (old new : Awaited) (log log' : LogTold) (wire : ℤ) (b : ClientBucket) (files : IsNamed b.files) (chunks : IsNamed b.chunks) (calls : List Call) (told : log ≡ Some calls) where
   turned_as : (own : Owner) (t q : CheckTurned) → t ≡ q → Turned calls log' own new b q → Turned calls log' own new b t
   turned_as own t q is h = subst (Turned calls log' own new b) (sym is) h
 

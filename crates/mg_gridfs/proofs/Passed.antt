@@ -2,7 +2,7 @@
 use Rattle.std.proofs.Common.{◌≡◌, ℕ, zero, suc, ℤ, Bool, true, false, List, [], ◌∷◌, length, Option, Some, None, refl, sym, ap, ◌∙◌, subst}
 use Rattle.std.specs.Prelude.{if◌then◌else◌, option_map}
 use Rattle.mg_link.specs.Exec.{Sending, Stage, first, second, ticket_at, unsent}
-use Rattle.mg_link.specs.Link.{Awaited, SendsNothing, Told}
+use Rattle.mg_link.specs.Link.{Awaited, SendsNothing, LogTold}
 use Rattle.mg_link.specs.Log.{Call}
 use Rattle.mg_link.specs.Owner.{Holds, Owner, Passes, nobody}
 use Rattle.mg_link.specs.Query.{Query}
@@ -50,7 +50,7 @@ KnowsBehind awaited calls b done = Unit {0}
 KnowsBehind awaited calls b (failed e) = Unit {0}
 
 -- it left others alone, and knows its own
-abbrev pub Passed : List Call → Told → Owner → Awaited → ClientBucket → Stepped → Type 0
+abbrev pub Passed : List Call → LogTold → Owner → Awaited → ClientBucket → Stepped → Type 0
 Passed calls log' own new b r = (calls' : List Call) × (log' ≡ Some calls') × Passes calls calls' own (stepped_owner new r) × KnowsBehind new calls' b r
 
 -- ---- steps that own nothing behind them
@@ -114,7 +114,7 @@ module _ (new : Awaited) (b : ClientBucket) where
 
 -- ---- a step
 
-module _ (old new : Awaited) (log log' : Told) (wire : ℤ) (u u' : ClientUpload) (files : IsNamed u.aim.bucket.files) (chunks : IsNamed u.aim.bucket.chunks) (r : Stepped) (calls : List Call) (told : log ≡ Some calls) where
+module _ (old new : Awaited) (log log' : LogTold) (wire : ℤ) (u u' : ClientUpload) (files : IsNamed u.aim.bucket.files) (chunks : IsNamed u.aim.bucket.chunks) (r : Stepped) (calls : List Call) (told : log ≡ Some calls) where
   plainly : PassesPlain log log' → Plain new u.aim.bucket r → Passed calls log' nobody new u.aim.bucket r
   plainly passes plain = let p = passes calls told in (p.0, p.1, subst (λ (o : Owner). Passes calls p.0 nobody o) (sym plain.0) p.2, plain.1 p.0)
 
@@ -182,11 +182,11 @@ module _ (old new : Awaited) (log log' : Told) (wire : ℤ) (u u' : ClientUpload
 -- ---- all steps
 
 -- the same, of an upload whose aim stays
-pub record PassedOn (calls : List Call) (log' : Told) (own : Owner) (new : Awaited) (u u' : ClientUpload) (r : Stepped) : Type 0 where
+pub record PassedOn (calls : List Call) (log' : LogTold) (own : Owner) (new : Awaited) (u u' : ClientUpload) (r : Stepped) : Type 0 where
   pub passed : Passed calls log' own new u.aim.bucket r
   pub same_aim : u'.aim ≡ u.aim
 
-pub steps_pass : (n : ℕ) (old new : Awaited) (log log' : Told) (wire : ℤ) (ids : ℕ → List ℕ) (drawn : ℕ) (u u' : ClientUpload) (p : Phase) (r : Stepped) → IsNamed u.aim.bucket.files → IsNamed u.aim.bucket.chunks → HasBounds u → IsSoundPhase u p
+pub steps_pass : (n : ℕ) (old new : Awaited) (log log' : LogTold) (wire : ℤ) (ids : ℕ → List ℕ) (drawn : ℕ) (u u' : ClientUpload) (p : Phase) (r : Stepped) → IsNamed u.aim.bucket.files → IsNamed u.aim.bucket.chunks → HasBounds u → IsSoundPhase u p
     → DoesSteps n old new log log' wire ids drawn u u' p r → (calls : List Call) → log ≡ Some calls → KnowsAt old calls u.aim.bucket p → PassedOn calls log' (phase_owner old p) new u u' r
 unfolding DoesSteps
 steps_pass zero old new log log' wire ids drawn u u' p r files chunks bounds sound d calls told k =
@@ -371,7 +371,7 @@ begun_knows awaited calls b false = tt
 
 -- ---- a poll
 
-module _ (old new : Awaited) (log log' : Told) (wire : ℤ) (u u' : ClientUpload) (sound : IsBetween u) where
+module _ (old new : Awaited) (log log' : LogTold) (wire : ℤ) (u u' : ClientUpload) (sound : IsBetween u) where
   -- nothing was sent
   stays : SendsNothing old new log log' → u' ≡ u → LeavesOthers old new log log' u u'
   stays quiet is calls told k =

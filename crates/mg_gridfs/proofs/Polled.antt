@@ -5,7 +5,7 @@ use Rattle.mg_link.specs.Calls.{Past, past_of}
 use Rattle.mg_link.specs.Exec.{Stage, first, second, ticket_at, unsent}
 use Rattle.mg_link.specs.Files.{AreChunks, Bucket, File, chunked}
 use Rattle.mg_link.specs.Filing.{Filing, KnowsFile, becomes, cleared, clears, insert_at, part, removal_at, stays, unknown, whole_with}
-use Rattle.mg_link.specs.Link.{Awaited, SendsNothing, Told}
+use Rattle.mg_link.specs.Link.{Awaited, SendsNothing, LogTold}
 use Rattle.mg_link.specs.Log.{Call}
 use Rattle.mg_link.specs.declared.error.Error.{Error}
 use Rattle.mg_link.proofs.Calls.{same_keeps}
@@ -251,7 +251,7 @@ pub begun_writes : (piece : ℕ) (t : Bool) → IsOfCall (write piece) (if t the
 begun_writes piece true = tt
 begun_writes piece false = tt
 
-module _ (old new : Awaited) (log log' : Told) (wire : ℤ) (at : Bucket) (u u' : ClientUpload) (sound : IsBetween u) where
+module _ (old new : Awaited) (log log' : LogTold) (wire : ℤ) (at : Bucket) (u u' : ClientUpload) (sound : IsBetween u) where
   -- what is known behind all steps of a call
   driven : (ids : ℕ → List ℕ) (drawn : ℕ) (call : uploads.Call) (v : ClientUpload) (p : Phase) (s : Stepped) (taken places : List ℕ) (calls : List Call) → log ≡ Some calls → v.aim ≡ u.aim → IsPlaced at (at_work v) → HasBounds (at_work v) → IsSoundPhase (at_work v) p → IsOfCall call p
       → (d : Drives old new log log' wire ids drawn call v u' p s) → KnowsPhase old (past_of places (length calls) calls wire) at (at_work v) taken p

@@ -1,7 +1,7 @@
 -- What the answers of a read are caused by.
 use Rattle.std.proofs.Common.{◌≡◌, ◌⊎◌, ◌≤◌, ◌+◌, ℕ, zero, suc, ℤ, Bool, true, List, [], ◌∷◌, length, Some, None, Err, refl, sym, ap, ◌∙◌, subst, inl, inr, arith}
 use Rattle.mg_link.specs.Calls.{Grows, Keeps, Past, past_of}
-use Rattle.mg_link.specs.Link.{Awaited, Told}
+use Rattle.mg_link.specs.Link.{Awaited, LogTold}
 use Rattle.mg_link.specs.Log.{Call}
 use Rattle.mg_link.specs.declared.error.Error.{Error}
 use Rattle.mg_link.specs.declared.error.ErrorKind.TheVariants as kind
@@ -25,7 +25,7 @@ use Rattle.mg_gridfs.specs.Downloads.{ClientDownload, Doing, IsSoundDownload, So
 use Rattle.mg_gridfs.specs.ReadCauses as causes
 use Rattle.mg_gridfs.specs.ReadCauses.{HasInOrder, ReadCame, ReadCaused, ReadFails, TakesNext, TookAll, cursor_in}
 use Rattle.mg_gridfs.specs.Reads as steps
-use Rattle.mg_gridfs.specs.Reads.{Concludes, EndsFetch, Fetched, Fetches, Gives, Reads, ReadsNone, SpoilsBatch, enough, fails, no_more, none_missing, not_taken, over, pends, waits}
+use Rattle.mg_gridfs.specs.Reads.{Concludes, EndsFetch, Fetched, Fetches, HandsOut, Reads, ReadsNone, SpoilsBatch, enough, fails, no_more, none_missing, not_taken, over, pends, waits}
 use Rattle.mg_gridfs.specs.declared.polls.ReadPoll.{ReadPoll}
 use Rattle.mg_gridfs.proofs.Downloading.{fetches_same, next_rests, same_cursor, taken_as}
 
@@ -94,7 +94,7 @@ came_before past bytes awaited d m c b d' enough file count o taken passes h = (
 came_before past bytes awaited d m c b d' (fails e) file count o taken passes h = read_fails_before past bytes d m c b e file count o taken passes h
 
 -- the log behind a poll, and this
-abbrev Behind : List Call → Told → List ℕ → ℤ → (Past → Type 0) → Type 0
+abbrev Behind : List Call → LogTold → List ℕ → ℤ → (Past → Type 0) → Type 0
 Behind calls log' places wire Here = (calls' : List Call) × (log' ≡ Some calls') × Keeps calls calls' × Here (past_of places (length calls) calls' wire)
 
 as_many : (d d' : ClientDownload) → d'.taken ≡ d.taken → d.taken ≤ d'.taken
@@ -111,7 +111,7 @@ spoils_so past d c b empty reply e came next_one (inr (steps.no_batch none)) = c
 spoils_so past d c b empty reply e came next_one (inr (steps.differs batch there bad)) = causes.differs reply (last_of past c reply came) batch there d.taken (as_many d d refl) [] c b (refl, refl) next_one bad
 spoils_so past d c b empty reply e came next_one (inr (steps.too_many none many is)) = causes.too_many reply (last_of past c reply came) none is
 
-module _ (old new : Awaited) (log log' : Told) (wire : ℤ) (d d' : ClientDownload) (c : ClientCursor) (m k : ℕ) (doing : d.doing ≡ reads c m k) (sound : IsSound true c) (calls : List Call) (told : log ≡ Some calls) (places : List ℕ) (under : IsUnderway old (past_of places (length calls) calls wire) c) where
+module _ (old new : Awaited) (log log' : LogTold) (wire : ℤ) (d d' : ClientDownload) (c : ClientCursor) (m k : ℕ) (doing : d.doing ≡ reads c m k) (sound : IsSound true c) (calls : List Call) (told : log ≡ Some calls) (places : List ℕ) (under : IsUnderway old (past_of places (length calls) calls wire) c) where
   at_c : (started : Bool) (x behind : ClientCursor) (r : NextPoll) (m' k' : ℕ) → d.doing ≡ reads x m' k' → PollsNext old new log log' wire None started x behind r → PollsNext old new log log' wire None started c behind r
   at_c started x behind r m' k' there polls = subst (λ (y : ClientCursor). PollsNext old new log log' wire None started y behind r) (same_cursor x c m' m k' k (sym there ∙ doing)) polls
 
@@ -134,7 +134,7 @@ module _ (old new : Awaited) (log log' : Told) (wire : ℤ) (d d' : ClientDownlo
       let next_one = as_next past c reply behind (passes_next (HeardMore past c reply) reply c behind (next.Batch reply) refl old new log log' wire None started y.3 here) in
       (y.0, y.1, y.2, subst (FetchCame new (past_of places (length calls) y.0 wire) d c d') (sym answer) (spoils_so (past_of places (length calls) y.0 wire) d c behind k' reply e y.3 next_one why))
 
-fetches_caused : (n : ℕ) (old new : Awaited) (log log' : Told) (wire : ℤ) (d d' : ClientDownload) (c : ClientCursor) (m k : ℕ) (f : Fetched) → d.doing ≡ reads c m k → IsSound true c → Fetches n old new log log' wire d d' f → (calls : List Call) → log ≡ Some calls → (places : List ℕ) → IsUnderway old (past_of places (length calls) calls wire) c
+fetches_caused : (n : ℕ) (old new : Awaited) (log log' : LogTold) (wire : ℤ) (d d' : ClientDownload) (c : ClientCursor) (m k : ℕ) (f : Fetched) → d.doing ≡ reads c m k → IsSound true c → Fetches n old new log log' wire d d' f → (calls : List Call) → log ≡ Some calls → (places : List ℕ) → IsUnderway old (past_of places (length calls) calls wire) c
     → Behind calls log' places wire (λ past. FetchCame new past d c d' f)
 unfolding Fetches
 fetches_caused zero old new log log' wire d d' c m k f doing sound ends calls told places under = ends_caused old new log log' wire d d' c m k doing sound calls told places under f ends
@@ -156,11 +156,11 @@ fetches_caused (suc n) old new log log' wire d d' c m k f doing sound more calls
 
 -- ---- a poll
 
-module _ (old new : Awaited) (log log' : Told) (wire : ℤ) (d d' : ClientDownload) (given : List ℕ) (r : ReadPoll) (sound : IsSoundDownload d) where
+module _ (old new : Awaited) (log log' : LogTold) (wire : ℤ) (d d' : ClientDownload) (given : List ℕ) (r : ReadPoll) (sound : IsSoundDownload d) where
   none_caused : ReadsNone old new log log' d d' given r → ReadCaused old new log log' wire d d' r
   none_caused h calls told places under = (calls, h.quiet.log_same ∙ told, same_keeps calls, subst (ReadCame new (past_of places (length calls) calls wire) d d') (sym h.answer) tt)
 
-  gives_came : (past : Past) (room : ℕ) (c b : ClientCursor) (e : ClientDownload) → cursor_in d.doing ≡ Some c → e.count ≡ d.count → d.taken ≤ e.taken → (before : List (List ℕ)) (at : ClientCursor) → TookAll past d.file c before d.taken e.taken at → Gives room b e d' given r → ReadCame new past d d' r
+  gives_came : (past : Past) (room : ℕ) (c b : ClientCursor) (e : ClientDownload) → cursor_in d.doing ≡ Some c → e.count ≡ d.count → d.taken ≤ e.taken → (before : List (List ℕ)) (at : ClientCursor) → TookAll past d.file c before d.taken e.taken at → HandsOut room b e d' given r → ReadCame new past d d' r
   gives_came past room c b e there count more before at took (steps.goes_on some is now answer) = subst (ReadCame new past d d') (sym answer) tt
   gives_came past room c b e there count more before at took (steps.ends none over_so full is now answer) = subst (ReadCame new past d d') (sym answer) tt
   gives_came past room c b e there count more before at took (steps.miscounts none over_so other no_bytes now answer) =

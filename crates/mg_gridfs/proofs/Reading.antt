@@ -9,7 +9,7 @@ use Rattle.mg_link.specs.Commands.{Asked, as_integer, asked, asked_by, asks_more
 use Rattle.mg_link.specs.Exec.{Runs, Sending}
 use Rattle.mg_link.specs.Files.{Bucket, File}
 use Rattle.mg_link.specs.Filing.{KnowsFile, Leaves, stays, unknown}
-use Rattle.mg_link.specs.Link.{Awaited, SendsNothing, Told}
+use Rattle.mg_link.specs.Link.{Awaited, SendsNothing, LogTold}
 use Rattle.mg_link.specs.Log.{Call}
 use Rattle.mg_link.specs.Namespace.{Space}
 use Rattle.mg_link.specs.Session.{Session}
@@ -66,7 +66,7 @@ more_leaves c session command at id is = leaves_more command at id (asks_so c se
 
 -- what holds behind each poll of a getMore
 abbrev MoreKeeps : List ℕ → ℕ → ℤ → (Past → Type 0) → Type 0
-MoreKeeps places since wire Holds = (old new : Awaited) (log log' : Told) (version : ℤ) (s : Sending) (came : Step Sending (List ℕ)) (c : ClientCursor) (session : Option Session) → fields s.command ≡ get_more c session → Runs old new log log' version s came
+MoreKeeps places since wire Holds = (old new : Awaited) (log log' : LogTold) (version : ℤ) (s : Sending) (came : Step Sending (List ℕ)) (c : ClientCursor) (session : Option Session) → fields s.command ≡ get_more c session → Runs old new log log' version s came
     → (calls : List Call) → log ≡ Some calls → Holds (past_of places since calls wire) → Grew places since calls log' wire Holds
 
 plain_after : (started : Bool) → session_after started None ≡ None
@@ -77,7 +77,7 @@ filled_cursor : (c : ClientCursor) (documents : List (List ℕ)) (d : DocumentCu
 filled_cursor c [] d = refl
 filled_cursor c (x ∷ xs) d = refl
 
-advance_sound : (old new : Awaited) (log log' : Told) (version : ℤ) (started : Bool) (d d' : DocumentCursor) (r : TryPoll) → AdvancesOnce old new log log' version None started d d' r → IsSound true d.cursor → IsSound true d'.cursor
+advance_sound : (old new : Awaited) (log log' : LogTold) (version : ℤ) (started : Bool) (d d' : DocumentCursor) (r : TryPoll) → AdvancesOnce old new log log' version None started d d' r → IsSound true d.cursor → IsSound true d'.cursor
 advance_sound old new log log' version started d d' r (gives x xs behind none quiet is answer) sound = subst (λ (e : DocumentCursor). IsSound true e.cursor) (sym is) sound
 advance_sound old new log log' version started d d' r (polls behind c p next_is takes) sound = by_next p takes
   where
@@ -99,7 +99,7 @@ ended_sound try.Pending d d' r h sound = subst (λ (e : DocumentCursor). IsSound
 ended_sound (try.Ready a) d d' r h sound = subst (λ (e : DocumentCursor). IsSound true e.cursor) (sym h.1) sound
 ended_sound (try.Failed e) d d' r h sound = subst (λ (f : DocumentCursor). IsSound true f.cursor) (sym h.0) sound
 
-pub seek_sound : (n : ℕ) (old new : Awaited) (log log' : Told) (version : ℤ) (starts : ℕ) (d d' : DocumentCursor) (r : AdvancePoll) → IsSound true d.cursor → SeeksDocument n old new log log' version None starts d d' r → IsSound true d'.cursor
+pub seek_sound : (n : ℕ) (old new : Awaited) (log log' : LogTold) (version : ℤ) (starts : ℕ) (d d' : DocumentCursor) (r : AdvancePoll) → IsSound true d.cursor → SeeksDocument n old new log log' version None starts d d' r → IsSound true d'.cursor
 unfolding SeeksDocument
 seek_sound zero old new log log' version starts d d' r sound s = ended_sound s.poll s.advanced d' r s.ends (advance_sound old new log log' version s.started d s.advanced s.poll s.tries sound)
 seek_sound (suc n) old new log log' version starts d d' r sound s =
@@ -113,15 +113,15 @@ kept_sound try.Pending d sound = sound
 kept_sound (try.Ready a) d sound = sound
 kept_sound (try.Failed e) d sound = sound
 
-pub try_sound : (old new : Awaited) (log log' : Told) (version : ℤ) (started : Bool) (d d' : DocumentCursor) (r : TryPoll) → IsSound true d.cursor → TriesAdvance old new log log' version None started d d' r → IsSound true d'.cursor
+pub try_sound : (old new : Awaited) (log log' : LogTold) (version : ℤ) (started : Bool) (d d' : DocumentCursor) (r : TryPoll) → IsSound true d.cursor → TriesAdvance old new log log' version None started d d' r → IsSound true d'.cursor
 try_sound old new log log' version started d d' r sound t =
     subst (λ (e : DocumentCursor). IsSound true e.cursor) (sym t.kept) (kept_sound r t.advanced (advance_sound old new log log' version started d t.advanced r t.tries sound))
 
 module _ (places : List ℕ) (since : ℕ) (wire : ℤ) (Holds : Past → Type 0) (keep : MoreKeeps places since wire Holds) where
-  quiet_ran : (old new : Awaited) (log log' : Told) → SendsNothing old new log log' → (calls : List Call) → log ≡ Some calls → Holds (past_of places since calls wire) → Grew places since calls log' wire Holds
+  quiet_ran : (old new : Awaited) (log log' : LogTold) → SendsNothing old new log log' → (calls : List Call) → log ≡ Some calls → Holds (past_of places since calls wire) → Grew places since calls log' wire Holds
   quiet_ran old new log log' none calls told h = (calls, none.log_same ∙ told, same_keeps calls, h)
 
-  next_ran : (old new : Awaited) (log log' : Told) (version : ℤ) (started : Bool) (c c' : ClientCursor) (r : NextPoll) → IsSound true c → PollsNext old new log log' version None started c c' r → (calls : List Call) → log ≡ Some calls → Holds (past_of places since calls wire) → Grew places since calls log' wire Holds
+  next_ran : (old new : Awaited) (log log' : LogTold) (version : ℤ) (started : Bool) (c c' : ClientCursor) (r : NextPoll) → IsSound true c → PollsNext old new log log' version None started c c' r → (calls : List Call) → log ≡ Some calls → Holds (past_of places since calls wire) → Grew places since calls log' wire Holds
   next_ran old new log log' version started c c' r sound (hands_out reply at none same is answer) calls told h = quiet_ran old new log log' none calls told h
   next_ran old new log log' version started c c' r sound (is_over at over none same is answer) calls told h = quiet_ran old new log log' none calls told h
   next_ran old new log log' version started c c' r sound (not_built at may e fails none same is answer) calls told h = quiet_ran old new log log' none calls told h
@@ -131,12 +131,12 @@ module _ (places : List ℕ) (since : ℕ) (wire : ℤ) (Holds : Past → Type 0
       let on = subst (SoundBy true c) at sound in
       keep old new log log' version sending asked.came c on.session on.waits_on.command_is (runs_of old new log log' version sending asked.came started asked.runs) calls told h
 
-  advance_ran : (old new : Awaited) (log log' : Told) (version : ℤ) (started : Bool) (d d' : DocumentCursor) (r : TryPoll) → IsSound true d.cursor → AdvancesOnce old new log log' version None started d d' r → (calls : List Call) → log ≡ Some calls → Holds (past_of places since calls wire)
+  advance_ran : (old new : Awaited) (log log' : LogTold) (version : ℤ) (started : Bool) (d d' : DocumentCursor) (r : TryPoll) → IsSound true d.cursor → AdvancesOnce old new log log' version None started d d' r → (calls : List Call) → log ≡ Some calls → Holds (past_of places since calls wire)
       → Grew places since calls log' wire Holds
   advance_ran old new log log' version started d d' r sound (gives x xs behind none quiet is answer) calls told h = quiet_ran old new log log' none calls told h
   advance_ran old new log log' version started d d' r sound (polls behind c p next_is takes) calls told h = next_ran old new log log' version started d.cursor c p sound next_is calls told h
 
-  seek_ran : (n : ℕ) (old new : Awaited) (log log' : Told) (version : ℤ) (starts : ℕ) (d d' : DocumentCursor) (r : AdvancePoll) → IsSound true d.cursor → SeeksDocument n old new log log' version None starts d d' r → (calls : List Call) → log ≡ Some calls → Holds (past_of places since calls wire)
+  seek_ran : (n : ℕ) (old new : Awaited) (log log' : LogTold) (version : ℤ) (starts : ℕ) (d d' : DocumentCursor) (r : AdvancePoll) → IsSound true d.cursor → SeeksDocument n old new log log' version None starts d d' r → (calls : List Call) → log ≡ Some calls → Holds (past_of places since calls wire)
       → Grew places since calls log' wire Holds
   unfolding SeeksDocument
   seek_ran zero old new log log' version starts d d' r sound s calls told h = advance_ran old new log log' version s.started d s.advanced s.poll sound s.tries calls told h
@@ -149,7 +149,7 @@ module _ (places : List ℕ) (since : ℕ) (wire : ℤ) (Holds : Past → Type 0
 
 -- ---- the index check
 
-module _ (old new : Awaited) (log log' : Told) (version : ℤ) (b : ClientBucket) (at : Bucket) (id : Tree) (calls : List Call) (told : log ≡ Some calls) (places : List ℕ) (since : ℕ) (wire : ℤ) where
+module _ (old new : Awaited) (log log' : LogTold) (version : ℤ) (b : ClientBucket) (at : Bucket) (id : Tree) (calls : List Call) (told : log ≡ Some calls) (places : List ℕ) (since : ℕ) (wire : ℤ) where
   -- a step of it leaves the file
   pub check_ran : (file : File) (c : ClientCheck) (t : CheckTurned) → IsNamed b.files → IsNamed b.chunks → IsSoundCheck b c → ChecksOn old new log log' version b c t → KnowsFile (past_of places since calls wire) at id (stays file) → Grew places since calls log' wire (λ past. KnowsFile past at id (stays file))
   check_ran file c t files chunks sound (by_find sending is came runs hears) k =

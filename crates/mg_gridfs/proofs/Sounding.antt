@@ -5,7 +5,7 @@ use Rattle.std.specs.Prelude.{if◌then◌else◌}
 use Rattle.std.specs.List.{concat}
 use Rattle.mg_bson.specs.Raw.{items}
 use Rattle.mg_link.specs.Exec.{Sending}
-use Rattle.mg_link.specs.Link.{Awaited, Told}
+use Rattle.mg_link.specs.Link.{Awaited, LogTold}
 use Rattle.mg_link.specs.Pinned.{is_invalid}
 use Rattle.mg_link.specs.declared.action.Step.{Step}
 use Rattle.mg_link.specs.declared.action.Step.TheVariants as step
@@ -20,7 +20,7 @@ use Rattle.mg_cursor.proofs.Keeping.{sound_next}
 use Rattle.mg_records.specs.FileRecords.{FileRecord, chunk_count_of}
 use Rattle.mg_gridfs.specs.Downloads.{ClientDownload, Doing, HasSizes, IsAtRest, IsBetween, IsFree, IsSoundDownload, IsWaiting, RestsBy, SoundBy, ended, idle, most_empty, reads, received, spoiled, spoiled_at}
 use Rattle.mg_gridfs.specs.Reads as read_steps
-use Rattle.mg_gridfs.specs.Reads.{Concludes, EndsFetch, Fetched, Fetches, Fills, FillsFront, Gives, IsOver, IsWithin, Reads, ReadsNone, ReadsNothing, TakesOne, enough, fails, no_more, none_missing, not_taken, over, pends, waits, with_chunks}
+use Rattle.mg_gridfs.specs.Reads.{Concludes, EndsFetch, Fetched, Fetches, Fills, FillsFront, HandsOut, IsOver, IsWithin, Reads, ReadsNone, ReadsNothing, TakesOne, enough, fails, no_more, none_missing, not_taken, over, pends, waits, with_chunks}
 use Rattle.mg_gridfs.specs.declared.polls.ReadPoll.{ReadPoll}
 use Rattle.mg_gridfs.specs.declared.polls.ReadPoll.TheVariants as read
 use Rattle.mg_gridfs.proofs.Downloading.{TakenAs, next_rests, taken_as}
@@ -72,7 +72,7 @@ heard_free c (step.Pending sending) c' r fine free h = ap (λ (x : ClientCursor)
 heard_free c (step.Done reply) c' r fine free h = reply_free c reply c' r fine free h
 heard_free c (step.Failed e) c' r fine free h = absurd (subst IsNoError h.1 fine)
 
-next_free : (old new : Awaited) (log log' : Told) (wire : ℤ) (started : Bool) (c c' : ClientCursor) (r : NextPoll) → IsNoError r → IsFree c → PollsNext old new log log' wire None started c c' r → IsFree c'
+next_free : (old new : Awaited) (log log' : LogTold) (wire : ℤ) (started : Bool) (c c' : ClientCursor) (r : NextPoll) → IsNoError r → IsFree c → PollsNext old new log log' wire None started c c' r → IsFree c'
 next_free old new log log' wire started c c' r fine free (poll.hands_out reply at none same is answer) = ap (λ (x : ClientCursor). x.pinned) is ∙ free
 next_free old new log log' wire started c c' r fine free (poll.is_over at ended_so none same is answer) = ap (λ (x : ClientCursor). x.pinned) is ∙ free
 next_free old new log log' wire started c c' r fine free (poll.not_built at may e why none same is answer) = ap (λ (x : ClientCursor). x.pinned) is ∙ free
@@ -95,7 +95,7 @@ heard_waits c (step.Pending sending) c' r fine h = subst IsWaiting (sym (ap (λ 
 heard_waits c (step.Done reply) c' r fine h = absurd (reply_no_wait c reply c' r fine h)
 heard_waits c (step.Failed e) c' r fine h = absurd (subst IsPending h.1 fine)
 
-next_waits : (old new : Awaited) (log log' : Told) (wire : ℤ) (started : Bool) (c c' : ClientCursor) (r : NextPoll) → IsPending r → PollsNext old new log log' wire None started c c' r → IsWaiting c'.doing
+next_waits : (old new : Awaited) (log log' : LogTold) (wire : ℤ) (started : Bool) (c c' : ClientCursor) (r : NextPoll) → IsPending r → PollsNext old new log log' wire None started c c' r → IsWaiting c'.doing
 next_waits old new log log' wire started c c' r fine (poll.hands_out reply at none same is answer) = absurd (subst IsPending answer fine)
 next_waits old new log log' wire started c c' r fine (poll.is_over at ended_so none same is answer) = absurd (subst IsPending answer fine)
 next_waits old new log log' wire started c c' r fine (poll.not_built at may e why none same is answer) = absurd (subst IsPending answer fine)
@@ -147,7 +147,7 @@ taken_by d (b ∷ bs) c missing empty free sound rests short few =
       λ z bad. let all = ap (length {A = ℕ}) bad in let parts = length-append d.ahead (concat (b ∷ bs)) in omega arith,
     )
 
-pub takes_sound : (old new : Awaited) (log log' : Told) (wire : ℤ) (d d' : ClientDownload) → IsSoundDownload d → TakesOne old new log log' wire d d' → IsSoundDownload d'
+pub takes_sound : (old new : Awaited) (log log' : LogTold) (wire : ℤ) (d d' : ClientDownload) → IsSoundDownload d → TakesOne old new log log' wire d d' → IsSoundDownload d'
 takes_sound old new log log' wire d d' s one =
     let here = sound_at d (reads one.cursor one.missing one.empty) one.at s in
     let t = one.takes in
@@ -189,7 +189,7 @@ over_next c free rests (inl zero_is) (inl other) = other zero_is
 over_next c free rests (inr lost) (inl other) = never_lost c free lost
 over_next c free rests past (inr holds_some) = subst client.HoldsItems rests holds_some
 
-next_over : (old new : Awaited) (log log' : Told) (wire : ℤ) (started : Bool) (c c' : ClientCursor) (r : NextPoll) → IsEnd r → IsFree c → PollsNext old new log log' wire None started c c' r → HasNext c' → ⊥
+next_over : (old new : Awaited) (log log' : LogTold) (wire : ℤ) (started : Bool) (c c' : ClientCursor) (r : NextPoll) → IsEnd r → IsFree c → PollsNext old new log log' wire None started c c' r → HasNext c' → ⊥
 next_over old new log log' wire started c c' r fine free (poll.hands_out reply at none same is answer) has = subst IsEnd answer fine
 next_over old new log log' wire started c c' r fine free (poll.is_over at ended_so none same is answer) has = over_next c free at ended_so (subst HasNext is has)
 next_over old new log log' wire started c c' r fine free (poll.not_built at may e why none same is answer) has = subst IsEnd answer fine
@@ -215,7 +215,7 @@ idle_sound d c fine sizes free sound rests some = (
   λ x is. subst (λ (y : ClientCursor). IsFetched (record d { doing = idle c }) y) (same_idle c x is) (record { rests = rests; some = some }),
 )
 
-ends_sound : (old new : Awaited) (log log' : Told) (wire : ℤ) (d d' : ClientDownload) (f : Fetched) → IsSoundDownload d → EndsFetch old new log log' wire d d' f → FetchSound d' f
+ends_sound : (old new : Awaited) (log log' : LogTold) (wire : ℤ) (d d' : ClientDownload) (f : Fetched) → IsSoundDownload d → EndsFetch old new log log' wire d d' f → FetchSound d' f
 ends_sound old new log log' wire d d' f s (none_missing x empty there quiet is answer) =
     let here = sound_at d (reads x 0 empty) there s in
     subst (FetchSound d') (sym answer) (subst (λ (y : ClientDownload). FetchSound y enough) (sym is) (idle_sound d x (busy d x 0 empty there) s.sizes here.0 here.1.sound (here.1.rests_so refl) (inl (here.2 refl))))
@@ -242,7 +242,7 @@ ends_sound old new log log' wire d d' f s (no_more x m k there short started beh
 ends_sound old new log log' wire d d' f s (not_taken x m k there short started behind reply e polls why is answer) =
     subst (FetchSound d') (sym answer) (subst (λ (y : ClientDownload). FetchSound y (fails e)) (sym is) (spoiled_sound d s.sizes, refl))
 
-pub fetches_sound : (n : ℕ) (old new : Awaited) (log log' : Told) (wire : ℤ) (d d' : ClientDownload) (f : Fetched) → IsSoundDownload d → Fetches n old new log log' wire d d' f → FetchSound d' f
+pub fetches_sound : (n : ℕ) (old new : Awaited) (log log' : LogTold) (wire : ℤ) (d d' : ClientDownload) (f : Fetched) → IsSoundDownload d → Fetches n old new log log' wire d d' f → FetchSound d' f
 unfolding Fetches
 fetches_sound zero old new log log' wire d d' f s ends = ends_sound old new log log' wire d d' f s ends
 fetches_sound (suc n) old new log log' wire d d' f s more = fetches_sound n more.0 new more.1 log' wire more.2 d' f (takes_sound old more.0 log more.1 wire d more.2 s more.3) more.4
@@ -257,7 +257,7 @@ begin_sound d c room is some s =
 
 -- ---- what is given
 
-pub gives_sound : (room : ℕ) (c : ClientCursor) (d d' : ClientDownload) (given : List ℕ) (r : ReadPoll) → d.doing ≡ idle c → c.doing ≡ client.rests → IsSoundDownload d → Gives room c d d' given r → IsBetween d'
+pub gives_sound : (room : ℕ) (c : ClientCursor) (d d' : ClientDownload) (given : List ℕ) (r : ReadPoll) → d.doing ≡ idle c → c.doing ≡ client.rests → IsSoundDownload d → HandsOut room c d d' given r → IsBetween d'
 gives_sound room c d d' given r is rests s (read_steps.goes_on more these there answer) =
     let here = sound_at d (idle c) is s in
     let known = s.sizes.parts (free_of d c is) in
@@ -288,7 +288,7 @@ CountsGiven given read.Pending = Unit {0}
 CountsGiven given (read.Read n) = n ≡ length given
 CountsGiven given (read.Failed e) = Unit {0}
 
-module _ (old new : Awaited) (log log' : Told) (wire : ℤ) (d d' : ClientDownload) (given : List ℕ) (r : ReadPoll) where
+module _ (old new : Awaited) (log log' : LogTold) (wire : ℤ) (d d' : ClientDownload) (given : List ℕ) (r : ReadPoll) where
   concludes_sound : (room : ℕ) (f : Fetched) (left : ClientDownload) → FetchSound left f → Concludes room f left d' given r → IsBetween d'
   concludes_sound room waits left s ends = subst IsBetween (sym ends.0) s
   concludes_sound room enough left s ends = gives_sound room ends.0 left d' given r ends.1 (s.1 ends.0 ends.1).rests s.0 ends.2
@@ -307,7 +307,7 @@ module _ (old new : Awaited) (log log' : Told) (wire : ℤ) (d d' : ClientDownlo
 
   -- ---- no more is read than there is room for
 
-  gives_within : (room : ℕ) (c : ClientCursor) (e : ClientDownload) → Gives room c e d' given r → IsWithin room r
+  gives_within : (room : ℕ) (c : ClientCursor) (e : ClientDownload) → HandsOut room c e d' given r → IsWithin room r
   gives_within room c e (read_steps.goes_on more these there answer) =
       let n = ap (length {A = ℕ}) these ∙ length-take room e.ahead in
       let within : length given ≤ room = omega arith in
@@ -335,7 +335,7 @@ module _ (old new : Awaited) (log log' : Told) (wire : ℤ) (d d' : ClientDownlo
 
   -- ---- nothing is read only where all was given
 
-  gives_nothing : (room : ℕ) (c : ClientCursor) (e : ClientDownload) → 0 < room → (e.ahead ≢ []) ⊎ (HasNext c → ⊥) → Gives room c e d' given r → r ≡ read.Read 0 → d'.doing ≡ ended
+  gives_nothing : (room : ℕ) (c : ClientCursor) (e : ClientDownload) → 0 < room → (e.ahead ≢ []) ⊎ (HasNext c → ⊥) → HandsOut room c e d' given r → r ≡ read.Read 0 → d'.doing ≡ ended
   gives_nothing room c e some known (read_steps.goes_on more these there answer) zero_read =
       let n = ap (length {A = ℕ}) these ∙ length-take room e.ahead in
       let z : length given ≡ 0 = same_read (length given) (sym answer ∙ zero_read) in
@@ -379,7 +379,7 @@ module _ (old new : Awaited) (log log' : Told) (wire : ℤ) (d d' : ClientDownlo
 
   -- ---- what is given is counted
 
-  gives_counted : (room : ℕ) (c : ClientCursor) (e : ClientDownload) → Gives room c e d' given r → CountsGiven given r
+  gives_counted : (room : ℕ) (c : ClientCursor) (e : ClientDownload) → HandsOut room c e d' given r → CountsGiven given r
   gives_counted room c e (read_steps.goes_on more these there answer) = subst (CountsGiven given) (sym answer) refl
   gives_counted room c e (read_steps.ends none over_so full these there answer) = subst (CountsGiven given) (sym answer) refl
   gives_counted room c e (read_steps.miscounts none over_so other no_bytes there answer) = subst (CountsGiven given) (sym answer) tt

@@ -3,7 +3,7 @@ use Rattle.std.proofs.Common.{◌≡◌, ◌≢◌, ◌<◌, ◌≤◌, ◌+◌,
 use Rattle.std.proofs.lemmas.Bool.Decides.{nat_tests}
 use Rattle.mg_link.specs.Causes.{Rose}
 use Rattle.mg_link.specs.Exec.{Sending, ticket_at}
-use Rattle.mg_link.specs.Link.{Awaited, Told}
+use Rattle.mg_link.specs.Link.{Awaited, LogTold}
 use Rattle.mg_link.specs.Moment.{Ending, LinkKeeps, Moment, failed, finished, pending, step_ending}
 use Rattle.mg_link.specs.declared.action.Step.{Step}
 use Rattle.mg_link.specs.declared.action.Step.TheVariants as came
@@ -207,7 +207,7 @@ module _ (known : Option Error) (u u' : ClientUpload) (r : Stepped) where
     back_at : (q : Phase) → p ≡ q → IsBack known q
     back_at q is = subst (IsBack known) is back
 
-    step_ends : (old new : Awaited) (log log' : Told) (wire : ℤ) (ids : ℕ → List ℕ) (drawn : ℕ) → DoesStep old new log log' wire ids drawn u u' p r → EndsAs known r
+    step_ends : (old new : Awaited) (log log' : LogTold) (wire : ℤ) (ids : ℕ → List ℕ) (drawn : ℕ) → DoesStep old new log log' wire ids drawn u u' p r → EndsAs known r
     step_ends old new log log' wire ids drawn (begins_check is quiet n does) = absurd (back_at begins is)
     step_ends old new log log' wire ids drawn (checks_on c is n t checks_so leads) = absurd (back_at (checks c) is)
     step_ends old new log log' wire ids drawn (is_short is quiet n short same answer) = absurd (back_at fills is)
@@ -221,14 +221,14 @@ module _ (known : Option Error) (u u' : ClientUpload) (r : Stepped) where
     step_ends old new log log' wire ids drawn (undoes_next error is quiet n does) = removes_ends (subst (λ (x : Option Error). Removes x u u' r) (back_at (undoes error) is) does)
     step_ends old new log log' wire ids drawn (removes_on s error is n c runs hears) = removal_ends c (subst (λ (x : Option Error). HearsRemoval x c u u' r) (back_at (removes s error) is) hears)
 
-pub steps_end : (n : ℕ) (known : Option Error) (old new : Awaited) (log log' : Told) (wire : ℤ) (ids : ℕ → List ℕ) (drawn : ℕ) (u u' : ClientUpload) (p : Phase) (r : Stepped) → IsBack known p → DoesSteps n old new log log' wire ids drawn u u' p r → EndsAs known r
+pub steps_end : (n : ℕ) (known : Option Error) (old new : Awaited) (log log' : LogTold) (wire : ℤ) (ids : ℕ → List ℕ) (drawn : ℕ) (u u' : ClientUpload) (p : Phase) (r : Stepped) → IsBack known p → DoesSteps n old new log log' wire ids drawn u u' p r → EndsAs known r
 unfolding DoesSteps
 steps_end zero known old new log log' wire ids drawn u u' p r back d = step_ends known u u' r p back old new log log' wire ids drawn d.0
 steps_end (suc n) known old new log log' wire ids drawn u u' p r back d =
     steps_end n known d.0 new d.1 log' wire (ids_behind d.2 ids) d.3 d.4 u' d.5 r (step_ends known u d.4 (goes d.5) p back old d.0 log d.1 wire ids d.2 d.6) d.8
 
 -- the same of what a poll answered
-pub turn_ends : (known : Option Error) (old new : Awaited) (log log' : Told) (wire : ℤ) (ids : ℕ → List ℕ) (drawn : ℕ) (u u' : ClientUpload) (p : Phase) (r : Turn) → IsBack known p → TurnsOn old new log log' wire ids drawn u u' p r → FailsAs known (turn_ending r)
+pub turn_ends : (known : Option Error) (old new : Awaited) (log log' : LogTold) (wire : ℤ) (ids : ℕ → List ℕ) (drawn : ℕ) (u u' : ClientUpload) (p : Phase) (r : Turn) → IsBack known p → TurnsOn old new log log' wire ids drawn u u' p r → FailsAs known (turn_ending r)
 turn_ends known old new log log' wire ids drawn u u' p (turn.Goes s) back h = tt
 turn_ends known old new log log' wire ids drawn u u' p (turn.Stops (came.Pending s)) back h = tt
 turn_ends known old new log log' wire ids drawn u u' p (turn.Stops (came.Done t)) back h = tt
@@ -238,22 +238,22 @@ no_ids : ℕ → List ℕ
 no_ids n = []
 
 -- a failure, and the way back behind it
-pub fail_ends : (e : Error) (old new : Awaited) (log log' : Told) (wire : ℤ) (u : ClientUpload) (r : Turn) → ((given : ℕ → List ℕ) → TurnsOn old new log log' wire given 0 u u (undoes (Some e)) r) → FailsAs (Some e) (turn_ending r)
+pub fail_ends : (e : Error) (old new : Awaited) (log log' : LogTold) (wire : ℤ) (u : ClientUpload) (r : Turn) → ((given : ℕ → List ℕ) → TurnsOn old new log log' wire given 0 u u (undoes (Some e)) r) → FailsAs (Some e) (turn_ending r)
 fail_ends e old new log log' wire u r fails = turn_ends (Some e) old new log log' wire no_ids 0 u u (undoes (Some e)) r refl (fails no_ids)
 
-pub back_ends : (known : Option Error) (old new : Awaited) (log log' : Told) (wire : ℤ) (u : ClientUpload) (p : Phase) (r : Step Back (Unit {0})) → IsBack known p → BacksOn old new log log' wire u p r → FailsAs known (step_ending r)
+pub back_ends : (known : Option Error) (old new : Awaited) (log log' : LogTold) (wire : ℤ) (u : ClientUpload) (p : Phase) (r : Step Back (Unit {0})) → IsBack known p → BacksOn old new log log' wire u p r → FailsAs known (step_ending r)
 back_ends known old new log log' wire u p (came.Pending s) back h = tt
 back_ends known old new log log' wire u p (came.Done t) back h = tt
 back_ends known old new log log' wire u p (came.Failed e) back h = let does = h no_ids in steps_end does.0 known old new log log' wire no_ids 0 u u p (steps.failed e) back does.1
 
 -- ---- steps of a poll
 
-pub step_last : (old new : Awaited) (log log' : Told) (wire : ℤ) (ids : ℕ → List ℕ) (drawn : ℕ) (u u' : ClientUpload) (p : Phase) (r : Stepped) → DoesStep old new log log' wire ids drawn u u' p r → IsLastStep r → (n : ℕ) × DoesSteps n old new log log' wire ids drawn u u' p r
+pub step_last : (old new : Awaited) (log log' : LogTold) (wire : ℤ) (ids : ℕ → List ℕ) (drawn : ℕ) (u u' : ClientUpload) (p : Phase) (r : Stepped) → DoesStep old new log log' wire ids drawn u u' p r → IsLastStep r → (n : ℕ) × DoesSteps n old new log log' wire ids drawn u u' p r
 unfolding DoesSteps
 step_last old new log log' wire ids drawn u u' p r does last = (0, (does, last))
 
 -- a step, and others behind it that draw no id
-pub step_then : (old mid new : Awaited) (log log_mid log' : Told) (wire wire' : ℤ) (ids : ℕ → List ℕ) (drawn : ℕ) (u v u' : ClientUpload) (p q : Phase) (r : Stepped) → wire' ≡ wire → DoesStep old mid log log_mid wire ids drawn u v p (goes q) → ((n : ℕ) × DoesSteps n mid new log_mid log' wire' (ids_behind drawn ids) 0 v u' q r)
+pub step_then : (old mid new : Awaited) (log log_mid log' : LogTold) (wire wire' : ℤ) (ids : ℕ → List ℕ) (drawn : ℕ) (u v u' : ClientUpload) (p q : Phase) (r : Stepped) → wire' ≡ wire → DoesStep old mid log log_mid wire ids drawn u v p (goes q) → ((n : ℕ) × DoesSteps n mid new log_mid log' wire' (ids_behind drawn ids) 0 v u' q r)
     → (n : ℕ) × DoesSteps n old new log log' wire ids drawn u u' p r
 unfolding DoesSteps
 step_then old mid new log log_mid log' wire wire' ids drawn u v u' p q r same does more =
@@ -261,7 +261,7 @@ step_then old mid new log log_mid log' wire wire' ids drawn u v u' p q r same do
     (suc more.0, (mid, log_mid, drawn, 0, v, q, does, sum, subst (λ (w : ℤ). DoesSteps more.0 mid new log_mid log' w (ids_behind drawn ids) 0 v u' q r) same more.1))
 
 -- a step that failed, and the way back behind it
-pub turn_then : (old mid new : Awaited) (log log_mid log' : Told) (wire wire' : ℤ) (ids : ℕ → List ℕ) (drawn : ℕ) (u v : ClientUpload) (p : Phase) (e : Error) (r : Turn) → wire' ≡ wire → DoesStep old mid log log_mid wire ids drawn u v p (goes (undoes (Some e)))
+pub turn_then : (old mid new : Awaited) (log log_mid log' : LogTold) (wire wire' : ℤ) (ids : ℕ → List ℕ) (drawn : ℕ) (u v : ClientUpload) (p : Phase) (e : Error) (r : Turn) → wire' ≡ wire → DoesStep old mid log log_mid wire ids drawn u v p (goes (undoes (Some e)))
     → ((given : ℕ → List ℕ) → TurnsOn mid new log_mid log' wire' given 0 v v (undoes (Some e)) r) → TurnsOn old new log log' wire ids drawn u v p r
 turn_then old mid new log log_mid log' wire wire' ids drawn u v p e (turn.Goes s) same does more =
     let on = more no_ids in
@@ -277,7 +277,7 @@ stop_last (came.Pending s) = tt
 stop_last (came.Done t) = tt
 stop_last (came.Failed e) = tt
 
-pub begun_turns : (old : Awaited) (log : Told) (wire : ℤ) (ids : ℕ → List ℕ) (u : ClientUpload) (r : Turn) → BeginsOn u r → TurnsOn old old log log wire ids 0 u u begins r
+pub begun_turns : (old : Awaited) (log : LogTold) (wire : ℤ) (ids : ℕ → List ℕ) (u : ClientUpload) (r : Turn) → BeginsOn u r → TurnsOn old old log log wire ids 0 u u begins r
 begun_turns old log wire ids u (turn.Goes s) h = (begins_check refl (record { rest = λ n. refl; log_same = refl }) refl h.0, h.1)
 begun_turns old log wire ids u (turn.Stops x) h = step_last old old log log wire ids 0 u u begins (stopped_by x) (begins_check refl (record { rest = λ n. refl; log_same = refl }) refl h) (stop_last x)
 

@@ -7,7 +7,7 @@ use Rattle.mg_link.specs.Calls.{Past, past_of}
 use Rattle.mg_link.specs.Exec.{Runs, Sending, Stage}
 use Rattle.mg_link.specs.Files.{AreChunks, Bucket, File, chunked, last_chunk}
 use Rattle.mg_link.specs.Filing.{KnowsFile, Makes, cleared, insert_at, part, removal_at, stays, unknown, whole_with}
-use Rattle.mg_link.specs.Link.{Awaited, SendsNothing, Told}
+use Rattle.mg_link.specs.Link.{Awaited, SendsNothing, LogTold}
 use Rattle.mg_link.specs.Log.{Call}
 use Rattle.mg_link.specs.declared.action.Step.{Step}
 use Rattle.mg_link.specs.declared.action.Step.TheVariants as came
@@ -95,7 +95,7 @@ undo_may_leave original d e (holds_both other (inr both)) = is_abort_may origina
 
 -- ---- steps
 
-module _ (old new : Awaited) (log log' : Told) (at : Bucket) (u u' : ClientUpload) (r : Stepped) (placed : IsPlaced at u) (bounds : HasBounds u) (taken : List ℕ) (calls : List Call) (told : log ≡ Some calls) (places : List ℕ) (since : ℕ) (wire : ℤ) (call : uploads.Call) where
+module _ (old new : Awaited) (log log' : LogTold) (at : Bucket) (u u' : ClientUpload) (r : Stepped) (placed : IsPlaced at u) (bounds : HasBounds u) (taken : List ℕ) (calls : List Call) (told : log ≡ Some calls) (places : List ℕ) (since : ℕ) (wire : ℤ) (call : uploads.Call) where
   abbrev Behind : Type 0
   Behind = Grew places since calls log' wire (λ past. KnowsStepped call new past at u' taken r)
 
@@ -428,7 +428,7 @@ of_abort call s (Some x) h e = let bad : Some x ≡ None = e in absurd cc
 
 -- ---- a step
 
-module _ (old new : Awaited) (log log' : Told) (at : Bucket) (u u' : ClientUpload) (p : Phase) (r : Stepped) (placed : IsPlaced at u) (bounds : HasBounds u) (sound : IsSoundPhase u p) (taken : List ℕ) (calls : List Call) (told : log ≡ Some calls) (places : List ℕ) (since : ℕ) (wire : ℤ) (call : uploads.Call) (of_call : IsOfCall call p) where
+module _ (old new : Awaited) (log log' : LogTold) (at : Bucket) (u u' : ClientUpload) (p : Phase) (r : Stepped) (placed : IsPlaced at u) (bounds : HasBounds u) (sound : IsSoundPhase u p) (taken : List ℕ) (calls : List Call) (told : log ≡ Some calls) (places : List ℕ) (since : ℕ) (wire : ℤ) (call : uploads.Call) (of_call : IsOfCall call p) where
   at_phase : (past : Past) (q : Phase) → p ≡ q → KnowsPhase old past at u taken p → KnowsPhase old past at u taken q
   at_phase past q is k = subst (λ (x : Phase). KnowsPhase old past at u taken x) is k
 

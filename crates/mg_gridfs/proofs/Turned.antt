@@ -10,7 +10,7 @@ use Rattle.mg_bson.specs.Spans.{documents_inside}
 use Rattle.mg_bson.specs.Tree.{Fields, Items, item, no_items}
 use Rattle.mg_link.specs.Errors.{plain}
 use Rattle.mg_link.specs.Files.{number_at}
-use Rattle.mg_link.specs.Link.{Awaited, Told}
+use Rattle.mg_link.specs.Link.{Awaited, LogTold}
 use Rattle.mg_link.specs.Moment.{LinkKeeps, Moment, finished}
 use Rattle.mg_link.specs.declared.error.Error.{Error}
 use Rattle.mg_link.specs.declared.error.ErrorKind.TheVariants as kind
@@ -31,7 +31,7 @@ use Rattle.mg_gridfs.specs.DownloadView.{HaveBytes, IsLater, bytes_in, data_in, 
 use Rattle.mg_gridfs.specs.Fetching as fetching
 use Rattle.mg_gridfs.specs.Fetching.{CountsEmpty, Differs, FetchTurns, GivesAs, HasChunks, KeepsBatch, LooksAt, PassesOn, TakesAs, TurnFalls, fetching_of, rank, reading_of, turn_ending, turn_ticket}
 use Rattle.mg_gridfs.specs.Reads as read_steps
-use Rattle.mg_gridfs.specs.Reads.{Gives, SpoilsBatch, TakesBatch, read_ending, with_chunks}
+use Rattle.mg_gridfs.specs.Reads.{HandsOut, SpoilsBatch, TakesBatch, read_ending, with_chunks}
 use Rattle.mg_gridfs.specs.declared.download.GridFsDownloadStream.{GridFsDownloadStream}
 use Rattle.mg_gridfs.specs.declared.download.Reading.{Reading}
 use Rattle.mg_gridfs.specs.declared.download.Turn.{Turn}
@@ -142,14 +142,14 @@ takes_at c missing empty reply d doing s (turn.Waits q) h = absurd h
 takes_at c missing empty reply d doing s (turn.Ends x) h = absurd h
 takes_at c missing empty reply d doing s (turn.Fails e) h = (fails_at empty reply d doing e h.0, h.1)
 
-pub heard_turns : (old new : Awaited) (log log' : Told) (wire : ℤ) (d : ClientDownload) (s : GridFsDownloadStream) (c behind : ClientCursor) (missing empty : ℕ) (started : Bool) (reply : List ℕ) (r : Turn) → d.doing ≡ reads c missing empty → 0 < missing → PollsNext old new log log' wire None started c behind (next.Batch reply) → TakesAs behind missing empty reply d s r → FetchTurns old new log log' wire d s r
+pub heard_turns : (old new : Awaited) (log log' : LogTold) (wire : ℤ) (d : ClientDownload) (s : GridFsDownloadStream) (c behind : ClientCursor) (missing empty : ℕ) (started : Bool) (reply : List ℕ) (r : Turn) → d.doing ≡ reads c missing empty → 0 < missing → PollsNext old new log log' wire None started c behind (next.Batch reply) → TakesAs behind missing empty reply d s r → FetchTurns old new log log' wire d s r
 heard_turns old new log log' wire d s c behind missing empty started reply (turn.Goes q) at short polls h = record { cursor = c; missing = missing; empty = empty; at = at; short = short; started = started; behind = behind; reply = reply; polls = polls; takes = h }
 heard_turns old new log log' wire d s c behind missing empty started reply (turn.Waits q) at short polls h = absurd h
 heard_turns old new log log' wire d s c behind missing empty started reply (turn.Ends x) at short polls h = absurd h
 heard_turns old new log log' wire d s c behind missing empty started reply (turn.Fails e) at short polls h = read_steps.not_taken c missing empty at short started behind reply e polls h.0 h.1 refl
 
 -- a read that goes on is sound
-pub goes_sound : (old new : Awaited) (log log' : Told) (wire : ℤ) (d : ClientDownload) (s : GridFsDownloadStream) (r : Turn) → IsSoundDownload d → FetchTurns old new log log' wire d s r → (q : Reading) → r ≡ turn.Goes q → IsSoundDownload (reading_of s q)
+pub goes_sound : (old new : Awaited) (log log' : LogTold) (wire : ℤ) (d : ClientDownload) (s : GridFsDownloadStream) (r : Turn) → IsSoundDownload d → FetchTurns old new log log' wire d s r → (q : Reading) → r ≡ turn.Goes q → IsSoundDownload (reading_of s q)
 goes_sound old new log log' wire d s r sound turns q is = takes_sound old new log log' wire d (reading_of s q) sound (subst (FetchTurns old new log log' wire d s) is turns)
 
 -- ---- an empty batch
@@ -340,7 +340,7 @@ gives_last c d d' before now count left r g none (fetching.is_whole over full is
 gives_last c d d' before now count left r g none (fetching.other_count over other is answer) = ([], read_steps.miscounts (sym g.left_is ∙ none) over other refl is answer, subst (read_steps.FillsFront before now []) (sym answer) g.same_room)
 
 -- what it does beside does not matter
-pub gives_at : (room : ℕ) (c : ClientCursor) (d d' : ClientDownload) (doing : Doing) (given : List ℕ) (r : ReadPoll) → Gives room c d d' given r → Gives room c (record d { doing = doing }) d' given r
+pub gives_at : (room : ℕ) (c : ClientCursor) (d d' : ClientDownload) (doing : Doing) (given : List ℕ) (r : ReadPoll) → HandsOut room c d d' given r → HandsOut room c (record d { doing = doing }) d' given r
 gives_at room c d d' doing given r (read_steps.goes_on more these there answer) = read_steps.goes_on more these there answer
 gives_at room c d d' doing given r (read_steps.ends none over full these there answer) = read_steps.ends none over full these there answer
 gives_at room c d d' doing given r (read_steps.miscounts none over other no_bytes there answer) = read_steps.miscounts none over other no_bytes there answer
@@ -348,7 +348,7 @@ gives_at room c d d' doing given r (read_steps.miscounts none over other no_byte
 as_given : (m m' : Moment) (ticket : Option ℕ) (d d' : ClientDownload) (r q : ReadPoll) → d' ≡ d → r ≡ q → LinkKeeps m m' ticket (download_ticket d) (read_ending q) → LinkKeeps m m' ticket (download_ticket d') (read_ending r)
 as_given m m' ticket d d' r q is answer k = subst (λ (x : ReadPoll). LinkKeeps m m' ticket (download_ticket d') (read_ending x)) (sym answer) (subst (λ (x : ClientDownload). LinkKeeps m m' ticket (download_ticket x) (read_ending q)) (sym is) k)
 
-pub gives_keep : (m m' : Moment) (ticket : Option ℕ) (room : ℕ) (c : ClientCursor) (d d' : ClientDownload) (given : List ℕ) (r : ReadPoll) → c.doing ≡ client.rests → Gives room c d d' given r → LinkKeeps m m' ticket (client_ticket c) finished → LinkKeeps m m' ticket (download_ticket d') (read_ending r)
+pub gives_keep : (m m' : Moment) (ticket : Option ℕ) (room : ℕ) (c : ClientCursor) (d d' : ClientDownload) (given : List ℕ) (r : ReadPoll) → c.doing ≡ client.rests → HandsOut room c d d' given r → LinkKeeps m m' ticket (client_ticket c) finished → LinkKeeps m m' ticket (download_ticket d') (read_ending r)
 gives_keep m m' ticket room c d d' given r rests (read_steps.goes_on more these there answer) k = as_given m m' ticket (record d { ahead = drop room d.ahead; doing = idle c }) d' r (read.Read (length given)) there answer k
 gives_keep m m' ticket room c d d' given r rests (read_steps.ends none over full these there answer) k =
     as_given m m' ticket (ended_at d) d' r (read.Read (length given)) there answer (keeps_to m m' ticket (client_ticket c) None finished (rests_ticket c rests) k)

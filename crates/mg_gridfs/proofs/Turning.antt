@@ -2,7 +2,7 @@
 use Rattle.std.proofs.Common.{◌≡◌, ◌<◌, ◌≤◌, ◌+◌, ◌*◌, ℕ, suc, ℤ, Bool, true, false, List, [], drop, Option, Some, None, sym, ap, ◌∙◌, subst, arith, length-drop}
 use Rattle.std.proofs.lemmas.Nat.{mul-le}
 use Rattle.mg_link.specs.Exec.{Sending}
-use Rattle.mg_link.specs.Link.{Awaited, Told}
+use Rattle.mg_link.specs.Link.{Awaited, LogTold}
 use Rattle.mg_link.specs.declared.action.Step.{Step}
 use Rattle.mg_link.specs.declared.action.Step.TheVariants as came
 use Rattle.mg_link.specs.declared.error.Error.{Error}
@@ -115,7 +115,7 @@ module _ (b : ClientBucket) (t : CheckTurned) where
   index_falls at s (came.Done reply) (check.unread e fails is) = no_falls (indexes at s) t (check.fails e) tt is
   index_falls at s (came.Failed e) is = no_falls (indexes at s) t (check.fails e) tt is
 
-  check_falls : (old new : Awaited) (log log' : Told) (wire : ℤ) (c : ClientCheck) → IsSoundCheck b c → ChecksOn old new log log' wire b c t → CheckFalls c t
+  check_falls : (old new : Awaited) (log log' : LogTold) (wire : ℤ) (c : ClientCheck) → IsSoundCheck b c → ChecksOn old new log log' wire b c t → CheckFalls c t
   check_falls old new log log' wire c sound (by_find s is p runs h) = subst (λ (x : ClientCheck). CheckFalls x t) (sym is) (find_falls s p h)
   check_falls old new log log' wire c sound (by_creation at s is p runs h) = subst (λ (x : ClientCheck). CheckFalls x t) (sym is) (creation_falls at s p h)
   check_falls old new log log' wire c sound (by_listing at s is p runs h) = subst (λ (x : ClientCheck). CheckFalls x t) (sym is) (listing_falls at s p h)
@@ -200,7 +200,7 @@ module _ (u u' : ClientUpload) (q : Phase) (none : error_behind q ≡ None) wher
   removal_falls s error (came.Done reply) (steps.not_removed d e fails undo is answer) = absurd (let bad : goes q ≡ steps.failed e = answer in cc)
   removal_falls s error (came.Failed d) h = absurd (let bad : goes q ≡ steps.failed h.0 = h.3 in cc)
 
-  step_falls : (old new : Awaited) (log log' : Told) (wire : ℤ) (ids : ℕ → List ℕ) (drawn : ℕ) (p : Phase) → HasBounds u → IsSoundPhase u p → DoesStep old new log log' wire ids drawn u u' p (goes q) → rank u' q < rank u p
+  step_falls : (old new : Awaited) (log log' : LogTold) (wire : ℤ) (ids : ℕ → List ℕ) (drawn : ℕ) (p : Phase) → HasBounds u → IsSoundPhase u p → DoesStep old new log log' wire ids drawn u u' p (goes q) → rank u' q < rank u p
   step_falls old new log log' wire ids drawn p bounds sound (begins_check is quiet n does) = subst (λ (x : Phase). rank u' q < rank u x) (sym is) (begins_falls does)
   step_falls old new log log' wire ids drawn p bounds sound (checks_on c is n t checks_so leads) =
       subst (λ (x : Phase). rank u' q < rank u x) (sym is) (leads_falls c t (check_falls u.aim.bucket t old new log log' wire c (subst (IsSoundPhase u) is sound).0 checks_so) leads)
@@ -216,6 +216,6 @@ module _ (u u' : ClientUpload) (q : Phase) (none : error_behind q ≡ None) wher
   step_falls old new log log' wire ids drawn p bounds sound (removes_on s error is n c runs hears) = subst (λ (x : Phase). rank u' q < rank u x) (sym is) (removal_falls s error c hears)
 
 -- A turn of the way ahead with which the poll goes on leaves fewer.
-pub turn_falls : (old new : Awaited) (log log' : Told) (wire : ℤ) (ids : ℕ → List ℕ) (drawn : ℕ) (u u' : ClientUpload) (p : Phase) (r : Turn) → HasBounds u → IsSoundPhase u p → error_behind p ≡ None → TurnsOn old new log log' wire ids drawn u u' p r → TurnFalls u p u' r
+pub turn_falls : (old new : Awaited) (log log' : LogTold) (wire : ℤ) (ids : ℕ → List ℕ) (drawn : ℕ) (u u' : ClientUpload) (p : Phase) (r : Turn) → HasBounds u → IsSoundPhase u p → error_behind p ≡ None → TurnsOn old new log log' wire ids drawn u u' p r → TurnFalls u p u' r
 turn_falls old new log log' wire ids drawn u u' p (turn.Goes s) bounds sound ahead h = (step_falls u u' (phase_of s) h.1 old new log log' wire ids drawn p bounds sound h.0, h.1 ∙ sym ahead)
 turn_falls old new log log' wire ids drawn u u' p (turn.Stops x) bounds sound ahead h = tt

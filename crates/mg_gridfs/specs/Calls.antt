@@ -1,7 +1,7 @@
 -- What the calls of an upload do over all their steps, and what stands behind an error (GridFS specification, "File Upload").
 use Rattle.std.specs.Prelude.{◌≡◌, ◌⊎◌, ◌<◌, ◌≤◌, ◌++◌, ℕ, ℤ, List, length, Option, Some, None, if◌then◌else◌}
 use Rattle.mg_link.specs.Errors.{plain}
-use Rattle.mg_link.specs.Link.{Awaited, SendsNothing, Told}
+use Rattle.mg_link.specs.Link.{Awaited, SendsNothing, LogTold}
 use Rattle.mg_link.specs.Moment.{Ending, pending, finished, failed}
 use Rattle.mg_link.specs.declared.error.Error.{Error}
 use Rattle.mg_link.specs.declared.error.ErrorKind.TheVariants as kind
@@ -71,14 +71,14 @@ abbrev pub at_work : ClientUpload → ClientUpload
 at_work u = record u { doing = idle }
 
 -- A poll of a call, from how far it has come on, over so many steps.
-pub record Drives (old new : Awaited) (log log' : Told) (wire : ℤ) (ids : ℕ → List ℕ) (drawn : ℕ) (call : Call) (u u' : ClientUpload) (p : Phase) (r : Stepped) : Type 0 where
+pub record Drives (old new : Awaited) (log log' : LogTold) (wire : ℤ) (ids : ℕ → List ℕ) (drawn : ℕ) (call : Call) (u u' : ClientUpload) (p : Phase) (r : Stepped) : Type 0 where
   pub steps : ℕ
   pub left : ClientUpload
   pub does : DoesSteps steps old new log log' wire ids drawn (at_work u) left p r
   pub behind : u' ≡ record left { doing = doing_behind call r }
 
 -- nothing is sent, and nothing changes
-pub record Refuses (old new : Awaited) (log log' : Told) (drawn : ℕ) (u u' : ClientUpload) : Type 0 where
+pub record Refuses (old new : Awaited) (log log' : LogTold) (drawn : ℕ) (u u' : ClientUpload) : Type 0 where
   pub quiet : SendsNothing old new log log'
   pub undrawn : drawn ≡ 0
   pub same : u' ≡ u
@@ -102,7 +102,7 @@ TakesNoWrite (busy abort phase) = Unit {0}
 TakesNoWrite closed = Unit {0}
 
 -- What a poll of a write does. The bytes are those of its first poll: while it goes on others are not looked at.
-pub data Writes (old new : Awaited) (log log' : Told) (wire : ℤ) (ids : ℕ → List ℕ) (drawn : ℕ) (u u' : ClientUpload) (bytes : List ℕ) (r : WritePoll) : Type 0 where
+pub data Writes (old new : Awaited) (log log' : LogTold) (wire : ℤ) (ids : ℕ → List ℕ) (drawn : ℕ) (u u' : ClientUpload) (bytes : List ℕ) (r : WritePoll) : Type 0 where
   refused : TakesNoWrite u.doing → Refuses old new log log' drawn u u' → r ≡ wrote.Failed stream_closed → Writes old new log log' wire ids drawn u u' bytes r
   -- memory ran out as the bytes were taken
   not_taken : u.doing ≡ idle → Refuses old new log log' drawn u u' → r ≡ wrote.Failed (plain kind.OutOfMemory) → Writes old new log log' wire ids drawn u u' bytes r
@@ -153,18 +153,18 @@ TakesNoClose (busy abort phase) = Unit {0}
 TakesNoClose closed = Unit {0}
 
 -- What a poll of a close does. The moment is that of its first poll.
-pub data Closes (old new : Awaited) (log log' : Told) (wire : ℤ) (ids : ℕ → List ℕ) (drawn : ℕ) (moment : ℤ) (u u' : ClientUpload) (r : Step2) : Type 0 where
+pub data Closes (old new : Awaited) (log log' : LogTold) (wire : ℤ) (ids : ℕ → List ℕ) (drawn : ℕ) (moment : ℤ) (u u' : ClientUpload) (r : Step2) : Type 0 where
   refused : TakesNoClose u.doing → Refuses old new log log' drawn u u' → r ≡ end.Failed stream_closed → Closes old new log log' wire ids drawn moment u u' r
   starts : u.doing ≡ idle → (s : Stepped) → Drives old new log log' wire ids drawn close u u' (rests moment) s → r ≡ ended_by s → Closes old new log log' wire ids drawn moment u u' r
   gives_up : (piece : ℕ) (phase : Phase) → u.doing ≡ busy (write piece) phase → (s : Stepped) → Drives old new log log' wire ids drawn close u u' (landing_of phase (Some write_in_progress)) s → r ≡ ended_by s → Closes old new log log' wire ids drawn moment u u' r
   goes_on : (phase : Phase) → u.doing ≡ busy close phase → (s : Stepped) → Drives old new log log' wire ids drawn close u u' phase s → r ≡ ended_by s → Closes old new log log' wire ids drawn moment u u' r
 
 -- a poll of an abort, which draws no id
-abbrev pub Abandons : Awaited → Awaited → Told → Told → ℤ → ClientUpload → ClientUpload → Phase → Stepped → Type 0
+abbrev pub Abandons : Awaited → Awaited → LogTold → LogTold → ℤ → ClientUpload → ClientUpload → Phase → Stepped → Type 0
 Abandons old new log log' wire u u' p s = (ids : ℕ → List ℕ) → Drives old new log log' wire ids 0 abort u u' p s
 
 -- What a poll of an abort does.
-pub data Aborts (old new : Awaited) (log log' : Told) (wire : ℤ) (u u' : ClientUpload) (r : Step2) : Type 0 where
+pub data Aborts (old new : Awaited) (log log' : LogTold) (wire : ℤ) (u u' : ClientUpload) (r : Step2) : Type 0 where
   refused : u.doing ≡ closed → Refuses old new log log' 0 u u' → r ≡ end.Failed stream_closed → Aborts old new log log' wire u u' r
   starts : u.doing ≡ idle → (s : Stepped) → Abandons old new log log' wire u u' (undoes None) s → r ≡ ended_by s → Aborts old new log log' wire u u' r
   gives_up_write : (piece : ℕ) (phase : Phase) → u.doing ≡ busy (write piece) phase → (s : Stepped) → Abandons old new log log' wire u u' (landing_of phase None) s → r ≡ ended_by s → Aborts old new log log' wire u u' r

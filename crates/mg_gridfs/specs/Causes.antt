@@ -6,7 +6,7 @@ use Rattle.mg_link.specs.Calls.{Flies, HeardBy, Keeps, Past, RequestFails, past_
 use Rattle.mg_link.specs.Errors.{command_code, plain}
 use Rattle.mg_link.specs.Exec.{IsSuccess}
 use Rattle.mg_link.specs.Files.{chunked}
-use Rattle.mg_link.specs.Link.{Awaited, Told}
+use Rattle.mg_link.specs.Link.{Awaited, LogTold}
 use Rattle.mg_link.specs.Log.{Call, reply}
 use Rattle.mg_link.specs.declared.error.Error.{Error}
 use Rattle.mg_link.specs.declared.error.ErrorKind.TheVariants as kind
@@ -190,15 +190,15 @@ AbortCame awaited past u u' end.Done = HeardRemoved past u.aim
 AbortCame awaited past u u' (end.Failed e) = ((u.doing ≡ closed) × (e ≡ stream_closed)) ⊎ ((d : Error) × RemovalFails past u.aim d × FailsToUndo None d e)
 
 -- A poll led on the call that had sent at these places before.
-abbrev pub Caused : Awaited → Told → Told → ℤ → ClientUpload → (Past → Type 0) → Type 0
+abbrev pub Caused : Awaited → LogTold → LogTold → ℤ → ClientUpload → (Past → Type 0) → Type 0
 Caused old log log' wire u Came = (calls : List Call) → log ≡ Some calls → (places : List ℕ) → IsUploading old (past_of places (length calls) calls wire) u
     → (calls' : List Call) × (log' ≡ Some calls') × Keeps calls calls' × Came (past_of places (length calls) calls' wire)
 
-abbrev pub WriteCaused : Awaited → Awaited → Told → Told → ℤ → ClientUpload → ClientUpload → WritePoll → Type 0
+abbrev pub WriteCaused : Awaited → Awaited → LogTold → LogTold → ℤ → ClientUpload → ClientUpload → WritePoll → Type 0
 WriteCaused old new log log' wire u u' r = Caused old log log' wire u (λ past. WriteCame new past u u' r)
 
-abbrev pub CloseCaused : Awaited → Awaited → Told → Told → ℤ → ClientUpload → ClientUpload → Step2 → Type 0
+abbrev pub CloseCaused : Awaited → Awaited → LogTold → LogTold → ℤ → ClientUpload → ClientUpload → Step2 → Type 0
 CloseCaused old new log log' wire u u' r = Caused old log log' wire u (λ past. CloseCame new past u u' r)
 
-abbrev pub AbortCaused : Awaited → Awaited → Told → Told → ℤ → ClientUpload → ClientUpload → Step2 → Type 0
+abbrev pub AbortCaused : Awaited → Awaited → LogTold → LogTold → ℤ → ClientUpload → ClientUpload → Step2 → Type 0
 AbortCaused old new log log' wire u u' r = Caused old log log' wire u (λ past. AbortCame new past u u' r)

@@ -4,7 +4,7 @@ use Rattle.mg_bson.specs.Raw.{fields}
 use Rattle.mg_bson.specs.Tree.{no_items}
 use Rattle.mg_link.specs.Errors.{command_code, plain}
 use Rattle.mg_link.specs.Exec.{Runs, Sending, ticket_of}
-use Rattle.mg_link.specs.Link.{Awaited, Told}
+use Rattle.mg_link.specs.Link.{Awaited, LogTold}
 use Rattle.mg_link.specs.Moment.{Ending, pending, finished, failed}
 use Rattle.mg_link.specs.declared.action.Step.{Step}
 use Rattle.mg_link.specs.declared.action.Step.TheVariants as step
@@ -183,7 +183,7 @@ HearsIndex b at (step.Failed e) t = t ≡ fails e
 -- ---- a step
 
 -- A step of a check polls what is on its way, and says what comes next.
-pub data ChecksOn (old new : Awaited) (log log' : Told) (wire : ℤ) (b : ClientBucket) (c : ClientCheck) (t : CheckTurned) : Type 0 where
+pub data ChecksOn (old new : Awaited) (log log' : LogTold) (wire : ℤ) (b : ClientBucket) (c : ClientCheck) (t : CheckTurned) : Type 0 where
   by_find : (sending : Sending) → c ≡ finds sending → (came : Step Sending (List ℕ)) → Runs old new log log' wire sending came → HearsFind b came t → ChecksOn old new log log' wire b c t
   by_creation : (at : Place) (sending : Sending) → c ≡ creates at sending → (came : Step Sending (List ℕ)) → Runs old new log log' wire sending came → HearsCreation b at came t → ChecksOn old new log log' wire b c t
   by_listing : (at : Place) (sending : Sending) → c ≡ lists at sending → (came : Step Sending (List ℕ)) → Runs old new log log' wire sending came → HearsListing at came t → ChecksOn old new log log' wire b c t
@@ -217,7 +217,7 @@ LandsAdvance at cursor found count (try.Ready result) t = t ≡ None
 LandsAdvance at cursor found count (try.Failed e) t = t ≡ None
 
 -- The request on its way ends, whatever comes of it, and the check does not go on.
-pub data LandsCheck (old new : Awaited) (log log' : Told) (wire : ℤ) (c : ClientCheck) (t : Option ClientCheck) : Type 0 where
+pub data LandsCheck (old new : Awaited) (log log' : LogTold) (wire : ℤ) (c : ClientCheck) (t : Option ClientCheck) : Type 0 where
   by_find : (sending : Sending) → c ≡ finds sending → (came : Step Sending (List ℕ)) → Runs old new log log' wire sending came → LandsRequest finds came t → LandsCheck old new log log' wire c t
   by_creation : (at : Place) (sending : Sending) → c ≡ creates at sending → (came : Step Sending (List ℕ)) → Runs old new log log' wire sending came → LandsRequest (creates at) came t → LandsCheck old new log log' wire c t
   by_listing : (at : Place) (sending : Sending) → c ≡ lists at sending → (came : Step Sending (List ℕ)) → Runs old new log log' wire sending came → LandsRequest (lists at) came t → LandsCheck old new log log' wire c t

@@ -1,6 +1,6 @@
 -- Which cursors an upload owns: that of the list of indexes which its check reads. Its polls leave those of others alone.
 use Rattle.std.specs.Prelude.{◌≡◌, ℕ, false, List, [], Some, None}
-use Rattle.mg_link.specs.Link.{Awaited, Told}
+use Rattle.mg_link.specs.Link.{Awaited, LogTold}
 use Rattle.mg_link.specs.Log.{Call}
 use Rattle.mg_link.specs.Namespace.{Space}
 use Rattle.mg_link.specs.Owner.{Onward, Owner, Passes, nobody}
@@ -97,7 +97,7 @@ pub record KnowsCursors (awaited : Awaited) (calls : List Call) (u : ClientUploa
 -- ---- polls
 
 -- A poll left the cursors of others alone, and the upload goes on knowing its own.
-abbrev pub LeavesOthers : Awaited → Awaited → Told → Told → ClientUpload → ClientUpload → Type 0
+abbrev pub LeavesOthers : Awaited → Awaited → LogTold → LogTold → ClientUpload → ClientUpload → Type 0
 LeavesOthers old new log log' u u' = (calls : List Call) → log ≡ Some calls → KnowsCursors old calls u
     → (calls' : List Call) × (log' ≡ Some calls') × Passes calls calls' (upload_owner old u) (upload_owner new u') × KnowsCursors new calls' u'
 

@@ -5,7 +5,7 @@ use Rattle.mg_bson.specs.Tree.{Fields, Tree}
 use Rattle.mg_link.specs.Exec.{Stage, unsent, first, second}
 use Rattle.mg_link.specs.Files.{Bucket, by_number, chunks_space, files_space, has_value}
 use Rattle.mg_link.specs.History.{IsLegal, Step, state_of}
-use Rattle.mg_link.specs.Link.{Awaited, Told}
+use Rattle.mg_link.specs.Link.{Awaited, LogTold}
 use Rattle.mg_link.specs.Log.{Call, reply}
 use Rattle.mg_link.specs.Namespace.{Space}
 use Rattle.mg_link.specs.Owner.{Owner, Passes, nobody}
@@ -159,7 +159,7 @@ AfterRead awaited calls at id d' bytes room (read.Read n) = KnowsDownload awaite
 AfterRead awaited calls at id d' bytes room (read.Failed e) = Unit {0}
 
 -- A poll led a download on that had read these bytes; the cursors of others were left alone.
-abbrev pub ReadKnows : Awaited → Awaited → Told → Told → Bucket → ClientDownload → ClientDownload → List ℕ → ReadPoll → Type 0
+abbrev pub ReadKnows : Awaited → Awaited → LogTold → LogTold → Bucket → ClientDownload → ClientDownload → List ℕ → ReadPoll → Type 0
 ReadKnows old new log log' at d d' room r = (calls : List Call) → log ≡ Some calls → (id : Tree) (bytes : List ℕ) → KnowsDownload old calls at id d bytes
     → (calls' : List Call) × (log' ≡ Some calls') × Passes calls calls' (doing_owner old d.doing) (doing_owner new d'.doing) × AfterRead new calls' at id d' bytes room r
 
@@ -168,6 +168,6 @@ AfterOpening awaited calls at o (waits doing) = KnowsOpening awaited calls at (r
 AfterOpening awaited calls at o (opens d) = KnowsDownload awaited calls at o.id d []
 AfterOpening awaited calls at o (fails e) = Unit {0}
 
-abbrev pub OpeningKnows : Awaited → Awaited → Told → Told → Bucket → ClientFinding → Opened → Type 0
+abbrev pub OpeningKnows : Awaited → Awaited → LogTold → LogTold → Bucket → ClientFinding → Opened → Type 0
 OpeningKnows old new log log' at o r = (calls : List Call) → log ≡ Some calls → KnowsOpening old calls at o
     → (calls' : List Call) × (log' ≡ Some calls') × Passes calls calls' (looking_owner old o.doing) (opened_owner new r) × AfterOpening new calls' at o r

@@ -4,7 +4,7 @@ use Rattle.std.specs.List.{concat}
 use Rattle.mg_bson.specs.Raw.{IsDocument, fields, items}
 use Rattle.mg_bson.specs.Tree.{Items}
 use Rattle.mg_link.specs.Errors.{plain}
-use Rattle.mg_link.specs.Link.{Awaited, Told}
+use Rattle.mg_link.specs.Link.{Awaited, LogTold}
 use Rattle.mg_link.specs.Moment.{Ending, pending, finished, failed}
 use Rattle.mg_link.specs.declared.action.Step.{Step}
 use Rattle.mg_link.specs.declared.action.Step.TheVariants as step
@@ -15,7 +15,7 @@ use Rattle.mg_cursor.specs.Batches.{NoBatchIn, batch_in, documents_of}
 use Rattle.mg_cursor.specs.Client.{ClientCursor, HasNext, client_ticket}
 use Rattle.mg_gridfs.specs.Downloads.{ClientDownload, Doing, all_judged, ended_at, idle, missing_chunk, most_empty, reads, spoiled_at}
 use Rattle.mg_gridfs.specs.DownloadView.{HaveBytes, data_in, download_of}
-use Rattle.mg_gridfs.specs.Reads.{EndsFetch, Fetches, FillsFront, Gives, Reads, SpoilsBatch, TakesBatch, TakesOne, enough, fails, waits}
+use Rattle.mg_gridfs.specs.Reads.{EndsFetch, Fetches, FillsFront, HandsOut, Reads, SpoilsBatch, TakesBatch, TakesOne, enough, fails, waits}
 use Rattle.mg_gridfs.specs.declared.download.GridFsDownloadStream.{GridFsDownloadStream}
 use Rattle.mg_gridfs.specs.declared.download.Reading.{Reading}
 use Rattle.mg_gridfs.specs.declared.download.Turn.{Turn}
@@ -54,14 +54,14 @@ fetching_ticket (step.Failed e) = None
 -- ---- batches
 
 -- one more batch, or what ends the taking
-abbrev pub FetchTurns : Awaited → Awaited → Told → Told → ℤ → ClientDownload → GridFsDownloadStream → Turn → Type 0
+abbrev pub FetchTurns : Awaited → Awaited → LogTold → LogTold → ℤ → ClientDownload → GridFsDownloadStream → Turn → Type 0
 FetchTurns old new log log' wire d s (turn.Goes r) = TakesOne old new log log' wire d (reading_of s r)
 FetchTurns old new log log' wire d s (turn.Waits r) = EndsFetch old new log log' wire d (reading_of s r) waits
 FetchTurns old new log log' wire d s (turn.Ends cursor) = EndsFetch old new log log' wire d (fetching_of s (idle cursor)) enough
 FetchTurns old new log log' wire d s (turn.Fails e) = EndsFetch old new log log' wire d (spoiled_at (download_of s)) (fails e)
 
 -- all batches of a poll
-abbrev pub FetchesOn : Awaited → Awaited → Told → Told → ℤ → ClientDownload → GridFsDownloadStream → Step Reading ClientCursor → Type 0
+abbrev pub FetchesOn : Awaited → Awaited → LogTold → LogTold → ℤ → ClientDownload → GridFsDownloadStream → Step Reading ClientCursor → Type 0
 FetchesOn old new log log' wire d s (step.Pending r) = (n : ℕ) × Fetches n old new log log' wire d (reading_of s r) waits
 FetchesOn old new log log' wire d s (step.Done cursor) = (n : ℕ) × Fetches n old new log log' wire d (fetching_of s (idle cursor)) enough
 FetchesOn old new log log' wire d s (step.Failed e) = (n : ℕ) × Fetches n old new log log' wire d (spoiled_at (download_of s)) (fails e)
@@ -130,7 +130,7 @@ pub data PassesOn (cursor : ClientCursor) (d : ClientDownload) (count : ℕ) (d'
   other_count : (HasNext cursor → ⊥) → d.taken ≢ d.count → d' ≡ spoiled_at d → r ≡ read.Failed (missing_chunk d.taken) → PassesOn cursor d count d' r
 
 abbrev pub GivesAs : ClientCursor → (before now : List ℕ) → ClientDownload → ClientDownload → ReadPoll → Type 0
-GivesAs cursor before now d d' r = (given : List ℕ) × Gives (length before) cursor d d' given r × FillsFront before now given r
+GivesAs cursor before now d d' r = (given : List ℕ) × HandsOut (length before) cursor d d' given r × FillsFront before now given r
 
-abbrev pub ReadsAs : Awaited → Awaited → Told → Told → ℤ → (before now : List ℕ) → ClientDownload → ClientDownload → ReadPoll → Type 0
+abbrev pub ReadsAs : Awaited → Awaited → LogTold → LogTold → ℤ → (before now : List ℕ) → ClientDownload → ClientDownload → ReadPoll → Type 0
 ReadsAs old new log log' wire before now d d' r = (given : List ℕ) × Reads old new log log' wire (length before) d d' given r × FillsFront before now given r

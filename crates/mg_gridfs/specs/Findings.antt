@@ -7,7 +7,7 @@ use Rattle.mg_bson.specs.View.{tree}
 use Rattle.mg_bson.specs.declared.tree.Bson.{Bson}
 use Rattle.mg_link.specs.Errors.{plain}
 use Rattle.mg_link.specs.Exec.{Runs, Sending, ticket_of}
-use Rattle.mg_link.specs.Link.{Awaited, SendsNothing, Told}
+use Rattle.mg_link.specs.Link.{Awaited, SendsNothing, LogTold}
 use Rattle.mg_link.specs.declared.action.Step.{Step}
 use Rattle.mg_link.specs.declared.action.Step.TheVariants as step
 use Rattle.mg_link.specs.declared.error.Error.{Error}
@@ -133,37 +133,37 @@ HearsList f count (step.Done reply) r = ReadsList f count reply r
 HearsList f count (step.Failed e) r = r ≡ fails e
 
 -- its chunks are waited for
-pub record ListsOn (old new : Awaited) (log log' : Told) (wire : ℤ) (f : FileRecord) (count : ℕ) (sending : Sending) (r : Opened) : Type 0 where
+pub record ListsOn (old new : Awaited) (log log' : LogTold) (wire : ℤ) (f : FileRecord) (count : ℕ) (sending : Sending) (r : Opened) : Type 0 where
   pub came : Step Sending (List ℕ)
   pub runs : Runs old new log log' wire sending came
   pub hears : HearsList f count came r
 
 -- Behind the record: a file without bytes has no chunks, and those of another one are asked for.
-pub data OpensFile (old new : Awaited) (log log' : Told) (wire : ℤ) (b : ClientBucket) (f : FileRecord) (r : Opened) : Type 0 where
+pub data OpensFile (old new : Awaited) (log log' : LogTold) (wire : ℤ) (b : ClientBucket) (f : FileRecord) (r : Opened) : Type 0 where
   too_many : (m : Malformed) → chunk_count_of f.length f.chunk_size ≡ Err m → SendsNothing old new log log' → r ≡ fails (broken m) → OpensFile old new log log' wire b f r
   is_empty : f.length ≡ 0 → SendsNothing old new log log' → r ≡ opens (empty_download f) → OpensFile old new log log' wire b f r
   not_built : f.length ≢ 0 → (e : Error) → FailsBy (CannotSend (listed_lines b f.id)) e → SendsNothing old new log log' → r ≡ fails e → OpensFile old new log log' wire b f r
   listed : f.length ≢ 0 → (count : ℕ) → chunk_count_of f.length f.chunk_size ≡ Ok count → (sending : Sending) → IsNewRequest true (listed_lines b f.id) sending → ListsOn old new log log' wire f count sending r → OpensFile old new log log' wire b f r
 
 -- the reply to the find of the record
-pub data HearsRecord (old new : Awaited) (log log' : Told) (wire : ℤ) (b : ClientBucket) (id : Tree) (reply : List ℕ) (r : Opened) : Type 0 where
+pub data HearsRecord (old new : Awaited) (log log' : LogTold) (wire : ℤ) (b : ClientBucket) (id : Tree) (reply : List ℕ) (r : Opened) : Type 0 where
   none_found : ReadsRecord reply None → (e : Error) → IsNotFound id e → SendsNothing old new log log' → r ≡ fails e → HearsRecord old new log log' wire b id reply r
   is_found : (f : FileRecord) → ReadsRecord reply (Some f) → OpensFile old new log log' wire b f r → HearsRecord old new log log' wire b id reply r
   broke : (e : Error) → FailsBy (BreaksRecord reply) e → SendsNothing old new log log' → r ≡ fails e → HearsRecord old new log log' wire b id reply r
 
 -- the record is waited for, and behind it the poll goes on
-pub data FindsOn (old new : Awaited) (log log' : Told) (wire : ℤ) (b : ClientBucket) (id : Tree) (sending : Sending) (r : Opened) : Type 0 where
+pub data FindsOn (old new : Awaited) (log log' : LogTold) (wire : ℤ) (b : ClientBucket) (id : Tree) (sending : Sending) (r : Opened) : Type 0 where
   pends : (still : Sending) → Runs old new log log' wire sending (step.Pending still) → r ≡ waits (finds still) → FindsOn old new log log' wire b id sending r
-  hears : (between : Awaited) (log_between : Told) (reply : List ℕ) → Runs old between log log_between wire sending (step.Done reply) → HearsRecord between new log_between log' wire b id reply r → FindsOn old new log log' wire b id sending r
+  hears : (between : Awaited) (log_between : LogTold) (reply : List ℕ) → Runs old between log log_between wire sending (step.Done reply) → HearsRecord between new log_between log' wire b id reply r → FindsOn old new log log' wire b id sending r
   failed : (e : Error) → Runs old new log log' wire sending (step.Failed e) → r ≡ fails e → FindsOn old new log log' wire b id sending r
 
 -- the find of the record is built, and sent
-pub data BeginsFind (old new : Awaited) (log log' : Told) (wire : ℤ) (b : ClientBucket) (id : Tree) (r : Opened) : Type 0 where
+pub data BeginsFind (old new : Awaited) (log log' : LogTold) (wire : ℤ) (b : ClientBucket) (id : Tree) (r : Opened) : Type 0 where
   built : (sending : Sending) → IsNewRequest true (found_lines b id) sending → FindsOn old new log log' wire b id sending r → BeginsFind old new log log' wire b id r
   not_built : (e : Error) → FailsBy (CannotSend (found_lines b id)) e → SendsNothing old new log log' → r ≡ fails e → BeginsFind old new log log' wire b id r
 
 -- What a poll of an opening does.
-pub data Opens (old new : Awaited) (log log' : Told) (wire : ℤ) (o : ClientFinding) (r : Opened) : Type 0 where
+pub data Opens (old new : Awaited) (log log' : LogTold) (wire : ℤ) (o : ClientFinding) (r : Opened) : Type 0 where
   no_bucket : o.bucket ≡ None → SendsNothing old new log log' → r ≡ fails (plain kind.OutOfMemory) → Opens old new log log' wire o r
   begins : (b : ClientBucket) → o.bucket ≡ Some b → o.doing ≡ starts → BeginsFind old new log log' wire b o.id r → Opens old new log log' wire o r
   finds_on : (b : ClientBucket) → o.bucket ≡ Some b → (sending : Sending) → o.doing ≡ finds sending → FindsOn old new log log' wire b o.id sending r → Opens old new log log' wire o r

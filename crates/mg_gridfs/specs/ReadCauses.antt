@@ -5,7 +5,7 @@ use Rattle.mg_bson.specs.Tree.{Items, Tree, no_items}
 use Rattle.mg_link.specs.Calls.{Flies, HeardBy, Keeps, Past, RequestFails, past_of}
 use Rattle.mg_link.specs.Errors.{plain}
 use Rattle.mg_link.specs.Exec.{IsSuccess}
-use Rattle.mg_link.specs.Link.{Awaited, Told}
+use Rattle.mg_link.specs.Link.{Awaited, LogTold}
 use Rattle.mg_link.specs.Log.{Call, reply}
 use Rattle.mg_link.specs.declared.error.Error.{Error}
 use Rattle.mg_link.specs.declared.error.ErrorKind.TheVariants as kind
@@ -66,7 +66,7 @@ OpeningCame awaited past b id (opens d) = HeardRecord past b id (Some d.file)
 OpeningCame awaited past b id (fails e) = OpeningFails past b id e
 
 -- A poll led on the opening that had sent at these places before.
-abbrev pub OpeningCaused : Awaited → Awaited → Told → Told → ℤ → ClientFinding → Opened → Type 0
+abbrev pub OpeningCaused : Awaited → Awaited → LogTold → LogTold → ℤ → ClientFinding → Opened → Type 0
 OpeningCaused old new log log' wire o r = (calls : List Call) → log ≡ Some calls → (places : List ℕ) → IsOpening old (past_of places (length calls) calls wire) o
     → (calls' : List Call) × (log' ≡ Some calls') × Keeps calls calls' × ((b : ClientBucket) → o.bucket ≡ Some b → OpeningCame new (past_of places (length calls) calls' wire) b o.id r)
 
@@ -122,6 +122,6 @@ ReadCame awaited past d d' (read.Read n) = Unit {0}
 ReadCame awaited past d d' (read.Failed e) = (c : ClientCursor) × (cursor_in d.doing ≡ Some c) × ReadFails past d c e
 
 -- A poll led on the read that had sent at these places before.
-abbrev pub ReadCaused : Awaited → Awaited → Told → Told → ℤ → ClientDownload → ClientDownload → ReadPoll → Type 0
+abbrev pub ReadCaused : Awaited → Awaited → LogTold → LogTold → ℤ → ClientDownload → ClientDownload → ReadPoll → Type 0
 ReadCaused old new log log' wire d d' r = (calls : List Call) → log ≡ Some calls → (places : List ℕ) → IsFetching old (past_of places (length calls) calls wire) d
     → (calls' : List Call) × (log' ≡ Some calls') × Keeps calls calls' × ReadCame new (past_of places (length calls) calls' wire) d d' r

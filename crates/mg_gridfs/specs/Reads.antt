@@ -4,7 +4,7 @@ use Rattle.std.specs.List.{concat}
 use Rattle.mg_bson.specs.Raw.{IsDocument, fields, items}
 use Rattle.mg_bson.specs.Tree.{Items, no_items}
 use Rattle.mg_link.specs.Errors.{plain}
-use Rattle.mg_link.specs.Link.{Awaited, SendsNothing, Told}
+use Rattle.mg_link.specs.Link.{Awaited, SendsNothing, LogTold}
 use Rattle.mg_link.specs.Moment.{Ending, pending, finished, failed}
 use Rattle.mg_link.specs.declared.error.Error.{Error}
 use Rattle.mg_link.specs.declared.error.ErrorKind.TheVariants as kind
@@ -59,7 +59,7 @@ pub data Fetched : Type 0 where
   fails : (e : Error) → Fetched
 
 -- one more batch is taken, behind which the read goes on
-pub record TakesOne (old between : Awaited) (log log_between : Told) (wire : ℤ) (d d' : ClientDownload) : Type 0 where
+pub record TakesOne (old between : Awaited) (log log_between : LogTold) (wire : ℤ) (d d' : ClientDownload) : Type 0 where
   pub cursor : ClientCursor
   pub missing : ℕ
   pub empty : ℕ
@@ -72,7 +72,7 @@ pub record TakesOne (old between : Awaited) (log log_between : Told) (wire : ℤ
   pub takes : TakesBatch behind missing empty reply d d'
 
 -- what ends the taking in this poll
-pub data EndsFetch (old new : Awaited) (log log' : Told) (wire : ℤ) (d d' : ClientDownload) (r : Fetched) : Type 0 where
+pub data EndsFetch (old new : Awaited) (log log' : LogTold) (wire : ℤ) (d d' : ClientDownload) (r : Fetched) : Type 0 where
   -- as many bytes are in hand
   none_missing : (cursor : ClientCursor) (empty : ℕ) → d.doing ≡ reads cursor 0 empty → SendsNothing old new log log' → d' ≡ record d { doing = idle cursor } → r ≡ enough → EndsFetch old new log log' wire d d' r
   -- the cursor has ended
@@ -86,26 +86,26 @@ pub data EndsFetch (old new : Awaited) (log log' : Told) (wire : ℤ) (d d' : Cl
       → PollsNext old new log log' wire None started cursor behind (next.Batch reply) → (e ≡ plain kind.OutOfMemory) ⊎ SpoilsBatch empty reply d e → d' ≡ spoiled_at d → r ≡ fails e → EndsFetch old new log log' wire d d' r
 
 -- So many batches are taken in this poll, behind each of which it goes on.
-unfoldable pub Fetches : ℕ → Awaited → Awaited → Told → Told → ℤ → ClientDownload → ClientDownload → Fetched → Type 0
+unfoldable pub Fetches : ℕ → Awaited → Awaited → LogTold → LogTold → ℤ → ClientDownload → ClientDownload → Fetched → Type 0
 Fetches zero old new log log' wire d d' r = EndsFetch old new log log' wire d d' r
-Fetches (suc n) old new log log' wire d d' r = (between : Awaited) × (log_between : Told) × (m : ClientDownload) × TakesOne old between log log_between wire d m × Fetches n between new log_between log' wire m d' r
+Fetches (suc n) old new log log' wire d d' r = (between : Awaited) × (log_between : LogTold) × (m : ClientDownload) × TakesOne old between log log_between wire d m × Fetches n between new log_between log' wire m d' r
 
 -- ---- what is given
 
 -- Bytes in hand are given, as many as there is room for. Where none is left and the cursor has no next, the chunks are counted.
-pub data Gives (room : ℕ) (cursor : ClientCursor) (d d' : ClientDownload) (given : List ℕ) (r : ReadPoll) : Type 0 where
-  goes_on : (drop room d.ahead ≢ []) ⊎ HasNext cursor → given ≡ take room d.ahead → d' ≡ record d { ahead = drop room d.ahead; doing = idle cursor } → r ≡ read.Read (length given) → Gives room cursor d d' given r
-  ends : drop room d.ahead ≡ [] → (HasNext cursor → ⊥) → d.taken ≡ d.count → given ≡ take room d.ahead → d' ≡ ended_at d → r ≡ read.Read (length given) → Gives room cursor d d' given r
+pub data HandsOut (room : ℕ) (cursor : ClientCursor) (d d' : ClientDownload) (given : List ℕ) (r : ReadPoll) : Type 0 where
+  goes_on : (drop room d.ahead ≢ []) ⊎ HasNext cursor → given ≡ take room d.ahead → d' ≡ record d { ahead = drop room d.ahead; doing = idle cursor } → r ≡ read.Read (length given) → HandsOut room cursor d d' given r
+  ends : drop room d.ahead ≡ [] → (HasNext cursor → ⊥) → d.taken ≡ d.count → given ≡ take room d.ahead → d' ≡ ended_at d → r ≡ read.Read (length given) → HandsOut room cursor d d' given r
   -- there are fewer or more than its record says
-  miscounts : drop room d.ahead ≡ [] → (HasNext cursor → ⊥) → d.taken ≢ d.count → given ≡ [] → d' ≡ spoiled_at d → r ≡ read.Failed (missing_chunk d.taken) → Gives room cursor d d' given r
+  miscounts : drop room d.ahead ≡ [] → (HasNext cursor → ⊥) → d.taken ≢ d.count → given ≡ [] → d' ≡ spoiled_at d → r ≡ read.Failed (missing_chunk d.taken) → HandsOut room cursor d d' given r
 
 abbrev pub Concludes : ℕ → Fetched → ClientDownload → ClientDownload → List ℕ → ReadPoll → Type 0
 Concludes room waits d d' given r = (d' ≡ d) × (given ≡ []) × (r ≡ read.Pending)
-Concludes room enough d d' given r = (cursor : ClientCursor) × (d.doing ≡ idle cursor) × Gives room cursor d d' given r
+Concludes room enough d d' given r = (cursor : ClientCursor) × (d.doing ≡ idle cursor) × HandsOut room cursor d d' given r
 Concludes room (fails e) d d' given r = (d' ≡ d) × (given ≡ []) × (r ≡ read.Failed e)
 
 -- a read from where it stands
-pub record Fills (old new : Awaited) (log log' : Told) (wire : ℤ) (room : ℕ) (d d' : ClientDownload) (given : List ℕ) (r : ReadPoll) : Type 0 where
+pub record Fills (old new : Awaited) (log log' : LogTold) (wire : ℤ) (room : ℕ) (d d' : ClientDownload) (given : List ℕ) (r : ReadPoll) : Type 0 where
   pub batches : ℕ
   pub left : ClientDownload
   pub fetched : Fetched
@@ -113,7 +113,7 @@ pub record Fills (old new : Awaited) (log log' : Told) (wire : ℤ) (room : ℕ)
   pub concludes : Concludes room fetched left d' given r
 
 -- nothing is sent, nothing is given, and nothing changes
-pub record ReadsNone (old new : Awaited) (log log' : Told) (d d' : ClientDownload) (given : List ℕ) (r : ReadPoll) : Type 0 where
+pub record ReadsNone (old new : Awaited) (log log' : LogTold) (d d' : ClientDownload) (given : List ℕ) (r : ReadPoll) : Type 0 where
   pub quiet : SendsNothing old new log log'
   pub same : d' ≡ d
   pub none_given : given ≡ []
@@ -126,10 +126,10 @@ IsOver ended = Unit {0}
 IsOver spoiled = Unit {0}
 
 -- What a poll of a read does that may give so many bytes. As many are awaited as its first poll had room for.
-pub data Reads (old new : Awaited) (log log' : Told) (wire : ℤ) (room : ℕ) (d d' : ClientDownload) (given : List ℕ) (r : ReadPoll) : Type 0 where
+pub data Reads (old new : Awaited) (log log' : LogTold) (wire : ℤ) (room : ℕ) (d d' : ClientDownload) (given : List ℕ) (r : ReadPoll) : Type 0 where
   no_room : room ≡ 0 → ReadsNone old new log log' d d' given r → Reads old new log log' wire room d d' given r
   is_over : 0 < room → IsOver d.doing → ReadsNone old new log log' d d' given r → Reads old new log log' wire room d d' given r
-  in_hand : 0 < room → (cursor : ClientCursor) → d.doing ≡ idle cursor → d.ahead ≢ [] → SendsNothing old new log log' → Gives room cursor d d' given r → Reads old new log log' wire room d d' given r
+  in_hand : 0 < room → (cursor : ClientCursor) → d.doing ≡ idle cursor → d.ahead ≢ [] → SendsNothing old new log log' → HandsOut room cursor d d' given r → Reads old new log log' wire room d d' given r
   begins : 0 < room → (cursor : ClientCursor) → d.doing ≡ idle cursor → d.ahead ≡ [] → Fills old new log log' wire room (record d { doing = reads cursor room 0 }) d' given r → Reads old new log log' wire room d d' given r
   goes_on : 0 < room → (cursor : ClientCursor) (missing empty : ℕ) → d.doing ≡ reads cursor missing empty → Fills old new log log' wire room d d' given r → Reads old new log log' wire room d d' given r
 

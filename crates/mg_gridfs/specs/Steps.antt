@@ -6,7 +6,7 @@ use Rattle.mg_bson.specs.Tree.{Fields}
 use Rattle.mg_link.specs.Errors.{plain}
 use Rattle.mg_link.specs.Exec.{Runs, Sending}
 use Rattle.mg_link.specs.Files.{chunked}
-use Rattle.mg_link.specs.Link.{Awaited, SendsNothing, Told}
+use Rattle.mg_link.specs.Link.{Awaited, SendsNothing, LogTold}
 use Rattle.mg_link.specs.declared.action.Step.{Step}
 use Rattle.mg_link.specs.declared.action.Step.TheVariants as step
 use Rattle.mg_link.specs.declared.error.Error.{Error}
@@ -15,7 +15,7 @@ use Rattle.mg_link.specs.declared.error.ErrorKind.TheVariants as kind
 use Rattle.mg_link.specs.declared.error.GridFsErrorKind.{Held-GridFsErrorKind-AbortError-0, None', Some'}
 use Rattle.mg_link.specs.declared.error.GridFsErrorKind.TheVariants as grid
 use Rattle.mg_ops.specs.Failing.{CannotBeSent, FailsBy}
-use Rattle.mg_ops.specs.InsertCauses.{FitTogether, max_batch}
+use Rattle.mg_ops.specs.InsertCauses.{FitTogether, max_piece}
 use Rattle.mg_ops.specs.Limits.{max_documents}
 use Rattle.mg_ops.specs.Writes.{FailedAs, Inserted, NotInserted, Wrote, count_of}
 use Rattle.mg_gridfs.specs.Checks as check
@@ -59,7 +59,7 @@ pub record IsPortion (u : ClientUpload) (documents : List Fields) (count : ℕ) 
   pub few : count ≤ max_documents
   pub together : FitTogether documents
   -- one more is not there, or passes the limits: all full chunks are documents of one length
-  pub most : (length u.behind < (count + 1) * u.aim.size) ⊎ ((count ≡ max_documents) ⊎ ((d : Fields) × (slice_get documents 0 ≡ Some d) × (max_batch < (count + 1) * length (bytes d))))
+  pub most : (length u.behind < (count + 1) * u.aim.size) ⊎ ((count ≡ max_documents) ⊎ ((d : Fields) × (slice_get documents 0 ≡ Some d) × (max_piece < (count + 1) * length (bytes d))))
 
 -- so many of these ids have twelve bytes
 abbrev pub AreIds : (ℕ → List ℕ) → ℕ → Type 0
@@ -139,7 +139,7 @@ HearsRecord ending (step.Failed e) u u' r = Undoes e u u' r
 -- ---- giving up
 
 -- what a request on its way comes to: it waits still, or has ended, whatever came of it
-pub data LandsFlight (old new : Awaited) (log log' : Told) (wire : ℤ) (flight : Flight) (left : Option Flight) : Type 0 where
+pub data LandsFlight (old new : Awaited) (log log' : LogTold) (wire : ℤ) (flight : Flight) (left : Option Flight) : Type 0 where
   of_check : (c : ClientCheck) → flight ≡ by_check c → (t : Option ClientCheck) → LandsCheck old new log log' wire c t → left ≡ option_map by_check t → LandsFlight old new log log' wire flight left
   of_command : (sending : Sending) → flight ≡ by_command sending → (came : Step Sending (List ℕ)) → Runs old new log log' wire sending came → left ≡ option_map by_command (still_of came) → LandsFlight old new log log' wire flight left
 
@@ -187,7 +187,7 @@ HearsRemoval original (step.Failed d) u u' r = (e : Error) × FailsToUndo origin
 -- ---- a step
 
 -- What a step does, by how far the call has come. So many ids were drawn in it.
-pub data DoesStep (old new : Awaited) (log log' : Told) (wire : ℤ) (ids : ℕ → List ℕ) (drawn : ℕ) (u u' : ClientUpload) (p : Phase) (r : Stepped) : Type 0 where
+pub data DoesStep (old new : Awaited) (log log' : LogTold) (wire : ℤ) (ids : ℕ → List ℕ) (drawn : ℕ) (u u' : ClientUpload) (p : Phase) (r : Stepped) : Type 0 where
   begins_check : p ≡ begins → SendsNothing old new log log' → drawn ≡ 0 → BeginsCheck u u' r → DoesStep old new log log' wire ids drawn u u' p r
   checks_on : (c : ClientCheck) → p ≡ checks c → drawn ≡ 0 → (t : CheckTurned) → ChecksOn old new log log' wire u.aim.bucket c t → CheckLeads t u u' r → DoesStep old new log log' wire ids drawn u u' p r
   -- less than a chunk is left: the write is done
@@ -216,8 +216,8 @@ abbrev pub ids_behind : ℕ → (ℕ → List ℕ) → ℕ → List ℕ
 ids_behind n ids k = ids (n + k)
 
 -- So many steps, behind each of which the poll goes on, and a last one; and so many ids drawn in all.
-unfoldable pub DoesSteps : ℕ → Awaited → Awaited → Told → Told → ℤ → (ℕ → List ℕ) → ℕ → ClientUpload → ClientUpload → Phase → Stepped → Type 0
+unfoldable pub DoesSteps : ℕ → Awaited → Awaited → LogTold → LogTold → ℤ → (ℕ → List ℕ) → ℕ → ClientUpload → ClientUpload → Phase → Stepped → Type 0
 DoesSteps zero old new log log' wire ids drawn u u' p r = DoesStep old new log log' wire ids drawn u u' p r × IsLastStep r
-DoesSteps (suc n) old new log log' wire ids drawn u u' p r = (between : Awaited) × (log_between : Told) × (first later : ℕ) × (v : ClientUpload) × (q : Phase)
+DoesSteps (suc n) old new log log' wire ids drawn u u' p r = (between : Awaited) × (log_between : LogTold) × (first later : ℕ) × (v : ClientUpload) × (q : Phase)
     × DoesStep old between log log_between wire ids first u v p (goes q) × (drawn ≡ first + later)
     × DoesSteps n between new log_between log' wire (ids_behind first ids) later v u' q r

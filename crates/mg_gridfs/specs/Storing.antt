@@ -5,7 +5,7 @@ use Rattle.mg_bson.specs.Tree.{Fields}
 use Rattle.mg_link.specs.Calls.{Keeps, Past, past_of}
 use Rattle.mg_link.specs.Files.{AreChunks, Bucket, chunked, with_value}
 use Rattle.mg_link.specs.Filing.{Filing, KnowsFile, cleared, insert_at, part, removal_at, stays, unknown, whole_with}
-use Rattle.mg_link.specs.Link.{Awaited, Told}
+use Rattle.mg_link.specs.Link.{Awaited, LogTold}
 use Rattle.mg_link.specs.Log.{Call}
 use Rattle.mg_link.specs.declared.error.Error.{Error}
 use Rattle.mg_link.specs.declared.error.ErrorKind.{ErrorKind}
@@ -139,15 +139,15 @@ AfterAbort awaited past at u u' taken end.Done = KnowsFile past at u.aim.id clea
 AfterAbort awaited past at u u' taken (end.Failed e) = Unit {0}
 
 -- A poll led an upload on that had sent at these places before and took these bytes.
-abbrev pub Stores : Awaited → Awaited → Told → Told → ℤ → Bucket → ClientUpload → (Past → List ℕ → Type 0) → Type 0
+abbrev pub Stores : Awaited → Awaited → LogTold → LogTold → ℤ → Bucket → ClientUpload → (Past → List ℕ → Type 0) → Type 0
 Stores old new log log' wire at u After = (calls : List Call) → log ≡ Some calls → (places taken : List ℕ) → KnowsUpload old (past_of places (length calls) calls wire) at u taken
     → (calls' : List Call) × (log' ≡ Some calls') × Keeps calls calls' × After (past_of places (length calls) calls' wire) taken
 
-abbrev pub WriteStores : Awaited → Awaited → Told → Told → ℤ → Bucket → ClientUpload → ClientUpload → List ℕ → WritePoll → Type 0
+abbrev pub WriteStores : Awaited → Awaited → LogTold → LogTold → ℤ → Bucket → ClientUpload → ClientUpload → List ℕ → WritePoll → Type 0
 WriteStores old new log log' wire at u u' bytes r = Stores old new log log' wire at u (λ past taken. AfterWrite new past at u u' taken bytes r)
 
-abbrev pub CloseStores : Awaited → Awaited → Told → Told → ℤ → Bucket → ClientUpload → ClientUpload → Step2 → Type 0
+abbrev pub CloseStores : Awaited → Awaited → LogTold → LogTold → ℤ → Bucket → ClientUpload → ClientUpload → Step2 → Type 0
 CloseStores old new log log' wire at u u' r = Stores old new log log' wire at u (λ past taken. AfterClose new past at u u' taken r)
 
-abbrev pub AbortStores : Awaited → Awaited → Told → Told → ℤ → Bucket → ClientUpload → ClientUpload → Step2 → Type 0
+abbrev pub AbortStores : Awaited → Awaited → LogTold → LogTold → ℤ → Bucket → ClientUpload → ClientUpload → Step2 → Type 0
 AbortStores old new log log' wire at u u' r = Stores old new log log' wire at u (λ past taken. AfterAbort new past at u u' taken r)

@@ -1,7 +1,7 @@
 -- What the steps of an upload do, for private clauses.
 use Rattle.std.specs.Prelude.{◌≡◌, ◌<◌, ◌≤◌, ◌*◌, ◌+◌, ◌-◌, ◌^◌, ℕ, ℤ, false, List, [], ◌∷◌, length, drop, take, Option, None}
 use Rattle.mg_link.specs.Exec.{Sending}
-use Rattle.mg_link.specs.Link.{Awaited, Told}
+use Rattle.mg_link.specs.Link.{Awaited, LogTold}
 use Rattle.mg_link.specs.Moment.{Ending, finished, step_ending}
 use Rattle.mg_link.specs.declared.action.Step.{Step}
 use Rattle.mg_link.specs.declared.action.Step.TheVariants as step
@@ -43,16 +43,16 @@ turn_ending (turn.Stops r) = step_ending r
 -- ---- steps
 
 -- the way back to its end, or until a reply pends: it draws no id, and the upload stays as it is
-abbrev pub BacksOn : Awaited → Awaited → Told → Told → ℤ → ClientUpload → Phase → Step Back (Unit {0}) → Type 0
+abbrev pub BacksOn : Awaited → Awaited → LogTold → LogTold → ℤ → ClientUpload → Phase → Step Back (Unit {0}) → Type 0
 BacksOn old new log log' wire u p r = (ids : ℕ → List ℕ) → (n : ℕ) × DoesSteps n old new log log' wire ids 0 u u p (back_stopped r)
 
 -- A step of the way ahead, with the way back behind it where it fails. The poll goes on only where nothing has failed.
-abbrev pub TurnsOn : Awaited → Awaited → Told → Told → ℤ → (ℕ → List ℕ) → ℕ → ClientUpload → ClientUpload → Phase → Turn → Type 0
+abbrev pub TurnsOn : Awaited → Awaited → LogTold → LogTold → ℤ → (ℕ → List ℕ) → ℕ → ClientUpload → ClientUpload → Phase → Turn → Type 0
 TurnsOn old new log log' wire ids drawn u u' p (turn.Goes s) = DoesStep old new log log' wire ids drawn u u' p (goes (phase_of s)) × (error_behind (phase_of s) ≡ None)
 TurnsOn old new log log' wire ids drawn u u' p (turn.Stops r) = (n : ℕ) × DoesSteps n old new log log' wire ids drawn u u' p (stopped_by r)
 
 -- all steps of a poll
-abbrev pub DrivesOn : Awaited → Awaited → Told → Told → ℤ → (ℕ → List ℕ) → ℕ → ClientUpload → ClientUpload → Phase → Step Stage (Unit {0}) → Type 0
+abbrev pub DrivesOn : Awaited → Awaited → LogTold → LogTold → ℤ → (ℕ → List ℕ) → ℕ → ClientUpload → ClientUpload → Phase → Step Stage (Unit {0}) → Type 0
 DrivesOn old new log log' wire ids drawn u u' p r = (n : ℕ) × DoesSteps n old new log log' wire ids drawn u u' p (stopped_by r)
 
 -- the check begins, or its find is not built

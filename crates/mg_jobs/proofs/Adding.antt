@@ -4,7 +4,7 @@ use Rattle.std.specs.Prelude.{slice_get}
 use Rattle.mg_bson.specs.Tree.{Fields}
 use Rattle.mg_bson.specs.Raw.{fields}
 use Rattle.mg_link.specs.Calls.{Keeps, AddsOnly}
-use Rattle.mg_link.specs.Link.{Told}
+use Rattle.mg_link.specs.Link.{LogTold}
 use Rattle.mg_link.specs.Log.{Call}
 use Rattle.mg_link.proofs.Owners.{same_some}
 use Rattle.mg_ops.specs.Logs.{commands_sent}
@@ -32,11 +32,11 @@ added_behind may (c ∷ calls) (d ∷ calls') commands is all (suc place) call b
     let rest : commands_sent calls' ≡ commands_sent calls ++ commands = cc is in
     added_behind may calls calls' commands rest all place call (omega arith) there
 
-same_log : (log : Told) (calls calls' : List Call) → log ≡ Some calls → log ≡ Some calls' → calls ≡ calls'
+same_log : (log : LogTold) (calls calls' : List Call) → log ≡ Some calls → log ≡ Some calls' → calls ≡ calls'
 same_log log calls calls' told told' = same_some calls calls' (sym told ∙ told')
 
 -- where these commands were sent, each of them such a one
-pub adds_sent : (may : Fields → Type 0) (log log' : Told) (commands : List Fields) → Sent log log' commands → AreAll may commands → (calls calls' : List Call) → log ≡ Some calls → log' ≡ Some calls' → Keeps calls calls' → AddsOnly may calls calls'
+pub adds_sent : (may : Fields → Type 0) (log log' : LogTold) (commands : List Fields) → Sent log log' commands → AreAll may commands → (calls calls' : List Call) → log ≡ Some calls → log' ≡ Some calls' → Keeps calls calls' → AddsOnly may calls calls'
 adds_sent may log log' commands sent all calls calls' told told' keeps =
     let s = sent calls told in
     let is : commands_sent calls' ≡ commands_sent calls ++ commands = subst (λ (l : List Call). commands_sent l ≡ commands_sent calls ++ commands) (same_log log' s.0 calls' s.1 told') s.2 in

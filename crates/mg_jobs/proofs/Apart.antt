@@ -2,7 +2,7 @@
 use Rattle.std.proofs.Common.{◌≡◌, ℕ, zero, suc, ℤ, true, false, List, [], ◌∷◌, ◌++◌, length, Some, None, Result, Ok, Err, refl, sym, ap, ◌∙◌, subst, inl, inr, ◌⊎◌}
 use Rattle.std.specs.Prelude.{slice_get, slice_set, IsSome, is_some, OnErr, ⊤}
 use Rattle.std.proofs.lemmas.Bool.{cases_eq}
-use Rattle.mg_link.specs.Link.{Awaited, Told}
+use Rattle.mg_link.specs.Link.{Awaited, LogTold}
 use Rattle.mg_link.specs.declared.error.Error.{Error}
 use Rattle.mg_link.proofs.Owners.{same_some}
 use Rattle.mg_link.proofs.Places.{get_set_other, get_set_same}
@@ -16,7 +16,7 @@ use Rattle.mg_jobs.specs.declared.player.Player.TheVariants as player
 not_out : (old : Awaited) (m : ℕ) → old m ≡ None → IsSome (old m) → ⊥
 not_out old m none out = let bad : false ≡ true = ap (λ o. is_some o) (sym none) ∙ out in cc
 
-module _ {so : Task → Type 0} (old new : Awaited) (log log' : Told) (wire : ℤ) (players : List Player) (k : ℕ) (p p' : Player) (at : slice_get players k ≡ Some p) (apart : MayAllGo old wire players) (goes : Goes so old new log log' wire p p') where
+module _ {so : Task → Type 0} (old new : Awaited) (log log' : LogTold) (wire : ℤ) (players : List Player) (k : ℕ) (p p' : Player) (at : slice_get players k ≡ Some p) (apart : MayAllGo old wire players) (goes : Goes so old new log log' wire p p') where
   pub which : (i : ℕ) (a : Player) → slice_get (slice_set players k p') i ≡ Some a → ((i ≡ k) × (p' ≡ a)) ⊎ ((i ≡ k → ⊥) × (slice_get players i ≡ Some a))
   which i a h =
       elim (cases_eq i k) [
@@ -64,7 +64,7 @@ module _ {so : Task → Type 0} (old new : Awaited) (log log' : Told) (wire : �
   apart_turn = record { each = each_after; distinct = distinct_after }
 
 -- the same over a wire version that is the same
-pub stands_after : {so : Task → Type 0} (old new : Awaited) (log log' : Told) (wire wire' : ℤ) (players : List Player) (k : ℕ) (p p' : Player) → wire' ≡ wire → slice_get players k ≡ Some p → MayAllGo old wire players → Goes so old new log log' wire' p p' → MayAllGo new wire' (slice_set players k p')
+pub stands_after : {so : Task → Type 0} (old new : Awaited) (log log' : LogTold) (wire wire' : ℤ) (players : List Player) (k : ℕ) (p p' : Player) → wire' ≡ wire → slice_get players k ≡ Some p → MayAllGo old wire players → Goes so old new log log' wire' p p' → MayAllGo new wire' (slice_set players k p')
 stands_after old new log log' wire wire' players k p p' same at apart goes = apart_turn old new log log' wire' players k p p' at (subst (λ w. MayAllGo old w players) (sym same) apart) goes
 
 -- jobs that have done nothing are apart over any link

@@ -4,7 +4,7 @@ use Rattle.std.specs.Prelude.{slice_get}
 use Rattle.mg_bson.specs.Tree.{Fields}
 use Rattle.mg_bson.specs.Raw.{fields}
 use Rattle.mg_link.specs.Calls.{Keeps}
-use Rattle.mg_link.specs.Link.{Told}
+use Rattle.mg_link.specs.Link.{LogTold}
 use Rattle.mg_link.specs.Log.{Call}
 use Rattle.mg_link.proofs.Calls.{keeps_longer}
 use Rattle.mg_link.proofs.Owners.{same_some}
@@ -74,7 +74,7 @@ pub at_since : (calls calls' : List Call) (places : List ℕ) (more : List Field
 at_since calls calls' places more keeps below is =
     at_both calls' places (places_from (length calls) (length calls' - length calls)) ∙ ap₂ (λ (a b : List Fields). a ++ b) (at_kept calls calls' keeps places below) (at_added calls calls' more is)
 
-pub at_sent : (log log' : Told) (calls calls' : List Call) (places : List ℕ) (more : List Fields) → log ≡ Some calls → log' ≡ Some calls' → Keeps calls calls' → AreInLog (length calls) places → AddsJust log log' more → commands_at calls' (sent_since places (length calls) (length calls')) ≡ commands_at calls places ++ more
+pub at_sent : (log log' : LogTold) (calls calls' : List Call) (places : List ℕ) (more : List Fields) → log ≡ Some calls → log' ≡ Some calls' → Keeps calls calls' → AreInLog (length calls) places → AddsJust log log' more → commands_at calls' (sent_since places (length calls) (length calls')) ≡ commands_at calls places ++ more
 at_sent log log' calls calls' places more told told' keeps below adds =
     let add = adds calls told in
     let is : commands_sent calls' ≡ commands_sent calls ++ more = subst (λ (l : List Call). commands_sent l ≡ commands_sent calls ++ more) (same_some add.0 calls' (sym add.1 ∙ told')) add.2 in
@@ -94,7 +94,7 @@ falls_later may calls calls' n places m keeps f =
     }
 
 -- Behind them fall those that a poll sent.
-pub falls_more : (may : ℕ → Fields → Type 0) (log log' : Told) (calls calls' : List Call) (n : ℕ) (places : List ℕ) (k m : ℕ) (commands : List Fields) → log ≡ Some calls → log' ≡ Some calls' → Keeps calls calls' → FallsAt may calls n places k → Sent log log' commands → Falling may k commands m → FallsAt may calls' n (sent_since places (length calls) (length calls')) m
+pub falls_more : (may : ℕ → Fields → Type 0) (log log' : LogTold) (calls calls' : List Call) (n : ℕ) (places : List ℕ) (k m : ℕ) (commands : List Fields) → log ≡ Some calls → log' ≡ Some calls' → Keeps calls calls' → FallsAt may calls n places k → Sent log log' commands → Falling may k commands m → FallsAt may calls' n (sent_since places (length calls) (length calls')) m
 falls_more may log log' calls calls' n places k m commands told told' keeps f sent falling =
     let s = sent calls told in
     let is : commands_sent calls' ≡ commands_sent calls ++ commands = subst (λ (l : List Call). commands_sent l ≡ commands_sent calls ++ commands) (same_some s.0 calls' (sym s.1 ∙ told')) s.2 in

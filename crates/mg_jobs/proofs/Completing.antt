@@ -11,7 +11,7 @@ use Rattle.mg_bson.specs.Writable.{max_len}
 use Rattle.mg_link.specs.Calls.{HeardAt, HeardBy, NoneBroken, Past, RequestFails, out_of_memory, was_broken, was_lost, was_refused}
 use Rattle.mg_link.specs.Exec.{FailsAs, FailsByReply, IsSuccess}
 use Rattle.mg_link.specs.History.{Step, state_of}
-use Rattle.mg_link.specs.Link.{Awaited, Told}
+use Rattle.mg_link.specs.Link.{Awaited, LogTold}
 use Rattle.mg_link.specs.Log.{Sight, fault, reply, Call}
 use Rattle.mg_link.specs.Namespace.{Space, Target, space, target}
 use Rattle.mg_link.specs.Reply.{verdict_of}
@@ -555,7 +555,7 @@ played_as_sent ids ts order i (follow on count start filter batch) k last r play
 played_as_sent ids ts order i (put db bucket name id chunk pieces) k last r played = played
 played_as_sent ids ts order i (get db bucket id read) k last r played = played
 
-all_well : (ids : ℕ → List ℕ) (awaited : Awaited) (log log' : Told) (wire : ℤ) (tasks : List Task) (order : List ℕ) (notes : List Turned) (outcomes : List Outcome) → LosesNothing log log' → AllCaused ids awaited log log' wire tasks order notes outcomes → AllPlayed tasks order notes outcomes → AllWell ids log log' tasks order notes outcomes
+all_well : (ids : ℕ → List ℕ) (awaited : Awaited) (log log' : LogTold) (wire : ℤ) (tasks : List Task) (order : List ℕ) (notes : List Turned) (outcomes : List Outcome) → LosesNothing log log' → AllCaused ids awaited log log' wire tasks order notes outcomes → AllPlayed tasks order notes outcomes → AllWell ids log log' tasks order notes outcomes
 all_well ids awaited log log' wire tasks order notes outcomes lossless caused played calls told =
     let by = caused calls told in
     let kept = lossless calls told in
@@ -568,7 +568,7 @@ all_well ids awaited log log' wire tasks order notes outcomes lossless caused pl
     )
 
 -- the same of a run, unless memory ran out
-pub well_so : (ids : ℕ → List ℕ) (awaited : Awaited) (log log' : Told) (wire : ℤ) (tasks : List Task) (order : List ℕ) (result : Result Played Error) → LosesNothing log log' → IfOk result (λ p. AllCaused ids awaited log log' wire tasks order p.turns.items p.outcomes.items) → IfOk result (λ p. AllPlayed tasks order p.turns.items p.outcomes.items)
+pub well_so : (ids : ℕ → List ℕ) (awaited : Awaited) (log log' : LogTold) (wire : ℤ) (tasks : List Task) (order : List ℕ) (result : Result Played Error) → LosesNothing log log' → IfOk result (λ p. AllCaused ids awaited log log' wire tasks order p.turns.items p.outcomes.items) → IfOk result (λ p. AllPlayed tasks order p.turns.items p.outcomes.items)
     → IfOk result (λ p. AllWell ids log log' tasks order p.turns.items p.outcomes.items)
 well_so ids awaited log log' wire tasks order (Ok p) lossless caused played = all_well ids awaited log log' wire tasks order p.turns.items p.outcomes.items lossless caused played
 well_so ids awaited log log' wire tasks order (Err e) lossless caused played = tt

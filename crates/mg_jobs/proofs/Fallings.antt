@@ -3,7 +3,7 @@ use Rattle.std.proofs.Common.{◌≡◌, ◌≤◌, ◌++◌, List, ℕ, ℤ, po
 use Rattle.mg_bson.specs.Raw.{fields}
 use Rattle.mg_bson.specs.Tree.{Fields}
 use Rattle.mg_link.specs.Exec.{Runs, Sending}
-use Rattle.mg_link.specs.Link.{Awaited, Told}
+use Rattle.mg_link.specs.Link.{Awaited, LogTold}
 use Rattle.mg_link.specs.Namespace.{Space}
 use Rattle.mg_link.specs.Session.{Session}
 use Rattle.mg_link.specs.declared.action.Step.{Step}
@@ -26,8 +26,8 @@ use Rattle.mg_jobs.specs.Playing.{IsLast}
 use Rattle.mg_jobs.specs.Telling.{landing_places}
 
 -- nothing is sent
-tried_still : (at : ℕ → Fields → Type 0) (log log' : Told) (n m : ℕ) → log' ≡ log → m ≤ n → Tried at log log' n m
-tried_still at log log' n m same less = subst (λ (l : Told). Tried at log l n m) (sym same) (tried_below at log log n n m less (tried_none at log n))
+tried_still : (at : ℕ → Fields → Type 0) (log log' : LogTold) (n m : ℕ) → log' ≡ log → m ≤ n → Tried at log log' n m
+tried_still at log log' n m same less = subst (λ (l : LogTold). Tried at log l n m) (sym same) (tried_below at log log n n m less (tried_none at log n))
 
 -- how many are left behind a poll of an opening
 abbrev pub opening_left : Step ClientOpening ClientStream → ℕ
@@ -35,7 +35,7 @@ opening_left (step.Pending o) = opening_places o.sending
 opening_left (step.Done s) = 1
 opening_left (step.Failed e) = 1
 
-module _ (old new : Awaited) (log log' : Told) (wire : ℤ) (started : Bool) (o : ClientOpening) (r : Step ClientOpening ClientStream) where
+module _ (old new : Awaited) (log log' : LogTold) (wire : ℤ) (started : Bool) (o : ClientOpening) (r : Step ClientOpening ClientStream) where
   abbrev OpensDown : ℕ → Step ClientOpening ClientStream → Type 0
   OpensDown n x = Tried (IsOpening o.args wire None) log log' n (opening_left x)
 
@@ -73,7 +73,7 @@ kill_of last k id_is space_is none_opened =
     let ids : ids_left k ≡ unless_none last.cursor.id ++ unless_none (pos 0) = ap (λ (x : ℤ). unless_none x ++ unless_none k.opened) id_is ∙ ap (λ (x : ℤ). unless_none last.cursor.id ++ unless_none x) none_opened in
     ap (λ (s : Space). kill_command s (ids_left k)) space_is ∙ ap (λ (l : List ℤ). kill_command last.cursor.space l) ids
 
-module _ (old new : Awaited) (log log' : Told) (wire : ℤ) (last : ClientStream) (r : Step ClosingStream (Unit {0})) where
+module _ (old new : Awaited) (log log' : LogTold) (wire : ℤ) (last : ClientStream) (r : Step ClosingStream (Unit {0})) where
   abbrev KillsDown : ℕ → Step ClosingStream (Unit {0}) → Type 0
   KillsDown n x = Tried (KillsLast last) log log' n (closing_left x)
 

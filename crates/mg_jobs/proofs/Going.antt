@@ -1,7 +1,7 @@
 -- What a turn of a follow comes to, whose stage was taken out before it and put back behind it.
 use Rattle.std.proofs.Common.{◌≡◌, ℕ, ℤ, refl, sym, ap, subst}
 use Rattle.mg_link.specs.Acts.{Tickets}
-use Rattle.mg_link.specs.Link.{Awaited, Told}
+use Rattle.mg_link.specs.Link.{Awaited, LogTold}
 use Rattle.mg_jobs.specs.Follows.{FollowTurns, Placing}
 use Rattle.mg_jobs.specs.Headline.{FollowPlays, follow_task}
 use Rattle.mg_jobs.specs.Playing.{StageHolds, stage_ticket}
@@ -18,7 +18,7 @@ use Rattle.mg_jobs.proofs.Turning.{SameParts, other_stage}
 use Rattle.mg_jobs.proofs.Vainly.{vain_other}
 
 -- a turn of a follow, in the words of its kind
-abbrev pub TakesTurn : Awaited → Awaited → Told → Told → ℤ → FollowPlayer → FollowPlayer → Type 0
+abbrev pub TakesTurn : Awaited → Awaited → LogTold → LogTold → ℤ → FollowPlayer → FollowPlayer → Type 0
 TakesTurn = words.Goes (λ (p : FollowPlayer). stage_ticket p.stage) (λ (w : ℤ) (p : FollowPlayer). StageHolds p.stage) task_followed FollowPlays FollowSays follow_number (λ (p : FollowPlayer). Unit {0}) AnySent
 
 -- the same follow at the same stage
@@ -26,7 +26,7 @@ pub staged : (job : FollowPlayer) (s s' : Stage) → s ≡ s' → record job { s
 staged job s s' same = ap (λ (x : Stage). record job { stage = x }) same
 
 module _ (job before mid job' : FollowPlayer) (was after : Stage) (from : was ≡ job.stage) (to : job' ≡ record mid { stage = after }) where
-  pub follow_goes : (old new : Awaited) (log log' : Told) (wire wire' : ℤ) (place : Placing) → SameParts job before → kept before ≡ kept job → wire' ≡ wire → Tickets old new (stage_ticket was) (stage_ticket after) → StageHolds after → FollowTurns old new log log' was before after mid place
+  pub follow_goes : (old new : Awaited) (log log' : LogTold) (wire wire' : ℤ) (place : Placing) → SameParts job before → kept before ≡ kept job → wire' ≡ wire → Tickets old new (stage_ticket was) (stage_ticket after) → StageHolds after → FollowTurns old new log log' was before after mid place
       → FollowTells old new log log' wire was (kept before) after (kept mid) place → mid.watched ≡ job.watched → TakesTurn old new log log' wire' job job'
   follow_goes old new log log' wire wire' place parts same over tickets holds turned told watched =
       let end : FollowPlayer = record mid { stage = after } in

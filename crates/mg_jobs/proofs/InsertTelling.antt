@@ -3,7 +3,7 @@ use Rattle.std.proofs.Common.{◌≡◌, ◌⊎◌, ℕ, ℤ, true, List, [], le
 use Rattle.mg_bson.specs.Tree.{Fields}
 use Rattle.mg_link.specs.Calls.{Grows, Past, past_of, AddsOnly}
 use Rattle.mg_link.specs.Errors.{plain}
-use Rattle.mg_link.specs.Link.{Awaited, Told}
+use Rattle.mg_link.specs.Link.{Awaited, LogTold}
 use Rattle.mg_link.specs.Log.{Call}
 use Rattle.mg_link.specs.Namespace.{Space}
 use Rattle.mg_link.specs.declared.action.Step.{Step}
@@ -52,10 +52,10 @@ unbegun_sent at ds e = (0, refl)
 
 -- ---- its own turns
 
-pub stage_stays : (awaited : Awaited) (log : Told) (wire : ℤ) (at : Space) (ds : List Fields) (s : InsertStage) → InsertTurns awaited awaited log log wire at ds s s
+pub stage_stays : (awaited : Awaited) (log : LogTold) (wire : ℤ) (at : Space) (ds : List Fields) (s : InsertStage) → InsertTurns awaited awaited log log wire at ds s s
 stage_stays awaited log wire at ds s calls calls' told told' places t = subst (λ (c : List Call). InsertTells awaited (past_of places (length calls) c wire) at ds s × AddsOnly (IsInsertOf at ds) calls c) (same_some calls calls' (sym told ∙ told')) (t, adds_none (IsInsertOf at ds) calls)
 
-module _ (old new : Awaited) (log log' : Told) (wire : ℤ) (at : Space) (ds : List Fields) (i : Inserting) where
+module _ (old new : Awaited) (log log' : LogTold) (wire : ℤ) (at : Space) (ds : List Fields) (i : Inserting) where
   -- what it sent inserts some of its documents
   stage_adds : (result : Step Inserting ℕ) → InsertCaused old new log log' wire i result → (calls calls' : List Call) → log ≡ Some calls → log' ≡ Some calls' → (places : List ℕ) → InsertTells old (sent_at places calls wire) at ds (inserts.Goes i) → AddsOnly (IsInsertOf at ds) calls calls'
   stage_adds result caused calls calls' told told' places t = let x = caused calls told places at ds t.0 in subst (λ (c : List Call). AddsOnly (IsInsertOf at ds) calls c) (same_some x.0 calls' (sym x.1 ∙ told')) x.3
@@ -82,10 +82,10 @@ module _ (old new : Awaited) (log log' : Told) (wire : ℤ) (at : Space) (ds : L
   )
 
 -- what it sends in one
-pub sends_none : (log : Told) (at : Space) (ds : List Fields) (s : InsertStage) → StageSends log log at ds s s
+pub sends_none : (log : LogTold) (at : Space) (ds : List Fields) (s : InsertStage) → StageSends log log at ds s s
 sends_none log at ds s commands so = ([], just_none log log refl, subst (λ (l : List Fields). StageSent at ds l s) (sym (append-nil commands)) so)
 
-module _ (log log' : Told) (at : Space) (ds : List Fields) (i : Inserting) where
+module _ (log log' : LogTold) (at : Space) (ds : List Fields) (i : Inserting) where
   pub waits_sent : (i' : Inserting) → GivesCount i (step.Pending i') → SendsOn log log' i (step.Pending i') → StageSends log log' at ds (inserts.Goes i) (inserts.Goes i')
   waits_sent i' same sends commands so = poll_sends log log' at ds commands i so (step.Pending i') same sends
 
@@ -108,7 +108,7 @@ sent_on ids at ds sent commands (inserts.Goes i) s' on drawn so = subst (λ (x :
 sent_on ids at ds sent commands (inserts.Ended end) s' on drawn so = subst (λ (x : InsertStage). StageSent at sent commands x) (sym on) so
 
 -- the same over the same wire version, by another name
-pub turns_over : (old new : Awaited) (log log' : Told) (wire wire' : ℤ) (at : Space) (ds : List Fields) (s s' : InsertStage) → wire' ≡ wire → InsertTurns old new log log' wire at ds s s' → InsertTurns old new log log' wire' at ds s s'
+pub turns_over : (old new : Awaited) (log log' : LogTold) (wire wire' : ℤ) (at : Space) (ds : List Fields) (s s' : InsertStage) → wire' ≡ wire → InsertTurns old new log log' wire at ds s s' → InsertTurns old new log log' wire' at ds s s'
 turns_over old new log log' wire wire' at ds s s' same turns = subst (λ (w : ℤ). InsertTurns old new log log' w at ds s s') (sym same) turns
 
 -- an insert goes on where it was after so many turns, unless it has ended

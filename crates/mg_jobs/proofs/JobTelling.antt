@@ -2,7 +2,7 @@
 use Rattle.std.proofs.Common.{◌≡◌, ◌⊎◌, ℕ, ℤ, Bool, true, List, [], length, Option, Some, None, refl, sym, ap, ◌∙◌, subst, inl, inr, arith}
 use Rattle.mg_bson.specs.Tree.{Fields, Tree}
 use Rattle.mg_link.specs.Calls.{Keeps, past_of}
-use Rattle.mg_link.specs.Link.{Awaited, Told}
+use Rattle.mg_link.specs.Link.{Awaited, LogTold}
 use Rattle.mg_link.specs.Log.{Call}
 use Rattle.mg_link.specs.Namespace.{space}
 use Rattle.mg_link.proofs.Adding.{adds_none}
@@ -116,7 +116,7 @@ follow_teller so f f' same =
 -- ---- turns
 
 -- a turn in which nothing was sent, behind which a job tells what it told
-pub quiet_turn : {P : Type 0} (does : P → Task) (says : Account P) (count : P → ℕ) (so : Task → Type 0) (awaited : Awaited) (log : Told) (wire : ℤ) (p p' : P) → words.TellsAs does says count so p p' → words.TurnTells does says count so awaited awaited log log wire p p' same_place
+pub quiet_turn : {P : Type 0} (does : P → Task) (says : Account P) (count : P → ℕ) (so : Task → Type 0) (awaited : Awaited) (log : LogTold) (wire : ℤ) (p p' : P) → words.TellsAs does says count so p p' → words.TurnTells does says count so awaited awaited log log wire p p' same_place
 quiet_turn does says count so awaited log wire p p' teller calls calls' told told' ids n may q at tells =
     subst (λ (c : List Call). words.TellsBehind says count awaited calls c wire (sent_from ids n (does p)) q (count p) p' at) (same_some calls calls' (sym told ∙ told'))
     (record {
@@ -128,7 +128,7 @@ quiet_turn does says count so awaited log wire p p' teller calls calls' told tol
     })
 
 -- a turn of an insert
-pub insert_turn : (so : Task → Type 0) (old new : Awaited) (log log' : Told) (wire : ℤ) (job job' : InsertPlayer) → job'.ns ≡ job.ns → ((sent : List Fields) → InsertTurns old new log log' wire (space job.ns.now) sent job.stage job'.stage) → ((sent : List Fields) → StageSends log log' (space job.ns.now) sent job.stage job'.stage)
+pub insert_turn : (so : Task → Type 0) (old new : Awaited) (log log' : LogTold) (wire : ℤ) (job job' : InsertPlayer) → job'.ns ≡ job.ns → ((sent : List Fields) → InsertTurns old new log log' wire (space job.ns.now) sent job.stage job'.stage) → ((sent : List Fields) → StageSends log log' (space job.ns.now) sent job.stage job'.stage)
     → words.TurnTells insert_task InsertSays no_number so old new log log' wire job job' same_place
 insert_turn so old new log log' wire job job' same turns sends calls calls' told told' ids n may q at tells =
     let sent : List Fields = with_ids ids n job.documents.now in
@@ -151,13 +151,13 @@ insert_turn so old new log log' wire job job' same turns sends calls calls' told
     }
 
 -- a turn of a follow
-pub follow_turn : (so : Task → Type 0) (old new : Awaited) (log log' : Told) (wire : ℤ) (job job' : FollowPlayer) (next : Placing) → FollowTells old new log log' wire job.stage (kept job) job'.stage (kept job') next → words.TurnTells task_followed FollowSays follow_number so old new log log' wire job job' next
+pub follow_turn : (so : Task → Type 0) (old new : Awaited) (log log' : LogTold) (wire : ℤ) (job job' : FollowPlayer) (next : Placing) → FollowTells old new log log' wire job.stage (kept job) job'.stage (kept job') next → words.TurnTells task_followed FollowSays follow_number so old new log log' wire job job' next
 follow_turn so old new log log' wire job job' next tells calls calls' told told' ids n may q at t =
     let r = tells calls calls' told told' q at t in
     record { longer = r.longer; places = r.places; tells = r.tells; extends = r.extends; adds = r.adds }
 
 -- a job that got ready, and then took its turn
-pub ready_turn : (so : Task → Type 0) (old new : Awaited) (log log' : Told) (wire : ℤ) (p q p' : Player) (next : Placing) → IsSameTask p q → TellsAs so p q → TurnTells AnySent old new log log' wire q p' next → TurnTells so old new log log' wire p p' next
+pub ready_turn : (so : Task → Type 0) (old new : Awaited) (log log' : LogTold) (wire : ℤ) (p q p' : Player) (next : Placing) → IsSameTask p q → TellsAs so p q → TurnTells AnySent old new log log' wire q p' next → TurnTells so old new log log' wire p p' next
 ready_turn so old new log log' wire p q p' next task teller turn calls calls' told told' ids n may places at tells =
     let r = turn calls calls' told told' ids n tt places at (subst (λ (u : Task). JobTells old calls wire places (sent_from ids n u) q at) (sym task) (teller.tells old calls wire places ids n at may tells)) in
     subst (λ (u : Task). TellsBehind new calls calls' wire (sent_from ids n u) places (number_of p) p' (next at)) task

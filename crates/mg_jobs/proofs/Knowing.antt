@@ -1,7 +1,7 @@
 -- What the jobs of a run know goes on to hold, turn by turn.
 use Rattle.std.proofs.Common.{◌≡◌, ◌⊎◌, ℕ, zero, suc, ℤ, pos, List, [], ◌∷◌, ◌++◌, Option, Some, None, refl, sym, ap, ◌∙◌, subst, inl, inr, length, map, arith, append_assoc, length-append, ◌+◌, take}
 use Rattle.std.specs.Prelude.{cond, nat_eq, slice_get, slice_set}
-use Rattle.mg_link.specs.Link.{Awaited, Told}
+use Rattle.mg_link.specs.Link.{Awaited, LogTold}
 use Rattle.mg_link.specs.Log.{Call}
 use Rattle.mg_link.specs.Owner.{Owner, Holds, Onward, Passes, nobody}
 use Rattle.mg_link.proofs.Apart.{holds_nobody, passes_same}
@@ -50,7 +50,7 @@ kept_player awaited calls calls' (player.Follow job) o at onward (inr vain) = in
 kept_player awaited calls calls' (player.Put job) o at onward plays = plays
 kept_player awaited calls calls' (player.Get job) o at onward plays = plays
 
-module _ {so : Task → Type 0} (old new : Awaited) (log log' : Told) (wire : ℤ) (players : List Player) (k : ℕ) (p p' : Player) (at : slice_get players k ≡ Some p) (apart : MayAllGo old wire players) (goes : Goes so old new log log' wire p p') where
+module _ {so : Task → Type 0} (old new : Awaited) (log log' : LogTold) (wire : ℤ) (players : List Player) (k : ℕ) (p p' : Player) (at : slice_get players k ≡ Some p) (apart : MayAllGo old wire players) (goes : Goes so old new log log' wire p p') where
   -- the places where streams were opened, behind the turn
   abbrev pub places_on : (ℕ → Option ℕ) → ℕ → Option ℕ
   places_on places i = cond (nat_eq i k) (goes.next (places k)) (places i)
@@ -86,7 +86,7 @@ module _ {so : Task → Type 0} (old new : Awaited) (log log' : Told) (wire : �
       }
 
   -- A run stands after the turn of one of its jobs.
-  pub knowing_on : (begun : Told) → Knowing old begun log players → Knowing new begun log' (slice_set players k p')
+  pub knowing_on : (begun : LogTold) → Knowing old begun log players → Knowing new begun log' (slice_set players k p')
   knowing_on begun knowing calls e =
       let before = knowing calls e in
       let here = before.2.each k p at in
@@ -96,13 +96,13 @@ module _ {so : Task → Type 0} (old new : Awaited) (log log' : Told) (wire : �
 -- ---- turns of each kind
 
 -- an insert names no cursor, and leaves every other job alone
-pub turned_insert : (old new : Awaited) (log log' : Told) (job job' : InsertPlayer) → (IsPlainJob job → PassesPlain log log' × IsPlainJob job') → words.Turns InsertPlays old new log log' job job' same_place
+pub turned_insert : (old new : Awaited) (log log' : LogTold) (job job' : InsertPlayer) → (IsPlainJob job → PassesPlain log log' × IsPlainJob job') → words.Turns InsertPlays old new log log' job job' same_place
 turned_insert old new log log' job job' plain calls told o at plays =
     let on = plain plays.1 in
     let m = on.0 calls told in
     (m.0, m.1, record { owner = nobody; plays = (refl, on.1); passes = subst (λ (x : Owner). Passes calls m.0 x nobody) (sym plays.0) m.2 })
 
-pub turned_follow : (old new : Awaited) (log log' : Told) (job job' : FollowPlayer) (next : Placing) → FollowTurns old new log log' job.stage job job'.stage job' next → words.Turns FollowPlays old new log log' job job' next
+pub turned_follow : (old new : Awaited) (log log' : LogTold) (job job' : FollowPlayer) (next : Placing) → FollowTurns old new log log' job.stage job job'.stage job' next → words.Turns FollowPlays old new log log' job job' next
 turned_follow old new log log' job job' next turned calls told o at (inl knows) =
     let m = turned.watching calls told o at knows in
     (m.0, m.1, record { owner = m.2.owner; plays = inl m.2.knows; passes = m.2.passes })
@@ -118,15 +118,15 @@ holds_player awaited calls (player.Put job) o at plays = subst (Holds calls) (sy
 holds_player awaited calls (player.Get job) o at plays = subst (Holds calls) (sym plays) (holds_nobody calls)
 
 -- a job that owns no cursor, and does nothing
-pub turned_nobody : {P : Type 0} (awaited : Awaited) (log : Told) (p : P) → words.Turns (λ (a : Awaited) (cs : List Call) (q : P) (o : Owner) (at : Option ℕ). o ≡ nobody) awaited awaited log log p p same_place
+pub turned_nobody : {P : Type 0} (awaited : Awaited) (log : LogTold) (p : P) → words.Turns (λ (a : Awaited) (cs : List Call) (q : P) (o : Owner) (at : Option ℕ). o ≡ nobody) awaited awaited log log p p same_place
 turned_nobody awaited log p calls told o at is = (calls, told, record { owner = o; plays = is; passes = passes_same calls o (subst (Holds calls) (sym is) (holds_nobody calls)) })
 
 -- a job that does nothing
-pub turned_not : (awaited : Awaited) (log : Told) (p p' : Player) → ((calls : List Call) (o : Owner) (at : Option ℕ) → Plays awaited calls p o at → Plays awaited calls p' o at) → Turns awaited awaited log log p p' same_place
+pub turned_not : (awaited : Awaited) (log : LogTold) (p p' : Player) → ((calls : List Call) (o : Owner) (at : Option ℕ) → Plays awaited calls p o at → Plays awaited calls p' o at) → Turns awaited awaited log log p p' same_place
 turned_not awaited log p p' knows calls told o at plays = (calls, told, record { owner = o; plays = knows calls o at plays; passes = passes_same calls o (holds_player awaited calls p o at plays) })
 
 -- a job that found a place for its answer, and then took its turn
-pub turned_ready : (old new : Awaited) (log log' : Told) (p q p' : Player) (next : Placing) → ((awaited : Awaited) (calls : List Call) (o : Owner) (at : Option ℕ) → Plays awaited calls p o at → Plays awaited calls q o at) → Turns old new log log' q p' next → Turns old new log log' p p' next
+pub turned_ready : (old new : Awaited) (log log' : LogTold) (p q p' : Player) (next : Placing) → ((awaited : Awaited) (calls : List Call) (o : Owner) (at : Option ℕ) → Plays awaited calls p o at → Plays awaited calls q o at) → Turns old new log log' q p' next → Turns old new log log' p p' next
 turned_ready old new log log' p q p' next knows turned calls told o at plays = turned calls told o at (knows old calls o at plays)
 
 -- what differs at most in the room for answers knows the same
@@ -234,7 +234,7 @@ know_first awaited calls players first =
       each = λ i p h. record { owner = first_owner p; there = get_map first_owner players i p h; plays = plays_first awaited calls p (first i p h) };
     }
 
-pub knowing_first : (awaited : Awaited) (log : Told) (players : List Player) → AreFirst players → Knowing awaited log log players
+pub knowing_first : (awaited : Awaited) (log : LogTold) (players : List Player) → AreFirst players → Knowing awaited log log players
 knowing_first awaited log players first calls e = (calls, e, know_first awaited calls players first, λ made. made)
 
 -- ---- tasks

@@ -4,7 +4,7 @@ use Rattle.std.specs.Prelude.{◌≢◌}
 use Rattle.mg_bson.specs.Raw.{fields}
 use Rattle.mg_bson.specs.Tree.{Tree}
 use Rattle.mg_link.specs.Exec.{Runs, Sending, Stage}
-use Rattle.mg_link.specs.Link.{Awaited, Told}
+use Rattle.mg_link.specs.Link.{Awaited, LogTold}
 use Rattle.mg_link.specs.State.{Start, Watch}
 use Rattle.mg_link.specs.declared.action.Step.{Step}
 use Rattle.mg_link.specs.declared.action.Step.TheVariants as step
@@ -40,7 +40,7 @@ IsPending (step.Failed e) = ⊥
 same_pending : (j k : ClosingStream) → ◌≡◌ {A = Step ClosingStream (Unit {0})} (step.Pending j) (step.Pending k) → j ≡ k
 same_pending j k is = cc
 
-module _ (old new : Awaited) (log log' : Told) (wire : ℤ) (k' : ClosingStream) where
+module _ (old new : Awaited) (log log' : LogTold) (wire : ℤ) (k' : ClosingStream) where
   -- the killing waits
   heard_lasts : (k : ClosingStream) (sending : Sending) (came : Step Sending (List ℕ)) → IsNotAsking k.cursor.doing → k.opened ≡ pos 0 → ids_left k ≢ [] → WaitsFor (kill_left k) sending → Runs old new log log' wire sending came → HearsKill k came (step.Pending k') → Lasts k'
   heard_lasts k sending (step.Pending waiting) quiet alone some own runs h =

@@ -3,7 +3,7 @@ use Rattle.std.proofs.Common.{◌≡◌, ◌⊎◌, ◌+◌, ◌-◌, ◌^◌, �
 use Rattle.std.specs.Prelude.{is_some, IsSome, nat_eq, if◌then◌else◌}
 use Rattle.std.proofs.lemmas.Bool.{cases_eq, eq-eqb, ne_eqb}
 use Rattle.mg_link.specs.Acts.{IsOut}
-use Rattle.mg_link.specs.Link.{Awaited, Ends, OneMore, OneMoreAt, Polls, SamePolls, Sees, Sends, Starts, Told, Waits}
+use Rattle.mg_link.specs.Link.{Awaited, Ends, OneMore, OneMoreAt, Polls, SamePolls, Sees, Sends, Starts, LogTold, Waits}
 use Rattle.mg_link.specs.Log.{Sight, Call, waiting, fault, see}
 use Rattle.mg_link.proofs.Outs.{length-see}
 use Rattle.mg_jobs.specs.Counts.{IsNewest, IsOwnTurn, NewestAt, sent_last, was_held, PolledBy, PolledNewest, StartedBy, is_held, one_if, shown}
@@ -82,19 +82,19 @@ none_if (Some n) b is e = cc
 
 -- ---- the log
 
-abbrev pub IsLonger : Told → Told → Type 0
+abbrev pub IsLonger : LogTold → LogTold → Type 0
 IsLonger to to' = (calls : List Call) → to ≡ Some calls → (calls' : List Call) × (to' ≡ Some calls') × (length calls ≤ length calls')
 
-pub started_longer : (n : ℕ) (from to : Told) → StartedBy n from to → IsLonger from to
+pub started_longer : (n : ℕ) (from to : LogTold) → StartedBy n from to → IsLonger from to
 started_longer n from to started calls told = let s = started calls told in let more = s.2 in (s.0, s.1, omega (arith, more))
 
-abbrev IsAsLong : Told → Told → Type 0
+abbrev IsAsLong : LogTold → LogTold → Type 0
 IsAsLong to to' = (calls : List Call) → to ≡ Some calls → (calls' : List Call) × (to' ≡ Some calls') × (length calls' ≡ length calls)
 
-same_long : (log log' : Told) → log' ≡ log → IsAsLong log log'
+same_long : (log log' : LogTold) → log' ≡ log → IsAsLong log log'
 same_long log log' e calls told = (calls, e ∙ told, refl)
 
-sees_long : (log log' : Told) (place : Option ℕ) (seen : Sight) → Sees log log' place seen → IsAsLong log log'
+sees_long : (log log' : LogTold) (place : Option ℕ) (seen : Sight) → Sees log log' place seen → IsAsLong log log'
 sees_long log log' place seen sees calls told = let s = sees calls told in (see s.0 seen calls, s.5, length-see s.0 seen calls)
 
 -- ---- polls
@@ -114,9 +114,9 @@ none_polled : (n : ℕ) (own own' : ℕ → Type 0) (before now now' : Polls) �
 none_polled zero own own' before now now' none same p = λ place. same place ∙ p place
 none_polled (suc n) own own' before now now' none same p = absurd (omega (arith, none))
 
-module _ (held : Option ℕ) (began : Awaited) (from : Told) (before : Polls) where
+module _ (held : Option ℕ) (began : Awaited) (from : LogTold) (before : Polls) where
   -- a turn begins
-  pub own_begun : (now : Awaited) (to : Told) (out : Option ℕ) (polls : Polls) → now ≡ began → to ≡ from → out ≡ held → polls ≡ before → IsOwnTurn held began now from to out 0 before polls
+  pub own_begun : (now : Awaited) (to : LogTold) (out : Option ℕ) (polls : Polls) → now ≡ began → to ≡ from → out ≡ held → polls ≡ before → IsOwnTurn held began now from to out 0 before polls
   own_begun now to out polls same log is counts = record {
     others = λ n mine there. ap (λ (a : Awaited). a n) same;
     only = λ n there. elim (cases_held (is_held held n)) [
@@ -131,7 +131,7 @@ module _ (held : Option ℕ) (began : Awaited) (from : Told) (before : Polls) wh
   still_newest calls mid new place long (sent_last less last) = sent_last (omega (arith, long, less)) (omega (arith, long, last))
   still_newest calls mid new place long (was_held same n holds at) = was_held (omega (arith, long, same)) n holds at
 
-  newest_on : (to to' : Told) → IsAsLong to to' → (place : ℕ) → IsNewest held began from to place → IsNewest held began from to' place
+  newest_on : (to to' : LogTold) → IsAsLong to to' → (place : ℕ) → IsNewest held began from to place → IsNewest held began from to' place
   newest_on to to' long place newest calls told =
       let it = newest calls told in
       let on = long it.0 it.1 in
@@ -139,7 +139,7 @@ module _ (held : Option ℕ) (began : Awaited) (from : Told) (before : Polls) wh
 
   -- ---- a start
 
-  module _ (old new : Awaited) (to to' : Told) (command : List ℕ) (out : Option ℕ) (none : out ≡ None) (pended : ℕ) (none_pended : pended ≡ 0) (polls polls' : Polls) (same : SamePolls polls polls') (was : IsOwnTurn held began old from to out pended before polls) where
+  module _ (old new : Awaited) (to to' : LogTold) (command : List ℕ) (out : Option ℕ) (none : out ≡ None) (pended : ℕ) (none_pended : pended ≡ 0) (polls polls' : Polls) (same : SamePolls polls polls') (was : IsOwnTurn held began old from to out pended before polls) where
     not_shown : (n : ℕ) → IsSome (shown held began old n) → ⊥
     not_shown n there = let bad : None ≡ Some n = sym none ∙ was.only n there in absurd cc
 
@@ -179,7 +179,7 @@ module _ (held : Option ℕ) (began : Awaited) (from : Told) (before : Polls) wh
 
   -- ---- a poll
 
-  module _ (old new : Awaited) (to to' : Told) (ticket : ℕ) (there : IsSome (shown held began old ticket)) (out : Option ℕ) (pended : ℕ) (polls polls' : Polls) (was : IsOwnTurn held began old from to out pended before polls) where
+  module _ (old new : Awaited) (to to' : LogTold) (ticket : ℕ) (there : IsSome (shown held began old ticket)) (out : Option ℕ) (pended : ℕ) (polls polls' : Polls) (was : IsOwnTurn held began old from to out pended before polls) where
     one_polled : (o : Option ℕ) → old ticket ≡ o → OneMoreAt o polls polls' → (place : ℕ) × IsNewest held began from to place × OneMore place polls polls'
     one_polled None at more = let bad : false ≡ true = ap (λ x. is_some x) (sym at) ∙ ap (λ x. is_some x) (sym (shown_out held began old ticket there)) ∙ there in cc
     one_polled (Some place) at more = (place, was.newest ticket place (was.only ticket there) at, more place refl)
@@ -225,7 +225,7 @@ few_pended : (pended : Bool) → one_if pended < 2 ^ 64 - 1
 few_pended true = omega arith
 few_pended false = omega arith
 
-pub newest_of : (held after : Option ℕ) (began now : Awaited) (from to : Told) (out : Option ℕ) (pended : Bool) (n : ℕ) (polls polls' : Polls) → n ≡ one_if pended → IsOut (shown held began now) after → IsOwnTurn held began now from to out n polls polls' → PolledNewest pended held after began now from to polls polls'
+pub newest_of : (held after : Option ℕ) (began now : Awaited) (from to : LogTold) (out : Option ℕ) (pended : Bool) (n : ℕ) (polls polls' : Polls) → n ≡ one_if pended → IsOut (shown held began now) after → IsOwnTurn held began now from to out n polls polls' → PolledNewest pended held after began now from to polls polls'
 newest_of held after began now from to out pended n polls polls' is holds was = record {
   polled = subst (λ m. PolledBy m (IsNewest held began from to) polls polls') is (was.polls (subst (λ m. m < 2 ^ 64 - 1) (sym is) (few_pended pended)));
   holds = λ m place e at. was.newest m place (was.only m (holds m e)) at;

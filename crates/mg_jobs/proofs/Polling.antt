@@ -3,7 +3,7 @@ use Rattle.std.proofs.Common.{◌≡◌, ◌+◌, ◌≤◌, ℕ, zero, suc, ℤ
 use Rattle.std.specs.Prelude.{slice_get}
 use Rattle.std.specs.List.{sum_by}
 use Rattle.std.proofs.lemmas.List.{append-nil, take_all}
-use Rattle.mg_link.specs.Link.{Awaited, Polls, SamePolls, Told}
+use Rattle.mg_link.specs.Link.{Awaited, Polls, SamePolls, LogTold}
 use Rattle.mg_link.specs.Log.{Call}
 use Rattle.mg_link.specs.declared.error.Error.{Error}
 use Rattle.mg_link.proofs.Owners.{same_some}
@@ -34,7 +34,7 @@ polled_in ids first old mid new wire calls order notes j p at asks note place to
     (record { done = own.done; sent = subst (λ m. SentIn (course calls order notes) j own.done m) (same_some own.place place (sym own.at ∙ out)) own.sent; newest = none n holds out })
 
 -- The call that was polled is the newest one that the turn's job sent.
-pub polls_turn : (ids given : ℕ → List ℕ) (old : Awaited) (log log' : Told) (wire : ℤ) (ts : List Task) (order : List ℕ) (notes : List Turned) (players : List Player) (j : ℕ) (p : Player) (note : Turned) (polls polls' : Polls) (begun : Told) → slice_get players j ≡ Some p → StartedBy note.started log log'
+pub polls_turn : (ids given : ℕ → List ℕ) (old : Awaited) (log log' : LogTold) (wire : ℤ) (ts : List Task) (order : List ℕ) (notes : List Turned) (players : List Player) (j : ℕ) (p : Player) (note : Turned) (polls polls' : Polls) (begun : LogTold) → slice_get players j ≡ Some p → StartedBy note.started log log'
     → AllAt ts order notes players → HaveDrawn ids given ts order players → AllTell ids old begun log wire ts order notes players → PolledBy (one_if note.pended) (IsNewest (job_ticket p) old log log') polls polls' → PollsOwn begun order notes j note polls polls'
 polls_turn ids given old log log' wire ts order notes players j p note polls polls' begun at started all drawn tell polled calls told =
     let run = tell calls told in
@@ -75,15 +75,15 @@ polls_more calls gone noted (x ∷ order) (y ∷ notes) i note before mid now ab
 )
 
 -- the turn of this number was taken too
-pub polls_next : (begun : Told) (order : List ℕ) (k i : ℕ) (notes : List Turned) (note : Turned) (before mid now : Polls) → slice_get order k ≡ Some i → length (take k order) ≡ length notes → AllPollOwn begun (take k order) notes before mid → PollsOwn begun (take k order) notes i note mid now → AllPollOwn begun (take (k + 1) order) (notes ++ note ∷ []) before now
+pub polls_next : (begun : LogTold) (order : List ℕ) (k i : ℕ) (notes : List Turned) (note : Turned) (before mid now : Polls) → slice_get order k ≡ Some i → length (take k order) ≡ length notes → AllPollOwn begun (take k order) notes before mid → PollsOwn begun (take k order) notes i note mid now → AllPollOwn begun (take (k + 1) order) (notes ++ note ∷ []) before now
 polls_next begun order k i notes note before mid now there abreast all polled calls told =
     subst (λ (ns : List ℕ). PollOwnFrom calls [] [] ns (notes ++ note ∷ []) before now) (sym (take_next order k i there) ∙ ap (λ m. take m order) (one_more k))
     (polls_more calls [] [] (take k order) notes i note before mid now abreast (all calls told) (polled calls told))
 
-pub polls_whole : (begun : Told) (order : List ℕ) (k : ℕ) (notes : List Turned) (before now : Polls) → length order ≤ k → AllPollOwn begun (take k order) notes before now → AllPollOwn begun order notes before now
+pub polls_whole : (begun : LogTold) (order : List ℕ) (k : ℕ) (notes : List Turned) (before now : Polls) → length order ≤ k → AllPollOwn begun (take k order) notes before now → AllPollOwn begun order notes before now
 polls_whole begun order k notes before now over all = subst (λ (ns : List ℕ). AllPollOwn begun ns notes before now) (take_all k order over) all
 
 -- the same of a run, unless memory ran out
-pub polls_so : (played : Result Played Error) (log : Told) (order : List ℕ) (notes : List Turned) (before now : Polls) → IfOk played (λ p. p.turns.items ≡ notes) → AllPollOwn log order notes before now → IfOk played (λ p. AllPollOwn log order p.turns.items before now)
+pub polls_so : (played : Result Played Error) (log : LogTold) (order : List ℕ) (notes : List Turned) (before now : Polls) → IfOk played (λ p. p.turns.items ≡ notes) → AllPollOwn log order notes before now → IfOk played (λ p. AllPollOwn log order p.turns.items before now)
 polls_so (Ok p) log order notes before now same all = subst (λ (ts : List Turned). AllPollOwn log order ts before now) (sym same) all
 polls_so (Err e) log order notes before now same all = tt

@@ -2,7 +2,7 @@
 use Rattle.std.proofs.Common.{◌≡◌, ℕ, ℤ, Bool, true, false, Option, None, refl, sym, ap, subst}
 use Rattle.mg_bson.specs.Raw.{fields}
 use Rattle.mg_link.specs.Exec.{Sending}
-use Rattle.mg_link.specs.Link.{Awaited, Told}
+use Rattle.mg_link.specs.Link.{Awaited, LogTold}
 use Rattle.mg_link.specs.Session.{Session}
 use Rattle.mg_link.specs.declared.action.Step.{Step}
 use Rattle.mg_ops.specs.Cursors.{next_command, watch_manner}
@@ -25,7 +25,7 @@ use Rattle.mg_jobs.specs.Sends.{IsCommandOf, asks, kills, opens, resumes}
 
 -- ---- a call of a stream
 
-pub calls_such : (are_its : WatchArgs → Type 0) (args : WatchArgs) → are_its args → (n : ℕ) (old new : Awaited) (log log' : Told) (wire : ℤ) (starts : ℕ) (s s' : ClientStream) (r : EventPoll) → IsSound true s → s.aggregate.args ≡ args → (s.doing ≡ follows → s.cursor.manner ≡ watch_manner args.options) → CallCopies n old new log log' wire None starts s s' r → AddsSuch (IsCommandOf are_its) log log'
+pub calls_such : (are_its : WatchArgs → Type 0) (args : WatchArgs) → are_its args → (n : ℕ) (old new : Awaited) (log log' : LogTold) (wire : ℤ) (starts : ℕ) (s s' : ClientStream) (r : EventPoll) → IsSound true s → s.aggregate.args ≡ args → (s.doing ≡ follows → s.cursor.manner ≡ watch_manner args.options) → CallCopies n old new log log' wire None starts s s' r → AddsSuch (IsCommandOf are_its) log log'
 calls_such are_its args its =
     call_such (IsCommandOf are_its) args
     (λ c manner. asks args its c.id c.space (ap (next_command c.id c.space) manner))
@@ -34,7 +34,7 @@ calls_such are_its args its =
 
 -- ---- an opening
 
-module _ (are_its : WatchArgs → Type 0) (old new : Awaited) (log log' : Told) (wire : ℤ) (started : Bool) (o : ClientOpening) (r : Step ClientOpening ClientStream) (its : are_its o.args) where
+module _ (are_its : WatchArgs → Type 0) (old new : Awaited) (log log' : LogTold) (wire : ℤ) (started : Bool) (o : ClientOpening) (r : Step ClientOpening ClientStream) (its : are_its o.args) where
   opening_run : (sending : Sending) (at : ℤ) → fields sending.command ≡ resuming_in (first_aggregate o.args) at None → RunsOpening old new log log' wire started o sending r → AddsSuch (IsCommandOf are_its) log log'
   opening_run sending at is h = again_such (IsCommandOf are_its) old new log log' wire sending h.came started (opens o.args at its is) h.runs
 
@@ -47,7 +47,7 @@ module _ (are_its : WatchArgs → Type 0) (old new : Awaited) (log log' : Told) 
 
 -- ---- a closing
 
-module _ (are_its : WatchArgs → Type 0) (old new : Awaited) (log log' : Told) (wire : ℤ) (r : Step ClosingStream (Unit {0})) where
+module _ (are_its : WatchArgs → Type 0) (old new : Awaited) (log log' : LogTold) (wire : ℤ) (r : Step ClosingStream (Unit {0})) where
   kill_run : (k : ClosingStream) (sending : Sending) → fields sending.command ≡ kill_left k → sending.retries ≡ false → RunsKill old new log log' wire k sending r → AddsSuch (IsCommandOf are_its) log log'
   kill_run k sending is single h =
       such_tried (IsCommandOf are_its) log log' (ending_places sending.stage) 0
@@ -69,7 +69,7 @@ module _ (are_its : WatchArgs → Type 0) (old new : Awaited) (log log' : Told) 
       kill_run k sending own.command_is own.single h
 
 -- so the log grows by it, whatever its server does
-pub closing_grows : (old new : Awaited) (log log' : Told) (wire : ℤ) (k : ClosingStream) (r : Step ClosingStream (Unit {0})) → IsLast k.cursor.doing k.opened k.doing × IsSoundClosing k → ClosesStream old new log log' wire k r → GoesOnward log log'
+pub closing_grows : (old new : Awaited) (log log' : LogTold) (wire : ℤ) (k : ClosingStream) (r : Step ClosingStream (Unit {0})) → IsLast k.cursor.doing k.opened k.doing × IsSoundClosing k → ClosesStream old new log log' wire k r → GoesOnward log log'
 closing_grows old new log log' wire k r last closes calls told =
     let s = closing_such (λ (a : WatchArgs). Unit {0}) old new log log' wire r k last.0 last.1 closes in
     let m = s.adds calls told in

@@ -5,7 +5,7 @@ use Rattle.mg_bson.specs.Tree.{Tree, Fields}
 use Rattle.mg_bson.specs.Raw.{fields}
 use Rattle.mg_bson.specs.declared.tree.Timestamp.{Timestamp}
 use Rattle.mg_link.specs.Calls.{Keeps, Past, AddsOnly}
-use Rattle.mg_link.specs.Link.{Awaited, Told}
+use Rattle.mg_link.specs.Link.{Awaited, LogTold}
 use Rattle.mg_link.specs.Log.{Call}
 use Rattle.mg_link.specs.Step.{ends_cursor}
 use Rattle.mg_link.specs.declared.error.Error.{Error}
@@ -158,7 +158,7 @@ for_opened args past opened o =
 -- ---- what a follow sends
 
 -- such commands of it, and no others
-pub such_adds : (are_its : WatchArgs → Type 0) (log log' : Told) (calls calls' : List Call) → log ≡ Some calls → log' ≡ Some calls' → Keeps calls calls' → AddsSuch (IsCommandOf are_its) log log' → AddsOnly (IsCommandOf are_its) calls calls'
+pub such_adds : (are_its : WatchArgs → Type 0) (log log' : LogTold) (calls calls' : List Call) → log ≡ Some calls → log' ≡ Some calls' → Keeps calls calls' → AddsSuch (IsCommandOf are_its) log log' → AddsOnly (IsCommandOf are_its) calls calls'
 such_adds are_its log log' calls calls' told told' keeps s = adds_sent (IsCommandOf are_its) log log' s.commands s.adds s.such calls calls' told told' keeps
 
 -- ---- turn by turn

@@ -3,7 +3,7 @@ use Rattle.std.proofs.Common.{◌≡◌, ◌⊎◌, ℕ, ℤ, List, true, false,
 use Rattle.std.specs.Prelude.{is_some, IsSome}
 use Rattle.mg_link.specs.Acts.{Tickets}
 use Rattle.mg_link.specs.Calls.{Keeps}
-use Rattle.mg_link.specs.Link.{Awaited, Told}
+use Rattle.mg_link.specs.Link.{Awaited, LogTold}
 use Rattle.mg_link.specs.Log.{Call}
 use Rattle.mg_jobs.specs.Counts.{OthersStay, is_held, shown}
 use Rattle.mg_jobs.specs.Follows.{Placing}
@@ -27,7 +27,7 @@ Agree ticket old new = (m : ℕ) → ticket ≡ Some m → new m ≡ old m
 keeps_same : (calls : List Call) → Keeps calls calls
 keeps_same calls place call there = (call, there, refl, λ seen. refl)
 
-module _ (old old' new new' : Awaited) (log log' : Told) where
+module _ (old old' new new' : Awaited) (log log' : LogTold) where
   turns_agree : (p p' : Player) (next : Placing) → Agree (job_ticket p) old old' → Agree (job_ticket p') new new' → Turns old' new log log' p p' next → Turns old new' log log' p p' next
   turns_agree p p' next before after turns calls told o at plays =
       let r = turns calls told o at (same_player old old' calls p o at before plays) in
@@ -89,7 +89,7 @@ module _ (held : Option ℕ) (began new : Awaited) (others : OthersStay held beg
       only = only_shown;
     }
 
-pub goes_shown : (so : Task → Type 0) (held : Option ℕ) (began new : Awaited) (log log' : Told) (wire : ℤ) (p p' : Player) → job_ticket p ≡ held → OthersStay held began new → Goes so (shown held began began) (shown held began new) log log' wire p p' → Goes so began new log log' wire p p'
+pub goes_shown : (so : Task → Type 0) (held : Option ℕ) (began new : Awaited) (log log' : LogTold) (wire : ℤ) (p p' : Player) → job_ticket p ≡ held → OthersStay held began new → Goes so (shown held began began) (shown held began new) log log' wire p p' → Goes so began new log log' wire p p'
 goes_shown so held began new log log' wire p p' mine others goes =
     let t = subst (λ (o : Option ℕ). Tickets (shown held began began) (shown held began new) o (job_ticket p')) mine goes.tickets in
     let before = λ (m : ℕ) (e : job_ticket p ≡ Some m). shown_held held began began m (sym mine ∙ e) in

@@ -7,7 +7,7 @@ use Rattle.mg_link.specs.declared.error.Error.{Error}
 use Rattle.mg_link.proofs.Staying.{stays_adds, stays_on, stays_sees}
 use Rattle.mg_script.specs.declared.outcome.Played.{Played}
 use Rattle.mg_script.specs.declared.outcome.Turned.{Turned}
-use Rattle.mg_link.specs.Link.{Adds, Sees, Told}
+use Rattle.mg_link.specs.Link.{Adds, Sees, LogTold}
 use Rattle.mg_link.specs.Log.{Sight, fault, Call, see}
 use Rattle.mg_link.proofs.Onward.{rose_on}
 use Rattle.mg_link.proofs.Outs.{length-see}
@@ -17,7 +17,7 @@ use Rattle.mg_jobs.specs.Counts.{AreNoted, Counted, Faultless, IsNoted, LosesNot
 
 -- ---- what is lost
 
-pub loses_on : (old mid new : Told) → LosesNothing old mid → LosesNothing mid new → LosesNothing old new
+pub loses_on : (old mid new : LogTold) → LosesNothing old mid → LosesNothing mid new → LosesNothing old new
 loses_on old mid new first second calls told =
     let a = first calls told in
     let b = second a.0 a.1 in
@@ -30,19 +30,19 @@ see_faultless zero seen (c ∷ calls) saved (suc place) call there is = there
 see_faultless (suc k) seen (c ∷ calls) saved zero call there is = there
 see_faultless (suc k) seen (c ∷ calls) saved (suc place) call there is = see_faultless k seen calls saved place call there is
 
-loses_sees : (log log' : Told) (place : Option ℕ) (seen : Sight) → (seen ≡ fault → ⊥) → Sees log log' place seen → LosesNothing log log'
+loses_sees : (log log' : LogTold) (place : Option ℕ) (seen : Sight) → (seen ≡ fault → ⊥) → Sees log log' place seen → LosesNothing log log'
 loses_sees log log' place seen saved sees calls told = let s = sees calls told in (see s.0 seen calls, s.5, see_faultless s.0 seen calls saved)
 
 -- ---- what is counted
 
-started_seen : (n : ℕ) (old log log' : Told) (place : Option ℕ) (seen : Sight) → StartedBy n old log → Sees log log' place seen → StartedBy n old log'
+started_seen : (n : ℕ) (old log log' : LogTold) (place : Option ℕ) (seen : Sight) → StartedBy n old log → Sees log log' place seen → StartedBy n old log'
 started_seen n old log log' place seen started sees calls e =
     let s = started calls e in
     let r = sees s.0 s.1 in
     (see r.0 seen s.0, r.5, length-see r.0 seen s.0 ∙ s.2)
 
 -- a call has seen its answer
-pub counted_seen : (old log log' : Told) (n pended before pends pends' : ℕ) (prompts p p' : Type 0) (place : Option ℕ) (seen : Sight) → Counted old log n pended before pends prompts p → Sees log log' place seen → pends' ≡ pends → (p → p') → (p → seen ≡ fault → ⊥) → Counted old log' n pended before pends' prompts p'
+pub counted_seen : (old log log' : LogTold) (n pended before pends pends' : ℕ) (prompts p p' : Type 0) (place : Option ℕ) (seen : Sight) → Counted old log n pended before pends prompts p → Sees log log' place seen → pends' ≡ pends → (p → p') → (p → seen ≡ fault → ⊥) → Counted old log' n pended before pends' prompts p'
 counted_seen old log log' n pended before pends pends' prompts p p' place seen counted sees same stays saved =
     record {
       starts = started_seen n old log log' place seen counted.starts sees;
@@ -59,7 +59,7 @@ push_faultless calls added saved place call there is = elim (get_push calls adde
 ]
 
 -- a command was sent
-pub counted_started : (old log log' : Told) (n more pended before pends pends' : ℕ) (prompts p p' : Type 0) (command : List ℕ) (seen : Sight) → Counted old log n pended before pends prompts p → Adds log log' command seen → more ≡ n + 1 → pends' ≡ pends → (p → p') → (p → seen ≡ fault → ⊥) → Counted old log' more pended before pends' prompts p'
+pub counted_started : (old log log' : LogTold) (n more pended before pends pends' : ℕ) (prompts p p' : Type 0) (command : List ℕ) (seen : Sight) → Counted old log n pended before pends prompts p → Adds log log' command seen → more ≡ n + 1 → pends' ≡ pends → (p → p') → (p → seen ≡ fault → ⊥) → Counted old log' more pended before pends' prompts p'
 counted_started old log log' n more pended before pends pends' prompts p p' command seen counted adds is same stays saved =
     record {
       starts = λ calls told.
@@ -82,7 +82,7 @@ rose_counted n more is = (omega (arith, is), omega (arith, is))
 
 -- ---- notes
 
-pub started_more : (xs : List Turned) (note : Turned) (old mid new : Told) → StartedBy (sum_by (λ (t : Turned). t.started) xs) old mid → StartedBy note.started mid new → StartedBy (sum_by (λ (t : Turned). t.started) (xs ++ note ∷ [])) old new
+pub started_more : (xs : List Turned) (note : Turned) (old mid new : LogTold) → StartedBy (sum_by (λ (t : Turned). t.started) xs) old mid → StartedBy note.started mid new → StartedBy (sum_by (λ (t : Turned). t.started) (xs ++ note ∷ [])) old new
 started_more xs note old mid new first second calls e =
     let a = first calls e in
     let b = second a.0 a.1 in
@@ -92,18 +92,18 @@ started_more xs note old mid new first second calls e =
     let y = b.2 in
     (b.0, b.1, omega (arith, x, y, all, one))
 
-pub noted_more : (xs : List Turned) (note : Turned) (old mid new : Told) (before count now : ℕ) → AreNoted xs old mid before count → StartedBy note.started mid new → Stays mid new → RoseIf note.pended count now → AreNoted (xs ++ note ∷ []) old new before now
+pub noted_more : (xs : List Turned) (note : Turned) (old mid new : LogTold) (before count now : ℕ) → AreNoted xs old mid before count → StartedBy note.started mid new → Stays mid new → RoseIf note.pended count now → AreNoted (xs ++ note ∷ []) old new before now
 noted_more [] note old mid new before count now first started stays pended =
-    (new, now, subst (λ (l : Told). StartedBy note.started l new) first.0 started, subst (λ (l : Told). Stays l new) first.0 stays, subst (λ (n : ℕ). RoseIf note.pended n now) first.1 pended, (refl, refl))
+    (new, now, subst (λ (l : LogTold). StartedBy note.started l new) first.0 started, subst (λ (l : LogTold). Stays l new) first.0 stays, subst (λ (n : ℕ). RoseIf note.pended n now) first.1 pended, (refl, refl))
 noted_more (x ∷ xs) note old mid new before count now first started stays pended =
     (first.0, first.1, first.2, first.3, first.4, noted_more xs note first.0 mid new first.1 count now first.5 started stays pended)
 
 -- a poll pends, and the counter of such polls goes on, or stays at its greatest number
-pub counted_pends : (old log log' : Told) (n pended more before pends pends' : ℕ) (prompts p p' : Type 0) → Counted old log n pended before pends prompts p → log' ≡ log → more ≡ min (pended + 1) (2 ^ 64 - 1) → RoseJust 1 pends pends' → pends ≤ pends' → (p → ⊥) → Counted old log' n more before pends' prompts p'
+pub counted_pends : (old log log' : LogTold) (n pended more before pends pends' : ℕ) (prompts p p' : Type 0) → Counted old log n pended before pends prompts p → log' ≡ log → more ≡ min (pended + 1) (2 ^ 64 - 1) → RoseJust 1 pends pends' → pends ≤ pends' → (p → ⊥) → Counted old log' n more before pends' prompts p'
 counted_pends old log log' n pended more before pends pends' prompts p p' counted same is rose later never =
     record {
-      starts = subst (λ (l : Told). StartedBy n old l) (sym same) counted.starts;
-      stays = subst (λ (l : Told). Stays old l) (sym same) counted.stays;
+      starts = subst (λ (l : LogTold). StartedBy n old l) (sym same) counted.starts;
+      stays = subst (λ (l : LogTold). Stays old l) (sym same) counted.stays;
       pends = λ few.
           let one : more ≡ pended + 1 = omega (arith, few, is) in
           subst (λ m. RoseJust m before pends') (sym one) (rose_on pended 1 before pends pends' (counted.pends (omega (arith, few, one))) rose);
@@ -117,7 +117,7 @@ pended_by true before now p = p
 pended_by false before now p = (omega (arith, p), omega (arith, p))
 
 -- just as many turns pended as the count rose by
-pub noted_rose : (xs : List Turned) (old new : Told) (before now : ℕ) → AreNoted xs old new before now → RoseJust (turns_pended xs) before now
+pub noted_rose : (xs : List Turned) (old new : LogTold) (before now : ℕ) → AreNoted xs old new before now → RoseJust (turns_pended xs) before now
 noted_rose [] old new before now noted = (omega (arith, noted.1), omega (arith, noted.1))
 noted_rose (x ∷ xs) old new before now noted =
     rose_on (one_if x.pended) (turns_pended xs) before noted.1 now (pended_by x.pended before noted.1 noted.4) (noted_rose xs noted.0 new noted.1 now noted.5)
@@ -143,7 +143,7 @@ none_if true e = absurd cc
 none_if false e = refl
 
 -- the note of a turn whose polls were counted
-pub is_noted : (note : Turned) (old new : Told) (n before now : ℕ) (prompts prompts' : Type 0) → n ≡ one_if note.pended → Counted old new note.started n before now prompts prompts' → IsNoted note old new before now prompts prompts'
+pub is_noted : (note : Turned) (old new : LogTold) (n before now : ℕ) (prompts prompts' : Type 0) → n ≡ one_if note.pended → Counted old new note.started n before now prompts prompts' → IsNoted note old new before now prompts prompts'
 is_noted note old new n before now prompts prompts' is counted =
     record {
       starts = counted.starts;
@@ -155,10 +155,10 @@ is_noted note old new n before now prompts prompts' is counted =
       prompt = λ was. let r = counted.prompt was in (r.0, none_if note.pended (sym is ∙ r.1), r.2);
     }
 
-pub noted_so : (played : Result Played Error) (notes : List Turned) (old new : Told) (before now : ℕ) → IfOk played (λ p. p.turns.items ≡ notes) → AreNoted notes old new before now → IfOk played (λ p. AreNoted p.turns.items old new before now)
+pub noted_so : (played : Result Played Error) (notes : List Turned) (old new : LogTold) (before now : ℕ) → IfOk played (λ p. p.turns.items ≡ notes) → AreNoted notes old new before now → IfOk played (λ p. AreNoted p.turns.items old new before now)
 noted_so (Ok p) notes old new before now same noted = subst (λ (ts : List Turned). AreNoted ts old new before now) (sym same) noted
 noted_so (Err e) notes old new before now same noted = tt
 
-pub pended_so : (played : Result Played Error) (old new : Told) (before now : ℕ) → IfOk played (λ p. AreNoted p.turns.items old new before now) → IfOk played (λ p. RoseJust (turns_pended p.turns.items) before now)
+pub pended_so : (played : Result Played Error) (old new : LogTold) (before now : ℕ) → IfOk played (λ p. AreNoted p.turns.items old new before now) → IfOk played (λ p. RoseJust (turns_pended p.turns.items) before now)
 pended_so (Ok p) old new before now noted = noted_rose p.turns.items old new before now noted
 pended_so (Err e) old new before now noted = tt

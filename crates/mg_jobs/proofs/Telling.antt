@@ -4,7 +4,7 @@ use Rattle.std.specs.Prelude.{◌↔◌, IsSome, IsTrue, slice_get}
 use Rattle.mg_bson.specs.Tree.{Fields, Tree}
 use Rattle.mg_link.specs.Calls.{Grows, Keeps, Past, past_of, AddsOnly}
 use Rattle.mg_link.specs.Exec.{Sending}
-use Rattle.mg_link.specs.Link.{Awaited, Told}
+use Rattle.mg_link.specs.Link.{Awaited, LogTold}
 use Rattle.mg_link.specs.Log.{Call}
 use Rattle.mg_link.specs.Owner.{IsOf}
 use Rattle.mg_link.specs.declared.action.Step.{Step}
@@ -284,27 +284,27 @@ extends_answered q n n' from upto count room =
 
 -- ---- the arms of a turn
 
-same_told : (log : Told) (calls calls' : List Call) → log ≡ Some calls → log ≡ Some calls' → calls ≡ calls'
+same_told : (log : LogTold) (calls calls' : List Call) → log ≡ Some calls → log ≡ Some calls' → calls ≡ calls'
 same_told log calls calls' told told' = let e : Some calls ≡ Some calls' = sym told ∙ told' in cc
 
 -- the same log behind a poll by another name
-keeps_to : (log' : Told) (calls mid calls' : List Call) → log' ≡ Some mid → log' ≡ Some calls' → Keeps calls mid → Keeps calls calls'
+keeps_to : (log' : LogTold) (calls mid calls' : List Call) → log' ≡ Some mid → log' ≡ Some calls' → Keeps calls mid → Keeps calls calls'
 keeps_to log' calls mid calls' told told' keeps = subst (λ (c : List Call). Keeps calls c) (same_told log' mid calls' told told') keeps
 
 -- nothing was sent
-tell_same : (awaited : Awaited) (log : Told) (wire : ℤ) (calls calls' : List Call) → log ≡ Some calls → log ≡ Some calls' → (q : Places) (n : ℕ) (s : Stage) (k : Kept) (at : Option ℕ) (v : Watched) → Tells awaited calls wire q s k at → Extends q q n (number s k) (length calls) (length calls) → Tell awaited calls calls' wire v q n s k at
+tell_same : (awaited : Awaited) (log : LogTold) (wire : ℤ) (calls calls' : List Call) → log ≡ Some calls → log ≡ Some calls' → (q : Places) (n : ℕ) (s : Stage) (k : Kept) (at : Option ℕ) (v : Watched) → Tells awaited calls wire q s k at → Extends q q n (number s k) (length calls) (length calls) → Tell awaited calls calls' wire v q n s k at
 tell_same awaited log wire calls calls' told told' q n s k at v t extends =
     subst (λ (c : List Call). Tell awaited calls c wire v q n s k at) (same_told log calls calls' told told') (record { longer = omega arith; places = q; tells = t; extends = extends; adds = adds_none (IsCommandOf (IsWatchArgs v)) calls })
 
-pub tells_same : (awaited : Awaited) (log : Told) (wire : ℤ) (s : Stage) (k : Kept) → FollowTells awaited awaited log log wire s k s k same_place
+pub tells_same : (awaited : Awaited) (log : LogTold) (wire : ℤ) (s : Stage) (k : Kept) → FollowTells awaited awaited log log wire s k s k same_place
 tells_same awaited log wire s k calls calls' told told' q at t = tell_same awaited log wire calls calls' told told' q (number s k) s k at k.watched t (extends_same q (number s k) (number s k) (length calls) refl)
 
 -- the same stage by another name
-pub tells_at : (old new : Awaited) (log log' : Told) (wire : ℤ) (s s0 : Stage) (k : Kept) (s' s1 : Stage) (k' : Kept) (next : Placing) → s ≡ s0 → s1 ≡ s' → FollowTells old new log log' wire s k s' k' next → FollowTells old new log log' wire s0 k s1 k' next
+pub tells_at : (old new : Awaited) (log log' : LogTold) (wire : ℤ) (s s0 : Stage) (k : Kept) (s' s1 : Stage) (k' : Kept) (next : Placing) → s ≡ s0 → s1 ≡ s' → FollowTells old new log log' wire s k s' k' next → FollowTells old new log log' wire s0 k s1 k' next
 tells_at old new log log' wire s s0 k s' s1 k' next from to told = subst (λ (x : Stage). FollowTells old new log log' wire s0 k x k' next) (sym to) (subst (λ (x : Stage). FollowTells old new log log' wire x k s' k' next) from told)
 
 -- the same wire version by another name
-pub tells_over : (old new : Awaited) (log log' : Told) (wire wire' : ℤ) (s : Stage) (k : Kept) (s' : Stage) (k' : Kept) (next : Placing) → wire' ≡ wire → FollowTells old new log log' wire s k s' k' next → FollowTells old new log log' wire' s k s' k' next
+pub tells_over : (old new : Awaited) (log log' : LogTold) (wire wire' : ℤ) (s : Stage) (k : Kept) (s' : Stage) (k' : Kept) (next : Placing) → wire' ≡ wire → FollowTells old new log log' wire s k s' k' next → FollowTells old new log log' wire' s k s' k' next
 tells_over old new log log' wire wire' s k s' k' next same told = subst (λ (w : ℤ). FollowTells old new log log' w s k s' k' next) (sym same) told
 
 -- what goes on has sent nothing
@@ -312,7 +312,7 @@ none_now : (may : ℕ → Fields → Type 0) (calls : List Call) (n : ℕ) (q : 
 none_now may calls n q m none less = subst (λ (l : List ℕ). FallsAt may calls n l m) (sym none) (falls_none may calls n m less)
 
 -- The opening begins.
-pub begin_tells : (old new : Awaited) (log log' : Told) (wire : ℤ) (k : Kept) (opening : Opening Fields) (s' : Stage) (k' : Kept) (next : Placing) → IsWatchArgs k.watched (opening_of opening).args → IsPlainOpening opening → (opening_of opening).sending ≡ None
+pub begin_tells : (old new : Awaited) (log log' : LogTold) (wire : ℤ) (k : Kept) (opening : Opening Fields) (s' : Stage) (k' : Kept) (next : Placing) → IsWatchArgs k.watched (opening_of opening).args → IsPlainOpening opening → (opening_of opening).sending ≡ None
     → FollowTells old new log log' wire (stage.Opens opening) k s' k' next → FollowTells old new log log' wire stage.Unopened k s' k' next
 begin_tells old new log log' wire k opening s' k' next args sound unsent rest calls calls' told told' q at t =
     rest calls calls' told told' q at (
@@ -324,24 +324,24 @@ begin_tells old new log log' wire k opening s' k' next args sound unsent rest ca
     )
 
 -- Memory ran out before it.
-pub begin_fails : (awaited : Awaited) (log : Told) (wire : ℤ) (k k' : Kept) (e : Error) → k'.opened ≡ ended.Failed e → e.kind ≡ kind.OutOfMemory → FollowTells awaited awaited log log wire stage.Unopened k stage.Ended k' same_place
+pub begin_fails : (awaited : Awaited) (log : LogTold) (wire : ℤ) (k k' : Kept) (e : Error) → k'.opened ≡ ended.Failed e → e.kind ≡ kind.OutOfMemory → FollowTells awaited awaited log log wire stage.Unopened k stage.Ended k' same_place
 begin_fails awaited log wire k k' e failed room calls calls' told told' q at t =
     tell_same awaited log wire calls calls' told told' q 0 stage.Ended k' at k.watched (subst (λ (o : Ended (Unit {0})). TellsEnd calls wire q k' at o) (sym failed) (inl room)) (extends_rest q 0 (length k'.said) (length calls) t.1)
 
 -- what a poll of an opening does, and what it comes to
-abbrev pub Opens : Awaited → Awaited → Told → Told → ℤ → Opening Fields → Step ClientOpening ClientStream → Type 0
+abbrev pub Opens : Awaited → Awaited → LogTold → LogTold → ℤ → Opening Fields → Step ClientOpening ClientStream → Type 0
 Opens old new log log' wire opening r = IsPlainOpening opening → (started : Bool) × OpensStream old new log log' wire None started (opening_of opening) r
 
-abbrev pub OpensSo : Awaited → Awaited → Told → Told → ℤ → Opening Fields → Step ClientOpening ClientStream → Type 0
+abbrev pub OpensSo : Awaited → Awaited → LogTold → LogTold → ℤ → Opening Fields → Step ClientOpening ClientStream → Type 0
 OpensSo old new log log' wire opening r = IsPlainOpening opening → OpeningCaused old new log log' wire None (opening_of opening) r
 
-opening_adds : (are_its : WatchArgs → Type 0) (old new : Awaited) (log log' : Told) (wire : ℤ) (opening : Opening Fields) (r : Step ClientOpening ClientStream) (calls calls' : List Call) → are_its (opening_of opening).args → IsPlainOpening opening → Opens old new log log' wire opening r → log ≡ Some calls → log' ≡ Some calls' → Keeps calls calls' → AddsOnly (IsCommandOf are_its) calls calls'
+opening_adds : (are_its : WatchArgs → Type 0) (old new : Awaited) (log log' : LogTold) (wire : ℤ) (opening : Opening Fields) (r : Step ClientOpening ClientStream) (calls calls' : List Call) → are_its (opening_of opening).args → IsPlainOpening opening → Opens old new log log' wire opening r → log ≡ Some calls → log' ≡ Some calls' → Keeps calls calls' → AddsOnly (IsCommandOf are_its) calls calls'
 opening_adds are_its old new log log' wire opening r calls calls' its sound opens told told' keeps =
     let does = opens sound in
     such_adds are_its log log' calls calls' told told' keeps (opening_such are_its old new log log' wire does.0 (opening_of opening) r its sound.sound does.1)
 
 -- what it sent stands behind what was sent before
-opening_goes : (old new : Awaited) (log log' : Told) (wire : ℤ) (opening : Opening Fields) (r : Step ClientOpening ClientStream) (calls calls' : List Call) (own : List ℕ) → log ≡ Some calls → log' ≡ Some calls' → Keeps calls calls' → IsPlainOpening opening → Opens old new log log' wire opening r
+opening_goes : (old new : Awaited) (log log' : LogTold) (wire : ℤ) (opening : Opening Fields) (r : Step ClientOpening ClientStream) (calls calls' : List Call) (own : List ℕ) → log ≡ Some calls → log' ≡ Some calls' → Keeps calls calls' → IsPlainOpening opening → Opens old new log log' wire opening r
     → FallsAt (IsOpening (opening_of opening).args wire None) calls 3 own (opening_places (opening_of opening).sending) → FallsAt (IsOpening (opening_of opening).args wire None) calls' 3 (sent_since own (length calls) (length calls')) (opening_left r)
 opening_goes old new log log' wire opening r calls calls' own told told' keeps sound opens before =
     let o = opening_of opening in
@@ -350,7 +350,7 @@ opening_goes old new log log' wire opening r calls calls' own told told' keeps s
     falls_more (IsOpening o.args wire None) log log' calls calls' 3 own (opening_places o.sending) (opening_left r) sent.commands told told' keeps before sent.adds sent.falling
 
 -- The reply to the opening pends.
-pub open_waits_tells : (old new : Awaited) (log log' : Told) (wire : ℤ) (k : Kept) (opening opening' : Opening Fields) → (IsPlainOpening opening → IsPlainOpening opening')
+pub open_waits_tells : (old new : Awaited) (log log' : LogTold) (wire : ℤ) (k : Kept) (opening opening' : Opening Fields) → (IsPlainOpening opening → IsPlainOpening opening')
     → Opens old new log log' wire opening (step.Pending (opening_of opening')) → OpensSo old new log log' wire opening (step.Pending (opening_of opening'))
     → FollowTells old new log log' wire (stage.Opens opening) k (stage.Opens opening') k same_place
 open_waits_tells old new log log' wire k opening opening' sound opens caused calls calls' told told' q at t =
@@ -379,7 +379,7 @@ open_waits_tells old new log log' wire k opening opening' sound opens caused cal
     }
 
 -- It failed.
-pub open_fails_tells : (old new : Awaited) (log log' : Told) (wire : ℤ) (k k' : Kept) (opening : Opening Fields) (e : Error) → k'.watched ≡ k.watched → k'.opened ≡ ended.Failed e
+pub open_fails_tells : (old new : Awaited) (log log' : LogTold) (wire : ℤ) (k k' : Kept) (opening : Opening Fields) (e : Error) → k'.watched ≡ k.watched → k'.opened ≡ ended.Failed e
     → Opens old new log log' wire opening (step.Failed e) → OpensSo old new log log' wire opening (step.Failed e)
     → FollowTells old new log log' wire (stage.Opens opening) k stage.Ended k' same_place
 open_fails_tells old new log log' wire k k' opening e watched failed opens caused calls calls' told told' q at t =
@@ -408,12 +408,12 @@ abbrev pub SaysAlive : Bool → ClientStream → Type 0
 SaysAlive alive s = IsTrue alive ↔ IsAlive s
 
 -- the opening heard its reply at this place
-abbrev HeardAtPlace : Told → Told → Awaited → ℤ → ClientOpening → ClientStream → Option ℕ → Type 0
+abbrev HeardAtPlace : LogTold → LogTold → Awaited → ℤ → ClientOpening → ClientStream → Option ℕ → Type 0
 HeardAtPlace log log' old wire o first place = (calls : List Call) → log ≡ Some calls → (places : List ℕ) → OpensSoFar old (past_of places (length calls) calls wire) o.args o.sending
     → (calls' : List Call) × (log' ≡ Some calls') × (opened : StreamOpened (past_of places (length calls) calls' wire) o.args first) × (place ≡ Some opened.heard.place)
 
 -- The stream is open; the rest of the turn follows.
-pub open_done_tells : (old mid new : Awaited) (log log_mid log' : Told) (wire wire_mid : ℤ) (k k1 : Kept) (opening : Opening Fields) (stream : ChangeStream Fields) (s' : Stage) (k' : Kept) → RestTells new log_mid log' wire_mid (stream_of stream) k1 s' k' → k1.watched ≡ k.watched → HasGiven k1.opened → k1.said ≡ k.said → SaysAlive k1.alive (stream_of stream) → wire_mid ≡ wire
+pub open_done_tells : (old mid new : Awaited) (log log_mid log' : LogTold) (wire wire_mid : ℤ) (k k1 : Kept) (opening : Opening Fields) (stream : ChangeStream Fields) (s' : Stage) (k' : Kept) → RestTells new log_mid log' wire_mid (stream_of stream) k1 s' k' → k1.watched ≡ k.watched → HasGiven k1.opened → k1.said ≡ k.said → SaysAlive k1.alive (stream_of stream) → wire_mid ≡ wire
     → Opens old mid log log_mid wire opening (step.Done (stream_of stream)) → OpensSo old mid log log_mid wire opening (step.Done (stream_of stream)) → (place : Option ℕ) → (IsPlainOpening opening → HeardAtPlace log log_mid old wire (opening_of opening) (stream_of stream) place)
     → FollowTells old new log log' wire (stage.Opens opening) k s' k' (λ at. place)
 open_done_tells old mid new log log_mid log' wire wire_mid k k1 opening stream s' k' rest watched given said alive same opens caused place heard calls calls' told told' q at t =
@@ -444,18 +444,18 @@ open_done_tells old mid new log log_mid log' wire wire_mid k k1 opening stream s
 -- ---- what a call sends
 
 -- what a poll of a call does
-abbrev pub Copies : Awaited → Awaited → Told → Told → ℤ → ClientStream → ClientStream → EventPoll → Type 0
+abbrev pub Copies : Awaited → Awaited → LogTold → LogTold → ℤ → ClientStream → ClientStream → EventPoll → Type 0
 Copies old new log log' wire s s' r = (steps starts : ℕ) × CallCopies steps old new log log' wire None starts s s' r
 
 -- what it sends, in a call of a stream that was opened and answered so
-call_adds : (v : Watched) (old new : Awaited) (log log' : Told) (wire : ℤ) (s s1 : ClientStream) (r : EventPoll) (calls calls' : List Call) (q : Places) (k : Kept) (last : ClientStream) (at : Option ℕ) → IsSound true s → Copies old new log log' wire s s1 r → (t : TellsOpen calls wire q.opened q.owns v k.opened k.said k.alive last at) → SoFar old (sent_at q.now calls wire) true last s
+call_adds : (v : Watched) (old new : Awaited) (log log' : LogTold) (wire : ℤ) (s s1 : ClientStream) (r : EventPoll) (calls calls' : List Call) (q : Places) (k : Kept) (last : ClientStream) (at : Option ℕ) → IsSound true s → Copies old new log log' wire s s1 r → (t : TellsOpen calls wire q.opened q.owns v k.opened k.said k.alive last at) → SoFar old (sent_at q.now calls wire) true last s
     → log ≡ Some calls → log' ≡ Some calls' → Keeps calls calls' → AddsOnly (IsCommandOf (IsWatchArgs v)) calls calls'
 call_adds v old new log log' wire s s1 r calls calls' q k last at sound does t so told told' keeps =
     let fit = for_answered t.args calls wire t.first q.owns k.said last t.answered (for_opened t.args (sent_at q.opened calls wire) t.first t.opened) in
     let far = for_so_far t.args (sent_at q.now calls wire) last fit old s so in
     such_adds (IsWatchArgs v) log log' calls calls' told told' keeps (calls_such (IsWatchArgs v) t.args t.args_are does.0 old new log log' wire does.1 s s1 r sound far.0 far.1 does.2)
 
-module _ (log log' : Told) (at : ClientStream) (own : List ℕ) (s s1 : ClientStream) (calls calls' : List Call) (told : log ≡ Some calls) (told' : log' ≡ Some calls') (keeps : Keeps calls calls') (same : s.aggregate ≡ at.aggregate) where
+module _ (log log' : LogTold) (at : ClientStream) (own : List ℕ) (s s1 : ClientStream) (calls calls' : List Call) (told : log ≡ Some calls) (told' : log' ≡ Some calls') (keeps : Keeps calls calls') (same : s.aggregate ≡ at.aggregate) where
   -- what a poll sent stands behind what was sent before
   call_falls : (r : EventPoll) → CallSent log log' s s1 r → SendsSoFar calls at own s → FallsAt (IsSentAt at) calls' 4 (sent_since own (length calls) (length calls')) (places_behind (event_ending r) s1)
   call_falls r sent so =
@@ -477,7 +477,7 @@ ends_places answers.Nothing s = refl
 ends_places (answers.Failed e) s = refl
 
 -- A call of the stream pends.
-pub call_waits_tells : (old new : Awaited) (log log' : Told) (wire : ℤ) (k : Kept) (s s1 : ChangeStream Fields) (r : EventPoll) → r ≡ polls.Pending → IsPlainStream s → IsPlainStream s1 → IsSome (stream_ticket (stream_of s1)) → CallSent log log' (stream_of s) (stream_of s1) r → Copies old new log log' wire (stream_of s) (stream_of s1) r → CallCaused old new log log' wire None (stream_of s) (stream_of s1) r
+pub call_waits_tells : (old new : Awaited) (log log' : LogTold) (wire : ℤ) (k : Kept) (s s1 : ChangeStream Fields) (r : EventPoll) → r ≡ polls.Pending → IsPlainStream s → IsPlainStream s1 → IsSome (stream_ticket (stream_of s1)) → CallSent log log' (stream_of s) (stream_of s1) r → Copies old new log log' wire (stream_of s) (stream_of s1) r → CallCaused old new log log' wire None (stream_of s) (stream_of s1) r
     → FollowTells old new log log' wire (stage.Open s) k (stage.Open s1) k same_place
 call_waits_tells old new log log' wire k s s1 r pends sound sound' held sent does caused calls calls' told told' q place t =
     let at = t.0 in
@@ -506,7 +506,7 @@ came_called awaited past at s answers.Nothing came = came
 came_called awaited past at s (answers.Failed e) came = came
 
 -- A call of the stream answered; the rest of the turn follows.
-pub call_answers_tells : (old mid new : Awaited) (log log_mid log' : Told) (wire wire_mid : ℤ) (k k1 : Kept) (s s1 : ChangeStream Fields) (r : EventPoll) (answer : Answer) (s' : Stage) (k' : Kept) → RestTells new log_mid log' wire_mid (stream_of s1) k1 s' k' → k1.watched ≡ k.watched → k1.opened ≡ k.opened → k1.said ≡ k.said ++ answer ∷ [] → SaysAlive k1.alive (stream_of s1) → wire_mid ≡ wire → r ≡ poll_of answer → IsPlainStream s
+pub call_answers_tells : (old mid new : Awaited) (log log_mid log' : LogTold) (wire wire_mid : ℤ) (k k1 : Kept) (s s1 : ChangeStream Fields) (r : EventPoll) (answer : Answer) (s' : Stage) (k' : Kept) → RestTells new log_mid log' wire_mid (stream_of s1) k1 s' k' → k1.watched ≡ k.watched → k1.opened ≡ k.opened → k1.said ≡ k.said ++ answer ∷ [] → SaysAlive k1.alive (stream_of s1) → wire_mid ≡ wire → r ≡ poll_of answer → IsPlainStream s
     → CallSent log log_mid (stream_of s) (stream_of s1) r → Copies old mid log log_mid wire (stream_of s) (stream_of s1) r → CallCaused old mid log log_mid wire None (stream_of s) (stream_of s1) r → FollowTells old new log log' wire (stage.Open s) k s' k' same_place
 call_answers_tells old mid new log log_mid log' wire wire_mid k k1 s s1 r answer s' k' rest watched given said alive same is sound sent does caused calls calls' told told' q place t =
     let at = t.0 in
@@ -538,7 +538,7 @@ call_answers_tells old mid new log log_mid log' wire wire_mid k k1 s s1 r answer
     (subst (λ (v : Watched). Tell new c.0 calls' wire v q1 (suc (length k.said)) s' k' place) watched (subst (λ (n : ℕ). Tell new c.0 calls' wire k1.watched q1 n s' k' place) count ends))
 
 -- The stream is kept for its next call.
-pub rest_stays_tells : (awaited : Awaited) (log : Told) (wire : ℤ) (stream : ChangeStream Fields) (k : Kept) → IsSound true (stream_of stream) → IsBetween (stream_of stream) → RestTells awaited log log wire (stream_of stream) k (stage.Open stream) k
+pub rest_stays_tells : (awaited : Awaited) (log : LogTold) (wire : ℤ) (stream : ChangeStream Fields) (k : Kept) → IsSound true (stream_of stream) → IsBetween (stream_of stream) → RestTells awaited log log wire (stream_of stream) k (stage.Open stream) k
 rest_stays_tells awaited log wire stream k sound rest calls calls' told told' q at none t =
     tell_same awaited log wire calls calls' told told' q (length k.said) (stage.Open stream) k at k.watched (
       stream_of stream,
@@ -553,7 +553,7 @@ rest_stays_tells awaited log wire stream k sound rest calls calls' told told' q 
     (extends_rest q (length k.said) (suc (length k.said)) (length calls) none)
 
 -- The stream is closed in the same turn, and its token was handed over.
-pub rest_closes_tells : (awaited new : Awaited) (log log' : Told) (wire : ℤ) (stream : ClientStream) (lent : Bool) (left : Option Tree) (k : Kept) (token : Option Tree) (closing : ClosingStream) (s' : Stage) (k' : Kept) → closing ≡ handed_over left (closed_stream lent stream) → IsBetween stream → token ≡ stream_token stream
+pub rest_closes_tells : (awaited new : Awaited) (log log' : LogTold) (wire : ℤ) (stream : ClientStream) (lent : Bool) (left : Option Tree) (k : Kept) (token : Option Tree) (closing : ClosingStream) (s' : Stage) (k' : Kept) → closing ≡ handed_over left (closed_stream lent stream) → IsBetween stream → token ≡ stream_token stream
     → FollowTells awaited new log log' wire (stage.Closes closing) (record k { token = token }) s' k' same_place → RestTells new log log' wire stream k s' k'
 rest_closes_tells awaited new log log' wire stream lent left k token closing s' k' is rest handed closes calls calls' told told' q at none t =
     closes calls calls' told told' q at (
@@ -564,19 +564,19 @@ rest_closes_tells awaited new log log' wire stream lent left k token closing s' 
       none_now (KillsLast stream) calls 1 q (landing_places closing.doing) none (landing_few closing.doing),
     )
 
-closing_adds : (are_its : WatchArgs → Type 0) (old new : Awaited) (log log' : Told) (wire : ℤ) (closing : ClosingStream) (r : Step ClosingStream (Unit {0})) (calls calls' : List Call) → Lasts closing → ClosesStream old new log log' wire closing r → log ≡ Some calls → log' ≡ Some calls' → Keeps calls calls' → AddsOnly (IsCommandOf are_its) calls calls'
+closing_adds : (are_its : WatchArgs → Type 0) (old new : Awaited) (log log' : LogTold) (wire : ℤ) (closing : ClosingStream) (r : Step ClosingStream (Unit {0})) (calls calls' : List Call) → Lasts closing → ClosesStream old new log log' wire closing r → log ≡ Some calls → log' ≡ Some calls' → Keeps calls calls' → AddsOnly (IsCommandOf are_its) calls calls'
 closing_adds are_its old new log log' wire closing r calls calls' last closes told told' keeps =
     such_adds are_its log log' calls calls' told told' keeps (closing_such are_its old new log log' wire r closing last.0 last.1 closes)
 
 -- what a poll of a closing sent stands behind what was sent before
-kill_falls : (old new : Awaited) (log log' : Told) (wire : ℤ) (calls calls' : List Call) (own : List ℕ) (last : ClientStream) (closing : ClosingStream) (r : Step ClosingStream (Unit {0})) → Lasts closing → ClosesStream old new log log' wire closing r → LastSoFar old (sent_at own calls wire) last closing → log ≡ Some calls → log' ≡ Some calls' → Keeps calls calls'
+kill_falls : (old new : Awaited) (log log' : LogTold) (wire : ℤ) (calls calls' : List Call) (own : List ℕ) (last : ClientStream) (closing : ClosingStream) (r : Step ClosingStream (Unit {0})) → Lasts closing → ClosesStream old new log log' wire closing r → LastSoFar old (sent_at own calls wire) last closing → log ≡ Some calls → log' ≡ Some calls' → Keeps calls calls'
     → FallsAt (KillsLast last) calls 1 own (landing_places closing.doing) → FallsAt (KillsLast last) calls' 1 (sent_since own (length calls) (length calls')) (closing_left r)
 kill_falls old new log log' wire calls calls' own last closing r lasts closes so told told' keeps before =
     let sent = closing_falls old new log log' wire last r closing (kill_of last closing so.id_is so.space_is so.none_opened) lasts.0 lasts.1 closes in
     falls_more (KillsLast last) log log' calls calls' 1 own (landing_places closing.doing) (closing_left r) sent.commands told told' keeps before sent.adds sent.falling
 
 -- The killing of its cursor pends.
-pub close_waits_tells : (old new : Awaited) (log log' : Told) (wire : ℤ) (k : Kept) (closing closing' : ClosingStream) → Lasts closing → ClosesStream old new log log' wire closing (step.Pending closing')
+pub close_waits_tells : (old new : Awaited) (log log' : LogTold) (wire : ℤ) (k : Kept) (closing closing' : ClosingStream) → Lasts closing → ClosesStream old new log log' wire closing (step.Pending closing')
     → FollowTells old new log log' wire (stage.Closes closing) k (stage.Closes closing') k same_place
 close_waits_tells old new log log' wire k closing closing' last closes calls calls' told told' q at t =
     let r = last_closes old new log log' wire t.0 closing (step.Pending closing') last.1 closes calls told q.now t.3 in
@@ -605,7 +605,7 @@ given_end calls wire q k at (ended.Gave x) given t = t
 given_end calls wire q k at (ended.Failed e) given t = absurd given
 
 -- It ended so.
-close_ends_tells : (old new : Awaited) (log log' : Told) (wire : ℤ) (k : Kept) (closed : Ended (Unit {0})) (closing : ClosingStream) (result : Step ClosingStream (Unit {0})) → Lasts closing → ClosesStream old new log log' wire closing result
+close_ends_tells : (old new : Awaited) (log log' : LogTold) (wire : ℤ) (k : Kept) (closed : Ended (Unit {0})) (closing : ClosingStream) (result : Step ClosingStream (Unit {0})) → Lasts closing → ClosesStream old new log log' wire closing result
     → closing_left result ≡ 0 → ((past : Past) (last : ClientStream) → LastCame new past last result → ClosedBy past last closed)
     → FollowTells old new log log' wire (stage.Closes closing) k stage.Ended (record k { closed = closed }) same_place
 close_ends_tells old new log log' wire k closed closing result last closes ends by calls calls' told told' q at t =
@@ -625,14 +625,14 @@ close_ends_tells old new log log' wire k closed closing result last closes ends 
     }
 
 -- The stream is closed.
-pub close_done_tells : (old new : Awaited) (log log' : Told) (wire : ℤ) (k : Kept) (closed : Ended (Unit {0})) (closing : ClosingStream) → closed ≡ ended.Gave tt → Lasts closing → ClosesStream old new log log' wire closing (step.Done tt)
+pub close_done_tells : (old new : Awaited) (log log' : LogTold) (wire : ℤ) (k : Kept) (closed : Ended (Unit {0})) (closing : ClosingStream) → closed ≡ ended.Gave tt → Lasts closing → ClosesStream old new log log' wire closing (step.Done tt)
     → FollowTells old new log log' wire (stage.Closes closing) k stage.Ended (record k { closed = closed }) same_place
 close_done_tells old new log log' wire k closed closing is last closes =
     close_ends_tells old new log log' wire k closed closing (step.Done tt) last closes refl
     (λ past stream done. subst (λ (o : Ended (Unit {0})). ClosedBy past stream o) (sym is) done)
 
 -- The closing failed.
-pub close_fails_tells : (old new : Awaited) (log log' : Told) (wire : ℤ) (k : Kept) (closed : Ended (Unit {0})) (closing : ClosingStream) (e : Error) → closed ≡ ended.Failed e → Lasts closing → ClosesStream old new log log' wire closing (step.Failed e)
+pub close_fails_tells : (old new : Awaited) (log log' : LogTold) (wire : ℤ) (k : Kept) (closed : Ended (Unit {0})) (closing : ClosingStream) (e : Error) → closed ≡ ended.Failed e → Lasts closing → ClosesStream old new log log' wire closing (step.Failed e)
     → FollowTells old new log log' wire (stage.Closes closing) k stage.Ended (record k { closed = closed }) same_place
 close_fails_tells old new log log' wire k closed closing e is last closes =
     close_ends_tells old new log log' wire k closed closing (step.Failed e) last closes refl

@@ -7,7 +7,7 @@ use Rattle.std.proofs.lemmas.List.Sums.{sum_by-append}
 use Rattle.mg_bson.specs.Tree.{Fields, Tree}
 use Rattle.mg_bson.specs.Raw.{fields}
 use Rattle.mg_link.specs.Calls.{Keeps, Past, Stays}
-use Rattle.mg_link.specs.Link.{Awaited, Told}
+use Rattle.mg_link.specs.Link.{Awaited, LogTold}
 use Rattle.mg_link.specs.Log.{Call}
 use Rattle.mg_link.specs.Namespace.{Space, Target, space, target}
 use Rattle.mg_link.specs.Owner.{NamesItsOwn, Owner}
@@ -171,7 +171,7 @@ module _ (begun : ℕ) (order : List ℕ) (notes : List Turned) (j : ℕ) (note 
   counts_at n over (inl is) quiet = inl is
   counts_at n over (inr ends) quiet = inr (quiet ends)
 
-  job_turn : (ids given : ℕ → List ℕ) (ts : List Task) (old new : Awaited) (log log' : Told) (calls calls' : List Call) (wire : ℤ) (p p' : Player) (next : Placing) (at : Option ℕ) (m : ℕ) (last : Bool) → log ≡ Some calls → log' ≡ Some calls' → length notes ≡ length order → length calls ≡ begun + sum_by (λ (t : Turned). t.started) notes → length calls' ≡ length calls + note.started
+  job_turn : (ids given : ℕ → List ℕ) (ts : List Task) (old new : Awaited) (log log' : LogTold) (calls calls' : List Call) (wire : ℤ) (p p' : Player) (next : Placing) (at : Option ℕ) (m : ℕ) (last : Bool) → log ≡ Some calls → log' ≡ Some calls' → length notes ≡ length order → length calls ≡ begun + sum_by (λ (t : Turned). t.started) notes → length calls' ≡ length calls + note.started
       → IsAt m p (turns_done j order notes) last → (has_ended p ≡ true → note.started ≡ 0) → AreLater ids (drawn_in ts order) given → JobHadTurn (has_turn j order) p → IsSameTask p p' → TurnTells (DrawsAs given p) old new log log' wire p p' next → JobTold ids (first_id ts order j) old calls wire now j p at → JobTold ids (first_id ts (order ++ j ∷ []) j) new calls' wire then j p' (next at)
   job_turn ids given ts old new log log' calls calls' wire p p' next at m last is is' abreast count more is_at quiet stands had task tells t =
       let n : ℕ = first_id ts order j in
@@ -187,8 +187,8 @@ module _ (begun : ℕ) (order : List ℕ) (notes : List Turned) (j : ℕ) (note 
       })
 
 -- A run tells on behind the turn of one of its jobs.
-module _ (given : ℕ → List ℕ) (old new : Awaited) (log log' : Told) (wire : ℤ) (players : List Player) (k : ℕ) (p p' : Player) (at : slice_get players k ≡ Some p) (apart : MayAllGo old wire players) (goes : Goes (DrawsAs given p) old new log log' wire p p') (note : Turned) (started : StartedBy note.started log log') (keeps : Stays log log') (quiet : has_ended p ≡ true → note.started ≡ 0) (holds : HoldsNewest (job_ticket p) (job_ticket p') old new log log') where
-  pub all_turn : (ids : ℕ → List ℕ) (begun : Told) (ts : List Task) (order : List ℕ) (notes : List Turned) → length order ≡ length notes → AllAt ts order notes players → HaveDrawn ids given ts order players → AllTell ids old begun log wire ts order notes players → AllTell ids new begun log' wire ts (order ++ k ∷ []) (notes ++ note ∷ []) (slice_set players k p')
+module _ (given : ℕ → List ℕ) (old new : Awaited) (log log' : LogTold) (wire : ℤ) (players : List Player) (k : ℕ) (p p' : Player) (at : slice_get players k ≡ Some p) (apart : MayAllGo old wire players) (goes : Goes (DrawsAs given p) old new log log' wire p p') (note : Turned) (started : StartedBy note.started log log') (keeps : Stays log log') (quiet : has_ended p ≡ true → note.started ≡ 0) (holds : HoldsNewest (job_ticket p) (job_ticket p') old new log log') where
+  pub all_turn : (ids : ℕ → List ℕ) (begun : LogTold) (ts : List Task) (order : List ℕ) (notes : List Turned) → length order ≡ length notes → AllAt ts order notes players → HaveDrawn ids given ts order players → AllTell ids old begun log wire ts order notes players → AllTell ids new begun log' wire ts (order ++ k ∷ []) (notes ++ note ∷ []) (slice_set players k p')
   all_turn ids begun ts order notes abreast all drawn tell calls told =
       let before = tell calls told in
       let s = started before.0 before.1 in
@@ -231,15 +231,15 @@ module _ (given : ℕ → List ℕ) (old new : Awaited) (log log' : Told) (wire 
       )
 
 -- the same run over the same wire version, by another name
-pub tell_as : (ids : ℕ → List ℕ) (awaited : Awaited) (begun log : Told) (wire wire' : ℤ) (ts : List Task) (order : List ℕ) (notes : List Turned) (players : List Player) → wire' ≡ wire → AllTell ids awaited begun log wire ts order notes players → AllTell ids awaited begun log wire' ts order notes players
+pub tell_as : (ids : ℕ → List ℕ) (awaited : Awaited) (begun log : LogTold) (wire wire' : ℤ) (ts : List Task) (order : List ℕ) (notes : List Turned) (players : List Player) → wire' ≡ wire → AllTell ids awaited begun log wire ts order notes players → AllTell ids awaited begun log wire' ts order notes players
 tell_as ids awaited begun log wire wire' ts order notes players same tell = subst (λ (w : ℤ). AllTell ids awaited begun log w ts order notes players) (sym same) tell
 
 -- one number of the order more was gone through
-pub tell_next : (ids : ℕ → List ℕ) (awaited : Awaited) (begun log : Told) (wire : ℤ) (ts : List Task) (order : List ℕ) (k n : ℕ) (notes : List Turned) (players : List Player) → slice_get order k ≡ Some n → AllTell ids awaited begun log wire ts (take k order ++ n ∷ []) notes players → AllTell ids awaited begun log wire ts (take (k + 1) order) notes players
+pub tell_next : (ids : ℕ → List ℕ) (awaited : Awaited) (begun log : LogTold) (wire : ℤ) (ts : List Task) (order : List ℕ) (k n : ℕ) (notes : List Turned) (players : List Player) → slice_get order k ≡ Some n → AllTell ids awaited begun log wire ts (take k order ++ n ∷ []) notes players → AllTell ids awaited begun log wire ts (take (k + 1) order) notes players
 tell_next ids awaited begun log wire ts order k n notes players there tell = subst (λ (ns : List ℕ). AllTell ids awaited begun log wire ts ns notes players) (sym (take_next order k n there) ∙ ap (λ m. take m order) (one_more k)) tell
 
 -- all of them were
-pub tell_whole : (ids : ℕ → List ℕ) (awaited : Awaited) (begun log : Told) (wire : ℤ) (ts : List Task) (order : List ℕ) (k : ℕ) (notes : List Turned) (players : List Player) → length order ≤ k → AllTell ids awaited begun log wire ts (take k order) notes players → AllTell ids awaited begun log wire ts order notes players
+pub tell_whole : (ids : ℕ → List ℕ) (awaited : Awaited) (begun log : LogTold) (wire : ℤ) (ts : List Task) (order : List ℕ) (k : ℕ) (notes : List Turned) (players : List Player) → length order ≤ k → AllTell ids awaited begun log wire ts (take k order) notes players → AllTell ids awaited begun log wire ts order notes players
 tell_whole ids awaited begun log wire ts order k notes players over tell = subst (λ (ns : List ℕ). AllTell ids awaited begun log wire ts ns notes players) (take_all k order over) tell
 
 -- ---- at first
@@ -253,7 +253,7 @@ first_told ids first awaited calls wire begun i p is = record {
 }
 
 -- Jobs that have done nothing tell what they should, whatever was called before.
-pub tell_first : (ids : ℕ → List ℕ) (awaited : Awaited) (log : Told) (wire : ℤ) (ts : List Task) (players : List Player) → AreFirst players → AllTell ids awaited log log wire ts [] [] players
+pub tell_first : (ids : ℕ → List ℕ) (awaited : Awaited) (log : LogTold) (wire : ℤ) (ts : List Task) (players : List Player) → AreFirst players → AllTell ids awaited log log wire ts [] [] players
 tell_first ids awaited log wire ts players first calls told = (calls, told, know_first awaited calls players first, record { count = omega arith; each = λ i t p ht hp. first_told ids (first_id ts [] i) awaited calls wire (length calls) i p (first i p hp); newest = λ i p n place hp e at k later s. absurd (none_sent (length calls) i k later s) })
 
 -- ---- at the end
@@ -448,7 +448,7 @@ outcome_of_job ids ts awaited c i calls wire (player.Put job) r o at of is_at pl
 outcome_of_job ids ts awaited c i calls wire (player.Get job) r o at of is_at plays told = (tt, tt)
 
 -- What the jobs of a run know and tell at its end says what became of them.
-all_outcomes : (ids given : ℕ → List ℕ) (awaited : Awaited) (log log' : Told) (wire : ℤ) (ts : List Task) (order : List ℕ) (notes : List Turned) (players : List Player) (outcomes : List Outcome) → length outcomes ≡ length players → HaveDrawn ids given ts order players → AllTell ids awaited log log' wire ts order notes players → AllAt ts order notes players → DoTasks ts players → OutcomesOf players outcomes
+all_outcomes : (ids given : ℕ → List ℕ) (awaited : Awaited) (log log' : LogTold) (wire : ℤ) (ts : List Task) (order : List ℕ) (notes : List Turned) (players : List Player) (outcomes : List Outcome) → length outcomes ≡ length players → HaveDrawn ids given ts order players → AllTell ids awaited log log' wire ts order notes players → AllAt ts order notes players → DoTasks ts players → OutcomesOf players outcomes
     → (calls : List Call) → log ≡ Some calls → (calls' : List Call) × (log' ≡ Some calls') × ((i : ℕ) (t : Task) (r : Outcome) → slice_get ts i ≡ Some t → slice_get outcomes i ≡ Some r → OutcomeOfTask ids ts awaited (course calls order notes) i calls' wire t r)
 all_outcomes ids given awaited log log' wire ts order notes players outcomes count drawn tell all does of calls told =
     let at = tell calls told in (
@@ -462,12 +462,12 @@ all_outcomes ids given awaited log log' wire ts order notes players outcomes cou
           (outcome_of_job ids ts awaited (course calls order notes) i at.0 wire p.0 r k.owner (at.2.places i) (of i p.0 r p.1 hr) (subst (λ (u : Task). IsNowAt (course calls order notes) i u p.0) is (all i t p.0 ht p.1)) k.plays (at.3.each i t p.0 ht p.1))),
     )
 
-all_caused : (ids given : ℕ → List ℕ) (awaited : Awaited) (log log' : Told) (wire : ℤ) (ts : List Task) (order : List ℕ) (notes : List Turned) (players : List Player) (outcomes : List Outcome) → length outcomes ≡ length players → HaveDrawn ids given ts order players → AllTell ids awaited log log' wire ts order notes players → AllAt ts order notes players → DoTasks ts players → OutcomesOf players outcomes → AllCaused ids awaited log log' wire ts order notes outcomes
+all_caused : (ids given : ℕ → List ℕ) (awaited : Awaited) (log log' : LogTold) (wire : ℤ) (ts : List Task) (order : List ℕ) (notes : List Turned) (players : List Player) (outcomes : List Outcome) → length outcomes ≡ length players → HaveDrawn ids given ts order players → AllTell ids awaited log log' wire ts order notes players → AllAt ts order notes players → DoTasks ts players → OutcomesOf players outcomes → AllCaused ids awaited log log' wire ts order notes outcomes
 all_caused ids given awaited log log' wire ts order notes players outcomes count drawn tell all does of calls told =
     let o = all_outcomes ids given awaited log log' wire ts order notes players outcomes count drawn tell all does of calls told in
     (o.0, o.1, λ i t r ht hr. (o.2 i t r ht hr).1)
 
-all_followed : (ids given : ℕ → List ℕ) (awaited : Awaited) (log log' : Told) (wire : ℤ) (ts : List Task) (order : List ℕ) (notes : List Turned) (players : List Player) (outcomes : List Outcome) → length outcomes ≡ length players → HaveDrawn ids given ts order players → AllTell ids awaited log log' wire ts order notes players → AllAt ts order notes players → DoTasks ts players → OutcomesOf players outcomes → Knowing awaited log log' players → AllFollowed log log' ts order notes outcomes
+all_followed : (ids given : ℕ → List ℕ) (awaited : Awaited) (log log' : LogTold) (wire : ℤ) (ts : List Task) (order : List ℕ) (notes : List Turned) (players : List Player) (outcomes : List Outcome) → length outcomes ≡ length players → HaveDrawn ids given ts order players → AllTell ids awaited log log' wire ts order notes players → AllAt ts order notes players → DoTasks ts players → OutcomesOf players outcomes → Knowing awaited log log' players → AllFollowed log log' ts order notes outcomes
 all_followed ids given awaited log log' wire ts order notes players outcomes count drawn tell all does of knowing calls told =
     let o = all_outcomes ids given awaited log log' wire ts order notes players outcomes count drawn tell all does of calls told in
     let k = knowing calls told in
@@ -475,19 +475,19 @@ all_followed ids given awaited log log' wire ts order notes players outcomes cou
     (o.0, o.1, λ i t r ht hr. (o.2 i t r ht hr).0, λ made. subst NamesItsOwn same (k.3 made))
 
 -- the same of a run, unless memory ran out
-pub caused_so : (ids given : ℕ → List ℕ) (awaited : Awaited) (log log' : Told) (wire : ℤ) (ts : List Task) (order : List ℕ) (notes : List Turned) (players : List Player) (result : Result Played Error) → IfOk result (λ p. length p.outcomes.items ≡ length players) → IfOk result (λ p. OutcomesOf players p.outcomes.items) → IfOk result (λ p. p.turns.items ≡ notes)
+pub caused_so : (ids given : ℕ → List ℕ) (awaited : Awaited) (log log' : LogTold) (wire : ℤ) (ts : List Task) (order : List ℕ) (notes : List Turned) (players : List Player) (result : Result Played Error) → IfOk result (λ p. length p.outcomes.items ≡ length players) → IfOk result (λ p. OutcomesOf players p.outcomes.items) → IfOk result (λ p. p.turns.items ≡ notes)
     → HaveDrawn ids given ts order players → AllTell ids awaited log log' wire ts order notes players → AllAt ts order notes players → DoTasks ts players → IfOk result (λ p. AllCaused ids awaited log log' wire ts order p.turns.items p.outcomes.items)
 caused_so ids given awaited log log' wire ts order notes players (Ok p) count of turns drawn tell all does = subst (λ (ns : List Turned). AllCaused ids awaited log log' wire ts order ns p.outcomes.items) (sym turns) (all_caused ids given awaited log log' wire ts order notes players p.outcomes.items count drawn tell all does of)
 caused_so ids given awaited log log' wire ts order notes players (Err e) count of turns drawn tell all does = tt
 
-pub followed_so : (ids given : ℕ → List ℕ) (awaited : Awaited) (log log' : Told) (wire : ℤ) (ts : List Task) (order : List ℕ) (notes : List Turned) (players : List Player) (result : Result Played Error) → IfOk result (λ p. length p.outcomes.items ≡ length players) → IfOk result (λ p. OutcomesOf players p.outcomes.items) → IfOk result (λ p. p.turns.items ≡ notes)
+pub followed_so : (ids given : ℕ → List ℕ) (awaited : Awaited) (log log' : LogTold) (wire : ℤ) (ts : List Task) (order : List ℕ) (notes : List Turned) (players : List Player) (result : Result Played Error) → IfOk result (λ p. length p.outcomes.items ≡ length players) → IfOk result (λ p. OutcomesOf players p.outcomes.items) → IfOk result (λ p. p.turns.items ≡ notes)
     → HaveDrawn ids given ts order players → AllTell ids awaited log log' wire ts order notes players → AllAt ts order notes players → DoTasks ts players → Knowing awaited log log' players → IfOk result (λ p. AllFollowed log log' ts order p.turns.items p.outcomes.items)
 followed_so ids given awaited log log' wire ts order notes players (Ok p) count of turns drawn tell all does knowing = subst (λ (ns : List Turned). AllFollowed log log' ts order ns p.outcomes.items) (sym turns) (all_followed ids given awaited log log' wire ts order notes players p.outcomes.items count drawn tell all does of knowing)
 followed_so ids given awaited log log' wire ts order notes players (Err e) count of turns drawn tell all does knowing = tt
 
 -- ---- what was sent
 
-all_send : (ids given : ℕ → List ℕ) (awaited : Awaited) (log log' : Told) (wire : ℤ) (ts : List Task) (order : List ℕ) (notes : List Turned) (players : List Player) → HaveDrawn ids given ts order players → AllTell ids awaited log log' wire ts order notes players → DoTasks ts players → AllSendOnly ids log log' ts order notes
+all_send : (ids given : ℕ → List ℕ) (awaited : Awaited) (log log' : LogTold) (wire : ℤ) (ts : List Task) (order : List ℕ) (notes : List Turned) (players : List Player) → HaveDrawn ids given ts order players → AllTell ids awaited log log' wire ts order notes players → DoTasks ts players → AllSendOnly ids log log' ts order notes
 all_send ids given awaited log log' wire ts order notes players drawn tell does calls told =
     let at = tell calls told in (
       at.0,
@@ -498,7 +498,7 @@ all_send ids given awaited log log' wire ts order notes players drawn tell does 
     )
 
 -- the same of a run, unless memory ran out
-pub sends_so : (ids given : ℕ → List ℕ) (awaited : Awaited) (log log' : Told) (wire : ℤ) (ts : List Task) (order : List ℕ) (notes : List Turned) (players : List Player) (result : Result Played Error) → IfOk result (λ p. p.turns.items ≡ notes)
+pub sends_so : (ids given : ℕ → List ℕ) (awaited : Awaited) (log log' : LogTold) (wire : ℤ) (ts : List Task) (order : List ℕ) (notes : List Turned) (players : List Player) (result : Result Played Error) → IfOk result (λ p. p.turns.items ≡ notes)
     → HaveDrawn ids given ts order players → AllTell ids awaited log log' wire ts order notes players → DoTasks ts players → IfOk result (λ p. AllSendOnly ids log log' ts order p.turns.items)
 sends_so ids given awaited log log' wire ts order notes players (Ok p) turns drawn tell does = subst (λ (ns : List Turned). AllSendOnly ids log log' ts order ns) (sym turns) (all_send ids given awaited log log' wire ts order notes players drawn tell does)
 sends_so ids given awaited log log' wire ts order notes players (Err e) turns drawn tell does = tt

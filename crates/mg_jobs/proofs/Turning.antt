@@ -4,7 +4,7 @@ use Rattle.mg_bson.specs.Tree.{Tree, Fields}
 use Rattle.mg_bson.specs.Raw.{fields}
 use Rattle.mg_link.specs.Exec.{Sending}
 use Rattle.mg_link.specs.Follow.{Follow, Knows, Moved, owner_of}
-use Rattle.mg_link.specs.Link.{Awaited, Told}
+use Rattle.mg_link.specs.Link.{Awaited, LogTold}
 use Rattle.mg_link.specs.Log.{Call}
 use Rattle.mg_link.specs.Owner.{Owner, Holds, Onward, Passes}
 use Rattle.mg_link.specs.State.{Start, Watch}
@@ -81,7 +81,7 @@ kept_follow awaited calls calls' s p o at onward k =
 -- ---- one turn
 
 -- A stream that moved takes its follow along.
-pub took : (old new : Awaited) (log log' : Told) (s : Stage) (p : FollowPlayer) (s' : Stage) (p' : FollowPlayer) (next : Placing) → p'.watched ≡ p.watched
+pub took : (old new : Awaited) (log log' : LogTold) (s : Stage) (p : FollowPlayer) (s' : Stage) (p' : FollowPlayer) (next : Placing) → p'.watched ≡ p.watched
     → ((w : Watch) (start : Start) → IsWatched p.watched w start → StageAsks s w start → IsInOrder p s → (opened : Option ℕ) → Moved log log' (follow_by old s w start opened p) (follow_by new s' w start (next opened) p') × StageAsks s' w start × IsInOrder p' s')
     → FollowMoves old new log log' s p s' p' next
 took old new log log' s p s' p' next same moves calls told o at k =
@@ -105,7 +105,7 @@ took old new log log' s p s' p' next same moves calls told o at k =
     )
 
 -- One part of a turn after another.
-pub took_on : (old mid new : Awaited) (log log_mid log' : Told) (s : Stage) (p : FollowPlayer) (s_mid : Stage) (p_mid : FollowPlayer) (s' : Stage) (p' : FollowPlayer) (one two : Placing) → FollowMoves old mid log log_mid s p s_mid p_mid one → FollowMoves mid new log_mid log' s_mid p_mid s' p' two → FollowMoves old new log log' s p s' p' (λ at. two (one at))
+pub took_on : (old mid new : Awaited) (log log_mid log' : LogTold) (s : Stage) (p : FollowPlayer) (s_mid : Stage) (p_mid : FollowPlayer) (s' : Stage) (p' : FollowPlayer) (one two : Placing) → FollowMoves old mid log log_mid s p s_mid p_mid one → FollowMoves mid new log_mid log' s_mid p_mid s' p' two → FollowMoves old new log log' s p s' p' (λ at. two (one at))
 took_on old mid new log log_mid log' s p s_mid p_mid s' p' one two first second calls told o at k =
     let a = first calls told o at k in
     let b = second a.0 a.1 a.2.owner (one at) a.2.knows in
@@ -192,7 +192,7 @@ parts_knows awaited calls s p t o at same k =
     }
 
 -- A turn whose stage was taken out before, and put back behind it.
-pub other_stage : (old new : Awaited) (log log' : Told) (s s0 : Stage) (p t : FollowPlayer) (s' : Stage) (q r : FollowPlayer) (next : Placing) → s ≡ s0 → SameParts p t → SameParts q r → r.stage ≡ s' → FollowMoves old new log log' s t s' q next → FollowMoves old new log log' s0 p r.stage r next
+pub other_stage : (old new : Awaited) (log log' : LogTold) (s s0 : Stage) (p t : FollowPlayer) (s' : Stage) (q r : FollowPlayer) (next : Placing) → s ≡ s0 → SameParts p t → SameParts q r → r.stage ≡ s' → FollowMoves old new log log' s t s' q next → FollowMoves old new log log' s0 p r.stage r next
 other_stage old new log log' s s0 p t s' q r next from before behind to turned calls told o at k =
     let m = turned calls told o at (parts_knows old calls s p t o at before (subst (λ x. FollowKnows old calls x p o at) (sym from) k)) in
     (m.0, m.1, record { owner = m.2.owner; knows = subst (λ x. FollowKnows new m.0 x r m.2.owner (next at)) (sym to) (parts_knows new m.0 s' q r m.2.owner (next at) behind m.2.knows); passes = m.2.passes })
@@ -200,7 +200,7 @@ other_stage old new log log' s s0 p t s' q r next from before behind to turned c
 -- ---- the arms of a turn
 
 -- nothing was sent, and the follow is the same
-pub took_same : (awaited : Awaited) (log log' : Told) (s : Stage) (p : FollowPlayer) → log' ≡ log → FollowMoves awaited awaited log log' s p s p same_place
+pub took_same : (awaited : Awaited) (log log' : LogTold) (s : Stage) (p : FollowPlayer) → log' ≡ log → FollowMoves awaited awaited log log' s p s p same_place
 took_same awaited log log' s p same calls told o at k =
     (calls, same ∙ told, record { owner = o; knows = k; passes = passes_same calls o (subst (Holds calls) (sym k.owns) k.knows.owned) })
 
@@ -225,7 +225,7 @@ pub record KeepsNothing (p p' : FollowPlayer) : Type 0 where
   pub token : p'.token ≡ p.token
 
 -- The arguments of the watch were not built: nothing was sent.
-pub begin_failed : (awaited : Awaited) (log : Told) (p p' : FollowPlayer) → KeepsNothing p p' → IsFailed p'.opened → FollowMoves awaited awaited log log stage.Unopened p stage.Ended p' same_place
+pub begin_failed : (awaited : Awaited) (log : LogTold) (p p' : FollowPlayer) → KeepsNothing p p' → IsFailed p'.opened → FollowMoves awaited awaited log log stage.Unopened p stage.Ended p' same_place
 begin_failed awaited log p p' same failed =
     took awaited awaited log log stage.Unopened p stage.Ended p' same_place same.watched
     (λ w start watched asks order opened. (
@@ -235,7 +235,7 @@ begin_failed awaited log p p' same failed =
     ))
 
 -- The watch is to be opened: nothing was sent yet.
-pub begins : (awaited : Awaited) (log : Told) (p : FollowPlayer) (opening : Opening Fields) → ((w : Watch) (start : Start) → IsWatched p.watched w start → Asks (opening_of opening).args w start) → IsPlainOpening opening → (opening_of opening).sending ≡ None → FollowMoves awaited awaited log log stage.Unopened p (stage.Opens opening) p same_place
+pub begins : (awaited : Awaited) (log : LogTold) (p : FollowPlayer) (opening : Opening Fields) → ((w : Watch) (start : Start) → IsWatched p.watched w start → Asks (opening_of opening).args w start) → IsPlainOpening opening → (opening_of opening).sending ≡ None → FollowMoves awaited awaited log log stage.Unopened p (stage.Opens opening) p same_place
 begins awaited log p opening asks sent none =
     took awaited awaited log log stage.Unopened p (stage.Opens opening) p same_place refl
     (λ w start watched before order opened. (
@@ -245,14 +245,14 @@ begins awaited log p opening asks sent none =
     ))
 
 -- The reply to the opening pends.
-pub open_pends : (old new : Awaited) (log log' : Told) (p : FollowPlayer) (opening opening' : Opening Fields) → (opening_of opening').args ≡ (opening_of opening).args → (IsPlainOpening opening → IsPlainOpening opening')
+pub open_pends : (old new : Awaited) (log log' : LogTold) (p : FollowPlayer) (opening opening' : Opening Fields) → (opening_of opening').args ≡ (opening_of opening).args → (IsPlainOpening opening → IsPlainOpening opening')
     → (IsPlainOpening opening → (w : Watch) (start : Start) → Asks (opening_of opening).args w start → Moved log log' (opening_in old w start (opening_of opening)) (opening_in new w start (opening_of opening'))) → FollowMoves old new log log' (stage.Opens opening) p (stage.Opens opening') p same_place
 open_pends old new log log' p opening opening' args sent moves =
     took old new log log' (stage.Opens opening) p (stage.Opens opening') p same_place refl
     (λ w start watched asks order opened. (moves asks.1 w start asks.0, (subst (λ a. Asks a w start) (sym args) asks.0, sent asks.1), order))
 
 -- It failed.
-pub open_failed : (old new : Awaited) (log log' : Told) (p p' : FollowPlayer) (opening : Opening Fields) → KeepsNothing p p' → IsFailed p'.opened
+pub open_failed : (old new : Awaited) (log log' : LogTold) (p p' : FollowPlayer) (opening : Opening Fields) → KeepsNothing p p' → IsFailed p'.opened
     → (IsPlainOpening opening → (w : Watch) (start : Start) → Asks (opening_of opening).args w start → Moved log log' (opening_in old w start (opening_of opening)) (not_open w start)) → FollowMoves old new log log' (stage.Opens opening) p stage.Ended p' same_place
 open_failed old new log log' p p' opening same failed moves =
     took old new log log' (stage.Opens opening) p stage.Ended p' same_place same.watched
@@ -263,7 +263,7 @@ open_failed old new log log' p p' opening same failed moves =
     ))
 
 -- The stream is open.
-pub open_done : (old new : Awaited) (log log' : Told) (p p' : FollowPlayer) (opening : Opening Fields) (stream : ChangeStream Fields) (place : Option ℕ) → KeepsNothing p p' → HasGiven p'.opened → (stream_of stream).aggregate.args ≡ (opening_of opening).args
+pub open_done : (old new : Awaited) (log log' : LogTold) (p p' : FollowPlayer) (opening : Opening Fields) (stream : ChangeStream Fields) (place : Option ℕ) → KeepsNothing p p' → HasGiven p'.opened → (stream_of stream).aggregate.args ≡ (opening_of opening).args
     → (IsPlainOpening opening → (w : Watch) (start : Start) → Asks (opening_of opening).args w start → Moved log log' (opening_in old w start (opening_of opening)) (follow_of new w start (stream_of stream) place [])) → FollowMoves old new log log' (stage.Opens opening) p (stage.Open stream) p' (λ at. place)
 open_done old new log log' p p' opening stream place same given args moves =
     took old new log log' (stage.Opens opening) p (stage.Open stream) p' (λ at. place) same.watched
@@ -281,7 +281,7 @@ pub record KeepsOpen (p p' : FollowPlayer) : Type 0 where
   pub answers : p'.answers.items ≡ p.answers.items
 
 -- The stream is to be closed, and the follow has its token now.
-pub to_close : (awaited : Awaited) (log : Told) (p p' : FollowPlayer) (stream : ChangeStream Fields) (closing : ClosingStream) → KeepsOpen p p' → p'.token ≡ stream_token (stream_of stream)
+pub to_close : (awaited : Awaited) (log : LogTold) (p p' : FollowPlayer) (stream : ChangeStream Fields) (closing : ClosingStream) → KeepsOpen p p' → p'.token ≡ stream_token (stream_of stream)
     → ((w : Watch) (start : Start) (opened : Option ℕ) (answered : List Fields) → Moved log log (follow_of awaited w start (stream_of stream) opened answered) (follow_closing awaited w start (stream_token (stream_of stream)) closing opened answered))
     → FollowMoves awaited awaited log log (stage.Open stream) p (stage.Closes closing) p' same_place
 to_close awaited log p p' stream closing same token moves =
@@ -296,7 +296,7 @@ to_close awaited log p p' stream closing same token moves =
     ))
 
 -- where its token was handed over
-pub handed_moved : (log : Told) (awaited : Awaited) (s : ClientStream) (lent : Bool) (left : Option Tree) (k : ClosingStream) → k ≡ handed_over left (closed_stream lent s) → IsSound true s → (w : Watch) (start : Start) (opened : Option ℕ) (answered : List Fields)
+pub handed_moved : (log : LogTold) (awaited : Awaited) (s : ClientStream) (lent : Bool) (left : Option Tree) (k : ClosingStream) → k ≡ handed_over left (closed_stream lent s) → IsSound true s → (w : Watch) (start : Start) (opened : Option ℕ) (answered : List Fields)
     → Moved log log (follow_of awaited w start s opened answered) (follow_closing awaited w start (stream_token s) k opened answered)
 handed_moved log awaited s lent left k is sound w start opened answered =
     let there = close_moved log awaited w start lent s opened answered (sound_any true s sound) in
@@ -305,7 +305,7 @@ handed_moved log awaited s lent left k is sound w start opened answered =
     (subst (λ (f : Follow). Moved log log (follow_of awaited w start s opened answered) f) same there)
 
 -- A call of the stream pends.
-pub call_pends : (old new : Awaited) (log log' : Told) (p : FollowPlayer) (stream stream' : ChangeStream Fields) (told : List Fields) → told ≡ [] → (stream_of stream').aggregate.args ≡ (stream_of stream).aggregate.args
+pub call_pends : (old new : Awaited) (log log' : LogTold) (p : FollowPlayer) (stream stream' : ChangeStream Fields) (told : List Fields) → told ≡ [] → (stream_of stream').aggregate.args ≡ (stream_of stream).aggregate.args
     → ((w : Watch) (start : Start) → Asks (stream_of stream).aggregate.args w start → (opened : Option ℕ) (answered : List Fields) → Moved log log' (follow_of old w start (stream_of stream) opened answered) (follow_of new w start (stream_of stream') opened (answered ++ told))) → FollowMoves old new log log' (stage.Open stream) p (stage.Open stream') p same_place
 call_pends old new log log' p stream stream' told none args moves =
     took old new log log' (stage.Open stream) p (stage.Open stream') p same_place refl
@@ -323,7 +323,7 @@ events_joined (answers.Nothing ∷ xs) ys = events_joined xs ys
 events_joined (answers.Failed e ∷ xs) ys = events_joined xs ys
 
 -- A call of the stream answered.
-pub call_answers : (old new : Awaited) (log log' : Told) (p p' : FollowPlayer) (stream stream' : ChangeStream Fields) (told : List Fields) (answer : Answer) → p'.watched ≡ p.watched → p'.opened ≡ p.opened → p'.answers.items ≡ p.answers.items ++ answer ∷ [] → told ≡ events_of (answer ∷ []) → (stream_of stream').aggregate.args ≡ (stream_of stream).aggregate.args
+pub call_answers : (old new : Awaited) (log log' : LogTold) (p p' : FollowPlayer) (stream stream' : ChangeStream Fields) (told : List Fields) (answer : Answer) → p'.watched ≡ p.watched → p'.opened ≡ p.opened → p'.answers.items ≡ p.answers.items ++ answer ∷ [] → told ≡ events_of (answer ∷ []) → (stream_of stream').aggregate.args ≡ (stream_of stream).aggregate.args
     → ((w : Watch) (start : Start) → Asks (stream_of stream).aggregate.args w start → (opened : Option ℕ) (answered : List Fields) → Moved log log' (follow_of old w start (stream_of stream) opened answered) (follow_of new w start (stream_of stream') opened (answered ++ told))) → FollowMoves old new log log' (stage.Open stream) p (stage.Open stream') p' same_place
 call_answers old new log log' p p' stream stream' told answer watched opened_same items same args moves =
     took old new log log' (stage.Open stream) p (stage.Open stream') p' same_place watched
@@ -335,7 +335,7 @@ call_answers old new log log' p p' stream stream' told answer watched opened_sam
     ))
 
 -- The killing of its cursors pends.
-pub close_pends : (old new : Awaited) (log log' : Told) (p : FollowPlayer) (closing closing' : ClosingStream)
+pub close_pends : (old new : Awaited) (log log' : LogTold) (p : FollowPlayer) (closing closing' : ClosingStream)
     → ((w : Watch) (start : Start) (token : Option Tree) (opened : Option ℕ) (answered : List Fields) → Moved log log' (follow_closing old w start token closing opened answered) (follow_closing new w start token closing' opened answered)) → FollowMoves old new log log' (stage.Closes closing) p (stage.Closes closing') p same_place
 close_pends old new log log' p closing closing' moves =
     took old new log log' (stage.Closes closing) p (stage.Closes closing') p same_place refl
@@ -352,7 +352,7 @@ ends_given (ended.Gave x) p given = tt
 ends_given (ended.Failed e) p given = absurd given
 
 -- The stream is closed, or its closing failed.
-pub close_ends : (old new : Awaited) (log log' : Told) (p p' : FollowPlayer) (closing : ClosingStream) → KeepsOpen p p' → p'.token ≡ p.token
+pub close_ends : (old new : Awaited) (log log' : LogTold) (p p' : FollowPlayer) (closing : ClosingStream) → KeepsOpen p p' → p'.token ≡ p.token
     → ((w : Watch) (start : Start) (token : Option Tree) (opened : Option ℕ) (answered : List Fields) → Moved log log' (follow_closing old w start token closing opened answered) (left_as w start opened token answered (pos 0) (pos 0))) → FollowMoves old new log log' (stage.Closes closing) p stage.Ended p' same_place
 close_ends old new log log' p p' closing same token moves =
     took old new log log' (stage.Closes closing) p stage.Ended p' same_place same.watched
@@ -427,5 +427,5 @@ module _ (s : ClientStream) (lent : Bool) (left : Option Tree) (k : ClosingStrea
       none_by streams.renewed idle = absurd idle
 
 -- a follow that has ended does nothing
-pub took_ended : (awaited : Awaited) (log : Told) (s : Stage) (p : FollowPlayer) → s ≡ stage.Ended → FollowMoves awaited awaited log log s p stage.Ended p same_place
+pub took_ended : (awaited : Awaited) (log : LogTold) (s : Stage) (p : FollowPlayer) → s ≡ stage.Ended → FollowMoves awaited awaited log log s p stage.Ended p same_place
 took_ended awaited log s p is = subst (λ x. FollowMoves awaited awaited log log x p stage.Ended p same_place) (sym is) (took_same awaited log log stage.Ended p refl)

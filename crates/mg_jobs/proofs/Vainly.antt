@@ -4,7 +4,7 @@ use Rattle.mg_bson.specs.Tree.{Tree}
 use Rattle.mg_link.specs.declared.action.Step.TheVariants as step
 use Rattle.mg_link.specs.declared.error.Error.{Error}
 use Rattle.mg_link.specs.Exec.{Sending, ticket_of}
-use Rattle.mg_link.specs.Link.{Awaited, Told}
+use Rattle.mg_link.specs.Link.{Awaited, LogTold}
 use Rattle.mg_link.specs.Log.{Call}
 use Rattle.mg_link.specs.Owner.{Onward, nobody}
 use Rattle.mg_link.proofs.Apart.{holds_nobody, passes_on, passes_same}
@@ -74,11 +74,11 @@ kept_vain awaited calls calls' s p onward v =
 -- ---- one turn
 
 -- nothing was sent
-vain_stays : (awaited : Awaited) (log : Told) (s : Stage) (p : FollowPlayer) (s' : Stage) (p' : FollowPlayer) → ((calls : List Call) → FollowsNothing awaited calls s p → FollowsNothing awaited calls s' p') → VainMoves awaited awaited log log s p s' p'
+vain_stays : (awaited : Awaited) (log : LogTold) (s : Stage) (p : FollowPlayer) (s' : Stage) (p' : FollowPlayer) → ((calls : List Call) → FollowsNothing awaited calls s p → FollowsNothing awaited calls s' p') → VainMoves awaited awaited log log s p s' p'
 vain_stays awaited log s p s' p' on calls told v = (calls, told, on calls v, passes_same calls nobody (holds_nobody calls))
 
 -- an open stream of it goes on: no honest server could have given the log
-vain_grows : (old new : Awaited) (log log' : Told) (s : Stage) (p : FollowPlayer) (s' : Stage) (p' : FollowPlayer) → GoesOnward log log' → p'.watched ≡ p.watched → (IsInOrder p s → HasGiven p.opened) → (IsInOrder p s → IsInOrder p' s') → ((calls : List Call) → IsInVain new calls s') → VainMoves old new log log' s p s' p'
+vain_grows : (old new : Awaited) (log log' : LogTold) (s : Stage) (p : FollowPlayer) (s' : Stage) (p' : FollowPlayer) → GoesOnward log log' → p'.watched ≡ p.watched → (IsInOrder p s → HasGiven p.opened) → (IsInOrder p s → IsInOrder p' s') → ((calls : List Call) → IsInVain new calls s') → VainMoves old new log log' s p s' p'
 vain_grows old new log log' s p s' p' grows same given order vain calls told v =
     let m = grows calls told in
     let nowhere = v.never (given v.in_order) in (
@@ -89,16 +89,16 @@ vain_grows old new log log' s p s' p' grows same given order vain calls told v =
     )
 
 -- One part of a turn after another.
-pub vain_on : (old mid new : Awaited) (log log_mid log' : Told) (s : Stage) (p : FollowPlayer) (s_mid : Stage) (p_mid : FollowPlayer) (s' : Stage) (p' : FollowPlayer) → VainMoves old mid log log_mid s p s_mid p_mid → VainMoves mid new log_mid log' s_mid p_mid s' p' → VainMoves old new log log' s p s' p'
+pub vain_on : (old mid new : Awaited) (log log_mid log' : LogTold) (s : Stage) (p : FollowPlayer) (s_mid : Stage) (p_mid : FollowPlayer) (s' : Stage) (p' : FollowPlayer) → VainMoves old mid log log_mid s p s_mid p_mid → VainMoves mid new log_mid log' s_mid p_mid s' p' → VainMoves old new log log' s p s' p'
 vain_on old mid new log log_mid log' s p s_mid p_mid s' p' first second calls told v =
     let a = first calls told v in
     let b = second a.0 a.1 a.2 in
     (b.0, b.1, b.2, passes_on calls a.0 b.0 nobody nobody nobody a.3 b.3)
 
-pub vain_same : (awaited : Awaited) (log : Told) (s : Stage) (p : FollowPlayer) → VainMoves awaited awaited log log s p s p
+pub vain_same : (awaited : Awaited) (log : LogTold) (s : Stage) (p : FollowPlayer) → VainMoves awaited awaited log log s p s p
 vain_same awaited log s p = vain_stays awaited log s p s p (λ calls v. v)
 
-pub vain_ended : (awaited : Awaited) (log : Told) (s : Stage) (p : FollowPlayer) → s ≡ stage.Ended → VainMoves awaited awaited log log s p stage.Ended p
+pub vain_ended : (awaited : Awaited) (log : LogTold) (s : Stage) (p : FollowPlayer) → s ≡ stage.Ended → VainMoves awaited awaited log log s p stage.Ended p
 vain_ended awaited log s p is = subst (λ x. VainMoves awaited awaited log log x p stage.Ended p) (sym is) (vain_same awaited log stage.Ended p)
 
 -- the same follow, of which its stage was taken out
@@ -106,7 +106,7 @@ pub vain_parts : (awaited : Awaited) (calls : List Call) (s : Stage) (p t : Foll
 vain_parts awaited calls s p t same v =
     record { unwatched = subst (λ x. IsUnwatched x) (sym same.watched) v.unwatched; vain = v.vain; in_order = parts_order s p t same v.in_order; never = λ given. v.never (subst (λ o. HasGiven o) same.opened given) }
 
-pub vain_other : (old new : Awaited) (log log' : Told) (s s0 : Stage) (p t : FollowPlayer) (s' : Stage) (q r : FollowPlayer) → s ≡ s0 → SameParts p t → SameParts q r → r.stage ≡ s' → VainMoves old new log log' s t s' q → VainMoves old new log log' s0 p r.stage r
+pub vain_other : (old new : Awaited) (log log' : LogTold) (s s0 : Stage) (p t : FollowPlayer) (s' : Stage) (q r : FollowPlayer) → s ≡ s0 → SameParts p t → SameParts q r → r.stage ≡ s' → VainMoves old new log log' s t s' q → VainMoves old new log log' s0 p r.stage r
 vain_other old new log log' s s0 p t s' q r from before behind at moves calls told v =
     let m = moves calls told (vain_parts old calls s p t before (subst (λ x. FollowsNothing old calls x p) (sym from) v)) in
     (m.0, m.1, subst (λ x. FollowsNothing new m.0 x r) (sym at) (vain_parts new m.0 s' q r behind m.2), m.3)
@@ -119,7 +119,7 @@ failed_not_given (ended.Gave x) failed given = failed
 failed_not_given (ended.Failed e) failed given = given
 
 -- The arguments of the watch were not built.
-pub vain_begin_failed : (awaited : Awaited) (log : Told) (p p' : FollowPlayer) → KeepsNothing p p' → IsFailed p'.opened → VainMoves awaited awaited log log stage.Unopened p stage.Ended p'
+pub vain_begin_failed : (awaited : Awaited) (log : LogTold) (p p' : FollowPlayer) → KeepsNothing p p' → IsFailed p'.opened → VainMoves awaited awaited log log stage.Unopened p stage.Ended p'
 vain_begin_failed awaited log p p' same failed =
     vain_stays awaited log stage.Unopened p stage.Ended p' (λ calls v. record {
       unwatched = subst (λ x. IsUnwatched x) (sym same.watched) v.unwatched;
@@ -129,7 +129,7 @@ vain_begin_failed awaited log p p' same failed =
     })
 
 -- The watch is to be opened.
-pub vain_begins : (awaited : Awaited) (log : Told) (p : FollowPlayer) (opening : Opening Fields) → (IsUnwatched p.watched → AsksNothing (opening_of opening).args) → IsPlainOpening opening → (opening_of opening).sending ≡ None → VainMoves awaited awaited log log stage.Unopened p (stage.Opens opening) p
+pub vain_begins : (awaited : Awaited) (log : LogTold) (p : FollowPlayer) (opening : Opening Fields) → (IsUnwatched p.watched → AsksNothing (opening_of opening).args) → IsPlainOpening opening → (opening_of opening).sending ≡ None → VainMoves awaited awaited log log stage.Unopened p (stage.Opens opening) p
 vain_begins awaited log p opening asks sent none =
     vain_stays awaited log stage.Unopened p (stage.Opens opening) p (λ calls v. record {
       unwatched = v.unwatched;
@@ -139,7 +139,7 @@ vain_begins awaited log p opening asks sent none =
     })
 
 -- The reply to the opening pends.
-pub vain_open_pends : (old new : Awaited) (log log' : Told) (p : FollowPlayer) (opening opening' : Opening Fields) → (opening_of opening').args ≡ (opening_of opening).args → (IsPlainOpening opening → IsPlainOpening opening')
+pub vain_open_pends : (old new : Awaited) (log log' : LogTold) (p : FollowPlayer) (opening opening' : Opening Fields) → (opening_of opening').args ≡ (opening_of opening).args → (IsPlainOpening opening → IsPlainOpening opening')
     → (IsPlainOpening opening → AsksNothing (opening_of opening).args → OpensInVain old new log log' (opening_of opening).sending (step.Pending (opening_of opening'))) → VainMoves old new log log' (stage.Opens opening) p (stage.Opens opening') p
 vain_open_pends old new log log' p opening opening' args sent vain calls told v =
     let m = vain v.vain.1 v.vain.0 calls told v.vain.2 in (
@@ -155,7 +155,7 @@ vain_open_pends old new log log' p opening opening' args sent vain calls told v 
     )
 
 -- It failed.
-pub vain_open_failed : (old new : Awaited) (log log' : Told) (p p' : FollowPlayer) (opening : Opening Fields) (e : Error) → KeepsNothing p p' → IsFailed p'.opened
+pub vain_open_failed : (old new : Awaited) (log log' : LogTold) (p p' : FollowPlayer) (opening : Opening Fields) (e : Error) → KeepsNothing p p' → IsFailed p'.opened
     → (IsPlainOpening opening → AsksNothing (opening_of opening).args → OpensInVain old new log log' (opening_of opening).sending (step.Failed e)) → VainMoves old new log log' (stage.Opens opening) p stage.Ended p'
 vain_open_failed old new log log' p p' opening e same failed vain calls told v =
     let m = vain v.vain.1 v.vain.0 calls told v.vain.2 in (
@@ -171,14 +171,14 @@ vain_open_failed old new log log' p p' opening e same failed vain calls told v =
     )
 
 -- The stream is open.
-pub vain_open_done : (old new : Awaited) (log log' : Told) (p p' : FollowPlayer) (opening : Opening Fields) (stream : ChangeStream Fields) → KeepsNothing p p' → HasGiven p'.opened
+pub vain_open_done : (old new : Awaited) (log log' : LogTold) (p p' : FollowPlayer) (opening : Opening Fields) (stream : ChangeStream Fields) → KeepsNothing p p' → HasGiven p'.opened
     → (IsPlainOpening opening → AsksNothing (opening_of opening).args → OpensInVain old new log log' (opening_of opening).sending (step.Done (stream_of stream))) → VainMoves old new log log' (stage.Opens opening) p (stage.Open stream) p'
 vain_open_done old new log log' p p' opening stream same given vain calls told v =
     let m = vain v.vain.1 v.vain.0 calls told v.vain.2 in
     (m.0, m.1, record { unwatched = subst (λ x. IsUnwatched x) (sym same.watched) v.unwatched; vain = tt; in_order = given; never = λ g. m.3 }, m.2)
 
 -- The stream is to be closed.
-pub vain_to_close : (awaited : Awaited) (log : Told) (p p' : FollowPlayer) (stream : ChangeStream Fields) (closing : ClosingStream) → KeepsOpen p p' → VainMoves awaited awaited log log (stage.Open stream) p (stage.Closes closing) p'
+pub vain_to_close : (awaited : Awaited) (log : LogTold) (p p' : FollowPlayer) (stream : ChangeStream Fields) (closing : ClosingStream) → KeepsOpen p p' → VainMoves awaited awaited log log (stage.Open stream) p (stage.Closes closing) p'
 vain_to_close awaited log p p' stream closing same =
     vain_stays awaited log (stage.Open stream) p (stage.Closes closing) p' (λ calls v. record {
       unwatched = subst (λ x. IsUnwatched x) (sym same.watched) v.unwatched;
@@ -187,20 +187,20 @@ vain_to_close awaited log p p' stream closing same =
       never = λ given. v.never v.in_order;
     })
 
-sent_grows : (log log' : Told) (commands : List Fields) → Sent log log' commands → GoesOnward log log'
+sent_grows : (log log' : LogTold) (commands : List Fields) → Sent log log' commands → GoesOnward log log'
 sent_grows log log' commands sent calls told = let m = sent calls told in (m.0, m.1, m.3)
 
 -- A call of the stream pends, or answered.
-pub vain_call : (old new : Awaited) (log log' : Told) (p p' : FollowPlayer) (stream stream' : ChangeStream Fields) (commands : List Fields) → p'.watched ≡ p.watched → p'.opened ≡ p.opened → Sent log log' commands → VainMoves old new log log' (stage.Open stream) p (stage.Open stream') p'
+pub vain_call : (old new : Awaited) (log log' : LogTold) (p p' : FollowPlayer) (stream stream' : ChangeStream Fields) (commands : List Fields) → p'.watched ≡ p.watched → p'.opened ≡ p.opened → Sent log log' commands → VainMoves old new log log' (stage.Open stream) p (stage.Open stream') p'
 vain_call old new log log' p p' stream stream' commands watched opened sent =
     vain_grows old new log log' (stage.Open stream) p (stage.Open stream') p' (sent_grows log log' commands sent) watched (λ order. order) (λ order. subst (λ o. HasGiven o) (sym opened) order) (λ calls. tt)
 
 -- The killing of its cursors pends.
-pub vain_close_pends : (old new : Awaited) (log log' : Told) (p : FollowPlayer) (closing closing' : ClosingStream) → GoesOnward log log' → VainMoves old new log log' (stage.Closes closing) p (stage.Closes closing') p
+pub vain_close_pends : (old new : Awaited) (log log' : LogTold) (p : FollowPlayer) (closing closing' : ClosingStream) → GoesOnward log log' → VainMoves old new log log' (stage.Closes closing) p (stage.Closes closing') p
 vain_close_pends old new log log' p closing closing' grows = vain_grows old new log log' (stage.Closes closing) p (stage.Closes closing') p grows refl (λ order. order) (λ order. order) (λ calls. tt)
 
 -- The stream is closed, or its closing failed.
-pub vain_close_ends : (old new : Awaited) (log log' : Told) (p p' : FollowPlayer) (closing : ClosingStream) → KeepsOpen p p' → GoesOnward log log' → VainMoves old new log log' (stage.Closes closing) p stage.Ended p'
+pub vain_close_ends : (old new : Awaited) (log log' : LogTold) (p p' : FollowPlayer) (closing : ClosingStream) → KeepsOpen p p' → GoesOnward log log' → VainMoves old new log log' (stage.Closes closing) p stage.Ended p'
 vain_close_ends old new log log' p p' closing same grows =
     vain_grows old new log log' (stage.Closes closing) p stage.Ended p' grows same.watched (λ order. order) (λ order. ends_given p'.opened p' (subst (λ o. HasGiven o) (sym same.opened) order)) (λ calls. tt)
 

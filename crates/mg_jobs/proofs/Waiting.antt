@@ -6,7 +6,7 @@ use Rattle.std.proofs.lemmas.List.Sums.{sum_by-cons}
 use Rattle.mg_bson.specs.Tree.{Fields}
 use Rattle.mg_link.specs.Acts.{Tickets}
 use Rattle.mg_link.specs.Calls.{Past}
-use Rattle.mg_link.specs.Link.{Awaited, Told}
+use Rattle.mg_link.specs.Link.{Awaited, LogTold}
 use Rattle.mg_link.specs.Log.{Call}
 use Rattle.mg_link.specs.Namespace.{Space, space}
 use Rattle.mg_link.specs.declared.error.Error.{Error}
@@ -191,7 +191,7 @@ module _ (ids given : ℕ → List ℕ) (before awaited : Awaited) (calls calls'
         alone = held_alone holds ticket by;
       }
 
-all_wait : (ids given : ℕ → List ℕ) (before awaited : Awaited) (log log' : Told) (wire : ℤ) (ts : List Task) (order : List ℕ) (notes : List Turned) (players : List Player) → HaveDrawn ids given ts order players → AllTell ids awaited log log' wire ts order notes players → AllAt ts order notes players → AreHeld before awaited players → AllWaitAlone before awaited log order notes
+all_wait : (ids given : ℕ → List ℕ) (before awaited : Awaited) (log log' : LogTold) (wire : ℤ) (ts : List Task) (order : List ℕ) (notes : List Turned) (players : List Player) → HaveDrawn ids given ts order players → AllTell ids awaited log log' wire ts order notes players → AllAt ts order notes players → AreHeld before awaited players → AllWaitAlone before awaited log order notes
 all_wait ids given before awaited log log' wire ts order notes players drawn tell all holds calls told ticket place at =
     let run = tell calls told in
     elim (holds ticket (ap (λ o. is_some o) at)) [
@@ -200,7 +200,7 @@ all_wait ids given before awaited log log' wire ts order notes players drawn tel
     ]
 
 -- the same of a run, unless memory ran out
-pub wait_so : (ids given : ℕ → List ℕ) (before awaited : Awaited) (log log' : Told) (wire : ℤ) (ts : List Task) (order : List ℕ) (notes : List Turned) (players : List Player) (result : Result Played Error) → IfOk result (λ p. p.turns.items ≡ notes)
+pub wait_so : (ids given : ℕ → List ℕ) (before awaited : Awaited) (log log' : LogTold) (wire : ℤ) (ts : List Task) (order : List ℕ) (notes : List Turned) (players : List Player) (result : Result Played Error) → IfOk result (λ p. p.turns.items ≡ notes)
     → HaveDrawn ids given ts order players → AllTell ids awaited log log' wire ts order notes players → AllAt ts order notes players → AreHeld before awaited players → IfOk result (λ p. AllWaitAlone before awaited log order p.turns.items)
 wait_so ids given before awaited log log' wire ts order notes players (Ok p) turns drawn tell all holds =
     subst (λ (ns : List Turned). AllWaitAlone before awaited log order ns) (sym turns) (all_wait ids given before awaited log log' wire ts order notes players drawn tell all holds)

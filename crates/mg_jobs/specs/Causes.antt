@@ -5,7 +5,7 @@ use Rattle.mg_bson.specs.Tree.{Tree, Fields}
 use Rattle.mg_bson.specs.Raw.{fields}
 use Rattle.mg_link.specs.Calls.{IsAwaited, Past, past_of}
 use Rattle.mg_link.specs.History.{IsLegal, Step}
-use Rattle.mg_link.specs.Link.{Awaited, Polls, SamePolls, Told}
+use Rattle.mg_link.specs.Link.{Awaited, Polls, SamePolls, LogTold}
 use Rattle.mg_link.specs.Log.{Call}
 use Rattle.mg_link.specs.Namespace.{Space, Target}
 use Rattle.mg_link.specs.Owner.{IsOf}
@@ -244,7 +244,7 @@ OutcomeCaused awaited c i calls wire (get db bucket id read) = λ r. Unit {0}
 
 -- Over a link that tells its log and awaits these replies, each job's outcome has its causes, and what it waits for, among the commands of its own turns;
 -- inserts draw these ids.
-abbrev pub AllCaused : (ℕ → List ℕ) → Awaited → Told → Told → ℤ → List Task → List ℕ → List Turned → List Outcome → Type 0
+abbrev pub AllCaused : (ℕ → List ℕ) → Awaited → LogTold → LogTold → ℤ → List Task → List ℕ → List Turned → List Outcome → Type 0
 AllCaused ids awaited log log' wire tasks order notes outcomes = (calls : List Call) → log ≡ Some calls → (calls' : List Call) × (log' ≡ Some calls')
     × ((i : ℕ) (t : Task) (r : Outcome) → slice_get tasks i ≡ Some t → slice_get outcomes i ≡ Some r → OutcomeCaused awaited (course calls order notes) i calls' wire (as_sent ids tasks order i t) r)
 
@@ -258,7 +258,7 @@ pub record WaitsAlone (before awaited : Awaited) (c : Course) (ticket place : �
   pub alone : (other place' done' : ℕ) → awaited other ≡ Some place' → SentIn c job done' place' → (other ≡ ticket) ⊎ (before other ≡ Some place')
 
 -- Over a link that tells its log, each call that waits for its reply is such a one, unless its ticket was out for it before.
-abbrev pub AllWaitAlone : (before awaited : Awaited) → Told → List ℕ → List Turned → Type 0
+abbrev pub AllWaitAlone : (before awaited : Awaited) → LogTold → List ℕ → List Turned → Type 0
 AllWaitAlone before awaited log order notes = (calls : List Call) → log ≡ Some calls → (ticket place : ℕ) → awaited ticket ≡ Some place
     → (before ticket ≡ Some place) ⊎ WaitsAlone before awaited (course calls order notes) ticket place
 
@@ -282,7 +282,7 @@ pub data IsPolledIn (calls : List Call) (order : List ℕ) (notes : List Turned)
   before_it : note.started ≡ 0 → pends_last i order notes ≡ true → IsNewestOf (course calls order notes) i place → IsPolledIn calls order notes i note place
 
 -- the same of a link that tells its log: one poll of that call pended in the turn where the note says so, and otherwise none did
-abbrev pub PollsOwn : Told → List ℕ → List Turned → ℕ → Turned → (before now : Polls) → Type 0
+abbrev pub PollsOwn : LogTold → List ℕ → List Turned → ℕ → Turned → (before now : Polls) → Type 0
 PollsOwn log order notes i note before now = (calls : List Call) → log ≡ Some calls → PolledBy (one_if note.pended) (IsPolledIn calls order notes i note) before now
 
 -- So it was in each of these turns, behind those that were gone through.
@@ -293,5 +293,5 @@ PollOwnFrom calls gone noted (i ∷ order) (note ∷ notes) before now =
     (between : Polls) × PolledBy (one_if note.pended) (IsPolledIn calls gone noted i note) before between × PollOwnFrom calls (gone ++ i ∷ []) (noted ++ note ∷ []) order notes between now
 
 -- Over a link that tells its log: in each turn of a run one poll pended just where its note says so, and that was of the newest call of its own job.
-abbrev pub AllPollOwn : Told → List ℕ → List Turned → (before now : Polls) → Type 0
+abbrev pub AllPollOwn : LogTold → List ℕ → List Turned → (before now : Polls) → Type 0
 AllPollOwn log order notes before now = (calls : List Call) → log ≡ Some calls → PollOwnFrom calls [] [] order notes before now

@@ -6,7 +6,7 @@ use Rattle.mg_bson.specs.Writable.{max_len}
 use Rattle.mg_link.specs.Commands.{asked, asks_insert, asks_more}
 use Rattle.mg_link.specs.Errors.{plain}
 use Rattle.mg_link.specs.History.{Step, IsLegal, state_of, told_at}
-use Rattle.mg_link.specs.Link.{Told}
+use Rattle.mg_link.specs.Link.{LogTold}
 use Rattle.mg_link.specs.Log.{Call}
 use Rattle.mg_link.specs.Namespace.{Space}
 use Rattle.mg_link.specs.Prompt.{IsPrompt, IsRefused}
@@ -207,6 +207,6 @@ abbrev pub JobWell : Course → ℕ → List Call → Task → Outcome → Type 
 JobWell c i calls t r = OutcomeWell c i calls t r × OutcomeFits c i calls t r
 
 -- so does each job of a run in which inserts draw these ids
-abbrev pub AllWell : (ℕ → List ℕ) → Told → Told → List Task → List ℕ → List Turned → List Outcome → Type 0
+abbrev pub AllWell : (ℕ → List ℕ) → LogTold → LogTold → List Task → List ℕ → List Turned → List Outcome → Type 0
 AllWell ids log log' tasks order notes outcomes = (calls : List Call) → log ≡ Some calls → (calls' : List Call) × (log' ≡ Some calls')
     × ((i : ℕ) (t : Task) (r : Outcome) → slice_get tasks i ≡ Some t → slice_get outcomes i ≡ Some r → JobWell (course calls order notes) i calls' (as_sent ids tasks order i t) r)

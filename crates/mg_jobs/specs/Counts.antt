@@ -2,12 +2,12 @@
 use Rattle.std.specs.Prelude.{◌≡◌, ◌+◌, ◌-◌, ◌^◌, ◌<◌, ◌≤◌, ℕ, zero, suc, Bool, true, false, nat_eq, Option, Some, None, is_some, IsSome, List, [], ◌∷◌, length, slice_get, if◌then◌else◌}
 use Rattle.mg_link.specs.Calls.{Stays}
 use Rattle.mg_link.specs.Causes.{RoseJust}
-use Rattle.mg_link.specs.Link.{Awaited, OneMore, Polls, SamePolls, Told}
+use Rattle.mg_link.specs.Link.{Awaited, OneMore, Polls, SamePolls, LogTold}
 use Rattle.mg_link.specs.Log.{fault, Call}
 use Rattle.mg_script.specs.declared.outcome.Turned.{Turned}
 
 -- so many commands were started between two states of a log, where it is told
-abbrev pub StartedBy : ℕ → Told → Told → Type 0
+abbrev pub StartedBy : ℕ → LogTold → LogTold → Type 0
 StartedBy n old new = (calls : List Call) → old ≡ Some calls → (calls' : List Call) × (new ≡ Some calls') × (length calls' ≡ length calls + n)
 
 -- the count of pending replies rose by one, or is the same
@@ -20,15 +20,15 @@ abbrev pub Faultless : List Call → List Call → Type 0
 Faultless calls calls' = (place : ℕ) (call : Call) → slice_get calls' place ≡ Some call → call.seen ≡ fault → slice_get calls place ≡ Some call
 
 -- the same of logs that are told
-abbrev pub LosesNothing : Told → Told → Type 0
+abbrev pub LosesNothing : LogTold → LogTold → Type 0
 LosesNothing log log' = (calls : List Call) → log ≡ Some calls → (calls' : List Call) × (log' ≡ Some calls') × Faultless calls calls'
 
 -- a link that was prompt is so still, let nothing pend, and lost nothing
-abbrev pub StayedPrompt : Told → Told → Type 0 → Type 0 → Type 0 → Type 0
+abbrev pub StayedPrompt : LogTold → LogTold → Type 0 → Type 0 → Type 0 → Type 0
 StayedPrompt old new prompts prompts' none_pended = prompts → prompts' × none_pended × LosesNothing old new
 
 -- what was counted since a turn began is true of the link: so many commands, and so many polls that pended
-pub record Counted (old new : Told) (started pended before now : ℕ) (prompts prompts' : Type 0) : Type 0 where
+pub record Counted (old new : LogTold) (started pended before now : ℕ) (prompts prompts' : Type 0) : Type 0 where
   pub starts : StartedBy started old new
   pub stays : Stays old new
   pub pends : pended < 2 ^ 64 - 1 → RoseJust pended before now
@@ -36,7 +36,7 @@ pub record Counted (old new : Told) (started pended before now : ℕ) (prompts p
   pub prompt : StayedPrompt old new prompts prompts' (pended ≡ 0)
 
 -- The note is true of the turn: it started so many commands, and one poll of it pended where the note says so, else none.
-pub record IsNoted (note : Turned) (old new : Told) (before now : ℕ) (prompts prompts' : Type 0) : Type 0 where
+pub record IsNoted (note : Turned) (old new : LogTold) (before now : ℕ) (prompts prompts' : Type 0) : Type 0 where
   pub starts : StartedBy note.started old new
   pub stays : Stays old new
   pub pends : RoseIf note.pended before now
@@ -66,11 +66,11 @@ pub data NewestAt (held : Option ℕ) (began : Awaited) (calls calls' : List Cal
   was_held : length calls' ≡ length calls → (n : ℕ) → held ≡ Some n → began n ≡ Some place → NewestAt held began calls calls' place
 
 -- the same of logs that are told
-abbrev pub IsNewest : Option ℕ → Awaited → (from to : Told) → ℕ → Type 0
+abbrev pub IsNewest : Option ℕ → Awaited → (from to : LogTold) → ℕ → Type 0
 IsNewest held began from to place = (calls : List Call) → from ≡ Some calls → (calls' : List Call) × (to ≡ Some calls') × NewestAt held began calls calls' place
 
 -- where a ticket is held, its call is the newest of the turn
-abbrev pub HoldsNewest : (held after : Option ℕ) → (began now : Awaited) → (from to : Told) → Type 0
+abbrev pub HoldsNewest : (held after : Option ℕ) → (began now : Awaited) → (from to : LogTold) → Type 0
 HoldsNewest held after began now from to = (n place : ℕ) → after ≡ Some n → now n ≡ Some place → IsNewest held began from to place
 
 -- one where a turn pended
@@ -85,14 +85,14 @@ PolledBy (suc n) own before now = (between : Polls) × PolledBy n own before bet
 
 -- The tickets and the polls of a turn, of which so many pended: no ticket of its own is out but this one, that of its newest call, and no other call was
 -- polled and pended.
-pub record IsOwnTurn (held : Option ℕ) (began now : Awaited) (from to : Told) (out : Option ℕ) (pended : ℕ) (before after : Polls) : Type 0 where
+pub record IsOwnTurn (held : Option ℕ) (began now : Awaited) (from to : LogTold) (out : Option ℕ) (pended : ℕ) (before after : Polls) : Type 0 where
   pub others : OthersStay held began now
   pub only : (n : ℕ) → IsSome (shown held began now n) → out ≡ Some n
   pub newest : HoldsNewest held out began now from to
   pub polls : pended < 2 ^ 64 - 1 → PolledBy pended (IsNewest held began from to) before after
 
 -- One poll of a turn pended, or none: that was of the newest call of the turn, and so is the ticket that its job holds behind it.
-pub record PolledNewest (pended : Bool) (held after : Option ℕ) (began now : Awaited) (from to : Told) (polls polls' : Polls) : Type 0 where
+pub record PolledNewest (pended : Bool) (held after : Option ℕ) (began now : Awaited) (from to : LogTold) (polls polls' : Polls) : Type 0 where
   pub polled : PolledBy (one_if pended) (IsNewest held began from to) polls polls'
   pub holds : HoldsNewest held after began now from to
 
@@ -100,10 +100,10 @@ pub record PolledNewest (pended : Bool) (held after : Option ℕ) (began now : A
 
 -- Turn by turn the notes lead from one log, and one count of pending replies, to another. A turn started as many commands as its note says, behind those
 -- of the turns before it, and the count rose by one just where the note says that it pended.
-abbrev pub AreNoted : List Turned → (old new : Told) → (before now : ℕ) → Type 0
+abbrev pub AreNoted : List Turned → (old new : LogTold) → (before now : ℕ) → Type 0
 AreNoted [] old new before now = (new ≡ old) × (now ≡ before)
 AreNoted (note ∷ notes) old new before now =
-    (log : Told) × (count : ℕ) × StartedBy note.started old log × Stays old log × RoseIf note.pended before count × AreNoted notes log new count now
+    (log : LogTold) × (count : ℕ) × StartedBy note.started old log × Stays old log × RoseIf note.pended before count × AreNoted notes log new count now
 
 -- how many turns pended
 abbrev pub turns_pended : List Turned → ℕ

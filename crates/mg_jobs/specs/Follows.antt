@@ -5,7 +5,7 @@ use Rattle.mg_bson.specs.Literal.{◌⇒◌⨾◌, empty}
 use Rattle.mg_bson.specs.Raw.{fields}
 use Rattle.mg_link.specs.Commands.{as_collection, as_database, filter_stages}
 use Rattle.mg_link.specs.Follow.{Follow, FollowsOn, Knows, owing, owner_of}
-use Rattle.mg_link.specs.Link.{Awaited, Told}
+use Rattle.mg_link.specs.Link.{Awaited, LogTold}
 use Rattle.mg_link.specs.Log.{Call}
 use Rattle.mg_link.specs.Namespace.{Target, database, collection, cluster, target}
 use Rattle.mg_link.specs.declared.namespace.OperationTarget.{OperationTarget}
@@ -228,7 +228,7 @@ abbrev pub same_place : Placing
 same_place at = at
 
 -- It went from one stage to another: it goes on knowing, and leaves every other job alone.
-abbrev pub FollowMoves : Awaited → Awaited → Told → Told → Stage → FollowPlayer → Stage → FollowPlayer → Placing → Type 0
+abbrev pub FollowMoves : Awaited → Awaited → LogTold → LogTold → Stage → FollowPlayer → Stage → FollowPlayer → Placing → Type 0
 FollowMoves old new log log' s p s' p' next = (calls : List Call) → log ≡ Some calls → (o : Owner) (at : Option ℕ) → FollowKnows old calls s p o at
     → (calls' : List Call) × (log' ≡ Some calls') × FollowTook new calls calls' s' p' o (next at)
 
@@ -250,12 +250,12 @@ pub record FollowsNothing (awaited : Awaited) (calls : List Call) (s : Stage) (p
   pub never : HasGiven p.opened → StandsNowhere calls
 
 -- It went from one stage to another, and leaves every other job alone.
-abbrev pub VainMoves : Awaited → Awaited → Told → Told → Stage → FollowPlayer → Stage → FollowPlayer → Type 0
+abbrev pub VainMoves : Awaited → Awaited → LogTold → LogTold → Stage → FollowPlayer → Stage → FollowPlayer → Type 0
 VainMoves old new log log' s p s' p' = (calls : List Call) → log ≡ Some calls → FollowsNothing old calls s p
     → (calls' : List Call) × (log' ≡ Some calls') × FollowsNothing new calls' s' p' × Passes calls calls' nobody nobody
 
 -- A follow took a part of a turn, whatever it watches.
-pub record FollowTurns (old new : Awaited) (log log' : Told) (s : Stage) (p : FollowPlayer) (s' : Stage) (p' : FollowPlayer) (next : Placing) : Type 0 where
+pub record FollowTurns (old new : Awaited) (log log' : LogTold) (s : Stage) (p : FollowPlayer) (s' : Stage) (p' : FollowPlayer) (next : Placing) : Type 0 where
   pub watching : FollowMoves old new log log' s p s' p' next
   pub vainly : VainMoves old new log log' s p s' p'
 

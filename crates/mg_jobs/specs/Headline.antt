@@ -3,7 +3,7 @@ use Rattle.std.specs.Prelude.{◌≡◌, ◌⊎◌, ◌++◌, ℕ, List, [], Opt
 use Rattle.std.specs.declared.alloc.Global.{Global}
 use Rattle.mg_bson.specs.Tree.{Fields, Tree}
 use Rattle.mg_bson.specs.View.{tree}
-use Rattle.mg_link.specs.Link.{Awaited, Told}
+use Rattle.mg_link.specs.Link.{Awaited, LogTold}
 use Rattle.mg_link.specs.Log.{Call}
 use Rattle.mg_link.specs.Namespace.{space, target}
 use Rattle.mg_link.specs.Owner.{Owner, AreApart, NamesItsOwn, nobody}
@@ -106,11 +106,11 @@ pub record AllKnow (awaited : Awaited) (calls : List Call) (players : List Playe
 abbrev pub Took : Awaited → List Call → List Call → Player → Owner → Option ℕ → Type 0
 Took = words.Took Plays
 
-abbrev pub Turns : Awaited → Awaited → Told → Told → Player → Player → Placing → Type 0
+abbrev pub Turns : Awaited → Awaited → LogTold → LogTold → Player → Player → Placing → Type 0
 Turns = words.Turns Plays
 
 -- how a run stands that began with one log and has another
-abbrev pub Knowing : Awaited → Told → Told → List Player → Type 0
+abbrev pub Knowing : Awaited → LogTold → LogTold → List Player → Type 0
 Knowing awaited log log' players = (calls : List Call) → log ≡ Some calls → (calls' : List Call) × (log' ≡ Some calls')
     × AllKnow awaited calls' players × (NamesItsOwn calls → NamesItsOwn calls')
 
@@ -155,11 +155,11 @@ pub record Made (players rest : List Player) (outcomes : List Outcome) : Type 0 
   pub of : OutcomesOf gone outcomes
 
 -- Over a link that tells its log, each follow's answers are as they should be, and the log goes on naming its own cursors only, call by call.
-abbrev pub AllFollowed : Told → Told → List Task → List ℕ → List Turned → List Outcome → Type 0
+abbrev pub AllFollowed : LogTold → LogTold → List Task → List ℕ → List Turned → List Outcome → Type 0
 AllFollowed log log' tasks order notes outcomes = (calls : List Call) → log ≡ Some calls → (calls' : List Call) × (log' ≡ Some calls')
     × ((i : ℕ) (t : Task) (r : Outcome) → slice_get tasks i ≡ Some t → slice_get outcomes i ≡ Some r → OutcomeFollowed (course calls order notes) i calls' t r)
     × (NamesItsOwn calls → NamesItsOwn calls')
 
 -- a log that names its own cursors only, call by call, goes on doing so
-abbrev pub GoesOnNaming : Told → Told → Type 0
+abbrev pub GoesOnNaming : LogTold → LogTold → Type 0
 GoesOnNaming log log' = (calls : List Call) → log ≡ Some calls → (calls' : List Call) × (log' ≡ Some calls') × (NamesItsOwn calls → NamesItsOwn calls')

@@ -3,7 +3,7 @@ use Rattle.std.specs.List.{concat}
 use Rattle.std.specs.Prelude.{◌≡◌, ◌⊎◌, ◌<◌, ◌≤◌, ◌++◌, ℕ, ℤ, Bool, suc, List, length, Option, Some, slice_get}
 use Rattle.mg_link.specs.Acts.{IsOut, Tickets}
 use Rattle.mg_link.specs.Calls.{AddsOnly}
-use Rattle.mg_link.specs.Link.{Awaited, Told}
+use Rattle.mg_link.specs.Link.{Awaited, LogTold}
 use Rattle.mg_link.specs.Log.{Call}
 use Rattle.mg_link.specs.Owner.{IsOf, Owner, Passes}
 use Rattle.mg_jobs.specs.Causes.{sent_since}
@@ -62,7 +62,7 @@ pub record Took {P : Type 0} (knows : Knowledge P) (awaited : Awaited) (calls ca
   pub passes : Passes calls calls' o owner
 
 -- A job took a turn: it knows what it should, and leaves every other job alone.
-abbrev pub Turns : {P : Type 0} → Knowledge P → Awaited → Awaited → Told → Told → P → P → Placing → Type 0
+abbrev pub Turns : {P : Type 0} → Knowledge P → Awaited → Awaited → LogTold → LogTold → P → P → Placing → Type 0
 Turns knows old new log log' p p' next = (calls : List Call) → log ≡ Some calls → (o : Owner) (at : Option ℕ) → knows old calls p o at
     → (calls' : List Call) × (log' ≡ Some calls') × Took knows new calls calls' p' o (next at)
 
@@ -79,7 +79,7 @@ abbrev pub AnySent : Task → Type 0
 AnySent t = Unit {0}
 
 -- A turn led a job from one state to another: it goes on telling, where its task is sent as one of which this holds.
-abbrev pub TurnTells : {P : Type 0} → (P → Task) → Account P → (P → ℕ) → (Task → Type 0) → Awaited → Awaited → Told → Told → ℤ → P → P → Placing → Type 0
+abbrev pub TurnTells : {P : Type 0} → (P → Task) → Account P → (P → ℕ) → (Task → Type 0) → Awaited → Awaited → LogTold → LogTold → ℤ → P → P → Placing → Type 0
 TurnTells does says number so old new log log' wire p p' next = (calls calls' : List Call) → log ≡ Some calls → log' ≡ Some calls' → (ids : ℕ → List ℕ) (n : ℕ) → so (sent_from ids n (does p)) → (q : Places) (at : Option ℕ)
     → says old calls wire q (sent_from ids n (does p)) p at → TellsBehind says number new calls calls' wire (sent_from ids n (does p)) q (number p) p' (next at)
 
@@ -89,7 +89,7 @@ pub record TellsAs {P : Type 0} (does : P → Task) (says : Account P) (number :
   pub tells : (awaited : Awaited) (calls : List Call) (wire : ℤ) (q : Places) (ids : ℕ → List ℕ) (n : ℕ) (at : Option ℕ) → so (sent_from ids n (does p)) → says awaited calls wire q (sent_from ids n (does p)) p at → says awaited calls wire q (sent_from ids n (does p)) p' at
 
 -- what a turn does to its job, to the link's tickets, and to what the job knows of its server, and tells where its task is sent as one of which this holds
-pub record Goes {P : Type 0} (ticket : P → Option ℕ) (keeps : ℤ → P → Type 0) (does : P → Task) (knows : Knowledge P) (says : Account P) (number : P → ℕ) (drew : P → Type 0) (so : Task → Type 0) (old new : Awaited) (log log' : Told) (wire : ℤ) (p p' : P) : Type 0 where
+pub record Goes {P : Type 0} (ticket : P → Option ℕ) (keeps : ℤ → P → Type 0) (does : P → Task) (knows : Knowledge P) (says : Account P) (number : P → ℕ) (drew : P → Type 0) (so : Task → Type 0) (old new : Awaited) (log log' : LogTold) (wire : ℤ) (p p' : P) : Type 0 where
   pub tickets : Tickets old new (ticket p) (ticket p')
   pub holds : keeps wire p'
   pub next : Placing

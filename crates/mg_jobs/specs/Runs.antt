@@ -1,6 +1,6 @@
 -- Jobs that share a link, turn by turn.
 use Rattle.std.specs.Prelude.{◌≡◌, ◌⊎◌, ℕ, ℤ, Bool, true, false, Option, Some, None, IsSome, List, length, slice_get}
-use Rattle.mg_link.specs.Link.{Awaited, Told}
+use Rattle.mg_link.specs.Link.{Awaited, LogTold}
 use Rattle.mg_jobs.specs.Headline.{Plays, task_of}
 use Rattle.mg_jobs.specs.Plays as words
 use Rattle.mg_jobs.specs.Playing.{HasRoom, IsSameFollow, StageHolds, follow_ended, insert_ended, job_ticket}
@@ -51,7 +51,7 @@ CanGo = words.CanGo job_ticket JobHolds
 -- ---- a turn
 
 -- what a turn does to its job
-abbrev pub Goes : (Task → Type 0) → Awaited → Awaited → Told → Told → ℤ → Player → Player → Type 0
+abbrev pub Goes : (Task → Type 0) → Awaited → Awaited → LogTold → LogTold → ℤ → Player → Player → Type 0
 Goes = words.Goes job_ticket JobHolds task_of Plays JobTells number_of JobHasIds
 
 -- a turn drew what its job needed from a source that gave these ids

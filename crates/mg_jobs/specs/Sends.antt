@@ -2,7 +2,7 @@
 use Rattle.std.specs.Prelude.{◌≡◌, ℕ, ℤ, List, Some, None, slice_get}
 use Rattle.mg_bson.specs.Tree.{Fields}
 use Rattle.mg_bson.specs.Raw.{fields}
-use Rattle.mg_link.specs.Link.{Told}
+use Rattle.mg_link.specs.Link.{LogTold}
 use Rattle.mg_link.specs.Log.{Call}
 use Rattle.mg_link.specs.Namespace.{Space}
 use Rattle.mg_ops.specs.Commands.{kill_command}
@@ -38,6 +38,6 @@ pub record SendsOnly (may : Fields → Type 0) (c : Course) (i : ℕ) (calls : L
   pub each : (k place : ℕ) (call : Call) → SentIn c i k place → slice_get calls place ≡ Some call → may (fields call.command)
 
 -- Over a link that tells its log, each command that a turn of a run sent is one that its job may send, where inserts draw these ids.
-abbrev pub AllSendOnly : (ℕ → List ℕ) → Told → Told → List Task → List ℕ → List Turned → Type 0
+abbrev pub AllSendOnly : (ℕ → List ℕ) → LogTold → LogTold → List Task → List ℕ → List Turned → Type 0
 AllSendOnly ids log log' tasks order notes = (calls : List Call) → log ≡ Some calls → (calls' : List Call) × (log' ≡ Some calls')
     × ((i : ℕ) (t : Task) → slice_get tasks i ≡ Some t → SendsOnly (MaySend (as_sent ids tasks order i t)) (course calls order notes) i calls')

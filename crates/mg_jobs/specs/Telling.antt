@@ -3,7 +3,7 @@ use Rattle.std.specs.Prelude.{◌≡◌, ◌↔◌, ◌⊎◌, ◌+◌, ◌≤�
 use Rattle.std.specs.List.{sum_by}
 use Rattle.mg_bson.specs.Tree.{Fields, Tree}
 use Rattle.mg_link.specs.Calls.{Past, past_of, AddsOnly}
-use Rattle.mg_link.specs.Link.{Awaited, Told}
+use Rattle.mg_link.specs.Link.{Awaited, LogTold}
 use Rattle.mg_link.specs.Log.{Call}
 use Rattle.mg_link.specs.Namespace.{Space, space, target}
 use Rattle.mg_link.specs.declared.error.Error.{Error}
@@ -134,15 +134,15 @@ pub record Tell (awaited : Awaited) (begun calls : List Call) (wire : ℤ) (v : 
   pub adds : AddsOnly (IsCommandOf (IsWatchArgs v)) begun calls
 
 -- A turn, or a part of one, led a follow from one stage to another: it goes on telling.
-abbrev pub FollowTells : Awaited → Awaited → Told → Told → ℤ → Stage → Kept → Stage → Kept → Placing → Type 0
+abbrev pub FollowTells : Awaited → Awaited → LogTold → LogTold → ℤ → Stage → Kept → Stage → Kept → Placing → Type 0
 FollowTells old new log log' wire s k s' k' next = (calls calls' : List Call) → log ≡ Some calls → log' ≡ Some calls' → (q : Places) (at : Option ℕ) → Tells old calls wire q s k at → Tell new calls calls' wire k.watched q (number s k) s' k' (next at)
 
 -- The same of the rest of a turn, behind the opening or behind an answered call.
-abbrev pub RestTells : Awaited → Told → Told → ℤ → ClientStream → Kept → Stage → Kept → Type 0
+abbrev pub RestTells : Awaited → LogTold → LogTold → ℤ → ClientStream → Kept → Stage → Kept → Type 0
 RestTells new log log' wire stream k s' k' = (calls calls' : List Call) → log ≡ Some calls → log' ≡ Some calls' → (q : Places) (at : Option ℕ) → q.now ≡ [] → IsOpened calls wire q k stream at → Tell new calls calls' wire k.watched q (length k.said) s' k' at
 
 -- A follow took a turn: it knows and tells that the same call opened its stream.
-pub record FollowGoesOn (old new : Awaited) (log log' : Told) (wire : ℤ) (s : Stage) (p : FollowPlayer) (s' : Stage) (p' : FollowPlayer) : Type 0 where
+pub record FollowGoesOn (old new : Awaited) (log log' : LogTold) (wire : ℤ) (s : Stage) (p : FollowPlayer) (s' : Stage) (p' : FollowPlayer) : Type 0 where
   pub next : Placing
   pub turned : FollowTurns old new log log' s p s' p' next
   pub told : FollowTells old new log log' wire s (kept p) s' (kept p') next
@@ -156,7 +156,7 @@ InsertTells awaited past at sent (inserts.Goes i) = HasSent awaited past at sent
 InsertTells awaited past at sent (inserts.Ended end) = EndsBy past at sent end
 
 -- A turn led an insert of these documents, which had sent at some places before, from one stage to another: it goes on telling.
-abbrev pub InsertTurns : Awaited → Awaited → Told → Told → ℤ → Space → List Fields → InsertStage → InsertStage → Type 0
+abbrev pub InsertTurns : Awaited → Awaited → LogTold → LogTold → ℤ → Space → List Fields → InsertStage → InsertStage → Type 0
 InsertTurns old new log log' wire at sent stage stage' = (calls calls' : List Call) → log ≡ Some calls → log' ≡ Some calls' → (places : List ℕ)
     → InsertTells old (sent_at places calls wire) at sent stage → InsertTells new (past_of places (length calls) calls' wire) at sent stage' × AddsOnly (IsInsertOf at sent) calls calls'
 
@@ -167,7 +167,7 @@ StageSent at sent commands (inserts.Goes i) = HasSentPieces at sent commands i
 StageSent at sent commands (inserts.Ended end) = EndsSent at sent commands end
 
 -- A turn led an insert of these documents from one stage to another: it sent just these commands more.
-abbrev pub StageSends : Told → Told → Space → List Fields → InsertStage → InsertStage → Type 0
+abbrev pub StageSends : LogTold → LogTold → Space → List Fields → InsertStage → InsertStage → Type 0
 StageSends log log' at sent stage stage' = (commands : List Fields) → StageSent at sent commands stage → (more : List Fields) × AddsJust log log' more × StageSent at sent (commands ++ more) stage'
 
 -- an insert that drew its ids from a source that gave these tells what it should, and has sent nothing
@@ -214,7 +214,7 @@ number_of (player.Get job) = 0
 abbrev pub TellsBehind : Awaited → List Call → List Call → ℤ → Task → Places → ℕ → Player → Option ℕ → Type 0
 TellsBehind = words.TellsBehind JobTells number_of
 
-abbrev pub TurnTells : (Task → Type 0) → Awaited → Awaited → Told → Told → ℤ → Player → Player → Placing → Type 0
+abbrev pub TurnTells : (Task → Type 0) → Awaited → Awaited → LogTold → LogTold → ℤ → Player → Player → Placing → Type 0
 TurnTells so = words.TurnTells task_of JobTells number_of so
 
 abbrev pub TellsAs : (Task → Type 0) → Player → Player → Type 0
@@ -249,5 +249,5 @@ pub record AllTold (ids : ℕ → List ℕ) (awaited : Awaited) (calls : List Ca
   pub newest : (i : ℕ) (p : Player) (n place : ℕ) → slice_get players i ≡ Some p → job_ticket p ≡ Some n → awaited n ≡ Some place → SentNoneBehind c i place
 
 -- how a run knows and tells that began with one log and these ids, and has another log
-abbrev pub AllTell : (ℕ → List ℕ) → Awaited → Told → Told → ℤ → List Task → List ℕ → List Turned → List Player → Type 0
+abbrev pub AllTell : (ℕ → List ℕ) → Awaited → LogTold → LogTold → ℤ → List Task → List ℕ → List Turned → List Player → Type 0
 AllTell ids awaited log log' wire tasks order notes players = (calls : List Call) → log ≡ Some calls → (calls' : List Call) × (log' ≡ Some calls') × (known : AllKnow awaited calls' players) × AllTold ids awaited calls' wire (course calls order notes) tasks players known.places

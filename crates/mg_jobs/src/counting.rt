@@ -1,6 +1,6 @@
 //! A link over which the commands of a turn are counted.
 ghost use Rattle.std.specs.Prelude.{◌≡◌, ℕ, Option, nat_lt};
-ghost use Rattle.mg_link.specs.Link.{Awaited, Polls, Told};
+ghost use Rattle.mg_link.specs.Link.{Awaited, Polls, LogTold};
 ghost use Rattle.mg_jobs.specs.Counts.{Counted, IsOwnTurn};
 
 use mg_bson::RawDocument;
@@ -11,7 +11,7 @@ use std::marker::{Brand, Model, PhantomData};
 /// What a turn began with, for proofs alone.
 pub(crate) trait Began {
     /// The calls of the link, where it tells them.
-    ghost calls: { Told };
+    ghost calls: { LogTold };
 
     /// Its tickets that were out.
     ghost awaited: { Awaited };

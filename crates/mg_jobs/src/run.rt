@@ -2,7 +2,7 @@
 ghost use Rattle.std.specs.Prelude.{◌≡◌, ◌≤◌, ◌<◌, ◌++◌, ◌∷◌, ◌⊎◌, ℕ, [], false, true, length, take, List, IfErr, IfOk, IfSome, OnErr, OnOk, Ok, Err, Some};
 ghost use Rattle.std.specs.List.{All, sum_by};
 ghost use Rattle.mg_link.specs.Errors.{plain};
-ghost use Rattle.mg_link.specs.Link.{Awaited, Later, Told};
+ghost use Rattle.mg_link.specs.Link.{Awaited, Later, LogTold};
 ghost use Rattle.mg_link.specs.Causes.{RoseJust};
 ghost use Rattle.mg_jobs.specs.Counts.{AreNoted, IsNoted, LosesNothing, PolledNewest, StartedBy, turns_pended};
 ghost use Rattle.mg_ops.specs.Drawn.{AreLater};
@@ -185,7 +185,7 @@ impl<'a> Runner<'a> {
         // No ticket is out but those of jobs, and those that were out before.
         ensures none_lost { (before : Awaited) → AreHeld before (L.awaited link.old) (players_of self.old) → AreHeld before (L.awaited link.new) (players_of self.new) }
         // The jobs go on knowing what they should, and none touches a cursor of another.
-        ensures knowing { (begun : Told) → Knowing (L.awaited link.old) begun (L.log link.old) (players_of self.old) → Knowing (L.awaited link.new) begun (L.log link.new) (players_of self.new) }
+        ensures knowing { (begun : LogTold) → Knowing (L.awaited link.old) begun (L.log link.old) (players_of self.old) → Knowing (L.awaited link.new) begun (L.log link.new) (players_of self.new) }
         ensures tasks { (ts : List Task) → DoTasks ts (players_of self.old) → DoTasks ts (players_of self.new) }
         // A turn that did not pend brings its job on, as its note says.
         ensures rows { OnOk result ((ts : List Task) (order : List ℕ) → length order ≡ length (notes_of self.old) → AllAt ts order (notes_of self.old) (players_of self.old)
@@ -194,14 +194,14 @@ impl<'a> Runner<'a> {
         ensures drawn { OnOk result ((first : ℕ → List ℕ) (ts : List Task) (order : List ℕ) → DoTasks ts (players_of self.old)
             → HaveDrawn first (I.ids ids.old) ts order (players_of self.old) → HaveDrawn first (I.ids ids.new) ts (order ++ job ∷ []) (players_of self.new)) }
         // Each job goes on telling what caused its answers, and what it sends.
-        ensures told { OnOk result ((first : ℕ → List ℕ) (begun : Told) (ts : List Task) (order : List ℕ) → length order ≡ length (notes_of self.old) → AllAt ts order (notes_of self.old) (players_of self.old)
+        ensures told { OnOk result ((first : ℕ → List ℕ) (begun : LogTold) (ts : List Task) (order : List ℕ) → length order ≡ length (notes_of self.old) → AllAt ts order (notes_of self.old) (players_of self.old)
             → HaveDrawn first (I.ids ids.old) ts order (players_of self.old)
             → AllTell first (L.awaited link.old) begun (L.log link.old) (L.wire link.old) ts order (notes_of self.old) (players_of self.old)
             → AllTell first (L.awaited link.new) begun (L.log link.new) (L.wire link.new) ts (order ++ job ∷ []) (notes_of self.new) (players_of self.new)) }
         // One poll pended just where the note says so, and that of the newest command of its own job: the last one of this turn,
         // or, where it sent none, the last one before, where its newest turn before pended too.
         ensures polled { OnOk result ((note : _) × (notes_of self.new ≡ notes_of self.old ++ note ∷ [])
-            × ((first : ℕ → List ℕ) (begun : Told) (ts : List Task) (order : List ℕ) → AllAt ts order (notes_of self.old) (players_of self.old)
+            × ((first : ℕ → List ℕ) (begun : LogTold) (ts : List Task) (order : List ℕ) → AllAt ts order (notes_of self.old) (players_of self.old)
             → HaveDrawn first (I.ids ids.old) ts order (players_of self.old)
             → AllTell first (L.awaited link.old) begun (L.log link.old) (L.wire link.old) ts order (notes_of self.old) (players_of self.old)
             → PollsOwn begun order (notes_of self.old) job note (L.polls link.old) (L.polls link.new))) }
@@ -272,18 +272,18 @@ fn play<L: Link, I: IdSource>(
     ensures lossless { L.prompt link.old → OnOk result (LosesNothing (L.log link.old) (L.log link.new)) }
     ensures jobs { length runner.new.players.items ≡ length runner.old.players.items }
     ensures none_lost { (before : Awaited) → AreHeld before (L.awaited link.old) runner.old.players.items → AreHeld before (L.awaited link.new) runner.new.players.items }
-    ensures knowing { (begun : Told) → Knowing (L.awaited link.old) begun (L.log link.old) runner.old.players.items → Knowing (L.awaited link.new) begun (L.log link.new) runner.new.players.items }
+    ensures knowing { (begun : LogTold) → Knowing (L.awaited link.old) begun (L.log link.old) runner.old.players.items → Knowing (L.awaited link.new) begun (L.log link.new) runner.new.players.items }
     ensures tasks { (ts : List Task) → DoTasks ts runner.old.players.items → DoTasks ts runner.new.players.items }
     ensures rows { OnOk result ((ts : List Task) → AllAt ts [] [] runner.old.players.items → AllAt ts order.now runner.new.turns.items runner.new.players.items) }
     ensures drawn { OnOk result ((first : ℕ → List ℕ) (ts : List Task) → DoTasks ts runner.old.players.items → HaveDrawn first (I.ids ids.old) ts [] runner.old.players.items
         → HaveDrawn first (I.ids ids.new) ts order.now runner.new.players.items) }
     ensures stopped { (first : ℕ → List ℕ) (ts : List Task) → DoTasks ts runner.old.players.items → HaveDrawn first (I.ids ids.old) ts [] runner.old.players.items
         → (n : ℕ) × AreLater first (drawn_in ts (take n order.now)) (I.ids ids.new) }
-    ensures told { OnOk result ((first : ℕ → List ℕ) (begun : Told) (ts : List Task) → DoTasks ts runner.old.players.items → AllAt ts [] [] runner.old.players.items
+    ensures told { OnOk result ((first : ℕ → List ℕ) (begun : LogTold) (ts : List Task) → DoTasks ts runner.old.players.items → AllAt ts [] [] runner.old.players.items
         → HaveDrawn first (I.ids ids.old) ts [] runner.old.players.items
         → AllTell first (L.awaited link.old) begun (L.log link.old) (L.wire link.old) ts [] [] runner.old.players.items
         → AllTell first (L.awaited link.new) begun (L.log link.new) (L.wire link.new) ts order.now runner.new.turns.items runner.new.players.items) }
-    ensures polled { OnOk result ((first : ℕ → List ℕ) (begun : Told) (ts : List Task) → DoTasks ts runner.old.players.items → AllAt ts [] [] runner.old.players.items
+    ensures polled { OnOk result ((first : ℕ → List ℕ) (begun : LogTold) (ts : List Task) → DoTasks ts runner.old.players.items → AllAt ts [] [] runner.old.players.items
         → HaveDrawn first (I.ids ids.old) ts [] runner.old.players.items
         → AllTell first (L.awaited link.old) begun (L.log link.old) (L.wire link.old) ts [] [] runner.old.players.items
         → AllPollOwn begun order.now runner.new.turns.items (L.polls link.old) (L.polls link.new)) }

@@ -5,7 +5,7 @@ use Rattle.mg_bson.specs.Tree.{Fields}
 use Rattle.mg_bson.specs.Raw.{fields}
 use Rattle.mg_link.specs.Calls.{AddsOnly, Keeps}
 use Rattle.mg_link.specs.Exec.{Attempt, not_sent, waits, answered, Stage, unsent, first, second, Sending, Begins, GoesOn, Runs, Tries}
-use Rattle.mg_link.specs.Link.{Awaited, Told, Adds, Sees}
+use Rattle.mg_link.specs.Link.{Awaited, LogTold, Adds, Sees}
 use Rattle.mg_link.specs.Log.{Sight, waiting, Call, see}
 use Rattle.mg_link.specs.declared.action.Step.{Step}
 use Rattle.mg_link.proofs.Calls.{keeps_on, same_keeps, see_keeps}
@@ -61,44 +61,44 @@ adds_seen may k seen calls call found here = record {
 }
 
 -- the same of logs that are told
-abbrev AddsTold : (Fields → Type 0) → Told → Told → Type 0
+abbrev AddsTold : (Fields → Type 0) → LogTold → LogTold → Type 0
 AddsTold may log log' = (calls : List Call) → log ≡ Some calls → (calls' : List Call) × (log' ≡ Some calls') × AddsOnly may calls calls'
 
 module _ (may : Fields → Type 0) where
-  told_none : (log log' : Told) → log' ≡ log → AddsTold may log log'
+  told_none : (log log' : LogTold) → log' ≡ log → AddsTold may log log'
   told_none log log' same calls told = (calls, same ∙ told, adds_none may calls)
 
-  told_on : (log mid log' : Told) → AddsTold may log mid → AddsTold may mid log' → AddsTold may log log'
+  told_on : (log mid log' : LogTold) → AddsTold may log mid → AddsTold may mid log' → AddsTold may log log'
   told_on log mid log' p q calls told =
       let x = p calls told in
       let y = q x.0 x.1 in
       (y.0, y.1, adds_on may calls x.0 y.0 x.2 y.2)
 
-  told_adds : (log log' : Told) (command : List ℕ) (seen : Sight) → may (fields command) → Adds log log' command seen → AddsTold may log log'
+  told_adds : (log log' : LogTold) (command : List ℕ) (seen : Sight) → may (fields command) → Adds log log' command seen → AddsTold may log log'
   told_adds log log' command seen is adds calls told =
       let add = adds calls told in
       let call : Call = record { command = command; position = add.0; seen = seen } in
       (calls ++ call ∷ [], add.1, adds_call may calls call is)
 
-  told_sees : (log log' : Told) (place : Option ℕ) (seen : Sight) → Sees log log' place seen → AddsTold may log log'
+  told_sees : (log log' : LogTold) (place : Option ℕ) (seen : Sight) → Sees log log' place seen → AddsTold may log log'
   told_sees log log' place seen sees calls told = let s = sees calls told in (see s.0 seen calls, s.5, adds_seen may s.0 seen calls s.1 s.3 s.4)
 
-  told_begun : (old new : Awaited) (log log' : Told) (command : List ℕ) (attempt : Attempt) → may (fields command) → Begins old new log log' command attempt → AddsTold may log log'
+  told_begun : (old new : Awaited) (log log' : LogTold) (command : List ℕ) (attempt : Attempt) → may (fields command) → Begins old new log log' command attempt → AddsTold may log log'
   told_begun old new log log' command not_sent is b = told_none log log' b.log_same
   told_begun old new log log' command (waits ticket) is b = told_adds log log' command waiting is b.adds
   told_begun old new log log' command (answered seen) is b = told_adds log log' command seen is b.adds
 
-  told_gone_on : (old new : Awaited) (log log' : Told) (ticket : ℕ) (attempt : Attempt) → GoesOn old new log log' ticket attempt → AddsTold may log log'
+  told_gone_on : (old new : Awaited) (log log' : LogTold) (ticket : ℕ) (attempt : Attempt) → GoesOn old new log log' ticket attempt → AddsTold may log log'
   told_gone_on old new log log' ticket not_sent g = absurd g
   told_gone_on old new log log' ticket (waits given) g = told_none log log' g.log_same
   told_gone_on old new log log' ticket (answered seen) g = told_sees log log' (old ticket) seen g.sees
 
-  told_tried : (old new : Awaited) (log log' : Told) (command : List ℕ) (stage : Stage) (attempt : Attempt) → may (fields command) → Tries old new log log' command stage attempt → AddsTold may log log'
+  told_tried : (old new : Awaited) (log log' : LogTold) (command : List ℕ) (stage : Stage) (attempt : Attempt) → may (fields command) → Tries old new log log' command stage attempt → AddsTold may log log'
   told_tried old new log log' command unsent attempt is t = told_begun old new log log' command attempt is t
   told_tried old new log log' command (first ticket) attempt is t = told_gone_on old new log log' ticket attempt t
   told_tried old new log log' command (second ticket) attempt is t = told_gone_on old new log log' ticket attempt t
 
-  told_ran : (old new : Awaited) (log log' : Told) (wire : ℤ) (s : Sending) (result : Step Sending (List ℕ)) → may (fields s.command) → Runs old new log log' wire s result → AddsTold may log log'
+  told_ran : (old new : Awaited) (log log' : LogTold) (wire : ℤ) (s : Sending) (result : Step Sending (List ℕ)) → may (fields s.command) → Runs old new log log' wire s result → AddsTold may log log'
   told_ran old new log log' wire s result is (inl once) = told_tried old new log log' s.command s.stage once.attempt is once.tries
   told_ran old new log log' wire s result is (inr twice) =
       told_on log twice.log_between log'
@@ -106,7 +106,7 @@ module _ (may : Fields → Type 0) where
       (told_begun twice.between new twice.log_between log' s.command twice.again is twice.begins)
 
 -- A poll of a request adds its command alone.
-pub adds_ran : (may : Fields → Type 0) (old new : Awaited) (log log' : Told) (wire : ℤ) (s : Sending) (result : Step Sending (List ℕ)) → may (fields s.command) → Runs old new log log' wire s result → (calls calls' : List Call) → log ≡ Some calls → log' ≡ Some calls' → AddsOnly may calls calls'
+pub adds_ran : (may : Fields → Type 0) (old new : Awaited) (log log' : LogTold) (wire : ℤ) (s : Sending) (result : Step Sending (List ℕ)) → may (fields s.command) → Runs old new log log' wire s result → (calls calls' : List Call) → log ≡ Some calls → log' ≡ Some calls' → AddsOnly may calls calls'
 adds_ran may old new log log' wire s result is runs calls calls' told told' =
     let x = told_ran may old new log log' wire s result is runs calls told in
     subst (λ (l : List Call). AddsOnly may calls l) (same_some x.0 calls' (sym x.1 ∙ told')) x.2

@@ -52,7 +52,7 @@ popped history f from place e rest legal is reached g =
     }
 
 -- An event was answered: its `_id` is the token now.
-pub event_answered : (log log' : link.Told) (f : Follow) (e : Fields) (rest : List Fields) (id : Tree) → f.doing ≡ holding → f.ahead ≡ e ∷ rest → get (codes "_id") e ≡ Some id → log' ≡ log
+pub event_answered : (log log' : link.LogTold) (f : Follow) (e : Fields) (rest : List Fields) (id : Tree) → f.doing ≡ holding → f.ahead ≡ e ∷ rest → get (codes "_id") e ≡ Some id → log' ≡ log
     → Moved log log' f (answering f holding rest (Some id) (f.answered ++ e ∷ []))
 event_answered log log' f e rest id is ahead id_is same calls told = (
   calls,
@@ -77,7 +77,7 @@ event_answered log log' f e rest id is ahead id_is same calls told = (
 )
 
 -- An event without `_id` was taken: no legal history gives one.
-pub event_taken : (log log' : link.Told) (f : Follow) (e : Fields) (rest : List Fields) → f.doing ≡ holding → f.ahead ≡ e ∷ rest → get (codes "_id") e ≡ None → log' ≡ log → Moved log log' f (answering f holding rest f.token f.answered)
+pub event_taken : (log log' : link.LogTold) (f : Follow) (e : Fields) (rest : List Fields) → f.doing ≡ holding → f.ahead ≡ e ∷ rest → get (codes "_id") e ≡ None → log' ≡ log → Moved log log' f (answering f holding rest f.token f.answered)
 event_taken log log' f e rest is ahead none same calls told = (
   calls,
   same ∙ told,
@@ -95,7 +95,7 @@ event_taken log log' f e rest is ahead none same calls told = (
 )
 
 -- the same where it was the last of its batch
-pub last_taken : (log log' : link.Told) (f : Follow) (e : Fields) → f.doing ≡ holding → f.ahead ≡ e ∷ [] → get (codes "_id") e ≡ None → log' ≡ log → Moved log log' f (answering f resting [] f.token f.answered)
+pub last_taken : (log log' : link.LogTold) (f : Follow) (e : Fields) → f.doing ≡ holding → f.ahead ≡ e ∷ [] → get (codes "_id") e ≡ None → log' ≡ log → Moved log log' f (answering f resting [] f.token f.answered)
 last_taken log log' f e is ahead none same calls told = (
   calls,
   same ∙ told,
@@ -119,7 +119,7 @@ marks_end s start from (Some u) token answered place named last = subst (λ (t :
 marks_end s start from None token answered place named last = absurd named
 
 -- All of the batch is answered: the token is that of the batch.
-pub batch_done : (log log' : link.Told) (f : Follow) (token : Option Tree) (answered : List Fields) → f.doing ≡ holding → ((u : Tree) → f.upto ≡ Some u → token ≡ Some u) → answered ≡ f.answered ++ f.ahead → log' ≡ log
+pub batch_done : (log log' : link.LogTold) (f : Follow) (token : Option Tree) (answered : List Fields) → f.doing ≡ holding → ((u : Tree) → f.upto ≡ Some u → token ≡ Some u) → answered ≡ f.answered ++ f.ahead → log' ≡ log
     → Moved log log' f (answering f resting [] token answered)
 batch_done log log' f token answered is last all same calls told = (
   calls,
@@ -157,11 +157,11 @@ empty_is (Some t) before u e = e
 empty_is None before u e = absurd cc
 
 -- The last event of a batch was answered.
-pub last_answered : (log log' : link.Told) (f : Follow) (e : Fields) (id : Tree) → f.doing ≡ holding → f.ahead ≡ e ∷ [] → log' ≡ log → Moved log log' f (answering f resting [] (last_token f.upto id) (f.answered ++ e ∷ []))
+pub last_answered : (log log' : link.LogTold) (f : Follow) (e : Fields) (id : Tree) → f.doing ≡ holding → f.ahead ≡ e ∷ [] → log' ≡ log → Moved log log' f (answering f resting [] (last_token f.upto id) (f.answered ++ e ∷ []))
 last_answered log log' f e id is ahead same = batch_done log log' f (last_token f.upto id) (f.answered ++ e ∷ []) is (last_is f.upto id) (ap (λ (l : List Fields). f.answered ++ l) (sym ahead)) same
 
 -- A batch came empty, and Nothing was answered.
-pub nothing_answered : (log log' : link.Told) (f : Follow) → f.doing ≡ holding → f.ahead ≡ [] → log' ≡ log → Moved log log' f (answering f resting [] (empty_token f.upto f.token) f.answered)
+pub nothing_answered : (log log' : link.LogTold) (f : Follow) → f.doing ≡ holding → f.ahead ≡ [] → log' ≡ log → Moved log log' f (answering f resting [] (empty_token f.upto f.token) f.answered)
 nothing_answered log log' f is ahead same = batch_done log log' f (empty_token f.upto f.token) f.answered is (empty_is f.upto f.token) (sym (append-nil f.answered) ∙ ap (λ (l : List Fields). f.answered ++ l) (sym ahead)) same
 
 -- ---- what this comes to

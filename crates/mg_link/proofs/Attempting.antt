@@ -3,7 +3,7 @@ use Rattle.std.proofs.Common.{◌≡◌, ◌++◌, ◌∷◌, ℕ, List, [], len
 use Rattle.std.specs.Prelude.{IsSome}
 use Rattle.std.proofs.lemmas.Bool.{cases_eq}
 use Rattle.mg_link.specs.Log.{Sight, waiting, Call, see}
-use Rattle.mg_link.specs.Link.{Awaited, Told, Starts, Sends, Waits, Ends}
+use Rattle.mg_link.specs.Link.{Awaited, LogTold, Starts, Sends, Waits, Ends}
 use Rattle.mg_link.specs.Exec.{Attempt, not_sent, waits, answered, Begins, GoesOn}
 
 same_some : {A : Type 0} (x y : A) → Some x ≡ Some y → x ≡ y
@@ -15,7 +15,7 @@ see_last [] call seen = refl
 see_last (c ∷ calls) call seen = ap (λ l. c ∷ l) (see_last calls call seen)
 
 -- a call that was added and has seen its answer
-sends_by : (old mid new : Awaited) (log between log' : Told) (number : ℕ) (command : List ℕ) (seen : Sight) → Starts old mid log between number command → Ends mid new between log' number seen → Sends old new log log' command seen
+sends_by : (old mid new : Awaited) (log between log' : LogTold) (number : ℕ) (command : List ℕ) (seen : Sight) → Starts old mid log between number command → Ends mid new between log' number seen → Sends old new log log' command seen
 sends_by old mid new log between log' number command seen s e =
     record {
       rest = λ m. elim (cases_eq m number) [
@@ -31,7 +31,7 @@ sends_by old mid new log between log' number command seen s e =
     }
 
 -- a call that was added and waits
-starts_by : (old mid new : Awaited) (log between log' : Told) (number given : ℕ) (command : List ℕ) → Starts old mid log between number command → Waits mid new between log' number given → Starts old new log log' given command
+starts_by : (old mid new : Awaited) (log between log' : LogTold) (number given : ℕ) (command : List ℕ) → Starts old mid log between number command → Waits mid new between log' number given → Starts old new log log' given command
 starts_by old mid new log between log' number given command s w =
     subst (λ n. Starts old new log log' n command) (sym w.same)
     (record {
@@ -42,7 +42,7 @@ starts_by old mid new log between log' number given command s w =
       adds = λ calls told. let added = s.adds calls told in (added.0, w.log_same ∙ added.1);
     })
 
-pub begins_by : (old mid new : Awaited) (log between log' : Told) (number : ℕ) (command : List ℕ) (attempt : Attempt) → Starts old mid log between number command → GoesOn mid new between log' number attempt → Begins old new log log' command attempt
+pub begins_by : (old mid new : Awaited) (log between log' : LogTold) (number : ℕ) (command : List ℕ) (attempt : Attempt) → Starts old mid log between number command → GoesOn mid new between log' number attempt → Begins old new log log' command attempt
 begins_by old mid new log between log' number command not_sent s g = absurd g
 begins_by old mid new log between log' number command (waits given) s g = starts_by old mid new log between log' number given command s g
 begins_by old mid new log between log' number command (answered seen) s g = sends_by old mid new log between log' number command seen s g

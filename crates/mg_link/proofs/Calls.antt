@@ -4,8 +4,8 @@ use Rattle.std.specs.Prelude.{◌<◌, IsSome, slice_get}
 use Rattle.mg_bson.specs.Tree.{Fields}
 use Rattle.mg_bson.specs.Raw.{fields}
 use Rattle.mg_link.specs.Calls.{Came, Flies, Grows, HeardAt, HeardLast, IsAwaited, IsOwn, IsRetried, Keeps, NoneBroken, Past, RequestFails, WaitsAt, out_of_memory, past_of, was_lost, was_refused}
-use Rattle.mg_link.specs.Exec.{Attempt, not_sent, waits, answered, Stage, unsent, first, second, Sending, Begins, AttemptFails, Gives, GoesOn, IsSuccess, Once, Runs, Tries, Twice, holding, is_repeated, is_retried_attempt, ticket_at}
-use Rattle.mg_link.specs.Link.{Awaited, Told}
+use Rattle.mg_link.specs.Exec.{Attempt, not_sent, waits, answered, Stage, unsent, first, second, Sending, Begins, AttemptFails, AttemptGives, GoesOn, IsSuccess, Once, Runs, Tries, Twice, holding, is_repeated, is_retried_attempt, ticket_at}
+use Rattle.mg_link.specs.Link.{Awaited, LogTold}
 use Rattle.mg_link.specs.Log.{Sight, waiting, reply, fault, memory, Call, see}
 use Rattle.mg_link.specs.Retry.{is_retried}
 use Rattle.mg_link.specs.declared.action.Step.{Step}
@@ -64,13 +64,13 @@ StandsIn awaited past command Here (waits ticket) = (place : ℕ) × WaitsAt awa
 StandsIn awaited past command Here (answered seen) = (place : ℕ) × HeardAt past place command seen × Here place
 
 -- what an attempt comes to
-pub record Tried (awaited : Awaited) (places : List ℕ) (since : ℕ) (calls : List Call) (log' : Told) (wire : ℤ) (command : Fields) (Here : ℕ → Type 0) (attempt : Attempt) : Type 0 where
+pub record Tried (awaited : Awaited) (places : List ℕ) (since : ℕ) (calls : List Call) (log' : LogTold) (wire : ℤ) (command : Fields) (Here : ℕ → Type 0) (attempt : Attempt) : Type 0 where
   pub calls' : List Call
   pub told : log' ≡ Some calls'
   pub keeps : Keeps calls calls'
   pub stands : StandsIn awaited (past_of places since calls' wire) command Here attempt
 
-module _ (old new : Awaited) (log log' : Told) (calls : List Call) (told : log ≡ Some calls) (places : List ℕ) (since : ℕ) (wire : ℤ) where
+module _ (old new : Awaited) (log log' : LogTold) (calls : List Call) (told : log ≡ Some calls) (places : List ℕ) (since : ℕ) (wire : ℤ) where
   pub begun : (command : List ℕ) (attempt : Attempt) (Here : ℕ → Type 0) → since ≤ length calls → Here (length calls) → Begins old new log log' command attempt → Tried new places since calls log' wire (fields command) Here attempt
   begun command not_sent Here room here b = record { calls' = calls; told = b.log_same ∙ told; keeps = same_keeps calls; stands = tt }
   begun command (waits ticket) Here room here b =
@@ -129,7 +129,7 @@ IsBehind past command unsent place = Unit {0}
 IsBehind past command (first ticket) place = Unit {0}
 IsBehind past command (second ticket) place = IsRetried past place command
 
-pub tried : (old new : Awaited) (log log' : Told) (calls : List Call) → log ≡ Some calls → (places : List ℕ) (since : ℕ) (wire : ℤ) (command : List ℕ) (stage : Stage) (attempt : Attempt) → since ≤ length calls → Flies old (past_of places since calls wire) (fields command) stage → Tries old new log log' command stage attempt → Tried new places since calls log' wire (fields command) (IsBehind (past_of places since calls wire) (fields command) stage) attempt
+pub tried : (old new : Awaited) (log log' : LogTold) (calls : List Call) → log ≡ Some calls → (places : List ℕ) (since : ℕ) (wire : ℤ) (command : List ℕ) (stage : Stage) (attempt : Attempt) → since ≤ length calls → Flies old (past_of places since calls wire) (fields command) stage → Tries old new log log' command stage attempt → Tried new places since calls log' wire (fields command) (IsBehind (past_of places since calls wire) (fields command) stage) attempt
 tried old new log log' calls told places since wire command unsent attempt room flies t = begun old new log log' calls told places since wire command attempt (λ place. Unit {0}) room tt t
 tried old new log log' calls told places since wire command (first ticket) attempt room flies t = gone_on old new log log' calls told places since wire ticket (fields command) attempt (λ place. Unit {0}) flies.0 flies.1 tt t
 tried old new log log' calls told places since wire command (second ticket) attempt room flies t =
@@ -149,7 +149,7 @@ failed_by past command retries e (answered memory) heard by = out_of_memory (ap 
 came_by : (awaited : Awaited) (past : Past) (command : Fields) (retries : Bool) (hold : ℕ → Sending) (attempt : Attempt) (result : Step Sending (List ℕ))
     → ((ticket : ℕ) → attempt ≡ waits ticket → Flies awaited past command (hold ticket).stage)
     → ((seen : Sight) → attempt ≡ answered seen → HeardLast past command retries seen)
-    → Gives attempt past.wire hold result → Came awaited past command retries result
+    → AttemptGives attempt past.wire hold result → Came awaited past command retries result
 came_by awaited past command retries hold attempt (step.Pending s) flies heard g = subst (λ (x : Sending). Flies awaited past command x.stage) (sym g.2) (flies g.0 g.1)
 came_by awaited past command retries hold attempt (step.Done bytes) flies heard g = heard (reply bytes) g.0
 came_by awaited past command retries hold attempt (step.Failed e) flies heard g = failed_by past command retries e attempt heard g
@@ -187,14 +187,14 @@ repeats_by awaited past command retries Here (first ticket) attempt h s = repeat
 repeats_by awaited past command retries Here (second ticket) attempt h s = absurd cc
 
 -- what a poll of a request of a call comes to
-pub record RequestRan (awaited : Awaited) (places : List ℕ) (since : ℕ) (calls : List Call) (log' : Told) (wire : ℤ) (command : Fields) (retries : Bool) (result : Step Sending (List ℕ)) : Type 0 where
+pub record RequestRan (awaited : Awaited) (places : List ℕ) (since : ℕ) (calls : List Call) (log' : LogTold) (wire : ℤ) (command : Fields) (retries : Bool) (result : Step Sending (List ℕ)) : Type 0 where
   pub calls' : List Call
   pub told : log' ≡ Some calls'
   pub room : since ≤ length calls'
   pub grows : Grows (past_of places since calls wire) (past_of places since calls' wire)
   pub came : Came awaited (past_of places since calls' wire) command retries result
 
-module _ (old new : Awaited) (log log' : Told) (wire : ℤ) (s : Sending) (result : Step Sending (List ℕ)) (calls : List Call) (told : log ≡ Some calls) (places : List ℕ) (since : ℕ) (room : since ≤ length calls) (flies : Flies old (past_of places since calls wire) (fields s.command) s.stage) where
+module _ (old new : Awaited) (log log' : LogTold) (wire : ℤ) (s : Sending) (result : Step Sending (List ℕ)) (calls : List Call) (told : log ≡ Some calls) (places : List ℕ) (since : ℕ) (room : since ≤ length calls) (flies : Flies old (past_of places since calls wire) (fields s.command) s.stage) where
   once_ran : Once old new log log' wire s result → RequestRan new places since calls log' wire (fields s.command) s.retries result
   once_ran once =
       let t = tried old new log log' calls told places since wire s.command s.stage once.attempt room flies once.tries in
@@ -245,14 +245,14 @@ module _ (old new : Awaited) (log log' : Told) (wire : ℤ) (s : Sending) (resul
   ran_by (inl once) = once_ran once
   ran_by (inr twice) = twice_ran twice
 
-pub request_ran : (old new : Awaited) (log log' : Told) (wire : ℤ) (s : Sending) (command : Fields) (retries : Bool) (result : Step Sending (List ℕ)) → fields s.command ≡ command → s.retries ≡ retries → Runs old new log log' wire s result → (calls : List Call) → log ≡ Some calls → (places : List ℕ) (since : ℕ) → since ≤ length calls → Flies old (past_of places since calls wire) command s.stage → RequestRan new places since calls log' wire command retries result
+pub request_ran : (old new : Awaited) (log log' : LogTold) (wire : ℤ) (s : Sending) (command : Fields) (retries : Bool) (result : Step Sending (List ℕ)) → fields s.command ≡ command → s.retries ≡ retries → Runs old new log log' wire s result → (calls : List Call) → log ≡ Some calls → (places : List ℕ) (since : ℕ) → since ≤ length calls → Flies old (past_of places since calls wire) command s.stage → RequestRan new places since calls log' wire command retries result
 request_ran old new log log' wire s command retries result sends repeats runs calls told places since room flies =
     subst (λ (b : Bool). RequestRan new places since calls log' wire command b result) repeats
     (subst (λ (c : Fields). RequestRan new places since calls log' wire c s.retries result) sends
     (ran_by old new log log' wire s result calls told places since room (subst (λ (c : Fields). Flies old (past_of places since calls wire) c s.stage) (sym sends) flies) runs))
 
 -- a reply that it gives is a success
-pub success_ran : (old new : Awaited) (log log' : Told) (wire : ℤ) (s : Sending) (bytes : List ℕ) → Runs old new log log' wire s (step.Done bytes) → IsSuccess bytes
+pub success_ran : (old new : Awaited) (log log' : LogTold) (wire : ℤ) (s : Sending) (bytes : List ℕ) → Runs old new log log' wire s (step.Done bytes) → IsSuccess bytes
 success_ran old new log log' wire s bytes (inl once) = once.gives.1
 success_ran old new log log' wire s bytes (inr twice) = twice.gives.1
 

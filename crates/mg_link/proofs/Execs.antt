@@ -17,9 +17,9 @@ use Rattle.mg_link.specs.Failures.{refusal_by}
 use Rattle.mg_link.specs.Causes.{Rose}
 use Rattle.mg_link.specs.Log.{waiting, reply, fault, memory}
 use Rattle.mg_link.specs.Reply.{Refusal, refusal_of, verdict_of}
-use Rattle.mg_link.specs.Link.{Awaited, Told}
+use Rattle.mg_link.specs.Link.{Awaited, LogTold}
 use Rattle.mg_link.specs.Acts.{IsOut, Tickets, ticket_after, Pended, FailsByFault, EndsAtOnce}
-use Rattle.mg_link.specs.Exec.{Stage, unsent, first, second, Sending, Attempt, not_sent, waits, answered, ticket_at, ticket_of, Begins, GoesOn, Tries, is_retried_attempt, is_repeated, FailsAs, FailsByReply, AttemptFails, Gives, holding, Once, Twice, Runs, RunsStarting, was_started}
+use Rattle.mg_link.specs.Exec.{Stage, unsent, first, second, Sending, Attempt, not_sent, waits, answered, ticket_at, ticket_of, Begins, GoesOn, Tries, is_retried_attempt, is_repeated, FailsAs, FailsByReply, AttemptFails, AttemptGives, holding, Once, Twice, Runs, RunsStarting, was_started}
 use Rattle.mg_link.specs.Attempts.{HasCounts, IsAtOnce, held, Stops, Repeats}
 use Rattle.mg_link.proofs.Onward.{tickets_on}
 
@@ -82,17 +82,17 @@ retried_calm (answered memory) f f' p p' is counts = counts
 -- ---- what a poll answers, by its last attempt
 
 module _ (a : Attempt) (wire : ℤ) (hold : ℕ → Sending) where
-  pub gives_pended : (result : Step Sending (List ℕ)) (f f' p p' : ℕ) → ((ticket : ℕ) → IsSome (ticket_of (hold ticket))) → HasCounts a f f' p p' → Gives a wire hold result → Pended ticket_of result p p'
+  pub gives_pended : (result : Step Sending (List ℕ)) (f f' p p' : ℕ) → ((ticket : ℕ) → IsSome (ticket_of (hold ticket))) → HasCounts a f f' p p' → AttemptGives a wire hold result → Pended ticket_of result p p'
   gives_pended (step.Pending s) f f' p p' holds counts g = (subst (λ x. IsSome (ticket_of x)) (sym g.2) (holds g.0), subst (λ x. HasCounts x f f' p p') g.1 counts)
   gives_pended (step.Done bytes) f f' p p' holds counts g = subst (λ x. HasCounts x f f' p p') g.0 counts
   gives_pended (step.Failed e) f f' p p' holds counts g = failed_calm a wire e f f' p p' g counts
 
-  pub gives_lost : (result : Step Sending (List ℕ)) (f f' p p' : ℕ) → HasCounts a f f' p p' → Gives a wire hold result → FailsByFault result f f'
+  pub gives_lost : (result : Step Sending (List ℕ)) (f f' p p' : ℕ) → HasCounts a f f' p p' → AttemptGives a wire hold result → FailsByFault result f f'
   gives_lost (step.Pending s) f f' p p' counts g = tt
   gives_lost (step.Done bytes) f f' p p' counts g = tt
   gives_lost (step.Failed e) f f' p p' counts g = λ io. fault_seen a wire e f f' p p' g counts io
 
-  pub gives_at_once : (result : Step Sending (List ℕ)) → IsAtOnce a → Gives a wire hold result → EndsAtOnce result
+  pub gives_at_once : (result : Step Sending (List ℕ)) → IsAtOnce a → AttemptGives a wire hold result → EndsAtOnce result
   gives_at_once (step.Pending s) at g = subst IsAtOnce g.1 at
   gives_at_once (step.Done bytes) at g = tt
   gives_at_once (step.Failed e) at g = λ io. no_fault_at_once a wire e g at io
@@ -110,7 +110,7 @@ fails_without not_sent wire e f = refl
 fails_without (waits ticket) wire e f = absurd f
 fails_without (answered seen) wire e f = refl
 
-ticket_given : (a : Attempt) (wire : ℤ) (hold : ℕ → Sending) → ((n : ℕ) → ticket_of (hold n) ≡ Some n) → (result : Step Sending (List ℕ)) → Gives a wire hold result → ticket_after ticket_of result ≡ ticket_in a
+ticket_given : (a : Attempt) (wire : ℤ) (hold : ℕ → Sending) → ((n : ℕ) → ticket_of (hold n) ≡ Some n) → (result : Step Sending (List ℕ)) → AttemptGives a wire hold result → ticket_after ticket_of result ≡ ticket_in a
 ticket_given a wire hold holds (step.Pending s) g = ap ticket_of g.2 ∙ holds g.0 ∙ ap ticket_in (sym g.1)
 ticket_given a wire hold holds (step.Done bytes) g = ap ticket_in (sym g.0)
 ticket_given a wire hold holds (step.Failed e) g = fails_without a wire e g
@@ -121,7 +121,7 @@ none_out old new same = record { held = λ n e. cc; rest = λ m ne is. same m; o
 out_is : (old : Awaited) (n : ℕ) → old n ≡ None → (m : ℕ) → m ≡ n → IsSome (old m) → ⊥
 out_is old n none m is out = let bad : false ≡ true = ap (λ o. is_some o) (sym none) ∙ ap (λ k. is_some (old k)) (sym is) ∙ out in cc
 
-begins_tickets : (old new : Awaited) (log log' : Told) (command : List ℕ) (a : Attempt) → Begins old new log log' command a → Tickets old new None (ticket_in a)
+begins_tickets : (old new : Awaited) (log log' : LogTold) (command : List ℕ) (a : Attempt) → Begins old new log log' command a → Tickets old new None (ticket_in a)
 begins_tickets old new log log' command not_sent b = none_out old new b.rest
 begins_tickets old new log log' command (waits ticket) b =
     record {
@@ -132,7 +132,7 @@ begins_tickets old new log log' command (waits ticket) b =
     }
 begins_tickets old new log log' command (answered seen) b = none_out old new b.rest
 
-goes_on_tickets : (old new : Awaited) (log log' : Told) (number : ℕ) (a : Attempt) → IsSome (old number) → GoesOn old new log log' number a → Tickets old new (Some number) (ticket_in a)
+goes_on_tickets : (old new : Awaited) (log log' : LogTold) (number : ℕ) (a : Attempt) → IsSome (old number) → GoesOn old new log log' number a → Tickets old new (Some number) (ticket_in a)
 goes_on_tickets old new log log' number not_sent out g = absurd g
 goes_on_tickets old new log log' number (waits given) out g =
     record {
@@ -155,7 +155,7 @@ goes_on_tickets old new log log' number (answered seen) out g =
       ];
     }
 
-tries_tickets : (old new : Awaited) (log log' : Told) (command : List ℕ) (stage : Stage) (a : Attempt) → IsOut old (ticket_at stage) → Tries old new log log' command stage a → Tickets old new (ticket_at stage) (ticket_in a)
+tries_tickets : (old new : Awaited) (log log' : LogTold) (command : List ℕ) (stage : Stage) (a : Attempt) → IsOut old (ticket_at stage) → Tries old new log log' command stage a → Tickets old new (ticket_at stage) (ticket_in a)
 tries_tickets old new log log' command unsent a out t = begins_tickets old new log log' command a t
 tries_tickets old new log log' command (first n) a out t = goes_on_tickets old new log log' n a (out n refl) t
 tries_tickets old new log log' command (second n) a out t = goes_on_tickets old new log log' n a (out n refl) t
@@ -177,7 +177,7 @@ holding_ticket unsent n = refl
 holding_ticket (first old) n = refl
 holding_ticket (second old) n = refl
 
-module _ (old new : Awaited) (log log' : Told) (wire : ℤ) (s : Sending) (result : Step Sending (List ℕ)) (out : IsOut old (ticket_of s)) where
+module _ (old new : Awaited) (log log' : LogTold) (wire : ℤ) (s : Sending) (result : Step Sending (List ℕ)) (out : IsOut old (ticket_of s)) where
   once_tickets : Once old new log log' wire s result → Tickets old new (ticket_of s) (ticket_after ticket_of result)
   once_tickets r =
       subst (λ t. Tickets old new (ticket_of s) t)
@@ -197,29 +197,29 @@ module _ (old new : Awaited) (log log' : Told) (wire : ℤ) (s : Sending) (resul
 
 -- ---- a poll, and whether it started the command
 
-pub runs_of : (old new : Awaited) (log log' : Told) (wire : ℤ) (s : Sending) (result : Step Sending (List ℕ)) (started : Bool) → RunsStarting old new log log' wire s result started → Runs old new log log' wire s result
+pub runs_of : (old new : Awaited) (log log' : LogTold) (wire : ℤ) (s : Sending) (result : Step Sending (List ℕ)) (started : Bool) → RunsStarting old new log log' wire s result started → Runs old new log log' wire s result
 runs_of old new log log' wire s result started (inl once) = inl once.0
 runs_of old new log log' wire s result started (inr twice) = inr twice.0
 
 -- ---- a poll of a first attempt
 
-again_gives : (a : Attempt) (wire wire1 : ℤ) (s : Sending) (r : Step Sending (List ℕ)) → wire1 ≡ wire → Gives a wire1 (held s.command s.retries true) r → Gives a wire (λ n. record s { stage = second n }) r
+again_gives : (a : Attempt) (wire wire1 : ℤ) (s : Sending) (r : Step Sending (List ℕ)) → wire1 ≡ wire → AttemptGives a wire1 (held s.command s.retries true) r → AttemptGives a wire (λ n. record s { stage = second n }) r
 again_gives a wire wire1 s (step.Pending x) same g = g
 again_gives a wire wire1 s (step.Done bytes) same g = g
 again_gives a wire wire1 s (step.Failed e) same g = subst (λ w. AttemptFails a w e) same g
 
-held_gives : (a : Attempt) (wire wire1 : ℤ) (s : Sending) (r : Step Sending (List ℕ)) → wire1 ≡ wire → ((n : ℕ) → holding s.stage n ≡ first n) → Gives a wire1 (held s.command s.retries false) r → Gives a wire (λ n. record s { stage = holding s.stage n }) r
+held_gives : (a : Attempt) (wire wire1 : ℤ) (s : Sending) (r : Step Sending (List ℕ)) → wire1 ≡ wire → ((n : ℕ) → holding s.stage n ≡ first n) → AttemptGives a wire1 (held s.command s.retries false) r → AttemptGives a wire (λ n. record s { stage = holding s.stage n }) r
 held_gives a wire wire1 s (step.Pending x) same hold g = (g.0, g.1, g.2 ∙ ap (λ st. record s { stage = st }) (sym (hold g.0)))
 held_gives a wire wire1 s (step.Done bytes) same hold g = g
 held_gives a wire wire1 s (step.Failed e) same hold g = subst (λ w. AttemptFails a w e) same g
 
 -- a poll of a second attempt
-second_gives : (a : Attempt) (wire wire1 : ℤ) (s : Sending) (n : ℕ) (r : Step Sending (List ℕ)) → s.stage ≡ second n → wire1 ≡ wire → Gives a wire1 (held s.command s.retries true) r → Gives a wire (λ n. record s { stage = holding s.stage n }) r
+second_gives : (a : Attempt) (wire wire1 : ℤ) (s : Sending) (n : ℕ) (r : Step Sending (List ℕ)) → s.stage ≡ second n → wire1 ≡ wire → AttemptGives a wire1 (held s.command s.retries true) r → AttemptGives a wire (λ n. record s { stage = holding s.stage n }) r
 second_gives a wire wire1 s n (step.Pending x) at same g = (g.0, g.1, g.2 ∙ ap (λ st. record s { stage = holding st g.0 }) (sym at))
 second_gives a wire wire1 s n (step.Done bytes) at same g = g
 second_gives a wire wire1 s n (step.Failed e) at same g = subst (λ w. AttemptFails a w e) same g
 
-pub starts_second : (old new : Awaited) (log log' : Told) (wire wire1 : ℤ) (s : Sending) (n : ℕ) (attempt : Attempt) (result : Step Sending (List ℕ)) → s.stage ≡ second n → GoesOn old new log log' n attempt → wire1 ≡ wire → Gives attempt wire1 (held s.command s.retries true) result → RunsStarting old new log log' wire s result false
+pub starts_second : (old new : Awaited) (log log' : LogTold) (wire wire1 : ℤ) (s : Sending) (n : ℕ) (attempt : Attempt) (result : Step Sending (List ℕ)) → s.stage ≡ second n → GoesOn old new log log' n attempt → wire1 ≡ wire → AttemptGives attempt wire1 (held s.command s.retries true) result → RunsStarting old new log log' wire s result false
 starts_second old new log log' wire wire1 s n attempt result at goes_on same gives =
     inl (
       record {
@@ -231,7 +231,7 @@ starts_second old new log log' wire wire1 s n attempt result at goes_on same giv
       sym (ap (λ st. was_started st attempt) at),
     )
 
-module _ (old mid new : Awaited) (log between log' : Told) (wire wire1 : ℤ) (s : Sending) (attempt : Attempt) (f f1 f' p p1 p' : ℕ) (prompts prompts' : Type 0) (result : Step Sending (List ℕ)) where
+module _ (old mid new : Awaited) (log between log' : LogTold) (wire wire1 : ℤ) (s : Sending) (attempt : Attempt) (f f1 f' p p1 p' : ℕ) (prompts prompts' : Type 0) (result : Step Sending (List ℕ)) where
   abbrev pub Settles : Type 0
   Settles = Stops mid new between log' wire1 s.command s.retries attempt p1 p' result ⊎ Repeats mid new between log' wire1 s.command s.retries attempt f1 f' p1 p' prompts' result
 

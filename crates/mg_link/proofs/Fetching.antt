@@ -28,7 +28,7 @@ use Rattle.mg_link.proofs.Portions.{fetch_tells, kill_leaves, cut_further, lost_
 
 -- ---- one move after another
 
-pub reader_stayed : (log log' : link.Told) (r : Reader) → log' ≡ log → ReadMoved log log' r r
+pub reader_stayed : (log log' : link.LogTold) (r : Reader) → log' ≡ log → ReadMoved log log' r r
 reader_stayed log log' r same calls told_log =
     (calls, same ∙ told_log, record { knows = λ k. k; passes = λ k. passes_same calls (owner_of_reader r) k.owned })
 
@@ -39,7 +39,7 @@ read_on a b c r r' r'' p q =
       passes = λ k. passes_on a b c (owner_of_reader r) (owner_of_reader r') (owner_of_reader r'') (p.passes k) (q.passes (p.knows k));
     }
 
-pub reader_on : (log log' log'' : link.Told) (r r' r'' : Reader) → ReadMoved log log' r r' → ReadMoved log' log'' r' r'' → ReadMoved log log'' r r''
+pub reader_on : (log log' log'' : link.LogTold) (r r' r'' : Reader) → ReadMoved log log' r r' → ReadMoved log' log'' r' r'' → ReadMoved log log'' r r''
 reader_on log log' log'' r r' r'' p q calls told_log =
     let x = p calls told_log in
     let y = q x.0 x.1 in
@@ -145,7 +145,7 @@ module _ (calls : List Call) (call : Call) (r : Reader) (place : Option ℕ) (sp
       }
 
 -- A getMore of the cursor was sent.
-pub fetch_sent : (log log' : link.Told) (r : Reader) (place : Option ℕ) (command : List ℕ) (space : Space) (seen : Sight) → r.doing ≡ still → r.cursor ≢ pos 0 → asked command ≡ asks_more r.cursor space → Adds log log' command seen → IsNext log place
+pub fetch_sent : (log log' : link.LogTold) (r : Reader) (place : Option ℕ) (command : List ℕ) (space : Space) (seen : Sight) → r.doing ≡ still → r.cursor ≢ pos 0 → asked command ≡ asks_more r.cursor space → Adds log log' command seen → IsNext log place
     → ReadMoved log log' r (doing_so r (fetching place))
 fetch_sent log log' r place command space seen is nz asks adds at calls told_log =
     let add = adds calls told_log in
@@ -197,7 +197,7 @@ module _ (calls : List Call) (k : ℕ) (call : Call) (r : Reader) (place : Optio
       }
 
 -- The batch of a getMore came.
-pub fetch_heard : (log log' : link.Told) (r : Reader) (place : Option ℕ) (bytes : List ℕ) (batch : Batch) → r.doing ≡ fetching place → r.cursor ≢ pos 0 → Reads bytes batch → Sees log log' place (reply bytes) → ReadMoved log log' r (heard_by r batch)
+pub fetch_heard : (log log' : link.LogTold) (r : Reader) (place : Option ℕ) (bytes : List ℕ) (batch : Batch) → r.doing ≡ fetching place → r.cursor ≢ pos 0 → Reads bytes batch → Sees log log' place (reply bytes) → ReadMoved log log' r (heard_by r batch)
 fetch_heard log log' r place bytes batch is nz reads sees calls told_log =
     let s = sees calls told_log in
     let which = λ (k : KnowsRead calls r) (history : List Step) (legal : IsLegal history) (stands : Stands calls history) (stands' : Stands (see s.0 (reply bytes) calls) history).
@@ -229,7 +229,7 @@ ends_refused r cursor refused nz (inl same) zero_is = absurd (nz (sym same ∙ z
 ends_refused r cursor refused nz (inr none) zero_is = none.1
 
 -- An answer to its getMore came, whatever it was.
-pub fetch_lost : (log log' : link.Told) (r : Reader) (place : Option ℕ) (seen : Sight) (cursor : ℤ) (refused : Bool) → r.doing ≡ fetching place → r.cursor ≢ pos 0 → KeepsOrEnds r cursor refused → Sees log log' place seen → ReadMoved log log' r (lost_by r cursor refused)
+pub fetch_lost : (log log' : link.LogTold) (r : Reader) (place : Option ℕ) (seen : Sight) (cursor : ℤ) (refused : Bool) → r.doing ≡ fetching place → r.cursor ≢ pos 0 → KeepsOrEnds r cursor refused → Sees log log' place seen → ReadMoved log log' r (lost_by r cursor refused)
 fetch_lost log log' r place seen cursor refused is nz which sees calls told_log =
     let s = sees calls told_log in
     let ids = one_id r.cursor cursor (kept_or_none r cursor refused which) in (
@@ -254,7 +254,7 @@ fetch_lost log log' r place seen cursor refused is nz which sees calls told_log 
     )
 
 -- It was not sent for want of memory.
-pub fetch_unsent : (log log' : link.Told) (r : Reader) (refused : Bool) → r.doing ≡ still → r.cursor ≢ pos 0 → log' ≡ log → ReadMoved log log' r (lost_by r r.cursor refused)
+pub fetch_unsent : (log log' : link.LogTold) (r : Reader) (refused : Bool) → r.doing ≡ still → r.cursor ≢ pos 0 → log' ≡ log → ReadMoved log log' r (lost_by r r.cursor refused)
 fetch_unsent log log' r refused is nz same calls told_log =
     let passes = λ (k : KnowsRead calls r). passes_here calls (owner_of_reader r) (owner_of_reader (lost_by r r.cursor refused)) (λ m of. of) (λ x of ne. of) k.owned in (
       calls,
@@ -286,7 +286,7 @@ quiet_by still is m of = of
 quiet_by (fetching place) is m of = absurd cc
 
 -- The reply is none that a server may give: whatever is kept of it, in no legal history does the log stand.
-pub fetch_garbled : (log log' : link.Told) (r r' : Reader) (place : Option ℕ) (bytes : List ℕ) → r.doing ≡ fetching place → ((space : Space) → told (asks_more r.cursor space) bytes ≡ garbled) → r'.doing ≡ still → r'.opened ≡ r.opened → r'.query ≡ r.query → Sees log log' place (reply bytes) → ReadMoved log log' r r'
+pub fetch_garbled : (log log' : link.LogTold) (r r' : Reader) (place : Option ℕ) (bytes : List ℕ) → r.doing ≡ fetching place → ((space : Space) → told (asks_more r.cursor space) bytes ≡ garbled) → r'.doing ≡ still → r'.opened ≡ r.opened → r'.query ≡ r.query → Sees log log' place (reply bytes) → ReadMoved log log' r r'
 fetch_garbled log log' r r' place bytes is spoiled rests at same sees calls told_log =
     let s = sees calls told_log in
     let impossible = λ (history : List Step) (position : ℕ) (f : FactsOf calls history r position) (stands' : Stands (see s.0 (reply bytes) calls) history).
@@ -314,7 +314,7 @@ names_killed : (r : Reader) (command : List ℕ) → r.cursor ≢ pos 0 → aske
 names_killed r command nz is x names = elim (kill_names command (r.cursor ∷ []) x is names) [ inl e ↦ (inl e, λ z. nz (e ∙ z)) | inr none ↦ absurd none ]
 
 -- The killing of its cursor was sent.
-pub fetch_killed : (log log' : link.Told) (r : Reader) (command : List ℕ) (seen : Sight) → r.doing ≡ still → r.cursor ≢ pos 0 → asked command ≡ asks_kill (r.cursor ∷ []) → Adds log log' command seen → ReadMoved log log' r (doing_so r still)
+pub fetch_killed : (log log' : link.LogTold) (r : Reader) (command : List ℕ) (seen : Sight) → r.doing ≡ still → r.cursor ≢ pos 0 → asked command ≡ asks_kill (r.cursor ∷ []) → Adds log log' command seen → ReadMoved log log' r (doing_so r still)
 fetch_killed log log' r command seen is nz asks adds calls told_log =
     let add = adds calls told_log in
     let call : Call = record { command = command; position = add.0; seen = seen } in
@@ -330,7 +330,7 @@ fetch_killed log log' r command seen is nz asks adds calls told_log =
     )
 
 -- Its answer came.
-pub kill_answered : (log log' : link.Told) (r : Reader) (place : Option ℕ) (seen : Sight) → r.doing ≡ still → Sees log log' place seen → ReadMoved log log' r (doing_so r still)
+pub kill_answered : (log log' : link.LogTold) (r : Reader) (place : Option ℕ) (seen : Sight) → r.doing ≡ still → Sees log log' place seen → ReadMoved log log' r (doing_so r still)
 kill_answered log log' r place seen is sees calls told_log =
     let s = sees calls told_log in (
       see s.0 seen calls,
@@ -344,7 +344,7 @@ kill_answered log log' r place seen is sees calls told_log =
 -- ---- what is handed out
 
 -- Documents that were received are handed out.
-pub handed_out : (log log' : link.Told) (r : Reader) (documents behind : List Fields) → r.ahead ≡ documents ++ behind → log' ≡ log → ReadMoved log log' r (record r { given = r.given ++ documents; ahead = behind })
+pub handed_out : (log log' : link.LogTold) (r : Reader) (documents behind : List Fields) → r.ahead ≡ documents ++ behind → log' ≡ log → ReadMoved log log' r (record r { given = r.given ++ documents; ahead = behind })
 handed_out log log' r documents behind these same calls told_log = (
   calls,
   same ∙ told_log,

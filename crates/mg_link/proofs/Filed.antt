@@ -4,10 +4,10 @@ use Rattle.std.specs.Prelude.{slice_get}
 use Rattle.mg_bson.specs.Tree.{Tree}
 use Rattle.mg_link.specs.Calls.{Keeps, Past, past_of}
 use Rattle.mg_link.specs.Commands.{asked, told}
-use Rattle.mg_link.specs.Exec.{Attempt, Begins, Gives, GoesOn, Runs, Sending, Stage, Tries, answered, first, holding, not_sent, second, unsent, waits}
+use Rattle.mg_link.specs.Exec.{Attempt, Begins, AttemptGives, GoesOn, Runs, Sending, Stage, Tries, answered, first, holding, not_sent, second, unsent, waits}
 use Rattle.mg_link.specs.Files.{Bucket, File}
 use Rattle.mg_link.specs.Filing.{Clears, HasDeleted, HasInserted, KnowsFile, Leaves, Makes, becomes, cleared, clears, insert_at, removal_at, stays, unknown}
-use Rattle.mg_link.specs.Link.{Awaited, Told}
+use Rattle.mg_link.specs.Link.{Awaited, LogTold}
 use Rattle.mg_link.specs.Log.{Sight, waiting, reply, Call, see}
 use Rattle.mg_link.specs.declared.action.Step.{Step}
 use Rattle.mg_link.specs.declared.action.Step.TheVariants as step
@@ -17,20 +17,20 @@ use Rattle.mg_link.proofs.Places.{get_front}
 use Rattle.mg_link.proofs.Waits.{IsFirstTry, held_first, never_again}
 
 -- the log has grown, and this is known
-abbrev pub Grew : List ℕ → ℕ → List Call → Told → ℤ → (Past → Type 0) → Type 0
+abbrev pub Grew : List ℕ → ℕ → List Call → LogTold → ℤ → (Past → Type 0) → Type 0
 Grew places since calls log' wire Now = (calls' : List Call) × (log' ≡ Some calls') × Keeps calls calls' × Now (past_of places since calls' wire)
 
 push_keeps : (calls : List Call) (call : Call) → Keeps calls (calls ++ call ∷ [])
 push_keeps calls call place c there = (c, get_front calls (call ∷ []) place c there, refl, λ saw. refl)
 
 -- one after the other
-pub grew_on : (places : List ℕ) (since : ℕ) (calls : List Call) (mid log' : Told) (wire : ℤ) (Between Now : Past → Type 0) → Grew places since calls mid wire Between
+pub grew_on : (places : List ℕ) (since : ℕ) (calls : List Call) (mid log' : LogTold) (wire : ℤ) (Between Now : Past → Type 0) → Grew places since calls mid wire Between
     → ((calls' : List Call) → mid ≡ Some calls' → Between (past_of places since calls' wire) → Grew places since calls' log' wire Now) → Grew places since calls log' wire Now
 grew_on places since calls mid log' wire Between Now g next =
     let h = next g.0 g.1 g.3 in
     (h.0, h.1, keeps_on calls g.0 h.0 g.2 h.2, h.3)
 
-pub grew_as : (places : List ℕ) (since : ℕ) (calls : List Call) (log' : Told) (wire : ℤ) (Now Then : Past → Type 0) → ((past : Past) → Now past → Then past) → Grew places since calls log' wire Now → Grew places since calls log' wire Then
+pub grew_as : (places : List ℕ) (since : ℕ) (calls : List Call) (log' : LogTold) (wire : ℤ) (Now Then : Past → Type 0) → ((past : Past) → Now past → Then past) → Grew places since calls log' wire Now → Grew places since calls log' wire Then
 grew_as places since calls log' wire Now Then leads g = (g.0, g.1, g.2, leads (past_of places since g.0 wire) g.3)
 
 -- ---- by where an attempt stands
@@ -45,7 +45,7 @@ ClearedBy awaited b id command not_sent past = KnowsFile past b id unknown
 ClearedBy awaited b id command (waits ticket) past = KnowsFile past b id (clears (awaited ticket) command)
 ClearedBy awaited b id command (answered seen) past = KnowsFile past b id unknown × ((bytes : List ℕ) → seen ≡ reply bytes → HasDeleted (told (asked command) bytes) → KnowsFile past b id cleared)
 
-module _ (old new : Awaited) (log log' : Told) (b : Bucket) (id : Tree) (command : List ℕ) (calls : List Call) (told_is : log ≡ Some calls) (places : List ℕ) (since : ℕ) (wire : ℤ) where
+module _ (old new : Awaited) (log log' : LogTold) (b : Bucket) (id : Tree) (command : List ℕ) (calls : List Call) (told_is : log ≡ Some calls) (places : List ℕ) (since : ℕ) (wire : ℤ) where
   -- ---- an insert
 
   begins_insert : (file file' : File) → Makes command b id file file' → (attempt : Attempt) → Begins old new log log' command attempt → KnowsFile (past_of places since calls wire) b id (stays file) → Grew places since calls log' wire (MadeBy new b id command file' attempt)
@@ -177,7 +177,7 @@ RemovalRan awaited b id command (step.Pending s) past = KnowsFile past b id (rem
 RemovalRan awaited b id command (step.Done bytes) past = KnowsFile past b id unknown × (HasDeleted (told (asked command) bytes) → KnowsFile past b id cleared)
 RemovalRan awaited b id command (step.Failed e) past = KnowsFile past b id unknown
 
-gives_insert : (awaited : Awaited) (b : Bucket) (id : Tree) (s : Sending) (file file' : File) (wire : ℤ) (attempt : Attempt) (result : Step Sending (List ℕ)) → IsFirstTry s.stage → Gives attempt wire (λ ticket. record s { stage = holding s.stage ticket }) result
+gives_insert : (awaited : Awaited) (b : Bucket) (id : Tree) (s : Sending) (file file' : File) (wire : ℤ) (attempt : Attempt) (result : Step Sending (List ℕ)) → IsFirstTry s.stage → AttemptGives attempt wire (λ ticket. record s { stage = holding s.stage ticket }) result
     → (past : Past) → MadeBy awaited b id s.command file' attempt past → InsertRan awaited b id s.command file file' result past
 gives_insert awaited b id s file file' wire attempt (step.Pending s') at g past made =
     let stage_is : s'.stage ≡ first g.0 = ap (λ (x : Sending). x.stage) g.2 ∙ held_first s.stage at g.0 in
@@ -189,7 +189,7 @@ gives_insert awaited b id s file file' wire not_sent (step.Failed e) at g past m
 gives_insert awaited b id s file file' wire (waits ticket) (step.Failed e) at g past made = absurd g
 gives_insert awaited b id s file file' wire (answered seen) (step.Failed e) at g past made = made.0
 
-gives_removal : (awaited : Awaited) (b : Bucket) (id : Tree) (s : Sending) (wire : ℤ) (attempt : Attempt) (result : Step Sending (List ℕ)) → IsFirstTry s.stage → Gives attempt wire (λ ticket. record s { stage = holding s.stage ticket }) result
+gives_removal : (awaited : Awaited) (b : Bucket) (id : Tree) (s : Sending) (wire : ℤ) (attempt : Attempt) (result : Step Sending (List ℕ)) → IsFirstTry s.stage → AttemptGives attempt wire (λ ticket. record s { stage = holding s.stage ticket }) result
     → (past : Past) → ClearedBy awaited b id s.command attempt past → RemovalRan awaited b id s.command result past
 gives_removal awaited b id s wire attempt (step.Pending s') at g past made =
     let stage_is : s'.stage ≡ first g.0 = ap (λ (x : Sending). x.stage) g.2 ∙ held_first s.stage at g.0 in
@@ -201,7 +201,7 @@ gives_removal awaited b id s wire not_sent (step.Failed e) at g past made = made
 gives_removal awaited b id s wire (waits ticket) (step.Failed e) at g past made = absurd g
 gives_removal awaited b id s wire (answered seen) (step.Failed e) at g past made = made.0
 
-module _ (old new : Awaited) (log log' : Told) (b : Bucket) (id : Tree) (version : ℤ) (s : Sending) (result : Step Sending (List ℕ)) (calls : List Call) (told_is : log ≡ Some calls) (places : List ℕ) (since : ℕ) (wire : ℤ) where
+module _ (old new : Awaited) (log log' : LogTold) (b : Bucket) (id : Tree) (version : ℤ) (s : Sending) (result : Step Sending (List ℕ)) (calls : List Call) (told_is : log ≡ Some calls) (places : List ℕ) (since : ℕ) (wire : ℤ) where
   -- An insert was polled, which leads from one file to another.
   pub insert_ran : (file file' : File) → Makes s.command b id file file' → s.retries ≡ false → IsFirstTry s.stage → Runs old new log log' version s result → KnowsFile (past_of places since calls wire) b id (insert_at old s.command file file' s.stage)
       → Grew places since calls log' wire (InsertRan new b id s.command file file' result)

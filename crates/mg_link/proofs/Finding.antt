@@ -153,7 +153,7 @@ pub record FindSent (calls calls' : List Call) (q : Query) (place : Option ℕ) 
   pub knows : KnowsFinding calls' q place
   pub passes : Passes calls calls' nobody (finder place)
 
-pub find_sent : (log log' : link.Told) (q : Query) (place : Option ℕ) (command : List ℕ) (seen : Sight) → asked command ≡ asks_query q → Adds log log' command seen → IsNext log place
+pub find_sent : (log log' : link.LogTold) (q : Query) (place : Option ℕ) (command : List ℕ) (seen : Sight) → asked command ≡ asks_query q → Adds log log' command seen → IsNext log place
     → (calls : List Call) → log ≡ Some calls → (calls' : List Call) × (log' ≡ Some calls') × FindSent calls calls' q place
 find_sent log log' q place command seen asks adds at calls told_log =
     let add = adds calls told_log in
@@ -181,7 +181,7 @@ find_sent log log' q place command seen asks adds at calls told_log =
     )
 
 -- It failed, and gave no cursor.
-pub find_lost : (log log' : link.Told) (place : Option ℕ) (seen : Sight) → Sees log log' place seen → (q : Query) → (calls : List Call) → log ≡ Some calls → KnowsFinding calls q place → (calls' : List Call) × (log' ≡ Some calls') × Passes calls calls' (finder place) nobody
+pub find_lost : (log log' : link.LogTold) (place : Option ℕ) (seen : Sight) → Sees log log' place seen → (q : Query) → (calls : List Call) → log ≡ Some calls → KnowsFinding calls q place → (calls' : List Call) × (log' ≡ Some calls') × Passes calls calls' (finder place) nobody
 find_lost log log' place seen sees q calls told_log k =
     let s = sees calls told_log in
     let old : OwnsOld calls (see s.0 seen calls) (finder place) nobody = λ history legal stands stands' x owns. absurd (owns_none (see s.0 seen calls) history x owns) in (
@@ -256,7 +256,7 @@ pub record ReadOpened (calls calls' : List Call) (q : Query) (place : Option ℕ
   pub knows : KnowsRead calls' (opened_at q n batch)
   pub passes : Passes calls calls' (finder place) (owner_of_reader (opened_at q n batch))
 
-pub read_opened : (log log' : link.Told) (q : Query) (place : Option ℕ) (bytes : List ℕ) (batch : Batch) → Reads bytes batch → Sees log log' place (reply bytes)
+pub read_opened : (log log' : link.LogTold) (q : Query) (place : Option ℕ) (bytes : List ℕ) (batch : Batch) → Reads bytes batch → Sees log log' place (reply bytes)
     → (calls : List Call) → log ≡ Some calls → KnowsFinding calls q place → (calls' : List Call) × (log' ≡ Some calls') × (n : ℕ) × ReadOpened calls calls' q place n batch
 read_opened log log' q place bytes batch reads sees calls told_log k =
     let s = sees calls told_log in (

@@ -2,10 +2,10 @@
 use Rattle.std.proofs.Common.{◌≡◌, ◌⊎◌, ◌<◌, ◌≤◌, ℕ, zero, suc, ℤ, Bool, true, false, List, [], ◌∷◌, ◌++◌, length, Option, Some, refl, sym, ap, ◌∙◌, subst, inl, inr, arith}
 use Rattle.std.specs.Prelude.{slice_get}
 use Rattle.mg_link.specs.Commands.{Batch, asked, asks_query, garbled, told}
-use Rattle.mg_link.specs.Exec.{Attempt, AttemptFails, Begins, Gives, GoesOn, Runs, Sending, Stage, Tries, answered, first, holding, is_repeated, not_sent, second, unsent, waits}
+use Rattle.mg_link.specs.Exec.{Attempt, AttemptFails, Begins, AttemptGives, GoesOn, Runs, Sending, Stage, Tries, answered, first, holding, is_repeated, not_sent, second, unsent, waits}
 use Rattle.mg_link.specs.Follow.{Reads}
 use Rattle.mg_link.specs.History.{IsLegal, Step}
-use Rattle.mg_link.specs.Link.{Adds, Awaited, Sees, Told}
+use Rattle.mg_link.specs.Link.{Adds, Awaited, Sees, LogTold}
 use Rattle.mg_link.specs.Log.{Call, Sight, reply, see, waiting}
 use Rattle.mg_link.specs.Owner.{IsGrown, IsOf, Owner, Owns, Passes, by_id, by_reply, nobody}
 use Rattle.mg_link.specs.Query.{Query}
@@ -36,7 +36,7 @@ AttemptKnown new calls calls' q o not_sent = Passes calls calls' o nobody
 AttemptKnown new calls calls' q o (waits ticket) = KnowsFinding calls' q (new ticket) × Passes calls calls' o (finder (new ticket)) × ((n : ℕ) → new ticket ≡ Some n → IsAtOwn calls o n)
 AttemptKnown new calls calls' q o (answered seen) = Passes calls calls' o nobody × ((bytes : List ℕ) → seen ≡ reply bytes → Opens calls calls' q o bytes)
 
-abbrev Attempted : Awaited → List Call → Told → Query → Owner → Attempt → Type 0
+abbrev Attempted : Awaited → List Call → LogTold → Query → Owner → Attempt → Type 0
 Attempted new calls log' q o attempt = (calls' : List Call) × (log' ≡ Some calls') × AttemptKnown new calls calls' q o attempt
 
 -- no history holds a reply that no server may give
@@ -87,7 +87,7 @@ longer calls mid o o' p = by_length (length calls) refl
         let there : m < length mid = get_within mid m kept.0 kept.1 in
         omega arith
 
-answered_known : (new : Awaited) (log log' : Told) (q : Query) (place : Option ℕ) (seen : Sight) (calls : List Call) → log ≡ Some calls → Sees log log' place seen → KnowsFinding calls q place → Attempted new calls log' q (finder place) (answered seen)
+answered_known : (new : Awaited) (log log' : LogTold) (q : Query) (place : Option ℕ) (seen : Sight) (calls : List Call) → log ≡ Some calls → Sees log log' place seen → KnowsFinding calls q place → Attempted new calls log' q (finder place) (answered seen)
 answered_known new log log' q place seen calls told_is sees k =
     let lost = find_lost log log' place seen sees q calls told_is k in
     (lost.0, lost.1, (lost.2, λ bytes is batch which. from_reply lost.0 lost.1 bytes (subst (λ (s : Sight). Sees log log' place s) is sees) batch which))
@@ -108,11 +108,11 @@ answered_known new log log' q place seen calls told_is sees k =
 
 module _ (q : Query) (command : List ℕ) (asks : asked command ≡ asks_query q) where
   -- sent and answered in one: it went out first, and was answered then
-  at_once : (new : Awaited) (log log' : Told) (seen : Sight) (calls : List Call) → log ≡ Some calls → Adds log log' command seen → Attempted new calls log' q nobody (answered seen)
+  at_once : (new : Awaited) (log log' : LogTold) (seen : Sight) (calls : List Call) → log ≡ Some calls → Adds log log' command seen → Attempted new calls log' q nobody (answered seen)
   at_once new log log' seen calls told_is adds =
       let add = adds calls told_is in
       let w : Call = record { command = command; position = add.0; seen = waiting } in
-      let mid : Told = Some (calls ++ w ∷ []) in
+      let mid : LogTold = Some (calls ++ w ∷ []) in
       let place = next_place log in
       let added : Adds log mid command waiting = λ other is. (add.0, ap (λ (l : List Call). Some (l ++ w ∷ [])) (same_some calls other (sym told_is ∙ is))) in
       let sees : Sees mid log' place seen =
@@ -136,21 +136,21 @@ module _ (q : Query) (command : List ℕ) (asks : asked command ≡ asks_query q
       let x = answered_known new mid log' q place seen sent.0 sent.1 sees sent.2.knows in
       (x.0, x.1, (passes_on calls sent.0 x.0 nobody (finder place) nobody sent.2.passes x.2.0, λ bytes is. opens_on calls sent.0 x.0 q nobody (finder place) bytes sent.2.passes back (x.2.1 bytes is)))
 
-  begun : (old new : Awaited) (log log' : Told) (attempt : Attempt) (calls : List Call) → log ≡ Some calls → Begins old new log log' command attempt → Attempted new calls log' q nobody attempt
+  begun : (old new : Awaited) (log log' : LogTold) (attempt : Attempt) (calls : List Call) → log ≡ Some calls → Begins old new log log' command attempt → Attempted new calls log' q nobody attempt
   begun old new log log' not_sent calls told_is b = (calls, b.log_same ∙ told_is, passes_same calls nobody (holds_nobody calls))
   begun old new log log' (waits ticket) calls told_is b =
       let s = find_sent log log' q (new ticket) command waiting asks b.adds (λ cs is. b.place cs is) calls told_is in
       (s.0, s.1, (s.2.knows, s.2.passes, λ n is. let same : length calls ≡ n = same_some (length calls) n (sym (b.place calls told_is) ∙ is) in inr (omega arith)))
   begun old new log log' (answered seen) calls told_is b = at_once new log log' seen calls told_is b.adds
 
-  gone_on : (old new : Awaited) (log log' : Told) (ticket : ℕ) (attempt : Attempt) (calls : List Call) → log ≡ Some calls → GoesOn old new log log' ticket attempt → KnowsFinding calls q (old ticket) → Attempted new calls log' q (finder (old ticket)) attempt
+  gone_on : (old new : Awaited) (log log' : LogTold) (ticket : ℕ) (attempt : Attempt) (calls : List Call) → log ≡ Some calls → GoesOn old new log log' ticket attempt → KnowsFinding calls q (old ticket) → Attempted new calls log' q (finder (old ticket)) attempt
   gone_on old new log log' ticket not_sent calls told_is g k = absurd g
   gone_on old new log log' ticket (waits given) calls told_is g k =
       let here : old ticket ≡ new given = sym (g.rest given ∙ ap old g.same) in
       (calls, g.log_same ∙ told_is, (subst (KnowsFinding calls q) here k, subst (λ (o : Option ℕ). Passes calls calls (finder (old ticket)) (finder o)) here (passes_same calls (finder (old ticket)) k.owned), λ n is. inl (inl (here ∙ is))))
   gone_on old new log log' ticket (answered seen) calls told_is g k = answered_known new log log' q (old ticket) seen calls told_is g.sees k
 
-  tried : (old new : Awaited) (log log' : Told) (stage : Stage) (attempt : Attempt) (calls : List Call) → log ≡ Some calls → Tries old new log log' command stage attempt → FindingAt old calls q stage → Attempted new calls log' q (finder_at old stage) attempt
+  tried : (old new : Awaited) (log log' : LogTold) (stage : Stage) (attempt : Attempt) (calls : List Call) → log ≡ Some calls → Tries old new log log' command stage attempt → FindingAt old calls q stage → Attempted new calls log' q (finder_at old stage) attempt
   tried old new log log' unsent attempt calls told_is t k = begun old new log log' attempt calls told_is t
   tried old new log log' (first ticket) attempt calls told_is t k = gone_on old new log log' ticket attempt calls told_is t k
   tried old new log log' (second ticket) attempt calls told_is t k = gone_on old new log log' ticket attempt calls told_is t k
@@ -180,7 +180,7 @@ no_answer new calls calls' q o (waits ticket) wire e fails known = absurd fails
 no_answer new calls calls' q o (answered seen) wire e fails known = known.0
 
 -- what an attempt that is the last of a poll comes to
-answer_known : (new : Awaited) (calls calls' : List Call) (q : Query) (o : Owner) (attempt : Attempt) (wire : ℤ) (s : Sending) (stage : Stage) (result : Polled Sending (List ℕ)) → Gives attempt wire (λ ticket. record s { stage = holding stage ticket }) result → AttemptKnown new calls calls' q o attempt → CameKnown new calls calls' q o result
+answer_known : (new : Awaited) (calls calls' : List Call) (q : Query) (o : Owner) (attempt : Attempt) (wire : ℤ) (s : Sending) (stage : Stage) (result : Polled Sending (List ℕ)) → AttemptGives attempt wire (λ ticket. record s { stage = holding stage ticket }) result → AttemptKnown new calls calls' q o attempt → CameKnown new calls calls' q o result
 answer_known new calls calls' q o attempt wire s stage (step.Pending t) gives known =
     subst (λ (x : Sending). StillKnown new calls calls' q o x.stage) (sym gives.2) (still_known new calls calls' q o stage gives.0 (subst (AttemptKnown new calls calls' q o) gives.1 known))
 answer_known new calls calls' q o attempt wire s stage (step.Done bytes) gives known =
@@ -210,7 +210,7 @@ came_on new calls mid calls' q o (step.Done bytes) first_passes h = (passes_on c
 came_on new calls mid calls' q o (step.Failed e) first_passes h = passes_on calls mid calls' o nobody nobody first_passes h
 
 -- A poll of it: what is known of it, and others are left alone.
-pub query_ran : (q : Query) (old new : Awaited) (log log' : Told) (wire : ℤ) (s : Sending) (result : Polled Sending (List ℕ)) → asked s.command ≡ asks_query q → Runs old new log log' wire s result → (calls : List Call) → log ≡ Some calls → FindingAt old calls q s.stage
+pub query_ran : (q : Query) (old new : Awaited) (log log' : LogTold) (wire : ℤ) (s : Sending) (result : Polled Sending (List ℕ)) → asked s.command ≡ asks_query q → Runs old new log log' wire s result → (calls : List Call) → log ≡ Some calls → FindingAt old calls q s.stage
     → (calls' : List Call) × (log' ≡ Some calls') × CameKnown new calls calls' q (finder_at old s.stage) result
 query_ran q old new log log' wire s result asks (inl once) calls told_is k =
     let x = tried q s.command asks old new log log' s.stage once.attempt calls told_is once.tries k in

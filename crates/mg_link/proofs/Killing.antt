@@ -4,7 +4,7 @@ use Rattle.mg_link.specs.Commands.{asks_kill, asked}
 use Rattle.mg_link.specs.declared.action.Step.{Step}
 use Rattle.mg_link.specs.Exec.{Stage, unsent, first, second, Sending, Attempt, not_sent, waits, answered, Begins, GoesOn, Tries, Runs}
 use Rattle.mg_link.specs.Log.{Sight, waiting, Call, see}
-use Rattle.mg_link.specs.Link.{Awaited, Told, Adds, Sees}
+use Rattle.mg_link.specs.Link.{Awaited, LogTold, Adds, Sees}
 use Rattle.mg_link.specs.Standing.{Names}
 use Rattle.mg_link.specs.Owner.{nobody, NamesOwn, Passes}
 use Rattle.mg_link.specs.Follow.{holding, Follow, owner_of, IsOpen, Moved}
@@ -15,45 +15,45 @@ use Rattle.mg_link.proofs.Resumes.{let_go, kill_sent, kill_passed}
 -- ---- jobs that open no cursor
 
 -- a job that opens none went from one log to another, and left every other job alone
-abbrev pub PassesPlain : Told → Told → Type 0
+abbrev pub PassesPlain : LogTold → LogTold → Type 0
 PassesPlain log log' = (calls : List Call) → log ≡ Some calls → (calls' : List Call) × (log' ≡ Some calls') × Passes calls calls' nobody nobody
 
-pub plain_stayed : (log log' : Told) → log' ≡ log → PassesPlain log log'
+pub plain_stayed : (log log' : LogTold) → log' ≡ log → PassesPlain log log'
 plain_stayed log log' same calls told = (calls, same ∙ told, passes_same calls nobody (holds_nobody calls))
 
-pub plain_on : (log mid log' : Told) → PassesPlain log mid → PassesPlain mid log' → PassesPlain log log'
+pub plain_on : (log mid log' : LogTold) → PassesPlain log mid → PassesPlain mid log' → PassesPlain log log'
 plain_on log mid log' p q calls told =
     let x = p calls told in
     let y = q x.0 x.1 in
     (y.0, y.1, passes_on calls x.0 y.0 nobody nobody nobody x.2 y.2)
 
-pub plain_sends : (log log' : Told) (command : List ℕ) (seen : Sight) → ((x : ℤ) → Names (asked command) x → ⊥) → Adds log log' command seen → PassesPlain log log'
+pub plain_sends : (log log' : LogTold) (command : List ℕ) (seen : Sight) → ((x : ℤ) → Names (asked command) x → ⊥) → Adds log log' command seen → PassesPlain log log'
 plain_sends log log' command seen none adds calls told =
     let add = adds calls told in
     let call : Call = record { command = command; position = add.0; seen = seen } in
     (calls ++ call ∷ [], add.1, plain_added calls call none)
 
-pub plain_sees : (log log' : Told) (place : Option ℕ) (seen : Sight) → Sees log log' place seen → PassesPlain log log'
+pub plain_sees : (log log' : LogTold) (place : Option ℕ) (seen : Sight) → Sees log log' place seen → PassesPlain log log'
 plain_sees log log' place seen sees calls told = let s = sees calls told in (see s.0 seen calls, s.5, plain_seen s.0 seen calls s.1 s.3 s.4)
 
 module _ (command : List ℕ) (none : (x : ℤ) → Names (asked command) x → ⊥) where
-  plain_begins : (old new : Awaited) (log log' : Told) (attempt : Attempt) → Begins old new log log' command attempt → PassesPlain log log'
+  plain_begins : (old new : Awaited) (log log' : LogTold) (attempt : Attempt) → Begins old new log log' command attempt → PassesPlain log log'
   plain_begins old new log log' not_sent b = plain_stayed log log' b.log_same
   plain_begins old new log log' (waits ticket) b = plain_sends log log' command waiting none b.adds
   plain_begins old new log log' (answered seen) b = plain_sends log log' command seen none b.adds
 
-  plain_goes_on : (old new : Awaited) (log log' : Told) (ticket : ℕ) (attempt : Attempt) → GoesOn old new log log' ticket attempt → PassesPlain log log'
+  plain_goes_on : (old new : Awaited) (log log' : LogTold) (ticket : ℕ) (attempt : Attempt) → GoesOn old new log log' ticket attempt → PassesPlain log log'
   plain_goes_on old new log log' ticket not_sent g = absurd g
   plain_goes_on old new log log' ticket (waits given) g = plain_stayed log log' g.log_same
   plain_goes_on old new log log' ticket (answered seen) g = plain_sees log log' (old ticket) seen g.sees
 
-  plain_tries : (old new : Awaited) (log log' : Told) (stage : Stage) (attempt : Attempt) → Tries old new log log' command stage attempt → PassesPlain log log'
+  plain_tries : (old new : Awaited) (log log' : LogTold) (stage : Stage) (attempt : Attempt) → Tries old new log log' command stage attempt → PassesPlain log log'
   plain_tries old new log log' unsent attempt t = plain_begins old new log log' attempt t
   plain_tries old new log log' (first ticket) attempt t = plain_goes_on old new log log' ticket attempt t
   plain_tries old new log log' (second ticket) attempt t = plain_goes_on old new log log' ticket attempt t
 
   -- A poll of a request that names no cursor and whose reply gives the job none.
-  pub plain_ran : (old new : Awaited) (log log' : Told) (wire : ℤ) (s : Sending) (result : Step Sending (List ℕ)) → s.command ≡ command → Runs old new log log' wire s result → PassesPlain log log'
+  pub plain_ran : (old new : Awaited) (log log' : LogTold) (wire : ℤ) (s : Sending) (result : Step Sending (List ℕ)) → s.command ≡ command → Runs old new log log' wire s result → PassesPlain log log'
   plain_ran old new log log' wire s result is (inl once) =
       plain_tries old new log log' s.stage once.attempt (subst (λ (c : List ℕ). Tries old new log log' c s.stage once.attempt) is once.tries)
   plain_ran old new log log' wire s result is (inr twice) =
@@ -64,12 +64,12 @@ module _ (command : List ℕ) (none : (x : ℤ) → Names (asked command) x → 
 -- ---- the old cursor of a stream
 
 -- The killing of an old cursor was tried: it was let go, also where nothing was sent.
-pub kill_begun : (old new : Awaited) (log log' : Told) (f : Follow) (command : List ℕ) (attempt : Attempt) → f.doing ≡ holding → f.old ≢ pos 0 → asked command ≡ asks_kill (f.old ∷ []) → Begins old new log log' command attempt → Moved log log' f (let_go f)
+pub kill_begun : (old new : Awaited) (log log' : LogTold) (f : Follow) (command : List ℕ) (attempt : Attempt) → f.doing ≡ holding → f.old ≢ pos 0 → asked command ≡ asks_kill (f.old ∷ []) → Begins old new log log' command attempt → Moved log log' f (let_go f)
 kill_begun old new log log' f command not_sent is nz asks b = kill_passed log log' f is b.log_same
 kill_begun old new log log' f command (waits ticket) is nz asks b = kill_sent log log' f command waiting is nz asks b.adds
 kill_begun old new log log' f command (answered seen) is nz asks b = kill_sent log log' f command seen is nz asks b.adds
 
-pub kill_gone_on : (old new : Awaited) (log log' : Told) (f : Follow) (ticket : ℕ) (attempt : Attempt) → GoesOn old new log log' ticket attempt → Moved log log' (let_go f) (let_go f)
+pub kill_gone_on : (old new : Awaited) (log log' : LogTold) (f : Follow) (ticket : ℕ) (attempt : Attempt) → GoesOn old new log log' ticket attempt → Moved log log' (let_go f) (let_go f)
 kill_gone_on old new log log' f ticket not_sent g = absurd g
 kill_gone_on old new log log' f ticket (waits given) g = stayed log log' (let_go f) g.log_same
 kill_gone_on old new log log' f ticket (answered seen) g = other_seen log log' (let_go f) (old ticket) seen refl g.sees
@@ -77,12 +77,12 @@ kill_gone_on old new log log' f ticket (answered seen) g = other_seen log log' (
 -- ---- closing
 
 -- The killing of a stream's own cursors at its end.
-pub close_begun : (old new : Awaited) (log log' : Told) (f : Follow) (command : List ℕ) (attempt : Attempt) → IsOpen f.doing → NamesOwn (owner_of f) (asked command) → Begins old new log log' command attempt → Moved log log' f (owed f)
+pub close_begun : (old new : Awaited) (log log' : LogTold) (f : Follow) (command : List ℕ) (attempt : Attempt) → IsOpen f.doing → NamesOwn (owner_of f) (asked command) → Begins old new log log' command attempt → Moved log log' f (owed f)
 close_begun old new log log' f command not_sent is_open own b = gave_up log log' f is_open b.log_same
 close_begun old new log log' f command (waits ticket) is_open own b = gave_up_added log log' f command waiting is_open own b.adds
 close_begun old new log log' f command (answered seen) is_open own b = gave_up_added log log' f command seen is_open own b.adds
 
-pub close_gone_on : (old new : Awaited) (log log' : Told) (f : Follow) (ticket : ℕ) (attempt : Attempt) → GoesOn old new log log' ticket attempt → Moved log log' (owed f) (owed f)
+pub close_gone_on : (old new : Awaited) (log log' : LogTold) (f : Follow) (ticket : ℕ) (attempt : Attempt) → GoesOn old new log log' ticket attempt → Moved log log' (owed f) (owed f)
 close_gone_on old new log log' f ticket not_sent g = absurd g
 close_gone_on old new log log' f ticket (waits given) g = stayed log log' (owed f) g.log_same
 close_gone_on old new log log' f ticket (answered seen) g = gave_up_seen log log' (owed f) (old ticket) seen tt g.sees

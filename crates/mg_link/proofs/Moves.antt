@@ -22,11 +22,11 @@ use Rattle.mg_link.proofs.Openings.{IsNext}
 
 -- ---- one move after another
 
-pub stayed : (log log' : link.Told) (f : Follow) → log' ≡ log → Moved log log' f f
+pub stayed : (log log' : link.LogTold) (f : Follow) → log' ≡ log → Moved log log' f f
 stayed log log' f same calls told =
     (calls, same ∙ told, record { knows = λ k. k; passes = λ k. passes_same calls (owner_of f) k.owned })
 
-pub moved : (log log' log'' : link.Told) (f f' f'' : Follow) → Moved log log' f f' → Moved log' log'' f' f'' → Moved log log'' f f''
+pub moved : (log log' log'' : link.LogTold) (f f' f'' : Follow) → Moved log log' f f' → Moved log' log'' f' f'' → Moved log log'' f f''
 moved log log' log'' f f' f'' p q calls told =
     let x = p calls told in
     let y = q x.0 x.1 in
@@ -41,7 +41,7 @@ quiet_sends : (calls : List Call) (f : Follow) → Sends calls (owner_of f) (own
 quiet_sends calls f = record { ids = λ x of ne. of; last = λ k of. elim of [ inl e ↦ absurd cc | inr none ↦ absurd none ] }
 
 -- An answer came to a call of an open stream, whatever it was: the token and what was answered stay.
-pub gave_up_seen : (log log' : link.Told) (f : Follow) (place : Option ℕ) (seen : Sight) → IsOpen f.doing → Sees log log' place seen → Moved log log' f (owed f)
+pub gave_up_seen : (log log' : link.LogTold) (f : Follow) (place : Option ℕ) (seen : Sight) → IsOpen f.doing → Sees log log' place seen → Moved log log' f (owed f)
 gave_up_seen log log' f place seen is_open sees calls told =
     let s = sees calls told in (
       see s.0 seen calls,
@@ -51,7 +51,7 @@ gave_up_seen log log' f place seen is_open sees calls told =
     )
 
 -- A call that names its own cursors only was sent or lost at once: also the closing of a stream.
-pub gave_up_added : (log log' : link.Told) (f : Follow) (command : List ℕ) (seen : Sight) → IsOpen f.doing → NamesOwn (owner_of f) (asked command) → Adds log log' command seen → Moved log log' f (owed f)
+pub gave_up_added : (log log' : link.LogTold) (f : Follow) (command : List ℕ) (seen : Sight) → IsOpen f.doing → NamesOwn (owner_of f) (asked command) → Adds log log' command seen → Moved log log' f (owed f)
 gave_up_added log log' f command seen is_open own adds calls told =
     let add = adds calls told in
     let call : Call = record { command = command; position = add.0; seen = seen } in (
@@ -62,7 +62,7 @@ gave_up_added log log' f command seen is_open own adds calls told =
     )
 
 -- An open stream gave up what it had in hand.
-pub gave_up : (log log' : link.Told) (f : Follow) → IsOpen f.doing → log' ≡ log → Moved log log' f (owed f)
+pub gave_up : (log log' : link.LogTold) (f : Follow) → IsOpen f.doing → log' ≡ log → Moved log log' f (owed f)
 gave_up log log' f is_open same calls told = (
   calls,
   same ∙ told,
@@ -77,7 +77,7 @@ gave_up log log' f is_open same calls told = (
 )
 
 -- An answer came that the stream does not wait for: that to the killing of its old cursor.
-pub other_seen : (log log' : link.Told) (f : Follow) (place : Option ℕ) (seen : Sight) → waited f.doing ≡ None → Sees log log' place seen → Moved log log' f f
+pub other_seen : (log log' : link.LogTold) (f : Follow) (place : Option ℕ) (seen : Sight) → waited f.doing ≡ None → Sees log log' place seen → Moved log log' f f
 other_seen log log' f place seen none sees calls told =
     let s = sees calls told in (
       see s.0 seen calls,
@@ -104,7 +104,7 @@ same_step calls call history place p position step b last placed came =
     (one, step_last calls call history p step b (subst (λ n. slice_get history n ≡ Some step) one came.2.there))
 
 -- A getMore of the stream's cursor was sent.
-pub more_sent : (log log' : link.Told) (f : Follow) (place : Option ℕ) (command : List ℕ) (space : Space) (seen : Sight) → f.doing ≡ resting → f.cursor ≢ pos 0 → asked command ≡ asks_more f.cursor space → Adds log log' command seen → IsNext log place
+pub more_sent : (log log' : link.LogTold) (f : Follow) (place : Option ℕ) (command : List ℕ) (space : Space) (seen : Sight) → f.doing ≡ resting → f.cursor ≢ pos 0 → asked command ≡ asks_more f.cursor space → Adds log log' command seen → IsNext log place
     → Moved log log' f (record f { doing = asking place })
 more_sent log log' f place command space seen is nz asks adds at calls told =
     let add = adds calls told in
@@ -166,7 +166,7 @@ facts_in calls f kn history legal stands =
     (p.0, kn.facts history legal stands p.0 p.1)
 
 -- The batch of a getMore came.
-pub more_heard : (log log' : link.Told) (f : Follow) (place : Option ℕ) (bytes : List ℕ) (batch : Batch) → f.doing ≡ asking place → Reads bytes batch → Sees log log' place (reply bytes) → Moved log log' f (given_with f batch)
+pub more_heard : (log log' : link.LogTold) (f : Follow) (place : Option ℕ) (bytes : List ℕ) (batch : Batch) → f.doing ≡ asking place → Reads bytes batch → Sees log log' place (reply bytes) → Moved log log' f (given_with f batch)
 more_heard log log' f place bytes batch is reads sees calls told =
     let s = sees calls told in (
       see s.0 (reply bytes) calls,
@@ -203,7 +203,7 @@ rests_by s w c place done none h = absurd none
 rests_by s w c place killed none h = absurd none
 
 -- The reply to a getMore held no batch: the stream keeps its cursor, or has it no more.
-pub more_refused : (log log' : link.Told) (f : Follow) (place : Option ℕ) (bytes : List ℕ) (cursor : ℤ) → f.doing ≡ asking place → (cursor ≡ f.cursor) ⊎ (cursor ≡ pos 0) → ((space : Space) → HasNoBatch (told (asks_more f.cursor space) bytes)) → Sees log log' place (reply bytes)
+pub more_refused : (log log' : link.LogTold) (f : Follow) (place : Option ℕ) (bytes : List ℕ) (cursor : ℤ) → f.doing ≡ asking place → (cursor ≡ f.cursor) ⊎ (cursor ≡ pos 0) → ((space : Space) → HasNoBatch (told (asks_more f.cursor space) bytes)) → Sees log log' place (reply bytes)
     → Moved log log' f (record f { doing = resting; cursor = cursor; old = pos 0; ahead = [] })
 more_refused log log' f place bytes cursor is which none sees calls told =
     let s = sees calls told in

@@ -24,7 +24,7 @@ pub names_none : (o : Owner) (command : List ℕ) (w : Watch) (start : Start) �
 names_none o command w start is x names = absurd (subst (λ (a : Asked). Names a x) is names)
 
 -- the place in the log of the call that is added next
-abbrev pub IsNext : link.Told → Option ℕ → Type 0
+abbrev pub IsNext : link.LogTold → Option ℕ → Type 0
 IsNext log place = (calls : List Call) → log ≡ Some calls → place ≡ Some (length calls)
 
 abbrev started : Follow → Option ℕ → Follow
@@ -47,7 +47,7 @@ start_known calls call f place asks last nothing =
     }
 
 -- The opening aggregate was sent.
-pub start_sent : (log log' : link.Told) (f : Follow) (place : Option ℕ) (command : List ℕ) (seen : Sight) → f.doing ≡ unopened → asked command ≡ asks_watch f.watch f.start → Adds log log' command seen → IsNext log place
+pub start_sent : (log log' : link.LogTold) (f : Follow) (place : Option ℕ) (command : List ℕ) (seen : Sight) → f.doing ≡ unopened → asked command ≡ asks_watch f.watch f.start → Adds log log' command seen → IsNext log place
     → Moved log log' f (record f { doing = starting place })
 start_sent log log' f place command seen is asks adds at calls told =
     let add = adds calls told in
@@ -64,7 +64,7 @@ nothing_of : (f : Follow) → HasNothing f → HasNothing (record f { doing = un
 nothing_of f h = record { none_answered = h.none_answered; no_cursor = h.no_cursor; no_old = h.no_old }
 
 -- It was lost at once.
-pub start_unsent : (log log' : link.Told) (f : Follow) (command : List ℕ) (seen : Sight) → f.doing ≡ unopened → asked command ≡ asks_watch f.watch f.start → Adds log log' command seen → Moved log log' f (record f { doing = unopened })
+pub start_unsent : (log log' : link.LogTold) (f : Follow) (command : List ℕ) (seen : Sight) → f.doing ≡ unopened → asked command ≡ asks_watch f.watch f.start → Adds log log' command seen → Moved log log' f (record f { doing = unopened })
 start_unsent log log' f command seen is asks adds calls told =
     let add = adds calls told in
     let call : Call = record { command = command; position = add.0; seen = seen } in (
@@ -76,7 +76,7 @@ start_unsent log log' f command seen is asks adds calls told =
     )
 
 -- Its answer, whatever it was, opened no stream.
-pub start_failed : (log log' : link.Told) (f : Follow) (place : Option ℕ) (seen : Sight) → f.doing ≡ starting place → Sees log log' place seen → Moved log log' f (record f { doing = unopened })
+pub start_failed : (log log' : link.LogTold) (f : Follow) (place : Option ℕ) (seen : Sight) → f.doing ≡ starting place → Sees log log' place seen → Moved log log' f (record f { doing = unopened })
 start_failed log log' f place seen is sees calls told =
     let s = sees calls told in (
       see s.0 seen calls,
@@ -160,7 +160,7 @@ module _ (calls : List Call) (k : ℕ) (call : Call) (f : Follow) (place : Optio
       }
 
 -- The opening aggregate's reply came, and a batch was read of it.
-pub start_heard : (log log' : link.Told) (f : Follow) (place : Option ℕ) (bytes : List ℕ) (batch : Batch) → f.doing ≡ starting place → Reads bytes batch → Sees log log' place (reply bytes) → Moved log log' f (opened_with f place batch)
+pub start_heard : (log log' : link.LogTold) (f : Follow) (place : Option ℕ) (bytes : List ℕ) (batch : Batch) → f.doing ≡ starting place → Reads bytes batch → Sees log log' place (reply bytes) → Moved log log' f (opened_with f place batch)
 start_heard log log' f place bytes batch is reads sees calls told =
     let s = sees calls told in (
       see s.0 (reply bytes) calls,

@@ -46,7 +46,7 @@ resume_place s n (at_time time) None begin from answered place marks at later be
     sym (same_some (count_before time n.changes) begins here) ∙ past.1 ∙ sym marks.0
 
 -- The aggregate of a resumption was sent.
-pub resume_sent : (log log' : link.Told) (f : Follow) (place : Option ℕ) (command : List ℕ) (begin : Start) (seen : Sight) → f.doing ≡ owing → ResumesAt f.start f.token begin → asked command ≡ asks_watch f.watch begin → Adds log log' command seen → IsNext log place
+pub resume_sent : (log log' : link.LogTold) (f : Follow) (place : Option ℕ) (command : List ℕ) (begin : Start) (seen : Sight) → f.doing ≡ owing → ResumesAt f.start f.token begin → asked command ≡ asks_watch f.watch begin → Adds log log' command seen → IsNext log place
     → Moved log log' f (record f { doing = resuming place })
 resume_sent log log' f place command begin seen is resumes asks adds at calls told =
     let add = adds calls told in
@@ -99,7 +99,7 @@ saw_resumed k bytes calls call f batch history h found waits holds legal stands 
 saw_resumed k bytes calls call f batch history h found waits holds legal stands o x (inr (inr none)) ne = absurd none
 
 -- The reply to the aggregate of a resumption came, and a batch was read of it.
-pub resume_heard : (log log' : link.Told) (f : Follow) (place : Option ℕ) (bytes : List ℕ) (batch : Batch) → f.doing ≡ resuming place → Reads bytes batch → Sees log log' place (reply bytes) → Moved log log' f (resumed_with f batch)
+pub resume_heard : (log log' : link.LogTold) (f : Follow) (place : Option ℕ) (bytes : List ℕ) (batch : Batch) → f.doing ≡ resuming place → Reads bytes batch → Sees log log' place (reply bytes) → Moved log log' f (resumed_with f batch)
 resume_heard log log' f place bytes batch is reads sees calls told =
     let s = sees calls told in (
       see s.0 (reply bytes) calls,
@@ -174,7 +174,7 @@ not_left calls call f is nz asks k before legal stands x (by_id (inr (inr none))
 not_left calls call f is nz asks k before legal stands x (by_reply n p step of took opens) names = quiet None refl n of
 
 -- A killCursors of the old cursor was sent, or was lost at once.
-pub kill_sent : (log log' : link.Told) (f : Follow) (command : List ℕ) (seen : Sight) → f.doing ≡ holding → f.old ≢ pos 0 → asked command ≡ asks_kill (f.old ∷ []) → Adds log log' command seen → Moved log log' f (let_go f)
+pub kill_sent : (log log' : link.LogTold) (f : Follow) (command : List ℕ) (seen : Sight) → f.doing ≡ holding → f.old ≢ pos 0 → asked command ≡ asks_kill (f.old ∷ []) → Adds log log' command seen → Moved log log' f (let_go f)
 kill_sent log log' f command seen is nz asks adds calls told =
     let add = adds calls told in
     let call : Call = record { command = command; position = add.0; seen = seen } in (
@@ -187,5 +187,5 @@ kill_sent log log' f command seen is nz asks adds calls told =
     )
 
 -- The old cursor was let go without a call.
-pub kill_passed : (log log' : link.Told) (f : Follow) → f.doing ≡ holding → log' ≡ log → Moved log log' f (let_go f)
+pub kill_passed : (log log' : link.LogTold) (f : Follow) → f.doing ≡ holding → log' ≡ log → Moved log log' f (let_go f)
 kill_passed log log' f is same calls told = (calls, same ∙ told, moved_here calls f (let_go f) refl (λ x of ne. ids_left f x of ne) (λ k. open_left calls f is (known_as calls f holding is k)))

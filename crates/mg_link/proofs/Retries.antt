@@ -6,9 +6,9 @@ use Rattle.mg_link.specs.State.{Start}
 use Rattle.mg_link.specs.declared.action.Step.{Step}
 use Rattle.mg_link.specs.declared.action.Step.TheVariants as step
 use Rattle.mg_link.specs.declared.error.Error.{Error}
-use Rattle.mg_link.specs.Exec.{Stage, unsent, first, second, Sending, Attempt, not_sent, waits, answered, Begins, GoesOn, Tries, is_repeated, AttemptFails, Gives, holding, Runs}
+use Rattle.mg_link.specs.Exec.{Stage, unsent, first, second, Sending, Attempt, not_sent, waits, answered, Begins, GoesOn, Tries, is_repeated, AttemptFails, AttemptGives, holding, Runs}
 use Rattle.mg_link.specs.Log.{Sight, waiting, reply, Call, see}
-use Rattle.mg_link.specs.Link.{Awaited, Told, Adds, Sees}
+use Rattle.mg_link.specs.Link.{Awaited, LogTold, Adds, Sees}
 use Rattle.mg_link.specs.Follow.{unopened, starting, owing, resuming, Follow, owner_of, ResumesAt, Reads, Moved}
 use Rattle.mg_link.proofs.Places.{get_seam}
 use Rattle.mg_link.proofs.Owners.{same_some}
@@ -23,19 +23,19 @@ see_last [] call seen = refl
 see_last (c ∷ calls) call seen = ap (λ (l : List Call). c ∷ l) (see_last calls call seen)
 
 -- the place of the next call, where the log is told
-abbrev pub next_place : Told → Option ℕ
+abbrev pub next_place : LogTold → Option ℕ
 next_place log = option_map length log
 
-pub next_is : (log : Told) → IsNext log (next_place log)
+pub next_is : (log : LogTold) → IsNext log (next_place log)
 next_is log calls told = ap (option_map length) told
 
 -- A call that was sent and answered in one went out first, and was answered then.
-pub at_once : (log log' : Told) (command : List ℕ) (seen : Sight) (place : Option ℕ) (f f' f'' : Follow) → Adds log log' command seen → IsNext log place
-    → ((mid : Told) → Adds log mid command waiting → Moved log mid f f') → ((mid : Told) → Sees mid log' place seen → Moved mid log' f' f'') → Moved log log' f f''
+pub at_once : (log log' : LogTold) (command : List ℕ) (seen : Sight) (place : Option ℕ) (f f' f'' : Follow) → Adds log log' command seen → IsNext log place
+    → ((mid : LogTold) → Adds log mid command waiting → Moved log mid f f') → ((mid : LogTold) → Sees mid log' place seen → Moved mid log' f' f'') → Moved log log' f f''
 at_once log log' command seen place f f' f'' adds next sent ended calls told =
     let add = adds calls told in
     let w : Call = record { command = command; position = add.0; seen = waiting } in
-    let mid : Told = Some (calls ++ w ∷ []) in
+    let mid : LogTold = Some (calls ++ w ∷ []) in
     let added : Adds log mid command waiting =
     λ other is. (add.0, ap (λ (l : List Call). Some (l ++ w ∷ [])) (same_some calls other (sym told ∙ is))) in
     let seen_there : Sees mid log' place seen =
@@ -66,41 +66,41 @@ at_stage idle waiting_at awaited (second ticket) = waiting_at (awaited ticket)
 
 -- How a request moves a stream: idle before it is sent and where it fails, waiting while it is out, and done with the batch that is read.
 pub record Request (command : List ℕ) (idle : Follow) (waiting_at : Option ℕ → Follow) (done : Option ℕ → Batch → Follow) : Type 0 where
-  pub sent : (log log' : Told) (place : Option ℕ) → Adds log log' command waiting → IsNext log place → Moved log log' idle (waiting_at place)
-  pub unsent : (log log' : Told) (seen : Sight) → Adds log log' command seen → Moved log log' idle idle
-  pub failed : (log log' : Told) (place : Option ℕ) (seen : Sight) → Sees log log' place seen → Moved log log' (waiting_at place) idle
-  pub heard : (log log' : Told) (place : Option ℕ) (bytes : List ℕ) (batch : Batch) → Reads bytes batch → Sees log log' place (reply bytes) → Moved log log' (waiting_at place) (done place batch)
+  pub sent : (log log' : LogTold) (place : Option ℕ) → Adds log log' command waiting → IsNext log place → Moved log log' idle (waiting_at place)
+  pub unsent : (log log' : LogTold) (seen : Sight) → Adds log log' command seen → Moved log log' idle idle
+  pub failed : (log log' : LogTold) (place : Option ℕ) (seen : Sight) → Sees log log' place seen → Moved log log' (waiting_at place) idle
+  pub heard : (log log' : LogTold) (place : Option ℕ) (bytes : List ℕ) (batch : Batch) → Reads bytes batch → Sees log log' place (reply bytes) → Moved log log' (waiting_at place) (done place batch)
 
 module _ (command : List ℕ) (idle : Follow) (waiting_at : Option ℕ → Follow) (done : Option ℕ → Batch → Follow) (r : Request command idle waiting_at done) where
   -- where a stream is behind an answer: idle where it failed, and done where a batch is read of it
-  abbrev pub Answered : Told → Told → Follow → Sight → Type 0
+  abbrev pub Answered : LogTold → LogTold → Follow → Sight → Type 0
   Answered log log' f seen = Moved log log' f idle × ((bytes : List ℕ) → seen ≡ reply bytes → (place : Option ℕ) × ((batch : Batch) → Reads bytes batch → Moved log log' f (done place batch)))
 
-  abbrev pub Attempted : Awaited → Told → Told → Follow → Attempt → Type 0
+  abbrev pub Attempted : Awaited → LogTold → LogTold → Follow → Attempt → Type 0
   Attempted new log log' f not_sent = Moved log log' f idle
   Attempted new log log' f (waits ticket) = Moved log log' f (waiting_at (new ticket))
   Attempted new log log' f (answered seen) = Answered log log' f seen
 
-  heard_at_once : (log log' : Told) (bytes : List ℕ) (batch : Batch) → Reads bytes batch → Adds log log' command (reply bytes) → Moved log log' idle (done (next_place log) batch)
+  heard_at_once : (log log' : LogTold) (bytes : List ℕ) (batch : Batch) → Reads bytes batch → Adds log log' command (reply bytes) → Moved log log' idle (done (next_place log) batch)
   heard_at_once log log' bytes batch reads adds =
       at_once log log' command (reply bytes) (next_place log) idle (waiting_at (next_place log)) (done (next_place log) batch) adds (next_is log)
       (λ mid a. r.sent log mid (next_place log) a (next_is log))
       (λ mid s. r.heard mid log' (next_place log) bytes batch reads s)
 
-  pub begun : (old new : Awaited) (log log' : Told) (attempt : Attempt) → Begins old new log log' command attempt → Attempted new log log' idle attempt
+  pub begun : (old new : Awaited) (log log' : LogTold) (attempt : Attempt) → Begins old new log log' command attempt → Attempted new log log' idle attempt
   begun old new log log' not_sent b = stayed log log' idle b.log_same
   begun old new log log' (waits ticket) b = r.sent log log' (new ticket) b.adds (λ calls told. b.place calls told)
   begun old new log log' (answered seen) b =
       (r.unsent log log' seen b.adds, λ bytes is. (next_place log, λ batch reads. heard_at_once log log' bytes batch reads (subst (λ (s : Sight). Adds log log' command s) is b.adds)))
 
-  pub gone_on : (old new : Awaited) (log log' : Told) (ticket : ℕ) (attempt : Attempt) → GoesOn old new log log' ticket attempt → Attempted new log log' (waiting_at (old ticket)) attempt
+  pub gone_on : (old new : Awaited) (log log' : LogTold) (ticket : ℕ) (attempt : Attempt) → GoesOn old new log log' ticket attempt → Attempted new log log' (waiting_at (old ticket)) attempt
   gone_on old new log log' ticket not_sent g = absurd g
   gone_on old new log log' ticket (waits given) g =
       subst (λ (place : Option ℕ). Moved log log' (waiting_at (old ticket)) (waiting_at place)) (sym (g.rest given ∙ ap old g.same)) (stayed log log' (waiting_at (old ticket)) g.log_same)
   gone_on old new log log' ticket (answered seen) g =
       (r.failed log log' (old ticket) seen g.sees, λ bytes is. (old ticket, λ batch reads. r.heard log log' (old ticket) bytes batch reads (subst (λ (s : Sight). Sees log log' (old ticket) s) is g.sees)))
 
-  pub tried : (old new : Awaited) (log log' : Told) (stage : Stage) (attempt : Attempt) → Tries old new log log' command stage attempt → Attempted new log log' (at_stage idle waiting_at old stage) attempt
+  pub tried : (old new : Awaited) (log log' : LogTold) (stage : Stage) (attempt : Attempt) → Tries old new log log' command stage attempt → Attempted new log log' (at_stage idle waiting_at old stage) attempt
   tried old new log log' unsent attempt t = begun old new log log' attempt t
   tried old new log log' (first ticket) attempt t = gone_on old new log log' ticket attempt t
   tried old new log log' (second ticket) attempt t = gone_on old new log log' ticket attempt t
@@ -108,17 +108,17 @@ module _ (command : List ℕ) (idle : Follow) (waiting_at : Option ℕ → Follo
   -- ---- what a poll comes to
 
   -- where a stream is behind a poll of its request
-  abbrev pub Ran : Awaited → Told → Told → Follow → Step Sending (List ℕ) → Type 0
+  abbrev pub Ran : Awaited → LogTold → LogTold → Follow → Step Sending (List ℕ) → Type 0
   Ran new log log' f (step.Pending s) = Moved log log' f (waiting_at (place_of new s.stage))
   Ran new log log' f (step.Done bytes) = Answered log log' f (reply bytes)
   Ran new log log' f (step.Failed e) = Moved log log' f idle
 
-  failed_by : (new : Awaited) (log log' : Told) (f : Follow) (wire : ℤ) (e : Error) (attempt : Attempt) → AttemptFails attempt wire e → Attempted new log log' f attempt → Moved log log' f idle
+  failed_by : (new : Awaited) (log log' : LogTold) (f : Follow) (wire : ℤ) (e : Error) (attempt : Attempt) → AttemptFails attempt wire e → Attempted new log log' f attempt → Moved log log' f idle
   failed_by new log log' f wire e not_sent fails a = a
   failed_by new log log' f wire e (waits ticket) fails a = absurd fails
   failed_by new log log' f wire e (answered seen) fails a = a.0
 
-  ran_by : (new : Awaited) (log log' : Told) (f : Follow) (wire : ℤ) (hold : ℕ → Sending) → ((ticket : ℕ) → place_of new (hold ticket).stage ≡ new ticket) → (attempt : Attempt) (result : Step Sending (List ℕ)) → Gives attempt wire hold result → Attempted new log log' f attempt → Ran new log log' f result
+  ran_by : (new : Awaited) (log log' : LogTold) (f : Follow) (wire : ℤ) (hold : ℕ → Sending) → ((ticket : ℕ) → place_of new (hold ticket).stage ≡ new ticket) → (attempt : Attempt) (result : Step Sending (List ℕ)) → AttemptGives attempt wire hold result → Attempted new log log' f attempt → Ran new log log' f result
   ran_by new log log' f wire hold held attempt (step.Pending s) g a =
       let here = subst (Attempted new log log' f) g.1 a in
       subst (λ (place : Option ℕ). Moved log log' f (waiting_at place)) (sym (ap (λ (x : Sending). place_of new x.stage) g.2 ∙ held g.0)) here
@@ -138,19 +138,19 @@ module _ (command : List ℕ) (idle : Follow) (waiting_at : Option ℕ → Follo
   held_stage new (second old) ticket = refl
 
   -- an attempt behind which the command is sent once more left the stream idle
-  idle_again : (new : Awaited) (log log' : Told) (f : Follow) (retries : Bool) (stage : Stage) (attempt : Attempt) → is_repeated retries stage attempt ≡ true → Attempted new log log' f attempt → Moved log log' f idle
+  idle_again : (new : Awaited) (log log' : LogTold) (f : Follow) (retries : Bool) (stage : Stage) (attempt : Attempt) → is_repeated retries stage attempt ≡ true → Attempted new log log' f attempt → Moved log log' f idle
   idle_again new log log' f retries stage not_sent again a = a
   idle_again new log log' f retries stage (waits ticket) again a = absurd (not_repeated retries stage ticket again)
   idle_again new log log' f retries stage (answered seen) again a = a.0
 
-  join_idle : (log mid log' : Told) (f : Follow) (new : Awaited) (result : Step Sending (List ℕ)) → Moved log mid f idle → Ran new mid log' idle result → Ran new log log' f result
+  join_idle : (log mid log' : LogTold) (f : Follow) (new : Awaited) (result : Step Sending (List ℕ)) → Moved log mid f idle → Ran new mid log' idle result → Ran new log log' f result
   join_idle log mid log' f new (step.Pending s) m ran = moved log mid log' f idle (waiting_at (place_of new s.stage)) m ran
   join_idle log mid log' f new (step.Done bytes) m ran =
       (moved log mid log' f idle idle m ran.0, λ b is. let r = ran.1 b is in (r.0, λ batch reads. moved log mid log' f idle (done r.0 batch) m (r.1 batch reads)))
   join_idle log mid log' f new (step.Failed e) m ran = moved log mid log' f idle idle m ran
 
   -- A poll of the request moves the stream from the stage before to that behind it, to the batch that is read of its reply, or to idle.
-  pub ran : (old new : Awaited) (log log' : Told) (wire : ℤ) (s : Sending) (result : Step Sending (List ℕ)) → s.command ≡ command → Runs old new log log' wire s result → Ran new log log' (at_stage idle waiting_at old s.stage) result
+  pub ran : (old new : Awaited) (log log' : LogTold) (wire : ℤ) (s : Sending) (result : Step Sending (List ℕ)) → s.command ≡ command → Runs old new log log' wire s result → Ran new log log' (at_stage idle waiting_at old s.stage) result
   ran old new log log' wire s result is (inl once) =
       ran_by new log log' (at_stage idle waiting_at old s.stage) wire (λ ticket. record s { stage = holding s.stage ticket }) (held_stage new s.stage) once.attempt result once.gives
       (tried old new log log' s.stage once.attempt (subst (λ (c : List ℕ). Tries old new log log' c s.stage once.attempt) is once.tries))

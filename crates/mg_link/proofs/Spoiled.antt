@@ -27,7 +27,7 @@ resume_never calls k call f place bytes is at spoiled history position facts h =
     subst (λ (t : Told). AfterOpen (state_of history) f.watch facts.place t) (told_heard h.step bytes (asks_watch f.watch a.start) a.asks h.fits ∙ spoiled a.start) a.tells
 
 -- The reply to a getMore is none that a server may give: whatever is kept of it, in no legal history does the log stand.
-pub more_garbled : (log log' : link.Told) (f : Follow) (place : Option ℕ) (bytes : List ℕ) (batch : Batch) → f.doing ≡ asking place → ((space : Space) → told (asks_more f.cursor space) bytes ≡ garbled) → Sees log log' place (reply bytes) → Moved log log' f (given_with f batch)
+pub more_garbled : (log log' : link.LogTold) (f : Follow) (place : Option ℕ) (bytes : List ℕ) (batch : Batch) → f.doing ≡ asking place → ((space : Space) → told (asks_more f.cursor space) bytes ≡ garbled) → Sees log log' place (reply bytes) → Moved log log' f (given_with f batch)
 more_garbled log log' f place bytes batch is spoiled sees calls told_log =
     let s = sees calls told_log in
     let never = λ (kn : KnowsOpen calls f) (history : List Step) (legal : IsLegal history) (stands : Stands calls history) (stands' : Stands (see s.0 (reply bytes) calls) history).
@@ -44,7 +44,7 @@ more_garbled log log' f place bytes batch is spoiled sees calls told_log =
     )
 
 -- The same of the aggregate of a resumption.
-pub resume_garbled : (log log' : link.Told) (f : Follow) (place : Option ℕ) (bytes : List ℕ) (batch : Batch) → f.doing ≡ resuming place → ((start : Start) → told (asks_watch f.watch start) bytes ≡ garbled) → Sees log log' place (reply bytes) → Moved log log' f (resumed_with f batch)
+pub resume_garbled : (log log' : link.LogTold) (f : Follow) (place : Option ℕ) (bytes : List ℕ) (batch : Batch) → f.doing ≡ resuming place → ((start : Start) → told (asks_watch f.watch start) bytes ≡ garbled) → Sees log log' place (reply bytes) → Moved log log' f (resumed_with f batch)
 resume_garbled log log' f place bytes batch is spoiled sees calls told_log =
     let s = sees calls told_log in
     let never = λ (kn : KnowsOpen calls f) (history : List Step) (legal : IsLegal history) (stands : Stands calls history) (stands' : Stands (see s.0 (reply bytes) calls) history).
@@ -61,7 +61,7 @@ resume_garbled log log' f place bytes batch is spoiled sees calls told_log =
     )
 
 -- The server holds the cursor no more: a stream that owes a resumption lets go of it.
-pub cursor_dropped : (log log' : link.Told) (f : Follow) → f.doing ≡ owing → log' ≡ log → Moved log log' f (record f { doing = owing; cursor = pos 0; old = pos 0 })
+pub cursor_dropped : (log log' : link.LogTold) (f : Follow) → f.doing ≡ owing → log' ≡ log → Moved log log' f (record f { doing = owing; cursor = pos 0; old = pos 0 })
 cursor_dropped log log' f is same calls told_log = (
   calls,
   same ∙ told_log,

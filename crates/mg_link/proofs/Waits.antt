@@ -1,7 +1,7 @@
 -- A request that waits still, of a command that is sent once.
 use Rattle.std.proofs.Common.{◌≡◌, ℕ, ℤ, Bool, true, false, refl, ap, ◌∙◌, inl, inr}
 use Rattle.mg_link.specs.Exec.{Attempt, Stage, unsent, first, second, Sending, Runs, holding, is_repeated}
-use Rattle.mg_link.specs.Link.{Awaited, Told}
+use Rattle.mg_link.specs.Link.{Awaited, LogTold}
 use Rattle.mg_link.specs.declared.action.Step.TheVariants as step
 
 -- it was not sent, or its first attempt waits
@@ -28,7 +28,7 @@ pub record WaitsStill (s s' : Sending) : Type 0 where
   pub ticket : ℕ
   pub waits_by : s'.stage ≡ first ticket
 
-pub waits_still : (old new : Awaited) (log log' : Told) (wire : ℤ) (s s' : Sending) → s.retries ≡ false → IsFirstTry s.stage → Runs old new log log' wire s (step.Pending s') → WaitsStill s s'
+pub waits_still : (old new : Awaited) (log log' : LogTold) (wire : ℤ) (s s' : Sending) → s.retries ≡ false → IsFirstTry s.stage → Runs old new log log' wire s (step.Pending s') → WaitsStill s s'
 waits_still old new log log' wire s s' single at (inl once) =
     let g = once.gives in
     record {

@@ -10,7 +10,7 @@ use Rattle.mg_link.specs.Causes.{Rose, RoseJust}
 use Rattle.mg_link.specs.Log.{waiting, reply, fault, memory}
 use Rattle.mg_link.specs.Reply.{verdict_of}
 use Rattle.mg_link.specs.declared.action.Step.{Step}
-use Rattle.mg_link.specs.Link.{Awaited, Told}
+use Rattle.mg_link.specs.Link.{Awaited, LogTold}
 use Rattle.mg_link.specs.Exec as exec
 
 abbrev pub attempt_of : Attempt → exec.Attempt
@@ -55,18 +55,18 @@ abbrev pub held : List ℕ → Bool → Bool → ℕ → exec.Sending
 held command retries again ticket = record { command = command; retries = retries; stage = stage_held again ticket }
 
 -- the attempt is the last, and nothing more is sent
-pub record Stops (old new : Awaited) (log log' : Told) (wire : ℤ) (command : List ℕ) (retries : Bool) (attempt : exec.Attempt) (pended pended' : ℕ) (result : Step exec.Sending (List ℕ)) : Type 0 where
+pub record Stops (old new : Awaited) (log log' : LogTold) (wire : ℤ) (command : List ℕ) (retries : Bool) (attempt : exec.Attempt) (pended pended' : ℕ) (result : Step exec.Sending (List ℕ)) : Type 0 where
   pub awaited_same : new ≡ old
   pub log_same : log' ≡ log
   pub pended_same : pended' ≡ pended
   pub last : retries && exec.is_retried_attempt attempt ≡ false
-  pub gives : exec.Gives attempt wire (held command retries false) result
+  pub gives : exec.AttemptGives attempt wire (held command retries false) result
 
 -- the command is sent once more
-pub record Repeats (old new : Awaited) (log log' : Told) (wire : ℤ) (command : List ℕ) (retries : Bool) (attempt : exec.Attempt) (faulted faulted' pended pended' : ℕ) (prompts : Type 0) (result : Step exec.Sending (List ℕ)) : Type 0 where
+pub record Repeats (old new : Awaited) (log log' : LogTold) (wire : ℤ) (command : List ℕ) (retries : Bool) (attempt : exec.Attempt) (faulted faulted' pended pended' : ℕ) (prompts : Type 0) (result : Step exec.Sending (List ℕ)) : Type 0 where
   pub repeated : retries && exec.is_retried_attempt attempt ≡ true
   pub again : exec.Attempt
   pub begins : exec.Begins old new log log' command again
   pub counts : HasCounts again faulted faulted' pended pended'
   pub at_once : prompts → IsAtOnce again
-  pub gives : exec.Gives again wire (held command retries true) result
+  pub gives : exec.AttemptGives again wire (held command retries true) result

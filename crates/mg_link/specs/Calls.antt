@@ -5,7 +5,7 @@ use Rattle.mg_bson.specs.Raw.{fields}
 use Rattle.mg_bson.specs.Reading.{doc}
 use Rattle.mg_link.specs.Errors.{plain}
 use Rattle.mg_link.specs.Exec.{FailsByReply, IsSuccess, Sending, Stage, unsent, first, second}
-use Rattle.mg_link.specs.Link.{Awaited, Told}
+use Rattle.mg_link.specs.Link.{Awaited, LogTold}
 use Rattle.mg_link.specs.Log.{Sight, waiting, reply, fault, Call}
 use Rattle.mg_link.specs.Owner.{IsOf}
 use Rattle.mg_link.specs.Retry.{is_retried}
@@ -85,7 +85,7 @@ abbrev pub Keeps : List Call → List Call → Type 0
 Keeps calls calls' = (place : ℕ) (call : Call) → slice_get calls place ≡ Some call → (call' : Call) × (slice_get calls' place ≡ Some call') × (call'.command ≡ call.command) × ((call.seen ≡ waiting → ⊥) → call' ≡ call)
 
 -- the same of logs that are told
-abbrev pub Stays : Told → Told → Type 0
+abbrev pub Stays : LogTold → LogTold → Type 0
 Stays log log' = (calls : List Call) → log ≡ Some calls → (calls' : List Call) × (log' ≡ Some calls') × Keeps calls calls'
 
 -- what was the call's own is so still

@@ -11,8 +11,8 @@ use Rattle.mg_link.specs.declared.error.Malformed.TheVariants as malformed
 use Rattle.mg_link.specs.declared.reply.Verdict.{Verdict}
 use Rattle.mg_link.specs.declared.reply.Verdict.TheVariants as verdict
 use Rattle.mg_link.specs.Errors.{plain}
-use Rattle.mg_link.specs.Failures.{Tells}
-use Rattle.mg_link.specs.Link.{Awaited, Told, Starts, Sends, SendsNothing, Waits, Ends}
+use Rattle.mg_link.specs.Failures.{ErrorTells}
+use Rattle.mg_link.specs.Link.{Awaited, LogTold, Starts, Sends, SendsNothing, Waits, Ends}
 use Rattle.mg_link.specs.Log.{Sight, waiting, reply, fault, memory}
 use Rattle.mg_link.specs.Reply.{refusal_of, verdict_of}
 use Rattle.mg_link.specs.Retry.{is_retried}
@@ -45,19 +45,19 @@ abbrev pub ticket_of : Sending → Option ℕ
 ticket_of s = ticket_at s.stage
 
 -- what an attempt that begins does to the link
-abbrev pub Begins : Awaited → Awaited → Told → Told → List ℕ → Attempt → Type 0
+abbrev pub Begins : Awaited → Awaited → LogTold → LogTold → List ℕ → Attempt → Type 0
 Begins old new log log' command not_sent = SendsNothing old new log log'
 Begins old new log log' command (waits ticket) = Starts old new log log' ticket command
 Begins old new log log' command (answered seen) = Sends old new log log' command seen
 
 -- what an attempt that waited does to the link
-abbrev pub GoesOn : Awaited → Awaited → Told → Told → ℕ → Attempt → Type 0
+abbrev pub GoesOn : Awaited → Awaited → LogTold → LogTold → ℕ → Attempt → Type 0
 GoesOn old new log log' ticket not_sent = ⊥
 GoesOn old new log log' ticket (waits given) = Waits old new log log' ticket given
 GoesOn old new log log' ticket (answered seen) = Ends old new log log' ticket seen
 
 -- what the attempt at this stage does to the link
-abbrev pub Tries : Awaited → Awaited → Told → Told → List ℕ → Stage → Attempt → Type 0
+abbrev pub Tries : Awaited → Awaited → LogTold → LogTold → List ℕ → Stage → Attempt → Type 0
 Tries old new log log' command unsent attempt = Begins old new log log' command attempt
 Tries old new log log' command (first ticket) attempt = GoesOn old new log log' ticket attempt
 Tries old new log log' command (second ticket) attempt = GoesOn old new log log' ticket attempt
@@ -80,7 +80,7 @@ IsSuccess bytes = verdict_of (fields bytes) ≡ verdict.Success
 -- why a reply is no success; want of memory may take the place of a refusal
 abbrev pub FailsAs : Verdict → Fields → ℤ → Error → Type 0
 FailsAs verdict.Success said wire e = ⊥
-FailsAs verdict.Refusal said wire e = (e ≡ plain kind.OutOfMemory) ⊎ Tells (refusal_of said) wire e
+FailsAs verdict.Refusal said wire e = (e ≡ plain kind.OutOfMemory) ⊎ ErrorTells (refusal_of said) wire e
 FailsAs verdict.NoOk said wire e = e ≡ plain (kind.InvalidResponse malformed.NoOk)
 
 abbrev pub FailsByReply : Option Fields → ℤ → Error → Type 0
@@ -97,10 +97,10 @@ AttemptFails (answered fault) wire e = e ≡ plain kind.Io
 AttemptFails (answered memory) wire e = e ≡ plain kind.OutOfMemory
 
 -- what a poll answers by what came of its last attempt
-abbrev pub Gives : Attempt → ℤ → (ℕ → Sending) → Step Sending (List ℕ) → Type 0
-Gives attempt wire holding (step.Pending s) = (ticket : ℕ) × (attempt ≡ waits ticket) × (s ≡ holding ticket)
-Gives attempt wire holding (step.Done bytes) = (attempt ≡ answered (reply bytes)) × IsSuccess bytes
-Gives attempt wire holding (step.Failed e) = AttemptFails attempt wire e
+abbrev pub AttemptGives : Attempt → ℤ → (ℕ → Sending) → Step Sending (List ℕ) → Type 0
+AttemptGives attempt wire holding (step.Pending s) = (ticket : ℕ) × (attempt ≡ waits ticket) × (s ≡ holding ticket)
+AttemptGives attempt wire holding (step.Done bytes) = (attempt ≡ answered (reply bytes)) × IsSuccess bytes
+AttemptGives attempt wire holding (step.Failed e) = AttemptFails attempt wire e
 
 -- the stage of an attempt that waits still, or waits now
 abbrev pub holding : Stage → ℕ → Stage
@@ -109,25 +109,25 @@ holding (first old) ticket = first ticket
 holding (second old) ticket = second ticket
 
 -- a poll with one attempt, which is not repeated
-pub record Once (old new : Awaited) (log log' : Told) (wire : ℤ) (s : Sending) (result : Step Sending (List ℕ)) : Type 0 where
+pub record Once (old new : Awaited) (log log' : LogTold) (wire : ℤ) (s : Sending) (result : Step Sending (List ℕ)) : Type 0 where
   pub attempt : Attempt
   pub tries : Tries old new log log' s.command s.stage attempt
   pub last : is_repeated s.retries s.stage attempt ≡ false
-  pub gives : Gives attempt wire (λ ticket. record s { stage = holding s.stage ticket }) result
+  pub gives : AttemptGives attempt wire (λ ticket. record s { stage = holding s.stage ticket }) result
 
 -- a poll whose attempt was lost or refused, and in which the same command was sent once more
-pub record Twice (old new : Awaited) (log log' : Told) (wire : ℤ) (s : Sending) (result : Step Sending (List ℕ)) : Type 0 where
+pub record Twice (old new : Awaited) (log log' : LogTold) (wire : ℤ) (s : Sending) (result : Step Sending (List ℕ)) : Type 0 where
   pub attempt : Attempt
   pub between : Awaited
-  pub log_between : Told
+  pub log_between : LogTold
   pub tries : Tries old between log log_between s.command s.stage attempt
   pub repeated : is_repeated s.retries s.stage attempt ≡ true
   pub again : Attempt
   pub begins : Begins between new log_between log' s.command again
-  pub gives : Gives again wire (λ ticket. record s { stage = second ticket }) result
+  pub gives : AttemptGives again wire (λ ticket. record s { stage = second ticket }) result
 
 -- what a poll does
-abbrev pub Runs : Awaited → Awaited → Told → Told → ℤ → Sending → Step Sending (List ℕ) → Type 0
+abbrev pub Runs : Awaited → Awaited → LogTold → LogTold → ℤ → Sending → Step Sending (List ℕ) → Type 0
 Runs old new log log' wire s result = Once old new log log' wire s result ⊎ Twice old new log log' wire s result
 
 -- ---- the start of a command
@@ -144,7 +144,7 @@ was_started (first ticket) attempt = false
 was_started (second ticket) attempt = false
 
 -- what a poll does, and whether the command was started in it
-abbrev pub RunsStarting : Awaited → Awaited → Told → Told → ℤ → Sending → Step Sending (List ℕ) → Bool → Type 0
+abbrev pub RunsStarting : Awaited → Awaited → LogTold → LogTold → ℤ → Sending → Step Sending (List ℕ) → Bool → Type 0
 RunsStarting old new log log' wire s result started =
     ((once : Once old new log log' wire s result) × (started ≡ was_started s.stage once.attempt))
     ⊎ ((twice : Twice old new log log' wire s result) × (started ≡ was_started s.stage twice.attempt))

@@ -14,6 +14,6 @@ abbrev pub refusal_in : Error → Option Refusal
 refusal_in e = refusal_by e.kind e.labels
 
 -- the error tells of this refusal, over a link of this wire version
-pub record Tells (told : Refusal) (version : ℤ) (e : Error) : Type 0 where
+pub record ErrorTells (told : Refusal) (version : ℤ) (e : Error) : Type 0 where
   pub refusal : refusal_in e ≡ Some told
   pub wire : e.wire_version ≡ Some version

@@ -118,6 +118,6 @@ Leaves command b id = (s : State) (step : Step) → step.command ≡ command →
 -- ---- moves
 
 -- An upload went from one log and file to another: it goes on knowing. What it sent at these places before, and what was added to the log, is its own.
-abbrev pub FileMoved : link.Told → link.Told → ℤ → Bucket → Tree → Filing → Filing → Type 0
+abbrev pub FileMoved : link.LogTold → link.LogTold → ℤ → Bucket → Tree → Filing → Filing → Type 0
 FileMoved log log' wire b id filing filing' = (calls : List Call) → log ≡ Some calls → (places : List ℕ) → KnowsFile (past_of places (length calls) calls wire) b id filing
     → (calls' : List Call) × (log' ≡ Some calls') × KnowsFile (past_of places (length calls) calls' wire) b id filing'

@@ -13,23 +13,23 @@ abbrev pub Awaited : Type 0
 Awaited = ℕ → Option ℕ
 
 -- the calls, where the link tells them
-abbrev pub Told : Type 0
-Told = Option (List Call)
+abbrev pub LogTold : Type 0
+LogTold = Option (List Call)
 
 -- how many polls pended of the call at each place of the log
 abbrev pub Polls : Type 0
 Polls = ℕ → ℕ
 
 -- a call with this command is added at the end of a log that is told
-abbrev pub Adds : Told → Told → List ℕ → Sight → Type 0
+abbrev pub Adds : LogTold → LogTold → List ℕ → Sight → Type 0
 Adds old new command seen = (calls : List Call) → old ≡ Some calls → (position : Option ℕ) × (new ≡ Some (calls ++ record { command = command; position = position; seen = seen } ∷ []))
 
 -- the call at this place of a log that is told, which was waiting, has seen this
-abbrev pub Sees : Told → Told → Option ℕ → Sight → Type 0
+abbrev pub Sees : LogTold → LogTold → Option ℕ → Sight → Type 0
 Sees old new place seen = (calls : List Call) → old ≡ Some calls → (k : ℕ) × (call : Call) × (place ≡ Some k) × (slice_get calls k ≡ Some call) × (call.seen ≡ waiting) × (new ≡ Some (see k seen calls))
 
 -- a command was started: the number of its ticket is new, and goes with the call that the log has more
-pub record Starts (old new : Awaited) (log log' : Told) (number : ℕ) (command : List ℕ) : Type 0 where
+pub record Starts (old new : Awaited) (log log' : LogTold) (number : ℕ) (command : List ℕ) : Type 0 where
   pub fresh : old number ≡ None
   pub out : IsSome (new number)
   pub place : (calls : List Call) → log ≡ Some calls → new number ≡ Some (length calls)
@@ -37,35 +37,35 @@ pub record Starts (old new : Awaited) (log log' : Told) (number : ℕ) (command 
   pub adds : Adds log log' command waiting
 
 -- a command was sent, and nothing more comes of it: no ticket is out for it, and its call has seen this
-pub record Sends (old new : Awaited) (log log' : Told) (command : List ℕ) (seen : Sight) : Type 0 where
+pub record Sends (old new : Awaited) (log log' : LogTold) (command : List ℕ) (seen : Sight) : Type 0 where
   pub rest : (m : ℕ) → new m ≡ old m
   pub adds : Adds log log' command seen
 
 -- nothing was sent
-pub record SendsNothing (old new : Awaited) (log log' : Told) : Type 0 where
+pub record SendsNothing (old new : Awaited) (log log' : LogTold) : Type 0 where
   pub rest : (m : ℕ) → new m ≡ old m
   pub log_same : log' ≡ log
 
 -- the reply is not there yet: the ticket is given back
-pub record Waits (old new : Awaited) (log log' : Told) (number given : ℕ) : Type 0 where
+pub record Waits (old new : Awaited) (log log' : LogTold) (number given : ℕ) : Type 0 where
   pub same : given ≡ number
   pub rest : (m : ℕ) → new m ≡ old m
   pub log_same : log' ≡ log
 
 -- the call of this number has seen its answer, and its ticket is gone
-pub record Ends (old new : Awaited) (log log' : Told) (number : ℕ) (seen : Sight) : Type 0 where
+pub record Ends (old new : Awaited) (log log' : LogTold) (number : ℕ) (seen : Sight) : Type 0 where
   pub gone : new number ≡ None
   pub rest : (m : ℕ) → m ≢ number → new m ≡ old m
   pub sees : Sees log log' (old number) seen
 
 -- what a start does
-abbrev pub StartMeans : Awaited → Awaited → Told → Told → List ℕ → Result Ticket LinkError → Type 0
+abbrev pub StartMeans : Awaited → Awaited → LogTold → LogTold → List ℕ → Result Ticket LinkError → Type 0
 StartMeans old new log log' command (Ok number) = Starts old new log log' number command
 StartMeans old new log log' command (Err error.Fault) = Sends old new log log' command fault
 StartMeans old new log log' command (Err error.Memory) = SendsNothing old new log log'
 
 -- what a poll does
-abbrev pub PollMeans : Awaited → Awaited → Told → Told → ℕ → Polled → Type 0
+abbrev pub PollMeans : Awaited → Awaited → LogTold → LogTold → ℕ → Polled → Type 0
 PollMeans old new log log' number (polled.Pending given) = Waits old new log log' number given
 PollMeans old new log log' number (polled.Reply bytes) = Ends old new log log' number (reply bytes.items)
 PollMeans old new log log' number polled.Failed = Ends old new log log' number fault

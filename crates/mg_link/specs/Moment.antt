@@ -2,7 +2,7 @@
 use Rattle.std.specs.Prelude.{◌≡◌, ℕ, ℤ, Option}
 use Rattle.mg_link.specs.Acts.{PendsAfter, Tickets}
 use Rattle.mg_link.specs.Causes.{Rose}
-use Rattle.mg_link.specs.Link.{Awaited, Told, Later}
+use Rattle.mg_link.specs.Link.{Awaited, LogTold, Later}
 use Rattle.mg_link.specs.declared.action.Step.{Step}
 use Rattle.mg_link.specs.declared.action.Step.TheVariants as step
 use Rattle.mg_link.specs.declared.error.Error.{Error}
@@ -12,7 +12,7 @@ use Rattle.mg_link.specs.declared.error.ErrorKind.TheVariants as kind
 pub record Moment : Type 1 where
   -- the tickets that are out, and the calls, where it tells them
   pub awaited : Awaited
-  pub log : Told
+  pub log : LogTold
   -- how many faults and how many pending replies it answered
   pub faults : ℕ
   pub pends : ℕ
@@ -21,7 +21,7 @@ pub record Moment : Type 1 where
   pub prompt : Type 0
 
 -- the same, by its parts
-abbrev pub moment : Awaited → Told → ℕ → ℕ → ℤ → Type 0 → Moment
+abbrev pub moment : Awaited → LogTold → ℕ → ℕ → ℤ → Type 0 → Moment
 moment awaited log faults pends wire prompt = record { awaited = awaited; log = log; faults = faults; pends = pends; wire = wire; prompt = prompt }
 
 -- how a poll ended

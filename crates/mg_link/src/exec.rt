@@ -4,7 +4,7 @@ ghost use Rattle.mg_bson.specs.Raw.{fields};
 ghost use Rattle.mg_link.specs.declared.reply.Verdict.TheVariants as verdict;
 ghost use Rattle.mg_link.specs.Acts.{EndsAtOnce, FailsByFault, IsOut, Pended, Tickets, ticket_after};
 ghost use Rattle.mg_link.specs.Link.{Later};
-ghost use Rattle.mg_link.specs.Exec.{FailsAs, Gives, Runs, RunsStarting, is_retried_attempt, ticket_of};
+ghost use Rattle.mg_link.specs.Exec.{FailsAs, AttemptGives, Runs, RunsStarting, is_retried_attempt, ticket_of};
 ghost use Rattle.mg_link.specs.Attempts.{Reads, Repeats, Stops, attempt_of, held, stage_held};
 ghost use Rattle.mg_link.specs.Exec as exec;
 ghost use Rattle.mg_link.specs.ExecView.{reads, stage_of};
@@ -160,7 +160,7 @@ fn answer<L: Link>(
     again: bool,
     judged: Judged,
 ) -> Step<Exec, RawDocumentBuf>
-    ensures { (attempt : exec.Attempt) → Reads attempt judged → Gives attempt (L.wire link.now) (held command (reads retry) again) result }
+    ensures { (attempt : exec.Attempt) → Reads attempt judged → AttemptGives attempt (L.wire link.now) (held command (reads retry) again) result }
 {
     match judged {
         Judged::Waits(ticket) => Step::Pending(Exec {

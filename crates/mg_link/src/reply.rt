@@ -3,7 +3,7 @@ ghost use Rattle.std.specs.Prelude.{◌≡◌, IfOk, map, string_bytes};
 ghost use Rattle.mg_bson.specs.Raw.{fields, items};
 ghost use Rattle.mg_bson.specs.RawView.{value};
 ghost use Rattle.mg_link.specs.Reply.{code_of, labels_of, refusal_of, succeeds_if, text_at, texts_of, verdict_by, verdict_of};
-ghost use Rattle.mg_link.specs.Failures.{Tells};
+ghost use Rattle.mg_link.specs.Failures.{ErrorTells};
 
 use crate::error::{CommandError, Error, ErrorKind, OutOfMemory};
 use crate::labels::Labels;
@@ -112,7 +112,7 @@ fn labels_of(alloc: Global, reply: &RawDocument<'_>) -> Result<Labels, OutOfMemo
 /// this call itself comes only for want of memory.
 #[tactic(auto, unfolding(crate::specs::Reply::refusal_of))]
 pub fn refusal(alloc: Global, reply: &RawDocument<'_>, wire: i32) -> Result<Error, OutOfMemory>
-    ensures { IfOk result (λ e. Tells (refusal_of (fields reply.now)) wire e) }
+    ensures { IfOk result (λ e. ErrorTells (refusal_of (fields reply.now)) wire e) }
 {
     let code_name = text_at(alloc, reply, "codeName")?;
     let message = text_at(alloc, reply, "errmsg")?;

@@ -6,8 +6,8 @@ use Rattle.mg_bson.specs.Tree.{Fields}
 use Rattle.mg_bson.specs.declared.object_id.ObjectId.{ObjectId}
 use Rattle.mg_link.specs.Calls.{Grows, IsOwn, Keeps, Past, past_of}
 use Rattle.mg_link.specs.Commands.{asked, asks_insert, inserted, told}
-use Rattle.mg_link.specs.Exec.{Stage, unsent, first, second, Sending, Attempt, not_sent, waits, answered, Begins, GoesOn, Tries, Gives, Runs, IsSuccess, holding, ticket_at, ticket_of}
-use Rattle.mg_link.specs.Link.{Awaited, Told}
+use Rattle.mg_link.specs.Exec.{Stage, unsent, first, second, Sending, Attempt, not_sent, waits, answered, Begins, GoesOn, Tries, AttemptGives, Runs, IsSuccess, holding, ticket_at, ticket_of}
+use Rattle.mg_link.specs.Link.{Awaited, LogTold}
 use Rattle.mg_link.specs.Log.{Sight, waiting, reply, Call, see}
 use Rattle.mg_link.specs.Namespace.{Space}
 use Rattle.mg_link.specs.declared.action.Step.{Step}
@@ -153,10 +153,10 @@ module _ (space : Space) (before piece : List Fields) where
 
   -- what it leads to in the log of an insert that sent at these places
   module _ (places : List ℕ) (since : ℕ) (wire : ℤ) where
-    abbrev Leads : Awaited → Told → Attempt → Type 0
+    abbrev Leads : Awaited → LogTold → Attempt → Type 0
     Leads awaited log attempt = (calls : List Call) × (log ≡ Some calls) × (since ≤ length calls) × Tried awaited (past_of places since calls wire) attempt
 
-    abbrev pub LeadsTo : Awaited → Told → Step Sending (List ℕ) → Type 0
+    abbrev pub LeadsTo : Awaited → LogTold → Step Sending (List ℕ) → Type 0
     LeadsTo awaited log result = (calls : List Call) × (log ≡ Some calls) × (since ≤ length calls) × Ran awaited (past_of places since calls wire) result
 
     -- so much was inserted when the log had these calls, and it is when it has more or one has seen its answer
@@ -164,7 +164,7 @@ module _ (space : Space) (before piece : List Fields) where
     base_on calls calls' k keeps done = below_on (past_of places since calls wire) (past_of places since calls' wire) k k space before (log_grows places since calls calls' wire keeps) (omega arith) done
 
     module _ (command : List ℕ) (asks : asked command ≡ asks_insert space piece true) where
-      begins_sent : (old new : Awaited) (log log' : Told) (calls : List Call) (attempt : Attempt) → log ≡ Some calls → since ≤ length calls → InsertedBelow (past_of places since calls wire) (length calls) space before → Begins old new log log' command attempt → Leads new log' attempt
+      begins_sent : (old new : Awaited) (log log' : LogTold) (calls : List Call) (attempt : Attempt) → log ≡ Some calls → since ≤ length calls → InsertedBelow (past_of places since calls wire) (length calls) space before → Begins old new log log' command attempt → Leads new log' attempt
       begins_sent old new log log' calls not_sent told room done b = (calls, b.log_same ∙ told, room, done)
       begins_sent old new log log' calls (waits ticket) told room done b =
           let add = b.adds calls told in
@@ -195,7 +195,7 @@ module _ (space : Space) (before piece : List Fields) where
             heard_at (past_of places since calls' wire) (length calls) call seen (inr room) (get_seam calls [] call) refl asks (base_on calls calls' (length calls) (push_keeps calls call) done),
           )
 
-      goes_on_sent : (old new : Awaited) (log log' : Told) (calls : List Call) (ticket : ℕ) (attempt : Attempt) → log ≡ Some calls → since ≤ length calls → WaitsBehind old (past_of places since calls wire) space before piece ticket → GoesOn old new log log' ticket attempt → Leads new log' attempt
+      goes_on_sent : (old new : Awaited) (log log' : LogTold) (calls : List Call) (ticket : ℕ) (attempt : Attempt) → log ≡ Some calls → since ≤ length calls → WaitsBehind old (past_of places since calls wire) space before piece ticket → GoesOn old new log log' ticket attempt → Leads new log' attempt
       goes_on_sent old new log log' calls ticket not_sent told room f g = absurd g
       goes_on_sent old new log log' calls ticket (waits given) told room f g =
           (calls, g.log_same ∙ told, room, record { place = f.place; call = f.call; at = g.rest given ∙ ap old g.same ∙ f.at; own = f.own; found = f.found; asks = f.asks; done = f.done })
@@ -214,19 +214,19 @@ module _ (space : Space) (before piece : List Fields) where
             heard_at (past_of places since calls' wire) f.place (record f.call { seen = seen }) seen f.own (see_here f.place seen calls f.call f.found) refl f.asks (base_on calls calls' f.place keeps f.done),
           )
 
-      tries_sent : (old new : Awaited) (log log' : Told) (calls : List Call) (stage : Stage) (attempt : Attempt) → log ≡ Some calls → since ≤ length calls → Holding old (past_of places since calls wire) space before piece (ticket_at stage) → Tries old new log log' command stage attempt → Leads new log' attempt
+      tries_sent : (old new : Awaited) (log log' : LogTold) (calls : List Call) (stage : Stage) (attempt : Attempt) → log ≡ Some calls → since ≤ length calls → Holding old (past_of places since calls wire) space before piece (ticket_at stage) → Tries old new log log' command stage attempt → Leads new log' attempt
       tries_sent old new log log' calls unsent attempt told room h t = begins_sent old new log log' calls attempt told room h t
       tries_sent old new log log' calls (first ticket) attempt told room h t = goes_on_sent old new log log' calls ticket attempt told room h t
       tries_sent old new log log' calls (second ticket) attempt told room h t = goes_on_sent old new log log' calls ticket attempt told room h t
 
-    gives_sent : (awaited : Awaited) (log : Told) (attempt : Attempt) (version : ℤ) (hold : ℕ → Sending) (result : Step Sending (List ℕ)) → ((ticket : ℕ) → ticket_of (hold ticket) ≡ Some ticket) → Gives attempt version hold result → Leads awaited log attempt → LeadsTo awaited log result
+    gives_sent : (awaited : Awaited) (log : LogTold) (attempt : Attempt) (version : ℤ) (hold : ℕ → Sending) (result : Step Sending (List ℕ)) → ((ticket : ℕ) → ticket_of (hold ticket) ≡ Some ticket) → AttemptGives attempt version hold result → Leads awaited log attempt → LeadsTo awaited log result
     gives_sent awaited log attempt version hold (step.Pending s) holds g l =
         (l.0, l.1, l.2, flies_held awaited (past_of places since l.0 wire) attempt g.0 (ticket_of s) g.1 (ap (λ (x : Sending). ticket_of x) g.2 ∙ holds g.0) l.3)
     gives_sent awaited log attempt version hold (step.Done bytes) holds g l = (l.0, l.1, l.2, (g.1, done_told awaited (past_of places since l.0 wire) attempt bytes g.0 l.3))
     gives_sent awaited log attempt version hold (step.Failed e) holds g l = (l.0, l.1, l.2, tt)
 
     -- A poll of a command that inserts this piece.
-    pub insert_ran : (old new : Awaited) (log log' : Told) (version : ℤ) (s : Sending) (result : Step Sending (List ℕ)) (calls : List Call) → asked s.command ≡ asks_insert space piece true → log ≡ Some calls → since ≤ length calls → Holding old (past_of places since calls wire) space before piece (ticket_of s) → Runs old new log log' version s result → LeadsTo new log' result
+    pub insert_ran : (old new : Awaited) (log log' : LogTold) (version : ℤ) (s : Sending) (result : Step Sending (List ℕ)) (calls : List Call) → asked s.command ≡ asks_insert space piece true → log ≡ Some calls → since ≤ length calls → Holding old (past_of places since calls wire) space before piece (ticket_of s) → Runs old new log log' version s result → LeadsTo new log' result
     insert_ran old new log log' version s result calls asks told room h (inl once) =
         gives_sent new log' once.attempt version _ result (held_at s.stage) once.gives (tries_sent s.command asks old new log log' calls s.stage once.attempt told room h once.tries)
     insert_ran old new log log' version s result calls asks told room h (inr twice) =

@@ -12,7 +12,7 @@ use Rattle.mg_bson.specs.Raw.{fields}
 use Rattle.mg_bson.specs.declared.object_id.ObjectId.{ObjectId}
 use Rattle.mg_link.specs.Calls.{Flies, Grows, Past, past_of, AddsOnly}
 use Rattle.mg_link.specs.Exec.{Runs, Sending}
-use Rattle.mg_link.specs.Link.{Awaited, Told}
+use Rattle.mg_link.specs.Link.{Awaited, LogTold}
 use Rattle.mg_link.specs.Log.{Call}
 use Rattle.mg_link.specs.Namespace.{Space, space}
 use Rattle.mg_link.specs.declared.action.Step.{Step}
@@ -25,7 +25,7 @@ use Rattle.mg_ops.specs.Failing.{CannotBeInserted, CannotBeSent, FailsBy}
 use Rattle.mg_ops.specs.Limits.{max_documents}
 use Rattle.mg_ops.specs.Writes.{NotInserted}
 use Rattle.mg_ops.proofs.Unread.{unread_fails}
-use Rattle.mg_ops.specs.InsertCauses.{CannotEncode, CannotGoOn, FitTogether, HasSent, HearsCaused, InsertCaused, InsertFails, InsertFlies, InsertWaits, IsBuilt, IsInsertOf, IsLength, IsNextPiece, IsPiece, IsSentFor, LeadsCaused, ListsFor, NextCaused, cannot_encode, cannot_insert, command_fails, max_batch, no_memory, total}
+use Rattle.mg_ops.specs.InsertCauses.{CannotEncode, CannotGoOn, FitTogether, HasSent, HearsCaused, InsertCaused, InsertFails, InsertFlies, InsertWaits, IsBuilt, IsInsertOf, IsLength, IsNextPiece, IsPiece, IsSentFor, LeadsCaused, ListsFor, NextCaused, cannot_encode, cannot_insert, command_fails, max_piece, no_memory, total}
 use Rattle.mg_ops.specs.Inserts.{held, insert_ticket}
 use Rattle.mg_ops.specs.Underway.{IsBatch, IsSameList, IsStarted, sent_of, with_id}
 use Rattle.mg_ops.specs.declared.inserting.Batches.{Batches}
@@ -43,9 +43,9 @@ use Rattle.mg_ops.proofs.Plainly.{same_command}
 
 -- the room that these documents leave, unless a single one is larger than all room
 abbrev pub LeavesRoom : List Fields → ℕ → Type 0
-LeavesRoom batch room = (total batch + room ≡ max_batch) ⊎ ((length batch ≡ 1) × (room ≡ 0))
+LeavesRoom batch room = (total batch + room ≡ max_piece) ⊎ ((length batch ≡ 1) × (room ≡ 0))
 
-room_small : (batch : List Fields) (room : ℕ) → LeavesRoom batch room → room ≤ max_batch
+room_small : (batch : List Fields) (room : ℕ) → LeavesRoom batch room → room ≤ max_piece
 room_small batch room (inl left) = omega (arith, left)
 room_small batch room (inr alone) = let none = alone.1 in omega (arith, none)
 
@@ -74,11 +74,11 @@ module _ (batch : List Fields) (e : Fields) (room : ℕ) where
   room_by n is left (inr none) (inl more) = room_alone n none (omega (arith, more))
   room_by n is left (inr none) (inr le) = room_for n is le left
 
-  room_past : (most : ℕ) → max_batch < most → LeavesRoom batch room → (most ≤ room) ⊎ (length batch ≡ 0) → LeavesRoom (batch ++ e ∷ []) (room - most)
+  room_past : (most : ℕ) → max_piece < most → LeavesRoom batch room → (most ≤ room) ⊎ (length batch ≡ 0) → LeavesRoom (batch ++ e ∷ []) (room - most)
   room_past most large left (inl le) = absurd (let small = room_small batch room left in omega (arith, large, le, small))
   room_past most large left (inr none) = let small = room_small batch room left in room_alone most none (omega (arith, large, small))
 
-  pub room_more : (o : Option ℕ) (most n : ℕ) → max_batch < most → IsLength e o → n ≡ unwrap_or o most → (n ≤ room) ⊎ (length batch ≡ 0) → LeavesRoom batch room → LeavesRoom (batch ++ e ∷ []) (room - n)
+  pub room_more : (o : Option ℕ) (most n : ℕ) → max_piece < most → IsLength e o → n ≡ unwrap_or o most → (n ≤ room) ⊎ (length batch ≡ 0) → LeavesRoom batch room → LeavesRoom (batch ++ e ∷ []) (room - n)
   room_more None most n large long is fits left = subst (λ (k : ℕ). LeavesRoom (batch ++ e ∷ []) (room - k)) (sym is) (room_past most large left (subst (λ (k : ℕ). (k ≤ room) ⊎ (length batch ≡ 0)) is fits))
   room_more (Some m) most n large long is fits left = room_by n (is ∙ long) left fits (cases_lt room n)
 
@@ -168,11 +168,11 @@ module _ (b b' : Batches) where
 
 -- ---- what a poll of a command comes to
 
-same_retries : (old new : Awaited) (log log' : Told) (wire : ℤ) (s s' : Sending) → Runs old new log log' wire s (step.Pending s') → s'.retries ≡ s.retries
+same_retries : (old new : Awaited) (log log' : LogTold) (wire : ℤ) (s s' : Sending) → Runs old new log log' wire s (step.Pending s') → s'.retries ≡ s.retries
 same_retries old new log log' wire s s' (inl once) = ap (λ (x : Sending). x.retries) once.gives.2
 same_retries old new log log' wire s s' (inr twice) = ap (λ (x : Sending). x.retries) twice.gives.2
 
-module _ (old new : Awaited) (log log' : Told) (wire : ℤ) (c : Command) where
+module _ (old new : Awaited) (log log' : LogTold) (wire : ℤ) (c : Command) where
   -- it adds its own command alone
   command_adds : (awaited : Awaited) (past : Past) (at : Space) (ds : List Fields) (result : Step Sending (List ℕ)) → Runs old new log log' wire c.exec result → IsSentFor awaited past at ds c → (calls calls' : List Call) → log ≡ Some calls → log' ≡ Some calls' → AddsOnly (IsInsertOf at ds) calls calls'
   command_adds awaited past at ds result runs s calls calls' told told' = adds_ran (IsInsertOf at ds) old new log log' wire c.exec result (record { piece = c.insert.documents.items; part = s.part; command_is = s.command_is }) runs calls calls' told told'
@@ -211,7 +211,7 @@ module _ (old new : Awaited) (log log' : Told) (wire : ℤ) (c : Command) where
 
 -- ---- the commands of an insert, one after another
 
-module _ (old mid : Awaited) (log log' : Told) (wire : ℤ) (i : Inserting) (b b' : Batches) (w : Option Command) (lead : LeadsCaused old mid log log' wire i b w) where
+module _ (old mid : Awaited) (log log' : LogTold) (wire : ℤ) (i : Inserting) (b b' : Batches) (w : Option Command) (lead : LeadsCaused old mid log log' wire i b w) where
   pub led_finished : (n : ℕ) → InsertCaused old mid log log' wire i (step.Done n)
   led_finished n calls told places at ds h = let x = lead calls told places at ds h in (x.0, x.1, tt, x.4)
 
@@ -220,7 +220,7 @@ module _ (old mid : Awaited) (log log' : Told) (wire : ℤ) (i : Inserting) (b b
       let x = lead calls told places at ds h in
       (x.0, x.1, goes mid (past_of places (length calls) x.0 wire) at ds x.3, x.4)
 
-  module _ (new : Awaited) (log'' : Told) (wire' : ℤ) (same : wire' ≡ wire) (c : Command) (goes : NextCaused b b' w (next.Send c)) where
+  module _ (new : Awaited) (log'' : LogTold) (wire' : ℤ) (same : wire' ≡ wire) (c : Command) (goes : NextCaused b b' w (next.Send c)) where
     heard_at_wire : (h : Heard) → HearsCaused mid new log' log'' wire' c h → HearsCaused mid new log' log'' wire c h
     heard_at_wire h hears = subst (λ (v : ℤ). HearsCaused mid new log' log'' v c h) same hears
 

@@ -4,7 +4,7 @@ use Rattle.std.specs.Prelude.{◌⊎◌}
 use Rattle.mg_bson.specs.Tree.{Fields}
 use Rattle.mg_bson.specs.Raw.{fields}
 use Rattle.mg_link.specs.Exec.{Stage, Runs, ticket_at, ticket_of}
-use Rattle.mg_link.specs.Link.{Awaited, Told}
+use Rattle.mg_link.specs.Link.{Awaited, LogTold}
 use Rattle.mg_link.specs.Namespace.{Space, space}
 use Rattle.mg_link.specs.declared.action.Step.{Step}
 use Rattle.mg_link.specs.declared.action.Step.TheVariants as step
@@ -27,22 +27,22 @@ pub pieces_on : (at : Space) (sent : List Fields) (from : ℕ) (cs : List Fields
 pieces_on at sent from [] between ds upto is more = subst (λ (n : ℕ). InsertPieces at sent n ds upto) is more
 pieces_on at sent from (c ∷ cs) between ds upto first more = (first.0, first.1, pieces_on at sent first.0 cs between ds upto first.2 more)
 
-pub sends_none : (log log' : Told) (at : Space) (sent : List Fields) (from upto : ℕ) → AddsJust log log' [] → upto ≡ from → SendsPieces log log' at sent from upto
+pub sends_none : (log log' : LogTold) (at : Space) (sent : List Fields) (from upto : ℕ) → AddsJust log log' [] → upto ≡ from → SendsPieces log log' at sent from upto
 sends_none log log' at sent from upto none is = record { commands = []; adds = none; pieces = is }
 
-pub sends_on : (log mid log' : Told) (at : Space) (sent : List Fields) (from between upto : ℕ) → SendsPieces log mid at sent from between → SendsPieces mid log' at sent between upto → SendsPieces log log' at sent from upto
+pub sends_on : (log mid log' : LogTold) (at : Space) (sent : List Fields) (from between upto : ℕ) → SendsPieces log mid at sent from between → SendsPieces mid log' at sent between upto → SendsPieces log log' at sent from upto
 sends_on log mid log' at sent from between upto a b =
     record { commands = a.commands ++ b.commands; adds = just_on log mid log' a.commands b.commands a.adds b.adds; pieces = pieces_on at sent from a.commands between b.commands upto a.pieces b.pieces }
 
 -- the same list sends the same
-batches_same : (log log' : Told) (b b' : Batches) (from upto : ℕ) → IsSameList b b' → BatchesSent log log' b' from upto → BatchesSent log log' b from upto
+batches_same : (log log' : LogTold) (b b' : Batches) (from upto : ℕ) → IsSameList b b' → BatchesSent log log' b' from upto → BatchesSent log log' b from upto
 batches_same log log' b b' from upto same s =
     subst (λ (l : List Fields). SendsPieces log log' (space b.ns.now) l from upto) (same_sent b b' same)
     (subst (λ n. SendsPieces log log' (space n.now) (all_sent b') from upto) same.0 s)
 
 -- ---- what a poll of a command sends
 
-module _ (old new : Awaited) (log log' : Told) (wire : ℤ) (c : Command) where
+module _ (old new : Awaited) (log log' : LogTold) (wire : ℤ) (c : Command) where
   pub pending_once : (c' : Command) → Runs old new log log' wire c.exec (step.Pending c'.exec) → HearsOnce log log' c (heard.Pending c')
   pending_once c' runs single =
       let s = pending_first old new log log' wire c.exec single c'.exec runs in
@@ -73,7 +73,7 @@ module _ (b b' : Batches) (same : IsSameList b b') (c : Command) where
   next_within None stands built = subst (λ d. b'.upto ≤ length d.now) (sym same.1) built.part.within
   next_within (Some w) stands is = subst (λ d. b'.upto ≤ length d.now) (sym same.1) (subst (λ (n : ℕ). n ≤ length b.documents.now) (sym is.1) stands.within)
 
-  module _ (log log' : Told) where
+  module _ (log log' : LogTold) where
     next_built : IsBuilt b b'.upto c → AddsFirst log log' (fields c.exec.command) (ticket_of c.exec) → BatchesSent log log' b b.upto b'.upto
     next_built built adds =
         let all : length (all_sent b) ≡ length b.documents.now = sent_length b.drawn.items b.documents.now in
@@ -105,10 +105,10 @@ module _ (b b' : Batches) (same : IsSameList b b') (c : Command) where
 -- ---- the commands of an insert, one behind another
 
 -- at first none was sent
-pub leads_first : (log : Told) (i : Inserting) → LeadsSent log log i i.batches i.command
+pub leads_first : (log : LogTold) (i : Inserting) → LeadsSent log log i i.batches i.command
 leads_first log i stands = (sends_none log log (space i.batches.ns.now) (all_sent i.batches) i.batches.upto i.batches.upto (just_none log log refl) refl, stands)
 
-module _ (log log' : Told) (i : Inserting) (b b' : Batches) (w : Option Command) (list : IsSameList i.batches b) (lead : LeadsSent log log' i b w) where
+module _ (log log' : LogTold) (i : Inserting) (b b' : Batches) (w : Option Command) (list : IsSameList i.batches b) (lead : LeadsSent log log' i b w) where
   pub sent_finished : (n : ℕ) → NextOnce b b' w next.Finished → SendsOn log log' i (step.Done n)
   sent_finished n ends stands =
       let so = lead stands in
@@ -121,7 +121,7 @@ module _ (log log' : Told) (i : Inserting) (b b' : Batches) (w : Option Command)
   pub sent_stopped : (e : Error) → SendsOn log log' i (step.Failed e)
   sent_stopped e stands = (b.upto, (lead stands).0)
 
-  module _ (log'' : Told) (same : IsSameList b b') (c : Command) (goes : NextOnce b b' w (next.Send c)) where
+  module _ (log'' : LogTold) (same : IsSameList b b') (c : Command) (goes : NextOnce b b' w (next.Send c)) where
     sent_more : (upto : ℕ) → StandsOnce i → BatchesSent log' log'' b b.upto upto → BatchesSent log log'' i.batches i.batches.upto upto
     sent_more upto stands more =
         sends_on log log' log'' (space i.batches.ns.now) (all_sent i.batches) i.batches.upto b.upto upto (lead stands).0 (batches_same log' log'' i.batches b b.upto upto list more)
@@ -158,7 +158,7 @@ starts_sent at ds i s = record {
   pieces = s.unsent.none;
 }
 
-module _ (log log' : Told) (at : Space) (ds commands : List Fields) (i : Inserting) (has : HasSentPieces at ds commands i) where
+module _ (log log' : LogTold) (at : Space) (ds commands : List Fields) (i : Inserting) (has : HasSentPieces at ds commands i) where
   -- what a poll sent stands behind what was sent before
   pieces_behind : (upto : ℕ) (s : BatchesSent log log' i.batches i.batches.upto upto) → InsertPieces at ds 0 (commands ++ s.commands) upto
   pieces_behind upto s =

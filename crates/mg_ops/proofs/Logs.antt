@@ -5,7 +5,7 @@ use Rattle.std.specs.Prelude.{◌⊎◌}
 use Rattle.mg_bson.specs.Tree.{Fields}
 use Rattle.mg_bson.specs.Raw.{fields}
 use Rattle.mg_link.specs.Exec.{Stage, unsent, first, second, Sending, Attempt, not_sent, waits, answered, Begins, GoesOn, Runs, Tries, holding, ticket_at, ticket_of}
-use Rattle.mg_link.specs.Link.{Awaited, Told, Adds, Sees}
+use Rattle.mg_link.specs.Link.{Awaited, LogTold, Adds, Sees}
 use Rattle.mg_link.specs.Log.{Sight, waiting, reply, Call, see}
 use Rattle.mg_link.specs.declared.action.Step.TheVariants as step
 use Rattle.mg_link.specs.declared.error.Error.{Error}
@@ -15,16 +15,16 @@ use Rattle.mg_ops.specs.Logs.{AddsJust, commands_sent}
 
 -- ---- logs
 
-pub just_none : (log log' : Told) → log' ≡ log → AddsJust log log' []
+pub just_none : (log log' : LogTold) → log' ≡ log → AddsJust log log' []
 just_none log log' same calls told = (calls, same ∙ told, sym (append-nil (commands_sent calls)))
 
-pub just_on : (log mid log' : Told) (cs ds : List Fields) → AddsJust log mid cs → AddsJust mid log' ds → AddsJust log log' (cs ++ ds)
+pub just_on : (log mid log' : LogTold) (cs ds : List Fields) → AddsJust log mid cs → AddsJust mid log' ds → AddsJust log log' (cs ++ ds)
 just_on log mid log' cs ds p q calls told =
     let x = p calls told in
     let y = q x.0 x.1 in
     (y.0, y.1, y.2 ∙ ap (λ (l : List Fields). l ++ ds) x.2 ∙ append_assoc (commands_sent calls) cs ds)
 
-just_adds : (log log' : Told) (command : List ℕ) (seen : Sight) → Adds log log' command seen → AddsJust log log' (fields command ∷ [])
+just_adds : (log log' : LogTold) (command : List ℕ) (seen : Sight) → Adds log log' command seen → AddsJust log log' (fields command ∷ [])
 just_adds log log' command seen adds calls told =
     let add = adds calls told in
     let call : Call = record { command = command; position = add.0; seen = seen } in
@@ -35,7 +35,7 @@ commands_seen place seen [] = refl
 commands_seen zero seen (call ∷ calls) = refl
 commands_seen (suc place) seen (call ∷ calls) = ap (λ (l : List Fields). fields call.command ∷ l) (commands_seen place seen calls)
 
-just_sees : (log log' : Told) (place : Option ℕ) (seen : Sight) → Sees log log' place seen → AddsJust log log' []
+just_sees : (log log' : LogTold) (place : Option ℕ) (seen : Sight) → Sees log log' place seen → AddsJust log log' []
 just_sees log log' place seen sees calls told =
     let s = sees calls told in
     (see s.0 seen calls, s.5, commands_seen s.0 seen calls ∙ sym (append-nil (commands_sent calls)))
@@ -47,7 +47,7 @@ held_at unsent ticket = refl
 held_at (first old) ticket = refl
 held_at (second old) ticket = refl
 
-module _ (old new : Awaited) (log log' : Told) (command : List ℕ) where
+module _ (old new : Awaited) (log log' : LogTold) (command : List ℕ) where
   -- the attempt added its command where it was the first, or memory ran out before
   abbrev TriedFirst : Option ℕ → Attempt → Type 0
   TriedFirst ticket attempt = AddsFirst log log' (fields command) ticket ⊎ ((attempt ≡ not_sent) × AddsJust log log' [])
@@ -82,7 +82,7 @@ waits_sent attempt ticket is none = let bad : waits ticket ≡ not_sent = sym is
 reply_sent : (attempt : Attempt) (bytes : List ℕ) → attempt ≡ answered (reply bytes) → attempt ≡ not_sent → ⊥
 reply_sent attempt bytes is none = let bad : answered (reply bytes) ≡ not_sent = sym is ∙ none in absurd cc
 
-module _ (old new : Awaited) (log log' : Told) (wire : ℤ) (s : Sending) (single : s.retries ≡ false) where
+module _ (old new : Awaited) (log log' : LogTold) (wire : ℤ) (s : Sending) (single : s.retries ≡ false) where
   abbrev SentFirst : Type 0
   SentFirst = AddsFirst log log' (fields s.command) (ticket_of s)
 

@@ -9,7 +9,7 @@ use Rattle.mg_link.specs.Commands.{asked, asked_by, asks_insert, asks_other, doc
 use Rattle.mg_link.specs.Standing.{Names}
 use Rattle.mg_link.specs.Acts.{Tickets}
 use Rattle.mg_link.specs.Exec.{Sending, Runs}
-use Rattle.mg_link.specs.Link.{Awaited, Told}
+use Rattle.mg_link.specs.Link.{Awaited, LogTold}
 use Rattle.mg_link.specs.declared.action.Step.TheVariants as step
 use Rattle.mg_ops.specs.Bodies.{insert_command}
 
@@ -28,7 +28,7 @@ unfolding asked
 insert_names_none command space ds e x names = names_of (insert_command space ds) x (subst (λ (fs : Fields). Names (unwrap_or (asked_by fs) asks_other) x) e names)
 
 -- A request that pends carries the same command.
-pub same_command : (old new : Awaited) (log log' : Told) (wire : ℤ) (s s' : Sending) → Runs old new log log' wire s (step.Pending s') → s'.command ≡ s.command
+pub same_command : (old new : Awaited) (log log' : LogTold) (wire : ℤ) (s s' : Sending) → Runs old new log log' wire s (step.Pending s') → s'.command ≡ s.command
 same_command old new log log' wire s s' (inl once) = ap (λ (x : Sending). x.command) once.gives.2
 same_command old new log log' wire s s' (inr twice) = ap (λ (x : Sending). x.command) twice.gives.2
 

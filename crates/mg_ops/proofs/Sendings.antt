@@ -5,7 +5,7 @@ use Rattle.mg_bson.specs.Raw.{fields}
 use Rattle.mg_link.specs.Calls.{Grows, Past, past_of}
 use Rattle.mg_link.specs.Commands.{asked, asks_insert}
 use Rattle.mg_link.specs.Exec.{Runs, ticket_of}
-use Rattle.mg_link.specs.Link.{Awaited, Told}
+use Rattle.mg_link.specs.Link.{Awaited, LogTold}
 use Rattle.mg_link.specs.Namespace.{Space, space}
 use Rattle.mg_link.specs.declared.action.Step.TheVariants as step
 use Rattle.mg_link.specs.declared.error.Error.{Error}
@@ -30,22 +30,22 @@ same_list_on a b c p q = (q.0 ∙ p.0, q.1 ∙ p.1, q.2 ∙ p.2)
 
 -- ---- what a poll of a command comes to
 
-pub pending_sent : (old new : Awaited) (log log' : Told) (wire : ℤ) (c c' : Command) → Runs old new log log' wire c.exec (step.Pending c'.exec) → HearsSent old new log log' c (heard.Pending c')
+pub pending_sent : (old new : Awaited) (log log' : LogTold) (wire : ℤ) (c c' : Command) → Runs old new log log' wire c.exec (step.Pending c'.exec) → HearsSent old new log log' c (heard.Pending c')
 pending_sent old new log log' wire c c' r calls told places since version room space sent u =
     let l = insert_ran space u.before u.piece places since version old new log log' wire c.exec (step.Pending c'.exec) calls u.asks told room u.holding r in
     (l.0, l.1, l.2, record { before = u.before; piece = u.piece; whole = u.whole; asks = ap asked (same_command old new log log' wire c.exec c'.exec r) ∙ u.asks; holding = l.3 })
 
-pub failed_sent : (old new : Awaited) (log log' : Told) (wire : ℤ) (c : Command) (e e' : Error) → Runs old new log log' wire c.exec (step.Failed e) → HearsSent old new log log' c (heard.Failed e')
+pub failed_sent : (old new : Awaited) (log log' : LogTold) (wire : ℤ) (c : Command) (e e' : Error) → Runs old new log log' wire c.exec (step.Failed e) → HearsSent old new log log' c (heard.Failed e')
 failed_sent old new log log' wire c e e' r calls told places since version room space sent u =
     let l = insert_ran space u.before u.piece places since version old new log log' wire c.exec (step.Failed e) calls u.asks told room u.holding r in
     (l.0, l.1, l.2, tt)
 
-pub unread_sent : (old new : Awaited) (log log' : Told) (wire : ℤ) (c : Command) (bytes : List ℕ) (e : Error) → Runs old new log log' wire c.exec (step.Done bytes) → HearsSent old new log log' c (heard.Failed e)
+pub unread_sent : (old new : Awaited) (log log' : LogTold) (wire : ℤ) (c : Command) (bytes : List ℕ) (e : Error) → Runs old new log log' wire c.exec (step.Done bytes) → HearsSent old new log log' c (heard.Failed e)
 unread_sent old new log log' wire c bytes e r calls told places since version room space sent u =
     let l = insert_ran space u.before u.piece places since version old new log log' wire c.exec (step.Done bytes) calls u.asks told room u.holding r in
     (l.0, l.1, l.2, tt)
 
-pub done_sent : (old new : Awaited) (log log' : Told) (wire : ℤ) (c : Command) (bytes : List ℕ) (count n : ℕ) → Runs old new log log' wire c.exec (step.Done bytes) → Inserted count (fields bytes) n → HearsSent old new log log' c heard.Inserted
+pub done_sent : (old new : Awaited) (log log' : LogTold) (wire : ℤ) (c : Command) (bytes : List ℕ) (count n : ℕ) → Runs old new log log' wire c.exec (step.Done bytes) → Inserted count (fields bytes) n → HearsSent old new log log' c heard.Inserted
 done_sent old new log log' wire c bytes count n r i calls told places since version room space sent u =
     let l = insert_ran space u.before u.piece places since version old new log log' wire c.exec (step.Done bytes) calls u.asks told room u.holding r in (
       l.0,
@@ -81,7 +81,7 @@ next_none b b' same n awaited past at ds named i =
 
 -- ---- the commands of an insert, one after another
 
-module _ (old mid : Awaited) (log log' : Told) (i : Inserting) (b b' : Batches) (w : Option Command) (lead : LeadsOn old mid log log' i b w) where
+module _ (old mid : Awaited) (log log' : LogTold) (i : Inserting) (b b' : Batches) (w : Option Command) (lead : LeadsOn old mid log log' i b w) where
   pub leads_finished : (n : ℕ) → n ≡ length b'.documents.now → SendsNext b b' w next.Finished → Inserts old mid log log' i (step.Done n)
   leads_finished n is sends calls told places wire at ds named h =
       let x = lead calls told places wire at ds named h in
@@ -92,7 +92,7 @@ module _ (old mid : Awaited) (log log' : Told) (i : Inserting) (b b' : Batches) 
   pub leads_stopped : (e : Error) → Inserts old mid log log' i (step.Failed e)
   leads_stopped e calls told places wire at ds named h = let x = lead calls told places wire at ds named h in (x.0, x.1, tt)
 
-  module _ (new : Awaited) (log'' : Told) (c : Command) (sends : SendsNext b b' w (next.Send c)) where
+  module _ (new : Awaited) (log'' : LogTold) (c : Command) (sends : SendsNext b b' w (next.Send c)) where
     pub leads_pending : (c' : Command) → HearsSent mid new log' log'' c (heard.Pending c') → Inserts old new log log'' i (step.Pending (record { batches = b'; command = Some c' }))
     leads_pending c' hears calls told places wire at ds named h =
         let x = lead calls told places wire at ds named h in

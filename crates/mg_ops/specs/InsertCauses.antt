@@ -7,7 +7,7 @@ use Rattle.mg_bson.specs.Raw.{fields}
 use Rattle.mg_bson.specs.Writable.{max_len}
 use Rattle.mg_link.specs.Calls.{IsAwaited, Flies, Past, RequestFails, past_of, AddsOnly}
 use Rattle.mg_link.specs.Exec.{unsent}
-use Rattle.mg_link.specs.Link.{Awaited, Told}
+use Rattle.mg_link.specs.Link.{Awaited, LogTold}
 use Rattle.mg_link.specs.Log.{Call}
 use Rattle.mg_link.specs.Namespace.{Space, space}
 use Rattle.mg_link.specs.declared.action.Step.{Step}
@@ -28,8 +28,8 @@ use Rattle.mg_ops.specs.declared.inserting.Next.{Next}
 use Rattle.mg_ops.specs.declared.inserting.Next.TheVariants as next
 
 -- the most bytes of the documents of one command together
-abbrev pub max_batch : ℕ
-max_batch = 47000000
+abbrev pub max_piece : ℕ
+max_piece = 47000000
 
 -- how many bytes these documents have together
 abbrev pub total : List Fields → ℕ
@@ -37,7 +37,7 @@ total ds = sum_by (λ (d : Fields). length (bytes d)) ds
 
 -- the documents are not too large for one command, or are a single one
 abbrev pub FitTogether : List Fields → Type 0
-FitTogether ds = (total ds ≤ max_batch) ⊎ (length ds ≡ 1)
+FitTogether ds = (total ds ≤ max_piece) ⊎ (length ds ≡ 1)
 
 -- some of the documents that are sent, in their order, as one command may insert them
 pub record IsPiece (sent piece : List Fields) : Type 0 where
@@ -103,7 +103,7 @@ InsertCame awaited past at sent (step.Done n) = Unit {0}
 InsertCame awaited past at sent (step.Failed e) = InsertFails past at sent e
 
 -- A poll led an insert on that had sent at these places before, and sent only some of its documents.
-abbrev pub InsertCaused : Awaited → Awaited → Told → Told → ℤ → Inserting → Step Inserting ℕ → Type 0
+abbrev pub InsertCaused : Awaited → Awaited → LogTold → LogTold → ℤ → Inserting → Step Inserting ℕ → Type 0
 InsertCaused old new log log' wire i result = (calls : List Call) → log ≡ Some calls → (places : List ℕ) (at : Space) (sent : List Fields) → HasSent old (past_of places (length calls) calls wire) at sent i
     → (calls' : List Call) × (log' ≡ Some calls') × InsertCame new (past_of places (length calls) calls' wire) at sent result × AddsOnly (IsInsertOf at sent) calls calls'
 
@@ -153,11 +153,11 @@ HeardCame awaited past at sent heard.Inserted = Unit {0}
 HeardCame awaited past at sent (heard.Failed e) = InsertFails past at sent e
 
 -- where the log is told, a poll of a command comes to this
-abbrev pub HearsCaused : Awaited → Awaited → Told → Told → ℤ → Command → Heard → Type 0
+abbrev pub HearsCaused : Awaited → Awaited → LogTold → LogTold → ℤ → Command → Heard → Type 0
 HearsCaused old new log log' wire c result = (calls : List Call) → log ≡ Some calls → (places : List ℕ) (since : ℕ) → since ≤ length calls → (at : Space) (sent : List Fields) → IsSentFor old (past_of places since calls wire) at sent c
     → (calls' : List Call) × (log' ≡ Some calls') × (since ≤ length calls') × HeardCame new (past_of places since calls' wire) at sent result × AddsOnly (IsInsertOf at sent) calls calls'
 
 -- where the log is told, an insert has come from one state to these batches and this command
-abbrev pub LeadsCaused : Awaited → Awaited → Told → Told → ℤ → Inserting → Batches → Option Command → Type 0
+abbrev pub LeadsCaused : Awaited → Awaited → LogTold → LogTold → ℤ → Inserting → Batches → Option Command → Type 0
 LeadsCaused old new log log' wire i b waiting = (calls : List Call) → log ≡ Some calls → (places : List ℕ) (at : Space) (sent : List Fields) → HasSent old (past_of places (length calls) calls wire) at sent i
     → (calls' : List Call) × (log' ≡ Some calls') × (length calls ≤ length calls') × InsertsSoFar new (past_of places (length calls) calls' wire) at sent b waiting × AddsOnly (IsInsertOf at sent) calls calls'

@@ -3,7 +3,7 @@ use Rattle.std.specs.Prelude.{◌≡◌, ◌⊎◌, ◌<◌, ◌≤◌, ◌++◌
 use Rattle.mg_bson.specs.Tree.{Fields}
 use Rattle.mg_bson.specs.Raw.{fields}
 use Rattle.mg_link.specs.Exec.{ticket_of}
-use Rattle.mg_link.specs.Link.{Told}
+use Rattle.mg_link.specs.Link.{LogTold}
 use Rattle.mg_link.specs.Namespace.{Space, space}
 use Rattle.mg_link.specs.declared.action.Step.{Step}
 use Rattle.mg_link.specs.declared.action.Step.TheVariants as step
@@ -35,7 +35,7 @@ InsertPieces at sent from [] upto = upto ≡ from
 InsertPieces at sent from (command ∷ commands) upto = (between : ℕ) × InsertsNext at sent from between command × InsertPieces at sent between commands upto
 
 -- just such commands were added to a log
-pub record SendsPieces (log log' : Told) (at : Space) (sent : List Fields) (from upto : ℕ) : Type 0 where
+pub record SendsPieces (log log' : LogTold) (at : Space) (sent : List Fields) (from upto : ℕ) : Type 0 where
   pub commands : List Fields
   pub adds : AddsJust log log' commands
   pub pieces : InsertPieces at sent from commands upto
@@ -67,18 +67,18 @@ abbrev pub all_sent : Batches → List Fields
 all_sent b = sent_of b.drawn.items b.documents.now
 
 -- what such batches sent, from one document on up to another
-abbrev pub BatchesSent : Told → Told → Batches → ℕ → ℕ → Type 0
+abbrev pub BatchesSent : LogTold → LogTold → Batches → ℕ → ℕ → Type 0
 BatchesSent log log' b from upto = SendsPieces log log' (space b.ns.now) (all_sent b) from upto
 
 -- it sent the pieces from the first document that stood in no command on: up to those that stand in none now, or in the end all of them, or as many as
 -- were sent before it failed
-abbrev pub StepSends : Told → Told → Batches → Step Inserting ℕ → Type 0
+abbrev pub StepSends : LogTold → LogTold → Batches → Step Inserting ℕ → Type 0
 StepSends log log' b (step.Pending i) = BatchesSent log log' b b.upto i.batches.upto × StandsOnce i
 StepSends log log' b (step.Done n) = BatchesSent log log' b b.upto (length b.documents.now)
 StepSends log log' b (step.Failed e) = (upto : ℕ) × BatchesSent log log' b b.upto upto
 
 -- a poll of an insert sent each next piece once, and nothing else
-abbrev pub SendsOn : Told → Told → Inserting → Step Inserting ℕ → Type 0
+abbrev pub SendsOn : LogTold → LogTold → Inserting → Step Inserting ℕ → Type 0
 SendsOn log log' i result = StandsOnce i → StepSends log log' i.batches result
 
 -- ---- all polls
@@ -109,19 +109,19 @@ NextOnce b b' waiting next.Finished = (b'.upto ≡ b.upto) × (length b.document
 NextOnce b b' waiting (next.Stopped e) = Unit {0}
 
 -- a command was added to a log, unless it held this ticket: then it was sent before, and none was
-abbrev pub AddsFirst : Told → Told → Fields → Option ℕ → Type 0
+abbrev pub AddsFirst : LogTold → LogTold → Fields → Option ℕ → Type 0
 AddsFirst log log' command None = AddsJust log log' (command ∷ [])
 AddsFirst log log' command (Some ticket) = AddsJust log log' []
 
 -- a poll sent it so; where it failed it may not have been sent
-abbrev pub HeardOnce : Told → Told → Command → Heard → Type 0
+abbrev pub HeardOnce : LogTold → LogTold → Command → Heard → Type 0
 HeardOnce log log' c (heard.Pending c') = AddsFirst log log' (fields c.exec.command) (ticket_of c.exec) × IsSentOnce c'
 HeardOnce log log' c heard.Inserted = AddsFirst log log' (fields c.exec.command) (ticket_of c.exec)
 HeardOnce log log' c (heard.Failed e) = AddsFirst log log' (fields c.exec.command) (ticket_of c.exec) ⊎ AddsJust log log' []
 
-abbrev pub HearsOnce : Told → Told → Command → Heard → Type 0
+abbrev pub HearsOnce : LogTold → LogTold → Command → Heard → Type 0
 HearsOnce log log' c result = c.exec.retries ≡ false → HeardOnce log log' c result
 
 -- an insert has sent so much up to these batches and this command
-abbrev pub LeadsSent : Told → Told → Inserting → Batches → Option Command → Type 0
+abbrev pub LeadsSent : LogTold → LogTold → Inserting → Batches → Option Command → Type 0
 LeadsSent log log' i b waiting = StandsOnce i → BatchesSent log log' i.batches i.batches.upto b.upto × StandsSent b waiting

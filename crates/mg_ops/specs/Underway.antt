@@ -5,7 +5,7 @@ use Rattle.mg_bson.specs.declared.object_id.ObjectId.{ObjectId}
 use Rattle.mg_link.specs.Calls.{IsOwn, Past, past_of}
 use Rattle.mg_link.specs.Commands.{asked, asks_insert}
 use Rattle.mg_link.specs.Exec.{ticket_of}
-use Rattle.mg_link.specs.Link.{Awaited, Told}
+use Rattle.mg_link.specs.Link.{Awaited, LogTold}
 use Rattle.mg_link.specs.Log.{Call}
 use Rattle.mg_link.specs.Namespace.{Space, space}
 use Rattle.mg_link.specs.declared.action.Step.{Step}
@@ -109,7 +109,7 @@ HeardSent awaited past space sent heard.Inserted = InsertedBelow past (length pa
 HeardSent awaited past space sent (heard.Failed e) = Unit {0}
 
 -- where the log is told, a command that is underway goes on so
-abbrev pub HearsSent : Awaited → Awaited → Told → Told → Command → Heard → Type 0
+abbrev pub HearsSent : Awaited → Awaited → LogTold → LogTold → Command → Heard → Type 0
 HearsSent old new log log' c result = (calls : List Call) → log ≡ Some calls → (places : List ℕ) (since : ℕ) (wire : ℤ) → since ≤ length calls → (space : Space) (sent : List Fields) → IsUnderway old (past_of places since calls wire) space sent c
     → (calls' : List Call) × (log' ≡ Some calls') × (since ≤ length calls') × HeardSent new (past_of places since calls' wire) space sent result
 
@@ -129,11 +129,11 @@ GivesCount i (step.Done n) = n ≡ length i.batches.documents.now
 GivesCount i (step.Failed e) = Unit {0}
 
 -- where the log is told, an insert of documents that had sent at these places before goes on so, and in the end it has appended them
-abbrev pub Inserts : Awaited → Awaited → Told → Told → Inserting → Step Inserting ℕ → Type 0
+abbrev pub Inserts : Awaited → Awaited → LogTold → LogTold → Inserting → Step Inserting ℕ → Type 0
 Inserts old new log log' i result = (calls : List Call) → log ≡ Some calls → (places : List ℕ) (wire : ℤ) (at : Space) (sent : List Fields) → IsNamed at → HasInserted old (past_of places (length calls) calls wire) at sent i
     → (calls' : List Call) × (log' ≡ Some calls') × StepInserts new (past_of places (length calls) calls' wire) at sent result
 
 -- where the log is told, an insert has come from one state to these batches and this command
-abbrev pub LeadsOn : Awaited → Awaited → Told → Told → Inserting → Batches → Option Command → Type 0
+abbrev pub LeadsOn : Awaited → Awaited → LogTold → LogTold → Inserting → Batches → Option Command → Type 0
 LeadsOn old new log log' i b waiting = (calls : List Call) → log ≡ Some calls → (places : List ℕ) (wire : ℤ) (at : Space) (sent : List Fields) → IsNamed at → HasInserted old (past_of places (length calls) calls wire) at sent i
     → (calls' : List Call) × (log' ≡ Some calls') × (length calls ≤ length calls') × IsInserting new (past_of places (length calls) calls' wire) at sent b waiting

@@ -11,7 +11,7 @@ ghost use Rattle.mg_link.proofs.Killing.{PassesPlain};
 ghost use Rattle.mg_ops.specs.Failing.{CannotBeSent, FailsBy};
 ghost use Rattle.mg_ops.specs.Limits.{max_documents};
 ghost use Rattle.mg_ops.specs.InsertSends.{HearsOnce, NextOnce, SendsOn};
-ghost use Rattle.mg_ops.specs.InsertCauses.{CannotEncode, CannotGoOn, FitTogether, HearsCaused, InsertCaused, IsBuilt, IsLength, NextCaused, max_batch};
+ghost use Rattle.mg_ops.specs.InsertCauses.{CannotEncode, CannotGoOn, FitTogether, HearsCaused, InsertCaused, IsBuilt, IsLength, NextCaused, max_piece};
 ghost use Rattle.mg_ops.specs.Inserts.{HeardAtOnce, HeardLost, HeardPends, HeardPlain, HeldPlain, IsPlain, NextFewer, NextNotIo, NextPlain, NextTicket, SendsPlain, StepPlain, heard_ticket, insert_ticket, left_of};
 ghost use Rattle.mg_ops.specs.Drawn.{AreLater, lacking, lacks, sent_for, with_ids};
 ghost use Rattle.mg_ops.specs.Underway.{GivesCount, HearsSent, Inserts, IsBatch, IsNextOf, IsSameList, IsStarted, SendsNext, sent_of, with_id};
@@ -31,8 +31,8 @@ const MAX_BATCH: usize = 47_000_000;
 pub fn documents_together(length: usize) -> usize
     ensures some { 1 ≤ result }
     ensures few { result ≤ max_documents }
-    ensures together { (result * length ≤ max_batch) ⊎ (result ≡ 1) }
-    ensures most { (max_batch < (result + 1) * length) ⊎ (result ≡ max_documents) }
+    ensures together { (result * length ≤ max_piece) ⊎ (result ≡ 1) }
+    ensures most { (max_piece < (result + 1) * length) ⊎ (result ≡ max_documents) }
 {
     if length == 0 {
         return MAX_DOCUMENTS;

@@ -25,7 +25,7 @@ use Rattle.mg_query.specs.Numbering.{HaveNewIds, KeepsIdsThere, document_of, hol
 use Rattle.mg_query.specs.Indexing.{index_held}
 use Rattle.mg_query.specs.declared.index.Index as code_index
 use Rattle.mg_query.specs.Replies.{killed_with, found_with}
-use Rattle.mg_store.specs.Answering.{Answers}
+use Rattle.mg_store.specs.Answering.{AnswersAs}
 use Rattle.mg_store.specs.Contents.{IsCursorAt, Represents, Settles, collection_at, moving, opening_effect, GoesOn, IsCursor, beginning, taking}
 use Rattle.mg_store.specs.Holding.{AreExact, GivesBatch, IsWatch, entries_from}
 use Rattle.mg_store.specs.Inserting.{Appends, Fits, new_documents}
@@ -113,7 +113,7 @@ found_held s id cursor f h e = is_left s id f cursor.place h.cursor_at h.stood (
 
 pub insert_settles : (c : Content) (s : State) (given : ℕ) (ns : Namespace) (ds : List Fields) (ordered : Bool) (o : Option (Bor Collection)) (a b : Appended) (d : Fields) (result : Result Answer Stop) → Represents c s given → option_copied o ≡ collection_at c.collections (space ns)
     → Appends (there o) (length c.changes.items) (inserting (space ns) ordered 0 (length c.changes.items) (there o) ds) a → b.documents ≡ a.documents → b.ids ≡ a.ids → b.entries ≡ a.entries
-    → d ≡ ("n" ⇒ number_of (length a.documents.items) ⨾ errors_field a.errors ("ok" ⇒ int32 (pos 1) ⨾ empty)) → Answers result d (effects.Insert ns b) → Settles s given (rules.insert (space ns) ds ordered) result
+    → d ≡ ("n" ⇒ number_of (length a.documents.items) ⨾ errors_field a.errors ("ok" ⇒ int32 (pos 1) ⨾ empty)) → AnswersAs result d (effects.Insert ns b) → Settles s given (rules.insert (space ns) ds ordered) result
 insert_settles c s given ns ds ordered o a b d result h found got docs ids es is answered =
     let before : there o ≡ documents_of s (space ns) = there_is c s given (space ns) o h found in
     let place : length c.changes.items ≡ length s.changes = sym (changes-length c s given h) in
@@ -137,7 +137,7 @@ opened_with id sp events place time = "cursor" ⇒ document (cursor_fields id sp
 
 pub watch_settles : (s : State) (given : ℕ) (w : Watch) (start : Start) (resumes : Bool) (size : Option ℕ) (from : ℕ) (batch : Events) (cw : held.Watch) (id : ℤ) (sp : Space) (d : Fields) (e : Effect) (result : Result Answer Stop) → place_at s w start resumes ≡ Ok from
     → IsWatch cw w → GivesBatch w s.changes from (size_of size) batch → id ≡ id_unless batch.ended (pos (suc given)) → sp ≡ watch_space w.target → e ≡ opening_effect batch.ended (pos (suc given)) (record { source = sources.Watch cw; place = batch.place })
-    → d ≡ opened_with id sp batch.events batch.place (stamp_of (length s.changes)) → Answers result d e → Settles s given (rules.watch w start resumes size) result
+    → d ≡ opened_with id sp batch.events batch.place (stamp_of (length s.changes)) → AnswersAs result d e → Settles s given (rules.watch w start resumes size) result
 watch_settles s given w start resumes size from batch cw id sp d e result at watches got id_is sp_is effect is answered =
     let reply : ℕ → rules.Answer = λ f. rules.answer_with [] (rules.watch_reply s (pos (suc given)) w f (size_of size)) in
     let time : Tree = stamp_of (length s.changes) in
@@ -161,7 +161,7 @@ abbrev pub next_with : ℤ → Space → Items → ℕ → Fields
 next_with id sp events place = "cursor" ⇒ document (cursor_fields id sp ("nextBatch" ⇒ array events ⨾ "postBatchResumeToken" ⇒ token_of place ⨾ empty)) ⨾ "ok" ⇒ int32 (pos 1) ⨾ empty
 
 pub more_settles : (s : State) (given : ℕ) (id : ℤ) (sp at : Space) (size : Option ℕ) (cw : held.Watch) (w : Watch) (from : ℕ) (batch : Events) (left : ℤ) (d : Fields) (e : Effect) (result : Result Answer Stop) → IsWatch cw w → s.cursors id ≡ Some (watching w from)
-    → is_space sp at ≡ true → at ≡ watch_space (target cw.target) → GivesBatch w s.changes from (size_of size) batch → left ≡ id_unless batch.ended id → e ≡ moving batch.ended id batch.place → d ≡ next_with left sp batch.events batch.place → Answers result d e
+    → is_space sp at ≡ true → at ≡ watch_space (target cw.target) → GivesBatch w s.changes from (size_of size) batch → left ≡ id_unless batch.ended id → e ≡ moving batch.ended id batch.place → d ≡ next_with left sp batch.events batch.place → AnswersAs result d e
     → Settles s given (rules.more id sp size) result
 more_settles s given id sp at size cw w from batch left d e result watches stood same named got left_is effect is answered =
     let place : ℕ = batch_place w s.changes from (size_of size) in
@@ -186,7 +186,7 @@ is_last-id id [] b e = ap (λ (x : Bool). if x then pos 0 else id) e
 is_last-id id (d ∷ ds) b e = ap (λ (x : Bool). if x then pos 0 else id) e
 
 pub query_more_settles : (s : State) (given : ℕ) (id : ℤ) (sp other : Space) (size : Option ℕ) (left : List Fields) (batch : Batch) (d : Fields) (result : Result Answer Stop) → s.cursors id ≡ Some (query other left) → is_space sp other ≡ true
-    → GivesDocuments left (size_of size) batch → d ≡ found_with (if batch.is_last then pos 0 else id) sp (codes "nextBatch") batch.documents → Answers result d (taking batch.is_last id batch.count) → Settles s given (rules.more id sp size) result
+    → GivesDocuments left (size_of size) batch → d ≡ found_with (if batch.is_last then pos 0 else id) sp (codes "nextBatch") batch.documents → AnswersAs result d (taking batch.is_last id batch.count) → Settles s given (rules.more id sp size) result
 query_more_settles s given id sp other size left batch d result stood same got is answered =
     let n : ℕ = batch_of_query (size_of size) left in
     let reply : rules.Answer = rules.answer_with [] (rules.query_more_reply id sp left (size_of size)) in
@@ -219,7 +219,7 @@ ends_id false last id left e = is_last-id id left last e
 
 pub find_settles : (s : State) (given : ℕ) (q : Query) (found : Found) (single : Bool) (size : Option ℕ) (n : ℕ) (batch : Batch) (d : Fields) (result' : Result Answer Stop) → result s q ≡ Some (map fields found.documents.items) → query_space q.source ≡ space found.ns
     → q.single ≡ single → q.size ≡ size → n ≡ size_of size → GivesDocuments (map fields found.documents.items) n batch → d ≡ found_with (if (single || batch.is_last) then pos 0 else pos (suc given)) (space found.ns) (codes "firstBatch") batch.documents
-    → Answers result' d (beginning (single || batch.is_last) (pos (suc given)) found batch.count) → Settles s given (rules.find q) result'
+    → AnswersAs result' d (beginning (single || batch.is_last) (pos (suc given)) found batch.count) → Settles s given (rules.find q) result'
 find_settles s given q found single size n batch d result' these at one sized number got is answered =
     let ds : List Fields = map fields found.documents.items in
     let held_is : first_held q ds ≡ batch_of_query n ds = ap (λ (x : Option ℕ). batch_of_query (size_of x) ds) sized ∙ ap (λ (k : ℕ). batch_of_query k ds) (sym number) in
@@ -241,7 +241,7 @@ find_refused s given q rows there none =
 -- ---- kills
 
 pub kill_settles : (s : State) (given : ℕ) (ids : List ℤ) (named : Vec ℤ Global) (killed not_found : Items) (d : Fields) (result : Result Answer Stop) → killed ≡ ids_if true s [] ids → not_found ≡ ids_if false s [] ids → named.items ≡ ids
-    → d ≡ killed_with killed not_found → Answers result d (effects.Kill named) → Settles s given (rules.kill ids) result
+    → d ≡ killed_with killed not_found → AnswersAs result d (effects.Kill named) → Settles s given (rules.kill ids) result
 kill_settles s given ids named killed not_found d result a b these is answered =
     settles s given (rules.kill ids) (rules.answer_with [] (rules.killed_reply s ids)) d (effects.Kill named) result refl (is ∙ ap₂ killed_with a b) (record { named = named; is = refl; these = these }) answered
 
@@ -275,7 +275,7 @@ is_there c s given sp h =
     sym (some_mapped (λ (x : state.Collection). x.documents) (collection_in s.collections sp)) ∙ ap is_some (h.documents_are sp) ∙ some_mapped stored (collection_at c.collections sp)
 
 pub create_settles : (c : Content) (s : State) (given : ℕ) (ns : Namespace) (a : Appended) (d : Fields) (result : Result Answer Stop) → Represents c s given → is_some (collection_at c.collections (space ns)) ≡ false
-    → new_documents a ≡ [] → a.entries.items ≡ [] → Fits [] a → d ≡ rules.done_reply → Answers result d (effects.Insert ns a) → Settles s given (rules.create_collection (space ns)) result
+    → new_documents a ≡ [] → a.entries.items ≡ [] → Fits [] a → d ≡ rules.done_reply → AnswersAs result d (effects.Insert ns a) → Settles s given (rules.create_collection (space ns)) result
 create_settles c s given ns a d result h none documents entries fits is answered =
     settles s given (rules.create_collection (space ns)) (rules.answer_with [] rules.done_reply) d (effects.Insert ns a) result
     (ap (λ (b : Bool). if b then Err rules.collection_exists else Ok (rules.answer_with [] rules.done_reply)) (is_there c s given (space ns) h ∙ none)) is
@@ -293,7 +293,7 @@ pub indexes_are : (c : Content) (s : State) (given : ℕ) (sp : Space) (o : Opti
 indexes_are c s given sp o h e = indexes_by o ∙ ap indexed e ∙ sym (h.indexes_are sp)
 
 pub indexes_settle : (s : State) (given : ℕ) (ns : Namespace) (more : List Index) (indexes : Vec code_index.Index Global) (d : Fields) (result : Result Answer Stop) → map index_held indexes.items ≡ with_indexes (indexes_of s (space ns)) more
-    → list_all (λ (i : Index). may_stay (index_listed i)) (map index_held indexes.items) ≡ true → d ≡ rules.done_reply → Answers result d (effects.Indexes ns indexes) → Settles s given (rules.create_indexes (space ns) more) result
+    → list_all (λ (i : Index). may_stay (index_listed i)) (map index_held indexes.items) ≡ true → d ≡ rules.done_reply → AnswersAs result d (effects.Indexes ns indexes) → Settles s given (rules.create_indexes (space ns) more) result
 indexes_settle s given ns more indexes d result these stay is answered =
     settles s given (rules.create_indexes (space ns) more) (rules.answer_with [] rules.done_reply) d (effects.Indexes ns indexes) result
     (ap (λ (b : Bool). if b then Ok (rules.answer_with [] rules.done_reply) else Err bad_request) (ap (list_all (λ (i : Index). may_stay (index_listed i))) (sym these) ∙ stay)) is
@@ -307,7 +307,7 @@ indexes_refused s given sp more held these large =
 -- ---- drops
 
 pub drop_settles : (c : Content) (s : State) (given : ℕ) (ns : Namespace) (entries : Vec ChangeEntry Global) (d : Fields) (result : Result Answer Stop) → Represents c s given → is_some (collection_at c.collections (space ns)) ≡ true
-    → entries_from (length c.changes.items) entries.items ≡ dropped_entries (length c.changes.items) (space ns) → AreExact entries.items → d ≡ rules.done_reply → Answers result d (effects.Drop ns entries) → Settles s given (rules.drop_collection (space ns)) result
+    → entries_from (length c.changes.items) entries.items ≡ dropped_entries (length c.changes.items) (space ns) → AreExact entries.items → d ≡ rules.done_reply → AnswersAs result d (effects.Drop ns entries) → Settles s given (rules.drop_collection (space ns)) result
 drop_settles c s given ns entries d result h there these exact is answered =
     let reply : rules.Answer = rules.answer_with (dropped_entries (length s.changes) (space ns)) rules.done_reply in
     settles s given (rules.drop_collection (space ns)) reply d (effects.Drop ns entries) result
@@ -353,7 +353,7 @@ distinct_there (Some b) h = distinct_ids b.now h
 
 pub update_settles : (c : Content) (s : State) (given : ℕ) (ns : Namespace) (conditions : List Condition) (keys : List Keyed) (m : Modification) (many : Bool) (o : Option (Bor Collection)) (ds : List (Bor (List ℕ))) (made : Changes) (d : Fields) (result : Result Answer Stop)
     → Represents c s given → option_copied o ≡ collection_at c.collections (space ns) → KeepsId m → keys ≡ map keyed conditions → lent ds ≡ chosen_by keys many (there o) → AreDistinct (there o) → Makes (length c.changes.items) (space ns) m (lent ds) made
-    → d ≡ rules.updated_reply (length ds) (length made.documents.items) → Answers result d (effects.Change ns made) → Settles s given (rules.update (space ns) conditions m many) result
+    → d ≡ rules.updated_reply (length ds) (length made.documents.items) → AnswersAs result d (effects.Change ns made) → Settles s given (rules.update (space ns) conditions m many) result
 update_settles c s given ns conditions keys m many o ds made d result h found keeps same these distinct got is answered =
     let before : there o ≡ documents_of s (space ns) = there_is c s given (space ns) o h found in
     let place : length c.changes.items ≡ length s.changes = sym (changes-length c s given h) in
@@ -387,7 +387,7 @@ update_refused c s given sp conditions keys m many o ds h found same these large
 
 pub delete_settles : (c : Content) (s : State) (given : ℕ) (ns : Namespace) (conditions : List Condition) (keys : List Keyed) (many : Bool) (o : Option (Bor Collection)) (ds : List (Bor (List ℕ))) (gone : Removals) (d : Fields) (result : Result Answer Stop)
     → Represents c s given → option_copied o ≡ collection_at c.collections (space ns) → keys ≡ map keyed conditions → lent ds ≡ chosen_by keys many (there o) → AreDistinct (there o) → Removes (length c.changes.items) (space ns) (lent ds) gone
-    → d ≡ deleted_reply (length ds) → Answers result d (effects.Remove ns gone) → Settles s given (rules.delete (space ns) conditions many) result
+    → d ≡ deleted_reply (length ds) → AnswersAs result d (effects.Remove ns gone) → Settles s given (rules.delete (space ns) conditions many) result
 delete_settles c s given ns conditions keys many o ds gone d result h found same these distinct got is answered =
     let before : there o ≡ documents_of s (space ns) = there_is c s given (space ns) o h found in
     let place : length c.changes.items ≡ length s.changes = sym (changes-length c s given h) in

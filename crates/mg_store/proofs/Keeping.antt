@@ -26,7 +26,7 @@ use Rattle.mg_query.specs.Continued.{continued}
 use Rattle.mg_query.specs.Numbering.{KeepsIds, stored, stored_bytes}
 use Rattle.mg_query.specs.declared.collection.Collection.{Collection}
 use Rattle.mg_query.proofs.Numbers.{bytes_are}
-use Rattle.mg_store.specs.Contents.{AnswersBy, Becomes, Does, Keeps, Leads, MayKeep, Represents, closing, collection_at, indexes_behind}
+use Rattle.mg_store.specs.Contents.{AnswersBy, Becomes, Does, HasKept, Leads, MayKeep, Represents, closing, collection_at, indexes_behind}
 use Rattle.mg_store.specs.declared.perform.Answer.{Answer}
 use Rattle.mg_store.specs.declared.content.Content.{Content}
 use Rattle.mg_store.specs.declared.content.Effect.{Effect}
@@ -35,9 +35,9 @@ use Rattle.mg_store.specs.Stored.{AreOpen}
 use Rattle.mg_store.proofs.Holdings.{changes-length, held_is}
 use Rattle.mg_store.proofs.Maps.{int_test}
 
-pub keeps_more : (c c' : Content) (history : List Kept) (command : List ℕ) (a : Answer) → Keeps c history → MayKeep history command a → length c.changes.items < 2 ^ 64
+pub keeps_more : (c c' : Content) (history : List Kept) (command : List ℕ) (a : Answer) → HasKept c history → MayKeep history command a → length c.changes.items < 2 ^ 64
     → ((s : State) (given : ℕ) (s' : State) (given' : ℕ) → Represents c s given → Leads a.effect s given s' given' → Represents c' s' given')
-    → Keeps c' (history ++ record { command = command; reply = a.reply } ∷ [])
+    → HasKept c' (history ++ record { command = command; reply = a.reply } ∷ [])
 keeps_more c c' history command a h may lt commits =
     let kept : Kept = record { command = command; reply = a.reply } in
     let s : State = state_of_kept history in
@@ -53,11 +53,11 @@ keeps_more c c' history command a h may lt commits =
     }
 
 -- a list that is held has fewer than 2^64 entries, so the history is legal
-pub keeps_legal : (c : Content) (history : List Kept) → Keeps c history → length c.changes.items < 2 ^ 64 → IsLegal (steps_of history)
+pub keeps_legal : (c : Content) (history : List Kept) → HasKept c history → length c.changes.items < 2 ^ 64 → IsLegal (steps_of history)
 keeps_legal c history h lt = kept_is_legal history h.by_rules (omega (arith, lt, changes-length c (state_of_kept history) (given_of history) h.content_is))
 
 -- and holds nothing back from a caller none of whose steps was refused
-pub keeps_prompt : (c : Content) (history : List Kept) → Keeps c history → length c.changes.items < 2 ^ 64 → HoldsBackNone (steps_of history)
+pub keeps_prompt : (c : Content) (history : List Kept) → HasKept c history → length c.changes.items < 2 ^ 64 → HoldsBackNone (steps_of history)
 keeps_prompt c history h lt = kept_prompt history h.by_rules (omega (arith, lt, changes-length c (state_of_kept history) (given_of history) h.content_is))
 
 -- an answer by the rules may be kept
@@ -100,26 +100,26 @@ may_by_choice history command a code labels reply effect = record {
 
 -- ---- an empty store
 
-pub keeps_none : (c : Content) → Represents c nothing 0 → Keeps c []
+pub keeps_none : (c : Content) → Represents c nothing 0 → HasKept c []
 unfolding steps_from state_after given_from AreByRulesFrom
 keeps_none c h = record { by_rules = tt; content_is = h }
 
 -- ---- what is shown
 
-pub documents_shown : (c : Content) (history : List Kept) (sp : Space) (o : Option Collection) → Keeps c history → o ≡ collection_at c.collections sp → unwrap_or (option_map stored o) [] ≡ documents_of (state_of_kept history) sp
+pub documents_shown : (c : Content) (history : List Kept) (sp : Space) (o : Option Collection) → HasKept c history → o ≡ collection_at c.collections sp → unwrap_or (option_map stored o) [] ≡ documents_of (state_of_kept history) sp
 documents_shown c history sp o h e = ap (λ (x : Option Collection). unwrap_or (option_map stored x) []) e ∙ sym (ap (λ (x : Option (List Fields)). unwrap_or x []) (h.content_is.documents_are sp))
 
 bytes_there : (o : Option Collection) → ((col : Collection) → o ≡ Some col → KeepsIds col) → unwrap_or (option_map stored_bytes o) [] ≡ map bytes (unwrap_or (option_map stored o) [])
 bytes_there None keeps = refl
 bytes_there (Some col) keeps = bytes_are col (keeps col refl)
 
-pub documents_exact : (c : Content) (history : List Kept) (sp : Space) (o : Option Collection) → Keeps c history → o ≡ collection_at c.collections sp → unwrap_or (option_map stored_bytes o) [] ≡ map bytes (documents_of (state_of_kept history) sp)
+pub documents_exact : (c : Content) (history : List Kept) (sp : Space) (o : Option Collection) → HasKept c history → o ≡ collection_at c.collections sp → unwrap_or (option_map stored_bytes o) [] ≡ map bytes (documents_of (state_of_kept history) sp)
 documents_exact c history sp o h e = bytes_there o (λ col is. h.content_is.ids_are sp col (sym e ∙ is)) ∙ ap (map bytes) (documents_shown c history sp o h e)
 
-pub changes_are : (c : Content) (history : List Kept) → Keeps c history → entries_from 0 c.changes.items ≡ (state_of_kept history).changes
+pub changes_are : (c : Content) (history : List Kept) → HasKept c history → entries_from 0 c.changes.items ≡ (state_of_kept history).changes
 changes_are c history h = sym h.content_is.changes_are
 
-pub changes_exact : (c : Content) (history : List Kept) → Keeps c history → AreExact c.changes.items
+pub changes_exact : (c : Content) (history : List Kept) → HasKept c history → AreExact c.changes.items
 changes_exact c history h = h.content_is.exact
 
 int_turned : (a b : ℤ) → int_eq a b ≡ int_eq b a
@@ -129,12 +129,12 @@ among_ids : (q : ℤ) (ids : List ℤ) → list_any (λ (x : ℤ). is_eq (int_cm
 among_ids q [] = refl
 among_ids q (x ∷ ids) = ap₂ (λ (a b : Bool). a || b) (int_test q x ∙ int_turned x q) (among_ids q ids)
 
-pub open_ids : (c : Content) (history : List Kept) (ids : List ℤ) → Keeps c history → IsStrictlySortedBy int_cmp ids → ((q : ℤ) → is_some (get int_cmp c.cursors q) ≡ list_any (λ (x : ℤ). is_eq (int_cmp q x)) ids) → AreOpen (state_of_kept history) ids
+pub open_ids : (c : Content) (history : List Kept) (ids : List ℤ) → HasKept c history → IsStrictlySortedBy int_cmp ids → ((q : ℤ) → is_some (get int_cmp c.cursors q) ≡ list_any (λ (x : ℤ). is_eq (int_cmp q x)) ids) → AreOpen (state_of_kept history) ids
 open_ids c history ids h ascending has = record { ascending = ascending; these = λ q. held_is c (state_of_kept history) (given_of history) q h.content_is ∙ has q ∙ among_ids q ids }
 
 -- a step that came to nothing
-pub keeps_still : (c c' : Content) (history : List Kept) (command : List ℕ) (a : Answer) → Keeps c history → MayKeep history command a → length c.changes.items < 2 ^ 64
-    → ((s : State) (given : ℕ) (s' : State) (given' : ℕ) → Represents c s given → Leads a.effect s given s' given' → Represents c' s given) → Keeps c' history
+pub keeps_still : (c c' : Content) (history : List Kept) (command : List ℕ) (a : Answer) → HasKept c history → MayKeep history command a → length c.changes.items < 2 ^ 64
+    → ((s : State) (given : ℕ) (s' : State) (given' : ℕ) → Represents c s given → Leads a.effect s given s' given' → Represents c' s given) → HasKept c' history
 keeps_still c c' history command a h may lt commits =
     let kept : Kept = record { command = command; reply = a.reply } in
     let s : State = state_of_kept history in

@@ -31,7 +31,7 @@ use Rattle.mg_query.specs.declared.refusal.Refusal.TheVariants as refusals
 use Rattle.mg_query.specs.declared.refusal.Stop.{Stop}
 use Rattle.mg_query.specs.declared.refusal.Stop.TheVariants as stops
 use Rattle.mg_query.specs.Collecting.{exchange_documents, without_documents}
-use Rattle.mg_store.specs.Answering.{Answers, Replies}
+use Rattle.mg_store.specs.Answering.{AnswersAs, Replies}
 use Rattle.mg_store.specs.Contents.{AnswersBy, AnswersOr, Becomes, Does, EffectOf, LosesNone, Misses, Settled, Settles, moving, opening_effect, indexes_behind, beginning, taking, IsCursor}
 use Rattle.mg_store.specs.Holding.{AreExact, entries_from}
 use Rattle.mg_store.specs.Inserting.{Fits, new_documents}
@@ -42,7 +42,7 @@ use Rattle.mg_store.specs.declared.content.Effect.{Effect}
 use Rattle.mg_store.specs.declared.content.Effect.TheVariants as effects
 
 -- a reply that fits settles the request, and one that does not is refused
-pub settles : (s : State) (given : ℕ) (r : rules.Request) (a : rules.Answer) (d : Fields) (e : Effect) (result : Result Answer Stop) → answer s (pos (suc given)) r ≡ Ok a → d ≡ a.reply → EffectOf s given r e → Answers result d e → Settles s given r result
+pub settles : (s : State) (given : ℕ) (r : rules.Request) (a : rules.Answer) (d : Fields) (e : Effect) (result : Result Answer Stop) → answer s (pos (suc given)) r ≡ Ok a → d ≡ a.reply → EffectOf s given r e → AnswersAs result d e → Settles s given r result
 settles s given r a d e (Ok ans) answers is effect got = record { by_rules = a; answers = answers; written = subst (λ (x : Fields). IsWritten x ans.reply) is got.reply; effect = subst (EffectOf s given r) (sym got.effect_is) effect }
 settles s given r a d e (Err stops.Memory) answers is effect got = tt
 settles s given r a d e (Err (stops.Refused refusal)) answers is effect got = (

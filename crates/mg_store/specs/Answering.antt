@@ -15,10 +15,10 @@ pub record Replies (d : Fields) (effect : Effect) (answer : Answer) : Type 0 whe
   pub effect_is : answer.effect ≡ effect
 
 -- the answer of a reply that fits, or the refusal of another
-abbrev pub Answers : Result Answer Stop → Fields → Effect → Type 0
-Answers (Ok answer) d effect = Replies d effect answer
-Answers (Err stops.Memory) d effect = Unit {0}
-Answers (Err (stops.Refused refusal)) d effect = (refusal ≡ BadRequest) × (fits d ≡ false)
+abbrev pub AnswersAs : Result Answer Stop → Fields → Effect → Type 0
+AnswersAs (Ok answer) d effect = Replies d effect answer
+AnswersAs (Err stops.Memory) d effect = Unit {0}
+AnswersAs (Err (stops.Refused refusal)) d effect = (refusal ≡ BadRequest) × (fits d ≡ false)
 
 -- the answer with this reply, which does nothing
 abbrev pub AnswersRefusal : Fields → Answer → Type 0

@@ -296,7 +296,7 @@ AnswersAsked s given w answer = (command : List ℕ) → rules.map_ok wanted (ru
 -- ---- the store
 
 -- the history was made by the rules, and the content is that of the state behind it
-pub record Keeps (c : Content) (history : List Kept) : Type 0 where
+pub record HasKept (c : Content) (history : List Kept) : Type 0 where
   pub by_rules : IsByRules history
   pub content_is : Represents c (state_of_kept history) (given_of history)
 

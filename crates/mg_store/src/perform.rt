@@ -3,7 +3,7 @@ ghost use Rattle.std.specs.Prelude.{◌≡◌, ℕ, IfOk, map, string_bytes};
 ghost use Rattle.mg_link.specs.Rules.{refusal};
 ghost use Rattle.mg_link.specs.State.{State, AreInOrder};
 ghost use Rattle.mg_query.specs.Wanted.{lent_write};
-ghost use Rattle.mg_store.specs.Answering.{Answers, AnswersRefusal};
+ghost use Rattle.mg_store.specs.Answering.{AnswersAs, AnswersRefusal};
 ghost use Rattle.mg_store.specs.Contents.{AnswersAsked, AnswersBy, AnswersOr, Represents, closing};
 
 use crate::content::{Content, Effect};
@@ -46,7 +46,7 @@ pub(crate) fn closing(ends: bool, found: Option<i64>) -> Effect
 
 /// The answer, or a refusal where the reply is no document of the size that one may have.
 pub(crate) fn answered(alloc: Global, document: Document, effect: Effect) -> Result<Answer, Stop>
-    ensures { Answers result document effect }
+    ensures { AnswersAs result document effect }
 {
     match reply::bytes_of(alloc, &document)? {
         Some(reply) => Ok(Answer { reply, effect }),

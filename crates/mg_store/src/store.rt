@@ -40,7 +40,7 @@ impl Drop for Store {
 }
 
 impl Model for Store {
-    ghost use Rattle.mg_store.specs.Contents.{Keeps};
+    ghost use Rattle.mg_store.specs.Contents.{HasKept};
     ghost use Rattle.mg_store.specs.Stored.{Stored, steps_of};
     ghost use Rattle.std.specs.BTreeMap.{keys};
 
@@ -48,7 +48,7 @@ impl Model for Store {
 
     ghost view = { λ s. record { history = steps_of s.history.items; open_ids = keys s.content.cursors } };
 
-    ghost invariant = { λ s. Keeps s.content (steps_of s.history.items) };
+    ghost invariant = { λ s. HasKept s.content (steps_of s.history.items) };
 }
 
 impl Store {

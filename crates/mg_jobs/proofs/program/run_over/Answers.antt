@@ -12,7 +12,7 @@ use Rattle.mg_link.proofs.Runs.{names_none_at_first}
 use Rattle.mg_store.specs.InMemory.{AreAsFates, AreKept, InMemory, IsPromptLink, pends_in}
 use Rattle.mg_store.specs.Stored.{AreOpen}
 use Rattle.mg_store.specs.declared.fate.Fate.{Fate}
-use Rattle.mg_link.specs.Link.{Told}
+use Rattle.mg_link.specs.Link.{LogTold}
 use Rattle.mg_jobs.specs.Completing.{JobWell}
 use Rattle.mg_jobs.specs.Counts.{AreNoted}
 use Rattle.mg_jobs.specs.Fated.{AreItsSteps}
@@ -55,8 +55,8 @@ returns-clause-followed g c =
     let noted : AreNoted notes (Some []) (Some f.0) 0 (pends_in link.pended) =
     subst (λ (n : ℕ). AreNoted notes (Some []) (Some f.0) 0 n) (sym (ap (λ m. pends_in m.pended) c.into_link.ensures.link))
     (subst (λ (n : ℕ). AreNoted notes (Some []) (Some f.0) n (pends_in c.run_jobs.new.link.pended)) unpolled
-    (subst (λ (l : Told). AreNoted notes l (Some f.0) (pends_in c.new-link.result.pended) (pends_in c.run_jobs.new.link.pended)) begins
-    (subst (λ (l : Told). AreNoted notes (Some c.new-link.result.calls) l (pends_in c.new-link.result.pended) (pends_in c.run_jobs.new.link.pended)) f.1 c.in_ok-played.ensures.noted))) in
+    (subst (λ (l : LogTold). AreNoted notes l (Some f.0) (pends_in c.new-link.result.pended) (pends_in c.run_jobs.new.link.pended)) begins
+    (subst (λ (l : LogTold). AreNoted notes (Some c.new-link.result.calls) l (pends_in c.new-link.result.pended) (pends_in c.run_jobs.new.link.pended)) f.1 c.in_ok-played.ensures.noted))) in
     record {
       calls = f.0;
       log_is = c.in_ok-logs.ensures.items ∙ ap (λ l. l ∷ []) (c.into_parts-store.ensures.calls ∙ calls);
@@ -94,7 +94,7 @@ returns-clause-followed g c =
           let order = c.args.script.order.items in
           subst (λ (ps : List ℕ). AllPollOwn (Some []) order notes (polls_in []) (polls_in ps)) (sym (ap (λ m. m.pended) c.into_link.ensures.link))
           (subst (λ (ps : List ℕ). AllPollOwn (Some []) order notes (polls_in ps) (polls_in c.run_jobs.new.link.pended)) (ap (λ m. m.pended) c.new-link.ensures ∙ c.requires.unpolled)
-          (subst (λ (l : Told). AllPollOwn l order notes (polls_in c.new-link.result.pended) (polls_in c.run_jobs.new.link.pended)) begins
+          (subst (λ (l : LogTold). AllPollOwn l order notes (polls_in c.new-link.result.pended) (polls_in c.run_jobs.new.link.pended)) begins
           (subst (λ (o : List ℕ). AllPollOwn (Some c.new-link.result.calls) o notes (polls_in c.new-link.result.pended) (polls_in c.run_jobs.new.link.pended)) c.as_slice-2.ensures.value c.in_ok-played.ensures.polled)));
       waits_alone =
           let begun = ap (λ m. m.calls) c.new-link.ensures ∙ c.requires.unused in

@@ -1,6 +1,6 @@
 use Rattle.std.proofs.Common.{◌≡◌, ℕ, List, [], length, take, false}
 use Rattle.std.specs.List.{All, sum_by}
-use Rattle.mg_link.specs.Link.{Awaited, Later, Told}
+use Rattle.mg_link.specs.Link.{Awaited, Later, LogTold}
 use Rattle.mg_jobs.specs.Causes.{AllPollOwn}
 use Rattle.mg_jobs.specs.Counts.{AreNoted, LosesNothing, StartedBy}
 use Rattle.mg_jobs.specs.Drawing.{HaveDrawn}
@@ -23,12 +23,12 @@ invariant-loop-number g l = record {
   lossless : g.L.Link.prompt l.initial.link → LosesNothing (g.L.Link.log l.initial.link) (g.L.Link.log l.link);
   jobs : length l.runner.players.items ≡ length l.initial.runner.players.items;
   none_lost : (before : Awaited) → AreHeld before (g.L.Link.awaited l.initial.link) l.initial.runner.players.items → AreHeld before (g.L.Link.awaited l.link) l.runner.players.items;
-  knowing : (begun : Told) → Knowing (g.L.Link.awaited l.initial.link) begun (g.L.Link.log l.initial.link) l.initial.runner.players.items → Knowing (g.L.Link.awaited l.link) begun (g.L.Link.log l.link) l.runner.players.items;
+  knowing : (begun : LogTold) → Knowing (g.L.Link.awaited l.initial.link) begun (g.L.Link.log l.initial.link) l.initial.runner.players.items → Knowing (g.L.Link.awaited l.link) begun (g.L.Link.log l.link) l.runner.players.items;
   rows : (ts : List Task) → AllAt ts [] [] l.initial.runner.players.items → AllAt ts (take l.number-index l.fn.order) l.runner.turns.items l.runner.players.items;
   drawn : (first : ℕ → List ℕ) (ts : List Task) → DoTasks ts l.initial.runner.players.items → HaveDrawn first (g.I.IdSource.ids l.initial.ids) ts [] l.initial.runner.players.items → HaveDrawn first (g.I.IdSource.ids l.ids) ts (take l.number-index l.fn.order) l.runner.players.items;
-  told : (first : ℕ → List ℕ) (begun : Told) (ts : List Task) → DoTasks ts l.initial.runner.players.items → AllAt ts [] [] l.initial.runner.players.items → HaveDrawn first (g.I.IdSource.ids l.initial.ids) ts [] l.initial.runner.players.items → AllTell first (g.L.Link.awaited l.initial.link) begun (g.L.Link.log l.initial.link) (g.L.Link.wire l.initial.link) ts [] [] l.initial.runner.players.items
+  told : (first : ℕ → List ℕ) (begun : LogTold) (ts : List Task) → DoTasks ts l.initial.runner.players.items → AllAt ts [] [] l.initial.runner.players.items → HaveDrawn first (g.I.IdSource.ids l.initial.ids) ts [] l.initial.runner.players.items → AllTell first (g.L.Link.awaited l.initial.link) begun (g.L.Link.log l.initial.link) (g.L.Link.wire l.initial.link) ts [] [] l.initial.runner.players.items
       → AllTell first (g.L.Link.awaited l.link) begun (g.L.Link.log l.link) (g.L.Link.wire l.link) ts (take l.number-index l.fn.order) l.runner.turns.items l.runner.players.items;
-  polled : (first : ℕ → List ℕ) (begun : Told) (ts : List Task) → DoTasks ts l.initial.runner.players.items → AllAt ts [] [] l.initial.runner.players.items → HaveDrawn first (g.I.IdSource.ids l.initial.ids) ts [] l.initial.runner.players.items → AllTell first (g.L.Link.awaited l.initial.link) begun (g.L.Link.log l.initial.link) (g.L.Link.wire l.initial.link) ts [] [] l.initial.runner.players.items
+  polled : (first : ℕ → List ℕ) (begun : LogTold) (ts : List Task) → DoTasks ts l.initial.runner.players.items → AllAt ts [] [] l.initial.runner.players.items → HaveDrawn first (g.I.IdSource.ids l.initial.ids) ts [] l.initial.runner.players.items → AllTell first (g.L.Link.awaited l.initial.link) begun (g.L.Link.log l.initial.link) (g.L.Link.wire l.initial.link) ts [] [] l.initial.runner.players.items
       → AllPollOwn begun (take l.number-index l.fn.order) l.runner.turns.items (g.L.Link.polls l.initial.link) (g.L.Link.polls l.link);
   tasks : (ts : List Task) → DoTasks ts l.initial.runner.players.items → DoTasks ts l.runner.players.items;
 }

@@ -1,5 +1,5 @@
 use Rattle.std.proofs.Common.{ℤ, true, sym, ◌∙◌, subst, inl, inr, refl}
-use Rattle.mg_link.specs.Exec.{Gives}
+use Rattle.mg_link.specs.Exec.{AttemptGives}
 use Rattle.mg_link.specs.ExecView.{reads}
 use Rattle.mg_link.specs.Attempts.{attempt_of, held}
 use Rattle.mg_link.proofs.exec.settle.Goals as goal
@@ -12,7 +12,7 @@ returns-then-repeats-clause-settles g c =
       begins = rw (sym c.as_raw.ensures) c.begin-again.ensures.begins;
       counts = c.begin-again.ensures.counts;
       at_once = c.begin-again.ensures.prompt;
-      gives = subst (λ (w : ℤ). Gives (attempt_of c.begin-again.result) w (held c.args.command (reads c.args.retry) true) c.answer.result) c.begin-again.ensures.later.wire
+      gives = subst (λ (w : ℤ). AttemptGives (attempt_of c.begin-again.result) w (held c.args.command (reads c.args.retry) true) c.answer.result) c.begin-again.ensures.later.wire
           (c.answer.ensures (attempt_of c.begin-again.result) c.judge.ensures);
     })
 

@@ -3,7 +3,7 @@ use Rattle.std.proofs.lemmas.Nat.{mul-le}
 use Rattle.std.proofs.lemmas.Result.{err_from_is_err_and}
 use Rattle.std.specs.Prelude.{◌⊎◌}
 use Rattle.mg_bson.specs.Tree.{Fields}
-use Rattle.mg_ops.specs.InsertCauses.{max_batch}
+use Rattle.mg_ops.specs.InsertCauses.{max_piece}
 use Rattle.mg_ops.specs.Limits.{max_documents}
 use Rattle.mg_ops.proofs.Drawn.{later_same}
 use Rattle.mg_gridfs.specs.Buffers.{held_of}
@@ -155,7 +155,7 @@ returns-clause-ok g c =
       within = within;
       small = subst (λ (n : ℕ). n + c.as_many-count.result ≤ 2 ^ 31) c.next_chunk.ensures.same.0.sent c.in_ok-_last.ensures.fits;
       portion = λ twelve. portion u (g.I.IdSource.ids c.args.ids.now) c.requires.sound.size.some c.as_many-count.result fitting c.full_chunks-held.result count.some first is count.fits count.held count.most together.few
-          (subst (λ (n : ℕ). (fitting * n ≤ max_batch) ⊎ (fitting ≡ 1)) long together.together) (subst (λ (n : ℕ). (max_batch < (fitting + 1) * n) ⊎ (fitting ≡ max_documents)) long together.most) most below twelve;
+          (subst (λ (n : ℕ). (fitting * n ≤ max_piece) ⊎ (fitting ≡ 1)) long together.together) (subst (λ (n : ℕ). (max_piece < (fitting + 1) * n) ⊎ (fitting ≡ max_documents)) long together.most) most below twelve;
       left = c.next_chunk.ensures.left;
       drawn = c.next_chunk.ensures.drawn;
     }

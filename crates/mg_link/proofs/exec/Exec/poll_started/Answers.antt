@@ -1,5 +1,5 @@
 use Rattle.std.proofs.Common.{◌≡◌, ℕ, List, true, refl, sym, ap, false, ◌∙◌, subst}
-use Rattle.mg_link.specs.Exec.{Attempt, Stage, unsent, first, second, Sending, Begins, Gives, RunsStarting}
+use Rattle.mg_link.specs.Exec.{Attempt, Stage, unsent, first, second, Sending, Begins, AttemptGives, RunsStarting}
 use Rattle.mg_link.specs.ExecView.{reads, stage_of}
 use Rattle.mg_link.specs.Attempts.{attempt_of, held}
 use Rattle.mg_link.proofs.Execs.{starts_first, starts_second, runs_of, runs_tickets, gives_pended, gives_lost, gives_at_once}
@@ -30,7 +30,7 @@ module _ (g : Over) (c : After-answer g) where
   abbrev attempt : Attempt
   attempt = attempt_of c.go_on-attempt-in-Second.result
 
-  gives : Gives attempt (g.L.Link.wire c.go_on-attempt-in-Second.new.link) (held c.self.inside.command (reads c.self.inside.retry) true) c.answer.result
+  gives : AttemptGives attempt (g.L.Link.wire c.go_on-attempt-in-Second.new.link) (held c.self.inside.command (reads c.self.inside.retry) true) c.answer.result
   gives = c.answer.ensures attempt c.judge.ensures
 
 pub returns-in-Second-clause-runs : goal.returns-in-Second-clause-runs

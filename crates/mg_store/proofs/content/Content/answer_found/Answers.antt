@@ -7,7 +7,7 @@ use Rattle.mg_bson.specs.Raw.{fields}
 use Rattle.mg_link.specs.Namespace.{space}
 use Rattle.mg_query.specs.Querying.{GivesDocuments}
 use Rattle.mg_query.specs.Replies.{found_with}
-use Rattle.mg_store.specs.Answering.{Answers}
+use Rattle.mg_store.specs.Answering.{AnswersAs}
 use Rattle.mg_store.specs.Contents.{beginning}
 use Rattle.mg_store.proofs.Holdings.{find_settles}
 use Rattle.mg_store.proofs.content.Content.answer_found.Goals as goal
@@ -26,4 +26,4 @@ returns c s given q h at these one sized =
     let got = subst (λ (l : List Fields). GivesDocuments l c.size_of-size.result c.in_ok-batch.batch) (ap (map fields) c.as_slice.ensures.value) c.in_ok-batch.ensures in
     find_settles s given q c.args.found c.args.single c.args.batch_size c.size_of-size.result c.in_ok-batch.batch c.in_ok-document.document c.answered.result these at one sized c.size_of-size.ensures got
     (c.in_ok-document.ensures ∙ ap (λ (x : ℤ). found_with x (space c.args.found.ns) (codes "firstBatch") c.in_ok-batch.batch.documents) (next ∙ c.id_unless-next.ensures ∙ ap₂ (λ (b : Bool) (x : ℤ). if b then pos 0 else x) ends (back ∙ id)))
-    (subst (Answers c.answered.result c.in_ok-document.document) (c.beginning.ensures ∙ ap₂ (λ (b : Bool) (x : ℤ). beginning b x c.args.found c.in_ok-batch.batch.count) ends (back ∙ id)) c.answered.ensures)
+    (subst (AnswersAs c.answered.result c.in_ok-document.document) (c.beginning.ensures ∙ ap₂ (λ (b : Bool) (x : ℤ). beginning b x c.args.found c.in_ok-batch.batch.count) ends (back ∙ id)) c.answered.ensures)
