@@ -15,10 +15,10 @@ use Rattle.mg_link.specs.declared.action.Step.TheVariants as step
 use Rattle.mg_link.specs.declared.error.Error.{Error}
 use Rattle.mg_link.proofs.Asking.{asks_at}
 use Rattle.mg_link.proofs.Killing.{close_begun, close_gone_on}
-use Rattle.mg_link.proofs.Moves.{given_with, moved, owed, stayed}
+use Rattle.mg_link.specs.Moves.{owed, given_with, at_stage, resumed_with}
+use Rattle.mg_link.proofs.Moves.{moved, stayed}
 use Rattle.mg_link.proofs.Moving.{IdsFrom, known, moved_here, same_opened}
-use Rattle.mg_link.proofs.Resumes.{kill_own, resumed_with}
-use Rattle.mg_link.proofs.Retries.{at_stage}
+use Rattle.mg_link.proofs.Resumes.{kill_own}
 use Rattle.mg_ops.proofs.Asking.{asks_for_more, asks_to_kill_plainly}
 use Rattle.mg_ops.proofs.Reading.{batch_as}
 use Rattle.mg_cursor.specs.Client.{ClientCursor, IsAsking, asks, at_rest, behind_failure, behind_reply, holds, kill, rests}

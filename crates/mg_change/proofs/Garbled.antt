@@ -18,7 +18,8 @@ use Rattle.mg_link.proofs.Owners.{same_some, see_here, stands_unseen}
 use Rattle.mg_link.proofs.Heard.{heard_at, told_heard}
 use Rattle.mg_link.proofs.Moving.{known_as, moved_seen}
 use Rattle.mg_link.proofs.Moves.{stayed, moved}
-use Rattle.mg_link.proofs.Retries.{Request, at_stage, tried, next_place, next_is}
+use Rattle.mg_link.specs.Moves.{at_stage}
+use Rattle.mg_link.proofs.Retries.{Request, tried, next_place, next_is}
 use Rattle.mg_link.proofs.Waits.{never_again}
 
 -- ---- the stage of a request that waits

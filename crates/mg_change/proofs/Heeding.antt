@@ -19,13 +19,14 @@ use Rattle.mg_link.specs.declared.error.Error.{Error}
 use Rattle.mg_link.specs.declared.error.ErrorKind.TheVariants as kind
 use Rattle.mg_link.specs.declared.reply.Verdict.{Verdict}
 use Rattle.mg_link.specs.declared.reply.Verdict.TheVariants as verdict
-use Rattle.mg_link.proofs.Asking.{MoreAnswered, MoreAttempted, asks_at, more_ran, rested}
+use Rattle.mg_link.proofs.Asking.{MoreAttempted, asks_at, more_ran}
 use Rattle.mg_link.proofs.Calls.{success_ran}
 use Rattle.mg_link.proofs.Heard.{more_spoiled, no_batch_refused, watch_spoiled}
-use Rattle.mg_link.proofs.Moves.{moved, gave_up, given_with, owed}
+use Rattle.mg_link.specs.Moves.{owed, given_with, rested, MoreAnswered, at_stage, resumed_with}
+use Rattle.mg_link.proofs.Moves.{moved, gave_up}
 use Rattle.mg_link.proofs.Killing.{kill_begun, kill_gone_on}
-use Rattle.mg_link.proofs.Resumes.{let_go, resumed_with}
-use Rattle.mg_link.proofs.Retries.{Attempted, Request, at_once, at_stage, next_is, next_place, place_of, ran, resume_request, tried}
+use Rattle.mg_link.proofs.Resumes.{let_go}
+use Rattle.mg_link.proofs.Retries.{Attempted, Request, at_once, next_is, next_place, place_of, ran, resume_request, tried}
 use Rattle.mg_link.proofs.Spoiled.{resume_garbled}
 use Rattle.mg_link.proofs.Waits.{never_again}
 use Rattle.mg_ops.specs.Cursors.{Cursor, cursor_of}

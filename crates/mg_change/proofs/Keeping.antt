@@ -4,7 +4,7 @@ use Rattle.std.specs.Prelude.{if◌then◌else◌}
 use Rattle.std.specs.Ordering.{int_eq}
 use Rattle.mg_bson.specs.Raw.{fields}
 use Rattle.mg_bson.specs.Tree.{Tree}
-use Rattle.mg_link.specs.Exec.{Runs, Sending, Stage, first, second, unsent}
+use Rattle.mg_link.specs.Exec.{Runs, Sending, Stage, first, second, unsent, IsFirstTry}
 use Rattle.mg_link.specs.Link.{Awaited, LogTold}
 use Rattle.mg_link.specs.Namespace.{space}
 use Rattle.mg_link.specs.Pinned.{invalidated}
@@ -18,7 +18,6 @@ use Rattle.mg_link.specs.declared.pinned.PinnedConnection.{PinnedConnection}
 use Rattle.mg_link.specs.declared.pinned.PinnedConnection.TheVariants as connection
 use Rattle.mg_link.specs.Step.{ends_cursor}
 use Rattle.mg_link.proofs.Execs.{runs_of}
-use Rattle.mg_link.proofs.Waits.{IsFirstTry}
 use Rattle.mg_options.specs.declared.change_stream.ChangeStreamOptions.{ChangeStreamOptions}
 use Rattle.mg_ops.specs.Cursors.{Cursor}
 use Rattle.mg_ops.specs.Naming.{IsNamed}

@@ -20,7 +20,8 @@ use Rattle.mg_link.proofs.Execs.{runs_of}
 use Rattle.mg_link.proofs.Heard.{watch_spoiled}
 use Rattle.mg_link.proofs.Moves.{moved, stayed}
 use Rattle.mg_link.proofs.Openings.{opened_with as opened_at, start_heard}
-use Rattle.mg_link.proofs.Retries.{at_stage, opening_request, place_of, ran}
+use Rattle.mg_link.specs.Moves.{at_stage}
+use Rattle.mg_link.proofs.Retries.{opening_request, place_of, ran}
 use Rattle.mg_options.specs.Tokens.{batch_token, first_token, or_else}
 use Rattle.mg_options.specs.Printing.{time_value}
 use Rattle.mg_options.specs.declared.change_stream.ChangeStreamOptions.{ChangeStreamOptions}

@@ -4,7 +4,7 @@ use Rattle.std.specs.Prelude.{OnErr}
 use Rattle.std.proofs.lemmas.Bool.{eqb-true}
 use Rattle.mg_bson.specs.Raw.{fields}
 use Rattle.mg_bson.specs.Tree.{Tree}
-use Rattle.mg_link.specs.Exec.{Runs, Sending, ticket_at, ticket_of}
+use Rattle.mg_link.specs.Exec.{Runs, Sending, ticket_at, ticket_of, IsFirstTry}
 use Rattle.mg_link.specs.Link.{Awaited, LogTold}
 use Rattle.mg_link.specs.Moment.{Ending, LinkKeeps, Moment}
 use Rattle.mg_link.specs.Namespace.{Space}
@@ -12,7 +12,7 @@ use Rattle.mg_link.specs.declared.action.Step.{Step}
 use Rattle.mg_link.specs.declared.action.Step.TheVariants as step
 use Rattle.mg_link.specs.declared.error.Error.{Error}
 use Rattle.mg_link.proofs.Moments.{keeps_on}
-use Rattle.mg_link.proofs.Waits.{IsFirstTry, waits_still}
+use Rattle.mg_link.proofs.Waits.{waits_still}
 use Rattle.mg_ops.specs.Commands.{kill_command}
 use Rattle.mg_ops.specs.Cursors.{Cursor, cursor_of}
 use Rattle.mg_ops.specs.Failing.{CannotBeSent, FailsBy}

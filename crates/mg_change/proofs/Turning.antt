@@ -19,11 +19,11 @@ use Rattle.mg_link.specs.declared.error.Error.{Error}
 use Rattle.mg_link.specs.declared.error.ErrorKind.{ErrorKind}
 use Rattle.mg_link.specs.declared.error.ErrorKind.TheVariants as kind
 use Rattle.mg_link.proofs.Answering.{answering, event_answered, event_taken, last_answered, last_taken, nothing_answered}
-use Rattle.mg_link.proofs.Asking.{MoreAnswered, asks_at}
+use Rattle.mg_link.specs.Moves.{MoreAnswered, at_stage}
+use Rattle.mg_link.proofs.Asking.{asks_at}
 use Rattle.mg_link.proofs.Execs.{runs_of}
 use Rattle.mg_link.proofs.Moves.{moved, stayed}
 use Rattle.mg_link.proofs.Resumes.{kill_passed, let_go as lets_go}
-use Rattle.mg_link.proofs.Retries.{at_stage}
 use Rattle.mg_link.proofs.Spoiled.{cursor_dropped}
 use Rattle.mg_options.specs.declared.change_stream.ChangeStreamOptions.{ChangeStreamOptions}
 use Rattle.mg_ops.specs.Aims.{asked_for}

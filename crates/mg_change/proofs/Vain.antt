@@ -14,7 +14,7 @@ use Rattle.mg_link.specs.History.{IsLegalFrom, step_after, told_at}
 use Rattle.mg_link.specs.Link.{Awaited, LogTold}
 use Rattle.mg_link.specs.Log.{Call, Sight, reply, see, waiting}
 use Rattle.mg_link.specs.Namespace.{Target, target}
-use Rattle.mg_link.specs.Owner.{Passes, nobody}
+use Rattle.mg_link.specs.Owner.{Passes, nobody, PassesPlain}
 use Rattle.mg_link.specs.Session.{Session}
 use Rattle.mg_link.specs.Standing.{Names, SeenFits}
 use Rattle.mg_link.specs.State.{Start, State}
@@ -24,7 +24,7 @@ use Rattle.mg_link.proofs.Execs.{runs_of}
 use Rattle.mg_link.proofs.Heard.{told_heard}
 use Rattle.mg_link.proofs.Owners.{legal_parts, same_some, see_here}
 use Rattle.mg_link.proofs.Places.{get_seam}
-use Rattle.mg_link.proofs.Killing.{PassesPlain, plain_ran, plain_stayed}
+use Rattle.mg_link.proofs.Killing.{plain_ran, plain_stayed}
 use Rattle.mg_ops.specs.Aims.{Aim, aim, asked_for}
 use Rattle.mg_ops.specs.Naming.{start_in}
 use Rattle.mg_ops.specs.declared.change_stream.WatchArgs.{WatchArgs}

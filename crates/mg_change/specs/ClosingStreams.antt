@@ -3,7 +3,7 @@ use Rattle.std.specs.Prelude.{◌≡◌, ◌≢◌, ◌⊎◌, ◌++◌, ℕ, �
 use Rattle.std.specs.Ordering.{int_eq}
 use Rattle.mg_bson.specs.Raw.{fields}
 use Rattle.mg_bson.specs.Tree.{Tree, Fields}
-use Rattle.mg_link.specs.Exec.{Runs, Sending, ticket_of}
+use Rattle.mg_link.specs.Exec.{Runs, Sending, ticket_of, IsFirstTry}
 use Rattle.mg_link.specs.Link.{Awaited, SendsNothing, LogTold}
 use Rattle.mg_link.specs.Session.{Session}
 use Rattle.mg_link.specs.State.{Start, Watch}
@@ -11,7 +11,6 @@ use Rattle.mg_link.specs.declared.action.Step.{Step}
 use Rattle.mg_link.specs.declared.action.Step.TheVariants as step
 use Rattle.mg_link.specs.declared.error.Error.{Error}
 use Rattle.mg_link.specs.declared.error.ErrorKind.TheVariants as kind
-use Rattle.mg_link.proofs.Waits.{IsFirstTry}
 use Rattle.mg_ops.specs.Commands.{kill_command}
 use Rattle.mg_ops.specs.Cursors.{BreaksIn, Cursor, cursor_of}
 use Rattle.mg_ops.specs.Failing.{CannotBeSent, FailsBy}

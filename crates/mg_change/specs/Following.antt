@@ -8,7 +8,7 @@ use Rattle.mg_link.specs.Link.{Awaited, LogTold}
 use Rattle.mg_link.specs.State.{Start, Watch}
 use Rattle.mg_link.specs.declared.action.Step.{Step}
 use Rattle.mg_link.specs.declared.action.Step.TheVariants as step
-use Rattle.mg_link.proofs.Retries.{at_stage}
+use Rattle.mg_link.specs.Moves.{at_stage}
 use Rattle.mg_ops.specs.declared.change_stream.WatchArgs.{WatchArgs}
 use Rattle.mg_cursor.specs.Batches.{documents_of}
 use Rattle.mg_cursor.specs.Client.{ClientCursor, asks, holds, rests}

@@ -2,7 +2,7 @@
 use Rattle.std.proofs.Common.{◌≡◌, ◌≤◌, ℕ, ℤ, Bool, false, List, length, Option, Some, sym, ap, ◌∙◌, subst, inl, inr, arith}
 use Rattle.mg_bson.specs.Raw.{fields}
 use Rattle.mg_link.specs.Calls.{Came, Flies, HeardLast, Keeps, Past, past_of, was_broken}
-use Rattle.mg_link.specs.Exec.{IsSuccess, Runs, Sending, Stage}
+use Rattle.mg_link.specs.Exec.{IsSuccess, Runs, Sending, Stage, IsFirstTry}
 use Rattle.mg_link.specs.Link.{Awaited, SendsNothing, LogTold}
 use Rattle.mg_link.specs.Log.{Call, reply}
 use Rattle.mg_link.specs.Session.{Session}
@@ -11,7 +11,7 @@ use Rattle.mg_link.specs.declared.action.Step.TheVariants as step
 use Rattle.mg_link.proofs.Calls.{RequestRan, request_ran, same_keeps, success_ran}
 use Rattle.mg_link.proofs.Execs.{runs_of}
 use Rattle.mg_link.proofs.Pasts.{fails_anyhow}
-use Rattle.mg_link.proofs.Waits.{IsFirstTry, waits_still}
+use Rattle.mg_link.proofs.Waits.{waits_still}
 use Rattle.mg_cursor.specs.Causes.{FliesMore, IsUnderway, NextCame, NextCaused, TellsNoCursor, UnderwayBy}
 use Rattle.mg_cursor.specs.Client.{ClientCursor, IsAsking, IsSound, SoundBy, asks, get_more}
 use Rattle.mg_cursor.specs.Polling.{Hears, PollsNext, ReadsReply, begins, broke, gave, goes_on, hands_out, is_over, not_built}

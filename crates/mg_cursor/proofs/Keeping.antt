@@ -1,13 +1,13 @@
 -- What is on its way stays the getMore of its cursor.
 use Rattle.std.proofs.Common.{◌≡◌, ◌≢◌, ℕ, ℤ, Bool, true, false, List, Option, option_map, refl, sym, ap, ◌∙◌, subst}
 use Rattle.mg_bson.specs.Raw.{fields}
-use Rattle.mg_link.specs.Exec.{Runs, Sending, Stage, unsent, first, second}
+use Rattle.mg_link.specs.Exec.{Runs, Sending, Stage, unsent, first, second, IsFirstTry}
 use Rattle.mg_link.specs.Link.{Awaited, LogTold}
 use Rattle.mg_link.specs.Session.{Session, after_command}
 use Rattle.mg_link.specs.declared.action.Step.{Step}
 use Rattle.mg_link.specs.declared.action.Step.TheVariants as step
 use Rattle.mg_link.proofs.Execs.{runs_of}
-use Rattle.mg_link.proofs.Waits.{IsFirstTry, waits_still}
+use Rattle.mg_link.proofs.Waits.{waits_still}
 use Rattle.mg_cursor.specs.Client.{ClientCursor, Doing, IsAsking, IsNew, IsSound, MayAsk, PlainIf, SoundBy, WaitsFor, asks, get_more, holds, kill, pinned_to, rests}
 use Rattle.mg_cursor.specs.Closing.{IsKilling, IsToKill, LandsIn, heard, quiet}
 use Rattle.mg_cursor.specs.Polling.{Hears, PollsNext, ReadsReply, begins, broke, gave, goes_on, hands_out, is_over, not_built}

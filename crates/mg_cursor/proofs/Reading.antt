@@ -5,7 +5,7 @@ use Rattle.mg_bson.specs.Raw.{fields}
 use Rattle.mg_bson.specs.Tree.{Fields}
 use Rattle.mg_link.specs.Commands.{asked, asks_more, batch_of}
 use Rattle.mg_link.specs.Errors.{plain}
-use Rattle.mg_link.specs.Exec.{Runs, Sending, Stage, first, second, unsent}
+use Rattle.mg_link.specs.Exec.{Runs, Sending, Stage, first, second, unsent, IsFirstTry}
 use Rattle.mg_link.specs.Link.{Awaited, LogTold}
 use Rattle.mg_link.specs.Reader.{Fetching, ReadMoved, Reader, fetching, still}
 use Rattle.mg_link.specs.Session.{Session}
@@ -17,7 +17,7 @@ use Rattle.mg_link.specs.declared.error.ErrorKind.{ErrorKind}
 use Rattle.mg_link.specs.declared.error.ErrorKind.TheVariants as kind
 use Rattle.mg_link.proofs.Execs.{runs_of}
 use Rattle.mg_link.proofs.Fetching.{reader_on}
-use Rattle.mg_link.proofs.Waits.{IsFirstTry, waits_still}
+use Rattle.mg_link.proofs.Waits.{waits_still}
 use Rattle.mg_ops.specs.Cursors.{Cursor}
 use Rattle.mg_ops.specs.Naming.{IsNamed}
 use Rattle.mg_ops.proofs.Asking.{asks_for_more}

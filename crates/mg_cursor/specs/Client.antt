@@ -4,7 +4,7 @@ use Rattle.std.specs.Ordering.{int_eq}
 use Rattle.mg_bson.specs.Bytes.{bytes}
 use Rattle.mg_bson.specs.Raw.{fields}
 use Rattle.mg_bson.specs.Tree.{Tree, Fields}
-use Rattle.mg_link.specs.Exec.{Sending, unsent, ticket_of}
+use Rattle.mg_link.specs.Exec.{Sending, unsent, ticket_of, IsFirstTry}
 use Rattle.mg_link.specs.Namespace.{Space, space}
 use Rattle.mg_link.specs.Pinned.{invalidated, is_invalid}
 use Rattle.mg_link.specs.Session.{Session}
@@ -14,7 +14,6 @@ use Rattle.mg_link.specs.declared.error.ErrorKind.{ErrorKind}
 use Rattle.mg_link.specs.declared.error.ErrorKind.TheVariants as kind
 use Rattle.mg_link.specs.declared.pinned.PinnedConnection.{PinnedConnection}
 use Rattle.mg_link.specs.declared.pinned.PinnedConnection.TheVariants as connection
-use Rattle.mg_link.proofs.Waits.{IsFirstTry}
 use Rattle.mg_ops.specs.Commands.{kill_command}
 use Rattle.mg_ops.specs.Cursors.{Cursor, Manner, manner_of, next_command}
 use Rattle.mg_ops.specs.Sessions.{in_session}

@@ -4,13 +4,13 @@ use Rattle.std.specs.Prelude.{option_map}
 use Rattle.std.proofs.lemmas.List.{length-take-le}
 use Rattle.std.proofs.lemmas.Nat.{column_fits}
 use Rattle.mg_bson.specs.Raw.{fields}
-use Rattle.mg_link.specs.Exec.{Runs, Sending, Stage, unsent}
+use Rattle.mg_link.specs.Exec.{Runs, Sending, Stage, unsent, IsFirstTry}
 use Rattle.mg_link.specs.Files.{chunked}
 use Rattle.mg_link.specs.Link.{Awaited, LogTold}
 use Rattle.mg_link.specs.declared.action.Step.{Step}
 use Rattle.mg_link.specs.declared.action.Step.TheVariants as came
 use Rattle.mg_link.specs.declared.error.Error.{Error}
-use Rattle.mg_link.proofs.Waits.{IsFirstTry, waits_still}
+use Rattle.mg_link.proofs.Waits.{waits_still}
 use Rattle.mg_options.specs.Fields.{Line}
 use Rattle.mg_cursor.specs.Client.{IsSound, client_ticket}
 use Rattle.mg_cursor.specs.Documents.{DocumentCursor}

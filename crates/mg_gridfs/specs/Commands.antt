@@ -4,8 +4,7 @@ use Rattle.mg_bson.specs.Bytes.{bytes}
 use Rattle.mg_bson.specs.Literal.{◌⇒◌⨾◌, empty}
 use Rattle.mg_bson.specs.Raw.{fields}
 use Rattle.mg_bson.specs.Tree.{Fields, Tree, binary, date_time, document, int32, int64, object_id, string}
-use Rattle.mg_link.proofs.Waits.{IsFirstTry}
-use Rattle.mg_link.specs.Exec.{Sending, Stage, unsent}
+use Rattle.mg_link.specs.Exec.{Sending, Stage, unsent, IsFirstTry}
 use Rattle.mg_link.specs.Namespace.{Space}
 use Rattle.mg_link.specs.declared.concern.ReadConcern.{ReadConcern}
 use Rattle.mg_link.specs.declared.concern.WriteConcern.{WriteConcern}

@@ -3,9 +3,8 @@ use Rattle.std.proofs.Common.{◌≡◌, ◌⊎◌, ℕ, zero, suc, ℤ, pos, Li
 use Rattle.std.specs.Prelude.{cond, nat_eq, slice_get, slice_set}
 use Rattle.mg_link.specs.Link.{Awaited, LogTold}
 use Rattle.mg_link.specs.Log.{Call}
-use Rattle.mg_link.specs.Owner.{Owner, Holds, Onward, Passes, nobody}
+use Rattle.mg_link.specs.Owner.{Owner, Holds, Onward, Passes, nobody, PassesPlain}
 use Rattle.mg_link.proofs.Apart.{holds_nobody, passes_same}
-use Rattle.mg_link.proofs.Killing.{PassesPlain}
 use Rattle.mg_link.proofs.Runs.{OwnsNothing, apart_after, apart_at_first, others_onward}
 use Rattle.mg_bson.specs.Tree.{Fields}
 use Rattle.mg_link.specs.Namespace.{Space, Target, space, target}

@@ -3,12 +3,12 @@ use Rattle.std.proofs.Common.{◌≡◌, ℕ, ℤ, pos, List, [], Option, sym, a
 use Rattle.std.specs.Prelude.{◌≢◌}
 use Rattle.mg_bson.specs.Raw.{fields}
 use Rattle.mg_bson.specs.Tree.{Tree}
-use Rattle.mg_link.specs.Exec.{Runs, Sending, Stage}
+use Rattle.mg_link.specs.Exec.{Runs, Sending, Stage, IsFirstTry}
 use Rattle.mg_link.specs.Link.{Awaited, LogTold}
 use Rattle.mg_link.specs.State.{Start, Watch}
 use Rattle.mg_link.specs.declared.action.Step.{Step}
 use Rattle.mg_link.specs.declared.action.Step.TheVariants as step
-use Rattle.mg_link.proofs.Waits.{IsFirstTry, waits_still}
+use Rattle.mg_link.proofs.Waits.{waits_still}
 use Rattle.mg_cursor.specs.Client.{WaitsFor, at_rest}
 use Rattle.mg_cursor.specs.Client as cursors
 use Rattle.mg_cursor.specs.Closing.{IsNotAsking}

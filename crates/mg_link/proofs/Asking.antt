@@ -1,29 +1,20 @@
 -- A getMore, which is sent once, moves a stream as its one attempt does.
-use Rattle.std.proofs.Common.{◌≡◌, ◌≢◌, ◌⊎◌, ℕ, ℤ, pos, Bool, true, false, List, [], Option, refl, sym, ap, ◌∙◌, subst, inl, inr}
+use Rattle.std.proofs.Common.{◌≡◌, ◌≢◌, ℕ, ℤ, pos, Bool, true, false, List, Option, refl, sym, ap, ◌∙◌, subst, inl, inr}
 use Rattle.mg_link.specs.Namespace.{Space}
-use Rattle.mg_link.specs.Commands.{asks_more, garbled, Batch, asked, told}
+use Rattle.mg_link.specs.Commands.{asks_more, asked}
 use Rattle.mg_link.specs.declared.action.Step.{Step}
 use Rattle.mg_link.specs.Exec.{Stage, unsent, first, second, Sending, Attempt, not_sent, waits, answered, Begins, GoesOn, Tries, is_repeated, AttemptGives, holding, Runs}
 use Rattle.mg_link.specs.Log.{Sight, waiting, reply}
 use Rattle.mg_link.specs.Link.{Awaited, LogTold, Adds, Sees}
-use Rattle.mg_link.specs.Follow.{resting, asking, Follow, Reads, HasNoBatch, Moved}
-use Rattle.mg_link.proofs.Moves.{stayed, owed, gave_up_seen, gave_up_added, names_cursor, given_with, more_sent, more_heard, more_refused}
-use Rattle.mg_link.proofs.Retries.{next_place, next_is, at_once, at_stage}
+use Rattle.mg_link.specs.Follow.{resting, asking, Follow, Moved}
+use Rattle.mg_link.specs.Moves.{given_with, at_stage, MoreAnswered, rested}
+use Rattle.mg_link.proofs.Moves.{stayed, gave_up_seen, gave_up_added, names_cursor, more_sent, more_heard, more_refused}
+use Rattle.mg_link.proofs.Retries.{next_place, next_is, at_once}
 use Rattle.mg_link.proofs.Spoiled.{more_garbled}
 
--- the stream that asks, and the one that came to rest with this cursor
+-- the stream that asks
 abbrev pub asks_at : Follow → Option ℕ → Follow
 asks_at f place = record f { doing = asking place }
-
-abbrev pub rested : Follow → ℤ → Follow
-rested f cursor = record f { doing = resting; cursor = cursor; old = pos 0; ahead = [] }
-
--- Where a stream is behind an answer to its getMore, as it likes: it owes; or a batch was read; or it rests where the reply held none; or the reply is none that a server may give.
-pub record MoreAnswered (f : Follow) (log log' : LogTold) (g : Follow) (seen : Sight) : Type 0 where
-  pub lost : Moved log log' g (owed f)
-  pub heard : (bytes : List ℕ) → seen ≡ reply bytes → (batch : Batch) → Reads bytes batch → Moved log log' g (given_with f batch)
-  pub rests : (bytes : List ℕ) → seen ≡ reply bytes → (cursor : ℤ) → (cursor ≡ f.cursor) ⊎ (cursor ≡ pos 0) → ((space : Space) → HasNoBatch (told (asks_more f.cursor space) bytes)) → Moved log log' g (rested f cursor)
-  pub spoiled : (bytes : List ℕ) → seen ≡ reply bytes → (batch : Batch) → ((space : Space) → told (asks_more f.cursor space) bytes ≡ garbled) → Moved log log' g (given_with f batch)
 
 abbrev pub MoreAttempted : Follow → Awaited → LogTold → LogTold → Follow → Attempt → Type 0
 MoreAttempted f new log log' g not_sent = Moved log log' g g

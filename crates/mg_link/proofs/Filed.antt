@@ -4,7 +4,7 @@ use Rattle.std.specs.Prelude.{slice_get}
 use Rattle.mg_bson.specs.Tree.{Tree}
 use Rattle.mg_link.specs.Calls.{Keeps, Past, past_of}
 use Rattle.mg_link.specs.Commands.{asked, told}
-use Rattle.mg_link.specs.Exec.{Attempt, Begins, AttemptGives, GoesOn, Runs, Sending, Stage, Tries, answered, first, holding, not_sent, second, unsent, waits}
+use Rattle.mg_link.specs.Exec.{Attempt, Begins, AttemptGives, GoesOn, Runs, Sending, Stage, Tries, answered, first, holding, not_sent, second, unsent, waits, IsFirstTry}
 use Rattle.mg_link.specs.Files.{Bucket, File}
 use Rattle.mg_link.specs.Filing.{Clears, HasDeleted, HasInserted, KnowsFile, Leaves, Makes, becomes, cleared, clears, insert_at, removal_at, stays, unknown}
 use Rattle.mg_link.specs.Link.{Awaited, LogTold}
@@ -14,7 +14,7 @@ use Rattle.mg_link.specs.declared.action.Step.TheVariants as step
 use Rattle.mg_link.proofs.Calls.{keeps_on, same_keeps, see_keeps}
 use Rattle.mg_link.proofs.Filing.{file_cleared, file_clears, file_done, file_emptied, file_left, file_made, file_seen, file_sent, file_spoiled, file_still, file_unknown}
 use Rattle.mg_link.proofs.Places.{get_front}
-use Rattle.mg_link.proofs.Waits.{IsFirstTry, held_first, never_again}
+use Rattle.mg_link.proofs.Waits.{held_first, never_again}
 
 -- the log has grown, and this is known
 abbrev pub Grew : List ℕ → ℕ → List Call → LogTold → ℤ → (Past → Type 0) → Type 0

@@ -1,22 +1,19 @@
 -- Requests of jobs that open no cursor, and the killing of cursors.
-use Rattle.std.proofs.Common.{◌≡◌, ◌≢◌, ℕ, ℤ, pos, List, [], ◌∷◌, ◌++◌, Option, Some, refl, ◌∙◌, subst, inl, inr}
+use Rattle.std.proofs.Common.{◌≡◌, ◌≢◌, ℕ, ℤ, pos, List, [], ◌∷◌, ◌++◌, Option, refl, ◌∙◌, subst, inl, inr}
 use Rattle.mg_link.specs.Commands.{asks_kill, asked}
 use Rattle.mg_link.specs.declared.action.Step.{Step}
 use Rattle.mg_link.specs.Exec.{Stage, unsent, first, second, Sending, Attempt, not_sent, waits, answered, Begins, GoesOn, Tries, Runs}
 use Rattle.mg_link.specs.Log.{Sight, waiting, Call, see}
 use Rattle.mg_link.specs.Link.{Awaited, LogTold, Adds, Sees}
 use Rattle.mg_link.specs.Standing.{Names}
-use Rattle.mg_link.specs.Owner.{nobody, NamesOwn, Passes}
+use Rattle.mg_link.specs.Owner.{nobody, NamesOwn, PassesPlain}
 use Rattle.mg_link.specs.Follow.{holding, Follow, owner_of, IsOpen, Moved}
 use Rattle.mg_link.proofs.Apart.{holds_nobody, plain_added, plain_seen, passes_same, passes_on}
-use Rattle.mg_link.proofs.Moves.{stayed, owed, gave_up, gave_up_added, gave_up_seen, other_seen}
+use Rattle.mg_link.specs.Moves.{owed}
+use Rattle.mg_link.proofs.Moves.{stayed, gave_up, gave_up_added, gave_up_seen, other_seen}
 use Rattle.mg_link.proofs.Resumes.{let_go, kill_sent, kill_passed}
 
 -- ---- jobs that open no cursor
-
--- a job that opens none went from one log to another, and left every other job alone
-abbrev pub PassesPlain : LogTold → LogTold → Type 0
-PassesPlain log log' = (calls : List Call) → log ≡ Some calls → (calls' : List Call) × (log' ≡ Some calls') × Passes calls calls' nobody nobody
 
 pub plain_stayed : (log log' : LogTold) → log' ≡ log → PassesPlain log log'
 plain_stayed log log' same calls told = (calls, same ∙ told, passes_same calls nobody (holds_nobody calls))

@@ -12,6 +12,7 @@ use Rattle.mg_link.specs.Link.{Adds, Sees}
 use Rattle.mg_link.specs.Standing.{Names, Stands}
 use Rattle.mg_link.specs.Owner.{IsOf, Owns, by_id, by_reply, NamesOwn}
 use Rattle.mg_link.specs.Follow.{resting, holding, asking, owing, Follow, waited, owner_of, CursorAt, Brings, AfterMore, CameAs, Facts, KnowsOpen, IsOpen, Moved, Reads, HasNoBatch}
+use Rattle.mg_link.specs.Moves.{given_with, owed}
 use Rattle.mg_link.proofs.Owners.{same_some, BackTo}
 use Rattle.mg_link.proofs.Apart.{Sends, passes_same, seen_still, onward_seen, took_last, step_last}
 use Rattle.mg_link.proofs.Follows.{knows_kept}
@@ -33,9 +34,6 @@ moved log log' log'' f f' f'' p q calls told =
     (y.0, y.1, moved_on calls x.0 y.0 f f' f'' x.2 y.2)
 
 -- ---- what may be lost
-
-abbrev pub owed : Follow → Follow
-owed f = record f { doing = owing }
 
 quiet_sends : (calls : List Call) (f : Follow) → Sends calls (owner_of f) (owner_of (owed f))
 quiet_sends calls f = record { ids = λ x of ne. of; last = λ k of. elim of [ inl e ↦ absurd cc | inr none ↦ absurd none ] }
@@ -126,10 +124,6 @@ more_sent log log' f place command space seen is nz asks adds at calls told =
           })
           (λ history none p q step came. let bad : None ≡ Some q = sym none ∙ at_last calls call history place q step last came in absurd cc)),
     )
-
--- the stream with a batch of its cursor
-abbrev pub given_with : Follow → Batch → Follow
-given_with f batch = record f { doing = holding; cursor = batch.id; old = pos 0; ahead = batch.events; upto = batch.token }
 
 module _ (calls : List Call) (k : ℕ) (call : Call) (f : Follow) (place : Option ℕ) (bytes : List ℕ) (batch : Batch) (is : f.doing ≡ asking place) (at : place ≡ Some k) (found : slice_get calls k ≡ Some call) (reads : Reads bytes batch) where
   told_giving : (history : List Step) (position : ℕ) (facts : Facts calls history f position) → (h : HeardStep calls history k bytes call) → Brings (state_of history) f.watch facts.place f.cursor batch.events batch.token × ((batch.id ≡ f.cursor) ⊎ (batch.id ≡ pos 0))

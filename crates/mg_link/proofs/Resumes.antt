@@ -12,6 +12,7 @@ use Rattle.mg_link.specs.Link.{Adds, Sees}
 use Rattle.mg_link.specs.Standing.{Names, OpensId, TookEffect, SeenGiven, Stands}
 use Rattle.mg_link.specs.Owner.{IsOf, Owns, by_id, by_reply, Holds, NamesOwn}
 use Rattle.mg_link.specs.Follow.{holding, owing, resuming, Follow, waited, owner_of, ResumesAt, Marks, Brings, AfterOpen, Facts, KnowsOpen, Knows, Moved, Reads}
+use Rattle.mg_link.specs.Moves.{resumed_with}
 use Rattle.mg_link.proofs.Later.{Later}
 use Rattle.mg_link.proofs.Owners.{same_some}
 use Rattle.mg_link.proofs.Apart.{NamesNone, seen_still, onward_foreign}
@@ -72,10 +73,6 @@ resume_sent log log' f place command begin seen is resumes asks adds at calls to
           })
           (λ history none p q step came. let bad : None ≡ Some q = sym none ∙ at_last calls call history place q step last came in absurd cc)),
     )
-
--- the stream with a new cursor, and its old one still to be killed
-abbrev pub resumed_with : Follow → Batch → Follow
-resumed_with f batch = record f { doing = holding; cursor = batch.id; old = f.cursor; ahead = batch.events; upto = batch.token }
 
 module _ (calls : List Call) (k : ℕ) (call : Call) (f : Follow) (place : Option ℕ) (bytes : List ℕ) (batch : Batch) (is : f.doing ≡ resuming place) (at : place ≡ Some k) (reads : Reads bytes batch) where
   told_resuming : (history : List Step) (position : ℕ) (facts : Facts calls history f position) → (h : HeardStep calls history k bytes call)

@@ -14,7 +14,8 @@ use Rattle.mg_link.proofs.Places.{get_seam}
 use Rattle.mg_link.proofs.Owners.{same_some}
 use Rattle.mg_link.proofs.Openings.{names_none, IsNext, opened_with, start_sent, start_unsent, start_failed, start_heard}
 use Rattle.mg_link.proofs.Moves.{stayed, moved, gave_up_added, gave_up_seen}
-use Rattle.mg_link.proofs.Resumes.{resumed_with, resume_sent, resume_heard}
+use Rattle.mg_link.specs.Moves.{at_stage, resumed_with}
+use Rattle.mg_link.proofs.Resumes.{resume_sent, resume_heard}
 
 -- ---- sent and answered at once
 
@@ -57,12 +58,6 @@ abbrev pub place_of : Awaited → Stage → Option ℕ
 place_of awaited unsent = None
 place_of awaited (first ticket) = awaited ticket
 place_of awaited (second ticket) = awaited ticket
-
--- the stream at a stage of its request
-abbrev pub at_stage : Follow → (Option ℕ → Follow) → Awaited → Stage → Follow
-at_stage idle waiting_at awaited unsent = idle
-at_stage idle waiting_at awaited (first ticket) = waiting_at (awaited ticket)
-at_stage idle waiting_at awaited (second ticket) = waiting_at (awaited ticket)
 
 -- How a request moves a stream: idle before it is sent and where it fails, waiting while it is out, and done with the batch that is read.
 pub record Request (command : List ℕ) (idle : Follow) (waiting_at : Option ℕ → Follow) (done : Option ℕ → Batch → Follow) : Type 0 where

@@ -12,8 +12,8 @@ use Rattle.mg_link.specs.Owner.{IsOf}
 use Rattle.mg_link.specs.Follow.{holding, asking, owing, resuming, Follow, AfterOpen, AfterMore, Facts, KnowsOpen, Moved}
 use Rattle.mg_link.proofs.Heard.{HeardStep, heard_at, told_heard}
 use Rattle.mg_link.proofs.Moving.{known_as, hand_as, same_opened, moved_seen, moved_here, open_seen}
-use Rattle.mg_link.proofs.Moves.{facts_in, given_with}
-use Rattle.mg_link.proofs.Resumes.{resumed_with}
+use Rattle.mg_link.specs.Moves.{given_with, resumed_with}
+use Rattle.mg_link.proofs.Moves.{facts_in}
 
 -- no legal history has the step
 more_never : (calls : List Call) (k : ℕ) (call : Call) (f : Follow) (place : Option ℕ) (bytes : List ℕ) → f.doing ≡ asking place → place ≡ Some k → ((space : Space) → told (asks_more f.cursor space) bytes ≡ garbled) → (history : List Step) (position : ℕ) → Facts calls history f position → HeardStep calls history k bytes call → ⊥

@@ -1,14 +1,8 @@
 -- A request that waits still, of a command that is sent once.
 use Rattle.std.proofs.Common.{◌≡◌, ℕ, ℤ, Bool, true, false, refl, ap, ◌∙◌, inl, inr}
-use Rattle.mg_link.specs.Exec.{Attempt, Stage, unsent, first, second, Sending, Runs, holding, is_repeated}
+use Rattle.mg_link.specs.Exec.{Attempt, IsFirstTry, Stage, unsent, first, second, Sending, Runs, holding, is_repeated}
 use Rattle.mg_link.specs.Link.{Awaited, LogTold}
 use Rattle.mg_link.specs.declared.action.Step.TheVariants as step
-
--- it was not sent, or its first attempt waits
-abbrev pub IsFirstTry : Stage → Type 0
-IsFirstTry unsent = Unit {0}
-IsFirstTry (first ticket) = Unit {0}
-IsFirstTry (second ticket) = ⊥
 
 pub held_first : (stage : Stage) → IsFirstTry stage → (ticket : ℕ) → holding stage ticket ≡ first ticket
 held_first unsent h ticket = refl

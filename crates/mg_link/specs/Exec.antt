@@ -41,6 +41,12 @@ ticket_at unsent = None
 ticket_at (first ticket) = Some ticket
 ticket_at (second ticket) = Some ticket
 
+-- it was not sent, or its first attempt waits
+abbrev pub IsFirstTry : Stage → Type 0
+IsFirstTry unsent = Unit {0}
+IsFirstTry (first ticket) = Unit {0}
+IsFirstTry (second ticket) = ⊥
+
 abbrev pub ticket_of : Sending → Option ℕ
 ticket_of s = ticket_at s.stage
 

@@ -34,6 +34,7 @@ pub mod Prompt
 pub mod Owner
 pub mod Calls
 pub mod Follow
+pub mod Moves
 pub mod Rules
 pub mod Batches
 pub mod Kept

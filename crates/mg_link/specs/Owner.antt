@@ -1,5 +1,6 @@
 -- Which cursors a job owns, and what the calls of others leave of it.
 use Rattle.std.specs.Prelude.{◌≡◌, ◌≢◌, ◌⊎◌, ℕ, ℤ, pos, Option, Some, List, [], ◌∷◌, ◌++◌, length, slice_get, take}
+use Rattle.mg_link.specs.Link.{LogTold}
 use Rattle.mg_link.specs.Log.{reply, Call}
 use Rattle.mg_link.specs.Commands.{Asked, asked}
 use Rattle.mg_link.specs.History.{Step, IsLegal, IsLegalFrom, state_of, told_at}
@@ -75,6 +76,10 @@ pub record Passes (calls calls' : List Call) (o o' : Owner) : Type 0 where
   pub onward : (g : Owner) → Holds calls g → Apart calls o g → Onward calls calls' g
   pub apart : (g : Owner) → Holds calls g → Apart calls o g → Apart calls' o' g
   pub made : NamesItsOwn calls → NamesItsOwn calls'
+
+-- the same of a job that opens no cursor, between logs that are told
+abbrev pub PassesPlain : LogTold → LogTold → Type 0
+PassesPlain log log' = (calls : List Call) → log ≡ Some calls → (calls' : List Call) × (log' ≡ Some calls') × Passes calls calls' nobody nobody
 
 -- the jobs of a run, by what they own: no two own the same cursor
 pub record AreApart (calls : List Call) (owners : List Owner) : Type 0 where

@@ -7,7 +7,7 @@ ghost use Rattle.mg_link.specs.Exec.{ticket_of};
 ghost use Rattle.mg_link.specs.Link.{Later};
 ghost use Rattle.mg_link.specs.Errors.{plain};
 ghost use Rattle.mg_link.specs.declared.error.ErrorKind.TheVariants as kinds;
-ghost use Rattle.mg_link.proofs.Killing.{PassesPlain};
+ghost use Rattle.mg_link.specs.Owner.{PassesPlain};
 ghost use Rattle.mg_ops.specs.Failing.{CannotBeSent, FailsBy};
 ghost use Rattle.mg_ops.specs.Limits.{max_documents};
 ghost use Rattle.mg_ops.specs.InsertSends.{HearsOnce, NextOnce, SendsOn};
