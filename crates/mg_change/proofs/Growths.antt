@@ -38,7 +38,7 @@ grows_tried old new log log' command (second ticket) attempt t = grows_gone_on o
 pub still_nowhere : (calls calls' : List Call) → Onward calls calls' nobody → StandsNowhere calls → StandsNowhere calls'
 still_nowhere calls calls' onward nowhere history legal stands = let e = onward.earlier history legal stands in nowhere e.before e.legal e.stands
 
--- A job leaves all others alone where no honest server could have given the log.
+-- A caller leaves all others alone where no honest server could have given the log.
 pub passes_nowhere : (calls calls' : List Call) → Onward calls calls' nobody → StandsNowhere calls → Passes calls calls' nobody nobody
 passes_nowhere calls calls' onward nowhere =
     record {

@@ -76,7 +76,7 @@ KnowsLeft awaited calls b (Some c) = KnowsCheck awaited calls b c
 abbrev pub Left : List Call → LogTold → Owner → Awaited → ClientBucket → Option ClientCheck → Type 0
 Left calls log' own new b t = (calls' : List Call) × (log' ≡ Some calls') × Passes calls calls' own (left_owner new t) × KnowsLeft new calls' b t
 
--- a job that owns nothing any more
+-- a caller that owns nothing any more
 dropped : (calls calls' : List Call) (o o' : Owner) → Passes calls calls' o o' → Passes calls calls' o nobody
 dropped calls calls' o o' p = passes_on calls calls' calls' o o' nobody p (passes_here calls' o' nobody (λ n is. is) (λ y is ne. absurd is) p.holds)
 

@@ -205,7 +205,7 @@ owns_nothing calls history f none h x (by_id (inr (inl e)) ne) = ne (sym e ∙ h
 owns_nothing calls history f none h x (by_id (inr (inr bad)) ne) = bad
 owns_nothing calls history f none h x (by_reply k p step is took opens) = quiet (waited f.doing) none k is
 
--- A stream that has sent nothing knows, whatever was called before, and is apart from every job.
+-- A stream that has sent nothing knows, whatever was called before, and is apart from every caller.
 pub knows_new : (calls : List Call) (f : Follow) → f.doing ≡ unopened → HasNothing f → Knows calls f
 knows_new calls f is h =
     record {

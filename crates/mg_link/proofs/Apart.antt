@@ -1,4 +1,4 @@
--- What a call of one job leaves to the others, and which cursors are whose afterwards.
+-- What a call of one caller leaves to the others, and which cursors are whose afterwards.
 use Rattle.std.proofs.Common.{◌≡◌, ◌≢◌, ◌⊎◌, ℕ, ◌≤◌, ℤ, pos, true, false, List, [], ◌∷◌, ◌++◌, length, Option, Some, None, refl, sym, ap, ◌∙◌, subst, inl, inr, take, arith, append_assoc, append-nil}
 use Rattle.std.specs.Prelude.{slice_get}
 use Rattle.std.proofs.lemmas.List.{take-append-le, take_all}
@@ -32,7 +32,7 @@ silent_at calls call history position x b given =
     let place = b.place in
     b.silent x (record { at = given.at; position = given.position; step = given.step; took = took; opens = given.opens }) (omega arith)
 
--- a call names none of the job's cursors
+-- a call names none of the caller's cursors
 abbrev pub NamesNone : List Call → Call → Owner → Type 0
 NamesNone calls call g = (before : List Step) → IsLegal before → Stands calls before → (x : ℤ) → Owns calls before g x → Names (asked call.command) x → ⊥
 
@@ -62,12 +62,12 @@ earlier_by calls call g history (Some position) is foreign legal stands = earlie
 pub names_owned : (calls : List Call) (o : Owner) (call : Call) (history : List Step) (x : ℤ) → NamesOwn o (asked call.command) → Names (asked call.command) x → Owns calls history o x
 names_owned calls o call history x own names = let r = own x names in by_id r.0 r.1
 
--- ---- what a call of one job leaves to another
+-- ---- what a call of one caller leaves to another
 
 pub onward_refl : (calls : List Call) (g : Owner) → Onward calls calls g
 onward_refl calls g = record { grown = grown_refl calls; earlier = λ history legal stands. earlier_here calls g history legal stands }
 
--- a call that names the cursors of the first job only leaves the second's alone
+-- a call that names the cursors of the first caller only leaves the second's alone
 pub onward_added : (calls : List Call) (call : Call) (o g : Owner) → NamesOwn o (asked call.command) → Apart calls o g → Onward calls (calls ++ call ∷ []) g
 onward_added calls call o g own apart =
     record {
@@ -87,7 +87,7 @@ onward_seen k seen calls call g found waits =
 pub onward_foreign : (calls : List Call) (call : Call) (g : Owner) → NamesNone calls call g → Onward calls (calls ++ call ∷ []) g
 onward_foreign calls call g foreign = record { grown = grown_push calls call; earlier = λ history legal stands. earlier_by calls call g history call.position refl foreign legal stands }
 
--- a job's cursors in a longer history that were its before
+-- a caller's cursors in a longer history that were its before
 pub owns_on : (calls calls' : List Call) (before tail : List Step) (g : Owner) (x : ℤ) → IsGrown calls calls' → Owns calls before g x → Owns calls' (before ++ tail) g x
 owns_on calls calls' before tail g x grown (by_id is ne) = by_id is ne
 owns_on calls calls' before tail g x grown (by_reply k p step is took opens) = by_reply k p step is (took_grown calls calls' before tail k p step grown took) opens
@@ -150,12 +150,12 @@ holds_kept calls calls' g onward holds =
       seen = λ history legal stands x is ne. let e = onward.earlier history legal stands in seen_grown calls calls' (length calls) (length calls') x onward.grown (grown_length calls calls' onward.grown) (holds.seen e.before e.legal e.stands x is ne);
     }
 
--- each cursor of a job was given to the log
+-- each cursor of a caller was given to the log
 pub given_of : (calls : List Call) (g : Owner) (history : List Step) (x : ℤ) → Holds calls g → IsLegal history → Stands calls history → Owns calls history g x → GivenTo calls history x
 given_of calls g history x holds legal stands (by_id is ne) = holds.given history legal stands x is ne
 given_of calls g history x holds legal stands (by_reply k p step is took opens) = record { at = k; position = p; step = step; took = took; opens = opens }
 
--- two jobs that the calls of a third left alone are apart still
+-- two callers that the calls of a third left alone are apart still
 pub apart_still : (calls calls' : List Call) (g h : Owner) → Onward calls calls' g → Holds calls g → Holds calls h → Apart calls g h → Apart calls' g h
 apart_still calls calls' g h onward a b apart history legal stands x mine theirs =
     let e = onward.earlier history legal stands in
@@ -165,7 +165,7 @@ apart_still calls calls' g h onward a b apart history legal stands x mine theirs
 
 -- ---- which cursors are whose afterwards
 
--- each cursor that the job has now was its own before, or is new
+-- each cursor that the caller has now was its own before, or is new
 abbrev pub OwnsNew : List Call → List Call → Owner → Owner → Owner → List Step → Type 0
 OwnsNew calls calls' o o' g history = (e : Earlier calls g history) × ((x : ℤ) → Owns calls' history o' x → Owns calls e.before o x ⊎ ((state_of e.before).given x ≡ false))
 
@@ -196,7 +196,7 @@ step_last calls call history p step b there =
     let here : slice_get history p ≡ Some b.step = ap (λ h. slice_get h p) b.whole ∙ subst (λ n. slice_get (b.before ++ b.step ∷ b.rest) n ≡ Some b.step) b.place (get_seam b.before b.rest b.step) in
     same_some b.step step (sym here ∙ there)
 
--- the ids are among those that the job had, and it waits for the last call at most
+-- the ids are among those that the caller had, and it waits for the last call at most
 pub record Sends (calls : List Call) (o o' : Owner) : Type 0 where
   pub ids : (x : ℤ) → IsOf o'.ids x → x ≢ pos 0 → IsOf o.ids x
   pub last : (k : ℕ) → IsOf o'.coming (Some k) → k ≡ length calls
@@ -233,7 +233,7 @@ pub apart_added : (calls : List Call) (call : Call) (o o' g : Owner) → NamesOw
 apart_added calls call o o' g own sends holds apart =
     apart_by calls (calls ++ call ∷ []) o o' g (grown_push calls call) holds apart (λ history legal stands. added_by calls call o o' g own sends apart history call.position refl legal stands)
 
--- a job keeps what it holds, and waits for the call that it added
+-- a caller keeps what it holds, and waits for the call that it added
 pub holds_added : (calls : List Call) (call : Call) (o o' : Owner) → Sends calls o o' → Holds calls o → Holds (calls ++ call ∷ []) o'
 holds_added calls call o o' sends holds =
     record {
@@ -270,7 +270,7 @@ made_seen k seen calls call found waits made j c x history legal stands at names
     seen_grown calls (see k seen calls) j j x grown (omega arith)
     (made j old.0 x history legal (front_before calls (see k seen calls) j history grown (omega (arith, lt)) stands) old.1 (subst (λ (d : List ℕ). Names (asked d) x) old.2 names))
 
--- A call was added that names the job's own cursors only.
+-- A call was added that names the caller's own cursors only.
 pub passes_added : (calls : List Call) (call : Call) (o o' : Owner) → NamesOwn o (asked call.command) → Sends calls o o' → Holds calls o → Passes calls (calls ++ call ∷ []) o o'
 passes_added calls call o o' own sends holds =
     record {
@@ -280,7 +280,7 @@ passes_added calls call o o' own sends holds =
       made = made_added calls call o own holds;
     }
 
--- each cursor that the job has after a call saw something was its own before
+-- each cursor that the caller has after a call saw something was its own before
 abbrev pub OwnsOld : List Call → List Call → Owner → Owner → Type 0
 OwnsOld calls calls' o o' = (history : List Step) → IsLegal history → Stands calls history → Stands calls' history → (x : ℤ) → Owns calls' history o' x → Owns calls history o x
 
@@ -295,7 +295,7 @@ apart_seen k seen calls call o o' g found waits old holds apart =
     let stands' = stands_unseen k seen calls call history found waits stands in
     (earlier_here calls g history legal stands', λ x owns. inl (old history legal stands' stands x owns)))
 
--- each cursor that the job has after a call saw something was seen given
+-- each cursor that the caller has after a call saw something was seen given
 abbrev pub SawGiven : List Call → List Call → Owner → Type 0
 SawGiven calls calls' o' = (history : List Step) → IsLegal history → Stands calls history → Stands calls' history → (x : ℤ) → IsOf o'.ids x → x ≢ pos 0 → SeenGiven calls' (length calls') x
 
@@ -304,7 +304,7 @@ seen_still k seen calls call o found waits holds history legal stands x is ne =
     let grown = grown_see k seen calls call found waits in
     seen_grown calls (see k seen calls) (length calls) (length (see k seen calls)) x grown (grown_length calls (see k seen calls) grown) (holds.seen history legal stands x is ne)
 
--- a job that waits for nothing any more holds what was its own
+-- a caller that waits for nothing any more holds what was its own
 pub holds_seen : (k : ℕ) (seen : Sight) (calls : List Call) (call : Call) (o o' : Owner) → slice_get calls k ≡ Some call → call.seen ≡ waiting → ((n : ℕ) → IsOf o'.coming (Some n) → ⊥) → OwnsOld calls (see k seen calls) o o' → SawGiven calls (see k seen calls) o' → Holds calls o → Holds (see k seen calls) o'
 holds_seen k seen calls call o o' found waits quiet old saw holds =
     record {
@@ -326,7 +326,7 @@ passes_seen k seen calls call o o' found waits quiet old saw holds =
       made = made_seen k seen calls call found waits;
     }
 
--- The job went on by itself.
+-- The caller went on by itself.
 pub passes_here : (calls : List Call) (o o' : Owner) → ((n : ℕ) → IsOf o'.coming (Some n) → ⊥) → ((x : ℤ) → IsOf o'.ids x → x ≢ pos 0 → IsOf o.ids x) → Holds calls o → Passes calls calls o o'
 passes_here calls o o' quiet ids holds =
     record {
@@ -349,7 +349,7 @@ passes_on a b c o o' o'' p q =
       made = λ made. q.made (p.made made);
     }
 
--- ---- jobs without cursors
+-- ---- callers without cursors
 
 pub holds_nobody : (calls : List Call) → Holds calls nobody
 holds_nobody calls = record { in_log = λ k is. absurd is; given = λ history legal stands x is ne. absurd is; seen = λ history legal stands x is ne. absurd is }

@@ -109,7 +109,7 @@ module _ (calls : List Call) (o : Owner) (history : List Step) (e : Earlier call
   pub later_of : Later (state_of e.before) (state_of history)
   later_of = subst (Later (state_of e.before)) (sym whole_state) (later_steps (state_of e.before) e.tail (respects_of e.before) e.rest)
 
-  -- a cursor of the job stands where it stood
+  -- a cursor of the caller stands where it stood
   pub still_of : (x : ℤ) → Owns calls e.before o x → GivenTo calls e.before x → (state_of history).cursors x ≡ (state_of e.before).cursors x
   still_of x owns given =
       ap (λ (s : State). s.cursors x) whole_state
@@ -118,7 +118,7 @@ module _ (calls : List Call) (o : Owner) (history : List Step) (e : Earlier call
   pub opening_of : (position : ℕ) (start : Start) → position < length e.before → opening history position start ≡ opening e.before position start
   opening_of position start lt = ap (λ h. opening h position start) e.whole ∙ opening_kept e.before e.tail position start lt
 
-  -- what took effect for a call that the job waits for did so before
+  -- what took effect for a call that the caller waits for did so before
   pub came_back : (calls' : List Call) (place : Option ℕ) (position : ℕ) (step : Step) → IsGrown calls calls' → ((k : ℕ) → place ≡ Some k → (call : Call) × (slice_get calls k ≡ Some call)) → CameAs calls' history place position step → CameAs calls e.before place position step
   came_back calls' place position step grown in_log came =
       let c = in_log came.0 came.1 in

@@ -1,4 +1,4 @@
--- Requests of jobs that open no cursor, and the killing of cursors.
+-- Requests of callers that open no cursor, and the killing of cursors.
 use Rattle.std.proofs.Common.{◌≡◌, ◌≢◌, ℕ, ℤ, pos, List, [], ◌∷◌, ◌++◌, Option, refl, ◌∙◌, subst, inl, inr}
 use Rattle.mg_link.specs.Commands.{asks_kill, asked}
 use Rattle.mg_link.specs.declared.action.Step.{Step}
@@ -13,7 +13,7 @@ use Rattle.mg_link.specs.Moves.{owed}
 use Rattle.mg_link.proofs.Moves.{stayed, gave_up, gave_up_added, gave_up_seen, other_seen}
 use Rattle.mg_link.proofs.Resumes.{let_go, kill_sent, kill_passed}
 
--- ---- jobs that open no cursor
+-- ---- callers that open no cursor
 
 pub plain_stayed : (log log' : LogTold) → log' ≡ log → PassesPlain log log'
 plain_stayed log log' same calls told = (calls, same ∙ told, passes_same calls nobody (holds_nobody calls))
@@ -49,7 +49,7 @@ module _ (command : List ℕ) (none : (x : ℤ) → Names (asked command) x → 
   plain_tries old new log log' (first ticket) attempt t = plain_goes_on old new log log' ticket attempt t
   plain_tries old new log log' (second ticket) attempt t = plain_goes_on old new log log' ticket attempt t
 
-  -- A poll of a request that names no cursor and whose reply gives the job none.
+  -- A poll of a request that names no cursor and whose reply gives the caller none.
   pub plain_ran : (old new : Awaited) (log log' : LogTold) (wire : ℤ) (s : Sending) (result : Step Sending (List ℕ)) → s.command ≡ command → Runs old new log log' wire s result → PassesPlain log log'
   plain_ran old new log log' wire s result is (inl once) =
       plain_tries old new log log' s.stage once.attempt (subst (λ (c : List ℕ). Tries old new log log' c s.stage once.attempt) is once.tries)

@@ -1,4 +1,4 @@
--- The jobs of a run stay apart.
+-- Callers side by side stay apart.
 use Rattle.std.proofs.Common.{◌≡◌, ◌⊎◌, ℕ, ℤ, pos, List, [], Some, sym, ap, ◌∙◌, subst, inl, inr}
 use Rattle.std.specs.Prelude.{slice_get, slice_set}
 use Rattle.std.proofs.lemmas.Bool.{cases_eq}
@@ -9,11 +9,11 @@ use Rattle.mg_link.proofs.Owners.{same_some}
 use Rattle.mg_link.proofs.Apart.{holds_kept, apart_still}
 use Rattle.mg_link.proofs.Places.{get_set_other, get_set_same}
 
--- two jobs are apart either way
+-- two callers are apart either way
 pub apart_turned : (calls : List Call) (o g : Owner) → Apart calls o g → Apart calls g o
 apart_turned calls o g apart history legal stands x mine theirs = apart history legal stands x theirs mine
 
--- a job that has no cursor and waits for none
+-- a caller that has no cursor and waits for none
 pub record OwnsNothing (o : Owner) : Type 0 where
   pub ids : (x : ℤ) → IsOf o.ids x → x ≡ pos 0
   pub coming : (k : ℕ) → IsOf o.coming (Some k) → ⊥
@@ -22,7 +22,7 @@ nothing_owned : (calls : List Call) (history : List Step) (o : Owner) → OwnsNo
 nothing_owned calls history o none x (by_id is ne) = ne (none.ids x is)
 nothing_owned calls history o none x (by_reply k p step is took opens) = none.coming k is
 
--- Jobs that have no cursor yet are apart, whatever was called before.
+-- Callers that have no cursor yet are apart, whatever was called before.
 pub apart_at_first : (calls : List Call) (owners : List Owner) → ((i : ℕ) (o : Owner) → slice_get owners i ≡ Some o → OwnsNothing o) → AreApart calls owners
 apart_at_first calls owners none =
     record {
@@ -35,7 +35,7 @@ apart_at_first calls owners none =
     }
 
 module _ (calls calls' : List Call) (owners : List Owner) (k : ℕ) (o o' : Owner) (at : slice_get owners k ≡ Some o) (passes : Passes calls calls' o o') (all : AreApart calls owners) where
-  -- a job after the turn is the one that had it, or another
+  -- a caller after the turn is the one that had it, or another
   which : (i : ℕ) (g : Owner) → slice_get (slice_set owners k o') i ≡ Some g → ((i ≡ k) × (o' ≡ g)) ⊎ ((i ≡ k → ⊥) × (slice_get owners i ≡ Some g))
   which i g h =
       elim (cases_eq i k) [
@@ -43,14 +43,14 @@ module _ (calls calls' : List Call) (owners : List Owner) (k : ℕ) (o o' : Owne
         | inr ne ↦ inr (ne, get_set_other owners k i g o' ne h)
       ]
 
-  -- Another job is left alone by the turn.
+  -- Another caller is left alone by the turn.
   pub others_onward : (i : ℕ) (g : Owner) → (i ≡ k → ⊥) → slice_get owners i ≡ Some g → Onward calls calls' g
   others_onward i g ne h = passes.onward g (all.holds i g h) (all.apart k i o g (λ e. ne (sym e)) at h)
 
   others_apart : (i : ℕ) (g : Owner) → (i ≡ k → ⊥) → slice_get owners i ≡ Some g → Apart calls' o' g
   others_apart i g ne h = passes.apart g (all.holds i g h) (all.apart k i o g (λ e. ne (sym e)) at h)
 
-  -- The jobs are apart after the turn of one.
+  -- The callers are apart after the turn of one.
   pub apart_after : AreApart calls' (slice_set owners k o')
   apart_after =
       record {

@@ -258,7 +258,7 @@ pub record MovedIn (calls calls' : List Call) (f f' : Follow) : Type 0 where
   pub knows : Knows calls f → Knows calls' f'
   pub passes : Knows calls f → Passes calls calls' (owner_of f) (owner_of f')
 
--- A stream went from one log and standing to another: it goes on knowing, and each other job is left alone.
+-- A stream went from one log and standing to another: it goes on knowing, and each other caller is left alone.
 abbrev pub Moved : link.LogTold → link.LogTold → Follow → Follow → Type 0
 Moved log log' f f' = (calls : List Call) → log ≡ Some calls → (calls' : List Call) × (log' ≡ Some calls') × MovedIn calls calls' f f'
 

@@ -199,7 +199,7 @@ pub record ReadOn (calls calls' : List Call) (r r' : Reader) : Type 0 where
   pub knows : KnowsRead calls r → KnowsRead calls' r'
   pub passes : KnowsRead calls r → Passes calls calls' (owner_of_reader r) (owner_of_reader r')
 
--- A reader went from one log and standing to another: it goes on knowing, and each other job is left alone.
+-- A reader went from one log and standing to another: it goes on knowing, and each other caller is left alone.
 abbrev pub ReadMoved : link.LogTold → link.LogTold → Reader → Reader → Type 0
 ReadMoved log log' r r' = (calls : List Call) → log ≡ Some calls → (calls' : List Call) × (log' ≡ Some calls') × ReadOn calls calls' r r'
 
