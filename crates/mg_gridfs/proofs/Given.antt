@@ -144,7 +144,7 @@ download_same old new calls at id d bytes same k = record { of_record = k.of_rec
 -- ---- while others call
 
 module _ (old new : Awaited) (calls calls' : List Call) (at : Bucket) (d : ClientDownload) (bytes : List ℕ) (place : ℕ) where
-  chunks_later : (c : ClientCursor) → Onward calls calls' (cursor_owner old c) → KnowsChunks old calls at d bytes c place → KnowsChunks old calls' at d bytes c place
+  pub chunks_later : (c : ClientCursor) → Onward calls calls' (cursor_owner old c) → KnowsChunks old calls at d bytes c place → KnowsChunks old calls' at d bytes c place
   chunks_later c onward k =
       record {
         named = k.named;

@@ -33,7 +33,7 @@ flies_new awaited past lines s is = subst (λ (stage : Stage). Flies awaited pas
 new_request : (lines : List Line) (s : Sending) → IsNewRequest true lines s → IsRequest true lines s
 new_request lines s new = record { command_is = new.command_is; retries_is = new.retries_is; at = tt }
 
-record_grows : (past past' : Past) → Grows past past' → (b : ClientBucket) (id : Tree) (found : Option FileRecord) → HeardRecord past b id found → HeardRecord past' b id found
+pub record_grows : (past past' : Past) → Grows past past' → (b : ClientBucket) (id : Tree) (found : Option FileRecord) → HeardRecord past b id found → HeardRecord past' b id found
 record_grows past past' grows b id found h = record { bytes = h.bytes; heard = heard_reply past past' grows (fields_in (found_lines b id)) h.bytes h.heard; success = h.success; reads_so = h.reads_so }
 
 -- want of memory, or a cause

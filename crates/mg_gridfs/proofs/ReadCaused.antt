@@ -55,7 +55,7 @@ module _ (past past' : Past) (grows : Grows past past') where
   took_grow f c [] n m at h = h
   took_grow f c (bytes ∷ more) n m at h = (h.0, next_grow c bytes h.0 h.1, h.2, took_grow f h.0 more (n + length h.2.chunks) m at h.3)
 
-  read_fails_grow : (d : ClientDownload) (c : ClientCursor) (e : Error) → ReadFails past d c e → ReadFails past' d c e
+  pub read_fails_grow : (d : ClientDownload) (c : ClientCursor) (e : Error) → ReadFails past d c e → ReadFails past' d c e
   read_fails_grow d c e (causes.out_of_memory is) = causes.out_of_memory is
   read_fails_grow d c e (causes.not_built replies at are cannot) = causes.not_built replies at (heard_grow past past' grows c replies at are) cannot
   read_fails_grow d c e (causes.no_batch replies at are why) = causes.no_batch replies at (heard_grow past past' grows c replies at are) (fails_grow past past' grows at e why)

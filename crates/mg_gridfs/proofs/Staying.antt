@@ -44,7 +44,7 @@ find_later before history tail q position (gave id space documents token) whole 
 find_later before history tail q position killed whole lt same h = absurd h
 find_later before history tail q position garbled whole lt same h = absurd h
 
-finding_kept : (calls calls' : List Call) (q : Query) (place : Option ℕ) → Onward calls calls' (finder place) → KnowsFinding calls q place → KnowsFinding calls' q place
+pub finding_kept : (calls calls' : List Call) (q : Query) (place : Option ℕ) → Onward calls calls' (finder place) → KnowsFinding calls q place → KnowsFinding calls' q place
 finding_kept calls calls' q place onward k =
     record {
       owned = holds_kept calls calls' (finder place) onward k.owned;
