@@ -8,7 +8,7 @@ use Rattle.mg_link.specs.Exec.{IsSuccess, Runs, Sending, unsent}
 use Rattle.mg_link.specs.Link.{Awaited, LogTold}
 use Rattle.mg_link.specs.Log.{Call}
 use Rattle.mg_link.specs.Namespace.{space}
-use Rattle.mg_link.specs.Owner.{Owner, Passes, nobody}
+use Rattle.mg_link.specs.Owner.{Owner, Passes, PassesPlain, nobody}
 use Rattle.mg_link.specs.Query.{Query}
 use Rattle.mg_link.specs.Reader.{FindingAt, KnowsRead, Reader, finder_at, opened_at, owner_of_reader}
 use Rattle.mg_link.specs.declared.action.Step.{Step}
@@ -17,7 +17,7 @@ use Rattle.mg_link.proofs.Apart.{passes_here, passes_on}
 use Rattle.mg_link.proofs.Calls.{success_ran}
 use Rattle.mg_link.proofs.Finds as link_finds
 use Rattle.mg_link.proofs.Finds.{CameKnown, IsAtOwn, query_ran}
-use Rattle.mg_link.proofs.Killing.{PassesPlain, plain_ran}
+use Rattle.mg_link.proofs.Killing.{plain_ran}
 use Rattle.mg_options.specs.Fields.{Line}
 use Rattle.mg_ops.specs.Cursors.{Cursor, OpensWith}
 use Rattle.mg_ops.specs.Naming.{IsNamed}

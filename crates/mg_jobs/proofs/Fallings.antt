@@ -1,5 +1,5 @@
 -- The places at which a follow's opening and closing send: the aggregate, and the killing of what is left.
-use Rattle.std.proofs.Common.{◌≡◌, ◌≤◌, ◌++◌, List, ℕ, ℤ, pos, Bool, false, Option, None, sym, ap, ◌∙◌, subst, arith}
+use Rattle.std.proofs.Common.{true, ◌≡◌, ◌≤◌, ◌++◌, List, ℕ, ℤ, pos, Bool, false, Option, None, sym, ap, ◌∙◌, subst, arith}
 use Rattle.mg_bson.specs.Raw.{fields}
 use Rattle.mg_bson.specs.Tree.{Fields}
 use Rattle.mg_link.specs.Exec.{Runs, Sending}

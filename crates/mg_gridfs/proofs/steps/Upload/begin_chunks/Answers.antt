@@ -126,7 +126,7 @@ returns-in_err-_last-clause-err g c =
     let few : c.as_many-count.result ≤ max_documents = let fits = count.fits in let most_fitting = together.few in omega (arith, fits, most_fitting) in
     rw (p.1, p.2) (inr (steps.too_many c.as_many-count.result count.some few within passes
     (steps.of_last c.as_many-count.result passes (λ twelve. portion u (g.I.IdSource.ids c.args.ids.now) c.requires.sound.size.some c.as_many-count.result fitting c.full_chunks-held.result count.some first is count.fits count.held count.most together.few
-    (subst (λ (n : ℕ). (fitting * n ≤ max_batch) ⊎ (fitting ≡ 1)) long together.together) (subst (λ (n : ℕ). (max_batch < (fitting + 1) * n) ⊎ (fitting ≡ max_documents)) long together.most) most below twelve))
+    (subst (λ (n : ℕ). (fitting * n ≤ max_piece) ⊎ (fitting ≡ 1)) long together.together) (subst (λ (n : ℕ). (max_piece < (fitting + 1) * n) ⊎ (fitting ≡ max_documents)) long together.most) most below twelve))
     c.in_err-_last.ensures.err))
 
 pub returns-clause-ok : goal.returns-clause-ok
