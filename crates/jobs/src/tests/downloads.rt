@@ -4,16 +4,13 @@ ghost use Rattle.mg_link.specs.Places.{out_at};
 ghost use Rattle.mg_gridfs.specs.Downloads.{download_ticket};
 ghost use Rattle.mg_gridfs.specs.DownloadView.{IsDownload, download_of};
 
-use super::files::{bucket, collection, empty_link, line_parts, number_of, put_into, small};
-use super::{expect, one_field, repeated, text, with};
+use super::files::{bucket, number_of, put_into, size_of, small};
+use super::{Subject, are_found, empty_link, given, insert, one_field, text, with};
 use mg_bson::{Binary, Bson, DateTime, Document};
 use mg_gridfs::{GridFsDownloadStream, ReadPoll};
-use mg_link::{Action, Error, ErrorKind, Exec, Step, plain};
-use mg_ops::{Insert, Operation, encode};
-use mg_options::InsertManyOptions;
+use mg_link::{Action, Error, ErrorKind, Step, plain};
 use mg_store::MemLink;
 use std::alloc::{AllocError, Global};
-use std::process::Abort;
 use std::test::Fail;
 
 // Opens a download of the file of this id.
@@ -90,57 +87,33 @@ fn got(alloc: Global, link: &mut MemLink, id: i32, room: usize) -> Result<String
 
 // ---- files that were put
 
-/// Each line is the size of the chunks and the room of a read, the pieces of a file, and what is read of it.
-const GETS: &str = "4,2~abc,defghi~/ab/cd/ef/gh/i/end in 12
-4,16~abc,defghi~/abcdefghi/end in 12
-4,9~abc,defghi~/abcdefghi/end in 12
-4,3~abcdefgh~/abc/def/gh/end in 11
-4,8~~/end in 2
-1,1~a,b~/a/b/end in 12";
+/// Each line is the size of the chunks, which one need not say, and the room of a read, the pieces of a file, and what is read of it.
+const GETS: &str = "4,2|abc,defghi~/ab/cd/ef/gh/i/end in 12
+4,16|abc,defghi~/abcdefghi/end in 12
+4,9|abc,defghi~/abcdefghi/end in 12
+4,3|abcdefgh~/abc/def/gh/end in 11
+4,8|~/end in 2
+1,1|a,b~/a/b/end in 12
+-,100|zzzzzzzzzzzzzzzzzzzzzzzzzzzzzzzzzzzzzzzzzzzzzzzzzzzzzzzzzzzzzzzzzzzzzzzzzzzzzzzzzzzzzzzzzzzzzzzzzzzz~/zzzzzzzzzzzzzzzzzzzzzzzzzzzzzzzzzzzzzzzzzzzzzzzzzzzzzzzzzzzzzzzzzzzzzzzzzzzzzzzzzzzzzzzzzzzzzzzzzzzz/end in 4";
 
-// Puts a file and gets it.
-fn put_and_got(
-    alloc: Global,
-    size: Option<u32>,
-    room: usize,
-    pieces: &str,
-) -> Result<String, Error> {
-    let mut link = empty_link(alloc);
-    put_into(alloc, &mut link, size, pieces)?;
-    let told = got(alloc, &mut link, 7, room)?;
-    let commands = link.log().calls().len();
-    Ok(format!(in alloc; "{told} in {commands}")?)
-}
+struct Gets;
 
-// Gets what a line says.
-fn expect_got(rt: &impl Abort, alloc: Global, line: &str) -> Result<(), Fail> {
-    let Some((sizes, pieces, wanted)) = line_parts(line) else {
-        return Err(Fail::from("line"));
-    };
-    let Some((size, room)) = sizes.split_once(',') else {
-        return Err(Fail::from("sizes"));
-    };
-    let room = number_of(Some(room)).min(100) as usize;
-    match put_and_got(alloc, Some(small(Some(size))), room, pieces) {
-        Ok(found) => expect(rt, line, found.as_str(), wanted),
-        Err(_) => return Err(Fail::from("put")),
+impl Subject for Gets {
+    // Puts a file over an empty store, and gets it.
+    fn found(alloc: Global, line: &str) -> Result<String, Error> {
+        let (sizes, pieces) = line.split_once('|').unwrap_or((line, ""));
+        let (size, room) = sizes.split_once(',').unwrap_or((sizes, "0"));
+        let mut link = empty_link(alloc);
+        put_into(alloc, &mut link, size_of(size), pieces)?;
+        let told = got(alloc, &mut link, 7, number_of(room).min(100) as usize)?;
+        let commands = link.log().calls().len();
+        Ok(format!(in alloc; "{told} in {commands}")?)
     }
-    Ok(())
 }
 
 #[test]
 fn what_was_put_is_got(rt: HostRuntime) -> Result<(), Fail> {
-    let alloc = rt.alloc();
-    for line in GETS.lines() {
-        expect_got(&rt, alloc, line)?;
-    }
-    let piece = repeated(alloc, "", "z", 100, "")?;
-    let wanted = repeated(alloc, "/", "z", 100, "/end in 4")?;
-    match put_and_got(alloc, None, 100, piece.as_str()) {
-        Ok(found) => expect(&rt, "one short chunk", found.as_str(), wanted.as_str()),
-        Err(_) => return Err(Fail::from("put")),
-    }
-    Ok(())
+    are_found::<Gets>(&rt, rt.alloc(), "~", GETS)
 }
 
 // ---- files that differ from their records
@@ -148,9 +121,9 @@ fn what_was_put_is_got(rt: HostRuntime) -> Result<(), Fail> {
 // The record of a file of so many bytes in chunks of this size.
 fn record(alloc: Global, length: &str, size: &str) -> Result<Document, Error> {
     let record = one_field(alloc, "_id", Bson::Int32(5))?;
-    let length = i64::try_from(number_of(Some(length))).unwrap_or(0);
+    let length = i64::try_from(number_of(length)).unwrap_or(0);
     let record = with(record, "length", Bson::Int64(length))?;
-    let size = i32::try_from(small(Some(size))).unwrap_or(0);
+    let size = i32::try_from(small(size)).unwrap_or(0);
     let record = with(record, "chunkSize", Bson::Int32(size))?;
     Ok(with(record, "uploadDate", Bson::DateTime(DateTime { millis: 0 }))?)
 }
@@ -166,29 +139,9 @@ fn chunk(alloc: Global, word: &str) -> Result<Document, Error> {
         }),
     };
     let chunk = one_field(alloc, "files_id", Bson::Int32(5))?;
-    let number = i32::try_from(small(Some(number))).unwrap_or(0);
+    let number = i32::try_from(small(number)).unwrap_or(0);
     let chunk = with(chunk, "n", Bson::Int32(number))?;
     Ok(with(chunk, "data", data)?)
-}
-
-// Inserts documents.
-fn insert(
-    alloc: Global,
-    link: &mut MemLink,
-    coll: &str,
-    documents: Vec<Document>,
-) -> Result<(), Error> {
-    let insert = Insert {
-        ns: collection(alloc, coll)?,
-        documents,
-        options: InsertManyOptions::builder(),
-    };
-    let command = encode(alloc, &insert, 21, None)?;
-    match Exec::start(command, insert.retry(None)).run(link, 20) {
-        Step::Pending(_) => Err(plain(ErrorKind::Io)),
-        Step::Done(_) => Ok(()),
-        Step::Failed(error) => Err(error),
-    }
 }
 
 // Each chunk has an `_id` of its own, by its place.
@@ -209,12 +162,11 @@ fn chunks(alloc: Global, words: &str) -> Result<Vec<Document>, Error> {
 fn file_in(alloc: Global, sizes: &str, words: &str) -> Result<MemLink, Error> {
     let (length, size) = sizes.split_once(',').unwrap_or((sizes, "0"));
     let mut link = empty_link(alloc);
-    let mut records = Vec::new(alloc);
-    records.push(record(alloc, length, size)?)?;
-    insert(alloc, &mut link, "fs.files", records)?;
+    let records = vec![in alloc; record(alloc, length, size)?]?;
+    given(alloc, &mut link, insert(alloc, "fs.files", records)?, None)?;
     let chunks = chunks(alloc, words)?;
     if !chunks.is_empty() {
-        insert(alloc, &mut link, "fs.chunks", chunks)?;
+        given(alloc, &mut link, insert(alloc, "fs.chunks", chunks)?, None)?;
     }
     Ok(link)
 }
@@ -234,64 +186,56 @@ fn beside(alloc: Global) -> Result<String, Error> {
     Ok(format!(in alloc; "{first} {second}")?)
 }
 
-#[test]
-fn files_stand_beside_others(rt: HostRuntime) -> Result<(), Fail> {
-    match beside(rt.alloc()) {
-        Ok(found) => expect(&rt, "two files", found.as_str(), "/abcdef/end /uvwxyz/end"),
-        Err(_) => return Err(Fail::from("not put")),
-    }
-    Ok(())
-}
-
 /// Each line is the length of the file and the size of its chunks by its record, the chunks that are there, and what is read: into room
 /// for 4 bytes, and into room for 16.
-const DIFFERING: &str = "10,4~0:abcd 1:efgh 2:ij~/abcd/efgh/ij/end /abcdefghij/end
-10,4~0:abcd 1:efgh~/abcd/chunk 2 is missing/end /chunk 2 is missing/end
-10,4~2:ij 1:efgh 0:abcd~/abcd/efgh/ij/end /abcdefghij/end
-4,4~1:abcd~/chunk 0 is missing/end /chunk 0 is missing/end
-4,4~0:abcd 0:abcd~/chunk 1 is missing/end /chunk 1 is missing/end
-4,4~0:abcd 1:efgh~/abcd/chunk 2 is missing/end /chunk 2 is missing/end
-10,4~0:abc~/chunk 0 has 3 bytes and not 4/end /chunk 0 has 3 bytes and not 4/end
-10,4~0:abcd 1:efgh 2:ijk~/chunk 2 has 3 bytes and not 2/end /chunk 2 has 3 bytes and not 2/end
-4,4~0:tabcd~/invalid response: bad chunk/end /invalid response: bad chunk/end
-8,4~0:abcd 2:tabcd~/invalid response: bad chunk/end /invalid response: bad chunk/end
-0,4~0:abcd~/end /end
-0,4~~/end /end
-4,4~~/chunk 0 is missing/end /chunk 0 is missing/end
-4,0~0:abcd~invalid response: chunk size 0 invalid response: chunk size 0
-9223372036854775807,1~0:a~invalid response: too many chunks invalid response: too many chunks";
+const DIFFERING: &str = "10,4|0:abcd 1:efgh 2:ij~/abcd/efgh/ij/end /abcdefghij/end
+10,4|0:abcd 1:efgh~/abcd/chunk 2 is missing/end /chunk 2 is missing/end
+10,4|2:ij 1:efgh 0:abcd~/abcd/efgh/ij/end /abcdefghij/end
+4,4|1:abcd~/chunk 0 is missing/end /chunk 0 is missing/end
+4,4|0:abcd 0:abcd~/chunk 1 is missing/end /chunk 1 is missing/end
+4,4|0:abcd 1:efgh~/abcd/chunk 2 is missing/end /chunk 2 is missing/end
+10,4|0:abc~/chunk 0 has 3 bytes and not 4/end /chunk 0 has 3 bytes and not 4/end
+10,4|0:abcd 1:efgh 2:ijk~/chunk 2 has 3 bytes and not 2/end /chunk 2 has 3 bytes and not 2/end
+4,4|0:tabcd~/invalid response: bad chunk/end /invalid response: bad chunk/end
+8,4|0:abcd 2:tabcd~/invalid response: bad chunk/end /invalid response: bad chunk/end
+0,4|0:abcd~/end /end
+0,4|~/end /end
+4,4|~/chunk 0 is missing/end /chunk 0 is missing/end
+4,0|0:abcd~invalid response: chunk size 0 invalid response: chunk size 0
+9223372036854775807,1|0:a~invalid response: too many chunks invalid response: too many chunks";
 
-// Reads what a line says.
-fn expect_differing(rt: &impl Abort, alloc: Global, line: &str) -> Result<(), Fail> {
-    let Some((sizes, words, wanted)) = line_parts(line) else {
-        return Err(Fail::from("line"));
-    };
-    let Ok(small_room) = differing(alloc, sizes, words, 4) else {
-        return Err(Fail::from("not inserted"));
-    };
-    let Ok(large_room) = differing(alloc, sizes, words, 16) else {
-        return Err(Fail::from("not inserted"));
-    };
-    let found = format!(in alloc; "{small_room} {large_room}")?;
-    expect(rt, line, found.as_str(), wanted);
-    Ok(())
+struct Differing;
+
+impl Subject for Differing {
+    fn found(alloc: Global, line: &str) -> Result<String, Error> {
+        let (sizes, words) = line.split_once('|').unwrap_or((line, ""));
+        let small_room = differing(alloc, sizes, words, 4)?;
+        let large_room = differing(alloc, sizes, words, 16)?;
+        Ok(format!(in alloc; "{small_room} {large_room}")?)
+    }
 }
 
 #[test]
 fn chunks_are_checked(rt: HostRuntime) -> Result<(), Fail> {
-    for line in DIFFERING.lines() {
-        expect_differing(&rt, rt.alloc(), line)?;
+    are_found::<Differing>(&rt, rt.alloc(), "~", DIFFERING)
+}
+
+/// A store of two files, and one of none, and what is read there.
+const OTHERS: &str = "two~/abcdef/end /uvwxyz/end
+none~no file with this id";
+
+struct Others;
+
+impl Subject for Others {
+    fn found(alloc: Global, line: &str) -> Result<String, Error> {
+        match line {
+            "two" => beside(alloc),
+            _ => got(alloc, &mut empty_link(alloc), 5, 4),
+        }
     }
-    Ok(())
 }
 
 #[test]
-fn no_file_is_there(rt: HostRuntime) -> Result<(), Fail> {
-    let alloc = rt.alloc();
-    let mut link = empty_link(alloc);
-    match got(alloc, &mut link, 5, 4) {
-        Ok(found) => expect(&rt, "no file", found.as_str(), "no file with this id"),
-        Err(_) => return Err(Fail::from("not asked")),
-    }
-    Ok(())
+fn files_stand_beside_others(rt: HostRuntime) -> Result<(), Fail> {
+    are_found::<Others>(&rt, rt.alloc(), "~", OTHERS)
 }

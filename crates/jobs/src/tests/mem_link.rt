@@ -2,59 +2,43 @@ ghost use Rattle.std.specs.Prelude.{IfOk, IsSome};
 ghost use Rattle.mg_link.specs.Places.{out_at};
 ghost use Rattle.mg_store.specs.InMemory.{AreSmall};
 
-use super::{namespace, one_field};
-use mg_bson::{Bson, BsonError, Document, RawDocumentBuf, to_bytes};
-use mg_link::{Error, Link, Polled, Ticket};
-use mg_ops::{Insert, encode};
-use mg_options::InsertManyOptions;
+use super::scripted::document_word;
+use super::{Subject, are_found, insert, namespace, one_field};
+use mg_bson::{Bson, Document, RawDocumentBuf, to_bytes};
+use mg_link::{Error, ErrorKind, Link, Polled, Ticket, plain};
+use mg_ops::encode;
 use mg_store::{Fate, FateKind, MemLink, Store, may_go_aside};
 use std::alloc::{AllocError, Global};
 use std::test::Fail;
 
 /// An insert of a document with this id.
 fn insert_of(alloc: Global, id: i32) -> Result<RawDocumentBuf, Error> {
-    let ns = namespace(alloc)?;
     let documents = vec![in alloc; one_field(alloc, "_id", Bson::Int32(id))?]?;
-    let insert = Insert {
-        ns,
-        documents,
-        options: InsertManyOptions::builder(),
-    };
+    let insert = insert(alloc, "coll", documents)?;
     encode(alloc, &insert, 21, None)
 }
 
-/// What comes of a command.
-#[derive(Clone, Copy, Debug, PartialEq, Eq)]
-enum Came {
-    Pends,
-    Succeeds,
-    Refused(i32),
-    Lost,
-    Memory,
-}
-
-fn told_by(bytes: Vec<u8>) -> Result<Came, BsonError> {
+// A reply behind so many polls.
+fn reply_word(alloc: Global, count: u32, bytes: Vec<u8>) -> Result<String, Error> {
     let reply = RawDocumentBuf::from_bytes(bytes)?;
-    let Some(code) = reply.as_raw().get("code") else {
-        return Ok(Came::Succeeds);
-    };
-    Ok(Came::Refused(code.as_i32().unwrap_or(0)))
+    let word = document_word(alloc, reply.as_raw())?;
+    Ok(format!(in alloc; "{count}{word}")?)
 }
 
-/// How many polls of a call pend, 9 at most, and what comes of it.
-fn polls_to_end(link: &mut MemLink, first: Ticket) -> Result<(u32, Came), BsonError>
+/// How many polls of a call pend, 8 at most, and what comes of it.
+fn polls_to_end(alloc: Global, link: &mut MemLink, first: Ticket) -> Result<String, Error>
     requires { IsSome (out_at link.old.calls first) }
 {
     let mut ticket = first;
     'polls: for count in 0..9 {
         match link.poll(ticket) {
             Polled::Pending(given) => ticket = given,
-            Polled::Reply(bytes) => return Ok((count, told_by(bytes)?)),
-            Polled::Failed => return Ok((count, Came::Lost)),
-            Polled::Memory => return Ok((count, Came::Memory)),
+            Polled::Reply(bytes) => return reply_word(alloc, count, bytes),
+            Polled::Failed => return Ok(format!(in alloc; "{count}/lost")?),
+            Polled::Memory => return Ok(format!(in alloc; "{count}/memory")?),
         }
     }
-    Ok((9, Came::Pends))
+    Err(plain(ErrorKind::Io))
 }
 
 /// One fate of each kind.
@@ -85,24 +69,15 @@ fn fates_of(alloc: Global) -> Result<Vec<Fate>, AllocError>
     Ok(fates)
 }
 
-/// Of each command in turn: the id of its document, how many polls pend, what comes of it, where its step stands, and how
-/// many documents there are then.
-const COMMANDS: [(i32, u32, Came, Option<u64>, usize); 6] = [
-    (1, 0, Came::Succeeds, Some(0), 1),
-    (2, 2, Came::Lost, Some(1), 2),
-    (3, 1, Came::Lost, None, 2),
-    (4, 3, Came::Refused(91), Some(2), 2),
-    (5, 0, Came::Succeeds, Some(3), 3),
-    (6, 0, Came::Succeeds, Some(4), 4),
-];
-
-// How many polls of an insert pend, and what comes of it; none where it is not started.
-fn sent(alloc: Global, link: &mut MemLink, id: i32) -> Result<Option<(u32, Came)>, Error> {
+// How many polls of an insert pend, and what comes of it, where its step stands, and how many documents there are then.
+fn sent(alloc: Global, link: &mut MemLink, id: i32) -> Result<String, Error> {
     let command = insert_of(alloc, id)?;
-    match link.start(command.as_raw()) {
-        Ok(ticket) => Ok(Some(polls_to_end(link, ticket)?)),
-        Err(_) => Ok(None),
-    }
+    let Ok(ticket) = link.start(command.as_raw()) else {
+        return Err(plain(ErrorKind::Io));
+    };
+    let came = polls_to_end(alloc, link, ticket)?;
+    let documents = link.store().documents(&namespace(alloc)?)?.len();
+    Ok(format!(in alloc; "{came} {:?} {documents}", last_position(link))?)
 }
 
 // Where the step of the last call stands.
@@ -113,62 +88,54 @@ fn last_position(link: &MemLink) -> Option<u64> {
     }
 }
 
-#[test]
-fn each_command_meets_its_fate(rt: HostRuntime) -> Result<(), Fail> {
-    let alloc = rt.alloc();
-    let ns = namespace(alloc)?;
-    let mut link = MemLink::new(alloc, Store::new(alloc), fates_of(alloc)?, 21);
-    for (id, pends, came, position, documents) in COMMANDS {
-        let found = sent(alloc, &mut link, id)?;
-        assert_eq!(rt; found, Some((pends, came)));
-        let stands = (last_position(&link), link.store().documents(&ns)?.len());
-        assert_eq!(rt; stands, (position, documents));
-    }
-    assert_eq!(rt; link.store().history().len(), 5);
-    Ok(())
-}
+/// What comes of six commands in turn, over a link with these fates.
+const FATED: &str =
+    r#"six~0/{"n":1,"ok":1} Some(0) 1 2/lost Some(1) 2 1/lost None 2 3/{"code":91,"codeName":"Refused","errmsg":"refused","errorLabels":[],"ok":0} Some(2) 2 0/{"n":1,"ok":1} Some(3) 3 0/{"n":1,"ok":1} Some(4) 4 5 steps"#;
 
-/// Inserts a document with this id by nobody's call, and gives where its step stands; none where that may not be.
-fn put_aside(alloc: Global, link: &mut MemLink, id: i32) -> Result<Option<u64>, Error> {
-    let command = insert_of(alloc, id)?;
-    let command = command.as_raw();
-    if !may_go_aside(&command) {
-        return Ok(None);
+struct Fated;
+
+impl Subject for Fated {
+    fn found(alloc: Global, _given: &str) -> Result<String, Error> {
+        let mut link = MemLink::new(alloc, Store::new(alloc), fates_of(alloc)?, 21);
+        let mut seen = String::new(alloc);
+        for id in 1..7 {
+            let word = sent(alloc, &mut link, id)?;
+            seen.push_str(word.as_str())?;
+            seen.push_str(" ")?;
+        }
+        let steps = link.store().history().len();
+        Ok(format!(in alloc; "{seen}{steps} steps")?)
     }
-    Ok(Some(link.aside(command)?.position))
 }
 
 #[test]
-fn steps_of_nobodys_call(rt: HostRuntime) -> Result<(), Fail> {
-    let alloc = rt.alloc();
-    let mut link = MemLink::new(alloc, Store::new(alloc), Vec::new(alloc), 21);
-    assert_eq!(rt; put_aside(alloc, &mut link, 1)?, Some(0));
-    assert_eq!(rt; put_aside(alloc, &mut link, 2)?, Some(1));
-    assert_eq!(rt; link.log().calls().len(), 0);
-    let store = link.store();
-    let documents = store.documents(&namespace(alloc)?)?.len();
-    let counts = (store.history().len(), store.changes().len(), documents);
-    assert_eq!(rt; counts, (2, 2, 2));
-    Ok(())
+fn each_command_meets_its_fate(rt: HostRuntime) -> Result<(), Fail> {
+    are_found::<Fated>(&rt, rt.alloc(), "~", FATED)
 }
 
-/// Of the first name of a command: whether it may go aside.
-const FIRST_NAMES: [(&str, bool); 5] = [
-    ("getMore", false),
-    ("killCursors", false),
-    ("getmore", true),
-    ("insert", true),
-    ("aggregate", true),
-];
+/// Each line is the first name of a command, and whether it may go aside.
+const FIRST_NAMES: &str = "getMore false
+killCursors false
+getmore true
+insert true
+aggregate true
+ true";
+
+struct Aside;
+
+impl Subject for Aside {
+    fn found(alloc: Global, name: &str) -> Result<String, Error> {
+        let command = if name.is_empty() {
+            Document::new(alloc)
+        } else {
+            one_field(alloc, name, Bson::Int32(1))?
+        };
+        let bytes = to_bytes(alloc, &command)?;
+        Ok(format!(in alloc; "{}", may_go_aside(&bytes.as_raw()))?)
+    }
+}
 
 #[test]
 fn which_commands_go_aside(rt: HostRuntime) -> Result<(), Fail> {
-    let alloc = rt.alloc();
-    for (name, aside) in FIRST_NAMES {
-        let command = to_bytes(alloc, &one_field(alloc, name, Bson::Int32(1))?)?;
-        assert_eq!(rt; may_go_aside(&command.as_raw()), aside, "{name}");
-    }
-    let empty = to_bytes(alloc, &Document::new(alloc))?;
-    assert!(rt; may_go_aside(&empty.as_raw()));
-    Ok(())
+    are_found::<Aside>(&rt, rt.alloc(), " ", FIRST_NAMES)
 }

@@ -1,5 +1,4 @@
-use super::files::chunks;
-use super::{expect, json_value, parted, text};
+use super::{Subject, are_found, json_value, parted, text};
 use mg_bson::{Bson, DateTime, Document, RawDocumentBuf, to_bytes};
 use mg_link::Error;
 use mg_records::{
@@ -7,28 +6,28 @@ use mg_records::{
     IndexModel, ReadRaw, TruncatedArray, UpdateDescription,
 };
 use std::alloc::{AllocError, Global};
-use std::process::Abort;
+use std::fmt::Debug;
 use std::test::Fail;
 
 /// Each line is what a document is read as, its fields, and what comes of it. A number of 32 bits stands behind `i`, one of
 /// 64 behind `l`, and a time behind `t`; `value_of` has the words of other values.
 const READINGS: &str =
-    "event _id=doc operationType=insert ns=place nsType=view to=place lsid=doc txnNumber=l5 documentKey=doc updateDescription=update clusterTime=stamp wallTime=t9 fullDocument=doc fullDocumentBeforeChange=doc -> insert db view 5 6 7 9 dddd 1
-event _id=i1 operationType=create -> create - - 0 0 0 0 ---- 0
-event _id=i1 operationType=drop ns=null wallTime=null fullDocument=null txnNumber=null -> drop - - 0 0 0 0 ---- 0
+    r#"event _id=doc operationType=insert ns=place nsType=view to=place lsid=doc txnNumber=l5 documentKey=doc updateDescription=update clusterTime=stamp wallTime=t9 fullDocument=doc fullDocumentBeforeChange=doc -> insert Some("db") Some("view") Some(5) Some(Timestamp { time: 6, increment: 7 }) Some(DateTime { millis: 9 }) Some(Document { fields: [Field { name: "x", value: Int32(1) }] }) Some(Document { fields: [Field { name: "x", value: Int32(1) }] }) Some(Document { fields: [Field { name: "x", value: Int32(1) }] }) Some(Document { fields: [Field { name: "x", value: Int32(1) }] }) Some(1)
+event _id=i1 operationType=create -> create None None None None None None None None None None
+event _id=i1 operationType=drop ns=null wallTime=null fullDocument=null txnNumber=null -> drop None None None None None None None None None None
 event operationType=insert -> invalid response: bad record
 event _id=null operationType=insert -> invalid response: bad record
 event _id=doc -> invalid response: bad record
 event _id=doc operationType=i1 -> invalid response: bad record
 event _id=doc operationType=null -> invalid response: bad record
-event _id=doc operationType=drop nsType=View -> drop - View 0 0 0 0 ---- 0
-event _id=doc operationType=drop ns=database to=database -> drop db - 0 0 0 0 ---- 0
+event _id=doc operationType=drop nsType=View -> drop None Some("View") None None None None None None None None
+event _id=doc operationType=drop ns=database to=database -> drop Some("db") None None None None None None None None None
 event _id=doc operationType=insert txnNumber=i5 -> invalid response: bad record
 event _id=doc operationType=insert ns=doc -> invalid response: bad record
 event _id=doc operationType=insert updateDescription=doc -> invalid response: bad record
-file _id=i7 length=i5 chunkSize=i4 uploadDate=t9 filename=name metadata=doc more=i1 -> 5 4 9 name
-file _id=doc length=l5 chunkSize=i4 uploadDate=t9 filename=null -> 5 4 9 -
-file _id=null length=i5 chunkSize=i4 uploadDate=t9 metadata=null -> 5 4 9 -
+file _id=i7 length=i5 chunkSize=i4 uploadDate=t9 filename=name metadata=doc more=i1 -> FilesCollectionDocument { id: Int32(7), length: 5, chunk_size_bytes: 4, upload_date: DateTime { millis: 9 }, filename: Some("name"), metadata: Some(Document { fields: [Field { name: "x", value: Int32(1) }] }) }
+file _id=doc length=l5 chunkSize=i4 uploadDate=t9 filename=null -> FilesCollectionDocument { id: Document(Document { fields: [Field { name: "x", value: Int32(1) }] }), length: 5, chunk_size_bytes: 4, upload_date: DateTime { millis: 9 }, filename: None, metadata: None }
+file _id=null length=i5 chunkSize=i4 uploadDate=t9 metadata=null -> FilesCollectionDocument { id: Null, length: 5, chunk_size_bytes: 4, upload_date: DateTime { millis: 9 }, filename: None, metadata: None }
 file _id=i7 length=double chunkSize=i4 uploadDate=t9 -> invalid response: bad record
 file _id=i7 length=i5 chunkSize=i4 uploadDate=t9 metadata=i1 -> invalid response: bad record
 file _id=i7 length=i5 chunkSize=i0 uploadDate=t9 -> invalid response: chunk size 0
@@ -41,53 +40,45 @@ file _id=i7 length=l-1 chunkSize=i4 uploadDate=t9 -> invalid response: bad recor
 file _id=i7 length=l-1 chunkSize=i0 uploadDate=t9 -> invalid response: bad record
 file length=i5 chunkSize=i4 uploadDate=t9 -> invalid response: bad record
 file _id=i7 length=i5 chunkSize=i4 uploadDate=t9 filename=i1 -> invalid response: bad record
-index key=doc name=name -> 1 name
-index key=doc name=null -> 1 -
-index key=doc -> 1 -
+index key=doc name=name -> IndexModel { keys: Document { fields: [Field { name: "x", value: Int32(1) }] }, name: Some("name") }
+index key=doc name=null -> IndexModel { keys: Document { fields: [Field { name: "x", value: Int32(1) }] }, name: None }
+index key=doc -> IndexModel { keys: Document { fields: [Field { name: "x", value: Int32(1) }] }, name: None }
 index name=name -> invalid response: bad record
 index key=i1 -> invalid response: bad record
 index key=doc name=i1 -> invalid response: bad record
-collection name=name type=view more=null -> name view
+collection name=name type=view more=null -> CollectionSpecification { name: "name", collection_type: "view" }
 collection name=name -> invalid response: bad record
 collection type=view -> invalid response: bad record
 collection name=i1 type=view -> invalid response: bad record
-document a=i1 b=null -> 2
-space db=name -> name -
-space db=name coll=null -> name -
-space db=name coll=name -> name name
+document a=i1 b=null -> Document { fields: [Field { name: "a", value: Int32(1) }, Field { name: "b", value: Null }] }
+space db=name -> name None
+space db=name coll=null -> name None
+space db=name coll=name -> name Some("name")
 space coll=name -> invalid response: bad record
-change updatedFields=doc removedFields=names -> 1 1
-change updatedFields=doc removedFields=names truncatedArrays=null disambiguatedPaths=doc -> 1 1
+change updatedFields=doc removedFields=names -> Document { fields: [Field { name: "x", value: Int32(1) }] } ["a.b"]
+change updatedFields=doc removedFields=names truncatedArrays=null disambiguatedPaths=doc -> Document { fields: [Field { name: "x", value: Int32(1) }] } ["a.b"]
 change updatedFields=doc -> invalid response: bad record
 change updatedFields=doc removedFields=numbers -> invalid response: bad record
 cut field=name newSize=i1 -> name 1
 cut field=name newSize=l1 -> invalid response: bad record
-bytes -> 5";
+bytes -> RawDocumentBuf { bytes: [5, 0, 0, 0, 0] }"#;
 
 // What an update changed.
 const UPDATE: &str =
     r#"{"removedFields":["a.b"],"truncatedArrays":[{"field":"c","newSize":1}],"updatedFields":{}}"#;
 
-fn number_of(digits: &str) -> i64 {
-    match digits.parse::<i64>() {
-        Ok(n) => n,
-        Err(_) => 0,
-    }
-}
-
 // A number, by the letter of its kind.
 fn numbered(alloc: Global, word: &str) -> Result<Bson, Error> {
-    if let Some(digits) = word.strip_prefix("i") {
-        return json_value(alloc, digits);
-    }
-    if let Some(digits) = word.strip_prefix("l") {
-        return Ok(Bson::Int64(number_of(digits)));
-    }
-    match word.strip_prefix("t") {
-        Some(digits) => Ok(Bson::DateTime(DateTime {
-            millis: number_of(digits),
-        })),
-        None => Ok(text(alloc, word)?),
+    let (letter, digits) = match word.split_at_checked(1) {
+        Some(parts) => parts,
+        None => ("", word),
+    };
+    let number = digits.parse::<i64>().unwrap_or(0);
+    match letter {
+        "i" => json_value(alloc, digits),
+        "l" => Ok(Bson::Int64(number)),
+        "t" => Ok(Bson::DateTime(DateTime { millis: number })),
+        _ => Ok(text(alloc, word)?),
     }
 }
 
@@ -119,66 +110,33 @@ fn raw_of(alloc: Global, fields: &str) -> Result<RawDocumentBuf, Error> {
     Ok(to_bytes(alloc, &document)?)
 }
 
-fn or_dash(word: &Option<String>) -> &str {
-    match word {
-        Some(word) => word.as_str(),
-        None => "-",
-    }
-}
-
-// A letter for a document that is there.
-fn sign(document: &Option<Document>) -> &str {
-    match document {
-        Some(_) => "d",
-        None => "-",
-    }
-}
-
-// Which documents an event has.
+// The documents that an event has.
 fn documents(alloc: Global, event: &ChangeStreamEvent<Document>) -> Result<String, AllocError> {
-    let session = sign(&event.lsid);
-    let key = sign(&event.document_key);
-    let whole = sign(&event.full_document);
-    let before = sign(&event.full_document_before_change);
-    format!(in alloc; "{session}{key}{whole}{before}")
+    let key = &event.document_key;
+    let whole = &event.full_document;
+    let before = &event.full_document_before_change;
+    format!(in alloc; "{:?} {key:?} {whole:?} {before:?}", event.lsid)
 }
 
 // The name of the database that an event is of.
-fn database(event: &ChangeStreamEvent<Document>) -> &str {
-    match &event.ns {
-        Some(ns) => ns.db.as_str(),
-        None => "-",
-    }
+fn database(event: &ChangeStreamEvent<Document>) -> Option<&str> {
+    Some(event.ns.as_ref()?.db.as_str())
 }
 
 // What kind of collection was made.
-fn made(event: &ChangeStreamEvent<Document>) -> &str {
-    match &event.ns_type {
-        Some(kind) => kind.as_word(),
-        None => "-",
-    }
+fn made(event: &ChangeStreamEvent<Document>) -> Option<&str> {
+    Some(event.ns_type.as_ref()?.as_word())
 }
 
 // How many fields an update removed.
-fn removed(event: &ChangeStreamEvent<Document>) -> usize {
-    match &event.update_description {
-        Some(update) => update.removed_fields.len(),
-        None => 0,
-    }
+fn removed(event: &ChangeStreamEvent<Document>) -> Option<usize> {
+    Some(event.update_description.as_ref()?.removed_fields.len())
 }
 
-// When an event happened, as text.
+// When an event happened.
 fn times(alloc: Global, event: &ChangeStreamEvent<Document>) -> Result<String, AllocError> {
-    let number = event.txn_number.unwrap_or(0);
-    let wall = match event.wall_time {
-        Some(time) => time.millis,
-        None => 0,
-    };
-    let (time, increment) = match event.cluster_time {
-        Some(stamp) => (stamp.time, stamp.increment),
-        None => (0, 0),
-    };
-    format!(in alloc; "{number} {time} {increment} {wall}")
+    let number = event.txn_number;
+    format!(in alloc; "{number:?} {:?} {:?}", event.cluster_time, event.wall_time)
 }
 
 fn event(alloc: Global, raw: &RawDocumentBuf) -> Result<String, Error> {
@@ -186,104 +144,59 @@ fn event(alloc: Global, raw: &RawDocumentBuf) -> Result<String, Error> {
     let operation = event.operation_type.as_word();
     let db = database(&event);
     let kind = made(&event);
+    let removed = removed(&event);
     let times = times(alloc, &event)?;
     let documents = documents(alloc, &event)?;
-    let removed = removed(&event);
-    Ok(format!(in alloc; "{operation} {db} {kind} {times} {documents} {removed}")?)
+    Ok(format!(in alloc; "{operation} {db:?} {kind:?} {times} {documents} {removed:?}")?)
 }
 
-fn file(alloc: Global, raw: &RawDocumentBuf) -> Result<String, Error> {
-    let file = FilesCollectionDocument::read_raw(alloc, raw.as_raw())?.clone()?;
-    let length = file.length;
-    let size = file.chunk_size_bytes;
-    let at = file.upload_date.millis;
-    let name = or_dash(&file.filename);
-    Ok(format!(in alloc; "{length} {size} {at} {name}")?)
-}
-
-fn index(alloc: Global, raw: &RawDocumentBuf) -> Result<String, Error> {
-    let index = IndexModel::read_raw(alloc, raw.as_raw())?.clone()?;
-    let keys = index.keys.len();
-    let name = or_dash(&index.name);
-    Ok(format!(in alloc; "{keys} {name}")?)
-}
-
-fn collection(alloc: Global, raw: &RawDocumentBuf) -> Result<String, Error> {
-    let collection = CollectionSpecification::read_raw(alloc, raw.as_raw())?.clone()?;
-    let name = collection.name.as_str();
-    let kind = collection.collection_type.as_str();
-    Ok(format!(in alloc; "{name} {kind}")?)
+// A copy of a record that prints whole.
+fn printed<T: ReadRaw + Clone + Debug + Drop>(
+    alloc: Global,
+    raw: &RawDocumentBuf,
+) -> Result<String, Error> {
+    let record = T::read_raw(alloc, raw.as_raw())?;
+    let copy = record.clone()?;
+    Ok(format!(in alloc; "{copy:?}")?)
 }
 
 fn space(alloc: Global, raw: &RawDocumentBuf) -> Result<String, Error> {
     let space = ChangeNamespace::read_raw(alloc, raw.as_raw())?.clone()?;
-    let db = space.db.as_str();
-    let coll = or_dash(&space.coll);
-    Ok(format!(in alloc; "{db} {coll}")?)
+    Ok(format!(in alloc; "{} {:?}", space.db, space.coll)?)
 }
 
 fn change(alloc: Global, raw: &RawDocumentBuf) -> Result<String, Error> {
     let change = UpdateDescription::read_raw(alloc, raw.as_raw())?.clone()?;
-    let updated = change.updated_fields.len();
-    let removed = change.removed_fields.len();
-    Ok(format!(in alloc; "{updated} {removed}")?)
+    Ok(format!(in alloc; "{:?} {:?}", change.updated_fields, change.removed_fields)?)
 }
 
 fn cut(alloc: Global, raw: &RawDocumentBuf) -> Result<String, Error> {
     let cut = TruncatedArray::read_raw(alloc, raw.as_raw())?.clone()?;
-    let field = cut.field.as_str();
-    let size = cut.new_size;
-    Ok(format!(in alloc; "{field} {size}")?)
+    Ok(format!(in alloc; "{} {}", cut.field, cut.new_size)?)
 }
 
-fn document(alloc: Global, raw: &RawDocumentBuf) -> Result<String, Error> {
-    let names = Document::read_raw(alloc, raw.as_raw())?.len();
-    Ok(format!(in alloc; "{names}")?)
-}
+struct Readings;
 
-fn bytes(alloc: Global, raw: &RawDocumentBuf) -> Result<String, Error> {
-    let copy = RawDocumentBuf::read_raw(alloc, raw.as_raw())?;
-    let length = copy.as_bytes().len();
-    Ok(format!(in alloc; "{length}")?)
-}
-
-// What a document of these fields is read as, or what is answered to a question about chunks.
-fn reading_of(alloc: Global, kind: &str, fields: &str) -> Result<String, Error> {
-    if kind == "chunks" {
-        return chunks(alloc, fields);
+impl Subject for Readings {
+    // What a document of these fields is read as.
+    fn found(alloc: Global, line: &str) -> Result<String, Error> {
+        let (kind, fields) = parted(line);
+        let raw = raw_of(alloc, fields)?;
+        match kind {
+            "event" => event(alloc, &raw),
+            "file" => printed::<FilesCollectionDocument>(alloc, &raw),
+            "index" => printed::<IndexModel>(alloc, &raw),
+            "collection" => printed::<CollectionSpecification>(alloc, &raw),
+            "space" => space(alloc, &raw),
+            "change" => change(alloc, &raw),
+            "cut" => cut(alloc, &raw),
+            "document" => printed::<Document>(alloc, &raw),
+            _ => printed::<RawDocumentBuf>(alloc, &raw),
+        }
     }
-    let raw = raw_of(alloc, fields)?;
-    match kind {
-        "event" => event(alloc, &raw),
-        "file" => file(alloc, &raw),
-        "index" => index(alloc, &raw),
-        "collection" => collection(alloc, &raw),
-        "space" => space(alloc, &raw),
-        "change" => change(alloc, &raw),
-        "cut" => cut(alloc, &raw),
-        "document" => document(alloc, &raw),
-        _ => bytes(alloc, &raw),
-    }
-}
-
-/// Fails a test where what a line is about is read as something else.
-pub(super) fn are_read(rt: &impl Abort, alloc: Global, table: &str) -> Result<(), Fail> {
-    for line in table.lines() {
-        let (about, wanted) = match line.split_once(" -> ") {
-            Some(parts) => parts,
-            None => (line, ""),
-        };
-        let (kind, fields) = parted(about);
-        let found = match reading_of(alloc, kind, fields) {
-            Ok(found) => found,
-            Err(e) => format!(in alloc; "{e}")?,
-        };
-        expect(rt, line, found.as_str(), wanted);
-    }
-    Ok(())
 }
 
 #[test]
 fn documents_are_read(rt: HostRuntime) -> Result<(), Fail> {
-    are_read(&rt, rt.alloc(), READINGS)
+    are_found::<Readings>(&rt, rt.alloc(), " -> ", READINGS)
 }

@@ -2,43 +2,23 @@ ghost use Rattle.std.specs.Prelude.{◌≡◌, IfOk};
 ghost use Rattle.mg_link.specs.Acts.{IsOut};
 ghost use Rattle.mg_link.specs.Places.{out_at};
 ghost use Rattle.mg_change.specs.ClientStreams.{stream_ticket};
-ghost use Rattle.mg_change.specs.ClosingStreams.{stream_closing_ticket};
 ghost use Rattle.mg_change.specs.OpeningView.{IsPlainOpening, IsSessionOpening, session_ticket_in, ticket_in};
 ghost use Rattle.mg_change.specs.StreamView.{IsPlainStream, IsSessionStream, session_stream_of, stream_of};
 
-use super::{expect, json_bytes, namespace, one_field, with, with_text};
-use mg_bson::{Array, Bson, Document, RawDocument, RawDocumentBuf, to_bytes};
-use mg_change::{
-    AdvanceResult, ChangeStream, Closing, EventPoll, Opening, SessionChangeStream, SessionOpening,
-    TryPoll,
+use super::scripted::{advance_word, command_words, end_word, event_word, link_of};
+use super::{
+    Subject, are_found, empty_link, json_value, namespace, one_field, text, with, with_text,
 };
-use mg_link::{
-    Action, ClientSession, Error, ErrorKind, OperationTarget, ScriptLink, Scripted, ScriptedSeen,
-    Step, plain,
-};
+use mg_bson::{Bson, Document, RawDocumentBuf, to_bytes};
+use mg_change::{ChangeStream, Opening, SessionChangeStream, SessionOpening};
+use mg_link::{Action, ClientSession, Error, ErrorKind, OperationTarget, ScriptLink, Step, plain};
 use mg_ops::WatchArgs;
 use mg_options::{ChangeStreamOptions, ResumeToken};
-use mg_store::{MemLink, Store, may_go_aside};
+use mg_store::{MemLink, may_go_aside};
 use std::alloc::{AllocError, Global};
 use std::test::Fail;
 
 // ---- streams over a store in memory
-
-// Inserts a document into the collection.
-fn insert(alloc: Global) -> Result<Document, Error> {
-    let document = one_field(alloc, "_id", Bson::Int32(2))?;
-    let mut documents = Array::new(alloc);
-    documents.push(Bson::Document(document))?;
-    let command = with_text(alloc, Document::new(alloc), "insert", "coll")?;
-    let command = with(command, "documents", Bson::Array(documents))?;
-    Ok(with_text(alloc, command, "$db", "db")?)
-}
-
-// Drops it.
-fn drop_all(alloc: Global) -> Result<Document, Error> {
-    let command = with_text(alloc, Document::new(alloc), "drop", "coll")?;
-    Ok(with_text(alloc, command, "$db", "db")?)
-}
 
 // Has the store do this by nobody's call, unless it may not.
 fn put_aside(alloc: Global, link: &mut MemLink, command: Document) -> Result<bool, Error>
@@ -56,8 +36,11 @@ fn put_aside(alloc: Global, link: &mut MemLink, command: Document) -> Result<boo
 fn insert_and_drop(alloc: Global, link: &mut MemLink) -> Result<(), Error>
     ensures { link.new.calls ≡ link.old.calls }
 {
-    put_aside(alloc, link, insert(alloc)?)?;
-    put_aside(alloc, link, drop_all(alloc)?)?;
+    let insert = one_field(alloc, "insert", text(alloc, "coll")?)?;
+    let insert = with(insert, "documents", json_value(alloc, r#"[{"_id":2}]"#)?)?;
+    put_aside(alloc, link, with_text(alloc, insert, "$db", "db")?)?;
+    let dropped = one_field(alloc, "drop", text(alloc, "coll")?)?;
+    put_aside(alloc, link, with_text(alloc, dropped, "$db", "db")?)?;
     Ok(())
 }
 
@@ -70,7 +53,12 @@ fn target_of(alloc: Global, on: &str) -> Result<OperationTarget, AllocError> {
     }
 }
 
-fn args_of(alloc: Global, on: &str, options: ChangeStreamOptions) -> Result<WatchArgs, AllocError> {
+/// A watch of everything there.
+pub(super) fn args_of(
+    alloc: Global,
+    on: &str,
+    options: ChangeStreamOptions,
+) -> Result<WatchArgs, AllocError> {
     Ok(WatchArgs {
         pipeline: Vec::new(alloc),
         target: target_of(alloc, on)?,
@@ -96,26 +84,7 @@ fn open(opening: Opening<Document>, link: &mut MemLink) -> Result<ChangeStream<D
     Err(plain(ErrorKind::Io))
 }
 
-fn type_of<'a>(event: &RawDocument<'a>) -> &'a str {
-    match event.get("operationType") {
-        Some(found) => found.as_str().unwrap_or(""),
-        None => "",
-    }
-}
-
-fn event_word(alloc: Global, poll: &EventPoll) -> Result<String, AllocError> {
-    match poll {
-        EventPoll::Pending => String::from_str(alloc, "/pending"),
-        EventPoll::Ready(None) => String::from_str(alloc, "/nothing"),
-        EventPoll::Ready(Some(event)) => {
-            let name = type_of(&event.as_raw());
-            format!(in alloc; "/{name}")
-        }
-        EventPoll::Failed(_) => String::from_str(alloc, "/failed"),
-    }
-}
-
-// One call: the type of its event, and whether the stream is over then.
+// One call: its event, and whether the stream is over then.
 fn call_word(
     alloc: Global,
     stream: &mut ChangeStream<Document>,
@@ -150,143 +119,89 @@ fn call_words(
     Ok(seen)
 }
 
-// Polls to the end of the closing.
-fn close_word(closing: Closing, link: &mut MemLink) -> &'static str
-    requires { IsOut (out_at link.old.calls) (stream_closing_ticket closing) }
-{
-    let mut state = closing;
-    'polls: for _count in 1..10 {
-        match state.poll(link) {
-            Step::Pending(next) => state = next,
-            Step::Done(()) => return "/closed",
-            Step::Failed(_) => return "/failed",
+/// What is watched while the collection gets a document and goes, what the stream of it gives, and how many commands it sent.
+const DROPPED: &str =
+    r#"collection~/nothing/{"_id":{"_data":"0000000000000001"},"clusterTime":{"$timestamp":{"i":1,"t":1}},"documentKey":{"_id":2},"fullDocument":{"_id":2},"ns":{"coll":"coll","db":"db"},"operationType":"insert"}/over/{"_id":{"_data":"0000000000000002"},"clusterTime":{"$timestamp":{"i":1,"t":2}},"ns":{"coll":"coll","db":"db"},"operationType":"drop"}/over/{"_id":{"_data":"0000000000000003"},"clusterTime":{"$timestamp":{"i":1,"t":3}},"operationType":"invalidate"}/over/nothing/over/done 2
+database~/nothing/{"_id":{"_data":"0000000000000001"},"clusterTime":{"$timestamp":{"i":1,"t":1}},"documentKey":{"_id":2},"fullDocument":{"_id":2},"ns":{"coll":"coll","db":"db"},"operationType":"insert"}/{"_id":{"_data":"0000000000000002"},"clusterTime":{"$timestamp":{"i":1,"t":2}},"ns":{"coll":"coll","db":"db"},"operationType":"drop"}/nothing/nothing/done 5
+cluster~/nothing/{"_id":{"_data":"0000000000000001"},"clusterTime":{"$timestamp":{"i":1,"t":1}},"documentKey":{"_id":2},"fullDocument":{"_id":2},"ns":{"coll":"coll","db":"db"},"operationType":"insert"}/{"_id":{"_data":"0000000000000002"},"clusterTime":{"$timestamp":{"i":1,"t":2}},"ns":{"coll":"coll","db":"db"},"operationType":"drop"}/nothing/nothing/done 5"#;
+
+struct Dropped;
+
+impl Subject for Dropped {
+    fn found(alloc: Global, on: &str) -> Result<String, Error> {
+        let mut link = empty_link(alloc);
+        let mut options = ChangeStreamOptions::builder();
+        if on == "cluster" {
+            options.all_changes_for_cluster = Some(true);
         }
+        let args = args_of(alloc, on, options)?;
+        let mut stream = open(Opening::new(alloc, args), &mut link)?;
+        insert_and_drop(alloc, &mut link)?;
+        let seen = call_words(alloc, &mut stream, &mut link)?;
+        let closed = end_word(alloc, stream.close().run(&mut link, 9))?;
+        let count = link.log().calls().len();
+        Ok(format!(in alloc; "{seen}{closed} {count}")?)
     }
-    "/pending"
 }
-
-fn link_of(alloc: Global) -> MemLink {
-    MemLink::new(alloc, Store::new(alloc), Vec::new(alloc), 21)
-}
-
-// A stream that is open while the collection gets a document and goes, and how many commands it sent.
-fn dropped(alloc: Global, on: &str) -> Result<String, Error> {
-    let mut link = link_of(alloc);
-    let mut options = ChangeStreamOptions::builder();
-    if on == "cluster" {
-        options.all_changes_for_cluster = Some(true);
-    }
-    let args = args_of(alloc, on, options)?;
-    let mut stream = open(Opening::new(alloc, args), &mut link)?;
-    insert_and_drop(alloc, &mut link)?;
-    let seen = call_words(alloc, &mut stream, &mut link)?;
-    let closed = close_word(stream.close(), &mut link);
-    let count = link.log().calls().len();
-    Ok(format!(in alloc; "{seen}{closed} {count}")?)
-}
-
-// What is watched, and what the stream of it gives.
-const DROPPED: [(&str, &str); 3] = [
-    (
-        "collection",
-        "/nothing/insert/over/drop/over/invalidate/over/nothing/over/closed 2",
-    ),
-    ("database", "/nothing/insert/drop/nothing/nothing/closed 5"),
-    ("cluster", "/nothing/insert/drop/nothing/nothing/closed 5"),
-];
 
 // A drop is seen by all whom it concerns; only the stream of the collection sees an invalidate entry, and is over.
 #[test]
 fn drop_invalidates(rt: HostRuntime) -> Result<(), Fail> {
-    for (on, wanted) in DROPPED {
-        let Ok(found) = dropped(rt.alloc(), on) else {
-            return Err(Fail::from("stream"));
-        };
-        expect(&rt, on, found.as_str(), wanted);
-    }
-    Ok(())
+    are_found::<Dropped>(&rt, rt.alloc(), "~", DROPPED)
 }
 
 // The token behind the invalidate entry, as a start.
 fn start_behind(alloc: Global, starts: bool) -> Result<ChangeStreamOptions, Error> {
-    let text = String::from_str(alloc, "0000000000000003")?;
-    let value = one_field(alloc, "_data", Bson::String(text))?;
-    let token = ResumeToken::from_value(&Bson::Document(value))?;
-    let mut options = ChangeStreamOptions::builder();
+    let token = ResumeToken::from_value(&json_value(alloc, r#"{"_data":"0000000000000003"}"#)?)?;
+    let options = ChangeStreamOptions::builder();
     if starts {
-        options.start_after = Some(token);
+        Ok(options.start_after(token))
     } else {
-        options.resume_after = Some(token);
-    }
-    Ok(options)
-}
-
-fn code_of(error: &Error) -> i32 {
-    match &error.kind {
-        ErrorKind::Command(refusal) => refusal.code,
-        _ => 0,
+        Ok(options.resume_after(token))
     }
 }
 
-// Opens a stream behind the invalidate entry of a collection that went: whether it is alive.
-fn opened_behind(alloc: Global, starts: bool) -> Result<bool, Error> {
-    let mut link = link_of(alloc);
-    insert_and_drop(alloc, &mut link)?;
-    let args = args_of(alloc, "collection", start_behind(alloc, starts)?)?;
-    let opened: Step<Opening<Document>, ChangeStream<Document>> = Opening::open(
-        alloc, args, &mut link, 1,
-    );
-    match opened {
-        Step::Pending(_) => Err(plain(ErrorKind::Io)),
-        Step::Done(stream) => Ok(stream.with_type::<RawDocumentBuf>().is_alive()),
-        Step::Failed(error) => {
-            if code_of(&error) == 260 {
-                return Ok(false);
+/// How a stream starts behind the invalidate entry of a collection that went, and whether it is alive then.
+const BEHIND: &str = "resumes~refused with code 260 (Refused): refused
+starts~true";
+
+struct Behind;
+
+impl Subject for Behind {
+    fn found(alloc: Global, way: &str) -> Result<String, Error> {
+        let mut link = empty_link(alloc);
+        insert_and_drop(alloc, &mut link)?;
+        let options = start_behind(alloc, way == "starts")?;
+        let args = args_of(alloc, "collection", options)?;
+        let opened: Step<Opening<Document>, ChangeStream<Document>> = Opening::open(
+            alloc, args, &mut link, 1,
+        );
+        match opened {
+            Step::Pending(_) => Err(plain(ErrorKind::Io)),
+            Step::Done(stream) => {
+                let is_alive = stream.with_type::<RawDocumentBuf>().is_alive();
+                Ok(format!(in alloc; "{is_alive}")?)
             }
-            Err(error)
+            Step::Failed(error) => Err(error),
         }
     }
 }
 
 #[test]
 fn starts_behind_an_invalidate(rt: HostRuntime) -> Result<(), Fail> {
-    for starts in [false, true] {
-        match opened_behind(rt.alloc(), starts) {
-            Ok(opened) => assert_eq!(rt; opened, starts),
-            Err(_) => return Err(Fail::from("opening")),
-        }
-    }
-    Ok(())
+    are_found::<Behind>(&rt, rt.alloc(), "~", BEHIND)
 }
 
 // ---- streams in a session
 
-// An opening, two getMores with an event and one without, one that is lost, the aggregate and the killing that resume the stream, a
-// getMore of the new cursor with an event, and the last killing.
-const REPLIES: [&str; 9] = [
-    r#"{"cursor":{"firstBatch":[],"id":{"$int64":"1"},"ns":"db.coll"},"ok":1}"#,
-    r#"{"cursor":{"id":{"$int64":"1"},"nextBatch":[{"_id":1,"operationType":"insert"}],"ns":"db.coll"},"ok":1}"#,
-    r#"{"cursor":{"id":{"$int64":"1"},"nextBatch":[{"_id":2,"operationType":"update"}],"ns":"db.coll"},"ok":1}"#,
-    r#"{"cursor":{"id":{"$int64":"1"},"nextBatch":[],"ns":"db.coll"},"ok":1}"#,
-    "",
-    r#"{"cursor":{"firstBatch":[],"id":{"$int64":"2"},"ns":"db.coll"},"ok":1}"#,
-    r#"{"code":0,"ok":1}"#,
-    r#"{"cursor":{"id":{"$int64":"2"},"nextBatch":[{"_id":3,"operationType":"delete"}],"ns":"db.coll"},"ok":1}"#,
-    r#"{"code":0,"ok":1}"#,
-];
-
-fn replies(alloc: Global) -> Result<Vec<Scripted>, Error> {
-    let mut list = Vec::new(alloc);
-    for reply in REPLIES {
-        let seen = if reply.is_empty() {
-            ScriptedSeen::Fault
-        } else {
-            ScriptedSeen::Reply(json_bytes(alloc, reply)?.into_bytes())
-        };
-        list.push(Scripted { pend: 0, seen })?;
-    }
-    Ok(list)
-}
+// Two openings, getMores with an event of this kind or with none, and a success of nothing.
+const REPLIES: &str = r#"1 {"cursor":{"firstBatch":[],"id":{"$int64":"1"},"ns":"db.coll"},"ok":1}
+2 {"cursor":{"firstBatch":[],"id":{"$int64":"2"},"ns":"db.coll"},"ok":1}
+insert {"cursor":{"id":{"$int64":"1"},"nextBatch":[{"_id":1,"operationType":"insert"}],"ns":"db.coll"},"ok":1}
+update {"cursor":{"id":{"$int64":"1"},"nextBatch":[{"_id":2,"operationType":"update"}],"ns":"db.coll"},"ok":1}
+nothing {"cursor":{"id":{"$int64":"1"},"nextBatch":[],"ns":"db.coll"},"ok":1}
+delete {"cursor":{"id":{"$int64":"2"},"nextBatch":[{"_id":3,"operationType":"delete"}],"ns":"db.coll"},"ok":1}
+killed {"code":0,"ok":1}"#;
 
 // Polls to the end of the opening.
 fn open_in(
@@ -306,83 +221,28 @@ fn open_in(
     }
 }
 
-// The first name of a command, and whether it names a session.
-fn name_word(alloc: Global, command: &RawDocument<'_>) -> Result<String, AllocError> {
-    let name = if command.get("getMore").is_some() {
-        "getMore"
-    } else if command.get("killCursors").is_some() {
-        "killCursors"
-    } else {
-        "aggregate"
-    };
-    let session = if command.get("lsid").is_some() {
-        " in a session"
-    } else {
-        ""
-    };
-    format!(in alloc; "/{name}{session}")
-}
-
-fn sent_words(alloc: Global, link: &ScriptLink) -> Result<String, AllocError> {
-    let mut sent = String::new(alloc);
-    for command in link.commands() {
-        let word = name_word(alloc, &command.as_raw())?;
-        sent.push_str(word.as_str())?;
-    }
-    Ok(sent)
-}
-
-// One poll of a call, or of one that seeks an event.
-fn poll_in(
-    stream: &mut SessionChangeStream<Document>,
-    session: &mut ClientSession,
-    link: &mut ScriptLink,
-    seeks: bool,
-) -> EventPoll
-    requires out { IsOut (out_at link.old.calls) (stream_ticket (session_stream_of stream.old)) }
-    requires sound { IsSessionStream stream.old }
-    ensures out { IsOut (out_at link.new.calls) (stream_ticket (session_stream_of stream.new)) }
-    ensures sound { IsSessionStream stream.new }
-{
-    if seeks {
-        stream.poll_next(session, link)
-    } else {
-        stream.poll_next_if_any(session, link)
-    }
-}
-
-// What an advance came to: the type of the event that is lent then.
-fn lent_word(
-    alloc: Global,
-    stream: &SessionChangeStream<Document>,
-    poll: &TryPoll,
-) -> Result<String, AllocError> {
-    match poll {
-        TryPoll::Ready(AdvanceResult::Advanced(())) => match stream.current() {
-            Some(event) => {
-                let name = type_of(&event);
-                format!(in alloc; "/lends {name}")
-            }
-            None => String::from_str(alloc, "/lends nothing"),
-        },
-        _ => String::from_str(alloc, "/no event"),
-    }
-}
-
-// One poll of a call that lends an event, and what it lends.
-fn advance_in(
+// One poll of a call that gives an event, seeks one or lends one.
+fn word_in(
     alloc: Global,
     stream: &mut SessionChangeStream<Document>,
     session: &mut ClientSession,
     link: &mut ScriptLink,
+    step: u8,
 ) -> Result<String, Error>
     requires out { IsOut (out_at link.old.calls) (stream_ticket (session_stream_of stream.old)) }
     requires sound { IsSessionStream stream.old }
     ensures out { IsOut (out_at link.new.calls) (stream_ticket (session_stream_of stream.new)) }
     ensures sound { IsSessionStream stream.new }
 {
-    let poll = stream.poll_advance_if_any(session, link);
-    Ok(lent_word(alloc, stream, &poll)?)
+    let poll = match step {
+        b'a' => {
+            let poll = stream.poll_advance_if_any(session, link);
+            return advance_word(alloc, &poll, stream.current());
+        }
+        b'n' => stream.poll_next(session, link),
+        _ => stream.poll_next_if_any(session, link),
+    };
+    event_word(alloc, &poll)
 }
 
 // Two calls of a stream in a session, one that lends an event and one that seeks an event, and its closing.
@@ -390,34 +250,31 @@ fn followed_in(alloc: Global, link: &mut ScriptLink) -> Result<String, Error> {
     let mut session = ClientSession::new(one_field(alloc, "id", Bson::Int32(7))?);
     let args = args_of(alloc, "collection", ChangeStreamOptions::builder())?;
     let mut stream = open_in(SessionOpening::new(alloc, args), &mut session, link)?;
-    let first = poll_in(&mut stream, &mut session, link, false);
-    let second = poll_in(&mut stream, &mut session, link, false);
-    let mut seen = event_word(alloc, &first)?;
-    seen.push_str(event_word(alloc, &second)?.as_str())?;
-    seen.push_str(advance_in(alloc, &mut stream, &mut session, link)?.as_str())?;
-    let last = poll_in(&mut stream, &mut session, link, true);
-    seen.push_str(event_word(alloc, &last)?.as_str())?;
-    match stream.close().poll(link) {
-        Step::Done(()) => seen.push_str("/closed")?,
-        _ => seen.push_str("/not closed")?,
-    }
-    Ok(seen)
+    let first = word_in(alloc, &mut stream, &mut session, link, b'c')?;
+    let second = word_in(alloc, &mut stream, &mut session, link, b'c')?;
+    let third = word_in(alloc, &mut stream, &mut session, link, b'a')?;
+    let last = word_in(alloc, &mut stream, &mut session, link, b'n')?;
+    let closed = end_word(alloc, stream.close().poll(link))?;
+    Ok(format!(in alloc; "{first}{second}{third}{last}{closed}")?)
 }
 
-fn sent_in(alloc: Global) -> Result<String, Error> {
-    let mut link = ScriptLink::new(replies(alloc)?, 21);
-    let seen = followed_in(alloc, &mut link)?;
-    let sent = sent_words(alloc, &link)?;
-    Ok(format!(in alloc; "{seen}{sent}")?)
+/// How the commands of such a stream are answered: the aggregate and the killing behind a fault resume it. Behind them, what comes
+/// of it.
+const FOLLOWED: &str =
+    r#"1 insert update nothing fault 2 killed delete killed~/nothing/{"_id":1,"operationType":"insert"}/{"_id":2,"operationType":"update"}/{"_id":3,"operationType":"delete"}/done/aggregate {} in a session/getMore 1 in a session/getMore 1 in a session/getMore 1 in a session/getMore 1 in a session/aggregate {"resumeAfter":2} in a session/killCursors [{"$int64":"1"}]/getMore 2 in a session/killCursors [{"$int64":"2"}]"#;
+
+struct Followed;
+
+impl Subject for Followed {
+    fn found(alloc: Global, script: &str) -> Result<String, Error> {
+        let mut link = link_of(alloc, REPLIES, script, 0)?;
+        let seen = followed_in(alloc, &mut link)?;
+        let sent = command_words(alloc, &link)?;
+        Ok(format!(in alloc; "{seen}{sent}")?)
+    }
 }
 
 #[test]
 fn streams_in_a_session(rt: HostRuntime) -> Result<(), Fail> {
-    let Ok(found) = sent_in(rt.alloc()) else {
-        return Err(Fail::from("stream"));
-    };
-    let wanted =
-        "/nothing/insert/lends update/delete/closed/aggregate in a session/getMore in a session/getMore in a session/getMore in a session/getMore in a session/aggregate in a session/killCursors/getMore in a session/killCursors";
-    expect(&rt, "in a session", found.as_str(), wanted);
-    Ok(())
+    are_found::<Followed>(&rt, rt.alloc(), "~", FOLLOWED)
 }

@@ -2,7 +2,7 @@ use Rattle.mg_link.specs.Acts.{IsOut}
 use Rattle.mg_link.specs.Places.{out_at}
 use Rattle.mg_change.specs.ClientStreams.{stream_ticket}
 use Rattle.mg_change.specs.StreamView.{IsPlainStream, stream_of}
-use Rattle.jobs.proofs.tests.streams.advance.Given as goal
+use Rattle.jobs.proofs.tests.streams.step_word.Given as goal
 
 abbrev pub invariant-polls : goal.invariant-polls
 invariant-polls l = record {
