@@ -1,10 +1,10 @@
-use super::{bytes_of, expect, one_field, parted, text, with};
+use super::{Subject, are_found, bytes_at, bytes_of, expect, json_value, one_field, parted, with};
 use mg_bson::{
-    Array, Binary, Bson, BsonError, Document, Malformation, ObjectId, RawDocument, RawDocumentBuf,
+    Binary, Bson, BsonError, Document, Malformation, ObjectId, RawDocument, RawDocumentBuf,
     RawValue, Regex, to_bytes, to_document,
 };
+use mg_link::Error;
 use std::alloc::{AllocError, Global};
-use std::process::Abort;
 use std::test::Fail;
 
 // A document for each kind, a line each: its bytes, and how its value of the name `x` prints.
@@ -189,39 +189,39 @@ ffffffff00 a length below 0
 1b0000000f780013000000020000006600080000000a7900000000 a byte behind its scope
 ";
 
-// Bytes with the place and the reason of their first fault, and what it is. A fault inside a value is one of the outermost
+// Bytes and what their first fault is, and its place and its reason. A fault inside a value is one of the outermost
 // value that holds it.
 const FAULTS: &str = "\
-0500000000 None no elements
-170000000a61000362000c000000106300010000000000 None two elements
- 0:Frame no bytes
-05000000 0:Frame a length and no end
-0600000000 0:Frame a length one too large
-070000000a610000 0:Frame a length one too small
-050000000000 0:Frame a byte behind the end
-080000000a610001 0:Frame a last byte that is not 0
-0a0000000861000200 0:Frame a wrong length before a boolean of 2
-0800000014610000 4:Element a kind that there is not
-080000000a616100 4:Element a name without its 0
-080000000aff0000 4:Element a name that is not UTF-8
-0b00000010610001000000 4:Element a number cut short
-0f0000000261000400000068690000 4:Element a text that ends behind the document
-0d000000036100060000000000 4:Element a document that ends behind the one around it
-0b0000000b610062006300 4:Element options without their 0
-090000000861000200 4:Value a boolean of 2
-0e00000002610002000000ff0000 4:Value a text that is not UTF-8
-0f0000000261000200000068690000 4:Value a text that its length ends too early
-10000000036100080000000a62000100 4:Value an inner document whose end is not 0
-0c0000000a61000862000200 7:Value a boolean of 2 in the second element
-10000000106263000100000014620000 12:Element a kind that there is not in the second element
-130000000a610010626300010000000aff0000 15:Element a name that is not UTF-8 in the third element
-1800000010626300010000000ac3a9001062630001000000 16:Element a number cut short in the third element
-0f0000000a61000862000214630000 7:Value a boolean of 2 before a kind that there is not
-0f0000000a61001462000863000200 7:Element a kind that there is not before a boolean of 2
-0d000000106100010000000000 11:Element a number one byte too long
-220000000a6100036200170000000a61000363000c0000000a610008640002000000 7:Value a boolean of 2 two levels down
-1b00000010626300010000000462000b0000000a30001431000000 12:Value a kind that there is not in an array
-250000000a610010626300010000000f620012000000020000006600080000000aff000000 15:Value a name that is not UTF-8 in a scope
+0500000000 no elements -> None
+170000000a61000362000c000000106300010000000000 two elements -> None
+ no bytes -> 0:Frame
+05000000 a length and no end -> 0:Frame
+0600000000 a length one too large -> 0:Frame
+070000000a610000 a length one too small -> 0:Frame
+050000000000 a byte behind the end -> 0:Frame
+080000000a610001 a last byte that is not 0 -> 0:Frame
+0a0000000861000200 a wrong length before a boolean of 2 -> 0:Frame
+0800000014610000 a kind that there is not -> 4:Element
+080000000a616100 a name without its 0 -> 4:Element
+080000000aff0000 a name that is not UTF-8 -> 4:Element
+0b00000010610001000000 a number cut short -> 4:Element
+0f0000000261000400000068690000 a text that ends behind the document -> 4:Element
+0d000000036100060000000000 a document that ends behind the one around it -> 4:Element
+0b0000000b610062006300 options without their 0 -> 4:Element
+090000000861000200 a boolean of 2 -> 4:Value
+0e00000002610002000000ff0000 a text that is not UTF-8 -> 4:Value
+0f0000000261000200000068690000 a text that its length ends too early -> 4:Value
+10000000036100080000000a62000100 an inner document whose end is not 0 -> 4:Value
+0c0000000a61000862000200 a boolean of 2 in the second element -> 7:Value
+10000000106263000100000014620000 a kind that there is not in the second element -> 12:Element
+130000000a610010626300010000000aff0000 a name that is not UTF-8 in the third element -> 15:Element
+1800000010626300010000000ac3a9001062630001000000 a number cut short in the third element -> 16:Element
+0f0000000a61000862000214630000 a boolean of 2 before a kind that there is not -> 7:Value
+0f0000000a61001462000863000200 a kind that there is not before a boolean of 2 -> 7:Element
+0d000000106100010000000000 a number one byte too long -> 11:Element
+220000000a6100036200170000000a61000363000c0000000a610008640002000000 a boolean of 2 two levels down -> 7:Value
+1b00000010626300010000000462000b0000000a30001431000000 a kind that there is not in an array -> 12:Value
+250000000a610010626300010000000f620012000000020000006600080000000aff000000 a name that is not UTF-8 in a scope -> 15:Value
 ";
 
 // Documents of a name of 15 to 17 or 31 to 33 bytes, each in two parts: between these its one letter of two bytes is left out.
@@ -378,77 +378,86 @@ fn digits_of(alloc: Global, document: &Document) -> Result<String, BsonError> {
     Ok(hex::encode(alloc, bytes)?)
 }
 
-// How the value of the name `x` prints, behind the digits of its document.
-fn vector_of(alloc: Global, document: &Document) -> Result<String, BsonError> {
-    let digits = digits_of(alloc, document)?;
-    Ok(format!(in alloc; "{digits} {:?}", document.get("x"))?)
+struct Vectors;
+
+impl Subject for Vectors {
+    // How the value of the name `x` prints, how long its document is, and its digits where these are others.
+    fn found(alloc: Global, digits: &str) -> Result<String, Error> {
+        let bytes = bytes_at(alloc, digits)?;
+        let document = document_of(alloc, bytes)?;
+        let written = digits_of(alloc, &document)?;
+        let len = document.encoded_len()?.saturating_mul(2);
+        if written.as_str() == digits && len == digits.len() {
+            Ok(format!(in alloc; "{:?}", document.get("x"))?)
+        } else {
+            Ok(written)
+        }
+    }
 }
 
 #[test]
 fn encoding_vectors(rt: HostRuntime) -> Result<(), Fail> {
-    let alloc = rt.alloc();
-    for line in VECTORS.lines() {
-        let (digits, _) = parted(line);
-        let bytes = hex::decode(alloc, digits)?;
-        let len = bytes.len();
-        let document = document_of(alloc, bytes)?;
-        let found = vector_of(alloc, &document)?;
-        expect(&rt, digits, found.as_str(), line);
-        assert_eq!(rt; document.encoded_len(), Ok(len), "{digits}");
-    }
-    Ok(())
+    are_found::<Vectors>(&rt, rt.alloc(), " ", VECTORS)
 }
 
 // The digits of a document that is read, copied and written again.
-fn rewritten(alloc: Global, bytes: Vec<u8>) -> Result<String, BsonError> {
-    let document = document_of(alloc, bytes)?;
+fn rewritten(alloc: Global, digits: &str) -> Result<String, Error> {
+    let document = document_of(alloc, bytes_at(alloc, digits)?)?;
     let copy = document.clone()?;
-    digits_of(alloc, &copy)
+    Ok(digits_of(alloc, &copy)?)
 }
 
-/// Fails a test where the bytes of a line are not written as they were read, or, where this is not wanted, as the bytes
-/// behind them.
-pub(super) fn are_rewritten(
-    rt: &impl Abort,
-    alloc: Global,
-    table: &str,
-    as_read: bool,
-) -> Result<(), Fail> {
-    for line in table.lines() {
+/// What a document is written as that was read and copied, where that is not as it was read.
+pub(super) struct Kept;
+
+impl Subject for Kept {
+    fn found(alloc: Global, line: &str) -> Result<String, Error> {
+        let (digits, _) = parted(line);
+        let written = rewritten(alloc, digits)?;
+        if written.as_str() == digits {
+            return Ok(String::new(alloc));
+        }
+        Ok(written)
+    }
+}
+
+/// What it is written as, where that is not what stands behind it.
+pub(super) struct Renamed;
+
+impl Subject for Renamed {
+    fn found(alloc: Global, line: &str) -> Result<String, Error> {
         let (digits, rest) = parted(line);
         let (renamed, _) = parted(rest);
-        let wanted = if as_read { digits } else { renamed };
-        let found = rewritten(alloc, hex::decode(alloc, digits)?)?;
-        expect(rt, line, found.as_str(), wanted);
+        let written = rewritten(alloc, digits)?;
+        if written.as_str() == renamed {
+            return Ok(String::new(alloc));
+        }
+        Ok(written)
     }
-    Ok(())
 }
 
 #[test]
 fn renamed_items(rt: HostRuntime) -> Result<(), Fail> {
-    are_rewritten(&rt, rt.alloc(), RENAMED, false)
+    are_found::<Renamed>(&rt, rt.alloc(), "\n", RENAMED)
 }
 
-// Whether the bytes are taken for no document, lent as well as kept.
-fn are_malformed(bytes: Vec<u8>) -> bool {
-    let is_lent = RawDocument::from_bytes(&bytes).is_ok();
-    let is_refused = matches!(RawDocumentBuf::from_bytes(bytes), Err(BsonError::Malformed));
-    is_refused && !is_lent
-}
+/// Whether bytes are taken for a document, lent or kept, where they are.
+pub(super) struct Refused;
 
-/// Fails a test where the bytes of a line are taken for a document.
-pub(super) fn are_refused(rt: &impl Abort, alloc: Global, table: &str) -> Result<(), Fail> {
-    for line in table.lines() {
+impl Subject for Refused {
+    fn found(alloc: Global, line: &str) -> Result<String, Error> {
         let (digits, _) = parted(line);
-        let bytes = hex::decode(alloc, digits)?;
-        assert!(rt; are_malformed(bytes), "{line}");
+        let bytes = bytes_at(alloc, digits)?;
+        let is_lent = RawDocument::from_bytes(&bytes).is_ok();
+        let is_refused = matches!(RawDocumentBuf::from_bytes(bytes), Err(BsonError::Malformed));
+        let taken = if is_refused && !is_lent { "" } else { "taken" };
+        Ok(String::from_str(alloc, taken)?)
     }
-    Ok(())
 }
 
 #[test]
 fn damaged_bytes(rt: HostRuntime) -> Result<(), Fail> {
-    are_refused(&rt, rt.alloc(), DAMAGED)
+    are_found::<Refused>(&rt, rt.alloc(), "\n", DAMAGED)
 }
 
 // The place and the reason of the first fault of bytes.
@@ -459,32 +468,39 @@ fn fault_of(alloc: Global, bytes: &[u8]) -> Result<String, AllocError> {
     }
 }
 
+struct Faults;
+
+impl Subject for Faults {
+    fn found(alloc: Global, line: &str) -> Result<String, Error> {
+        let (digits, _) = parted(line);
+        Ok(fault_of(alloc, &bytes_at(alloc, digits)?)?)
+    }
+}
+
 #[test]
 fn places_of_faults(rt: HostRuntime) -> Result<(), Fail> {
-    let alloc = rt.alloc();
-    for line in FAULTS.lines() {
-        let (digits, told) = parted(line);
-        let (wanted, why) = parted(told);
-        let bytes = hex::decode(alloc, digits)?;
-        let found = fault_of(alloc, &bytes)?;
-        expect(&rt, why, found.as_str(), wanted);
+    are_found::<Faults>(&rt, rt.alloc(), " -> ", FAULTS)
+}
+
+struct PartedNames;
+
+impl Subject for PartedNames {
+    // With its letter whole a name is kept, and with half of it no document is there.
+    fn found(alloc: Global, line: &str) -> Result<String, Error> {
+        let (front, behind) = parted(line);
+        let whole = format!(in alloc; "{front}c3a9{behind}")?;
+        let cut_short = format!(in alloc; "{front}c36e{behind}")?;
+        let stray = format!(in alloc; "{front}6ea9{behind}")?;
+        let kept = Kept::found(alloc, whole.as_str())?;
+        let first = Refused::found(alloc, cut_short.as_str())?;
+        let second = Refused::found(alloc, stray.as_str())?;
+        Ok(format!(in alloc; "{kept}{first}{second}")?)
     }
-    Ok(())
 }
 
 #[test]
 fn letters_in_names(rt: HostRuntime) -> Result<(), Fail> {
-    let alloc = rt.alloc();
-    for line in PARTED_NAMES.lines() {
-        let (front, behind) = parted(line);
-        let whole = format!(in alloc; "{front}c3a9{behind}")?;
-        are_rewritten(&rt, alloc, whole.as_str(), true)?;
-        let cut_short = format!(in alloc; "{front}c36e{behind}")?;
-        are_refused(&rt, alloc, cut_short.as_str())?;
-        let stray = format!(in alloc; "{front}6ea9{behind}")?;
-        are_refused(&rt, alloc, stray.as_str())?;
-    }
-    Ok(())
+    are_found::<PartedNames>(&rt, rt.alloc(), "\n", PARTED_NAMES)
 }
 
 // The bytes of the document of so many levels, each but the first in a value of the kind: a document, an array or code
@@ -522,33 +538,41 @@ fn levels_of(alloc: Global, kind: u8) -> Result<String, BsonError> {
     Ok(format!(in alloc; "{is_same} {deeper:?} {unread:?} {fault}")?)
 }
 
-#[test]
-fn limits_of_levels(rt: HostRuntime) -> Result<(), Fail> {
-    for (name, kind) in [("document", 3), ("array", 4), ("code with scope", 15)] {
-        let found = levels_of(rt.alloc(), kind)?;
-        expect(
-            &rt,
-            name,
-            found.as_str(),
-            "true [Some(TooDeep), Some(TooDeep)] Some(Malformed) 4:Value",
-        );
+/// The kinds of values that stand in each other, and what comes of 100 and of 101 levels.
+const LEVELS: &str = "3 -> true [Some(TooDeep), Some(TooDeep)] Some(Malformed) 4:Value
+4 -> true [Some(TooDeep), Some(TooDeep)] Some(Malformed) 4:Value
+15 -> true [Some(TooDeep), Some(TooDeep)] Some(Malformed) 4:Value";
+
+struct Levels;
+
+impl Subject for Levels {
+    fn found(alloc: Global, kind: &str) -> Result<String, Error> {
+        Ok(levels_of(alloc, kind.parse::<u8>().unwrap_or(0))?)
     }
-    Ok(())
 }
 
-// Why a document of a binary of so many bytes is not written, and why it has no length. It takes 13 bytes more than it holds.
-fn faults_of_size(alloc: Global, len: usize) -> Result<[Option<BsonError>; 2], BsonError> {
-    let bytes = vec![in alloc; 0; len]?;
-    faults_of(alloc, "x", Bson::Binary(Binary { subtype: 0, bytes }))
+#[test]
+fn limits_of_levels(rt: HostRuntime) -> Result<(), Fail> {
+    are_found::<Levels>(&rt, rt.alloc(), " -> ", LEVELS)
+}
+
+/// How many bytes a binary has, and why its document is not written, and has no length. It takes 13 bytes more.
+const SIZES: &str = "47999987 -> [None, None]
+47999988 -> [Some(TooLarge), Some(TooLarge)]";
+
+struct Sizes;
+
+impl Subject for Sizes {
+    fn found(alloc: Global, len: &str) -> Result<String, Error> {
+        let bytes = vec![in alloc; 0; len.parse::<u32>().unwrap_or(0) as usize]?;
+        let faults = faults_of(alloc, "x", Bson::Binary(Binary { subtype: 0, bytes }))?;
+        Ok(format!(in alloc; "{faults:?}")?)
+    }
 }
 
 #[test]
 fn limits_of_size(rt: HostRuntime) -> Result<(), Fail> {
-    for (len, error) in [(47_999_987, None), (47_999_988, Some(BsonError::TooLarge))] {
-        let found = faults_of_size(rt.alloc(), len)?;
-        assert_eq!(rt; found, [error, error], "{len}");
-    }
-    Ok(())
+    are_found::<Sizes>(&rt, rt.alloc(), " -> ", SIZES)
 }
 
 // Why a document of one field is not written, and why it has no length.
@@ -586,130 +610,83 @@ fn bad_names(rt: HostRuntime) -> Result<(), Fail> {
     Ok(())
 }
 
-// Texts, and the object ids that they are.
+// Texts, and the object ids that they are, with their digits and as they print.
 const IDS: &str = "\
-00010f107f809fa0abcdefff Some(ObjectId([0, 1, 15, 16, 127, 128, 159, 160, 171, 205, 239, 255]))
-00010F107f809fA0abcdefFF Some(ObjectId([0, 1, 15, 16, 127, 128, 159, 160, 171, 205, 239, 255]))
- None
-00010f107f809fa0abcdeff None
-00010f107f809fa0abcdefff00 None
-00010g107f809fa0abcdefff None
+00010f107f809fa0abcdefff ObjectId([0, 1, 15, 16, 127, 128, 159, 160, 171, 205, 239, 255]) 00010f107f809fa0abcdefff 00010f107f809fa0abcdefff
+00010F107f809fA0abcdefFF ObjectId([0, 1, 15, 16, 127, 128, 159, 160, 171, 205, 239, 255]) 00010f107f809fa0abcdefff 00010f107f809fa0abcdefff
+ none
+00010f107f809fa0abcdeff none
+00010f107f809fa0abcdefff00 none
+00010g107f809fa0abcdefff none
 ";
 
-// An object id as its digits, and as it prints.
-fn texts_of(alloc: Global, id: ObjectId) -> Result<String, AllocError> {
-    let digits = id.to_hex(alloc)?;
-    format!(in alloc; "{digits} {id}")
+struct Ids;
+
+impl Subject for Ids {
+    fn found(alloc: Global, text: &str) -> Result<String, Error> {
+        let Some(id) = ObjectId::parse_str(text) else {
+            return Ok(String::from_str(alloc, "none")?);
+        };
+        let digits = id.to_hex(alloc)?;
+        Ok(format!(in alloc; "{id:?} {digits} {id}")?)
+    }
 }
 
 #[test]
 fn object_ids(rt: HostRuntime) -> Result<(), Fail> {
-    for line in IDS.lines() {
-        let (text, shown) = parted(line);
-        let id = format!(in rt.alloc(); "{:?}", ObjectId::parse_str(text))?;
-        expect(&rt, text, id.as_str(), shown);
-    }
-    let id = ObjectId([0, 1, 15, 16, 127, 128, 159, 160, 171, 205, 239, 255]);
-    let found = texts_of(rt.alloc(), id)?;
-    let wanted = "00010f107f809fa0abcdefff 00010f107f809fa0abcdefff";
-    expect(&rt, "both texts", found.as_str(), wanted);
-    Ok(())
+    are_found::<Ids>(&rt, rt.alloc(), " ", IDS)
 }
 
 // The document `{ a: 1, b: [7, "s"], a: 2 }`.
-fn sample(alloc: Global) -> Result<Document, BsonError> {
-    let mut items = Array::new(alloc);
-    items.push(Bson::Int32(7))?;
-    items.push(text(alloc, "s")?)?;
+fn sample(alloc: Global) -> Result<Document, Error> {
     let document = one_field(alloc, "a", Bson::Int32(1))?;
-    let document = with(document, "b", Bson::Array(items))?;
-    with(document, "a", Bson::Int32(2))
+    let document = with(document, "b", json_value(alloc, r#"[7,"s"]"#)?)?;
+    Ok(with(document, "a", Bson::Int32(2))?)
 }
 
-// Whether a value in the place of another gives that.
-fn replaces(document: &mut Document) -> Result<bool, BsonError> {
-    let old = document.insert("a", Bson::Int64(3))?;
-    Ok(old == Some(Bson::Int32(1)))
-}
-
-// Whether a value of a new name gives none.
-fn adds(document: &mut Document) -> Result<bool, BsonError> {
-    let old = document.insert("c", Bson::Null)?;
-    Ok(old.is_none())
-}
-
-// Whether taking the first value of a name out gives it.
-fn removes(document: &mut Document) -> bool {
-    document.remove("a") == Some(Bson::Int64(3))
-}
-
-// Whether each change gives what it should, the first name behind them, and what is left.
-fn changed(alloc: Global) -> Result<String, BsonError> {
+// What stood in the place of a value, what stood where a name is new, what is taken out by its name, the first name behind that,
+// and what is left.
+fn changed(alloc: Global) -> Result<String, Error> {
     let mut document = sample(alloc)?;
-    let replaced = replaces(&mut document)?;
-    let added = adds(&mut document)?;
-    let removed = removes(&mut document);
+    let replaced = format!(in alloc; "{:?}", document.insert("a", Bson::Int64(3))?)?;
+    let added = format!(in alloc; "{:?}", document.insert("c", Bson::Null)?)?;
+    let removed = format!(in alloc; "{:?}", document.remove("a"))?;
     let first = document.keys().next();
     Ok(format!(in alloc; "{replaced} {added} {removed} {first:?} {document:?}")?)
 }
 
-#[test]
-fn changes_of_a_document(rt: HostRuntime) -> Result<(), Fail> {
-    let found = changed(rt.alloc())?;
-    let wanted = concat!(
-        "true true true Some(\"b\") ",
-        "Document { fields: [Field { name: \"b\", value: Array(Array { items: [Int32(7), String(\"s\")] }) }, ",
-        "Field { name: \"a\", value: Int32(2) }, Field { name: \"c\", value: Null }] }",
-    );
-    expect(&rt, "changes", found.as_str(), wanted);
-    Ok(())
-}
-
-// Whether a copy of a document is the same, and what is read of its bytes too.
-fn copy_is_same(alloc: Global, document: &Document) -> Result<bool, BsonError> {
-    let copy = document.clone()?;
-    let read = document_of(alloc, bytes_of(alloc, &copy)?)?;
-    Ok(copy == *document && read == *document)
-}
-
-// Whether a copy of bytes is the same, and has the same bytes.
-fn raw_copy_is_same(alloc: Global, document: &Document) -> Result<bool, BsonError> {
-    let raw = to_bytes(alloc, document)?;
-    let lent = raw.as_raw().to_buf(alloc)?;
-    let kept = lent.clone()?;
-    Ok(kept == raw && kept.into_bytes().as_slice() == raw.as_bytes())
-}
-
-// The list of the name `b` in the bytes of a document, by copies of what these lend.
-fn list_of_b(alloc: Global, document: &Document) -> Result<Bson, BsonError> {
-    let raw = to_bytes(alloc, document)?;
-    let lent = raw.as_raw().clone()?;
+// The list of the name `b` in a copy of the bytes, by copies of what these lend.
+fn list_of_b(alloc: Global) -> Result<String, Error> {
+    let raw = to_bytes(alloc, &sample(alloc)?)?;
+    let kept = raw.as_raw().to_buf(alloc)?;
+    let lent = kept.as_raw().clone()?;
     let Some(value) = lent.get("b") else {
-        return Ok(Bson::Null);
+        return Ok(String::new(alloc));
     };
-    match value.as_array() {
-        Some(list) => RawValue::Array(list.clone()?).to_value(alloc),
-        None => value.to_value(alloc),
+    let Some(list) = value.as_array() else {
+        return Ok(String::new(alloc));
+    };
+    let copy = RawValue::Array(list.clone()?).to_value(alloc)?;
+    Ok(format!(in alloc; "{copy:?}")?)
+}
+
+/// Changes and copies of a document, and what comes of them.
+const SAMPLES: &str =
+    r#"changes~Some(Int32(1)) None Some(Int64(3)) Some("b") Document { fields: [Field { name: "b", value: Array(Array { items: [Int32(7), String("s")] }) }, Field { name: "a", value: Int32(2) }, Field { name: "c", value: Null }] }
+list~Array(Array { items: [Int32(7), String("s")] })"#;
+
+struct Samples;
+
+impl Subject for Samples {
+    fn found(alloc: Global, about: &str) -> Result<String, Error> {
+        match about {
+            "changes" => changed(alloc),
+            _ => list_of_b(alloc),
+        }
     }
 }
 
-// Whether a value is the same that is read of the bytes of a document.
-fn value_is_same(alloc: Global, document: &Document) -> Result<bool, BsonError> {
-    let value = list_of_b(alloc, document)?;
-    Ok(document.get("b") == Some(&value))
-}
-
-// Whether the copies of a document, of its bytes and of a value are the same.
-fn copies_are_same(alloc: Global) -> Result<(bool, bool, bool), BsonError> {
-    let document = sample(alloc)?;
-    let copy = copy_is_same(alloc, &document)?;
-    let bytes = raw_copy_is_same(alloc, &document)?;
-    let value = value_is_same(alloc, &document)?;
-    Ok((copy, bytes, value))
-}
-
 #[test]
-fn copies(rt: HostRuntime) -> Result<(), Fail> {
-    assert_eq!(rt; copies_are_same(rt.alloc())?, (true, true, true));
-    Ok(())
+fn changes_of_a_document(rt: HostRuntime) -> Result<(), Fail> {
+    are_found::<Samples>(&rt, rt.alloc(), "~", SAMPLES)
 }

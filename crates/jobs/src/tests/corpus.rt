@@ -1,4 +1,5 @@
-use super::bson::{are_refused, are_rewritten};
+use super::are_found;
+use super::bson::{Kept, Refused, Renamed};
 use std::test::Fail;
 
 // Cases of the BSON corpus, `bson-corpus/tests` of MongoDB's specifications: the bytes, and behind them the file and the
@@ -270,20 +271,20 @@ const KEPT: &str = "\
 
 #[test]
 fn canonical_documents(rt: HostRuntime) -> Result<(), Fail> {
-    are_rewritten(&rt, rt.alloc(), CANONICAL, true)
+    are_found::<Kept>(&rt, rt.alloc(), "\n", CANONICAL)
 }
 
 #[test]
 fn degenerate_arrays(rt: HostRuntime) -> Result<(), Fail> {
-    are_rewritten(&rt, rt.alloc(), DEGENERATE, false)
+    are_found::<Renamed>(&rt, rt.alloc(), "\n", DEGENERATE)
 }
 
 #[test]
 fn refused_bytes(rt: HostRuntime) -> Result<(), Fail> {
-    are_refused(&rt, rt.alloc(), REFUSED)
+    are_found::<Refused>(&rt, rt.alloc(), "\n", REFUSED)
 }
 
 #[test]
 fn kept_documents(rt: HostRuntime) -> Result<(), Fail> {
-    are_rewritten(&rt, rt.alloc(), KEPT, true)
+    are_found::<Kept>(&rt, rt.alloc(), "\n", KEPT)
 }

@@ -1,8 +1,8 @@
-use super::{expect, repeated};
+use super::{Subject, are_found, parted, repeated};
 use mg_jobs::{ScriptError, json_text, parse_script, value_from_json};
+use mg_link::Error;
 use serde_json::Value;
 use std::alloc::{AllocError, Global};
-use std::process::Abort;
 use std::test::Fail;
 
 // ---- values
@@ -88,270 +88,255 @@ null~Null~null
 {"a":{"b":[{"$int64":"x"}]}}~refused
 {"a":{"$date":1},"b":18446744073709551615}~refused"#;
 
-/// What a JSON text stands for: the kind and the printed value, parted by `~`, or `refused`.
-fn reading_of(alloc: Global, text: &str) -> Result<String, AllocError> {
-    let Ok(json) = Value::from_slice(alloc, text.as_bytes()) else {
-        return String::from_str(alloc, "not json");
-    };
-    match value_from_json(alloc, &json) {
-        Ok(Some(value)) => match json_text(alloc, &value) {
-            Ok(printed) => {
-                let kind = value.kind();
-                format!(in alloc; "{kind:?}~{printed}")
-            }
-            Err(_) => Err(AllocError),
-        },
-        Ok(None) => String::from_str(alloc, "refused"),
-        Err(_) => Err(AllocError),
+struct Values;
+
+impl Subject for Values {
+    /// What a JSON text stands for: the kind and the printed value, parted by `~`, or `refused`.
+    fn found(alloc: Global, json: &str) -> Result<String, Error> {
+        let Ok(json) = Value::from_slice(alloc, json.as_bytes()) else {
+            return Ok(String::from_str(alloc, "not json")?);
+        };
+        let Some(value) = value_from_json(alloc, &json)? else {
+            return Ok(String::from_str(alloc, "refused")?);
+        };
+        let printed = json_text(alloc, &value)?;
+        Ok(format!(in alloc; "{:?}~{printed}", value.kind())?)
     }
 }
 
 #[test]
 fn values(rt: HostRuntime) -> Result<(), Fail> {
-    let mut rows: usize = 0;
-    for line in VALUES.lines() {
-        let Some((text, wanted)) = line.split_once('~') else {
-            return Ok(assert!(rt; false, "{line}"));
-        };
-        let found = reading_of(rt.alloc(), text)?;
-        assert_eq!(rt; found.as_str(), wanted, "{text}");
-        rows = rows.saturating_add(1);
-    }
-    assert!(rt; rows >= 40);
-    Ok(())
+    are_found::<Values>(&rt, rt.alloc(), "~", VALUES)
 }
 
 // ---- scripts
 
-/// Whole scripts, each behind the place of its first fault.
-const SCRIPTS: &str = r#"not json~
-not json~[
-not json~nul
-not json~{"jobs":[],"order":[]
-not json~{"jobs":[],"order":[]}}
-not json~{'jobs':[],'order':[]}
-not json~{"jobs":[],"order":[1e400]}
-not json~{"jobs":[],"order":[01]}
-not json~{"jobs":["\ud800"],"order":[]}
-top~[]
-top~null
-top~0
-top~"jobs"
-top~{}
-top~{"jobs":[]}
-top~{"order":[]}
-top~{"jobs":{},"order":[]}
-top~{"jobs":null,"order":[]}
-top~{"jobs":[],"order":0}
-top~{"jobs":[],"order":[],"workers":[]}
-top~{"jobs":[],"order":[],"trim":1}
-top~{"Jobs":[],"jobs":[],"order":[]}
-top~{"jobs":[],"order":[],"wire":-1}
-top~{"jobs":[],"order":[],"wire":2147483648}
-top~{"jobs":[],"order":[],"wire":21.0}
-top~{"jobs":[],"order":[],"wire":null}
-top~{"jobs":[],"order":[],"ids":"00000"}
-top~{"jobs":[],"order":[],"ids":"00000A"}
-top~{"jobs":[],"order":[],"ids":"00000000"}
-top~{"jobs":[],"order":[],"ids":0}
-top~{"jobs":[],"order":[],"moment":"0"}
-top~{"jobs":[],"order":[],"moment":9223372036854775808}
-top~{"jobs":[],"order":[],"moment":-0}
-top~{"jobs":[],"order":[],"moment":null}
-top~{"jobs":[],"order":[],"fates":{}}
-top~{"jobs":[],"order":[],"fates":null}
-top~{"jobs":[0],"order":[-1],"fates":[0],"wire":-1}
-job 0~{"jobs":[0],"order":[-1],"fates":[0]}
-job 1~{"jobs":[{"docs":[{}],"job":"insert","ns":"a.b"},{}],"order":[]}
-order 0~{"jobs":[],"order":[-1],"fates":[0]}
-order 0~{"jobs":[],"order":[4294967296]}
-order 0~{"jobs":[],"order":[0.0]}
-order 0~{"jobs":[],"order":["0"]}
-order 0~{"jobs":[],"order":[null]}
-order 2~{"jobs":[],"order":[0,4294967295,[0],-1]}
-fate 1~{"jobs":[],"order":[7],"fates":[{},{"pend":1.0}]}
-fate 0~{"jobs":[{"db":"a","id":0,"job":"get","read":1}],"order":[7],"fates":[0]}
-not built~{"jobs":[{"db":"a","id":0,"job":"get","read":1}],"order":[7]}
-taken~{"jobs":[],"order":[]}
-taken~{"jobs":[],"order":[4294967295,0]}
-taken~{"jobs":0,"jobs":[],"order":0,"order":[]}
-taken~{"jobs":[],"order":[],"fates":[],"ids":"09afbc","moment":-9223372036854775808,"wire":0}
-taken~{"jobs":[],"order":[],"fates":[{},{"pend":0},{"kind":"keep"}],"wire":2147483647}"#;
+/// Whole scripts, each with the place of its first fault behind it.
+const SCRIPTS: &str = r#"~not json
+[~not json
+nul~not json
+{"jobs":[],"order":[]~not json
+{"jobs":[],"order":[]}}~not json
+{'jobs':[],'order':[]}~not json
+{"jobs":[],"order":[1e400]}~not json
+{"jobs":[],"order":[01]}~not json
+{"jobs":["\ud800"],"order":[]}~not json
+[]~top
+null~top
+0~top
+"jobs"~top
+{}~top
+{"jobs":[]}~top
+{"order":[]}~top
+{"jobs":{},"order":[]}~top
+{"jobs":null,"order":[]}~top
+{"jobs":[],"order":0}~top
+{"jobs":[],"order":[],"workers":[]}~top
+{"jobs":[],"order":[],"trim":1}~top
+{"Jobs":[],"jobs":[],"order":[]}~top
+{"jobs":[],"order":[],"wire":-1}~top
+{"jobs":[],"order":[],"wire":2147483648}~top
+{"jobs":[],"order":[],"wire":21.0}~top
+{"jobs":[],"order":[],"wire":null}~top
+{"jobs":[],"order":[],"ids":"00000"}~top
+{"jobs":[],"order":[],"ids":"00000A"}~top
+{"jobs":[],"order":[],"ids":"00000000"}~top
+{"jobs":[],"order":[],"ids":0}~top
+{"jobs":[],"order":[],"moment":"0"}~top
+{"jobs":[],"order":[],"moment":9223372036854775808}~top
+{"jobs":[],"order":[],"moment":-0}~top
+{"jobs":[],"order":[],"moment":null}~top
+{"jobs":[],"order":[],"fates":{}}~top
+{"jobs":[],"order":[],"fates":null}~top
+{"jobs":[0],"order":[-1],"fates":[0],"wire":-1}~top
+{"jobs":[0],"order":[-1],"fates":[0]}~job 0
+{"jobs":[{"docs":[{}],"job":"insert","ns":"a.b"},{}],"order":[]}~job 1
+{"jobs":[],"order":[-1],"fates":[0]}~order 0
+{"jobs":[],"order":[4294967296]}~order 0
+{"jobs":[],"order":[0.0]}~order 0
+{"jobs":[],"order":["0"]}~order 0
+{"jobs":[],"order":[null]}~order 0
+{"jobs":[],"order":[0,4294967295,[0],-1]}~order 2
+{"jobs":[],"order":[7],"fates":[{},{"pend":1.0}]}~fate 1
+{"jobs":[{"db":"a","id":0,"job":"get","read":1}],"order":[7],"fates":[0]}~fate 0
+{"jobs":[{"db":"a","id":0,"job":"get","read":1}],"order":[7]}~not built
+{"jobs":[],"order":[]}~taken
+{"jobs":[],"order":[4294967295,0]}~taken
+{"jobs":0,"jobs":[],"order":0,"order":[]}~taken
+{"jobs":[],"order":[],"fates":[],"ids":"09afbc","moment":-9223372036854775808,"wire":0}~taken
+{"jobs":[],"order":[],"fates":[{},{"pend":0},{"kind":"keep"}],"wire":2147483647}~taken"#;
 
-/// The first job of a script, each behind the place of the script's fault.
-const JOBS: &str = r#"job 0~null
-job 0~[]
-job 0~{"docs":[{}],"ns":"a.b"}
-job 0~{"docs":[{}],"job":1,"ns":"a.b"}
-job 0~{"docs":[{}],"job":"Insert","ns":"a.b"}
-job 0~{"docs":[{}],"job":"insert"}
-job 0~{"job":"insert","ns":"a.b"}
-job 0~{"docs":[],"job":"insert","ns":"a.b"}
-job 0~{"docs":{},"job":"insert","ns":"a.b"}
-job 0~{"docs":[{},1],"job":"insert","ns":"a.b"}
-job 0~{"docs":[[]],"job":"insert","ns":"a.b"}
-job 0~{"docs":[{"$date":1}],"job":"insert","ns":"a.b"}
-job 0~{"docs":[{"$date":"x"}],"job":"insert","ns":"a.b"}
-job 0~{"docs":[{"x":1.0}],"job":"insert","ns":"a.b"}
-job 0~{"docs":[{}],"job":"insert","ns":"ab"}
-job 0~{"docs":[{}],"job":"insert","ns":".b"}
-job 0~{"docs":[{}],"job":"insert","ns":"a."}
-job 0~{"docs":[{}],"job":"insert","ns":null}
-job 0~{"batch":1,"docs":[{}],"job":"insert","ns":"a.b"}
-taken~{"docs":[{},{"$x":1}],"job":"insert","ns":"a.b.c"}
-job 0~{"calls":1,"job":"follow"}
-job 0~{"calls":1,"job":"follow","on":1}
-job 0~{"calls":1,"job":"follow","on":".b"}
-job 0~{"calls":1,"job":"follow","on":"a."}
-job 0~{"calls":1,"job":"follow","on":"."}
-job 0~{"job":"follow","on":"a.b"}
-job 0~{"calls":-1,"job":"follow","on":"a.b"}
-job 0~{"calls":1.0,"job":"follow","on":"a.b"}
-job 0~{"calls":1048577,"job":"follow","on":"a.b"}
-job 0~{"calls":4294967296,"job":"follow","on":"a.b"}
-job 0~{"batch":4294967296,"calls":1,"job":"follow","on":"a.b"}
-job 0~{"batch":null,"calls":1,"job":"follow","on":"a.b"}
-job 0~{"calls":1,"job":"follow","match":null,"on":"a.b"}
-job 0~{"calls":1,"job":"follow","match":[],"on":"a.b"}
-job 0~{"calls":1,"job":"follow","match":{"$int64":"1"},"on":"a.b"}
-job 0~{"calls":1,"job":"follow","match":{"a":{"$bytes":"0"}},"on":"a.b"}
-job 0~{"calls":1,"job":"follow","on":"a.b","start":null}
-job 0~{"calls":1,"job":"follow","on":"a.b","start":{}}
-job 0~{"calls":1,"job":"follow","on":"a.b","start":{"after":1}}
-job 0~{"calls":1,"job":"follow","on":"a.b","start":{"resumeAfter":1,"startAfter":1}}
-job 0~{"calls":1,"job":"follow","on":"a.b","start":{"resumeAfter":1.0}}
-job 0~{"calls":1,"job":"follow","on":"a.b","start":{"startAt":1}}
-job 0~{"calls":1,"job":"follow","on":"a.b","start":{"startAt":{"$timestamp":{"i":1}}}}
-job 0~{"calls":1,"job":"follow","on":"a.b","split":true}
-taken~{"calls":1048576,"job":"follow","on":"a.b"}
-taken~{"batch":4294967295,"calls":0,"job":"follow","match":{"a":{"$in":[1]}},"on":"a.b.c","start":{"resumeAfter":null}}
-taken~{"calls":1,"job":"follow","on":"a"}
-taken~{"calls":1,"job":"follow","on":""}
-taken~{"calls":1,"job":"follow","on":"a.b","start":{"startAfter":{"_data":"0"}}}
-taken~{"calls":1,"job":"follow","on":"a.b","start":{"startAt":{"$timestamp":{"i":1,"t":1}}}}
-job 0~{"chunk":4,"id":0,"job":"put","name":"f","pieces":[]}
-job 0~{"chunk":4,"db":"","id":0,"job":"put","name":"f","pieces":[]}
-job 0~{"chunk":4,"db":"a.b","id":0,"job":"put","name":"f","pieces":[]}
-job 0~{"bucket":null,"chunk":4,"db":"a","id":0,"job":"put","name":"f","pieces":[]}
-job 0~{"chunk":4,"db":"a","job":"put","name":"f","pieces":[]}
-job 0~{"chunk":4,"db":"a","id":1.0,"job":"put","name":"f","pieces":[]}
-job 0~{"chunk":4,"db":"a","id":0,"job":"put","pieces":[]}
-job 0~{"db":"a","id":0,"job":"put","name":"f","pieces":[]}
-job 0~{"chunk":4294967296,"db":"a","id":0,"job":"put","name":"f","pieces":[]}
-job 0~{"chunk":4,"db":"a","id":0,"job":"put","name":"f"}
-job 0~{"chunk":4,"db":"a","id":0,"job":"put","name":"f","pieces":"00"}
-job 0~{"chunk":4,"db":"a","id":0,"job":"put","name":"f","pieces":["00","0"]}
-job 0~{"chunk":4,"db":"a","id":0,"job":"put","name":"f","pieces":["0x"]}
-job 0~{"chunk":4,"db":"a","id":0,"job":"put","name":"f","pieces":[0]}
-job 0~{"chunk":4,"db":"a","id":0,"job":"put","name":"f","pieces":[],"read":1}
-not built~{"bucket":"","chunk":0,"db":"a","id":null,"job":"put","name":"","pieces":["","aAfF"]}
-job 0~{"db":"a","id":0,"job":"get"}
-job 0~{"db":"a","id":0,"job":"get","read":-1}
-job 0~{"db":"a.","id":0,"job":"get","read":1}
-job 0~{"db":"a","job":"get","read":1}
-job 0~{"db":"a","id":{"$oid":"0"},"job":"get","read":1}
-job 0~{"chunk":1,"db":"a","id":0,"job":"get","read":1}
-not built~{"bucket":"b.c","db":"a","id":{"$date":1},"job":"get","read":4294967295}"#;
+/// The first job of a script, each with the place of the script's fault behind it.
+const JOBS: &str = r#"null~job 0
+[]~job 0
+{"docs":[{}],"ns":"a.b"}~job 0
+{"docs":[{}],"job":1,"ns":"a.b"}~job 0
+{"docs":[{}],"job":"Insert","ns":"a.b"}~job 0
+{"docs":[{}],"job":"insert"}~job 0
+{"job":"insert","ns":"a.b"}~job 0
+{"docs":[],"job":"insert","ns":"a.b"}~job 0
+{"docs":{},"job":"insert","ns":"a.b"}~job 0
+{"docs":[{},1],"job":"insert","ns":"a.b"}~job 0
+{"docs":[[]],"job":"insert","ns":"a.b"}~job 0
+{"docs":[{"$date":1}],"job":"insert","ns":"a.b"}~job 0
+{"docs":[{"$date":"x"}],"job":"insert","ns":"a.b"}~job 0
+{"docs":[{"x":1.0}],"job":"insert","ns":"a.b"}~job 0
+{"docs":[{}],"job":"insert","ns":"ab"}~job 0
+{"docs":[{}],"job":"insert","ns":".b"}~job 0
+{"docs":[{}],"job":"insert","ns":"a."}~job 0
+{"docs":[{}],"job":"insert","ns":null}~job 0
+{"batch":1,"docs":[{}],"job":"insert","ns":"a.b"}~job 0
+{"docs":[{},{"$x":1}],"job":"insert","ns":"a.b.c"}~taken
+{"calls":1,"job":"follow"}~job 0
+{"calls":1,"job":"follow","on":1}~job 0
+{"calls":1,"job":"follow","on":".b"}~job 0
+{"calls":1,"job":"follow","on":"a."}~job 0
+{"calls":1,"job":"follow","on":"."}~job 0
+{"job":"follow","on":"a.b"}~job 0
+{"calls":-1,"job":"follow","on":"a.b"}~job 0
+{"calls":1.0,"job":"follow","on":"a.b"}~job 0
+{"calls":1048577,"job":"follow","on":"a.b"}~job 0
+{"calls":4294967296,"job":"follow","on":"a.b"}~job 0
+{"batch":4294967296,"calls":1,"job":"follow","on":"a.b"}~job 0
+{"batch":null,"calls":1,"job":"follow","on":"a.b"}~job 0
+{"calls":1,"job":"follow","match":null,"on":"a.b"}~job 0
+{"calls":1,"job":"follow","match":[],"on":"a.b"}~job 0
+{"calls":1,"job":"follow","match":{"$int64":"1"},"on":"a.b"}~job 0
+{"calls":1,"job":"follow","match":{"a":{"$bytes":"0"}},"on":"a.b"}~job 0
+{"calls":1,"job":"follow","on":"a.b","start":null}~job 0
+{"calls":1,"job":"follow","on":"a.b","start":{}}~job 0
+{"calls":1,"job":"follow","on":"a.b","start":{"after":1}}~job 0
+{"calls":1,"job":"follow","on":"a.b","start":{"resumeAfter":1,"startAfter":1}}~job 0
+{"calls":1,"job":"follow","on":"a.b","start":{"resumeAfter":1.0}}~job 0
+{"calls":1,"job":"follow","on":"a.b","start":{"startAt":1}}~job 0
+{"calls":1,"job":"follow","on":"a.b","start":{"startAt":{"$timestamp":{"i":1}}}}~job 0
+{"calls":1,"job":"follow","on":"a.b","split":true}~job 0
+{"calls":1048576,"job":"follow","on":"a.b"}~taken
+{"batch":4294967295,"calls":0,"job":"follow","match":{"a":{"$in":[1]}},"on":"a.b.c","start":{"resumeAfter":null}}~taken
+{"calls":1,"job":"follow","on":"a"}~taken
+{"calls":1,"job":"follow","on":""}~taken
+{"calls":1,"job":"follow","on":"a.b","start":{"startAfter":{"_data":"0"}}}~taken
+{"calls":1,"job":"follow","on":"a.b","start":{"startAt":{"$timestamp":{"i":1,"t":1}}}}~taken
+{"chunk":4,"id":0,"job":"put","name":"f","pieces":[]}~job 0
+{"chunk":4,"db":"","id":0,"job":"put","name":"f","pieces":[]}~job 0
+{"chunk":4,"db":"a.b","id":0,"job":"put","name":"f","pieces":[]}~job 0
+{"bucket":null,"chunk":4,"db":"a","id":0,"job":"put","name":"f","pieces":[]}~job 0
+{"chunk":4,"db":"a","job":"put","name":"f","pieces":[]}~job 0
+{"chunk":4,"db":"a","id":1.0,"job":"put","name":"f","pieces":[]}~job 0
+{"chunk":4,"db":"a","id":0,"job":"put","pieces":[]}~job 0
+{"db":"a","id":0,"job":"put","name":"f","pieces":[]}~job 0
+{"chunk":4294967296,"db":"a","id":0,"job":"put","name":"f","pieces":[]}~job 0
+{"chunk":4,"db":"a","id":0,"job":"put","name":"f"}~job 0
+{"chunk":4,"db":"a","id":0,"job":"put","name":"f","pieces":"00"}~job 0
+{"chunk":4,"db":"a","id":0,"job":"put","name":"f","pieces":["00","0"]}~job 0
+{"chunk":4,"db":"a","id":0,"job":"put","name":"f","pieces":["0x"]}~job 0
+{"chunk":4,"db":"a","id":0,"job":"put","name":"f","pieces":[0]}~job 0
+{"chunk":4,"db":"a","id":0,"job":"put","name":"f","pieces":[],"read":1}~job 0
+{"bucket":"","chunk":0,"db":"a","id":null,"job":"put","name":"","pieces":["","aAfF"]}~not built
+{"db":"a","id":0,"job":"get"}~job 0
+{"db":"a","id":0,"job":"get","read":-1}~job 0
+{"db":"a.","id":0,"job":"get","read":1}~job 0
+{"db":"a","job":"get","read":1}~job 0
+{"db":"a","id":{"$oid":"0"},"job":"get","read":1}~job 0
+{"chunk":1,"db":"a","id":0,"job":"get","read":1}~job 0
+{"bucket":"b.c","db":"a","id":{"$date":1},"job":"get","read":4294967295}~not built"#;
 
-/// The second fate of a script, each behind the place of the script's fault.
-const FATES: &str = r#"fate 1~0
-fate 1~null
-fate 1~{"x":0}
-fate 1~{"pend":-1}
-fate 1~{"pend":4294967296}
-fate 1~{"pend":null}
-fate 1~{"kind":"kept"}
-fate 1~{"kind":null}
-fate 1~{"kind":1}
-fate 1~{"code":0}
-fate 1~{"labels":[]}
-fate 1~{"code":0,"kind":"keep"}
-fate 1~{"code":1,"kind":"lose"}
-fate 1~{"kind":"drop","labels":[]}
-fate 1~{"code":2147483648,"kind":"refuse"}
-fate 1~{"code":1.0,"kind":"refuse"}
-fate 1~{"code":null,"kind":"refuse"}
-fate 1~{"kind":"refuse","labels":null}
-fate 1~{"kind":"refuse","labels":"a"}
-fate 1~{"kind":"refuse","labels":["a",0]}
-taken~{"kind":"keep","pend":0}
-taken~{"pend":4294967295}
-taken~{"kind":"lose"}
-taken~{"kind":"drop","pend":0}
-taken~{"kind":"refuse"}
-taken~{"code":-2147483648,"kind":"refuse","labels":["a","a",""],"pend":1}"#;
+/// The second fate of a script, each with the place of the script's fault behind it.
+const FATES: &str = r#"0~fate 1
+null~fate 1
+{"x":0}~fate 1
+{"pend":-1}~fate 1
+{"pend":4294967296}~fate 1
+{"pend":null}~fate 1
+{"kind":"kept"}~fate 1
+{"kind":null}~fate 1
+{"kind":1}~fate 1
+{"code":0}~fate 1
+{"labels":[]}~fate 1
+{"code":0,"kind":"keep"}~fate 1
+{"code":1,"kind":"lose"}~fate 1
+{"kind":"drop","labels":[]}~fate 1
+{"code":2147483648,"kind":"refuse"}~fate 1
+{"code":1.0,"kind":"refuse"}~fate 1
+{"code":null,"kind":"refuse"}~fate 1
+{"kind":"refuse","labels":null}~fate 1
+{"kind":"refuse","labels":"a"}~fate 1
+{"kind":"refuse","labels":["a",0]}~fate 1
+{"kind":"keep","pend":0}~taken
+{"pend":4294967295}~taken
+{"kind":"lose"}~taken
+{"kind":"drop","pend":0}~taken
+{"kind":"refuse"}~taken
+{"code":-2147483648,"kind":"refuse","labels":["a","a",""],"pend":1}~taken"#;
 
 /// The place of the first fault of a script, or `taken` where it has none.
-fn place_of(alloc: Global, script: &str) -> Result<String, AllocError> {
+fn place_of(alloc: Global, script: &str) -> Result<String, Error> {
     match parse_script(alloc, script.as_bytes()) {
-        Ok(_) => String::from_str(alloc, "taken"),
-        Err(ScriptError::Fault(place)) => format!(in alloc; "{place}"),
-        Err(ScriptError::OutOfMemory) => Err(AllocError),
+        Ok(_) => Ok(String::from_str(alloc, "taken")?),
+        Err(ScriptError::Fault(place)) => Ok(format!(in alloc; "{place}")?),
+        Err(ScriptError::OutOfMemory) => Err(Error::from(AllocError)),
     }
 }
 
-/// Fails where the first fault of a script stands at another place.
-fn is_at(rt: &impl Abort, alloc: Global, script: &str, place: &str) -> Result<(), AllocError> {
-    let found = place_of(alloc, script)?;
-    expect(rt, script, found.as_str(), place);
-    Ok(())
+struct Scripts;
+
+impl Subject for Scripts {
+    fn found(alloc: Global, script: &str) -> Result<String, Error> {
+        place_of(alloc, script)
+    }
 }
 
-/// The same of the texts of a table, each between these.
-fn are_at(
-    rt: &impl Abort,
-    alloc: Global,
-    before: &str,
-    table: &str,
-    behind: &str,
-) -> Result<(), Fail> {
-    for line in table.lines() {
-        let Some((place, text)) = line.split_once('~') else {
-            return Err(Fail::from("line"));
-        };
-        let script = format!(in alloc; "{before}{text}{behind}")?;
-        is_at(rt, alloc, script.as_str(), place)?;
+struct Jobs;
+
+impl Subject for Jobs {
+    fn found(alloc: Global, job: &str) -> Result<String, Error> {
+        let before = "{\"jobs\":[";
+        let behind = "],\"order\":[]}";
+        place_of(alloc, format!(in alloc; "{before}{job}{behind}")?.as_str())
     }
-    Ok(())
+}
+
+struct Fates;
+
+impl Subject for Fates {
+    fn found(alloc: Global, fate: &str) -> Result<String, Error> {
+        let before = "{\"fates\":[{},";
+        let behind = "],\"jobs\":[],\"order\":[]}";
+        place_of(alloc, format!(in alloc; "{before}{fate}{behind}")?.as_str())
+    }
 }
 
 #[test]
 fn places(rt: HostRuntime) -> Result<(), Fail> {
-    let alloc = rt.alloc();
-    are_at(&rt, alloc, "", SCRIPTS, "")?;
-    are_at(&rt, alloc, "{\"jobs\":[", JOBS, "],\"order\":[]}")?;
-    let behind = "],\"jobs\":[],\"order\":[]}";
-    are_at(&rt, alloc, "{\"fates\":[{},", FATES, behind)
+    are_found::<Scripts>(&rt, rt.alloc(), "~", SCRIPTS)?;
+    are_found::<Jobs>(&rt, rt.alloc(), "~", JOBS)?;
+    are_found::<Fates>(&rt, rt.alloc(), "~", FATES)
 }
 
-/// The place of the first fault of a script with an entry that holds so many arrays, one in the other. It is no job, which is
-/// found where the text is JSON. Three brackets stand around the arrays.
-fn place_of_nested(alloc: Global, levels: u32) -> Result<String, AllocError> {
-    let end = repeated(alloc, "", "]", levels, "}],\"order\":[]}")?;
-    let script = repeated(alloc, "{\"jobs\":[{\"a\":", "[", levels, end.as_str())?;
-    place_of(alloc, script.as_str())
-}
+/// So many arrays, one in the other, or so many entries before the last, in a script, and the place of its first fault. None is
+/// a job, which is found where the text is JSON and its list not too long. Three brackets stand around the arrays.
+const LARGE: &str = "levels 124 -> job 0
+levels 125 -> not json
+entries 65535 -> job 0
+entries 65536 -> top";
 
-/// The same of one with so many entries before the last. None is a job, which is found where its list is not too long.
-fn place_of_many(alloc: Global, entries: u32) -> Result<String, AllocError> {
-    let script = repeated(alloc, "{\"jobs\":[", "0,", entries, "0],\"order\":[]}")?;
-    place_of(alloc, script.as_str())
+struct Large;
+
+impl Subject for Large {
+    fn found(alloc: Global, line: &str) -> Result<String, Error> {
+        let (what, times) = parted(line);
+        let times = times.parse::<u32>().unwrap_or(0);
+        let script = if what == "levels" {
+            let end = repeated(alloc, "", "]", times, "}],\"order\":[]}")?;
+            repeated(alloc, "{\"jobs\":[{\"a\":", "[", times, end.as_str())?
+        } else {
+            repeated(alloc, "{\"jobs\":[", "0,", times, "0],\"order\":[]}")?
+        };
+        place_of(alloc, script.as_str())
+    }
 }
 
 #[test]
-fn nesting(rt: HostRuntime) -> Result<(), Fail> {
-    let found = place_of_nested(rt.alloc(), 124)?;
-    expect(&rt, "124 levels", found.as_str(), "job 0");
-    let found = place_of_nested(rt.alloc(), 125)?;
-    expect(&rt, "125 levels", found.as_str(), "not json");
-    Ok(())
-}
-
-#[test]
-fn counts(rt: HostRuntime) -> Result<(), Fail> {
-    let found = place_of_many(rt.alloc(), 65_535)?;
-    expect(&rt, "65,536 jobs", found.as_str(), "job 0");
-    let found = place_of_many(rt.alloc(), 65_536)?;
-    expect(&rt, "65,537 jobs", found.as_str(), "top");
-    Ok(())
+fn large_scripts(rt: HostRuntime) -> Result<(), Fail> {
+    are_found::<Large>(&rt, rt.alloc(), " -> ", LARGE)
 }

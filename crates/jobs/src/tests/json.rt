@@ -1,6 +1,7 @@
-use super::parted;
+use super::{Subject, are_found, bytes_at};
 use mg_bson::RawDocumentBuf;
 use mg_jobs::json_text;
+use mg_link::Error;
 use std::alloc::Global;
 use std::test::Fail;
 
@@ -28,23 +29,20 @@ const VALUES: &str = r#"10000000017800000000000000f03f00 {"$double":"00000000000
 2d000000047800250000000a30000331001a000000106200010000001061000200000010610003000000000000 [null,{"a":3,"b":1}]
 2e0000000f78002600000004000000662829001a0000001062000100000010610002000000106100030000000000 {"$codeScope":{"code":"f()","scope":{"a":3,"b":1}}}"#;
 
-/// The JSON of the value of the name `x`.
-fn json_of_x(alloc: Global, bytes: Vec<u8>) -> Result<String, Fail> {
-    let raw = RawDocumentBuf::from_bytes(bytes)?;
-    let Some(value) = raw.as_raw().get("x") else {
-        return Err(Fail::from("no value"));
-    };
-    let value = value.to_value(alloc)?;
-    Ok(json_text(alloc, &value)?)
+/// The JSON of the value of the name `x` of a document.
+struct Values;
+
+impl Subject for Values {
+    fn found(alloc: Global, digits: &str) -> Result<String, Error> {
+        let raw = RawDocumentBuf::from_bytes(bytes_at(alloc, digits)?)?;
+        match raw.as_raw().get("x") {
+            Some(value) => json_text(alloc, &value.to_value(alloc)?),
+            None => Ok(String::new(alloc)),
+        }
+    }
 }
 
 #[test]
 fn values_as_json(rt: HostRuntime) -> Result<(), Fail> {
-    let alloc = rt.alloc();
-    for line in VALUES.lines() {
-        let (bytes, wanted) = parted(line);
-        let found = json_of_x(alloc, hex::decode(alloc, bytes)?)?;
-        assert_eq!(rt; found.as_str(), wanted);
-    }
-    Ok(())
+    are_found::<Values>(&rt, rt.alloc(), " ", VALUES)
 }

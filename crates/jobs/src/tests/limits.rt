@@ -1,4 +1,6 @@
-use super::{expect, json_value, one_field, repeated, text, with, with_text};
+use super::{
+    Subject, are_found, expect, json_value, one_field, parted, repeated, text, with, with_text,
+};
 use mg_bson::{Array, Bson, BsonError, Document, RawDocument, to_bytes};
 use mg_link::{Error, Namespace};
 use mg_store::Store;
@@ -25,15 +27,24 @@ fn all_padded(alloc: Global, count: i32, bytes: u32) -> Result<Array, BsonError>
     Ok(documents)
 }
 
-// A command of this name to a collection.
-fn command_of(alloc: Global, name: &str, coll: &str) -> Result<Document, BsonError> {
+// A command of this name to a collection, with a field more.
+fn command_with(
+    alloc: Global,
+    name: &str,
+    coll: &str,
+    field: &str,
+    value: Bson,
+) -> Result<Document, BsonError> {
     let command = one_field(alloc, name, text(alloc, coll)?)?;
-    with_text(alloc, command, "$db", "app")
+    let command = with_text(alloc, command, "$db", "app")?;
+    with(command, field, value)
 }
 
-fn insert_of(alloc: Global, coll: &str, documents: Array) -> Result<Document, BsonError> {
-    let command = command_of(alloc, "insert", coll)?;
-    with(command, "documents", Bson::Array(documents))
+// A list of this document alone.
+fn only(alloc: Global, document: Document) -> Result<Bson, BsonError> {
+    let mut list = Array::new(alloc);
+    list.push(Bson::Document(document))?;
+    Ok(Bson::Array(list))
 }
 
 // How many items the array of this name has.
@@ -75,24 +86,13 @@ fn answer_to(alloc: Global, store: &mut Store, command: &Document) -> Result<Str
     Ok(told(alloc, &receipt.reply.as_raw())?)
 }
 
-fn more_of(alloc: Global) -> Result<Document, BsonError> {
-    let command = one_field(alloc, "getMore", Bson::Int64(1))?;
-    let command = with_text(alloc, command, "collection", "c")?;
-    with_text(alloc, command, "$db", "app")
-}
-
-fn find_of(alloc: Global) -> Result<Document, BsonError> {
-    let command = command_of(alloc, "find", "c")?;
-    with(command, "filter", Bson::Document(Document::new(alloc)))
-}
-
 // The stages of a watch from the first change on.
 const WATCH: &str = r#"[{"$changeStream":{"startAtOperationTime":{"$timestamp":{"i":1,"t":1}}}}]"#;
 
 // An aggregate that watches a collection from its first change on.
 fn watch_of(alloc: Global, coll: &str) -> Result<Document, Error> {
-    let command = command_of(alloc, "aggregate", coll)?;
-    let command = with(command, "pipeline", json_value(alloc, WATCH)?)?;
+    let stages = json_value(alloc, WATCH)?;
+    let command = command_with(alloc, "aggregate", coll, "pipeline", stages)?;
     Ok(with(command, "cursor", Bson::Document(Document::new(alloc)))?)
 }
 
@@ -106,7 +106,10 @@ fn named_command(
 ) -> Result<Document, Error> {
     let coll = repeated(alloc, "", "c", coll_bytes, "")?;
     let mut command = match name {
-        "insert" => insert_of(alloc, coll.as_str(), all_padded(alloc, 1, 22)?)?,
+        "insert" => {
+            let documents = Bson::Array(all_padded(alloc, 1, 22)?);
+            command_with(alloc, "insert", coll.as_str(), "documents", documents)?
+        }
         "watch" => watch_of(alloc, coll.as_str())?,
         _ => one_field(alloc, "listCollections", Bson::Int32(1))?,
     };
@@ -115,32 +118,41 @@ fn named_command(
     Ok(command)
 }
 
-const NAMES: [(&str, u32, u32, &str); 8] = [
-    ("insert", 3, 65536, "done"),
-    ("insert", 3, 65537, "refused 9"),
-    ("insert", 65536, 1, "done"),
-    ("insert", 65537, 1, "refused 9"),
-    ("watch", 65536, 65536, "0"),
-    ("watch", 65536, 65537, "refused 9"),
-    ("list", 65536, 0, "0"),
-    ("list", 65537, 0, "refused 9"),
-];
+/// Each line is a command, how many bytes the names of its database and its collection have, and what it is answered.
+const NAMES: &str = "insert 3 65536 -> done
+insert 3 65537 -> refused 9
+insert 65536 1 -> done
+insert 65537 1 -> refused 9
+watch 65536 65536 -> 0
+watch 65536 65537 -> refused 9
+list 65536 0 -> 0
+list 65537 0 -> refused 9";
+
+// The number that digits say.
+fn number_of(digits: &str) -> u32 {
+    digits.parse::<u32>().unwrap_or(0)
+}
+
+struct Names;
+
+impl Subject for Names {
+    fn found(alloc: Global, line: &str) -> Result<String, Error> {
+        let (name, sizes) = parted(line);
+        let (db, coll) = parted(sizes);
+        let command = named_command(alloc, name, number_of(db), number_of(coll))?;
+        answer_to(alloc, &mut Store::new(alloc), &command)
+    }
+}
 
 #[test]
 fn names_have_65536_bytes_at_most(rt: HostRuntime) -> Result<(), Fail> {
-    let alloc = rt.alloc();
-    for (name, db_bytes, coll_bytes, wanted) in NAMES {
-        let command = named_command(alloc, name, db_bytes, coll_bytes)?;
-        let mut store = Store::new(alloc);
-        let found = answer_to(alloc, &mut store, &command)?;
-        expect(&rt, name, found.as_str(), wanted);
-    }
-    Ok(())
+    are_found::<Names>(&rt, rt.alloc(), " -> ", NAMES)
 }
 
 // A store of so many documents of so many bytes.
 fn filled(alloc: Global, count: i32, bytes: u32) -> Result<Store, Error> {
-    let insert = insert_of(alloc, "c", all_padded(alloc, count, bytes)?)?;
+    let documents = Bson::Array(all_padded(alloc, count, bytes)?);
+    let insert = command_with(alloc, "insert", "c", "documents", documents)?;
     let mut store = Store::new(alloc);
     let _done = answer_to(alloc, &mut store, &insert)?;
     Ok(store)
@@ -149,10 +161,15 @@ fn filled(alloc: Global, count: i32, bytes: u32) -> Result<Store, Error> {
 // How many of so many documents of so many bytes, or of the events of their inserts, each of three batches has.
 fn batches(alloc: Global, name: &str, count: i32, bytes: u32) -> Result<String, Error> {
     let opening = match name {
-        "find" => find_of(alloc)?,
+        "find" => {
+            let filter = Bson::Document(Document::new(alloc));
+            command_with(alloc, "find", "c", "filter", filter)?
+        }
         _ => watch_of(alloc, "c")?,
     };
-    let more = more_of(alloc)?;
+    let more = one_field(alloc, "getMore", Bson::Int64(1))?;
+    let more = with_text(alloc, more, "collection", "c")?;
+    let more = with_text(alloc, more, "$db", "app")?;
     let mut store = filled(alloc, count, bytes)?;
     let first = answer_to(alloc, &mut store, &opening)?;
     let second = answer_to(alloc, &mut store, &more)?;
@@ -162,25 +179,29 @@ fn batches(alloc: Global, name: &str, count: i32, bytes: u32) -> Result<String, 
 
 // Some fit a batch just where they have 16,777,216 bytes together; one fits always, and 101 are the most where no size is
 // asked for. An event has 164 bytes beside its document.
-const BATCHES: [(&str, i32, u32, &str); 8] = [
-    ("find", 4, 8388608, "2 2 refused 43"),
-    ("find", 3, 8388609, "1 1 1"),
-    ("find", 2, 16777216, "1 1 refused 43"),
-    ("find", 203, 22, "101 101 1"),
-    ("watch", 4, 8388444, "2 2 0"),
-    ("watch", 3, 8388445, "1 1 1"),
-    ("watch", 2, 16777216, "1 1 0"),
-    ("watch", 203, 22, "101 101 1"),
-];
+const BATCHES: &str = "find 4 8388608 -> 2 2 refused 43
+find 3 8388609 -> 1 1 1
+find 2 16777216 -> 1 1 refused 43
+find 203 22 -> 101 101 1
+watch 4 8388444 -> 2 2 0
+watch 3 8388445 -> 1 1 1
+watch 2 16777216 -> 1 1 0
+watch 203 22 -> 101 101 1";
+
+struct Batches;
+
+impl Subject for Batches {
+    fn found(alloc: Global, line: &str) -> Result<String, Error> {
+        let (name, sizes) = parted(line);
+        let (count, bytes) = parted(sizes);
+        let count = count.parse::<i32>().unwrap_or(0);
+        batches(alloc, name, count, number_of(bytes))
+    }
+}
 
 #[test]
 fn batches_are_cut(rt: HostRuntime) -> Result<(), Fail> {
-    let alloc = rt.alloc();
-    for (name, count, bytes, wanted) in BATCHES {
-        let found = batches(alloc, name, count, bytes)?;
-        expect(&rt, name, found.as_str(), wanted);
-    }
-    Ok(())
+    are_found::<Batches>(&rt, rt.alloc(), " -> ", BATCHES)
 }
 
 // A command that kills the cursors with the first so many ids.
@@ -189,29 +210,32 @@ fn kill_of(alloc: Global, count: i32) -> Result<Document, BsonError> {
     for id in 0..count {
         ids.push(Bson::Int32(id))?;
     }
-    let command = command_of(alloc, "killCursors", "c")?;
-    with(command, "cursors", Bson::Array(ids))
+    command_with(alloc, "killCursors", "c", "cursors", Bson::Array(ids))
 }
 
-// What the command is answered where so many of those cursors are open.
-fn killed(alloc: Global, open: i32, count: i32) -> Result<String, Error> {
-    let mut store = Store::new(alloc);
-    let watch = watch_of(alloc, "c")?;
-    for _ in 0..open {
-        let _opened = answer_to(alloc, &mut store, &watch)?;
+/// The reply lists each id in 64 bits, those of open cursors apart: so with so many open cursors and so many ids it has
+/// 47,000,000 bytes, and one more.
+const KILLED: &str = "16 2830065 -> done
+26 2830068 -> refused 9";
+
+struct Killed;
+
+impl Subject for Killed {
+    fn found(alloc: Global, line: &str) -> Result<String, Error> {
+        let (open, count) = parted(line);
+        let count = count.parse::<i32>().unwrap_or(0);
+        let mut store = Store::new(alloc);
+        let watch = watch_of(alloc, "c")?;
+        for _ in 0..number_of(open) {
+            let _opened = answer_to(alloc, &mut store, &watch)?;
+        }
+        answer_to(alloc, &mut store, &kill_of(alloc, count)?)
     }
-    answer_to(alloc, &mut store, &kill_of(alloc, count)?)
 }
 
-// The reply lists each id in 64 bits, those of open cursors apart: so it has 47,000,000 bytes, and one more.
 #[test]
 fn replies_have_47_million_bytes_at_most(rt: HostRuntime) -> Result<(), Fail> {
-    let alloc = rt.alloc();
-    for (open, count, wanted) in [(16, 2830065, "done"), (26, 2830068, "refused 9")] {
-        let found = killed(alloc, open, count)?;
-        expect(&rt, "a reply", found.as_str(), wanted);
-    }
-    Ok(())
+    are_found::<Killed>(&rt, rt.alloc(), " -> ", KILLED)
 }
 
 // A document of so many levels.
@@ -223,19 +247,11 @@ fn deep(alloc: Global, levels: u32) -> Result<Document, BsonError> {
     Ok(document)
 }
 
-// A document of so many levels with an `_id`, which no other has of these.
-fn deep_with_id(alloc: Global, levels: u32) -> Result<Document, BsonError> {
-    with(deep(alloc, levels)?, "_id", Bson::Int64(i64::from(levels)))
-}
-
 // An update of the first document by this modification.
 fn update_of(alloc: Global, modification: Document) -> Result<Document, BsonError> {
     let update = one_field(alloc, "q", Bson::Document(Document::new(alloc)))?;
     let update = with(update, "u", Bson::Document(modification))?;
-    let mut updates = Array::new(alloc);
-    updates.push(Bson::Document(update))?;
-    let command = command_of(alloc, "update", "c")?;
-    with(command, "updates", Bson::Array(updates))
+    command_with(alloc, "update", "c", "updates", only(alloc, update)?)
 }
 
 // An update that sets one field.
@@ -247,19 +263,15 @@ fn set_of(alloc: Global, name: &str, value: Bson) -> Result<Document, BsonError>
 fn index_of(alloc: Global, key: Document, name: String) -> Result<Document, BsonError> {
     let index = one_field(alloc, "key", Bson::Document(key))?;
     let index = with(index, "name", Bson::String(name))?;
-    let mut indexes = Array::new(alloc);
-    indexes.push(Bson::Document(index))?;
-    let command = command_of(alloc, "createIndexes", "c")?;
-    with(command, "indexes", Bson::Array(indexes))
+    command_with(alloc, "createIndexes", "c", "indexes", only(alloc, index)?)
 }
 
 // A command whose document, modification or key has so many levels.
 fn deep_command(alloc: Global, name: &str, levels: u32) -> Result<Document, BsonError> {
     match name {
         "insert" => {
-            let mut documents = Array::new(alloc);
-            documents.push(Bson::Document(deep_with_id(alloc, levels)?))?;
-            insert_of(alloc, "c", documents)
+            let document = with(deep(alloc, levels)?, "_id", Bson::Int64(i64::from(levels)))?;
+            command_with(alloc, "insert", "c", "documents", only(alloc, document)?)
         }
         "replace" => update_of(alloc, deep(alloc, levels)?),
         "set" => set_of(alloc, "d", Bson::Document(deep(alloc, levels)?)),
@@ -273,43 +285,52 @@ fn deep_command(alloc: Global, name: &str, levels: u32) -> Result<Document, Bson
 
 // An event that a document stands in is one level deeper than it, one that tells of set fields three deeper than their
 // values, and a list of indexes one deeper than their keys. The deepest of each kind makes a command of 100 levels.
-const LEVELS: [(&str, u32, &str); 12] = [
-    ("insert", 98, "a write error"),
-    ("insert", 97, "a write error"),
-    ("insert", 96, "done"),
-    ("insert", 90, "done"),
-    ("replace", 97, "refused 9"),
-    ("replace", 96, "done"),
-    ("replace", 90, "done"),
-    ("set", 95, "refused 9"),
-    ("set", 94, "done"),
-    ("set", 90, "done"),
-    ("index", 97, "refused 9"),
-    ("index", 96, "done"),
-];
+const LEVELS: &str = "insert 98 -> a write error
+insert 97 -> a write error
+insert 96 -> done
+insert 90 -> done
+replace 97 -> refused 9
+replace 96 -> done
+replace 90 -> done
+set 95 -> refused 9
+set 94 -> done
+set 90 -> done
+index 97 -> refused 9
+index 96 -> done";
+
+struct Levels;
+
+impl Subject for Levels {
+    // A command to a store of one document.
+    fn found(alloc: Global, line: &str) -> Result<String, Error> {
+        let (name, levels) = parted(line);
+        let command = deep_command(alloc, name, number_of(levels))?;
+        answer_to(alloc, &mut filled(alloc, 1, 22)?, &command)
+    }
+}
 
 #[test]
 fn levels_of_what_is_stored(rt: HostRuntime) -> Result<(), Fail> {
-    let alloc = rt.alloc();
-    let mut store = Store::new(alloc);
-    for (name, levels, wanted) in LEVELS {
-        let found = answer_to(alloc, &mut store, &deep_command(alloc, name, levels)?)?;
-        expect(&rt, name, found.as_str(), wanted);
-    }
-    Ok(())
+    are_found::<Levels>(&rt, rt.alloc(), " -> ", LEVELS)
 }
 
 // A command that makes a document or an index of so many bytes, or the collection.
 fn sized_command(alloc: Global, name: &str, bytes: u32) -> Result<Document, BsonError> {
     match name {
-        "insert" => insert_of(alloc, "c", all_padded(alloc, 1, bytes)?),
+        "insert" => {
+            let document = padded(alloc, 0, bytes)?;
+            command_with(alloc, "insert", "c", "documents", only(alloc, document)?)
+        }
         "replace" => update_of(alloc, padded(alloc, 0, bytes)?),
         "set" => set_of(alloc, "p", Bson::String(padding(alloc, bytes, 22)?)),
         "index" => {
             let key = one_field(alloc, "a", Bson::Int32(1))?;
             index_of(alloc, key, padding(alloc, bytes, 40)?)
         }
-        _ => command_of(alloc, "create", "c"),
+        _ => {
+            let command = one_field(alloc, "create", text(alloc, "c")?)?;
+            with_text(alloc, command, "$db", "app")
+        }
     }
 }
 

@@ -1,10 +1,10 @@
-use super::{expect, parted};
+use super::{Subject, are_found, parted};
 use mg_bson::{Bson, BsonError, Document, ObjectId, to_bytes};
 use mg_link::{
     BadArgument, CommandError, CountedIds, Error, ErrorKind, GridFsErrorKind, GridFsFileIdentifier,
     IdSource, IndexedFailure, InputError, Labels, Log, LoggedCall, Malformed, MemSink, MemSource,
-    Mismatch, Namespace, OperationTarget, OutOfMemory, Receipt, Seen, Sink, Source, StdSink,
-    StdSource, WriteFailed, WriteFailure, plain, read_all, write_all,
+    Mismatch, Namespace, OperationTarget, Receipt, Seen, Sink, Source, StdSink, StdSource,
+    WriteFailed, WriteFailure, plain, read_all, write_all,
 };
 use std::alloc::{AllocError, Global};
 use std::test::Fail;
@@ -31,15 +31,23 @@ fn write_thrice(alloc: Global) -> Result<String, AllocError> {
     format!(in alloc; "{first:?} {second:?} {third:?} {:?}", sink.bytes())
 }
 
+const ENDS: &str = "reads~Ok(2) true Some([108, 108, 111])
+writes~Ok(()) Err(WriteFailed) Ok(()) [104, 101, 108, 108, 111, 33]";
+
+struct Ends;
+
+impl Subject for Ends {
+    fn found(alloc: Global, about: &str) -> Result<String, Error> {
+        match about {
+            "reads" => Ok(read_thrice(alloc)?),
+            _ => Ok(write_thrice(alloc)?),
+        }
+    }
+}
+
 #[test]
 fn ends_over_memory(rt: HostRuntime) -> Result<(), Fail> {
-    let read = read_thrice(rt.alloc())?;
-    let wanted = "Ok(2) true Some([108, 108, 111])";
-    expect(&rt, "reads", read.as_str(), wanted);
-    let written = write_thrice(rt.alloc())?;
-    let wanted = "Ok(()) Err(WriteFailed) Ok(()) [104, 101, 108, 108, 111, 33]";
-    expect(&rt, "writes", written.as_str(), wanted);
-    Ok(())
+    are_found::<Ends>(&rt, rt.alloc(), "~", ENDS)
 }
 
 #[test]
@@ -56,15 +64,6 @@ fn ends_over_slices(rt: HostRuntime) -> Result<(), Fail> {
     assert_eq!(rt; write_all(&mut sink, b"hi"), Ok(()));
     assert_eq!(rt; write_all(&mut sink, b"you"), Err(WriteFailed));
     Ok(())
-}
-
-fn text_of(alloc: Global, kind: ErrorKind) -> Result<String, AllocError> {
-    let error = Error {
-        kind,
-        labels: Labels::none(),
-        wire_version: None,
-    };
-    format!(in alloc; "{error}")
 }
 
 // Each line is a kind of error, and what it prints as.
@@ -117,41 +116,6 @@ fn plain_kind(name: &str) -> ErrorKind {
     }
 }
 
-fn refused(alloc: Global) -> Result<ErrorKind, BsonError> {
-    let code_name = String::from_str(alloc, "NotWritablePrimary")?;
-    let message = String::from_str(alloc, "not master")?;
-    Ok(ErrorKind::Command(CommandError {
-        code: 10107,
-        code_name,
-        message,
-    }))
-}
-
-fn not_written(alloc: Global) -> Result<ErrorKind, BsonError> {
-    let message = String::from_str(alloc, "not master")?;
-    Ok(ErrorKind::Write(WriteFailure { code: 9, message }))
-}
-
-fn not_inserted(alloc: Global) -> Result<ErrorKind, BsonError> {
-    let message = String::from_str(alloc, "not master")?;
-    let failure = IndexedFailure {
-        index: 1,
-        code: 9,
-        message,
-    };
-    Ok(ErrorKind::InsertMany(vec![in alloc; failure]?))
-}
-
-fn no_file_named(alloc: Global) -> Result<ErrorKind, BsonError> {
-    let name = GridFsFileIdentifier::Filename(String::from_str(alloc, "f")?);
-    Ok(ErrorKind::GridFs(GridFsErrorKind::FileNotFound(name)))
-}
-
-fn no_file_with_id() -> ErrorKind {
-    let id = GridFsFileIdentifier::Id(Bson::Int32(7));
-    ErrorKind::GridFs(GridFsErrorKind::FileNotFound(id))
-}
-
 // An upload that was aborted, or that failed, and the link failed while its chunks were to be removed.
 fn chunks_left(alloc: Global, has_failed: bool) -> Result<ErrorKind, AllocError> {
     let delete = Box::new(alloc, plain(ErrorKind::Io))?;
@@ -180,30 +144,60 @@ fn mismatched(alloc: Global) -> Result<ErrorKind, BsonError> {
     Ok(ErrorKind::ReceiptMismatch(Box::new(alloc, mismatch)?))
 }
 
+fn text(alloc: Global) -> Result<String, AllocError> {
+    String::from_str(alloc, "not master")
+}
+
+fn refused(alloc: Global) -> Result<ErrorKind, AllocError> {
+    Ok(ErrorKind::Command(CommandError {
+        code: 10107,
+        code_name: String::from_str(alloc, "NotWritablePrimary")?,
+        message: text(alloc)?,
+    }))
+}
+
 // The kind of this name.
 fn kind_of(alloc: Global, name: &str) -> Result<ErrorKind, BsonError> {
-    match name {
-        "refused" => refused(alloc),
-        "unwritten" => not_written(alloc),
-        "uninserted" => not_inserted(alloc),
-        "id" => Ok(no_file_with_id()),
-        "name" => no_file_named(alloc),
-        "mismatch" => mismatched(alloc),
-        "aborted" => Ok(chunks_left(alloc, false)?),
-        "failed" => Ok(chunks_left(alloc, true)?),
-        _ => Ok(plain_kind(name)),
+    Ok(match name {
+        "refused" => refused(alloc)?,
+        "unwritten" => ErrorKind::Write(WriteFailure {
+            code: 9,
+            message: text(alloc)?,
+        }),
+        "uninserted" => ErrorKind::InsertMany(vec![in alloc;
+            IndexedFailure {
+                index: 1,
+                code: 9,
+                message: text(alloc)?
+            },
+        ]?),
+        "id" => {
+            let id = GridFsFileIdentifier::Id(Bson::Int32(7));
+            ErrorKind::GridFs(GridFsErrorKind::FileNotFound(id))
+        }
+        "name" => {
+            let name = GridFsFileIdentifier::Filename(String::from_str(alloc, "f")?);
+            ErrorKind::GridFs(GridFsErrorKind::FileNotFound(name))
+        }
+        "mismatch" => mismatched(alloc)?,
+        "aborted" => chunks_left(alloc, false)?,
+        "failed" => chunks_left(alloc, true)?,
+        _ => plain_kind(name),
+    })
+}
+
+struct Errors;
+
+impl Subject for Errors {
+    fn found(alloc: Global, name: &str) -> Result<String, Error> {
+        let error = plain(kind_of(alloc, name)?);
+        Ok(format!(in alloc; "{error}")?)
     }
 }
 
 #[test]
 fn texts_of_errors(rt: HostRuntime) -> Result<(), Fail> {
-    let alloc = rt.alloc();
-    for line in ERRORS.lines() {
-        let (name, wanted) = parted(line);
-        let printed = text_of(alloc, kind_of(alloc, name)?)?;
-        expect(&rt, name, printed.as_str(), wanted);
-    }
-    Ok(())
+    are_found::<Errors>(&rt, rt.alloc(), " ", ERRORS)
 }
 
 // Whether a change stream goes on after a refusal.
@@ -223,23 +217,29 @@ fn goes_on(alloc: Global, code: i32, label: &str, wire: i32) -> Result<bool, All
     Ok(error.is_resumable())
 }
 
+/// Each line is a code and a label, and whether a stream goes on below wire version 9 and from it on.
+const RESUMABLE: &str = "43 - -> true true
+63 - -> true false
+91 - -> true false
+134 - -> false false
+0 ResumableChangeStreamError -> false true
+91 RetryableWriteError -> true false";
+
+struct Resumable;
+
+impl Subject for Resumable {
+    fn found(alloc: Global, line: &str) -> Result<String, Error> {
+        let (code, label) = parted(line);
+        let code = code.parse::<i32>().unwrap_or(0);
+        let below = goes_on(alloc, code, label, 8)?;
+        let from = goes_on(alloc, code, label, 9)?;
+        Ok(format!(in alloc; "{below} {from}")?)
+    }
+}
+
 #[test]
 fn resumable_refusals(rt: HostRuntime) -> Result<(), Fail> {
-    // code, label, below wire version 9, from it on
-    let cases = [
-        (43, "", true, true),
-        (63, "", true, false),
-        (91, "", true, false),
-        (134, "", false, false),
-        (0, "ResumableChangeStreamError", false, true),
-        (91, "RetryableWriteError", true, false),
-    ];
-    for (code, label, old, new) in cases {
-        let below = goes_on(rt.alloc(), code, label, 8)?;
-        let from = goes_on(rt.alloc(), code, label, 9)?;
-        assert_eq!(rt; (below, from), (old, new), "{code}");
-    }
-    Ok(())
+    are_found::<Resumable>(&rt, rt.alloc(), " -> ", RESUMABLE)
 }
 
 #[test]
@@ -267,41 +267,31 @@ fn chunks_that_are_left(rt: HostRuntime) -> Result<(), Fail> {
     Ok(())
 }
 
-// The parts of a name, and what a copy prints as.
-fn copied(alloc: Global, name: &Namespace) -> Result<String, AllocError> {
-    let copy = name.clone()?;
-    format!(in alloc; "{} {} {copy}", name.db, name.coll)
-}
+/// Texts, and the parts of the names that they are, with what a copy prints as.
+const NAMES: &str = "app.fs.files~app fs.files app.fs.files true
+~none
+app~none
+.c~none
+app.~none
+.~none";
 
-fn is_as_its_copy(target: &OperationTarget) -> Result<bool, AllocError> {
-    let copy = target.clone()?;
-    Ok(copy == *target)
+struct Names;
+
+impl Subject for Names {
+    fn found(alloc: Global, text: &str) -> Result<String, Error> {
+        let Some(name) = Namespace::from_str(alloc, text)? else {
+            return Ok(String::from_str(alloc, "none")?);
+        };
+        let copy = name.clone()?;
+        let target = OperationTarget::Collection(copy.clone()?);
+        let is_same = target.clone()? == target;
+        Ok(format!(in alloc; "{} {} {copy} {is_same}", name.db, name.coll)?)
+    }
 }
 
 #[test]
 fn names(rt: HostRuntime) -> Result<(), Fail> {
-    let Some(name) = Namespace::from_str(rt.alloc(), "app.fs.files")? else {
-        return Err(Fail::from("it is a name"));
-    };
-    let found = copied(rt.alloc(), &name)?;
-    expect(&rt, "name", found.as_str(), "app fs.files app.fs.files");
-    let is_same = is_as_its_copy(&OperationTarget::Collection(name))?;
-    assert!(rt; is_same);
-    Ok(())
-}
-
-fn is_name(alloc: Global, text: &str) -> Result<bool, OutOfMemory> {
-    let name = Namespace::from_str(alloc, text)?;
-    Ok(name.is_some())
-}
-
-#[test]
-fn texts_that_are_no_names(rt: HostRuntime) -> Result<(), Fail> {
-    for text in ["", "app", ".c", "app.", "."] {
-        let is_name = is_name(rt.alloc(), text)?;
-        assert!(rt; !is_name, "{text}");
-    }
-    Ok(())
+    are_found::<Names>(&rt, rt.alloc(), "~", NAMES)
 }
 
 #[test]

@@ -1,5 +1,6 @@
-use super::{expect, parted};
+use super::{Subject, are_found, bytes_at};
 use mg_bson::{BsonError, RawDocumentBuf, RawDocuments};
+use mg_link::Error;
 use std::alloc::Global;
 use std::test::Fail;
 
@@ -36,17 +37,19 @@ fn walked(alloc: Global, documents: RawDocuments) -> Result<String, BsonError> {
     Ok(text)
 }
 
+struct Walks;
+
+impl Subject for Walks {
+    fn found(alloc: Global, digits: &str) -> Result<String, Error> {
+        let reply = RawDocumentBuf::from_bytes(bytes_at(alloc, digits)?)?;
+        match RawDocuments::new(reply, "a", "b") {
+            Some(documents) => Ok(walked(alloc, documents)?),
+            None => Ok(String::from_str(alloc, "none")?),
+        }
+    }
+}
+
 #[test]
 fn documents_of_a_reply(rt: HostRuntime) -> Result<(), Fail> {
-    let alloc = rt.alloc();
-    for line in WALKS.lines() {
-        let (digits, wanted) = parted(line);
-        let reply = RawDocumentBuf::from_bytes(hex::decode(alloc, digits)?)?;
-        let found = match RawDocuments::new(reply, "a", "b") {
-            Some(documents) => walked(alloc, documents)?,
-            None => String::from_str(alloc, "none")?,
-        };
-        expect(&rt, digits, found.as_str(), wanted);
-    }
-    Ok(())
+    are_found::<Walks>(&rt, rt.alloc(), " ", WALKS)
 }
