@@ -1,10 +1,12 @@
-use super::records::{is_shown, keys};
+use super::records::{keys, shown};
 use super::sessions::session_of;
-use super::{namespace, one_field, parted, text, with};
+use super::{
+    Subject, are_found, collection, find, namespace, one_field, parted, records, text, with,
+};
 use mg_bson::{Bson, Document, to_document};
 use mg_link::{
-    ClientSession, Error, Namespace, OperationTarget, ReadConcern, ReadConcernLevel,
-    ReadPreference, SelectionCriteria, WriteConcern,
+    ClientSession, Error, OperationTarget, ReadConcern, ReadConcernLevel, ReadPreference,
+    SelectionCriteria, WriteConcern,
 };
 use mg_ops::{
     Aggregate, ChangeStreamAggregate, Create, CreateIndexes, Delete, DropCollection, Find, GetMore,
@@ -12,57 +14,55 @@ use mg_ops::{
     RunCursorCommand, Update, WatchArgs,
 };
 use mg_options::{
-    AggregateOptions, ChangeStreamOptions, Collation, CreateIndexOptions, CursorType,
-    DeleteOptions, DropCollectionOptions, FindOptions, Hint, InsertManyOptions,
-    ListCollectionsOptions, ListIndexesOptions, RunCommandOptions, RunCursorCommandOptions,
-    UpdateModifications,
+    AggregateOptions, ChangeStreamOptions, CreateIndexOptions, CursorType, DeleteOptions,
+    DropCollectionOptions, FindOptions, InsertManyOptions, ListCollectionsOptions,
+    ListIndexesOptions, RunCommandOptions, RunCursorCommandOptions, UpdateModifications,
 };
-use std::alloc::{AllocError, Global};
-use std::process::Abort;
+use std::alloc::Global;
 use std::test::Fail;
 
 // Each line is an operation, how it is built, the state of its session where it has one, and what is built: the names of its
 // fields in order, and its JSON text.
 const COMMANDS: &str =
-    r#"find awaited - find singleBatch tailable awaitData batchSize comment limit filter $db readConcern $readPreference {"$db":"db","$readPreference":{"mode":"nearest"},"awaitData":true,"batchSize":5,"comment":"c","filter":{"x":1},"find":"coll","limit":{"$int64":"7"},"readConcern":{"level":"local"},"singleBatch":true,"tailable":true}
-find tailable - find tailable batchSize limit filter $db {"$db":"db","batchSize":6,"filter":{"x":1},"find":"coll","limit":{"$int64":"5"},"tailable":true}
-aggregate collection - aggregate pipeline cursor allowDiskUse maxTimeMS $db readConcern writeConcern $readPreference {"$db":"db","$readPreference":{"mode":"nearest"},"aggregate":"coll","allowDiskUse":true,"cursor":{"batchSize":5},"maxTimeMS":6,"pipeline":[{"$skip":1}],"readConcern":{"level":"local"},"writeConcern":{"j":true}}
-aggregate merge - aggregate pipeline cursor allowDiskUse maxTimeMS $db readConcern writeConcern $readPreference {"$db":"db","$readPreference":{"mode":"nearest"},"aggregate":"coll","allowDiskUse":true,"cursor":{},"maxTimeMS":6,"pipeline":[{"$merge":1}],"readConcern":{"level":"local"},"writeConcern":{"j":true}}
-aggregate cluster - aggregate pipeline cursor allowDiskUse maxTimeMS $db readConcern writeConcern $readPreference {"$db":"admin","$readPreference":{"mode":"nearest"},"aggregate":1,"allowDiskUse":true,"cursor":{"batchSize":5},"maxTimeMS":6,"pipeline":[{"$skip":1}],"readConcern":{"level":"local"},"writeConcern":{"j":true}}
-list names - listCollections nameOnly filter cursor comment $db {"$db":"db","comment":"c","cursor":{"batchSize":5},"filter":{"name":1},"listCollections":1,"nameOnly":true}
-list types - listCollections nameOnly filter cursor comment $db {"$db":"db","comment":"c","cursor":{"batchSize":5},"filter":{"type":1},"listCollections":1,"nameOnly":false}
-list indexes - listIndexes cursor maxTimeMS comment $db {"$db":"db","comment":"c","cursor":{"batchSize":5},"listIndexes":"coll","maxTimeMS":6}
-given command - x $db $readPreference {"$db":"db","$readPreference":{"mode":"nearest"},"x":1}
-given cursor - x $db $readPreference {"$db":"db","$readPreference":{"mode":"nearest"},"x":1}
-given excessive - invalid batch size
-given more - getMore collection batchSize maxTimeMS comment $db {"$db":"db","batchSize":5,"collection":"coll","comment":"c","getMore":{"$int64":"9"},"maxTimeMS":2147483647}
-given plain-more - getMore collection $db {"$db":"db","collection":"coll","getMore":{"$int64":"9"}}
-given sizeless - getMore collection $db {"$db":"db","collection":"coll","getMore":{"$int64":"9"}}
-write insert - insert documents ordered bypassDocumentValidation comment $db writeConcern {"$db":"db","bypassDocumentValidation":true,"comment":"c","documents":[{"x":1}],"insert":"coll","ordered":false,"writeConcern":{"j":true}}
-write used - insert documents ordered bypassDocumentValidation comment $db writeConcern {"$db":"db","bypassDocumentValidation":true,"comment":"c","documents":[{"x":1}],"insert":"coll","ordered":false,"writeConcern":{"j":true}}
-write none - no documents to insert
-write slow - number out of range
-write delete - delete deletes ordered let comment $db writeConcern {"$db":"db","comment":4,"delete":"coll","deletes":[{"collation":{"locale":"en"},"hint":{"x":2},"limit":1,"q":{"x":1}}],"let":{"x":3},"ordered":true,"writeConcern":{"j":true}}
-write update - update updates ordered $db writeConcern {"$db":"db","ordered":true,"update":"coll","updates":[{"multi":true,"q":{"x":1},"u":{"x":2}}],"writeConcern":{"j":true}}
-write one - update updates ordered $db writeConcern {"$db":"db","ordered":true,"update":"coll","updates":[{"q":{"x":1},"u":{"x":2}}],"writeConcern":{"j":true}}
-write pipeline - update updates ordered $db writeConcern {"$db":"db","ordered":true,"update":"coll","updates":[{"q":{"x":1},"u":[{"x":2}]}],"writeConcern":{"j":true}}
-space create - create $db writeConcern {"$db":"db","create":"coll","writeConcern":{"j":true}}
-space drop - drop $db writeConcern {"$db":"db","drop":"coll","writeConcern":{"j":true}}
-space indexes - createIndexes indexes maxTimeMS $db writeConcern {"$db":"db","createIndexes":"coll","indexes":[{"key":{"filename":1,"uploadDate":{"$int64":"-1"}},"name":"filename_1_uploadDate_-1"}],"maxTimeMS":6,"writeConcern":{"j":true}}
-space nameless - number out of range"#;
+    r#"find awaited -~find singleBatch tailable awaitData batchSize comment limit filter $db readConcern $readPreference {"$db":"db","$readPreference":{"mode":"nearest"},"awaitData":true,"batchSize":5,"comment":"c","filter":{"x":1},"find":"coll","limit":{"$int64":"7"},"readConcern":{"level":"local"},"singleBatch":true,"tailable":true}
+find tailable -~find tailable batchSize limit filter $db {"$db":"db","batchSize":6,"filter":{"x":1},"find":"coll","limit":{"$int64":"5"},"tailable":true}
+aggregate collection -~aggregate pipeline cursor allowDiskUse bypassDocumentValidation collation comment hint maxTimeMS let $db readConcern writeConcern $readPreference {"$db":"db","$readPreference":{"mode":"nearest"},"aggregate":"coll","allowDiskUse":true,"bypassDocumentValidation":false,"collation":{"locale":"en"},"comment":"c","cursor":{"batchSize":5},"hint":{"x":1},"let":{"x":2},"maxTimeMS":6,"pipeline":[{"$skip":1}],"readConcern":{"level":"local"},"writeConcern":{"j":true}}
+aggregate merge -~aggregate pipeline cursor allowDiskUse bypassDocumentValidation collation comment hint maxTimeMS let $db readConcern writeConcern $readPreference {"$db":"db","$readPreference":{"mode":"nearest"},"aggregate":"coll","allowDiskUse":true,"bypassDocumentValidation":false,"collation":{"locale":"en"},"comment":"c","cursor":{},"hint":{"x":1},"let":{"x":2},"maxTimeMS":6,"pipeline":[{"$merge":1}],"readConcern":{"level":"local"},"writeConcern":{"j":true}}
+aggregate cluster -~aggregate pipeline cursor allowDiskUse bypassDocumentValidation collation comment hint maxTimeMS let $db readConcern writeConcern $readPreference {"$db":"admin","$readPreference":{"mode":"nearest"},"aggregate":1,"allowDiskUse":true,"bypassDocumentValidation":false,"collation":{"locale":"en"},"comment":"c","cursor":{"batchSize":5},"hint":{"x":1},"let":{"x":2},"maxTimeMS":6,"pipeline":[{"$skip":1}],"readConcern":{"level":"local"},"writeConcern":{"j":true}}
+list names -~listCollections nameOnly filter cursor comment $db {"$db":"db","comment":"c","cursor":{"batchSize":5},"filter":{"name":1},"listCollections":1,"nameOnly":true}
+list types -~listCollections nameOnly filter cursor comment $db {"$db":"db","comment":"c","cursor":{"batchSize":5},"filter":{"type":1},"listCollections":1,"nameOnly":false}
+list indexes -~listIndexes cursor maxTimeMS comment $db {"$db":"db","comment":"c","cursor":{"batchSize":5},"listIndexes":"coll","maxTimeMS":6}
+given command -~x $db $readPreference {"$db":"db","$readPreference":{"mode":"nearest"},"x":1}
+given cursor -~x $db $readPreference {"$db":"db","$readPreference":{"mode":"nearest"},"x":1}
+given excessive -~invalid batch size
+given more -~getMore collection batchSize maxTimeMS comment $db {"$db":"db","batchSize":5,"collection":"coll","comment":"c","getMore":{"$int64":"9"},"maxTimeMS":2147483647}
+given plain-more -~getMore collection $db {"$db":"db","collection":"coll","getMore":{"$int64":"9"}}
+given sizeless -~getMore collection $db {"$db":"db","collection":"coll","getMore":{"$int64":"9"}}
+write insert -~insert documents ordered bypassDocumentValidation comment $db writeConcern {"$db":"db","bypassDocumentValidation":true,"comment":"c","documents":[{"x":1}],"insert":"coll","ordered":false,"writeConcern":{"j":true}}
+write used -~insert documents ordered bypassDocumentValidation comment $db writeConcern {"$db":"db","bypassDocumentValidation":true,"comment":"c","documents":[{"x":1}],"insert":"coll","ordered":false,"writeConcern":{"j":true}}
+write none -~no documents to insert
+write slow -~number out of range
+write delete -~delete deletes ordered let comment $db writeConcern {"$db":"db","comment":3,"delete":"coll","deletes":[{"collation":{"alternate":"non-ignorable","backwards":false,"caseFirst":"off","caseLevel":true,"locale":"en","maxVariable":"space","normalization":true,"numericOrdering":false,"strength":2},"hint":{"x":1},"limit":1,"q":{"x":1}}],"let":{"x":2},"ordered":true,"writeConcern":{"j":true}}
+write update -~update updates ordered $db writeConcern {"$db":"db","ordered":true,"update":"coll","updates":[{"multi":true,"q":{"x":1},"u":{"x":2}}],"writeConcern":{"j":true}}
+write one -~update updates ordered $db writeConcern {"$db":"db","ordered":true,"update":"coll","updates":[{"q":{"x":1},"u":{"x":2}}],"writeConcern":{"j":true}}
+write pipeline -~update updates ordered $db writeConcern {"$db":"db","ordered":true,"update":"coll","updates":[{"q":{"x":1},"u":[{"x":2}]}],"writeConcern":{"j":true}}
+space create -~create $db writeConcern {"$db":"db","create":"coll","writeConcern":{"j":true}}
+space drop -~drop $db writeConcern {"$db":"db","drop":"coll","writeConcern":{"j":true}}
+space indexes -~createIndexes indexes maxTimeMS $db writeConcern {"$db":"db","createIndexes":"coll","indexes":[{"key":{"filename":1,"uploadDate":{"$int64":"-1"}},"name":"filename_1_uploadDate_-1"}],"maxTimeMS":6,"writeConcern":{"j":true}}
+space nameless -~number out of range"#;
 
 // Finds with a limit and a size of their batches.
 const LIMITS: &str =
-    r#"short raised - find batchSize limit filter $db {"$db":"db","batchSize":6,"filter":{},"find":"c","limit":{"$int64":"5"}}
-short single - find singleBatch limit filter $db {"$db":"db","filter":{},"find":"c","limit":{"$int64":"1"},"singleBatch":true}
-short excessive - invalid batch size
-short least - invalid limit
-short zero - find batchSize limit filter $db {"$db":"db","batchSize":1,"filter":{},"find":"c","limit":{"$int64":"0"}}"#;
+    r#"short raised -~find batchSize limit filter $db {"$db":"db","batchSize":6,"filter":{},"find":"c","limit":{"$int64":"5"}}
+short single -~find singleBatch limit filter $db {"$db":"db","filter":{},"find":"c","limit":{"$int64":"1"},"singleBatch":true}
+short excessive -~invalid batch size
+short least -~invalid limit
+short zero -~find batchSize limit filter $db {"$db":"db","batchSize":1,"filter":{},"find":"c","limit":{"$int64":"0"}}"#;
 
 // A getMore without a size, and with more milliseconds than an Int32 counts; an aggregate that writes into another collection.
 const MORE_AND_OUT: &str =
-    r#"short patient - getMore collection maxTimeMS $db {"$db":"db","collection":"c","getMore":{"$int64":"9"},"maxTimeMS":2147483647}
-short out - aggregate pipeline cursor $db {"$db":"db","aggregate":"c","cursor":{},"pipeline":[{"$out":"d"}]}"#;
+    r#"short patient -~getMore collection maxTimeMS $db {"$db":"db","collection":"c","getMore":{"$int64":"9"},"maxTimeMS":2147483647}
+short out -~aggregate pipeline cursor $db {"$db":"db","aggregate":"c","cursor":{},"pipeline":[{"$out":"d"}]}"#;
 
 // A write is to be in the journal.
 pub(super) fn journaled() -> WriteConcern {
@@ -83,83 +83,63 @@ pub(super) fn nearest() -> SelectionCriteria {
     SelectionCriteria::ReadPreference(ReadPreference::Nearest)
 }
 
-fn find_with(alloc: Global, options: FindOptions) -> Result<Find, Error> {
-    Ok(Find {
-        ns: namespace(alloc)?,
-        filter: keys(alloc, 1)?,
-        options,
-    })
-}
-
-fn awaited(alloc: Global) -> Result<Find, Error> {
+fn awaited(alloc: Global) -> Result<FindOptions, Error> {
     let comment = text(alloc, "c")?;
-    let options = FindOptions::builder()
-        .limit(-7)
-        .batch_size(5)
-        .cursor_type(CursorType::TailableAwait)
-        .max_await_time(9)
-        .comment(comment)
+    Ok(
+        FindOptions::builder()
+            .limit(-7)
+            .batch_size(5)
+            .cursor_type(CursorType::TailableAwait)
+            .max_await_time(9)
+            .comment(comment)
+            .read_concern(local())
+            .selection_criteria(nearest()),
+    )
+}
+
+// What is local, at any server.
+fn local_options() -> FindOptions {
+    FindOptions::builder()
         .read_concern(local())
-        .selection_criteria(nearest());
-    find_with(alloc, options)
+        .selection_criteria(nearest())
 }
 
-// A find whose limit is the size of its batches.
-fn tailable(alloc: Global) -> Result<Find, Error> {
-    let options = FindOptions::builder()
-        .limit(5)
-        .batch_size(5)
-        .cursor_type(CursorType::Tailable);
-    find_with(alloc, options)
-}
-
-// A find that reads what is local at any server.
+/// A find that reads what is local at any server.
 pub(super) fn local_find(alloc: Global) -> Result<Find, Error> {
-    let options = FindOptions::builder()
-        .read_concern(local())
-        .selection_criteria(nearest());
-    find_with(alloc, options)
+    Ok(find(alloc, "coll", keys(alloc, 1)?, local_options())?)
 }
 
+// A tailable find has a limit that is the size of its batches.
 fn finds(alloc: Global, session: Option<&ClientSession>, way: &str) -> Result<Document, Error> {
-    let find = match way {
+    let filter = keys(alloc, 1)?;
+    let options = match way {
         "awaited" => awaited(alloc)?,
-        "tailable" => tailable(alloc)?,
-        _ => local_find(alloc)?,
+        "tailable" => FindOptions::builder()
+            .limit(5)
+            .batch_size(5)
+            .cursor_type(CursorType::Tailable),
+        _ => local_options(),
     };
+    let find = find(alloc, "coll", filter, options)?;
     if way == "raw" {
         return RawOutput(find).build(alloc, 21, session);
     }
     find.build(alloc, 21, session)
 }
 
-// An aggregate of one stage.
 fn aggregate(
     alloc: Global,
     session: Option<&ClientSession>,
     target: OperationTarget,
-    stage: Document,
+    pipeline: Vec<Document>,
     options: AggregateOptions,
 ) -> Result<Document, Error> {
-    let pipeline = vec![in alloc; stage]?;
     let aggregate = Aggregate {
         target,
         pipeline,
         options,
     };
     aggregate.build(alloc, 21, session)
-}
-
-// The options of an aggregate with the concerns that it may have.
-fn concerned() -> AggregateOptions {
-    AggregateOptions::builder()
-        .allow_disk_use(true)
-        .batch_size(5)
-        .max_time(6)
-        .max_await_time(9)
-        .read_concern(local())
-        .write_concern(journaled())
-        .selection_criteria(nearest())
 }
 
 pub(super) fn watch(alloc: Global) -> Result<ChangeStreamAggregate, Error> {
@@ -183,16 +163,16 @@ fn aggregates(
         return watch(alloc)?.build(alloc, 21, session);
     }
     let name = if way == "merge" { "$merge" } else { "$skip" };
-    let stage = one_field(alloc, name, Bson::Int32(1))?;
-    if way == "cluster" {
-        return aggregate(alloc, session, OperationTarget::Cluster, stage, concerned());
-    }
-    let target = OperationTarget::Collection(namespace(alloc)?);
-    if way == "journaled" {
-        let options = AggregateOptions::builder().write_concern(journaled());
-        return aggregate(alloc, session, target, stage, options);
-    }
-    aggregate(alloc, session, target, stage, concerned())
+    let pipeline = vec![in alloc; one_field(alloc, name, Bson::Int32(1))?]?;
+    let target = match way {
+        "cluster" => OperationTarget::Cluster,
+        _ => OperationTarget::Collection(namespace(alloc)?),
+    };
+    let options = match way {
+        "journaled" => AggregateOptions::builder().write_concern(journaled()),
+        _ => records::aggregate(alloc)?,
+    };
+    aggregate(alloc, session, target, pipeline, options)
 }
 
 fn list_collections(
@@ -206,18 +186,6 @@ fn list_collections(
         options,
     };
     list.build(alloc, 21, session)
-}
-
-// The options of a list of the collections that a filter of this name selects.
-fn filtered(alloc: Global, name: &str) -> Result<ListCollectionsOptions, Error> {
-    let filter = one_field(alloc, name, Bson::Int32(1))?;
-    let comment = text(alloc, "c")?;
-    Ok(
-        ListCollectionsOptions::builder()
-            .filter(filter)
-            .batch_size(5)
-            .comment(comment),
-    )
 }
 
 fn list_indexes(
@@ -234,17 +202,10 @@ fn list_indexes(
 
 fn lists(alloc: Global, session: Option<&ClientSession>, way: &str) -> Result<Document, Error> {
     match way {
-        "names" => list_collections(alloc, session, filtered(alloc, "name")?),
-        "types" => list_collections(alloc, session, filtered(alloc, "type")?),
+        "names" => list_collections(alloc, session, records::list_collections(alloc, "name")?),
+        "types" => list_collections(alloc, session, records::list_collections(alloc, "type")?),
         "all" => list_collections(alloc, session, ListCollectionsOptions::builder()),
-        "indexes" => {
-            let comment = text(alloc, "c")?;
-            let options = ListIndexesOptions::builder()
-                .max_time(6)
-                .comment(comment)
-                .batch_size(5);
-            list_indexes(alloc, session, options)
-        }
+        "indexes" => list_indexes(alloc, session, records::list_indexes(alloc)?),
         _ => list_indexes(alloc, session, ListIndexesOptions::builder()),
     }
 }
@@ -287,13 +248,13 @@ fn sized(batch_size: u32) -> RunCursorCommandOptions {
 fn get_more(
     alloc: Global,
     session: Option<&ClientSession>,
+    coll: &str,
     batch_size: Option<u32>,
     max_time: Option<u64>,
-    ns: Namespace,
     comment: Option<Bson>,
 ) -> Result<Document, Error> {
     let get_more = GetMore {
-        ns,
+        ns: collection(alloc, coll)?,
         id: 9,
         batch_size,
         max_time,
@@ -317,19 +278,18 @@ fn given(alloc: Global, session: Option<&ClientSession>, way: &str) -> Result<Do
         "plain" => run_cursor(alloc, session, RunCursorCommandOptions::builder()),
         "kill" => kill(alloc, session),
         "more" => {
-            let ns = namespace(alloc)?;
-            let comment = text(alloc, "c")?;
+            let comment = Some(text(alloc, "c")?);
             get_more(
                 alloc,
                 session,
+                "coll",
                 Some(5),
                 Some(2_147_483_648),
-                ns,
-                Some(comment),
+                comment,
             )
         }
-        "sizeless" => get_more(alloc, session, Some(0), None, namespace(alloc)?, None),
-        _ => get_more(alloc, session, None, None, namespace(alloc)?, None),
+        "sizeless" => get_more(alloc, session, "coll", Some(0), None, None),
+        _ => get_more(alloc, session, "coll", None, None, None),
     }
 }
 
@@ -337,18 +297,6 @@ fn given(alloc: Global, session: Option<&ClientSession>, way: &str) -> Result<Do
 fn used(alloc: Global, insert: Insert) -> Result<Document, Error> {
     let raw = insert.into_bytes(alloc)?;
     Ok(to_document(alloc, raw.as_raw())?)
-}
-
-// The options of an insert that is not ordered.
-fn unordered(alloc: Global, writes: WriteConcern) -> Result<InsertManyOptions, Error> {
-    let comment = text(alloc, "c")?;
-    Ok(
-        InsertManyOptions::builder()
-            .ordered(false)
-            .bypass_document_validation(true)
-            .comment(comment)
-            .write_concern(writes),
-    )
 }
 
 // A write is to be safe within more milliseconds than an Int64 counts.
@@ -364,8 +312,8 @@ fn slow() -> WriteConcern {
 fn inserts(alloc: Global, session: Option<&ClientSession>, way: &str) -> Result<Document, Error> {
     let options = match way {
         "ordered" => InsertManyOptions::builder().write_concern(journaled()),
-        "slow" => unordered(alloc, slow())?,
-        _ => unordered(alloc, journaled())?,
+        "slow" => records::insert(alloc)?.write_concern(slow()),
+        _ => records::insert(alloc)?,
     };
     let mut documents = Vec::new(alloc);
     if way != "none" {
@@ -394,21 +342,6 @@ fn delete(
         options,
     };
     delete.build(alloc, 21, session)
-}
-
-// The options of a delete of which everything is given.
-fn hinted(alloc: Global) -> Result<DeleteOptions, Error> {
-    let hint = keys(alloc, 2)?;
-    let let_vars = keys(alloc, 3)?;
-    let locale = String::from_str(alloc, "en")?;
-    Ok(
-        DeleteOptions::builder()
-            .collation(Collation::builder(locale))
-            .hint(Hint::Keys(hint))
-            .let_vars(let_vars)
-            .comment(Bson::Int32(4))
-            .write_concern(journaled()),
-    )
 }
 
 fn update_with(
@@ -454,7 +387,7 @@ fn updates(alloc: Global, session: Option<&ClientSession>, way: &str) -> Result<
 fn writes(alloc: Global, session: Option<&ClientSession>, way: &str) -> Result<Document, Error> {
     match way {
         "insert" | "used" | "ordered" | "none" | "slow" => inserts(alloc, session, way),
-        "delete" => delete(alloc, session, hinted(alloc)?),
+        "delete" => delete(alloc, session, records::delete(alloc)?),
         "deleted" => {
             let options = DeleteOptions::builder().write_concern(journaled());
             delete(alloc, session, options)
@@ -537,16 +470,8 @@ fn spaces(alloc: Global, session: Option<&ClientSession>, way: &str) -> Result<D
     }
 }
 
-// The namespace `db.c`.
-fn short_namespace(alloc: Global) -> Result<Namespace, AllocError> {
-    let db = String::from_str(alloc, "db")?;
-    let coll = String::from_str(alloc, "c")?;
-    Ok(Namespace { db, coll })
-}
-
 // A find of all documents, with a limit and a size of its batches.
 fn find_up_to(alloc: Global, limit: &str) -> Result<Document, Error> {
-    let ns = short_namespace(alloc)?;
     let options = match limit {
         "raised" => FindOptions::builder().limit(5).batch_size(5),
         "single" => FindOptions::builder().limit(-1),
@@ -556,28 +481,20 @@ fn find_up_to(alloc: Global, limit: &str) -> Result<Document, Error> {
         "least" => FindOptions::builder().limit(i64::MIN),
         _ => FindOptions::builder().limit(0).batch_size(0),
     };
-    let find = Find {
-        ns,
-        filter: Document::new(alloc),
-        options,
-    };
-    find.build(alloc, 21, None)
+    find(alloc, "c", Document::new(alloc), options)?.build(alloc, 21, None)
 }
 
 // An aggregate that writes its documents into another collection.
 fn aggregate_out(alloc: Global) -> Result<Document, Error> {
-    let stage = one_field(alloc, "$out", text(alloc, "d")?)?;
-    let target = OperationTarget::Collection(short_namespace(alloc)?);
+    let pipeline = vec![in alloc; one_field(alloc, "$out", text(alloc, "d")?)?]?;
+    let target = OperationTarget::Collection(collection(alloc, "c")?);
     let options = AggregateOptions::builder().batch_size(5);
-    aggregate(alloc, None, target, stage, options)
+    aggregate(alloc, None, target, pipeline, options)
 }
 
 fn shorts(alloc: Global, way: &str) -> Result<Document, Error> {
     match way {
-        "patient" => {
-            let ns = short_namespace(alloc)?;
-            get_more(alloc, None, Some(0), Some(2_147_483_648), ns, None)
-        }
+        "patient" => get_more(alloc, None, "c", Some(0), Some(2_147_483_648), None),
         "out" => aggregate_out(alloc),
         _ => find_up_to(alloc, way),
     }
@@ -600,30 +517,29 @@ fn built(
     }
 }
 
-/// Fails a test where an operation of a table is not built as it should.
-pub(super) fn are_built(rt: &impl Abort, alloc: Global, table: &str) -> Result<(), Fail> {
-    for line in table.lines() {
+/// An operation, how it is built, and the state of its session.
+pub(super) struct Commands;
+
+impl Subject for Commands {
+    fn found(alloc: Global, line: &str) -> Result<String, Error> {
         let (operation, rest) = parted(line);
-        let (way, rest) = parted(rest);
-        let (state, wanted) = parted(rest);
+        let (way, state) = parted(rest);
         let session = session_of(alloc, state)?;
-        let command = built(alloc, session.as_ref(), operation, way);
-        is_shown(rt, alloc, line, command, wanted)?;
+        shown(alloc, built(alloc, session.as_ref(), operation, way)?)
     }
-    Ok(())
 }
 
 #[test]
 fn commands_of_operations(rt: HostRuntime) -> Result<(), Fail> {
-    are_built(&rt, rt.alloc(), COMMANDS)
+    are_found::<Commands>(&rt, rt.alloc(), "~", COMMANDS)
 }
 
 #[test]
 fn find_limits(rt: HostRuntime) -> Result<(), Fail> {
-    are_built(&rt, rt.alloc(), LIMITS)
+    are_found::<Commands>(&rt, rt.alloc(), "~", LIMITS)
 }
 
 #[test]
 fn get_more_and_out(rt: HostRuntime) -> Result<(), Fail> {
-    are_built(&rt, rt.alloc(), MORE_AND_OUT)
+    are_found::<Commands>(&rt, rt.alloc(), "~", MORE_AND_OUT)
 }

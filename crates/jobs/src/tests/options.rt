@@ -1,5 +1,5 @@
-use super::records::are_put;
-use super::{namespace, one_field, text};
+use super::records::shown;
+use super::{Subject, are_found, namespace, one_field, text};
 use mg_bson::{Bson, Document, Timestamp};
 use mg_link::{
     Error, OperationTarget, ReadConcern, ReadConcernLevel, ReadPreference, SelectionCriteria,
@@ -70,26 +70,38 @@ fn watch(alloc: Global, options: ChangeStreamOptions) -> Result<Document, Error>
     aggregate.build(alloc, 21, None)
 }
 
-/// Puts what stands in the stage into a body, or what stands in its aggregate, or the whole command of a watch.
-pub(super) fn stream(alloc: Global, way: &str, body: &mut Document) -> Result<(), Error> {
+// What stands in the stage or in its aggregate, or the whole command of a watch.
+fn stream(alloc: Global, place: &str) -> Result<Document, Error> {
     let options = all_given(alloc)?;
-    match way {
-        "stage" => options.append_fields(alloc, body),
-        "aggregate" => options.aggregate_options()?.append_fields(alloc, body),
-        _ => {
-            *body = watch(alloc, options)?;
-            Ok(())
-        }
+    if place == "watch" {
+        return watch(alloc, options);
     }
+    let mut body = Document::new(alloc);
+    if place == "stage" {
+        options.append_fields(alloc, &mut body)?;
+    } else {
+        options
+            .aggregate_options()?
+            .append_fields(alloc, &mut body)?;
+    }
+    Ok(body)
 }
 
 // Each line is where the options stand, and what comes of them.
 const OPTIONS: &str =
-    r#"stream stage fullDocument fullDocumentBeforeChange resumeAfter startAtOperationTime startAfter allChangesForCluster showExpandedEvents comment {"allChangesForCluster":true,"comment":"c","fullDocument":"updateLookup","fullDocumentBeforeChange":"required","resumeAfter":{"_data":1},"showExpandedEvents":true,"startAfter":{"_data":4},"startAtOperationTime":{"$timestamp":{"i":3,"t":2}}}
-stream aggregate cursor collation comment {"collation":{"locale":"en"},"comment":"c","cursor":{"batchSize":5}}
-stream watch aggregate pipeline cursor collation comment $db readConcern $readPreference {"$db":"db","$readPreference":{"mode":"nearest"},"aggregate":"coll","collation":{"locale":"en"},"comment":"c","cursor":{"batchSize":5},"pipeline":[{"$changeStream":{"allChangesForCluster":true,"comment":"c","fullDocument":"updateLookup","fullDocumentBeforeChange":"required","resumeAfter":{"_data":1},"showExpandedEvents":true,"startAfter":{"_data":4},"startAtOperationTime":{"$timestamp":{"i":3,"t":2}}}},{"$skip":1}],"readConcern":{"level":"local"}}"#;
+    r#"stage~fullDocument fullDocumentBeforeChange resumeAfter startAtOperationTime startAfter allChangesForCluster showExpandedEvents comment {"allChangesForCluster":true,"comment":"c","fullDocument":"updateLookup","fullDocumentBeforeChange":"required","resumeAfter":{"_data":1},"showExpandedEvents":true,"startAfter":{"_data":4},"startAtOperationTime":{"$timestamp":{"i":3,"t":2}}}
+aggregate~cursor collation comment {"collation":{"locale":"en"},"comment":"c","cursor":{"batchSize":5}}
+watch~aggregate pipeline cursor collation comment $db readConcern $readPreference {"$db":"db","$readPreference":{"mode":"nearest"},"aggregate":"coll","collation":{"locale":"en"},"comment":"c","cursor":{"batchSize":5},"pipeline":[{"$changeStream":{"allChangesForCluster":true,"comment":"c","fullDocument":"updateLookup","fullDocumentBeforeChange":"required","resumeAfter":{"_data":1},"showExpandedEvents":true,"startAfter":{"_data":4},"startAtOperationTime":{"$timestamp":{"i":3,"t":2}}}},{"$skip":1}],"readConcern":{"level":"local"}}"#;
+
+struct Options;
+
+impl Subject for Options {
+    fn found(alloc: Global, place: &str) -> Result<String, Error> {
+        shown(alloc, stream(alloc, place)?)
+    }
+}
 
 #[test]
 fn options_print_their_fields(rt: HostRuntime) -> Result<(), Fail> {
-    are_put(&rt, rt.alloc(), OPTIONS)
+    are_found::<Options>(&rt, rt.alloc(), "~", OPTIONS)
 }

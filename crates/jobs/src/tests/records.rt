@@ -1,7 +1,6 @@
 use super::commands::{journaled, local, nearest};
-use super::options::stream;
-use super::unprinted::{common, copied};
-use super::{expect, one_field, parted, text};
+use super::unprinted::common;
+use super::{Subject, are_found, one_field, parted, text};
 use mg_bson::{Bson, Document};
 use mg_jobs::json_text;
 use mg_link::{
@@ -15,34 +14,33 @@ use mg_options::{
 };
 use mg_records::{DistinctOptions, DropIndexOptions, EstimatedDocumentCountOptions};
 use std::alloc::{AllocError, Global};
-use std::process::Abort;
 use std::test::Fail;
 
 // Each line is a record of options, how it is given, and what it puts into a body: the names in order, and the JSON text.
 const RECORDS: &str =
-    r#"find all allowDiskUse allowPartialResults batchSize comment hint limit max maxScan maxTimeMS min noCursorTimeout projection returnKey showRecordId skip sort collation let {"allowDiskUse":true,"allowPartialResults":false,"batchSize":5,"collation":{"locale":"en"},"comment":"c","hint":"h","let":{"x":5},"limit":{"$int64":"7"},"max":{"x":1},"maxScan":{"$int64":"8"},"maxTimeMS":2147483647,"min":{"x":2},"noCursorTimeout":true,"projection":{"x":3},"returnKey":false,"showRecordId":true,"skip":{"$int64":"9"},"sort":{"x":4}}
-find one allowPartialResults comment hint limit max maxScan maxTimeMS min projection returnKey showRecordId skip sort collation let {"allowPartialResults":true,"collation":{"locale":"en"},"comment":6,"hint":{},"let":{"x":5},"limit":{"$int64":"1"},"max":{"x":1},"maxScan":{"$int64":"8"},"maxTimeMS":7,"min":{"x":2},"projection":{"x":3},"returnKey":true,"showRecordId":false,"skip":{"$int64":"9"},"sort":{"x":4}}
-find file limit maxTimeMS skip sort {"limit":{"$int64":"1"},"maxTimeMS":6,"skip":{"$int64":"2"},"sort":{}}
-find files allowDiskUse batchSize limit maxTimeMS skip sort {"allowDiskUse":true,"batchSize":5,"limit":{"$int64":"3"},"maxTimeMS":6,"skip":{"$int64":"2"},"sort":{}}
-find least invalid limit
-find long maxTimeMS {"maxTimeMS":{"$int64":"2147483648"}}
-find longest number out of range
-find large invalid batch size
-write aggregate allowDiskUse cursor bypassDocumentValidation collation comment hint maxTimeMS let {"allowDiskUse":true,"bypassDocumentValidation":false,"collation":{"locale":"en"},"comment":"c","cursor":{"batchSize":5},"hint":{"x":1},"let":{"x":2},"maxTimeMS":6}
-write insert bypassDocumentValidation ordered comment {"bypassDocumentValidation":true,"comment":"c","ordered":false}
-write delete collation hint let comment {"collation":{"alternate":"non-ignorable","backwards":false,"caseFirst":"off","caseLevel":true,"locale":"en","maxVariable":"space","normalization":true,"numericOrdering":false,"strength":2},"comment":3,"hint":{"x":1},"let":{"x":2}}
-write collation locale strength caseLevel caseFirst numericOrdering alternate maxVariable normalization backwards {"alternate":"non-ignorable","backwards":false,"caseFirst":"off","caseLevel":true,"locale":"en","maxVariable":"space","normalization":true,"numericOrdering":false,"strength":2}
-index nodes commitQuorum maxTimeMS comment {"comment":"c","commitQuorum":3,"maxTimeMS":6}
-index word commitQuorum maxTimeMS comment {"comment":"c","commitQuorum":"votingMembers","maxTimeMS":6}
-index many number out of range
-index drop maxTimeMS comment {"comment":"c","maxTimeMS":6}
-index list maxTimeMS comment {"comment":"c","maxTimeMS":6}
-list collections filter cursor comment {"comment":"c","cursor":{"batchSize":5},"filter":{"x":1}}
-list estimate maxTimeMS comment {"comment":"c","maxTimeMS":6}
-list distinct maxTimeMS collation comment hint {"collation":{"locale":"en"},"comment":"c","hint":{"x":1},"maxTimeMS":6}
-concerns nothing {}
-concerns secondary readConcern writeConcern $readPreference {"$readPreference":{"mode":"secondaryPreferred"},"readConcern":{"level":"majority"},"writeConcern":{"j":true,"w":"majority","wtimeout":7}}
-concerns primary readConcern writeConcern {"readConcern":{"level":"own"},"writeConcern":{"j":true,"w":"dc1","wtimeout":7}}"#;
+    r#"find all~allowDiskUse allowPartialResults batchSize comment hint limit max maxScan maxTimeMS min noCursorTimeout projection returnKey showRecordId skip sort collation let {"allowDiskUse":true,"allowPartialResults":false,"batchSize":5,"collation":{"locale":"en"},"comment":"c","hint":"h","let":{"x":5},"limit":{"$int64":"7"},"max":{"x":1},"maxScan":{"$int64":"8"},"maxTimeMS":2147483647,"min":{"x":2},"noCursorTimeout":true,"projection":{"x":3},"returnKey":false,"showRecordId":true,"skip":{"$int64":"9"},"sort":{"x":4}}
+find one~allowPartialResults comment hint limit max maxScan maxTimeMS min projection returnKey showRecordId skip sort collation let {"allowPartialResults":true,"collation":{"locale":"en"},"comment":6,"hint":{},"let":{"x":5},"limit":{"$int64":"1"},"max":{"x":1},"maxScan":{"$int64":"8"},"maxTimeMS":7,"min":{"x":2},"projection":{"x":3},"returnKey":true,"showRecordId":false,"skip":{"$int64":"9"},"sort":{"x":4}}
+find file~limit maxTimeMS skip sort {"limit":{"$int64":"1"},"maxTimeMS":6,"skip":{"$int64":"2"},"sort":{}}
+find files~allowDiskUse batchSize limit maxTimeMS skip sort {"allowDiskUse":true,"batchSize":5,"limit":{"$int64":"3"},"maxTimeMS":6,"skip":{"$int64":"2"},"sort":{}}
+find least~invalid limit
+find long~maxTimeMS {"maxTimeMS":{"$int64":"2147483648"}}
+find longest~number out of range
+find large~invalid batch size
+write aggregate~allowDiskUse cursor bypassDocumentValidation collation comment hint maxTimeMS let {"allowDiskUse":true,"bypassDocumentValidation":false,"collation":{"locale":"en"},"comment":"c","cursor":{"batchSize":5},"hint":{"x":1},"let":{"x":2},"maxTimeMS":6}
+write insert~bypassDocumentValidation ordered comment {"bypassDocumentValidation":true,"comment":"c","ordered":false}
+write delete~collation hint let comment {"collation":{"alternate":"non-ignorable","backwards":false,"caseFirst":"off","caseLevel":true,"locale":"en","maxVariable":"space","normalization":true,"numericOrdering":false,"strength":2},"comment":3,"hint":{"x":1},"let":{"x":2}}
+write collation~locale strength caseLevel caseFirst numericOrdering alternate maxVariable normalization backwards {"alternate":"non-ignorable","backwards":false,"caseFirst":"off","caseLevel":true,"locale":"en","maxVariable":"space","normalization":true,"numericOrdering":false,"strength":2}
+index nodes~commitQuorum maxTimeMS comment {"comment":"c","commitQuorum":3,"maxTimeMS":6}
+index word~commitQuorum maxTimeMS comment {"comment":"c","commitQuorum":"votingMembers","maxTimeMS":6}
+index many~number out of range
+index drop~maxTimeMS comment {"comment":"c","maxTimeMS":6}
+index list~maxTimeMS comment {"comment":"c","maxTimeMS":6}
+list collections~filter cursor comment {"comment":"c","cursor":{"batchSize":5},"filter":{"x":1}}
+list estimate~maxTimeMS comment {"comment":"c","maxTimeMS":6}
+list distinct~maxTimeMS collation comment hint {"collation":{"locale":"en"},"comment":"c","hint":{"x":1},"maxTimeMS":6}
+concerns nothing~{}
+concerns secondary~readConcern writeConcern $readPreference {"$readPreference":{"mode":"secondaryPreferred"},"readConcern":{"level":"majority"},"writeConcern":{"j":true,"w":"majority","wtimeout":7}}
+concerns primary~readConcern writeConcern {"readConcern":{"level":"own"},"writeConcern":{"j":true,"w":"dc1","wtimeout":7}}"#;
 
 // The names of a document, in order.
 fn names_of(alloc: Global, body: &Document) -> Result<String, AllocError> {
@@ -55,30 +53,10 @@ fn names_of(alloc: Global, body: &Document) -> Result<String, AllocError> {
 }
 
 /// The names of a document, in order, and what it prints as.
-fn shown(alloc: Global, body: Document) -> Result<String, AllocError> {
+pub(super) fn shown(alloc: Global, body: Document) -> Result<String, Error> {
     let names = names_of(alloc, &body)?;
-    match json_text(alloc, &Bson::Document(body)) {
-        Ok(json) => format!(in alloc; "{names}{json}"),
-        Err(_) => Err(AllocError),
-    }
-}
-
-/// Fails a test where a body is not shown as this.
-pub(super) fn is_shown(
-    rt: &impl Abort,
-    alloc: Global,
-    about: &str,
-    body: Result<Document, Error>,
-    wanted: &str,
-) -> Result<(), AllocError> {
-    match body {
-        Ok(body) => expect(rt, about, shown(alloc, body)?.as_str(), wanted),
-        Err(e) => {
-            let error = format!(in alloc; "{e}")?;
-            expect(rt, about, error.as_str(), wanted);
-        }
-    }
-    Ok(())
+    let json = json_text(alloc, &Bson::Document(body))?;
+    Ok(format!(in alloc; "{names}{json}")?)
 }
 
 // The document `{ x: n }`.
@@ -212,56 +190,60 @@ fn finds(alloc: Global, way: &str, body: &mut Document) -> Result<(), Error> {
     options.clone()?.append_fields(alloc, body)
 }
 
-fn aggregate(alloc: Global, body: &mut Document) -> Result<(), Error> {
+/// Options of an aggregate of which everything is given.
+pub(super) fn aggregate(alloc: Global) -> Result<AggregateOptions, Error> {
     let (rules, hint, let_vars, _) = common(alloc)?;
     let comment = text(alloc, "c")?;
-    let options = AggregateOptions::builder()
-        .allow_disk_use(true)
-        .batch_size(5)
-        .bypass_document_validation(false)
-        .collation(rules)
-        .comment(comment)
-        .hint(hint)
-        .max_time(6)
-        .let_vars(let_vars)
-        .max_await_time(9)
-        .read_concern(local())
-        .selection_criteria(nearest())
-        .write_concern(journaled())
-        .build();
-    options.clone()?.append_fields(alloc, body)
+    Ok(
+        AggregateOptions::builder()
+            .allow_disk_use(true)
+            .batch_size(5)
+            .bypass_document_validation(false)
+            .collation(rules)
+            .comment(comment)
+            .hint(hint)
+            .max_time(6)
+            .let_vars(let_vars)
+            .max_await_time(9)
+            .read_concern(local())
+            .selection_criteria(nearest())
+            .write_concern(journaled())
+            .build(),
+    )
 }
 
-fn insert(alloc: Global, body: &mut Document) -> Result<(), Error> {
+/// Options of an insert of which everything is given, from those of an insert of one document.
+pub(super) fn insert(alloc: Global) -> Result<InsertManyOptions, Error> {
     let comment = text(alloc, "c")?;
     let one = InsertOneOptions::builder()
         .bypass_document_validation(true)
         .write_concern(journaled())
         .comment(comment)
         .build();
-    let options = InsertManyOptions::from_insert_one_options(one.clone()?).ordered(false);
-    options.clone()?.append_fields(alloc, body)
+    Ok(InsertManyOptions::from_insert_one_options(one.clone()?).ordered(false))
 }
 
-fn delete(alloc: Global, body: &mut Document) -> Result<(), Error> {
+/// Options of a delete of which everything is given.
+pub(super) fn delete(alloc: Global) -> Result<DeleteOptions, Error> {
     let hint = keys(alloc, 1)?;
     let let_vars = keys(alloc, 2)?;
     let rules = collation(alloc)?;
-    let options = DeleteOptions::builder()
-        .collation(rules)
-        .hint(Hint::Keys(hint))
-        .let_vars(let_vars)
-        .comment(Bson::Int32(3))
-        .write_concern(journaled())
-        .build();
-    options.clone()?.append_fields(alloc, body)
+    Ok(
+        DeleteOptions::builder()
+            .collation(rules)
+            .hint(Hint::Keys(hint))
+            .let_vars(let_vars)
+            .comment(Bson::Int32(3))
+            .write_concern(journaled())
+            .build(),
+    )
 }
 
 fn writes(alloc: Global, way: &str, body: &mut Document) -> Result<(), Error> {
     match way {
-        "aggregate" => aggregate(alloc, body),
-        "insert" => insert(alloc, body),
-        "delete" => delete(alloc, body),
+        "aggregate" => aggregate(alloc)?.clone()?.append_fields(alloc, body),
+        "insert" => insert(alloc)?.clone()?.append_fields(alloc, body),
+        "delete" => delete(alloc)?.clone()?.append_fields(alloc, body),
         _ => rules(alloc, body),
     }
 }
@@ -288,12 +270,15 @@ fn drop_index(alloc: Global, comment: Bson, body: &mut Document) -> Result<(), E
     options.clone()?.append_fields(alloc, body)
 }
 
-fn list_indexes(alloc: Global, comment: Bson, body: &mut Document) -> Result<(), Error> {
-    let options = ListIndexesOptions::builder()
-        .max_time(6)
-        .comment(comment)
-        .batch_size(5);
-    options.clone()?.append_fields(alloc, body)
+/// Options of a list of indexes of which everything is given.
+pub(super) fn list_indexes(alloc: Global) -> Result<ListIndexesOptions, Error> {
+    let comment = text(alloc, "c")?;
+    Ok(
+        ListIndexesOptions::builder()
+            .max_time(6)
+            .comment(comment)
+            .batch_size(5),
+    )
 }
 
 fn indexes(alloc: Global, way: &str, body: &mut Document) -> Result<(), Error> {
@@ -303,19 +288,21 @@ fn indexes(alloc: Global, way: &str, body: &mut Document) -> Result<(), Error> {
         "word" => CommitQuorum::VotingMembers,
         "many" => CommitQuorum::Nodes(2_147_483_648),
         "drop" => return drop_index(alloc, comment, body),
-        _ => return list_indexes(alloc, comment, body),
+        _ => return list_indexes(alloc)?.clone()?.append_fields(alloc, body),
     };
     create_index(alloc, quorum, comment, body)
 }
 
-fn list_collections(alloc: Global, body: &mut Document) -> Result<(), Error> {
-    let filter = keys(alloc, 1)?;
+/// Options of a list of the collections that a filter of this name selects.
+pub(super) fn list_collections(alloc: Global, name: &str) -> Result<ListCollectionsOptions, Error> {
+    let filter = one_field(alloc, name, Bson::Int32(1))?;
     let comment = text(alloc, "c")?;
-    let options = ListCollectionsOptions::builder()
-        .filter(filter)
-        .batch_size(5)
-        .comment(comment);
-    options.clone()?.append_fields(alloc, body)
+    Ok(
+        ListCollectionsOptions::builder()
+            .filter(filter)
+            .batch_size(5)
+            .comment(comment),
+    )
 }
 
 fn estimate(alloc: Global, comment: Bson, body: &mut Document) -> Result<(), Error> {
@@ -345,7 +332,9 @@ fn distinct(alloc: Global, body: &mut Document) -> Result<(), Error> {
 
 fn lists(alloc: Global, way: &str, body: &mut Document) -> Result<(), Error> {
     match way {
-        "collections" => list_collections(alloc, body),
+        "collections" => list_collections(alloc, "x")?
+            .clone()?
+            .append_fields(alloc, body),
         "estimate" => estimate(alloc, text(alloc, "c")?, body),
         _ => distinct(alloc, body),
     }
@@ -393,29 +382,22 @@ fn put(alloc: Global, record: &str, way: &str, body: &mut Document) -> Result<()
         "write" => writes(alloc, way, body),
         "index" => indexes(alloc, way, body),
         "list" => lists(alloc, way, body),
-        "stream" => stream(alloc, way, body),
-        "copy" => copied(alloc, way, body),
         _ => all_concerns(alloc, way, body),
     }
 }
 
-fn body_of(alloc: Global, record: &str, way: &str) -> Result<Document, Error> {
-    let mut body = Document::new(alloc);
-    put(alloc, record, way, &mut body)?;
-    Ok(body)
-}
+struct Records;
 
-/// Fails a test where a record of a table puts something else into a body.
-pub(super) fn are_put(rt: &impl Abort, alloc: Global, table: &str) -> Result<(), Fail> {
-    for line in table.lines() {
-        let (record, rest) = parted(line);
-        let (way, wanted) = parted(rest);
-        is_shown(rt, alloc, line, body_of(alloc, record, way), wanted)?;
+impl Subject for Records {
+    fn found(alloc: Global, line: &str) -> Result<String, Error> {
+        let (record, way) = parted(line);
+        let mut body = Document::new(alloc);
+        put(alloc, record, way, &mut body)?;
+        shown(alloc, body)
     }
-    Ok(())
 }
 
 #[test]
 fn records_print_their_fields(rt: HostRuntime) -> Result<(), Fail> {
-    are_put(&rt, rt.alloc(), RECORDS)
+    are_found::<Records>(&rt, rt.alloc(), "~", RECORDS)
 }

@@ -1,9 +1,10 @@
-use super::{json_bytes, namespace, one_field, text};
-use mg_bson::{Bson, Document};
-use mg_link::{Error, ErrorKind, Malformed, OperationTarget, ReadPreference, SelectionCriteria};
+use super::scripted::document_word;
+use super::{Subject, are_found, find, json_bytes, namespace, one_field, parted, text};
+use mg_bson::{Bson, Document, RawDocumentBuf};
+use mg_link::{Error, OperationTarget, ReadPreference, SelectionCriteria};
 use mg_ops::{
-    Aggregate, ChangeStreamAggregate, Create, Delete, Find, Operation, RawOutput, RunCursorCommand,
-    Update, WatchArgs,
+    Aggregate, ChangeStreamAggregate, Create, CursorSpecification, Delete, Find, Operation,
+    RawOutput, RunCursorCommand, Update, WatchArgs,
 };
 use mg_options::{
     AggregateOptions, ChangeStreamOptions, CursorType, DeleteOptions, FindOptions,
@@ -12,69 +13,45 @@ use mg_options::{
 use std::alloc::Global;
 use std::test::Fail;
 
-// The reply to an insert or a delete that met no document, for a key that is there.
-const DUPLICATE: &str =
-    r#"{"n":0,"ok":1,"writeErrors":[{"code":11000,"errmsg":"refused","index":0}]}"#;
-
-// The reply to a collection that is there.
-const THERE: &str = r#"{"n":0,"ok":1,"writeErrors":[{"code":48,"errmsg":"refused","index":0}]}"#;
-
-// A reply with an empty cursor, whose write concern was not met.
-const UNMET: &str =
-    r#"{"cursor":{"firstBatch":[],"id":{"$int64":"0"},"ns":"db.coll"},"writeConcernError":{"code":64}}"#;
-
-// A reply with an empty cursor.
-const CURSOR: &str = r#"{"cursor":{"firstBatch":[],"id":{"$int64":"7"},"ns":"db.coll"}}"#;
-
-// The same, whose id has 32 bits.
-const SHORT_ID: &str = r#"{"cursor":{"firstBatch":[],"id":7,"ns":"db.coll"}}"#;
-
-// The code of the failure of a write, and 0 where it did not fail so.
-fn failure_of<T: Drop>(read: Result<T, Error>) -> i32 {
-    match read {
-        Ok(_) => 0,
-        Err(error) => match &error.kind {
-            ErrorKind::Write(failure) => failure.code,
-            _ => 0,
-        },
-    }
+// The size and time of the getMores of a cursor, and whether they have a comment.
+fn cursor_word(alloc: Global, opened: CursorSpecification) -> Result<String, Error> {
+    let more = opened.info.get_more()?;
+    let has_comment = more.comment.is_some();
+    Ok(format!(in alloc; "{:?} {:?} {has_comment}", more.batch_size, more.max_time)?)
 }
 
-fn deleted(alloc: Global) -> Result<i32, Error> {
-    let reply = json_bytes(alloc, DUPLICATE)?;
+fn deleted(alloc: Global, reply: RawDocumentBuf) -> Result<String, Error> {
     let delete = Delete {
         ns: namespace(alloc)?,
         filter: Document::new(alloc),
         many: true,
         options: DeleteOptions::builder(),
     };
-    Ok(failure_of(delete.read(alloc, reply)))
+    Ok(format!(in alloc; "{}", delete.read(alloc, reply)?)?)
 }
 
-fn created(alloc: Global) -> Result<i32, Error> {
-    let reply = json_bytes(alloc, THERE)?;
+fn created(alloc: Global, reply: RawDocumentBuf) -> Result<String, Error> {
     let create = Create {
         ns: namespace(alloc)?,
         write_concern: None,
     };
-    Ok(failure_of(create.read(alloc, reply)))
+    create.read(alloc, reply)?;
+    Ok(String::new(alloc))
 }
 
-// An aggregate of one stage, whose write concern was not met.
-fn aggregated(alloc: Global, stage: &str) -> Result<i32, Error> {
-    let reply = json_bytes(alloc, UNMET)?;
+// An aggregate of one stage.
+fn aggregated(alloc: Global, reply: RawDocumentBuf, stage: &str) -> Result<String, Error> {
     let pipeline = vec![in alloc; one_field(alloc, stage, Bson::Int32(1))?]?;
     let aggregate = Aggregate {
         target: OperationTarget::Cluster,
         pipeline,
         options: AggregateOptions::builder(),
     };
-    Ok(failure_of(aggregate.read(alloc, reply)))
+    cursor_word(alloc, aggregate.read(alloc, reply)?)
 }
 
 // How many documents an update found, and how many it changed.
-fn updated(alloc: Global) -> Result<(u64, u64), Error> {
-    let reply = json_bytes(alloc, r#"{"n":2,"nModified":{"$int64":"1"}}"#)?;
+fn updated(alloc: Global, reply: RawDocumentBuf) -> Result<String, Error> {
     let update = Update {
         ns: namespace(alloc)?,
         filter: Document::new(alloc),
@@ -82,47 +59,21 @@ fn updated(alloc: Global) -> Result<(u64, u64), Error> {
         many: true,
         write_concern: None,
     };
-    let counts = update.read(alloc, reply)?;
-    Ok((counts.matched, counts.modified))
-}
-
-#[test]
-fn replies_to_writes(rt: HostRuntime) -> Result<(), Fail> {
-    let alloc = rt.alloc();
-    assert_eq!(rt; deleted(alloc)?, 11_000);
-    assert_eq!(rt; created(alloc)?, 48);
-    assert_eq!(rt; aggregated(alloc, "$merge")?, 64);
-    assert_eq!(rt; aggregated(alloc, "$match")?, 0);
-    assert_eq!(rt; updated(alloc)?, (2, 1));
-    Ok(())
+    Ok(format!(in alloc; "{:?}", update.read(alloc, reply)?)?)
 }
 
 // A find of at most five documents, in batches of five.
-fn find(alloc: Global) -> Result<Find, Error> {
+fn five(alloc: Global) -> Result<Find, Error> {
     let comment = text(alloc, "c")?;
     let options = FindOptions::builder()
         .limit(5)
         .batch_size(5)
         .max_await_time(9)
         .comment(comment);
-    Ok(Find {
-        ns: namespace(alloc)?,
-        filter: Document::new(alloc),
-        options,
-    })
+    Ok(find(alloc, "coll", Document::new(alloc), options)?)
 }
 
-// The size and time of the getMores of a cursor, and whether they have a comment.
-fn found(alloc: Global) -> Result<(Option<u32>, Option<u64>, bool), Error> {
-    let reply = json_bytes(alloc, CURSOR)?;
-    let specification = find(alloc)?.read(alloc, reply)?;
-    let info = &specification.info;
-    Ok((info.batch_size, info.max_time, info.comment.is_some()))
-}
-
-// The same of a watch.
-fn watched(alloc: Global) -> Result<(Option<u32>, Option<u64>, bool), Error> {
-    let reply = json_bytes(alloc, CURSOR)?;
+fn watched(alloc: Global, reply: RawDocumentBuf) -> Result<String, Error> {
     let comment = text(alloc, "c")?;
     let aggregate = ChangeStreamAggregate {
         args: WatchArgs {
@@ -135,18 +86,12 @@ fn watched(alloc: Global) -> Result<(Option<u32>, Option<u64>, bool), Error> {
         },
         resume: None,
     };
-    let (specification, _) = aggregate.read(alloc, reply)?;
-    let get_more = specification.info.get_more()?;
-    Ok((
-        get_more.batch_size,
-        get_more.max_time,
-        get_more.comment.is_some(),
-    ))
+    let (opened, _) = aggregate.read(alloc, reply)?;
+    cursor_word(alloc, opened)
 }
 
-// The same of a command that gives a cursor.
-fn ran(alloc: Global) -> Result<(Option<u32>, Option<u64>, bool), Error> {
-    let reply = json_bytes(alloc, CURSOR)?;
+// A command that gives a cursor.
+fn ran(alloc: Global, reply: RawDocumentBuf) -> Result<String, Error> {
     let db = String::from_str(alloc, "db")?;
     let options = RunCursorCommandOptions::builder()
         .selection_criteria(SelectionCriteria::ReadPreference(ReadPreference::Nearest))
@@ -160,37 +105,46 @@ fn ran(alloc: Global) -> Result<(Option<u32>, Option<u64>, bool), Error> {
         command: Document::new(alloc),
         options: options.clone()?,
     };
-    let specification = run.read(alloc, reply)?;
-    let info = &specification.info;
-    Ok((info.batch_size, info.max_time, info.comment.is_some()))
+    cursor_word(alloc, run.read(alloc, reply)?)
 }
 
-// Whether a find refuses a cursor whose id is no Int64.
-fn refuses_short_id(alloc: Global) -> Result<bool, Error> {
-    let reply = json_bytes(alloc, SHORT_ID)?;
-    match find(alloc)?.read(alloc, reply) {
-        Ok(_) => Ok(false),
-        Err(error) => Ok(matches!(&error.kind, ErrorKind::InvalidResponse(Malformed::BadId))),
+// Each line is an operation, the reply to it, and what comes of it: a key or a collection that is there, a write concern that
+// was not met, counts, cursors, and an id of 32 bits where one of 64 belongs.
+const REPLIES: &str =
+    r#"delete {"n":0,"ok":1,"writeErrors":[{"code":11000,"errmsg":"refused","index":0}]} -> write failed with code 11000: refused
+create {"n":0,"ok":1,"writeErrors":[{"code":48,"errmsg":"refused","index":0}]} -> write failed with code 48: refused
+$merge {"cursor":{"firstBatch":[],"id":{"$int64":"0"},"ns":"db.coll"},"writeConcernError":{"code":64}} -> write failed with code 64: 
+$match {"cursor":{"firstBatch":[],"id":{"$int64":"0"},"ns":"db.coll"},"writeConcernError":{"code":64}} -> None None false
+update {"n":2,"nModified":{"$int64":"1"}} -> UpdateCounts { matched: 2, modified: 1 }
+find {"cursor":{"firstBatch":[],"id":{"$int64":"7"},"ns":"db.coll"}} -> Some(6) Some(9) true
+watch {"cursor":{"firstBatch":[],"id":{"$int64":"7"},"ns":"db.coll"}} -> Some(5) Some(9) true
+run {"cursor":{"firstBatch":[],"id":{"$int64":"7"},"ns":"db.coll"}} -> Some(5) Some(6) true
+find {"cursor":{"firstBatch":[],"id":7,"ns":"db.coll"}} -> invalid response: bad cursor id
+raw {"cursor":{"firstBatch":[],"id":7,"ns":"db.coll"}} -> /{"cursor":{"firstBatch":[],"id":7,"ns":"db.coll"}}"#;
+
+struct Replies;
+
+impl Subject for Replies {
+    fn found(alloc: Global, line: &str) -> Result<String, Error> {
+        let (operation, json) = parted(line);
+        let reply = json_bytes(alloc, json)?;
+        match operation {
+            "delete" => deleted(alloc, reply),
+            "create" => created(alloc, reply),
+            "update" => updated(alloc, reply),
+            "find" => cursor_word(alloc, five(alloc)?.read(alloc, reply)?),
+            "watch" => watched(alloc, reply),
+            "run" => ran(alloc, reply),
+            "raw" => {
+                let output = RawOutput(five(alloc)?).read(alloc, reply)?;
+                document_word(alloc, output.as_raw())
+            }
+            stage => aggregated(alloc, reply, stage),
+        }
     }
 }
 
-// Whether a find whose reply is not read hands it on.
-fn hands_on(alloc: Global) -> Result<bool, Error> {
-    let reply = json_bytes(alloc, SHORT_ID)?;
-    let wanted = reply.clone()?;
-    let output = RawOutput(find(alloc)?).read(alloc, reply)?;
-    Ok(output == wanted)
-}
-
 #[test]
-fn cursors_of_openings(rt: HostRuntime) -> Result<(), Fail> {
-    let alloc = rt.alloc();
-    assert_eq!(rt; found(alloc)?, (Some(6), Some(9), true));
-    assert_eq!(rt; watched(alloc)?, (Some(5), Some(9), true));
-    assert_eq!(rt; ran(alloc)?, (Some(5), Some(6), true));
-    let is_refused = refuses_short_id(alloc)?;
-    assert!(rt; is_refused);
-    let is_handed_on = hands_on(alloc)?;
-    assert!(rt; is_handed_on);
-    Ok(())
+fn replies_to_operations(rt: HostRuntime) -> Result<(), Fail> {
+    are_found::<Replies>(&rt, rt.alloc(), " -> ", REPLIES)
 }

@@ -1,9 +1,9 @@
-use super::commands::{are_built, local_find, plain_update, watch};
-use super::one_field;
+use super::commands::{Commands, local_find, plain_update, watch};
+use super::{Subject, are_found, one_field, parted};
 use mg_bson::Bson;
 use mg_link::{
     ClientSession, ClientSessionHandle, Error, ExplicitClientSessionHandle,
-    ImplicitClientSessionHandle, PinnedConnection, Retry, TransactionState,
+    ImplicitClientSessionHandle, PinnedConnection, TransactionState,
 };
 use mg_ops::Operation;
 use std::alloc::Global;
@@ -50,55 +50,63 @@ pub(super) fn session_of(alloc: Global, state: &str) -> Result<Option<ClientSess
 
 // Operations in sessions, as the commands without one.
 const COMMANDS: &str =
-    r#"find local starting find filter $db lsid txnNumber startTransaction autocommit readConcern $readPreference {"$db":"db","$readPreference":{"mode":"nearest"},"autocommit":false,"filter":{"x":1},"find":"coll","lsid":{"id":7},"readConcern":{"level":"local"},"startTransaction":true,"txnNumber":{"$int64":"2"}}
-find raw aborted find filter $db lsid readConcern $readPreference {"$db":"db","$readPreference":{"mode":"nearest"},"filter":{"x":1},"find":"coll","lsid":{"id":7},"readConcern":{"level":"local"}}
-aggregate journaled running aggregate pipeline cursor $db lsid txnNumber autocommit writeConcern {"$db":"db","aggregate":"coll","autocommit":false,"cursor":{},"lsid":{"id":7},"pipeline":[{"$skip":1}],"txnNumber":{"$int64":"1"},"writeConcern":{"j":true}}
-aggregate watch starting aggregate pipeline cursor $db lsid txnNumber startTransaction autocommit {"$db":"db","aggregate":"coll","autocommit":false,"cursor":{},"lsid":{"id":7},"pipeline":[{"$changeStream":{}}],"startTransaction":true,"txnNumber":{"$int64":"2"}}
-given plain-more running getMore collection $db lsid txnNumber autocommit {"$db":"db","autocommit":false,"collection":"coll","getMore":{"$int64":"9"},"lsid":{"id":7},"txnNumber":{"$int64":"1"}}
-list all none listCollections nameOnly $db lsid {"$db":"db","listCollections":1,"lsid":{"id":7},"nameOnly":true}
-list plain-indexes starting listIndexes $db lsid txnNumber startTransaction autocommit {"$db":"db","autocommit":false,"listIndexes":"coll","lsid":{"id":7},"startTransaction":true,"txnNumber":{"$int64":"2"}}
-given command running x $db lsid txnNumber autocommit $readPreference {"$db":"db","$readPreference":{"mode":"nearest"},"autocommit":false,"lsid":{"id":7},"txnNumber":{"$int64":"1"},"x":1}
-given plain committed x $db lsid {"$db":"db","lsid":{"id":7},"x":1}
-given kill none killCursors cursors $db lsid {"$db":"db","cursors":[{"$int64":"9"}],"killCursors":"coll","lsid":{"id":7}}
-write ordered starting insert documents ordered $db lsid txnNumber startTransaction autocommit writeConcern {"$db":"db","autocommit":false,"documents":[{"x":1}],"insert":"coll","lsid":{"id":7},"ordered":true,"startTransaction":true,"txnNumber":{"$int64":"2"},"writeConcern":{"j":true}}
-write deleted running delete deletes ordered $db lsid txnNumber autocommit writeConcern {"$db":"db","autocommit":false,"delete":"coll","deletes":[{"limit":1,"q":{"x":1}}],"lsid":{"id":7},"ordered":true,"txnNumber":{"$int64":"1"},"writeConcern":{"j":true}}
-write plain aborted update updates ordered $db lsid {"$db":"db","lsid":{"id":7},"ordered":true,"update":"coll","updates":[{"q":{"x":1},"u":{"x":2}}]}
-space create starting create $db lsid txnNumber startTransaction autocommit writeConcern {"$db":"db","autocommit":false,"create":"coll","lsid":{"id":7},"startTransaction":true,"txnNumber":{"$int64":"2"},"writeConcern":{"j":true}}
-space plain-indexes running createIndexes indexes $db lsid txnNumber autocommit {"$db":"db","autocommit":false,"createIndexes":"coll","indexes":[{"key":{"x":1},"name":"x_1"}],"lsid":{"id":7},"txnNumber":{"$int64":"1"}}
-space dropped committed drop $db lsid {"$db":"db","drop":"coll","lsid":{"id":7}}"#;
+    r#"find local starting~find filter $db lsid txnNumber startTransaction autocommit readConcern $readPreference {"$db":"db","$readPreference":{"mode":"nearest"},"autocommit":false,"filter":{"x":1},"find":"coll","lsid":{"id":7},"readConcern":{"level":"local"},"startTransaction":true,"txnNumber":{"$int64":"2"}}
+find raw aborted~find filter $db lsid readConcern $readPreference {"$db":"db","$readPreference":{"mode":"nearest"},"filter":{"x":1},"find":"coll","lsid":{"id":7},"readConcern":{"level":"local"}}
+aggregate journaled running~aggregate pipeline cursor $db lsid txnNumber autocommit writeConcern {"$db":"db","aggregate":"coll","autocommit":false,"cursor":{},"lsid":{"id":7},"pipeline":[{"$skip":1}],"txnNumber":{"$int64":"1"},"writeConcern":{"j":true}}
+aggregate watch starting~aggregate pipeline cursor $db lsid txnNumber startTransaction autocommit {"$db":"db","aggregate":"coll","autocommit":false,"cursor":{},"lsid":{"id":7},"pipeline":[{"$changeStream":{}}],"startTransaction":true,"txnNumber":{"$int64":"2"}}
+given plain-more running~getMore collection $db lsid txnNumber autocommit {"$db":"db","autocommit":false,"collection":"coll","getMore":{"$int64":"9"},"lsid":{"id":7},"txnNumber":{"$int64":"1"}}
+list all none~listCollections nameOnly $db lsid {"$db":"db","listCollections":1,"lsid":{"id":7},"nameOnly":true}
+list plain-indexes starting~listIndexes $db lsid txnNumber startTransaction autocommit {"$db":"db","autocommit":false,"listIndexes":"coll","lsid":{"id":7},"startTransaction":true,"txnNumber":{"$int64":"2"}}
+given command running~x $db lsid txnNumber autocommit $readPreference {"$db":"db","$readPreference":{"mode":"nearest"},"autocommit":false,"lsid":{"id":7},"txnNumber":{"$int64":"1"},"x":1}
+given plain committed~x $db lsid {"$db":"db","lsid":{"id":7},"x":1}
+given kill none~killCursors cursors $db lsid {"$db":"db","cursors":[{"$int64":"9"}],"killCursors":"coll","lsid":{"id":7}}
+write ordered starting~insert documents ordered $db lsid txnNumber startTransaction autocommit writeConcern {"$db":"db","autocommit":false,"documents":[{"x":1}],"insert":"coll","lsid":{"id":7},"ordered":true,"startTransaction":true,"txnNumber":{"$int64":"2"},"writeConcern":{"j":true}}
+write deleted running~delete deletes ordered $db lsid txnNumber autocommit writeConcern {"$db":"db","autocommit":false,"delete":"coll","deletes":[{"limit":1,"q":{"x":1}}],"lsid":{"id":7},"ordered":true,"txnNumber":{"$int64":"1"},"writeConcern":{"j":true}}
+write plain aborted~update updates ordered $db lsid {"$db":"db","lsid":{"id":7},"ordered":true,"update":"coll","updates":[{"q":{"x":1},"u":{"x":2}}]}
+space create starting~create $db lsid txnNumber startTransaction autocommit writeConcern {"$db":"db","autocommit":false,"create":"coll","lsid":{"id":7},"startTransaction":true,"txnNumber":{"$int64":"2"},"writeConcern":{"j":true}}
+space plain-indexes running~createIndexes indexes $db lsid txnNumber autocommit {"$db":"db","autocommit":false,"createIndexes":"coll","indexes":[{"key":{"x":1},"name":"x_1"}],"lsid":{"id":7},"txnNumber":{"$int64":"1"}}
+space dropped committed~drop $db lsid {"$db":"db","drop":"coll","lsid":{"id":7}}"#;
 
 #[test]
 fn commands_in_sessions(rt: HostRuntime) -> Result<(), Fail> {
-    are_built(&rt, rt.alloc(), COMMANDS)
+    are_found::<Commands>(&rt, rt.alloc(), "~", COMMANDS)
 }
 
-// How an operation is sent in a session of this state.
-fn sent<O: Operation + Drop>(
-    alloc: Global,
-    operation: Result<O, Error>,
-    state: TransactionState,
-) -> Result<Retry, Error> {
-    let operation = operation?;
-    let session = session_in(alloc, state)?;
-    Ok(operation.retry(Some(&session)))
+/// Each line is the state of a session, an operation, and how often it is sent there.
+const RETRIES: &str = "none find -> Read
+none watch -> Read
+none update -> None
+starting find -> None
+starting watch -> None
+starting update -> None
+running find -> None
+running watch -> None
+running update -> None
+committed find -> Read
+committed watch -> Read
+committed update -> None
+aborted find -> Read
+aborted watch -> Read
+aborted update -> None";
+
+struct Retries;
+
+impl Subject for Retries {
+    fn found(alloc: Global, line: &str) -> Result<String, Error> {
+        let (state, operation) = parted(line);
+        let session = session_of(alloc, state)?;
+        let retry = match operation {
+            "find" => local_find(alloc)?.retry(session.as_ref()),
+            "watch" => watch(alloc)?.retry(session.as_ref()),
+            _ => plain_update(alloc)?.retry(session.as_ref()),
+        };
+        Ok(format!(in alloc; "{retry:?}")?)
+    }
 }
 
 #[test]
 fn retries_in_sessions(rt: HostRuntime) -> Result<(), Fail> {
-    let alloc = rt.alloc();
-    let states = [
-        (TransactionState::None, Retry::Read),
-        (TransactionState::Starting, Retry::None),
-        (TransactionState::InProgress, Retry::None),
-        (TransactionState::Committed, Retry::Read),
-        (TransactionState::Aborted, Retry::Read),
-    ];
-    for (state, wanted) in states {
-        assert_eq!(rt; sent(alloc, local_find(alloc), state)?, wanted);
-        assert_eq!(rt; sent(alloc, watch(alloc), state)?, wanted);
-        assert_eq!(rt; sent(alloc, plain_update(alloc), state)?, Retry::None);
-    }
-    Ok(())
+    are_found::<Retries>(&rt, rt.alloc(), " -> ", RETRIES)
 }
 
 // Begins a transaction of the session that a handle lends, where it has one.
