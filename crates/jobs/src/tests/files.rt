@@ -280,31 +280,33 @@ fn close(
     }
 }
 
-// How many bytes the chunk has.
-fn chunk_length(chunk: &RawDocument<'_>) -> Option<usize> {
-    let (_, bytes) = chunk.get("data")?.as_binary()?;
-    Some(bytes.len())
+// How many bytes a chunk has, or a record tells.
+fn length_of(document: &RawDocument<'_>) -> Option<i64> {
+    match document.get("data") {
+        Some(data) => {
+            let (_, bytes) = data.as_binary()?;
+            i64::try_from(bytes.len()).ok()
+        }
+        None => document.get("length")?.as_i64(),
+    }
 }
 
-// The length that the record tells.
-fn told_length(record: &RawDocument<'_>) -> Option<i64> {
-    record.get("length")?.as_i64()
+// The lengths of the chunks, or of the records, in the store.
+fn lengths(alloc: Global, link: &MemLink, coll: &str) -> Result<String, Error> {
+    let mut told = String::new(alloc);
+    for document in link.store().documents(&collection(alloc, coll)?)? {
+        let length = length_of(&document.as_raw()).unwrap_or(-1);
+        told.push_str(format!(in alloc; "/{length}")?.as_str())?;
+    }
+    Ok(told)
 }
 
 // The lengths of the chunks in the store, those that its records tell, and how many commands were sent.
 fn stored(alloc: Global, link: &MemLink) -> Result<String, Error> {
-    let mut told = String::new(alloc);
-    for chunk in link.store().documents(&collection(alloc, "fs.chunks")?)? {
-        let length = chunk_length(&chunk.as_raw()).unwrap_or(0);
-        told.push_str(format!(in alloc; "/{length}")?.as_str())?;
-    }
-    for record in link.store().documents(&collection(alloc, "fs.files")?)? {
-        let length = told_length(&record.as_raw()).unwrap_or(-1);
-        told.push_str(format!(in alloc; "/{length}")?.as_str())?;
-    }
+    let chunks = lengths(alloc, link, "fs.chunks")?;
+    let records = lengths(alloc, link, "fs.files")?;
     let commands = link.log().calls().len();
-    told.push_str(format!(in alloc; " in {commands}")?.as_str())?;
-    Ok(told)
+    Ok(format!(in alloc; "{chunks}{records} in {commands}")?)
 }
 
 // Puts a file of these pieces.

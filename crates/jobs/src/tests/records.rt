@@ -19,7 +19,7 @@ use std::test::Fail;
 // Each line is a record of options, how it is given, and what it puts into a body: the names in order, and the JSON text.
 const RECORDS: &str =
     r#"find all~allowDiskUse allowPartialResults batchSize comment hint limit max maxScan maxTimeMS min noCursorTimeout projection returnKey showRecordId skip sort collation let {"allowDiskUse":true,"allowPartialResults":false,"batchSize":5,"collation":{"locale":"en"},"comment":"c","hint":"h","let":{"x":5},"limit":{"$int64":"7"},"max":{"x":1},"maxScan":{"$int64":"8"},"maxTimeMS":2147483647,"min":{"x":2},"noCursorTimeout":true,"projection":{"x":3},"returnKey":false,"showRecordId":true,"skip":{"$int64":"9"},"sort":{"x":4}}
-find one~allowPartialResults comment hint limit max maxScan maxTimeMS min projection returnKey showRecordId skip sort collation let {"allowPartialResults":true,"collation":{"locale":"en"},"comment":6,"hint":{},"let":{"x":5},"limit":{"$int64":"1"},"max":{"x":1},"maxScan":{"$int64":"8"},"maxTimeMS":7,"min":{"x":2},"projection":{"x":3},"returnKey":true,"showRecordId":false,"skip":{"$int64":"9"},"sort":{"x":4}}
+find one~allowPartialResults comment hint limit max maxScan maxTimeMS min projection returnKey showRecordId skip sort collation let {"allowPartialResults":true,"collation":{"locale":"en"},"comment":6,"hint":{"x":1},"let":{"x":2},"limit":{"$int64":"1"},"max":{"x":4},"maxScan":{"$int64":"8"},"maxTimeMS":7,"min":{"x":5},"projection":{"x":6},"returnKey":true,"showRecordId":false,"skip":{"$int64":"9"},"sort":{"x":3}}
 find file~limit maxTimeMS skip sort {"limit":{"$int64":"1"},"maxTimeMS":6,"skip":{"$int64":"2"},"sort":{}}
 find files~allowDiskUse batchSize limit maxTimeMS skip sort {"allowDiskUse":true,"batchSize":5,"limit":{"$int64":"3"},"maxTimeMS":6,"skip":{"$int64":"2"},"sort":{}}
 find least~invalid limit
@@ -128,17 +128,15 @@ fn find(alloc: Global) -> Result<FindOptions, Error> {
 
 // A find of one document, of which everything is given.
 fn find_one(alloc: Global) -> Result<FindOneOptions, Error> {
-    let max = keys(alloc, 1)?;
-    let min = keys(alloc, 2)?;
-    let projection = keys(alloc, 3)?;
-    let sort = keys(alloc, 4)?;
-    let let_vars = keys(alloc, 5)?;
-    let locale = String::from_str(alloc, "en")?;
+    let max = keys(alloc, 4)?;
+    let min = keys(alloc, 5)?;
+    let projection = keys(alloc, 6)?;
+    let (rules, hint, let_vars, sort) = common(alloc)?;
     let options = FindOneOptions::builder()
         .allow_partial_results(true)
-        .collation(Collation::builder(locale))
+        .collation(rules)
         .comment(Bson::Int32(6))
-        .hint(Hint::Keys(Document::new(alloc)))
+        .hint(hint)
         .max(max)
         .max_scan(8)
         .max_time(7)
