@@ -204,9 +204,9 @@ const DIFFERING: &str = "10,4|0:abcd 1:efgh 2:ij~/abcd/efgh/ij/end /abcdefghij/e
 4,0|0:abcd~invalid response: chunk size 0 invalid response: chunk size 0
 9223372036854775807,1|0:a~invalid response: too many chunks invalid response: too many chunks";
 
-struct Differing;
+struct DifferingChunks;
 
-impl Subject for Differing {
+impl Subject for DifferingChunks {
     fn found(alloc: Global, line: &str) -> Result<String, Error> {
         let (sizes, words) = line.split_once('|').unwrap_or((line, ""));
         let small_room = differing(alloc, sizes, words, 4)?;
@@ -217,7 +217,7 @@ impl Subject for Differing {
 
 #[test]
 fn chunks_are_checked(rt: HostRuntime) -> Result<(), Fail> {
-    are_found::<Differing>(&rt, rt.alloc(), "~", DIFFERING)
+    are_found::<DifferingChunks>(&rt, rt.alloc(), "~", DIFFERING)
 }
 
 /// A store of two files, and one of none, and what is read there.

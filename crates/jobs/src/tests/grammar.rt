@@ -88,9 +88,9 @@ null~Null~null
 {"a":{"b":[{"$int64":"x"}]}}~refused
 {"a":{"$date":1},"b":18446744073709551615}~refused"#;
 
-struct Values;
+struct ScriptValues;
 
-impl Subject for Values {
+impl Subject for ScriptValues {
     /// What a JSON text stands for: the kind and the printed value, parted by `~`, or `refused`.
     fn found(alloc: Global, json: &str) -> Result<String, Error> {
         let Ok(json) = Value::from_slice(alloc, json.as_bytes()) else {
@@ -106,7 +106,7 @@ impl Subject for Values {
 
 #[test]
 fn values(rt: HostRuntime) -> Result<(), Fail> {
-    are_found::<Values>(&rt, rt.alloc(), "~", VALUES)
+    are_found::<ScriptValues>(&rt, rt.alloc(), "~", VALUES)
 }
 
 // ---- scripts

@@ -188,9 +188,9 @@ watch 3 8388445 -> 1 1 1
 watch 2 16777216 -> 1 1 0
 watch 203 22 -> 101 101 1";
 
-struct Batches;
+struct BatchSizes;
 
-impl Subject for Batches {
+impl Subject for BatchSizes {
     fn found(alloc: Global, line: &str) -> Result<String, Error> {
         let (name, sizes) = parted(line);
         let (count, bytes) = parted(sizes);
@@ -201,7 +201,7 @@ impl Subject for Batches {
 
 #[test]
 fn batches_are_cut(rt: HostRuntime) -> Result<(), Fail> {
-    are_found::<Batches>(&rt, rt.alloc(), " -> ", BATCHES)
+    are_found::<BatchSizes>(&rt, rt.alloc(), " -> ", BATCHES)
 }
 
 // A command that kills the cursors with the first so many ids.

@@ -275,9 +275,9 @@ app~none
 app.~none
 .~none";
 
-struct Names;
+struct Namespaces;
 
-impl Subject for Names {
+impl Subject for Namespaces {
     fn found(alloc: Global, text: &str) -> Result<String, Error> {
         let Some(name) = Namespace::from_str(alloc, text)? else {
             return Ok(String::from_str(alloc, "none")?);
@@ -291,7 +291,7 @@ impl Subject for Names {
 
 #[test]
 fn names(rt: HostRuntime) -> Result<(), Fail> {
-    are_found::<Names>(&rt, rt.alloc(), "~", NAMES)
+    are_found::<Namespaces>(&rt, rt.alloc(), "~", NAMES)
 }
 
 #[test]
