@@ -236,8 +236,13 @@ fn read_word(alloc: Global, link: &mut ScriptLink) -> Result<String, Error> {
     let mut cursor: Cursor<Document> = Cursor::new_cursor(alloc, specification(alloc, "01")?);
     let poll = cursor.poll_next(link);
     let word = item_word(alloc, &poll)?;
-    let document = cursor.deserialize_current()?;
-    Ok(format!(in alloc; "{word} {:?}", document.get_i32("x"))?)
+    match poll {
+        ItemPoll::Item(_) => {
+            let document = cursor.deserialize_current()?;
+            Ok(format!(in alloc; "{word} {:?}", document.get_i32("x"))?)
+        }
+        _ => Ok(word),
+    }
 }
 
 // Whether a batch, and a copy of it, hold a document.
