@@ -410,7 +410,7 @@ module _ (awaited : Awaited) (c : Course) (i : ℕ) (begun calls : List Call) (w
   follow_well (ended.Gave x) count k pended said token alive closed caused played turns = open_well count k pended said token alive closed caused played turns
   follow_well (ended.Failed e) count k pended said token alive closed caused played turns =
       elim caused [
-        | inl room ↦ inl room
+        | inl none ↦ inl none.0
         | inr f ↦ unopened_well e f
       ]
 

@@ -54,7 +54,7 @@ use Rattle.mg_jobs.proofs.Later.{begins, called_grows, last_begins, so_far_grows
 use Rattle.mg_jobs.proofs.Left.{held_few, landing_few, places_few}
 use Rattle.mg_jobs.proofs.Sending.{calls_such, closing_such, opening_such}
 use Rattle.mg_jobs.proofs.Sends.{for_answered, for_opened, for_so_far, such_adds}
-use Rattle.mg_jobs.proofs.Whole.{since_on, whole_answered, whole_going, whole_opened, whole_same}
+use Rattle.mg_jobs.proofs.Whole.{only_now, since_on, whole_answered, whole_going, whole_opened, whole_same}
 
 -- ---- places
 
@@ -326,7 +326,7 @@ begin_tells old new log log' wire k opening s' k' next args sound unsent rest ca
 -- Memory ran out before it.
 pub begin_fails : (awaited : Awaited) (log : LogTold) (wire : ℤ) (k k' : Kept) (e : Error) → k'.opened ≡ ended.Failed e → e.kind ≡ kind.OutOfMemory → FollowTells awaited awaited log log wire stage.Unopened k stage.Ended k' same_place
 begin_fails awaited log wire k k' e failed room calls calls' told told' q at t =
-    tell_same awaited log wire calls calls' told told' q 0 stage.Ended k' at k.watched (subst (λ (o : Ended (Unit {0})). TellsEnd calls wire q k' at o) (sym failed) (inl room)) (extends_rest q 0 (length k'.said) (length calls) t.1)
+    tell_same awaited log wire calls calls' told told' q 0 stage.Ended k' at k.watched (subst (λ (o : Ended (Unit {0})). TellsEnd calls wire q k' at o) (sym failed) (inl (room, only_now q t.0.2 t.0.0 ∙ t.1))) (extends_rest q 0 (length k'.said) (length calls) t.1)
 
 -- what a poll of an opening does, and what it comes to
 abbrev pub Opens : Awaited → Awaited → LogTold → LogTold → ℤ → Opening Fields → Step ClientOpening ClientStream → Type 0

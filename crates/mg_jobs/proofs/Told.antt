@@ -330,7 +330,7 @@ module _ (awaited : Awaited) (c : Course) (i : ℕ) (calls : List Call) (wire : 
   end_caused : (count : ℕ) (q : Places) (o : Ended (Unit {0})) → o ≡ job.opened → token ≡ job.token → AllSent c i q (length job.answers.items) → (IsUnfinished o → ⊥) → TellsEnd calls wire q (kept job) at o → Caused count o
   end_caused count q ended.Unfinished is same sent over t = absurd (over tt)
   end_caused count q (ended.Gave x) is same sent over t = subst (λ (o : Ended (Unit {0})). Caused count o) (sym is) (open_caused count q (length job.answers.items) t.0 sent t.1 (same ∙ t.2) (was_closed count q.now t.0 job.closed sent.now t.3 t.4))
-  end_caused count q (ended.Failed e) is same sent over (inl room) = inl room
+  end_caused count q (ended.Failed e) is same sent over (inl none) = inl (none.0, sym sent.whole ∙ none.1)
   end_caused count q (ended.Failed e) is same sent over (inr t) =
       inr (record { args = t.0.args; args_are = t.0.args_are; places = q.opened; sent = sent.opened; whole = sym (only_opened q t.1 t.2) ∙ sent.whole; fails = t.0.fails; opens = t.0.opens })
 

@@ -217,7 +217,7 @@ pub record OpenWaits (awaited : Awaited) (c : Course) (i : ℕ) (calls : List Ca
   pub opens : FallsAt (IsOpening args wire None) calls 3 places 1
   pub waits : IsAwaited awaited (sent_at places calls wire) (resuming_in (first_aggregate args) wire None)
 
--- one whose stream was not opened: its opening has failed, or memory ran out before
+-- one whose stream was not opened: its opening has failed
 pub record OpenFailed (c : Course) (i : ℕ) (calls : List Call) (wire : ℤ) (on : Target) (start : Begin) (filter : Option Fields) (batch : Option ℕ) (e : Error) : Type 0 where
   pub args : WatchArgs
   pub args_are : IsArgsFor on start filter batch args
@@ -228,11 +228,11 @@ pub record OpenFailed (c : Course) (i : ℕ) (calls : List Call) (wire : ℤ) (o
   pub fails : OpeningFails (sent_at places calls wire) None args e
   pub opens : FallsAt (IsOpening args wire None) calls 3 places 1
 
--- it is being opened, and waits where its newest turn pended; or it was opened; or it was not
+-- it is being opened, and waits where its newest turn pended; or it was opened; or it was not, and sent nothing where memory ran out before its opening
 abbrev pub FollowCaused : {A B : Type 0} → Awaited → Course → (i count : ℕ) → List Call → ℤ → Target → Begin → Option Fields → Option ℕ → Ended A → List Answer → Option Tree → Bool → Ended B → Type 0
 FollowCaused awaited c i count calls wire on start filter batch ended.Unfinished said token alive closed = pends_last i c.order c.notes ≡ true → OpenWaits awaited c i calls wire on start filter batch
 FollowCaused awaited c i count calls wire on start filter batch (ended.Gave x) said token alive closed = OpenCaused awaited c i count calls wire on start filter batch said token alive closed
-FollowCaused awaited c i count calls wire on start filter batch (ended.Failed e) said token alive closed = (e.kind ≡ kind.OutOfMemory) ⊎ OpenFailed c i calls wire on start filter batch e
+FollowCaused awaited c i count calls wire on start filter batch (ended.Failed e) said token alive closed = ((e.kind ≡ kind.OutOfMemory) × (places_of c i ≡ [])) ⊎ OpenFailed c i calls wire on start filter batch e
 
 -- ---- all jobs
 

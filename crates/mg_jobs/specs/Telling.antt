@@ -93,7 +93,7 @@ pub record TellsFailed (calls : List Call) (wire : ℤ) (places : List ℕ) (v :
 abbrev pub TellsEnd : {A : Type 0} → List Call → ℤ → Places → Kept → Option ℕ → Ended A → Type 0
 TellsEnd calls wire q k at ended.Unfinished = Unit {0}
 TellsEnd calls wire q k at (ended.Gave x) = (last : ClientStream) × IsOpened calls wire q k last at × (k.token ≡ stream_token last) × ClosedBy (sent_at q.now calls wire) last k.closed × FallsAt (KillsLast last) calls 1 q.now 0
-TellsEnd calls wire q k at (ended.Failed e) = (e.kind ≡ kind.OutOfMemory) ⊎ (TellsFailed calls wire q.opened k.watched e × (q.owns ≡ []) × (q.now ≡ []))
+TellsEnd calls wire q k at (ended.Failed e) = ((e.kind ≡ kind.OutOfMemory) × (all_places q ≡ [])) ⊎ (TellsFailed calls wire q.opened k.watched e × (q.owns ≡ []) × (q.now ≡ []))
 
 -- how many places are left to a closing: one before the killing of what is left was sent, and none behind it
 abbrev pub landing_places : Landing → ℕ
