@@ -52,6 +52,7 @@ use Rattle.mg_jobs.proofs.Fallings.{closing_falls, closing_left, kill_of, openin
 use Rattle.mg_jobs.proofs.Lasting.{Lasts}
 use Rattle.mg_jobs.proofs.Later.{begins, called_grows, last_begins, so_far_grows}
 use Rattle.mg_jobs.proofs.Left.{held_few, landing_few, places_few}
+use Rattle.mg_jobs.proofs.OwnTickets.{none_is_not}
 use Rattle.mg_jobs.proofs.Sending.{calls_such, closing_such, opening_such}
 use Rattle.mg_jobs.proofs.Sends.{for_answered, for_opened, for_so_far, such_adds}
 use Rattle.mg_jobs.proofs.Whole.{only_now, since_on, whole_answered, whole_going, whole_opened, whole_same}
@@ -187,7 +188,7 @@ tells_later old new calls calls' wire q (stage.Open stream) k at keeps same t = 
   open_later calls calls' wire q.opened q.owns k.watched k.opened k.said k.alive t.0 at keeps t.1,
   so_far_grows (sent_at q.now calls wire) (sent_at q.now calls' wire) (grows_later q.now calls calls' wire keeps) old new t.0 (stream_of stream) same t.2,
   t.3,
-  record { falls = falls_later (IsSentAt t.0) calls calls' 4 q.now (calling.places (stream_of stream)) keeps t.4.falls; cursor = t.4.cursor },
+  record { falls = falls_later (IsSentAt t.0) calls calls' 4 q.now (calling.places (stream_of stream)) keeps t.4.falls; cursor = t.4.cursor; rests = t.4.rests },
 )
 tells_later old new calls calls' wire q (stage.Closes closing) k at keeps same t = (
   t.0,
@@ -469,6 +470,7 @@ module _ (log log' : LogTold) (at : ClientStream) (own : List ℕ) (s s1 : Clien
       record {
         falls = call_falls polls.Pending sent so;
         cursor = λ many. let few : calling.places s1 ≤ 3 = held_few s1.cursor s1.doing held in absurd (omega (arith, few, many));
+        rests = λ none. absurd (none_is_not (stream_ticket s1) none held);
       }
 
 ends_places : (answer : Answer) (s : ClientStream) → places_behind (event_ending (poll_of answer)) s ≡ 0
@@ -548,6 +550,7 @@ rest_stays_tells awaited log wire stream k sound rest calls calls' told told' q 
       record {
         falls = none_now (IsSentAt (stream_of stream)) calls 4 q (calling.places (stream_of stream)) none (places_few (stream_of stream).cursor (stream_of stream).doing);
         cursor = λ many. refl;
+        rests = λ waits. none;
       },
     )
     (extends_rest q (length k.said) (suc (length k.said)) (length calls) none)

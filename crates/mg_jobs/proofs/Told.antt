@@ -63,6 +63,7 @@ use Rattle.mg_jobs.proofs.Identified.{calls_identified, honest_over, opened_well
 use Rattle.mg_jobs.proofs.InsertTelling.{ends_of, ends_sent}
 use Rattle.mg_jobs.proofs.JobTelling.{first_tells, job_later, job_of_others, number_at}
 use Rattle.mg_jobs.proofs.Newest.{newest_other, newest_own, none_sent, started_in}
+use Rattle.mg_jobs.proofs.OwnTickets.{none_if}
 use Rattle.mg_jobs.proofs.Sends.{sends_first, sends_other, sends_turn, sent_had}
 use Rattle.mg_jobs.proofs.Turning.{failed_not_unfinished, follow_followed, unfinished_not_given}
 use Rattle.mg_jobs.proofs.Whole.{only_now, only_opened, places_other, places_own}
@@ -336,7 +337,7 @@ module _ (awaited : Awaited) (c : Course) (i : ℕ) (calls : List Call) (wire : 
 
   -- how a follow goes on whose stream is open
   rests_or_waits : (count : ℕ) (b : Bool) → pended_last ≡ b → (stream : ChangeStream Fields) (told : FollowTold awaited calls wire c i (stage.Open stream) (kept job) at) → IsOpen count (came job) (turns_done i c.order c.notes) → HoldsIf b (stream_ticket (stream_of stream)) → OpenStands awaited c i count (length job.answers.items) calls wire told.tells.0 told.places.now
-  rests_or_waits count false is stream told so holds = at_rest is (omega (arith, so.rest, so.more)) (call_falls_so calls told.tells.0 told.places.now (calling.places (stream_of stream)) told.tells.4.falls)
+  rests_or_waits count false is stream told so holds = at_rest is (omega (arith, so.rest, so.more)) (told.tells.4.rests (none_if (stream_ticket (stream_of stream)) false (sym holds) refl))
   rests_or_waits count true is stream told so holds =
       in_call is (omega (arith, so.rest, so.more)) told.sent.now (call_awaits awaited (sent_at told.places.now calls wire) true told.tells.0 (stream_of stream) (sound_any true (stream_of stream) told.tells.3) told.tells.2 holds) (call_falls_so calls told.tells.0 told.places.now (calling.places (stream_of stream)) told.tells.4.falls)
 

@@ -172,8 +172,8 @@ pub record Closed {A : Type 0} (c : Course) (i k : ℕ) (calls : List Call) (wir
 
 -- Where an open stream stands of whose calls so many were answered, and which sent at these places since.
 pub data OpenStands (awaited : Awaited) (c : Course) (i count answered : ℕ) (calls : List Call) (wire : ℤ) (last : ClientStream) (now : List ℕ) : Type 0 where
-  -- its newest turn did not pend, and a call is left
-  at_rest : pends_last i c.order c.notes ≡ false → answered < count → FallsAt (IsSentAt last) calls 4 now 0 → OpenStands awaited c i count answered calls wire last now
+  -- its newest turn did not pend, and a call is left: nothing was sent for it
+  at_rest : pends_last i c.order c.notes ≡ false → answered < count → now ≡ [] → OpenStands awaited c i count answered calls wire last now
   -- its next call waits for a reply
   in_call : pends_last i c.order c.notes ≡ true → answered < count → AllSentIn c i (suc answered) now → CallWaits awaited (sent_at now calls wire) true last → FallsAt (IsSentAt last) calls 4 now 0 → OpenStands awaited c i count answered calls wire last now
   -- all its calls are answered, and its closing waits for a reply

@@ -11,7 +11,7 @@ use Rattle.mg_link.specs.declared.error.ErrorKind.TheVariants as kind
 use Rattle.mg_ops.specs.Naming.{IsNamed}
 use Rattle.mg_ops.specs.declared.change_stream.WatchArgs.{WatchArgs}
 use Rattle.mg_change.specs.Causes.{SoFar}
-use Rattle.mg_change.specs.ClientStreams.{ClientStream, IsAlive, IsSound, stream_token}
+use Rattle.mg_change.specs.ClientStreams.{ClientStream, IsAlive, IsSound, stream_ticket, stream_token}
 use Rattle.mg_change.specs.ClosingCauses.{LastSoFar}
 use Rattle.mg_change.specs.ClosingStreams.{Landing, ends, lands, lands_aggregate, lands_replaced}
 use Rattle.mg_change.specs.OpenedStreams.{IsOpening}
@@ -102,10 +102,12 @@ landing_places (lands_aggregate sending) = 1
 landing_places (lands_replaced before) = 1
 landing_places (ends sending) = ending_places sending.stage
 
--- A call that began where its stream stood so sent its commands at these places; where it may still send its getMore, that is of the cursor which it began with.
+-- A call that began where its stream stood so sent its commands at these places, none where it waits for no reply; where it may still send its getMore, that is
+-- of the cursor which it began with.
 pub record SendsSoFar (calls : List Call) (at : ClientStream) (own : List ℕ) (s : ClientStream) : Type 0 where
   pub falls : FallsAt (IsSentAt at) calls 4 own (calling.places s)
   pub cursor : 4 ≤ calling.places s → s.cursor ≡ at.cursor
+  pub rests : stream_ticket s ≡ None → own ≡ []
 
 -- what it can tell at each stage, where the call at this place opened its stream
 abbrev pub Tells : Awaited → List Call → ℤ → Places → Stage → Kept → Option ℕ → Type 0
