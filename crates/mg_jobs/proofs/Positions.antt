@@ -10,7 +10,7 @@ use Rattle.mg_link.specs.Owner.{IsOf}
 use Rattle.mg_link.specs.Prompt.{HoldsBackNone}
 use Rattle.mg_link.specs.Standing.{Stands}
 use Rattle.mg_jobs.specs.Causes.{Course, SentIn, places_from, places_in, places_of}
-use Rattle.mg_jobs.specs.Completing.{AnswersWell, NoneRefused, own_position, positions_at}
+use Rattle.mg_jobs.specs.Completing.{AnswersWellIn, NoneRefused, own_position, positions_at}
 use Rattle.mg_jobs.proofs.Newest.{started_in}
 use Rattle.mg_jobs.proofs.Telling.{from_is, in_first, in_second}
 use Rattle.mg_script.specs.declared.outcome.Turned.{Turned}
@@ -42,12 +42,16 @@ has_position calls (first ∷ places) place call position (inr of) there at =
     Contains-append_right (own_position (option_and_then (λ (c : Call). c.position) (slice_get calls first))) (positions_at calls places) position (has_position calls places place call position of there at)
 
 -- A history that holds nothing back answers a job at once none of whose steps it refused.
-pub answered_well : (c : Course) (i : ℕ) (calls : List Call) (history : List Step) → IsLegal history → Stands calls history → HoldsBackNone history → NoneRefused c i calls history → AnswersWell c i calls
-answered_well c i calls history legal stands prompt taken = record {
-  history = history;
-  legal = legal;
-  stands = stands;
-  own = positions_at calls (places_of c i);
-  positions = λ k place call position sent there at. has_position calls (places_of c i) place call position (sent_place c i k place sent) there at;
-  prompt = prompt.each (positions_at calls (places_of c i)) taken;
-}
+pub answered_well : (c : Course) (i : ℕ) (calls : List Call) (history : List Step) → IsLegal history → Stands calls history → HoldsBackNone history → NoneRefused c i calls history → AnswersWellIn c i calls history
+answered_well c i calls history legal stands prompt taken = (
+  record {
+    history = history;
+    legal = legal;
+    stands = stands;
+    own = positions_at calls (places_of c i);
+    positions = λ k place call position sent there at. has_position calls (places_of c i) place call position (sent_place c i k place sent) there at;
+    prompt = prompt.each (positions_at calls (places_of c i)) taken;
+  },
+  refl,
+  refl,
+)

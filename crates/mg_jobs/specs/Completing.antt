@@ -62,6 +62,10 @@ abbrev pub positions_at : List Call → List ℕ → List ℕ
 positions_at calls [] = []
 positions_at calls (place ∷ places) = own_position (option_and_then (λ (call : Call). call.position) (slice_get calls place)) ++ positions_at calls places
 
+-- job i was answered so in this very history, in which its own steps, and no others, stand at these positions
+abbrev pub AnswersWellIn : Course → ℕ → List Call → List Step → Type 0
+AnswersWellIn c i calls history = (answers : AnswersWell c i calls) × (answers.history ≡ history) × (answers.own ≡ positions_at calls (places_of c i))
+
 -- none of the steps of job i was refused in this history
 abbrev pub NoneRefused : Course → ℕ → List Call → List Step → Type 0
 NoneRefused c i calls history = (position : ℕ) (step : Step) → Contains (positions_at calls (places_of c i)) position → slice_get history position ≡ Some step → IsRefused (told_at step) → ⊥

@@ -13,7 +13,7 @@ use Rattle.mg_link.specs.Owner.{NamesItsOwn}
 use Rattle.mg_link.specs.Places.{out_at, polls_in}
 use Rattle.mg_link.specs.Standing.{Stands}
 use Rattle.mg_jobs.specs.Causes.{AllPollOwn, AllWaitAlone, OutcomeCaused, course}
-use Rattle.mg_jobs.specs.Completing.{AnswersWell, JobWell, NoneRefused}
+use Rattle.mg_jobs.specs.Completing.{AnswersWellIn, JobWell, NoneRefused}
 use Rattle.mg_jobs.specs.Counts.{AreNoted, turns_pended}
 use Rattle.mg_jobs.specs.Fated.{AreItsSteps}
 use Rattle.mg_jobs.specs.Drawing.{as_sent}
@@ -85,7 +85,8 @@ script_ids script n = counted_id (script.ids ++ 0 ∷ []) n
 -- follows how far each job came. Each note says rightly whether its turn pended: one poll pended in it, or none, and that of the newest command which its
 -- job sent up to then, by the notes; and each call pended as often as its fate says, or less while it waits. A call that waits was sent in a turn of a job
 -- whose newest turn pended by its note, and which waits for no other. Each command that a turn sent, by the notes, is one that its job may send. Where every
--- fate keeps its command, each job ends well whose steps were answered at once; and so were the steps of each job of which the run's store refused none.
+-- fate keeps its command, each job ends well whose steps were answered at once; and so were, in the history of the run's own
+-- store, the steps of each job of which it refused none.
 pub record RunFollowed (run : Run) : Type 0 where
   pub calls : List Call
   pub log_is : run.logs.items ≡ calls ∷ []
@@ -113,7 +114,7 @@ pub record RunFollowed (run : Run) : Type 0 where
   pub waits_alone : AllWaitAlone (out_at []) (out_at calls) (Some []) run.script.order.items turns.items
   pub sends : (i : ℕ) (t : Task) → slice_get (tasks run.script.jobs.items) i ≡ Some t
       → SendsOnly (MaySend (as_sent (script_ids run.script) (tasks run.script.jobs.items) run.script.order.items i t)) (course [] run.script.order.items turns.items) i calls
-  pub prompt : (i : ℕ) → NoneRefused (course [] run.script.order.items turns.items) i calls (steps_of run.store.history) → AnswersWell (course [] run.script.order.items turns.items) i calls
+  pub prompt : (i : ℕ) → NoneRefused (course [] run.script.order.items turns.items) i calls (steps_of run.store.history) → AnswersWellIn (course [] run.script.order.items turns.items) i calls (steps_of run.store.history)
   pub well : AreKept 0 fates → (i : ℕ) (t : Task) (r : Outcome) → slice_get (tasks run.script.jobs.items) i ≡ Some t → slice_get run.outcomes.items i ≡ Some r
       → JobWell (course [] run.script.order.items turns.items) i calls (as_sent (script_ids run.script) (tasks run.script.jobs.items) run.script.order.items i t) r
 
