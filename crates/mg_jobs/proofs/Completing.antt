@@ -68,6 +68,7 @@ use Rattle.mg_script.specs.declared.outcome.Ended.TheVariants as ended
 use Rattle.mg_script.specs.declared.outcome.Outcome.{Outcome}
 use Rattle.mg_script.specs.declared.outcome.Played.{Played}
 use Rattle.mg_script.specs.declared.outcome.Turned.{Turned}
+use Rattle.mg_jobs.proofs.Drawing.{played_as_sent}
 use Rattle.mg_jobs.proofs.Batches.{breaks_not, events_are, tells_not}
 use Rattle.mg_jobs.proofs.InsertWell.{never_lists}
 use Rattle.mg_jobs.proofs.Own.{HasOwn, StandsOwn, called_own, opened_own}
@@ -547,13 +548,6 @@ pub jobs_end : (awaited : Awaited) (c : Course) (i : ℕ) (begun calls : List Ca
 jobs_end awaited c i begun calls wire t r whole faultless caused played = let well = jobs_end_well awaited c i begun calls wire t r whole faultless caused played in (well, jobs_fit c i calls t r well)
 
 -- ---- a run
-
--- the documents of an insert do not change how far it comes
-played_as_sent : (ids : ℕ → List ℕ) (ts : List Task) (order : List ℕ) (i : ℕ) (t : Task) (k : ℕ) (last : Bool) (r : Outcome) → IsPlayed t k last r → IsPlayed (as_sent ids ts order i t) k last r
-played_as_sent ids ts order i (insert ns docs) k last r played = played
-played_as_sent ids ts order i (follow on count start filter batch) k last r played = played
-played_as_sent ids ts order i (put db bucket name id chunk pieces) k last r played = played
-played_as_sent ids ts order i (get db bucket id read) k last r played = played
 
 all_well : (ids : ℕ → List ℕ) (awaited : Awaited) (log log' : LogTold) (wire : ℤ) (tasks : List Task) (order : List ℕ) (notes : List Turned) (outcomes : List Outcome) → LosesNothing log log' → AllCaused ids awaited log log' wire tasks order notes outcomes → AllPlayed tasks order notes outcomes → AllWell ids log log' tasks order notes outcomes
 all_well ids awaited log log' wire tasks order notes outcomes lossless caused played calls told =

@@ -14,10 +14,12 @@ use Rattle.mg_ops.proofs.Drawn.{ids_by, ids_from, later_on, later_same}
 use Rattle.mg_jobs.specs.Drawing.{DrawsAs, HadTurn, HaveDrawn, JobHadTurn, JobHasIds, as_sent, before_first, drawn_behind, drawn_in, draws, first_id, has_turn, next_draws, sent_from, turn_draws}
 use Rattle.mg_jobs.specs.Headline.{AreFirst, DoTasks, IsFirst, task_of}
 use Rattle.mg_jobs.specs.Playing.{HasIds, inserts_ended}
+use Rattle.mg_jobs.specs.Progress.{IsPlayed}
 use Rattle.mg_jobs.specs.Runs.{has_ended}
 use Rattle.mg_jobs.specs.declared.insert.InsertStage.{InsertStage}
 use Rattle.mg_jobs.specs.declared.insert.InsertStage.TheVariants as inserts
 use Rattle.mg_jobs.specs.declared.player.Player.{Player}
+use Rattle.mg_script.specs.declared.outcome.Outcome.{Outcome}
 use Rattle.mg_script.specs.declared.outcome.Played.{Played}
 use Rattle.mg_jobs.specs.declared.player.Player.TheVariants as player
 use Rattle.mg_jobs.proofs.Apart.{length_set}
@@ -240,3 +242,10 @@ drawn_whole ids now ts order k players over d = subst (λ (ns : List ℕ). HaveD
 pub drawn_so : (ids now : ℕ → List ℕ) (ts : List Task) (order : List ℕ) (players : List Player) (result : Result Played Error) → HaveDrawn ids now ts order players → IfOk result (λ p. AreLater ids (drawn_in ts order) now)
 drawn_so ids now ts order players (Ok p) d = d.stands
 drawn_so ids now ts order players (Err e) d = tt
+
+-- the documents of an insert do not change how far it comes
+pub played_as_sent : (ids : ℕ → List ℕ) (ts : List Task) (order : List ℕ) (i : ℕ) (t : Task) (k : ℕ) (last : Bool) (r : Outcome) → IsPlayed t k last r → IsPlayed (as_sent ids ts order i t) k last r
+played_as_sent ids ts order i (plan.insert ns docs) k last r played = played
+played_as_sent ids ts order i (plan.follow on count start filter batch) k last r played = played
+played_as_sent ids ts order i (plan.put db bucket name id chunk pieces) k last r played = played
+played_as_sent ids ts order i (plan.get db bucket id read) k last r played = played

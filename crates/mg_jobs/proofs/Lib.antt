@@ -24,6 +24,13 @@ pub mod Identified
 pub mod InsertWell
 pub mod Own
 pub mod Completing
+pub mod Sizes
+pub mod Inserted
+pub mod Replying
+pub mod OpeningRead
+pub mod OpeningTaken
+pub mod Senders
+pub mod Refusing
 pub mod SaidTwice
 pub mod InsertTelling
 pub mod JobTelling

@@ -10,7 +10,7 @@ use Rattle.mg_link.specs.Owner.{IsOf}
 use Rattle.mg_link.specs.Prompt.{HoldsBackNone}
 use Rattle.mg_link.specs.Standing.{Stands}
 use Rattle.mg_jobs.specs.Causes.{Course, SentIn, places_from, places_in, places_of}
-use Rattle.mg_jobs.specs.Completing.{AnswersWellIn, NoneRefused, own_position, positions_at}
+use Rattle.mg_jobs.specs.Completing.{AnswersWell, AnswersWellIn, NoneRefused, own_position, positions_at}
 use Rattle.mg_jobs.proofs.Newest.{started_in}
 use Rattle.mg_jobs.proofs.Telling.{from_is, in_first, in_second}
 use Rattle.mg_script.specs.declared.outcome.Turned.{Turned}
@@ -33,7 +33,7 @@ sent_place c i k place s =
     subst (λ (order : List ℕ). IsOf (places_in i order c.notes c.begun) place) (sym s.order_is)
     (subst (λ (notes : List Turned). IsOf (places_in i (s.before ++ i ∷ s.after) notes c.begun) place) (sym s.notes_are) (places_hold i s.before s.noted s.after s.note s.later c.begun place s.abreast s.from s.upto))
 
-has_position : (calls : List Call) (places : List ℕ) (place : ℕ) (call : Call) (position : ℕ) → IsOf places place → slice_get calls place ≡ Some call → call.position ≡ Some position → Contains (positions_at calls places) position
+pub has_position : (calls : List Call) (places : List ℕ) (place : ℕ) (call : Call) (position : ℕ) → IsOf places place → slice_get calls place ≡ Some call → call.position ≡ Some position → Contains (positions_at calls places) position
 has_position calls [] place call position of there at = absurd of
 has_position calls (first ∷ places) place call position (inl same) there at =
     let is : option_and_then (λ (c : Call). c.position) (slice_get calls first) ≡ Some position = ap (option_and_then (λ (c : Call). c.position)) (ap (slice_get calls) same ∙ there) ∙ at in
@@ -42,16 +42,16 @@ has_position calls (first ∷ places) place call position (inr of) there at =
     Contains-append_right (own_position (option_and_then (λ (c : Call). c.position) (slice_get calls first))) (positions_at calls places) position (has_position calls places place call position of there at)
 
 -- A history that holds nothing back answers a job at once none of whose steps it refused.
+unfoldable pub answers_well : (c : Course) (i : ℕ) (calls : List Call) (history : List Step) → IsLegal history → Stands calls history → HoldsBackNone history → NoneRefused c i calls history → AnswersWell c i calls
+answers_well c i calls history legal stands prompt taken = record {
+  history = history;
+  legal = legal;
+  stands = stands;
+  own = positions_at calls (places_of c i);
+  positions = λ k place call position sent there at. has_position calls (places_of c i) place call position (sent_place c i k place sent) there at;
+  prompt = prompt.each (positions_at calls (places_of c i)) taken;
+}
+
 pub answered_well : (c : Course) (i : ℕ) (calls : List Call) (history : List Step) → IsLegal history → Stands calls history → HoldsBackNone history → NoneRefused c i calls history → AnswersWellIn c i calls history
-answered_well c i calls history legal stands prompt taken = (
-  record {
-    history = history;
-    legal = legal;
-    stands = stands;
-    own = positions_at calls (places_of c i);
-    positions = λ k place call position sent there at. has_position calls (places_of c i) place call position (sent_place c i k place sent) there at;
-    prompt = prompt.each (positions_at calls (places_of c i)) taken;
-  },
-  refl,
-  refl,
-)
+unfolding answers_well
+answered_well c i calls history legal stands prompt taken = (answers_well c i calls history legal stands prompt taken, refl, refl)

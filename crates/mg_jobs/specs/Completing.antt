@@ -3,16 +3,16 @@ use Rattle.std.specs.Prelude.{◌≡◌, ◌⊎◌, ◌≤◌, ◌++◌, Contain
 use Rattle.mg_bson.specs.Tree.{Fields, Tree}
 use Rattle.mg_bson.specs.Raw.{fields}
 use Rattle.mg_bson.specs.Writable.{max_len}
-use Rattle.mg_link.specs.Commands.{asked, asks_insert, asks_more}
+use Rattle.mg_link.specs.Commands.{as_database, asked, asks_insert, asks_more}
 use Rattle.mg_link.specs.Errors.{plain}
 use Rattle.mg_link.specs.History.{Step, IsLegal, state_of, told_at}
 use Rattle.mg_link.specs.Link.{LogTold}
 use Rattle.mg_link.specs.Log.{Call}
-use Rattle.mg_link.specs.Namespace.{Space}
+use Rattle.mg_link.specs.Namespace.{Space, Target, cluster, collection, database}
 use Rattle.mg_link.specs.Prompt.{IsPrompt, IsRefused}
-use Rattle.mg_link.specs.Rules.{accept}
+use Rattle.mg_link.specs.Rules.{accept, max_name, token_place}
 use Rattle.mg_link.specs.Standing.{Stands}
-use Rattle.mg_link.specs.State.{Watch, events_between, watching}
+use Rattle.mg_link.specs.State.{Start, State, Watch, after, at_time, events_between, nowhere, watching}
 use Rattle.mg_link.specs.Step.{documents_of}
 use Rattle.mg_link.specs.declared.error.Error.{Error}
 use Rattle.mg_link.specs.declared.error.ErrorKind.TheVariants as kind
@@ -25,11 +25,11 @@ use Rattle.mg_ops.specs.declared.change_stream.WatchArgs.{WatchArgs}
 use Rattle.mg_change.specs.ClientStreams.{resuming_in}
 use Rattle.mg_jobs.specs.Causes.{Course, SentIn, course, places_of}
 use Rattle.mg_jobs.specs.Drawing.{as_sent}
-use Rattle.mg_jobs.specs.Follows.{IsArgsFor}
+use Rattle.mg_jobs.specs.Follows.{IsArgsFor, IsWatch}
 use Rattle.mg_jobs.specs.Kinds.{OfFollow, OfInsert}
 use Rattle.mg_ops.specs.InsertCauses.{IsPiece}
 use Rattle.mg_jobs.specs.Own.{IsHeard, IsOwnCommand, IsOwnCursor}
-use Rattle.mg_script.specs.Plan.{Task, insert, follow, put, get}
+use Rattle.mg_script.specs.Plan.{Begin, Task, insert, follow, put, get}
 use Rattle.mg_jobs.specs.Progress.{turns_done}
 use Rattle.mg_script.specs.declared.outcome.Answer.{Answer}
 use Rattle.mg_script.specs.declared.outcome.Answer.TheVariants as answers
@@ -210,7 +210,56 @@ OutcomeFits c i calls t r = FitsLimits c i calls t → OutcomeEnds IsMemory c i 
 abbrev pub JobWell : Course → ℕ → List Call → Task → Outcome → Type 0
 JobWell c i calls t r = OutcomeWell c i calls t r × OutcomeFits c i calls t r
 
--- so does each job of a run in which inserts draw these ids
+-- ---- what a job of a run comes to in the history of its store
+
+-- the store takes the names of a collection: a server does, and neither is longer than it has them
+pub record HasShortNames (space : Space) : Type 0 where
+  pub named : IsNamed space
+  pub db_fits : length space.db ≤ max_name
+  pub coll_fits : length space.coll ≤ max_name
+
+-- so it does those of a target
+abbrev pub HasShortTarget : Target → Type 0
+HasShortTarget (collection space) = HasShortNames space
+HasShortTarget (database db) = (as_database db ≡ Some db) × (length db ≤ max_name)
+HasShortTarget cluster = Unit {0}
+
+-- where a watch is to begin behind a token, that is the token of a place
+abbrev pub IsThere : State → Start → Type 0
+IsThere s nowhere = Unit {0}
+IsThere s (after token) = (place : ℕ) × (token_place (length s.changes) token ≡ Some place)
+IsThere s (at_time time) = Unit {0}
+
+-- A follow may begin in this history of its store: its names are short, its filter has a meaning, and where it starts behind a token, that is there at its steps.
+pub record MayBegin (c : Course) (i : ℕ) (calls : List Call) (history : List Step) (on : Target) (start : Begin) (filter : Option Fields) : Type 0 where
+  pub watch : Watch
+  pub from : Start
+  pub watches : IsWatch on start filter watch from
+  pub short : HasShortTarget on
+  pub there : (position : ℕ) (step : Step) → Contains (positions_at calls (places_of c i)) position → slice_get history position ≡ Some step → IsThere (state_of (take position history)) from
+
+-- it is opened where it may begin, and ends well where none of its steps was refused
+pub record FollowEndsIn {A B : Type 0} (excuses : Excuses) (nothings : Nothings) (taken begins : Type 0) (count : ℕ) (opened : Ended A) (said : List Answer) (closed : Ended B) : Type 0 where
+  pub opens : begins → EndsWell (excuses ⊥) opened
+  pub ends : taken → FollowWell excuses nothings count opened said closed
+
+-- In the history of its store a follow with a size of batches that may be, and one turn more than calls that did not pend, ends so. An insert of fresh documents
+-- into a collection with short names, with one such turn, ends well.
+abbrev pub OutcomeEndsIn : Excuses → Course → ℕ → List Call → List Step → Task → Outcome → Type 0
+OutcomeEndsIn excuses c i calls history (follow on count start filter batch) =
+    OfFollow (λ opened said token alive closed. (SizePasses batch → ⊥) → suc count ≤ turns_done i c.order c.notes → FollowEndsIn excuses (FindsNothing c i calls history) (NoneRefused c i calls history) (MayBegin c i calls history on start filter) count opened said.items closed)
+OutcomeEndsIn excuses c i calls history (insert ns docs) =
+    OfInsert (λ end. HasShortNames ns → SendFresh (positions_at calls (places_of c i)) history → 1 ≤ turns_done i c.order c.notes → EndsWell (excuses ⊥) end)
+OutcomeEndsIn excuses c i calls history (put db bucket name id chunk pieces) = λ r. Unit {0}
+OutcomeEndsIn excuses c i calls history (get db bucket id read) = λ r. Unit {0}
+
+-- it ends so, and by want of memory alone where it fits the limits
+abbrev pub JobWellIn : Course → ℕ → List Call → List Step → Task → Outcome → Type 0
+JobWellIn c i calls history t r = OutcomeEndsIn (own_excuses c i calls t) c i calls history t r × (FitsLimits c i calls t → OutcomeEndsIn IsMemory c i calls history t r)
+
+-- ---- a run
+
+-- each job of a run ends well in which inserts draw these ids
 abbrev pub AllWell : (ℕ → List ℕ) → LogTold → LogTold → List Task → List ℕ → List Turned → List Outcome → Type 0
 AllWell ids log log' tasks order notes outcomes = (calls : List Call) → log ≡ Some calls → (calls' : List Call) × (log' ≡ Some calls')
     × ((i : ℕ) (t : Task) (r : Outcome) → slice_get tasks i ≡ Some t → slice_get outcomes i ≡ Some r → JobWell (course calls order notes) i calls' (as_sent ids tasks order i t) r)

@@ -13,7 +13,7 @@ use Rattle.mg_link.specs.Owner.{NamesItsOwn}
 use Rattle.mg_link.specs.Places.{out_at, polls_in}
 use Rattle.mg_link.specs.Standing.{Stands}
 use Rattle.mg_jobs.specs.Causes.{AllPollOwn, AllWaitAlone, OutcomeCaused, course}
-use Rattle.mg_jobs.specs.Completing.{AnswersWellIn, JobWell, NoneRefused}
+use Rattle.mg_jobs.specs.Completing.{AnswersWellIn, JobWell, JobWellIn, NoneRefused}
 use Rattle.mg_jobs.specs.Counts.{AreNoted, turns_pended}
 use Rattle.mg_jobs.specs.Fated.{AreItsSteps}
 use Rattle.mg_jobs.specs.Drawing.{as_sent}
@@ -87,6 +87,7 @@ script_ids script n = counted_id (script.ids ++ 0 ∷ []) n
 -- whose newest turn pended by its note, and which waits for no other. Each command that a turn sent, by the notes, is one that its job may send. Where every
 -- fate keeps its command, each job ends well whose steps were answered at once; and so were, in the history of the run's own
 -- store, the steps of each job of which it refused none.
+-- There each insert of fresh documents ends well, and each follow that may begin is opened, whatever else the run's store did.
 pub record RunFollowed (run : Run) : Type 0 where
   pub calls : List Call
   pub log_is : run.logs.items ≡ calls ∷ []
@@ -117,6 +118,8 @@ pub record RunFollowed (run : Run) : Type 0 where
   pub prompt : (i : ℕ) → NoneRefused (course [] run.script.order.items turns.items) i calls (steps_of run.store.history) → AnswersWellIn (course [] run.script.order.items turns.items) i calls (steps_of run.store.history)
   pub well : AreKept 0 fates → (i : ℕ) (t : Task) (r : Outcome) → slice_get (tasks run.script.jobs.items) i ≡ Some t → slice_get run.outcomes.items i ≡ Some r
       → JobWell (course [] run.script.order.items turns.items) i calls (as_sent (script_ids run.script) (tasks run.script.jobs.items) run.script.order.items i t) r
+  pub well_here : AreKept 0 fates → (i : ℕ) (t : Task) (r : Outcome) → slice_get (tasks run.script.jobs.items) i ≡ Some t → slice_get run.outcomes.items i ≡ Some r
+      → JobWellIn (course [] run.script.order.items turns.items) i calls (steps_of run.store.history) (as_sent (script_ids run.script) (tasks run.script.jobs.items) run.script.order.items i t) r
 
 -- the run is of the script that was read, over one link
 pub record Ran (old new : Option (List ℕ)) (run : Run) : Type 0 where

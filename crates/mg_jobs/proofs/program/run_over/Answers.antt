@@ -1,5 +1,7 @@
 use Rattle.std.proofs.Common.{◌≡◌, ◌+◌, ℕ, ℤ, List, [], ◌∷◌, Some, ap, arith, length, sym, ◌∙◌, subst}
 use Rattle.std.specs.Prelude.{slice_get}
+use Rattle.std.specs.List.{sum_by}
+use Rattle.std.proofs.lemmas.List.Sums.{sum_by-cons}
 use Rattle.mg_link.specs.Ids.{counted_id}
 use Rattle.mg_link.specs.History.{IsLegal}
 use Rattle.mg_link.specs.Kept.{IsByRules, state_of_kept, steps_of}
@@ -14,23 +16,35 @@ use Rattle.mg_store.specs.Stored.{AreOpen}
 use Rattle.mg_store.specs.declared.fate.Fate.{Fate}
 use Rattle.mg_link.specs.Link.{LogTold}
 use Rattle.mg_jobs.specs.Completing.{JobWell}
-use Rattle.mg_jobs.specs.Counts.{AreNoted}
+use Rattle.mg_jobs.specs.Counts.{AreNoted, StartedBy}
 use Rattle.mg_jobs.specs.Fated.{AreItsSteps}
-use Rattle.mg_jobs.specs.Progress.{AllPlayed}
-use Rattle.mg_jobs.specs.Causes.{AllPollOwn, AllWaitAlone, OutcomeCaused, course}
+use Rattle.mg_jobs.specs.Progress.{AllPlayed, pends_last, turns_done}
+use Rattle.mg_jobs.specs.Causes.{AllPollOwn, AllWaitAlone, Course, OutcomeCaused, course}
 use Rattle.mg_jobs.specs.Drawing.{as_sent}
 use Rattle.mg_jobs.specs.Headline.{OutcomeFollowed}
 use Rattle.mg_jobs.specs.Program.{script_ids}
 use Rattle.mg_jobs.specs.Sends.{MaySend, SendsOnly}
 use Rattle.mg_script.specs.Plan.{Task, tasks}
+use Rattle.mg_script.specs.declared.outcome.Outcome.{Outcome}
+use Rattle.mg_script.specs.declared.outcome.Turned.{Turned}
 use Rattle.mg_script.specs.declared.script.Job.{Job}
-use Rattle.mg_jobs.proofs.Drawing.{sent_same}
+use Rattle.mg_jobs.proofs.Drawing.{played_as_sent, sent_same}
 use Rattle.mg_jobs.proofs.Positions.{answered_well}
+use Rattle.mg_jobs.proofs.Refusing.{job_ends_in, run_inserts}
 use Rattle.mg_jobs.proofs.Tallies.{noted_rose, turns_counted}
 use Rattle.mg_jobs.proofs.program.run_over.Goals as goal
 
 zero_more : (k : ℕ) → 0 + k ≡ k
 zero_more k = omega arith
+
+-- the notes count all that was started
+notes_started : (notes : List Turned) (old new : LogTold) (before now : ℕ) → AreNoted notes old new before now → StartedBy (sum_by (λ (n : Turned). n.started) notes) old new
+notes_started [] old new before now noted calls told = (calls, noted.0 ∙ told, (let none : sum_by (λ (n : Turned). n.started) [] ≡ 0 = refl in omega (arith, none)))
+notes_started (note ∷ notes) old new before now noted calls told =
+    let one = noted.2 calls told in
+    let more = notes_started notes noted.0 new noted.1 now noted.5 one.0 one.1 in
+    let sum = sum_by-cons (λ (n : Turned). n.started) note notes in
+    (more.0, more.1, (let first = one.2 in let rest = more.2 in omega (arith, first, rest, sum)))
 
 -- a link over which nothing was sent is prompt where every fate keeps its command
 prompt_first : (fates : List Fate) → AreKept 0 fates → IsPromptLink fates [] []
@@ -57,37 +71,64 @@ returns-clause-followed g c =
     (subst (λ (n : ℕ). AreNoted notes (Some []) (Some f.0) n (pends_in c.run_jobs.new.link.pended)) unpolled
     (subst (λ (l : LogTold). AreNoted notes l (Some f.0) (pends_in c.new-link.result.pended) (pends_in c.run_jobs.new.link.pended)) begins
     (subst (λ (l : LogTold). AreNoted notes (Some c.new-link.result.calls) l (pends_in c.new-link.result.pended) (pends_in c.run_jobs.new.link.pended)) f.1 c.in_ok-played.ensures.noted))) in
+    let history = c.into_parts-store.result.0.history in
+    let legal : IsLegal (steps_of history) = subst (λ s. IsLegal (steps_of s.history)) stored c.into_parts-store.ensures.legal in
+    let stands : Stands f.0 (steps_of history) = subst (λ l. Stands l (steps_of history)) calls (subst (λ s. Stands link.calls (steps_of s.history)) stored c.into_parts-store.ensures.stands) in
+    let holds : HoldsBackNone (steps_of history) = subst (λ s. HoldsBackNone (steps_of s.history)) stored c.into_parts-store.ensures.prompt in
+    let script = c.args.script in
+    let fates = g.F.Fated.fates in
+    let here : Course = course [] script.order.items notes in
+    let sent : ℕ → Task → Task = λ i t. as_sent (script_ids script) (tasks script.jobs.items) script.order.items i t in
+    let caused_is : (i : ℕ) (t : Task) (r : Outcome) → slice_get (tasks script.jobs.items) i ≡ Some t → slice_get c.in_ok-played.played.outcomes.items i ≡ Some r → OutcomeCaused (out_at f.0) here i f.0 script.wire (sent i t) r = λ i t r ht hr.
+    let waits = out_at c.run_jobs.new.link.calls in
+    subst (λ (l : List Call). OutcomeCaused (out_at l) (course [] script.order.items notes) i f.0 script.wire (as_sent (script_ids script) (tasks script.jobs.items) script.order.items i t) r) (same_some c.run_jobs.new.link.calls f.0 f.1)
+    (subst (λ (s : Task). OutcomeCaused waits (course [] script.order.items notes) i f.0 script.wire s r) (sent_same (script_ids script) drawn (tasks script.jobs.items) script.order.items i t same_ids)
+    (subst (λ (w : ℤ). OutcomeCaused waits (course [] script.order.items notes) i f.0 w (as_sent drawn (tasks script.jobs.items) script.order.items i t) r) wire
+    (subst (λ (l : List Call). OutcomeCaused waits (course [] script.order.items notes) i l c.new-link.result.wire (as_sent drawn (tasks script.jobs.items) script.order.items i t) r) same
+    (subst (λ (js : List Job). OutcomeCaused waits (course [] script.order.items notes) i told.0 c.new-link.result.wire (as_sent drawn (tasks js) script.order.items i t) r) jobs
+    (subst (λ (o : List ℕ). OutcomeCaused waits (course [] o notes) i told.0 c.new-link.result.wire (as_sent drawn (tasks c.as_slice.result.now) o i t) r) c.as_slice-2.ensures.value (told.2 i t r (ap (λ l. slice_get (tasks l) i) jobs ∙ ht) hr)))))) in
+    let as_fates_is : AreAsFates history fates f.0 link.pended = subst (λ l. AreAsFates history fates l link.pended) calls
+    (subst (λ fates. AreAsFates history fates link.calls link.pended) c.into_link.ensures.fates
+    (subst (λ s. AreAsFates s.history link.fates link.calls link.pended) stored c.into_parts-store.ensures.fates)) in
+    let sends_is : (i : ℕ) (t : Task) → slice_get (tasks script.jobs.items) i ≡ Some t → SendsOnly (MaySend (sent i t)) here i f.0 = λ i t ht.
+    let sent = c.in_ok-played.ensures.sends [] begins in
+    subst (λ (s : Task). SendsOnly (MaySend s) (course [] script.order.items notes) i f.0) (sent_same (script_ids script) drawn (tasks script.jobs.items) script.order.items i t same_ids)
+    (subst (λ (l : List Call). SendsOnly (MaySend (as_sent drawn (tasks script.jobs.items) script.order.items i t)) (course [] script.order.items notes) i l) (same_some sent.0 f.0 (sym sent.1 ∙ f.1))
+    (subst (λ (js : List Job). SendsOnly (MaySend (as_sent drawn (tasks js) script.order.items i t)) (course [] script.order.items notes) i sent.0) jobs
+    (subst (λ (o : List ℕ). SendsOnly (MaySend (as_sent drawn (tasks c.as_slice.result.now) o i t)) (course [] o notes) i sent.0) c.as_slice-2.ensures.value (sent.2 i t (ap (λ l. slice_get (tasks l) i) jobs ∙ ht))))) in
+    let well_is : AreKept 0 fates → (i : ℕ) (t : Task) (r : Outcome) → slice_get (tasks script.jobs.items) i ≡ Some t → slice_get c.in_ok-played.played.outcomes.items i ≡ Some r → JobWell here i f.0 (sent i t) r = λ kept i t r ht hr.
+    let prompt : IsPromptLink c.new-link.result.fates c.new-link.result.calls c.new-link.result.pended = subst (λ (m : InMemory). IsPromptLink m.fates m.calls m.pended) (sym c.new-link.ensures)
+    (subst (λ (fs : List Fate). IsPromptLink fs c.args.link.calls c.args.link.pended) (sym c.requires.fated) (subst (λ (l : List Call). IsPromptLink fates l c.args.link.pended) (sym c.requires.unused) (subst (λ (ps : List ℕ). IsPromptLink fates [] ps) (sym c.requires.unpolled) (prompt_first fates kept)))) in
+    let ends = c.in_ok-played.ensures.complete prompt [] begins in
+    subst (λ (s : Task). JobWell (course [] script.order.items notes) i f.0 s r) (sent_same (script_ids script) drawn (tasks script.jobs.items) script.order.items i t same_ids)
+    (subst (λ (l : List Call). JobWell (course [] script.order.items notes) i l (as_sent drawn (tasks script.jobs.items) script.order.items i t) r) (same_some ends.0 f.0 (sym ends.1 ∙ f.1))
+    (subst (λ (js : List Job). JobWell (course [] script.order.items notes) i ends.0 (as_sent drawn (tasks js) script.order.items i t) r) jobs
+    (subst (λ (o : List ℕ). JobWell (course [] o notes) i ends.0 (as_sent drawn (tasks c.as_slice.result.now) o i t) r) c.as_slice-2.ensures.value (ends.2 i t r (ap (λ l. slice_get (tasks l) i) jobs ∙ ht) hr)))) in
+    let alone_is : AreItsSteps history f.0 = subst (λ l. AreItsSteps history l) calls (subst (λ s. AreItsSteps s.history link.calls) stored c.into_link.ensures.steps) in
+    let rows_is : AllPlayed (tasks script.jobs.items) script.order.items notes c.in_ok-played.played.outcomes.items = subst (λ (o : List ℕ). AllPlayed (tasks c.args.script.jobs.items) o notes c.in_ok-played.played.outcomes.items) c.as_slice-2.ensures.value
+    (subst (λ l. AllPlayed (tasks l) c.as_slice-2.result.now notes c.in_ok-played.played.outcomes.items) jobs c.in_ok-played.ensures.rows) in
+    let notes_is : length notes ≡ length script.order.items = c.in_ok-played.ensures.turns ∙ ap length c.as_slice-2.ensures.value in
+    let started : StartedBy (sum_by (λ (n : Turned). n.started) notes) (Some []) (Some f.0) = notes_started notes (Some []) (Some f.0) 0 (pends_in link.pended) noted in
     record {
       calls = f.0;
       log_is = c.in_ok-logs.ensures.items ∙ ap (λ l. l ∷ []) (c.into_parts-store.ensures.calls ∙ calls);
       by_rules = subst (λ s. IsByRules s.history) stored c.into_parts-store.ensures.by_rules;
-      legal = subst (λ s. IsLegal (steps_of s.history)) stored c.into_parts-store.ensures.legal;
+      legal = legal;
       cursors = subst (λ s. AreOpen (state_of_kept s.history) s.open_ids) stored c.into_parts-store.ensures.cursors;
-      stands = subst (λ l. Stands l (steps_of c.into_parts-store.result.0.history)) calls (subst (λ s. Stands link.calls (steps_of s.history)) stored c.into_parts-store.ensures.stands);
-      alone = subst (λ l. AreItsSteps c.into_parts-store.result.0.history l) calls (subst (λ s. AreItsSteps s.history link.calls) stored c.into_link.ensures.steps);
+      stands = stands;
+      alone = alone_is;
       followed = λ i t r ht hr. subst (λ (o : List ℕ). OutcomeFollowed (course [] o c.in_ok-played.played.turns.items) i f.0 t r) c.as_slice-2.ensures.value (f.2 i t r (ap (λ l. slice_get (tasks l) i) jobs ∙ ht) hr);
       own = f.3 names_none_at_first;
       turns = c.in_ok-played.played.turns;
       turns_are = c.in_ok-turns.ensures.items;
-      caused = λ i t r ht hr.
-          let script = c.args.script in
-          let waits = out_at c.run_jobs.new.link.calls in
-          subst (λ (l : List Call). OutcomeCaused (out_at l) (course [] script.order.items notes) i f.0 script.wire (as_sent (script_ids script) (tasks script.jobs.items) script.order.items i t) r) (same_some c.run_jobs.new.link.calls f.0 f.1)
-          (subst (λ (s : Task). OutcomeCaused waits (course [] script.order.items notes) i f.0 script.wire s r) (sent_same (script_ids script) drawn (tasks script.jobs.items) script.order.items i t same_ids)
-          (subst (λ (w : ℤ). OutcomeCaused waits (course [] script.order.items notes) i f.0 w (as_sent drawn (tasks script.jobs.items) script.order.items i t) r) wire
-          (subst (λ (l : List Call). OutcomeCaused waits (course [] script.order.items notes) i l c.new-link.result.wire (as_sent drawn (tasks script.jobs.items) script.order.items i t) r) same
-          (subst (λ (js : List Job). OutcomeCaused waits (course [] script.order.items notes) i told.0 c.new-link.result.wire (as_sent drawn (tasks js) script.order.items i t) r) jobs
-          (subst (λ (o : List ℕ). OutcomeCaused waits (course [] o notes) i told.0 c.new-link.result.wire (as_sent drawn (tasks c.as_slice.result.now) o i t) r) c.as_slice-2.ensures.value (told.2 i t r (ap (λ l. slice_get (tasks l) i) jobs ∙ ht) hr))))));
-      fates = g.F.Fated.fates;
+      caused = caused_is;
+      fates = fates;
       fates_are = c.requires.fates;
       pended = link.pended;
-      as_fates = subst (λ l. AreAsFates c.into_parts-store.result.0.history g.F.Fated.fates l link.pended) calls
-          (subst (λ fates. AreAsFates c.into_parts-store.result.0.history fates link.calls link.pended) c.into_link.ensures.fates
-          (subst (λ s. AreAsFates s.history link.fates link.calls link.pended) stored c.into_parts-store.ensures.fates));
+      as_fates = as_fates_is;
       outcomes = c.in_ok-played.ensures.outcomes ∙ ap length jobs;
-      rows = subst (λ (o : List ℕ). AllPlayed (tasks c.args.script.jobs.items) o notes c.in_ok-played.played.outcomes.items) c.as_slice-2.ensures.value
-          (subst (λ l. AllPlayed (tasks l) c.as_slice-2.result.now notes c.in_ok-played.played.outcomes.items) jobs c.in_ok-played.ensures.rows);
-      notes = c.in_ok-played.ensures.turns ∙ ap length c.as_slice-2.ensures.value;
+      rows = rows_is;
+      notes = notes_is;
       noted = noted;
       pended_in_turns = let few = c.in_ok-played.played.turns.ok.0 in turns_counted notes (pends_in link.pended) (omega (arith, few)) (noted_rose notes (Some []) (Some f.0) 0 (pends_in link.pended) noted);
       polled =
@@ -101,24 +142,10 @@ returns-clause-followed g c =
           subst (λ (l : List Call). AllWaitAlone (out_at l) (out_at f.0) (Some l) c.args.script.order.items notes) begun
           (subst (λ (l : List Call). AllWaitAlone (out_at c.new-link.result.calls) (out_at l) (Some c.new-link.result.calls) c.args.script.order.items notes) (same_some c.run_jobs.new.link.calls f.0 f.1)
           (subst (λ (o : List ℕ). AllWaitAlone (out_at c.new-link.result.calls) (out_at c.run_jobs.new.link.calls) (Some c.new-link.result.calls) o notes) c.as_slice-2.ensures.value c.in_ok-played.ensures.waits_alone));
-      sends = λ i t ht.
-          let script = c.args.script in
-          let sent = c.in_ok-played.ensures.sends [] begins in
-          subst (λ (s : Task). SendsOnly (MaySend s) (course [] script.order.items notes) i f.0) (sent_same (script_ids script) drawn (tasks script.jobs.items) script.order.items i t same_ids)
-          (subst (λ (l : List Call). SendsOnly (MaySend (as_sent drawn (tasks script.jobs.items) script.order.items i t)) (course [] script.order.items notes) i l) (same_some sent.0 f.0 (sym sent.1 ∙ f.1))
-          (subst (λ (js : List Job). SendsOnly (MaySend (as_sent drawn (tasks js) script.order.items i t)) (course [] script.order.items notes) i sent.0) jobs
-          (subst (λ (o : List ℕ). SendsOnly (MaySend (as_sent drawn (tasks c.as_slice.result.now) o i t)) (course [] o notes) i sent.0) c.as_slice-2.ensures.value (sent.2 i t (ap (λ l. slice_get (tasks l) i) jobs ∙ ht)))));
-      prompt = λ i taken. answered_well (course [] c.args.script.order.items notes) i f.0 (steps_of c.into_parts-store.result.0.history) (subst (λ s. IsLegal (steps_of s.history)) stored c.into_parts-store.ensures.legal)
-          (subst (λ l. Stands l (steps_of c.into_parts-store.result.0.history)) calls (subst (λ s. Stands link.calls (steps_of s.history)) stored c.into_parts-store.ensures.stands))
-          (subst (λ s. HoldsBackNone (steps_of s.history)) stored c.into_parts-store.ensures.prompt) taken;
-      well = λ kept i t r ht hr.
-          let script = c.args.script in
-          let fates = g.F.Fated.fates in
-          let prompt : IsPromptLink c.new-link.result.fates c.new-link.result.calls c.new-link.result.pended = subst (λ (m : InMemory). IsPromptLink m.fates m.calls m.pended) (sym c.new-link.ensures)
-          (subst (λ (fs : List Fate). IsPromptLink fs c.args.link.calls c.args.link.pended) (sym c.requires.fated) (subst (λ (l : List Call). IsPromptLink fates l c.args.link.pended) (sym c.requires.unused) (subst (λ (ps : List ℕ). IsPromptLink fates [] ps) (sym c.requires.unpolled) (prompt_first fates kept)))) in
-          let ends = c.in_ok-played.ensures.complete prompt [] begins in
-          subst (λ (s : Task). JobWell (course [] script.order.items notes) i f.0 s r) (sent_same (script_ids script) drawn (tasks script.jobs.items) script.order.items i t same_ids)
-          (subst (λ (l : List Call). JobWell (course [] script.order.items notes) i l (as_sent drawn (tasks script.jobs.items) script.order.items i t) r) (same_some ends.0 f.0 (sym ends.1 ∙ f.1))
-          (subst (λ (js : List Job). JobWell (course [] script.order.items notes) i ends.0 (as_sent drawn (tasks js) script.order.items i t) r) jobs
-          (subst (λ (o : List ℕ). JobWell (course [] o notes) i ends.0 (as_sent drawn (tasks c.as_slice.result.now) o i t) r) c.as_slice-2.ensures.value (ends.2 i t r (ap (λ l. slice_get (tasks l) i) jobs ∙ ht) hr))));
+      sends = sends_is;
+      prompt = λ i taken. answered_well (course [] c.args.script.order.items notes) i f.0 (steps_of history) legal stands holds taken;
+      well = well_is;
+      well_here = λ kept i t r ht hr.
+          job_ends_in history fates kept f.0 link.pended as_fates_is stands (run_inserts history f.0 alone_is stands (script_ids script) (tasks script.jobs.items) script.order.items notes c.requires.jobs notes_is started sends_is) legal holds (out_at f.0) script.wire here i (sent i t) r (sends_is i t ht) (caused_is i t r ht hr)
+          (played_as_sent (script_ids script) (tasks script.jobs.items) script.order.items i t (turns_done i script.order.items notes) (pends_last i script.order.items notes) r (rows_is i t r ht hr)) (well_is kept i t r ht hr);
     }
