@@ -29,7 +29,7 @@ use Rattle.mg_change.proofs.Keeping.{sound_any, sound_as, step_sound}
 as_again : (new : Awaited) (places : List ℕ) (since : ℕ) (calls : List Call) (log' : LogTold) (wire : ℤ) (now : Option Session) (at : ClientStream) (a b : Bool) (s' : ClientStream) (r : Stepped) → a ≡ b → StepCalled new places since calls log' wire now at a s' r → StepCalled new places since calls log' wire now at b s' r
 as_again new places since calls log' wire now at a b s' r is h = subst (λ (x : Bool). StepCalled new places since calls log' wire now at x s' r) is h
 
-none_after : (started : Bool) → session_after started None ≡ None
+pub none_after : (started : Bool) → session_after started None ≡ None
 none_after true = refl
 none_after false = refl
 

@@ -27,7 +27,7 @@ use Rattle.mg_cursor.specs.Client.{get_more}
 use Rattle.mg_change.specs.Causes.{ByCursor, ByDoing, CallCame, CallEmpty, CallFailed, CallFails, CallGave, IsSettled, SoFar, batch_broken, cannot_ask, cannot_resume, is_lone, may_lose, no_id, no_memory, not_resumed, refused_more}
 use Rattle.mg_change.specs.ClientStreams.{ClientStream, IsExhausted, IsSound, is_read_again, lends_nothing, resuming_in}
 use Rattle.mg_change.specs.SeekCauses.{CallPart, IsNotEmptyBatches, IsTooMany, PartCame, Row, SeekCame, SeekCaused, begins, one_more, part_past}
-use Rattle.mg_change.specs.StreamCalls.{CopiesEvent, EndsSeeking, SeeksEvent, closed, counted, event_ending, fails, finds, got, kept_behind, over, pends, session_behind, too_many, too_often, uncounted}
+use Rattle.mg_change.specs.StreamCalls.{CopiesEvent, EndsSeeking, SeeksEvent, SeeksOn, closed, counted, event_ending, fails, finds, got, kept_behind, over, pends, session_behind, too_many, too_often, uncounted}
 use Rattle.mg_change.specs.declared.counts.Counts.{Counts}
 use Rattle.mg_change.specs.declared.event_poll.EventPoll.{EventPoll}
 use Rattle.mg_change.specs.declared.event_poll.EventPoll.TheVariants as poll
@@ -84,18 +84,18 @@ fails_otherwise past session at after e (no_id event next lacks is settled) = pl
 
 -- ---- a row
 
-row_keeps : (calls calls' : List Call) (wire : ℤ) (lone : Bool) (start p : CallPart) → Keeps calls calls' → Row calls wire lone start p → Row calls' wire lone start p
+pub row_keeps : (calls calls' : List Call) (wire : ℤ) (lone : Bool) (start p : CallPart) → Keeps calls calls' → Row calls wire lone start p → Row calls' wire lone start p
 row_keeps calls calls' wire lone start p keeps begins = begins
 row_keeps calls calls' wire lone start p keeps (one_more q then after again row room kept empty open_still few) =
     one_more q then after again (row_keeps calls calls' wire lone start q keeps row) room (keeps_on then calls calls' kept keeps) empty open_still few
 
 -- where a call has come to between two parts: a row, and a part that has begun
-record RowSought (awaited : Awaited) (calls : List Call) (wire : ℤ) (lone : Bool) (start : CallPart) (s : ClientStream) : Type 0 where
-  part : CallPart
-  room : part.since ≤ length calls
-  counts : s.counts ≡ part.counts
-  row : Row calls wire lone start part
-  so_far : SoFar awaited (part_past part calls wire) lone part.at s
+pub record RowSought (awaited : Awaited) (calls : List Call) (wire : ℤ) (lone : Bool) (start : CallPart) (s : ClientStream) : Type 0 where
+  pub part : CallPart
+  pub room : part.since ≤ length calls
+  pub counts : s.counts ≡ part.counts
+  pub row : Row calls wire lone start part
+  pub so_far : SoFar awaited (part_past part calls wire) lone part.at s
 
 -- behind an empty reply the next part begins
 module _ (awaited : Awaited) (past : Past) (lone : Bool) (left : ClientStream) (d : Counts) (settled : IsSettled left) where
@@ -170,20 +170,56 @@ part_of awaited past first session none_then same mid s' c (poll.Failed e) (inl 
 part_of awaited past first session none_then same mid s' c (poll.Failed e) (inr h) = inr (subst (λ (b : Bool). IsTooMany past b mid s' c e) same h)
 
 -- whether it names none stays
-lone_behind : (n : ℕ) (session : Option Session) → is_lone (session_behind n session) ≡ is_lone session
+pub lone_behind : (n : ℕ) (session : Option Session) → is_lone (session_behind n session) ≡ is_lone session
 lone_behind n None = refl
 lone_behind n (Some named) = refl
+
+-- ---- a part with an empty reply
+
+-- where a call has come to behind it
+pub record PartGoes (mid : Awaited) (calls : List Call) (log_mid : LogTold) (wire : ℤ) (lone : Bool) (start : CallPart) (t : ClientStream) : Type 0 where
+  pub calls' : List Call
+  pub told : log_mid ≡ Some calls'
+  pub keeps : Keeps calls calls'
+  pub so : RowSought mid calls' wire lone start t
+
+module _ (old mid : Awaited) (log log_mid : LogTold) (wire : ℤ) (session : Option Session) (starts : ℕ) where
+  pub part_sound : (s t : ClientStream) → IsSound false s → SeeksOn old mid log log_mid wire session starts s t → IsSound false t
+  part_sound s t sound on =
+      let went = steps_went on.steps false old mid log log_mid wire session starts on.again s on.left on.came sound tt on.does in
+      sound_as false on.left t (ap (λ (y : ClientStream). y.aggregate) on.goes.counts) (ap (λ (y : ClientStream). y.cursor) on.goes.counts) (ap (λ (y : ClientStream). y.behind) on.goes.counts) (ap (λ (y : ClientStream). y.doing) on.goes.counts) went.sound
+
+  pub part_goes : (lone : Bool) (s t : ClientStream) → IsSound false s → is_lone session ≡ lone → SeeksOn old mid log log_mid wire session starts s t → (start : CallPart) (calls : List Call) → log ≡ Some calls → RowSought old calls wire lone start s → PartGoes mid calls log_mid wire lone start t
+  part_goes lone s t sound same on start calls told so =
+      let p = so.part in
+      let so_far = subst (λ (b : Bool). SoFar old (part_past p calls wire) b p.at s) (sym same) so.so_far in
+      let went = steps_went on.steps false old mid log log_mid wire session starts on.again s on.left on.came sound tt on.does in
+      let x = steps_caused on.steps old mid log log_mid wire session session starts on.again p.at s on.left on.came sound (λ on_so. refl) (λ none. none) on.does p.places p.since calls told so.room so_far in
+      let past : Past = part_past p x.calls' wire in
+      let empty : CallEmpty past (is_lone session) p.at on.left on.again = subst (StepCame mid past session p.at on.again on.left) on.goes.empty x.came in
+      let empty_so : CallEmpty past lone p.at on.left on.again = subst (λ (b : Bool). CallEmpty past b p.at on.left on.again) same empty in
+      let counts : on.left.counts ≡ p.counts = went.kept.counts ∙ so.counts in
+      let next : CallPart = record { at = on.left; counts = counted on.again p.counts; places = []; since = length x.calls' } in
+      let row : Row x.calls' wire lone start next = one_more p x.calls' on.left on.again (row_keeps calls x.calls' wire lone start p x.keeps so.row) x.room (same_keeps x.calls') empty_so on.goes.open_still (subst (λ (c : Counts). got on.again c < too_many) counts on.goes.few) in
+      let going : RowSought mid x.calls' wire lone start t = record {
+        part = next;
+        room = omega arith;
+        counts = ap (λ (y : ClientStream). y.counts) on.goes.counts ∙ ap (counted on.again) counts;
+        row = row;
+        so_far = subst (SoFar mid (part_past next x.calls' wire) lone on.left) (sym on.goes.counts) (begins_behind mid (part_past next x.calls' wire) lone on.left (counted on.again on.left.counts) empty.settled);
+      } in
+      record { calls' = x.calls'; told = x.told; keeps = x.keeps; so = going }
 
 -- ---- all parts
 
 -- what the parts of a call come to behind such a row
-record PartsCame (new : Awaited) (calls : List Call) (log' : LogTold) (wire : ℤ) (first : Option Session) (start : CallPart) (s' : ClientStream) (r : EventPoll) : Type 0 where
-  calls' : List Call
-  told : log' ≡ Some calls'
-  keeps : Keeps calls calls'
-  came : SeekCame new calls' wire first start s' r
+pub record PartsCame (new : Awaited) (calls : List Call) (log' : LogTold) (wire : ℤ) (first : Option Session) (start : CallPart) (s' : ClientStream) (r : EventPoll) : Type 0 where
+  pub calls' : List Call
+  pub told : log' ≡ Some calls'
+  pub keeps : Keeps calls calls'
+  pub came : SeekCame new calls' wire first start s' r
 
-parts_caused : (n : ℕ) (old new : Awaited) (log log' : LogTold) (wire : ℤ) (first session : Option Session) (starts : ℕ) (s s' : ClientStream) (r : EventPoll) → IsSound false s → (first ≡ None → session ≡ None) → is_lone session ≡ is_lone first → SeeksEvent n old new log log' wire session starts s s' r
+pub parts_caused : (n : ℕ) (old new : Awaited) (log log' : LogTold) (wire : ℤ) (first session : Option Session) (starts : ℕ) (s s' : ClientStream) (r : EventPoll) → IsSound false s → (first ≡ None → session ≡ None) → is_lone session ≡ is_lone first → SeeksEvent n old new log log' wire session starts s s' r
     → (start : CallPart) (calls : List Call) → log ≡ Some calls → RowSought old calls wire (is_lone first) start s → PartsCame new calls log' wire first start s' r
 unfolding SeeksEvent
 parts_caused zero old new log log' wire first session starts s s' r sound none_then same h start calls told so =
@@ -207,27 +243,9 @@ parts_caused (suc n) old new log log' wire first session starts s s' r sound non
     let mid = h.0 in
     let log_mid = h.1 in
     let t = h.4 in
-    let on = h.5 in
-    let p = so.part in
-    let so_far = subst (λ (b : Bool). SoFar old (part_past p calls wire) b p.at s) (sym same) so.so_far in
-    let went = steps_went on.steps false old mid log log_mid wire session h.2 on.again s on.left on.came sound tt on.does in
-    let x = steps_caused on.steps old mid log log_mid wire session session h.2 on.again p.at s on.left on.came sound (λ on_so. refl) (λ none. none) on.does p.places p.since calls told so.room so_far in
-    let past : Past = part_past p x.calls' wire in
-    let empty : CallEmpty past (is_lone session) p.at on.left on.again = subst (StepCame mid past session p.at on.again on.left) on.goes.empty x.came in
-    let empty_so : CallEmpty past (is_lone first) p.at on.left on.again = subst (λ (b : Bool). CallEmpty past b p.at on.left on.again) same empty in
-    let counts : on.left.counts ≡ p.counts = went.kept.counts ∙ so.counts in
-    let next : CallPart = record { at = on.left; counts = counted on.again p.counts; places = []; since = length x.calls' } in
-    let row : Row x.calls' wire (is_lone first) start next = one_more p x.calls' on.left on.again (row_keeps calls x.calls' wire (is_lone first) start p x.keeps so.row) x.room (same_keeps x.calls') empty_so on.goes.open_still (subst (λ (c : Counts). got on.again c < too_many) counts on.goes.few) in
-    let going : RowSought mid x.calls' wire (is_lone first) start t = record {
-      part = next;
-      room = omega arith;
-      counts = ap (λ (y : ClientStream). y.counts) on.goes.counts ∙ ap (counted on.again) counts;
-      row = row;
-      so_far = subst (SoFar mid (part_past next x.calls' wire) (is_lone first) on.left) (sym on.goes.counts) (begins_behind mid (part_past next x.calls' wire) (is_lone first) on.left (counted on.again on.left.counts) empty.settled);
-    } in
-    let sound_t : IsSound false t = sound_as false on.left t (ap (λ (y : ClientStream). y.aggregate) on.goes.counts) (ap (λ (y : ClientStream). y.cursor) on.goes.counts) (ap (λ (y : ClientStream). y.behind) on.goes.counts) (ap (λ (y : ClientStream). y.doing) on.goes.counts) went.sound in
-    let rest = parts_caused n mid new log_mid log' wire first (session_behind h.2 session) h.3 t s' r sound_t (λ none. ap (session_behind h.2) (none_then none)) (lone_behind h.2 session ∙ same) h.7 start x.calls' x.told going in
-    record { calls' = rest.calls'; told = rest.told; keeps = keeps_on calls x.calls' rest.calls' x.keeps rest.keeps; came = rest.came }
+    let goes = part_goes old mid log log_mid wire session h.2 (is_lone first) s t sound same h.5 start calls told so in
+    let rest = parts_caused n mid new log_mid log' wire first (session_behind h.2 session) h.3 t s' r (part_sound old mid log log_mid wire session h.2 s t sound h.5) (λ none. ap (session_behind h.2) (none_then none)) (lone_behind h.2 session ∙ same) h.7 start goes.calls' goes.told goes.so in
+    record { calls' = rest.calls'; told = rest.told; keeps = keeps_on calls goes.calls' rest.calls' goes.keeps rest.keeps; came = rest.came }
 
 pub seeks_caused : (n : ℕ) (b : Bool) (old new : Awaited) (log log' : LogTold) (wire : ℤ) (session : Option Session) (starts : ℕ) (s s' : ClientStream) (r : EventPoll) → IsSound b (lends_nothing s) → SeeksEvent n old new log log' wire session starts (lends_nothing s) s' r → SeekCaused old new log log' wire session s s' r
 seeks_caused n b old new log log' wire session starts s s' r sound does = λ calls told places at so.

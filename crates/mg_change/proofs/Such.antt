@@ -16,7 +16,7 @@ use Rattle.mg_cursor.specs.Client.{ClientCursor, IsAsking, get_more}
 use Rattle.mg_cursor.specs.Client as cursors
 use Rattle.mg_cursor.specs.Seeking.{session_after}
 use Rattle.mg_change.specs.ClientStreams.{ClientStream, Doing, IsAggregate, IsSound, SoundBy, follows, lends_nothing, resuming_in}
-use Rattle.mg_change.specs.Sent.{Falling, IsSentAt, Sent, asking_places, ending_places, killing_places, places, places_by, resuming_places}
+use Rattle.mg_change.specs.Sent.{Falling, IsSentAt, KillsOne, Sent, asking_places, ending_places, killing_places, places, places_by, resuming_places}
 use Rattle.mg_change.specs.Steps.{DoesStep, DoesSteps}
 use Rattle.mg_change.specs.Steps as steps
 use Rattle.mg_change.specs.StreamCalls.{CallCopies}
@@ -25,7 +25,7 @@ use Rattle.mg_change.specs.declared.event_poll.Stepped.{Stepped}
 use Rattle.mg_change.specs.declared.event_poll.Stepped.TheVariants as stepped
 use Rattle.mg_change.proofs.Calls.{goes_away}
 use Rattle.mg_change.proofs.Keeping.{sound_any, sound_as, step_sound}
-use Rattle.mg_change.proofs.Sent.{Tried, more_sent, resume_sent, sent_on, step_sent, tried_none}
+use Rattle.mg_change.proofs.Sent.{Tried, kills_any, more_sent, resume_sent, sent_on, step_sent, tried_none}
 
 -- ---- commands of one kind
 
@@ -95,12 +95,12 @@ module _ (may : Fields → Type 0) (args : WatchArgs) (of_more : (c : ClientCurs
   resumed_by a wire command same is = subst may (sym is) (of_resumption a wire same)
 
   -- the lowest place is that of a killing
-  killed_at : (s : ClientStream) (place : ℕ) (command : Fields) → place < 1 → IsSentAt s place command → may command
+  killed_at : (s : ClientStream) (place : ℕ) (command : Fields) → place < 1 → IsSentAt KillsOne s place command → may command
   killed_at s zero command less is = subst may (sym is.kills_so) (of_killing is.at (is.id ∷ []))
   killed_at s (suc place) command less is = absurd (omega (arith, less))
 
-  killed_all : (s : ClientStream) (n : ℕ) (commands : List Fields) (m : ℕ) → n ≤ 1 → Falling (IsSentAt s) n commands m → AreAll may commands
-  killed_all s n commands m few falling = all_falling may (IsSentAt s) n commands m (λ place command less is. killed_at s place command (omega (arith, less, few)) is) falling
+  killed_all : (s : ClientStream) (n : ℕ) (commands : List Fields) (m : ℕ) → n ≤ 1 → Falling (IsSentAt KillsOne s) n commands m → AreAll may commands
+  killed_all s n commands m few falling = all_falling may (IsSentAt KillsOne s) n commands m (λ place command less is. killed_at s place command (omega (arith, less, few)) is) falling
 
   module _ (old new : Awaited) (log log' : LogTold) (wire : ℤ) (started : Bool) (s s' : ClientStream) (r : Stepped) (sound : IsSound true s) (args_are : s.aggregate.args ≡ args) (manner : s.doing ≡ follows → s.cursor.manner ≡ watch_manner args.options) where
     step_such : DoesStep old new log log' wire None started s s' r → AddsSuch may log log'
@@ -122,7 +122,7 @@ module _ (may : Fields → Type 0) (args : WatchArgs) (of_more : (c : ClientCurs
         let is : fields sending.command ≡ resuming_in s.aggregate own.wire None = subst (λ (x : Option Session). fields sending.command ≡ resuming_in s.aggregate own.wire x) own.plainly own.command_is in
         again_such may old new log log' wire sending h.came started (resumed_by s.aggregate own.wire (fields sending.command) args_are is) h.runs
     step_such (steps.closes before on unstarted came polls heard) =
-        let sent = step_sent old new log log' wire None started s s' r (sound_any true s sound) (steps.closes before on unstarted came polls heard) in
+        let sent = step_sent KillsOne old new log log' wire None started s s' r (sound_any true s sound) (λ closing at held. kills_any closing.cursor held) (steps.closes before on unstarted came polls heard) in
         let few = few_killing before.killing in
         let at : places s ≡ killing_places before.killing = ap (λ (d : Doing). places_by d s.cursor) on in
         record { commands = sent.tried.commands; adds = sent.tried.adds; such = killed_all s (places s) sent.tried.commands _ (omega (arith, few, at)) sent.tried.falling }
@@ -133,7 +133,7 @@ module _ (may : Fields → Type 0) (args : WatchArgs) (of_more : (c : ClientCurs
   steps_such zero old new log log' wire starts again s s' r sound same manner h = step_such old new log log' wire h.started s s' r sound same manner h.does
   steps_such (suc n) old new log log' wire starts again s s' r sound same manner h =
       let t = h.4 in
-      let sent = step_sent old h.0 log h.1 wire None h.2 s t stepped.Goes (sound_any true s sound) h.5 in
+      let sent = step_sent KillsOne old h.0 log h.1 wire None h.2 s t stepped.Goes (sound_any true s sound) (λ closing at held. kills_any closing.cursor held) h.5 in
       such_on may log h.1 log' (step_such old h.0 log h.1 wire h.2 s t stepped.Goes sound same manner h.5)
       (steps_such n h.0 new h.1 log' wire h.3 again t s' r (step_sound true old h.0 log h.1 wire None h.2 s t stepped.Goes sound refl h.5) (ap (λ (a : ChangeStreamAggregate). a.args) sent.keeps.0 ∙ same)
       (λ on. absurd (goes_away old h.0 log h.1 wire None h.2 s t h.5 on))

@@ -1,8 +1,9 @@
 -- What a stream sends in one call.
-use Rattle.std.specs.Prelude.{◌≡◌, ◌≢◌, ◌<◌, ◌≤◌, ◌++◌, ℕ, zero, suc, ℤ, pos, List, [], ◌∷◌, Option, Some, None}
+use Rattle.std.specs.Prelude.{◌≡◌, ◌≢◌, ◌<◌, ◌≤◌, ◌++◌, ℕ, zero, suc, ℤ, pos, Bool, List, [], ◌∷◌, length, Option, Some, None}
 use Rattle.mg_bson.specs.Tree.{Fields}
+use Rattle.mg_link.specs.Calls.{Past, past_of}
 use Rattle.mg_link.specs.Exec.{Sending, Stage, first, second, unsent}
-use Rattle.mg_link.specs.Link.{LogTold}
+use Rattle.mg_link.specs.Link.{Awaited, LogTold}
 use Rattle.mg_link.specs.Log.{Call}
 use Rattle.mg_link.specs.Moment.{Ending, failed, finished, pending}
 use Rattle.mg_link.specs.Namespace.{Space}
@@ -12,10 +13,12 @@ use Rattle.mg_ops.specs.Commands.{kill_command}
 use Rattle.mg_ops.specs.Logs.{commands_sent}
 use Rattle.mg_ops.specs.declared.aggregate.ChangeStreamAggregate.{ChangeStreamAggregate}
 use Rattle.mg_ops.specs.declared.change_stream.WatchArgs.{WatchArgs}
-use Rattle.mg_cursor.specs.Client.{ClientCursor, asks, get_more, holds, rests}
+use Rattle.mg_cursor.specs.Client.{ClientCursor, asks, get_more, holds, kill, rests}
 use Rattle.mg_cursor.specs.Client as cursors
 use Rattle.mg_cursor.specs.declared.polls.TryPoll.{TryPoll}
+use Rattle.mg_change.specs.Causes.{Resumed, SoFar, is_lone}
 use Rattle.mg_change.specs.ClientStreams.{ClientStream, Doing, follows, kills, owes, renewed, resumes, resuming_in}
+use Rattle.mg_change.specs.SeekCauses.{CallPart, Row, part_past}
 use Rattle.mg_change.specs.StreamCalls.{event_ending, try_ending}
 use Rattle.mg_change.specs.declared.event_poll.EventPoll.{EventPoll}
 
@@ -41,13 +44,22 @@ pub record KillsOne (command : Fields) : Type 0 where
   pub there : id ≢ pos 0
   pub kills_so : command ≡ kill_command at (id ∷ [])
 
--- the places of the commands of one call, counted down: the getMore, the aggregate, the aggregate once more, the killing
-abbrev pub IsSentAt : ClientStream → ℕ → Fields → Type 0
-IsSentAt s zero command = KillsOne command
-IsSentAt s (suc zero) command = ResumesBy s.aggregate command
-IsSentAt s (suc (suc zero)) command = ResumesBy s.aggregate command
-IsSentAt s (suc (suc (suc zero))) command = AsksMoreOf s.cursor command
-IsSentAt s (suc (suc (suc (suc place)))) command = ⊥
+-- the killing of the cursor that a resumption of the call replaced, whose aggregate the call sent before
+pub record KillsReplaced (past : Past) (lone : Bool) (at : ClientStream) (command : Fields) : Type 0 where
+  pub old : ClientCursor
+  pub there : old.id ≢ pos 0
+  pub kills_so : command ≡ kill old
+  pub new : ClientCursor
+  pub bytes : List ℕ
+  pub resumed : Resumed past lone at old bytes new
+
+-- The places of the commands of one call, counted down: the getMore, the aggregate, the aggregate once more, the killing, which is such a one.
+abbrev pub IsSentAt : (Fields → Type 0) → ClientStream → ℕ → Fields → Type 0
+IsSentAt may s zero command = may command
+IsSentAt may s (suc zero) command = ResumesBy s.aggregate command
+IsSentAt may s (suc (suc zero)) command = ResumesBy s.aggregate command
+IsSentAt may s (suc (suc (suc zero))) command = AsksMoreOf s.cursor command
+IsSentAt may s (suc (suc (suc (suc place)))) command = ⊥
 
 -- the commands stand at places that fall, all below `n` and none below `m`
 abbrev pub Falling : (ℕ → Fields → Type 0) → ℕ → List Fields → ℕ → Type 0
@@ -107,33 +119,50 @@ KeepsBy pending s s' = s'.aggregate ≡ s.aggregate
 KeepsBy finished s s' = Unit {0}
 KeepsBy (failed e) s s' = Unit {0}
 
+-- What a poll may kill: one cursor, and it is the one that the resumption of its call replaced, wherever that call began and had sent before.
+pub record PollKills (old : Awaited) (log log' : LogTold) (wire : ℤ) (lone : Bool) (s : ClientStream) (command : Fields) : Type 0 where
+  pub one : KillsOne command
+  pub replaced : (calls calls' : List Call) → log ≡ Some calls → log' ≡ Some calls' → (own : List ℕ) (at : ClientStream) → SoFar old (past_of own (length calls) calls wire) lone at s → KillsReplaced (past_of own (length calls) calls' wire) lone at command
+
 -- What a poll sent: commands at places that were left, and above those that are left behind it.
-pub record PollSent (log log' : LogTold) (s s' : ClientStream) (ending : Ending) : Type 0 where
+pub record PollSent (old : Awaited) (log log' : LogTold) (wire : ℤ) (session : Option Session) (s s' : ClientStream) (ending : Ending) : Type 0 where
   pub commands : List Fields
   pub adds : Sent log log' commands
-  pub falling : Falling (IsSentAt s) (places s) commands (places_behind ending s')
+  pub falling : Falling (IsSentAt (PollKills old log log' wire (is_lone session) s) s) (places s) commands (places_behind ending s')
   pub keeps : KeepsBy ending s s'
 
-abbrev pub CallSent : LogTold → LogTold → ClientStream → ClientStream → EventPoll → Type 0
-CallSent log log' s s' r = PollSent log log' s s' (event_ending r)
+abbrev pub CallSent : Awaited → LogTold → LogTold → ℤ → Option Session → ClientStream → ClientStream → EventPoll → Type 0
+CallSent old log log' wire session s s' r = PollSent old log log' wire session s s' (event_ending r)
 
-abbrev pub TrySent : LogTold → LogTold → ClientStream → ClientStream → TryPoll → Type 0
-TrySent log log' s s' r = PollSent log log' s s' (try_ending r)
+abbrev pub TrySent : Awaited → LogTold → LogTold → ℤ → Option Session → ClientStream → ClientStream → TryPoll → Type 0
+TrySent old log log' wire session s s' r = PollSent old log log' wire session s s' (try_ending r)
 
 -- ---- a call that seeks an event
 
--- its commands: the getMore of a cursor, the aggregate that resumes the stream, or the killing of one cursor
-pub data IsSought (args : WatchArgs) (command : Fields) : Type 0 where
-  asks_more : (c : ClientCursor) → AsksMoreOf c command → IsSought args command
-  resumes_it : (a : ChangeStreamAggregate) → a.args ≡ args → ResumesBy a command → IsSought args command
-  kills_one : KillsOne command → IsSought args command
+-- its commands: the getMore of a cursor, the aggregate that resumes the stream, or a killing, which is such a one
+pub data IsSought (may : Fields → Type 0) (args : WatchArgs) (command : Fields) : Type 0 where
+  asks_more : (c : ClientCursor) → AsksMoreOf c command → IsSought may args command
+  resumes_it : (a : ChangeStreamAggregate) → a.args ≡ args → ResumesBy a command → IsSought may args command
+  kills_one : may command → IsSought may args command
 
-abbrev pub AreSought : WatchArgs → List Fields → Type 0
-AreSought args [] = Unit {0}
-AreSought args (command ∷ commands) = IsSought args command × AreSought args commands
+abbrev pub AreSought : (Fields → Type 0) → WatchArgs → List Fields → Type 0
+AreSought may args [] = Unit {0}
+AreSought may args (command ∷ commands) = IsSought may args command × AreSought may args commands
+
+-- the killing of the cursor that a resumption in a part of the call replaced
+pub record PartReplaced (calls : List Call) (wire : ℤ) (lone : Bool) (start : CallPart) (command : Fields) : Type 0 where
+  pub part : CallPart
+  pub row : Row calls wire lone start part
+  pub kills_so : KillsReplaced (part_past part calls wire) lone part.at command
+
+-- What a poll may kill: one cursor, and it is the one that a resumption of its call replaced, wherever the part began that it led on.
+pub record SeekKills (old : Awaited) (log log' : LogTold) (wire : ℤ) (lone : Bool) (s : ClientStream) (command : Fields) : Type 0 where
+  pub one : KillsOne command
+  pub replaced : (calls calls' : List Call) → log ≡ Some calls → log' ≡ Some calls' → (own : List ℕ) (at : ClientStream) → SoFar old (past_of own (length calls) calls wire) lone at s
+      → PartReplaced calls' wire lone (record { at = at; counts = s.counts; places = own; since = length calls }) command
 
 -- it sent such commands only
-pub record SeekSent (log log' : LogTold) (args : WatchArgs) : Type 0 where
+pub record SeekSent (old : Awaited) (log log' : LogTold) (wire : ℤ) (session : Option Session) (s : ClientStream) : Type 0 where
   pub commands : List Fields
   pub adds : Sent log log' commands
-  pub sought : AreSought args commands
+  pub sought : AreSought (SeekKills old log log' wire (is_lone session) s) s.aggregate.args commands

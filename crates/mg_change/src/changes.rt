@@ -134,8 +134,8 @@ impl Changes {
         ensures sound { (plain : Bool) → IsStream plain self.old → PlainIf plain (H.asked handle.old) → IsStream plain self.new }
         // A call that has ended leaves nothing on its way.
         ensures leaves { LeavesTry result (changes_of self.new) }
-        // At most one getMore, two aggregates and one killCursors in a call.
-        ensures sent { TrySent (L.log link.old) (L.log link.new) (changes_of self.old) (changes_of self.new) result }
+        // At most one getMore, two aggregates and one killCursors in a call, of the cursor that these replaced.
+        ensures sent { TrySent (L.awaited link.old) (L.log link.old) (L.log link.new) (L.wire link.old) (H.asked handle.old) (changes_of self.old) (changes_of self.new) result }
         // What in the log is the cause of the answer, over all polls of a call.
         ensures caused { TryCaused (L.awaited link.old) (L.awaited link.new) (L.log link.old) (L.log link.new) (L.wire link.old) (H.asked handle.old) (changes_of self.old) (changes_of self.new) result }
         // Over an honest link it gives the entries that it watches, each once and in their order.
@@ -177,8 +177,8 @@ impl Changes {
         ensures owned { KeepsOwn self.old.token self.new.token }
         // A call that has ended leaves nothing on its way.
         ensures leaves { LeavesCall result (changes_of self.new) }
-        // At most one getMore, two aggregates and one killCursors in a call.
-        ensures sent { CallSent (L.log link.old) (L.log link.new) (changes_of self.old) (changes_of self.new) result }
+        // At most one getMore, two aggregates and one killCursors in a call, of the cursor that these replaced.
+        ensures sent { CallSent (L.awaited link.old) (L.log link.old) (L.log link.new) (L.wire link.old) (H.asked handle.old) (changes_of self.old) (changes_of self.new) result }
         // What in the log is the cause of the answer, over all polls of a call.
         ensures caused { CallCaused (L.awaited link.old) (L.awaited link.new) (L.log link.old) (L.log link.new) (L.wire link.old) (H.asked handle.old) (changes_of self.old) (changes_of self.new) result }
         // Over an honest link it gives the entries that it watches, each once and in their order.
@@ -220,8 +220,8 @@ impl Changes {
         ensures owned { KeepsOwn self.old.token self.new.token }
         // A call that has ended leaves nothing on its way; none is answered only at the end.
         ensures leaves { LeavesSeek result (changes_of self.new) }
-        // getMores and killings of its cursors, and aggregates that resume it, and nothing else.
-        ensures sent { SeekSent (L.log link.old) (L.log link.new) (changes_of self.old).aggregate.args }
+        // getMores of its cursors, aggregates that resume it, and killings of the cursors that these replaced, and nothing else.
+        ensures sent { SeekSent (L.awaited link.old) (L.log link.old) (L.log link.new) (L.wire link.old) (H.asked handle.old) (changes_of self.old) }
         // What in the log is the cause of the answer, over all polls of a call.
         ensures caused { SeekCaused (L.awaited link.old) (L.awaited link.new) (L.log link.old) (L.log link.new) (L.wire link.old) (H.asked handle.old) (changes_of self.old) (changes_of self.new) result }
         // Over an honest link it gives the entries that it watches, each once and in their order.

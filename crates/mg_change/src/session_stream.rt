@@ -73,8 +73,8 @@ impl<T> SessionChangeStream<T> {
             × (session.new ≡ times starts after_command session.old) }
         // A call that has ended leaves nothing on its way; nothing is answered only where nothing is owed or in hand.
         ensures leaves { LeavesTry result (session_stream_of self.new) }
-        // At most one getMore, two aggregates and one killCursors in a call.
-        ensures sent { TrySent (L.log link.old) (L.log link.new) (session_stream_of self.old) (session_stream_of self.new) result }
+        // At most one getMore, two aggregates and one killCursors in a call, of the cursor that these replaced.
+        ensures sent { TrySent (L.awaited link.old) (L.log link.old) (L.log link.new) (L.wire link.old) (Some session.old) (session_stream_of self.old) (session_stream_of self.new) result }
         // What in the log is the cause of the answer, over all polls of a call.
         ensures caused { TryCaused (L.awaited link.old) (L.awaited link.new) (L.log link.old) (L.log link.new) (L.wire link.old) (Some session.old) (session_stream_of self.old) (session_stream_of self.new) result }
         // Over an honest link it gives the entries that it watches, each once and in their order.
@@ -111,8 +111,8 @@ impl<T> SessionChangeStream<T> {
             × (session.new ≡ times starts after_command session.old) }
         // A call that has ended leaves nothing on its way; nothing is answered only where nothing is owed or in hand.
         ensures leaves { LeavesCall result (session_stream_of self.new) }
-        // At most one getMore, two aggregates and one killCursors in a call.
-        ensures sent { CallSent (L.log link.old) (L.log link.new) (session_stream_of self.old) (session_stream_of self.new) result }
+        // At most one getMore, two aggregates and one killCursors in a call, of the cursor that these replaced.
+        ensures sent { CallSent (L.awaited link.old) (L.log link.old) (L.log link.new) (L.wire link.old) (Some session.old) (session_stream_of self.old) (session_stream_of self.new) result }
         // What in the log is the cause of the answer, over all polls of a call.
         ensures caused { CallCaused (L.awaited link.old) (L.awaited link.new) (L.log link.old) (L.log link.new) (L.wire link.old) (Some session.old) (session_stream_of self.old) (session_stream_of self.new) result }
         // Over an honest link it gives the entries that it watches, each once and in their order.
@@ -146,8 +146,8 @@ impl<T> SessionChangeStream<T> {
             × (session.new ≡ times starts after_command session.old) }
         // A call that has ended leaves nothing on its way; nothing is answered only where nothing is owed or in hand.
         ensures leaves { LeavesSeek result (session_stream_of self.new) }
-        // getMores and killings of its cursors, and aggregates that resume it, and nothing else.
-        ensures sent { SeekSent (L.log link.old) (L.log link.new) (session_stream_of self.old).aggregate.args }
+        // getMores of its cursors, aggregates that resume it, and killings of the cursors that these replaced, and nothing else.
+        ensures sent { SeekSent (L.awaited link.old) (L.log link.old) (L.log link.new) (L.wire link.old) (Some session.old) (session_stream_of self.old) }
         // What in the log is the cause of the answer, over all polls of a call.
         ensures caused { SeekCaused (L.awaited link.old) (L.awaited link.new) (L.log link.old) (L.log link.new) (L.wire link.old) (Some session.old) (session_stream_of self.old) (session_stream_of self.new) result }
         // Over an honest link it gives the entries that it watches, each once and in their order.

@@ -267,7 +267,7 @@ returns-then-not-seeks_on-clause-moved g c =
 pub returns-then-not-seeks_on-clause-sent : goal.returns-then-not-seeks_on-clause-sent
 returns-then-not-seeks_on-clause-sent g c =
     let d = returns-then-not-seeks_on-clause-does g c in
-    seeks_sent d.0 false (g.L.Link.awaited c.args.link.now) (g.L.Link.awaited c.step-stepped.new.link) (g.L.Link.log c.args.link.now) (g.L.Link.log c.step-stepped.new.link) (g.L.Link.wire c.args.link.now) (g.H.ClientSessionHandle.asked c.args.handle.now) d.1 (lends_nothing (changes_of c.args.self.now)) (changes_of c.end_call.new.self) c.end_call.result (lends_none false c.args.self.now c.requires.sound).sound d.2
+    seeks_sent d.0 false (g.L.Link.awaited c.args.link.now) (g.L.Link.awaited c.step-stepped.new.link) (g.L.Link.log c.args.link.now) (g.L.Link.log c.step-stepped.new.link) (g.L.Link.wire c.args.link.now) (g.H.ClientSessionHandle.asked c.args.handle.now) d.1 (changes_of c.args.self.now) (changes_of c.end_call.new.self) c.end_call.result (lends_none false c.args.self.now c.requires.sound).sound d.2
 
 pub returns-then-not-seeks_on-clause-caused : goal.returns-then-not-seeks_on-clause-caused
 returns-then-not-seeks_on-clause-caused g c =
