@@ -1,5 +1,5 @@
 -- The commands at places of a log that grows.
-use Rattle.std.proofs.Common.{◌≡◌, ◌+◌, ◌-◌, ◌<◌, ◌≤◌, ℕ, zero, suc, List, [], ◌∷◌, ◌++◌, length, Some, refl, sym, ap, ap₂, ◌∙◌, subst, append_assoc, arith}
+use Rattle.std.proofs.Common.{◌≡◌, ◌+◌, ◌-◌, ◌<◌, ◌≤◌, ℕ, zero, suc, ℤ, true, List, [], ◌∷◌, ◌++◌, length, Some, refl, sym, ap, ap₂, ◌∙◌, subst, append_assoc, arith}
 use Rattle.std.specs.Prelude.{slice_get}
 use Rattle.mg_bson.specs.Tree.{Fields}
 use Rattle.mg_bson.specs.Raw.{fields}
@@ -13,9 +13,9 @@ use Rattle.mg_ops.specs.Logs.{AddsJust, commands_sent}
 use Rattle.mg_ops.specs.declared.aggregate.ChangeStreamAggregate.{ChangeStreamAggregate}
 use Rattle.mg_cursor.specs.Client.{ClientCursor}
 use Rattle.mg_change.specs.ClientStreams.{ClientStream}
-use Rattle.mg_change.specs.Sent.{AsksMoreOf, Falling, IsSentAt, ResumesBy, Sent}
+use Rattle.mg_change.specs.Sent.{AsksMoreOf, Falling, IsSentAt, KillsReplaced, ResumesBy, Sent}
 use Rattle.mg_change.proofs.Sent.{falling_on}
-use Rattle.mg_jobs.specs.Causes.{AreInLog, FallsAt, command_at, commands_at, places_from, sent_since}
+use Rattle.mg_jobs.specs.Causes.{AreInLog, CallFalls, FallsAt, command_at, commands_at, places_from, sent_at, sent_since}
 
 -- ---- places that are below
 
@@ -112,21 +112,22 @@ pub falls_below : (may : ℕ → Fields → Type 0) (calls : List Call) (n : ℕ
 falls_below may calls n places m k less f = record { within = f.within; falling = falling_below may n (commands_at calls places) m k less f.falling }
 
 -- how many are left is not said
-pub call_falls_so : (calls : List Call) (at : ClientStream) (places : List ℕ) (m : ℕ) → FallsAt (IsSentAt at) calls 4 places m → FallsAt (IsSentAt at) calls 4 places 0
-call_falls_so calls at places m f = falls_below (IsSentAt at) calls 4 places m 0 (omega arith) f
+pub call_falls_so : (calls : List Call) (wire : ℤ) (at : ClientStream) (places : List ℕ) (m : ℕ) → CallFalls calls wire at places m → CallFalls calls wire at places 0
+call_falls_so calls wire at places m f = falls_below (IsSentAt (KillsReplaced (sent_at places calls wire) true at) at) calls 4 places m 0 (omega arith) f
 
 -- ---- a call in several turns
 
 -- what a stream sends in it is told by how it stood as the call began
-at_began : (at s : ClientStream) → s.aggregate ≡ at.aggregate → (place : ℕ) (command : Fields) → (4 ≤ suc place → s.cursor ≡ at.cursor) → IsSentAt s place command → IsSentAt at place command
-at_began at s same zero command cursor h = h
-at_began at s same (suc zero) command cursor h = subst (λ (a : ChangeStreamAggregate). ResumesBy a command) same h
-at_began at s same (suc (suc zero)) command cursor h = subst (λ (a : ChangeStreamAggregate). ResumesBy a command) same h
-at_began at s same (suc (suc (suc zero))) command cursor h = subst (λ (c : ClientCursor). AsksMoreOf c command) (cursor (omega arith)) h
-at_began at s same (suc (suc (suc (suc place)))) command cursor h = absurd h
+module _ (such now : Fields → Type 0) (so : (command : Fields) → now command → such command) (at s : ClientStream) (same : s.aggregate ≡ at.aggregate) where
+  at_began : (place : ℕ) (command : Fields) → (4 ≤ suc place → s.cursor ≡ at.cursor) → IsSentAt now s place command → IsSentAt such at place command
+  at_began zero command cursor h = so command h
+  at_began (suc zero) command cursor h = subst (λ (a : ChangeStreamAggregate). ResumesBy a command) same h
+  at_began (suc (suc zero)) command cursor h = subst (λ (a : ChangeStreamAggregate). ResumesBy a command) same h
+  at_began (suc (suc (suc zero))) command cursor h = subst (λ (c : ClientCursor). AsksMoreOf c command) (cursor (omega arith)) h
+  at_began (suc (suc (suc (suc place)))) command cursor h = absurd h
 
-pub began_as : (at s : ClientStream) → s.aggregate ≡ at.aggregate → (n : ℕ) (commands : List Fields) (m : ℕ) → (4 ≤ n → s.cursor ≡ at.cursor) → Falling (IsSentAt s) n commands m → Falling (IsSentAt at) n commands m
-began_as at s same n [] m cursor falls = falls
-began_as at s same n (command ∷ commands) m cursor falls =
-    let here : falls.0 < n = falls.1 in
-    (falls.0, falls.1, at_began at s same falls.0 command (λ many. cursor (omega (arith, here, many))) falls.2, began_as at s same falls.0 commands m (λ many. cursor (omega (arith, here, many))) falls.3)
+  pub began_as : (n : ℕ) (commands : List Fields) (m : ℕ) → (4 ≤ n → s.cursor ≡ at.cursor) → Falling (IsSentAt now s) n commands m → Falling (IsSentAt such at) n commands m
+  began_as n [] m cursor falls = falls
+  began_as n (command ∷ commands) m cursor falls =
+      let here : falls.0 < n = falls.1 in
+      (falls.0, falls.1, at_began falls.0 command (λ many. cursor (omega (arith, here, many))) falls.2, began_as falls.0 commands m (λ many. cursor (omega (arith, here, many))) falls.3)

@@ -23,7 +23,7 @@ use Rattle.mg_change.specs.OpenedStreams.{IsOpening}
 use Rattle.mg_change.specs.OpeningCauses.{StreamOpened, OpeningCaused, OpeningFails, OpensSoFar}
 use Rattle.mg_change.specs.OpeningView.{IsPlainOpening, opening_of}
 use Rattle.mg_change.specs.Sent as calling
-use Rattle.mg_change.specs.Sent.{CallSent, IsSentAt, places_behind, opening_places}
+use Rattle.mg_change.specs.Sent.{CallSent, IsSentAt, KillsReplaced, PollKills, places_behind, opening_places}
 use Rattle.mg_change.specs.StreamCalls.{CallCopies, event_ending}
 use Rattle.mg_change.specs.StreamView.{IsPlainStream, stream_of}
 use Rattle.mg_change.specs.declared.event_poll.EventPoll.{EventPoll}
@@ -33,7 +33,8 @@ use Rattle.mg_change.specs.declared.stream.ChangeStream.{ChangeStream}
 use Rattle.mg_change.proofs.ClosingCauses.{LastCame, last_closes, last_done_grows, last_fails_grows, last_grows}
 use Rattle.mg_change.proofs.OpeningCauses.{opened_grows, opening_fails_grows, opens_grows}
 use Rattle.mg_change.proofs.Resting.{opening_args}
-use Rattle.mg_jobs.specs.Causes.{Answered, ClosedBy, FallsAt, KillsLast, places_from, sent_at, sent_since}
+use Rattle.mg_change.proofs.Sent.{falling_as, replaced_grows, same_at}
+use Rattle.mg_jobs.specs.Causes.{Answered, CallFalls, ClosedBy, FallsAt, KillsLast, commands_at, places_from, sent_at, sent_since}
 use Rattle.mg_jobs.specs.Sends.{IsCommandOf}
 use Rattle.mg_jobs.specs.Follows.{HasGiven, Placing, poll_of, same_place}
 use Rattle.mg_jobs.specs.Playing.{stage_ticket}
@@ -121,18 +122,31 @@ grows_ended places since calls wire =
       wire = refl;
     }
 
+-- ---- what calls kill
+
+-- it stays told
+falls_grown : (past past' : Past) → Grows past past' → (calls : List Call) (at : ClientStream) (own : List ℕ) (m : ℕ) → FallsAt (IsSentAt (KillsReplaced past true at) at) calls 4 own m → FallsAt (IsSentAt (KillsReplaced past' true at) at) calls 4 own m
+falls_grown past past' grows calls at own m f =
+    let now = KillsReplaced past true at in
+    let such = KillsReplaced past' true at in
+    record { within = f.within; falling = falling_as (IsSentAt such at) (IsSentAt now at) (same_at such now (replaced_grows past past' grows true at) at at refl refl) 4 (commands_at calls own) m f.falling }
+
+call_falls_later : (places : List ℕ) (calls calls' : List Call) (wire : ℤ) (at : ClientStream) (m : ℕ) → Keeps calls calls' → CallFalls calls wire at places m → CallFalls calls' wire at places m
+call_falls_later places calls calls' wire at m keeps f =
+    falls_later (IsSentAt (KillsReplaced (sent_at places calls' wire) true at) at) calls calls' 4 places m keeps (falls_grown (sent_at places calls wire) (sent_at places calls' wire) (grows_later places calls calls' wire keeps) calls at places m f)
+
 -- ---- answered calls
 
 pub answered_later : (calls calls' : List Call) (wire : ℤ) → Keeps calls calls' → (owns : List (List ℕ)) (said : List Answer) (first last : ClientStream) → Answered calls wire first owns said last → Answered calls' wire first owns said last
 answered_later calls calls' wire keeps [] [] first last a = a
 answered_later calls calls' wire keeps (places ∷ owns) (answer ∷ said) first last a =
-    (a.0, called_grows (sent_at places calls wire) (sent_at places calls' wire) (grows_later places calls calls' wire keeps) None first a.0 (poll_of answer) a.1, answered_later calls calls' wire keeps owns said a.0 last a.2, falls_later (IsSentAt first) calls calls' 4 places 0 keeps a.3)
+    (a.0, called_grows (sent_at places calls wire) (sent_at places calls' wire) (grows_later places calls calls' wire keeps) None first a.0 (poll_of answer) a.1, answered_later calls calls' wire keeps owns said a.0 last a.2, call_falls_later places calls calls' wire first 0 keeps a.3)
 answered_later calls calls' wire keeps [] (answer ∷ said) first last a = absurd a
 answered_later calls calls' wire keeps (places ∷ owns) [] first last a = absurd a
 
-answered_more : (calls : List Call) (wire : ℤ) (owns : List (List ℕ)) (said : List Answer) (first mid last : ClientStream) (places : List ℕ) (answer : Answer) → Answered calls wire first owns said mid → Called (sent_at places calls wire) None mid last (poll_of answer) → FallsAt (IsSentAt mid) calls 4 places 0 → Answered calls wire first (owns ++ places ∷ []) (said ++ answer ∷ []) last
+answered_more : (calls : List Call) (wire : ℤ) (owns : List (List ℕ)) (said : List Answer) (first mid last : ClientStream) (places : List ℕ) (answer : Answer) → Answered calls wire first owns said mid → Called (sent_at places calls wire) None mid last (poll_of answer) → CallFalls calls wire mid places 0 → Answered calls wire first (owns ++ places ∷ []) (said ++ answer ∷ []) last
 answered_more calls wire [] [] first mid last places answer a called sends =
-    (last, subst (λ (x : ClientStream). Called (sent_at places calls wire) None x last (poll_of answer)) a called, refl, subst (λ (x : ClientStream). FallsAt (IsSentAt x) calls 4 places 0) a sends)
+    (last, subst (λ (x : ClientStream). Called (sent_at places calls wire) None x last (poll_of answer)) a called, refl, subst (λ (x : ClientStream). CallFalls calls wire x places 0) a sends)
 answered_more calls wire (own ∷ owns) (other ∷ said) first mid last places answer a called sends = (a.0, a.1, answered_more calls wire owns said a.0 mid last places answer a.2 called sends, a.3)
 answered_more calls wire [] (other ∷ said) first mid last places answer a called sends = absurd a
 answered_more calls wire (own ∷ owns) [] first mid last places answer a called sends = absurd a
@@ -188,7 +202,7 @@ tells_later old new calls calls' wire q (stage.Open stream) k at keeps same t = 
   open_later calls calls' wire q.opened q.owns k.watched k.opened k.said k.alive t.0 at keeps t.1,
   so_far_grows (sent_at q.now calls wire) (sent_at q.now calls' wire) (grows_later q.now calls calls' wire keeps) old new t.0 (stream_of stream) same t.2,
   t.3,
-  record { falls = falls_later (IsSentAt t.0) calls calls' 4 q.now (calling.places (stream_of stream)) keeps t.4.falls; cursor = t.4.cursor; rests = t.4.rests },
+  record { falls = call_falls_later q.now calls calls' wire t.0 (calling.places (stream_of stream)) keeps t.4.falls; cursor = t.4.cursor; rests = t.4.rests },
 )
 tells_later old new calls calls' wire q (stage.Closes closing) k at keeps same t = (
   t.0,
@@ -456,16 +470,31 @@ call_adds v old new log log' wire s s1 r calls calls' q k last at sound does t s
     let far = for_so_far t.args (sent_at q.now calls wire) last fit old s so in
     such_adds (IsWatchArgs v) log log' calls calls' told told' keeps (calls_such (IsWatchArgs v) t.args t.args_are does.0 old new log log' wire does.1 s s1 r sound far.0 far.1 does.2)
 
-module _ (log log' : LogTold) (at : ClientStream) (own : List ℕ) (s s1 : ClientStream) (calls calls' : List Call) (told : log ≡ Some calls) (told' : log' ≡ Some calls') (keeps : Keeps calls calls') (same : s.aggregate ≡ at.aggregate) where
+module _ (old : Awaited) (log log' : LogTold) (wire : ℤ) (at : ClientStream) (own : List ℕ) (s s1 : ClientStream) (calls calls' : List Call) (told : log ≡ Some calls) (told' : log' ≡ Some calls') (keeps : Keeps calls calls') (so_far : SoFar old (sent_at own calls wire) true at s) where
+  -- what it kills is told behind the poll
+  abbrev kills_now : Fields → Type 0
+  kills_now command = KillsReplaced (sent_at (sent_since own (length calls) (length calls')) calls' wire) true at command
+
+  ended_grows : Grows (past_of own (length calls) calls' wire) (sent_at (sent_since own (length calls) (length calls')) calls' wire)
+  ended_grows = grows_ended own (length calls) calls' wire
+
+  kills_polled : (command : Fields) → PollKills old log log' wire true s command → kills_now command
+  kills_polled command k = replaced_grows (past_of own (length calls) calls' wire) (sent_at (sent_since own (length calls) (length calls')) calls' wire) ended_grows true at command (k.replaced calls calls' told told' own at so_far)
+
+  falls_before : (n : ℕ) → CallFalls calls wire at own n → FallsAt (IsSentAt kills_now at) calls 4 own n
+  falls_before n f =
+      falls_grown (past_of own (length calls) calls' wire) (sent_at (sent_since own (length calls) (length calls')) calls' wire) ended_grows calls at own n
+      (falls_grown (sent_at own calls wire) (past_of own (length calls) calls' wire) (record { own = λ place call there mine. mine; keeps = keeps; wire = refl }) calls at own n f)
+
   -- what a poll sent stands behind what was sent before
-  call_falls : (r : EventPoll) → CallSent log log' s s1 r → SendsSoFar calls at own s → FallsAt (IsSentAt at) calls' 4 (sent_since own (length calls) (length calls')) (places_behind (event_ending r) s1)
+  call_falls : (r : EventPoll) → CallSent old log log' wire None s s1 r → SendsSoFar calls wire at own s → CallFalls calls' wire at (sent_since own (length calls) (length calls')) (places_behind (event_ending r) s1)
   call_falls r sent so =
       let n : ℕ = calling.places s in
       let m : ℕ = places_behind (event_ending r) s1 in
-      falls_more (IsSentAt at) log log' calls calls' 4 own n m sent.commands told told' keeps so.falls sent.adds (began_as at s same n sent.commands m so.cursor sent.falling)
+      falls_more (IsSentAt kills_now at) log log' calls calls' 4 own n m sent.commands told told' keeps (falls_before n so.falls) sent.adds (began_as kills_now (PollKills old log log' wire true s) kills_polled at s so_far.same n sent.commands m so.cursor sent.falling)
 
   -- a call that waits has sent its getMore, or needs none
-  call_goes_on : IsSome (stream_ticket s1) → CallSent log log' s s1 polls.Pending → SendsSoFar calls at own s → SendsSoFar calls' at (sent_since own (length calls) (length calls')) s1
+  call_goes_on : IsSome (stream_ticket s1) → CallSent old log log' wire None s s1 polls.Pending → SendsSoFar calls wire at own s → SendsSoFar calls' wire at (sent_since own (length calls) (length calls')) s1
   call_goes_on held sent so =
       record {
         falls = call_falls polls.Pending sent so;
@@ -479,7 +508,7 @@ ends_places answers.Nothing s = refl
 ends_places (answers.Failed e) s = refl
 
 -- A call of the stream pends.
-pub call_waits_tells : (old new : Awaited) (log log' : LogTold) (wire : ℤ) (k : Kept) (s s1 : ChangeStream Fields) (r : EventPoll) → r ≡ polls.Pending → IsPlainStream s → IsPlainStream s1 → IsSome (stream_ticket (stream_of s1)) → CallSent log log' (stream_of s) (stream_of s1) r → Copies old new log log' wire (stream_of s) (stream_of s1) r → CallCaused old new log log' wire None (stream_of s) (stream_of s1) r
+pub call_waits_tells : (old new : Awaited) (log log' : LogTold) (wire : ℤ) (k : Kept) (s s1 : ChangeStream Fields) (r : EventPoll) → r ≡ polls.Pending → IsPlainStream s → IsPlainStream s1 → IsSome (stream_ticket (stream_of s1)) → CallSent old log log' wire None (stream_of s) (stream_of s1) r → Copies old new log log' wire (stream_of s) (stream_of s1) r → CallCaused old new log log' wire None (stream_of s) (stream_of s1) r
     → FollowTells old new log log' wire (stage.Open s) k (stage.Open s1) k same_place
 call_waits_tells old new log log' wire k s s1 r pends sound sound' held sent does caused calls calls' told told' q place t =
     let at = t.0 in
@@ -496,7 +525,7 @@ call_waits_tells old new log log' wire k s s1 r pends sound sound' held sent doe
         open_later calls calls' wire q.opened q.owns k.watched k.opened k.said k.alive at place keeps t.1,
         so_far_grows (past_of q.now (length calls) calls' wire) later (grows_ended q.now (length calls) calls' wire) new new at (stream_of s1) (λ m e. refl) so_far,
         sound'.sound,
-        call_goes_on log log' at q.now (stream_of s) (stream_of s1) calls calls' told told' keeps t.2.same held (subst (λ (x : EventPoll). CallSent log log' (stream_of s) (stream_of s1) x) pends sent) t.4,
+        call_goes_on old log log' wire at q.now (stream_of s) (stream_of s1) calls calls' told told' keeps t.2 held (subst (λ (x : EventPoll). CallSent old log log' wire None (stream_of s) (stream_of s1) x) pends sent) t.4,
       );
       extends = extends_going q (suc (length k.said)) (suc (length k.said)) (length calls) (length calls') refl room;
       adds = call_adds k.watched old new log log' wire (stream_of s) (stream_of s1) r calls calls' q k at place sound.sound does t.1 t.2 told told' keeps;
@@ -509,7 +538,7 @@ came_called awaited past at s (answers.Failed e) came = came
 
 -- A call of the stream answered; the rest of the turn follows.
 pub call_answers_tells : (old mid new : Awaited) (log log_mid log' : LogTold) (wire wire_mid : ℤ) (k k1 : Kept) (s s1 : ChangeStream Fields) (r : EventPoll) (answer : Answer) (s' : Stage) (k' : Kept) → RestTells new log_mid log' wire_mid (stream_of s1) k1 s' k' → k1.watched ≡ k.watched → k1.opened ≡ k.opened → k1.said ≡ k.said ++ answer ∷ [] → SaysAlive k1.alive (stream_of s1) → wire_mid ≡ wire → r ≡ poll_of answer → IsPlainStream s
-    → CallSent log log_mid (stream_of s) (stream_of s1) r → Copies old mid log log_mid wire (stream_of s) (stream_of s1) r → CallCaused old mid log log_mid wire None (stream_of s) (stream_of s1) r → FollowTells old new log log' wire (stage.Open s) k s' k' same_place
+    → CallSent old log log_mid wire None (stream_of s) (stream_of s1) r → Copies old mid log log_mid wire (stream_of s) (stream_of s1) r → CallCaused old mid log log_mid wire None (stream_of s) (stream_of s1) r → FollowTells old new log log' wire (stage.Open s) k s' k' same_place
 call_answers_tells old mid new log log_mid log' wire wire_mid k k1 s s1 r answer s' k' rest watched given said alive same is sound sent does caused calls calls' told told' q place t =
     let at = t.0 in
     let c = subst (λ (x : EventPoll). CallCaused old mid log log_mid wire None (stream_of s) (stream_of s1) x) is caused calls told q.now at t.2 in
@@ -519,8 +548,8 @@ call_answers_tells old mid new log log_mid log' wire wire_mid k k1 s s1 r answer
     let after = stream_of s1 in
     let before = open_later calls c.0 wire q.opened q.owns k.watched k.opened k.said k.alive at place c.2 t.1 in
     let called : Called (sent_at own c.0 wire) None at after (poll_of answer) = called_grows (past_of q.now (length calls) c.0 wire) (sent_at own c.0 wire) (grows_ended q.now (length calls) c.0 wire) None at after (poll_of answer) (came_called mid (past_of q.now (length calls) c.0 wire) at after answer c.3) in
-    let sends : FallsAt (IsSentAt at) c.0 4 own 0 = subst (λ (m : ℕ). FallsAt (IsSentAt at) c.0 4 own m) (ap (λ (x : EventPoll). places_behind (event_ending x) after) is ∙ ends_places answer after)
-    (call_falls log log_mid at q.now (stream_of s) after calls c.0 told c.1 c.2 t.2.same r sent t.4) in
+    let sends : CallFalls c.0 wire at own 0 = subst (λ (m : ℕ). CallFalls c.0 wire at own m) (ap (λ (x : EventPoll). places_behind (event_ending x) after) is ∙ ends_places answer after)
+    (call_falls old log log_mid wire at q.now (stream_of s) after calls c.0 told c.1 c.2 t.2 r sent t.4) in
     let opened : TellsOpen c.0 wire q1.opened q1.owns k1.watched k1.opened k1.said k1.alive after place = record {
       given = subst (λ (o : Ended (Unit {0})). HasGiven o) (sym given) before.given;
       args = before.args;
@@ -548,7 +577,7 @@ rest_stays_tells awaited log wire stream k sound rest calls calls' told told' q 
       begins awaited (sent_at q.now calls wire) (stream_of stream) sound rest,
       sound,
       record {
-        falls = none_now (IsSentAt (stream_of stream)) calls 4 q (calling.places (stream_of stream)) none (places_few (stream_of stream).cursor (stream_of stream).doing);
+        falls = none_now (IsSentAt (KillsReplaced (sent_at q.now calls wire) true (stream_of stream)) (stream_of stream)) calls 4 q (calling.places (stream_of stream)) none (places_few (stream_of stream).cursor (stream_of stream).doing);
         cursor = λ many. refl;
         rests = λ waits. none;
       },

@@ -339,7 +339,7 @@ module _ (awaited : Awaited) (c : Course) (i : ℕ) (calls : List Call) (wire : 
   rests_or_waits : (count : ℕ) (b : Bool) → pended_last ≡ b → (stream : ChangeStream Fields) (told : FollowTold awaited calls wire c i (stage.Open stream) (kept job) at) → IsOpen count (came job) (turns_done i c.order c.notes) → HoldsIf b (stream_ticket (stream_of stream)) → OpenStands awaited c i count (length job.answers.items) calls wire told.tells.0 told.places.now
   rests_or_waits count false is stream told so holds = at_rest is (omega (arith, so.rest, so.more)) (told.tells.4.rests (none_if (stream_ticket (stream_of stream)) false (sym holds) refl))
   rests_or_waits count true is stream told so holds =
-      in_call is (omega (arith, so.rest, so.more)) told.sent.now (call_awaits awaited (sent_at told.places.now calls wire) true told.tells.0 (stream_of stream) (sound_any true (stream_of stream) told.tells.3) told.tells.2 holds) (call_falls_so calls told.tells.0 told.places.now (calling.places (stream_of stream)) told.tells.4.falls)
+      in_call is (omega (arith, so.rest, so.more)) told.sent.now (call_awaits awaited (sent_at told.places.now calls wire) true told.tells.0 (stream_of stream) (sound_any true (stream_of stream) told.tells.3) told.tells.2 holds) (call_falls_so calls wire told.tells.0 told.places.now (calling.places (stream_of stream)) told.tells.4.falls)
 
   over_not_unfinished : (count : ℕ) → FollowAt count stage.Ended (came job) (turns_done i c.order c.notes) pended_last → IsUnfinished job.opened → ⊥
   over_not_unfinished count (inl never, newest) is = failed_not_unfinished job.opened never.opened is

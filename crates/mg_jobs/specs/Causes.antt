@@ -20,7 +20,7 @@ use Rattle.mg_change.specs.ClientStreams.{ClientStream, IsAlive, resuming_in, st
 use Rattle.mg_change.specs.ClosingCauses.{LastDone, LastFails, LastWaits, last_kill}
 use Rattle.mg_change.specs.OpenedStreams.{IsOpening}
 use Rattle.mg_change.specs.OpeningCauses.{StreamOpened, OpeningFails}
-use Rattle.mg_change.specs.Sent.{Falling, IsSentAt}
+use Rattle.mg_change.specs.Sent.{Falling, IsSentAt, KillsReplaced}
 use Rattle.mg_ops.specs.Appended.{Appended}
 use Rattle.mg_jobs.specs.Counts.{PolledBy, one_if}
 use Rattle.mg_jobs.specs.Drawing.{as_sent}
@@ -133,12 +133,16 @@ pub record InsertEnds (awaited : Awaited) (c : Course) (i : ℕ) (calls : List C
 
 -- ---- a follow
 
+-- a call of a stream that stood so as it began sent its commands at these places, and the cursor that it killed is the one that its resumption replaced
+abbrev pub CallFalls : List Call → ℤ → ClientStream → List ℕ → ℕ → Type 0
+CallFalls calls wire at own m = FallsAt (IsSentAt (KillsReplaced (sent_at own calls wire) true at) at) calls 4 own m
+
 -- The calls of a stream, one behind the other: at which places each sent its commands, what it answered with its cause, and how the stream stood
 -- before the first of them and behind the last. A call sends at most the getMore of its cursor, then at most twice the aggregate that resumes the stream,
--- then at most one killing (`IsSentAt`).
+-- then at most one killing (`IsSentAt`), of the cursor that it replaced so (`KillsReplaced`).
 abbrev pub Answered : List Call → ℤ → ClientStream → List (List ℕ) → List Answer → ClientStream → Type 0
 Answered calls wire at [] [] last = last ≡ at
-Answered calls wire at (places ∷ owns) (answer ∷ said) last = (after : ClientStream) × Called (sent_at places calls wire) None at after (poll_of answer) × Answered calls wire after owns said last × FallsAt (IsSentAt at) calls 4 places 0
+Answered calls wire at (places ∷ owns) (answer ∷ said) last = (after : ClientStream) × Called (sent_at places calls wire) None at after (poll_of answer) × Answered calls wire after owns said last × CallFalls calls wire at places 0
 Answered calls wire at [] (answer ∷ said) last = ⊥
 Answered calls wire at (places ∷ owns) [] last = ⊥
 
@@ -175,7 +179,7 @@ pub data OpenStands (awaited : Awaited) (c : Course) (i count answered : ℕ) (c
   -- its newest turn did not pend, and a call is left: nothing was sent for it
   at_rest : pends_last i c.order c.notes ≡ false → answered < count → now ≡ [] → OpenStands awaited c i count answered calls wire last now
   -- its next call waits for a reply
-  in_call : pends_last i c.order c.notes ≡ true → answered < count → AllSentIn c i (suc answered) now → CallWaits awaited (sent_at now calls wire) true last → FallsAt (IsSentAt last) calls 4 now 0 → OpenStands awaited c i count answered calls wire last now
+  in_call : pends_last i c.order c.notes ≡ true → answered < count → AllSentIn c i (suc answered) now → CallWaits awaited (sent_at now calls wire) true last → CallFalls calls wire last now 0 → OpenStands awaited c i count answered calls wire last now
   -- all its calls are answered, and its closing waits for a reply
   in_closing : pends_last i c.order c.notes ≡ true → answered ≡ count → AllSentIn c i answered now → LastWaits awaited (sent_at now calls wire) last → FallsAt (KillsLast last) calls 1 now 0 → OpenStands awaited c i count answered calls wire last now
 

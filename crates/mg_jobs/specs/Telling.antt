@@ -18,9 +18,9 @@ use Rattle.mg_change.specs.OpenedStreams.{IsOpening}
 use Rattle.mg_change.specs.OpeningCauses.{StreamOpened, OpeningFails, OpensSoFar}
 use Rattle.mg_change.specs.OpeningView.{IsPlainOpening, opening_of}
 use Rattle.mg_change.specs.Sent as calling
-use Rattle.mg_change.specs.Sent.{IsSentAt, ending_places, opening_places}
+use Rattle.mg_change.specs.Sent.{ending_places, opening_places}
 use Rattle.mg_change.specs.StreamView.{stream_of}
-use Rattle.mg_jobs.specs.Causes.{Answered, AreInLog, ClosedBy, Course, EndsBy, EndsSent, FallsAt, KillsLast, AllSentIn, SentNoneBehind, commands_at, course, places_of, sent_at}
+use Rattle.mg_jobs.specs.Causes.{Answered, AreInLog, CallFalls, ClosedBy, Course, EndsBy, EndsSent, FallsAt, KillsLast, AllSentIn, SentNoneBehind, commands_at, course, places_of, sent_at}
 use Rattle.mg_jobs.specs.Follows.{FollowTurns, HasGiven, IsArgsFor, Placing, filter_in}
 use Rattle.mg_jobs.specs.Headline.{AllKnow, task_of}
 use Rattle.mg_ops.specs.InsertCauses.{HasSent, IsInsertOf}
@@ -104,8 +104,8 @@ landing_places (ends sending) = ending_places sending.stage
 
 -- A call that began where its stream stood so sent its commands at these places, none where it waits for no reply; where it may still send its getMore, that is
 -- of the cursor which it began with.
-pub record SendsSoFar (calls : List Call) (at : ClientStream) (own : List ℕ) (s : ClientStream) : Type 0 where
-  pub falls : FallsAt (IsSentAt at) calls 4 own (calling.places s)
+pub record SendsSoFar (calls : List Call) (wire : ℤ) (at : ClientStream) (own : List ℕ) (s : ClientStream) : Type 0 where
+  pub falls : CallFalls calls wire at own (calling.places s)
   pub cursor : 4 ≤ calling.places s → s.cursor ≡ at.cursor
   pub rests : stream_ticket s ≡ None → own ≡ []
 
@@ -113,7 +113,7 @@ pub record SendsSoFar (calls : List Call) (at : ClientStream) (own : List ℕ) (
 abbrev pub Tells : Awaited → List Call → ℤ → Places → Stage → Kept → Option ℕ → Type 0
 Tells awaited calls wire q stage.Unopened k at = TellsFirst q k × (q.now ≡ [])
 Tells awaited calls wire q (stage.Opens opening) k at = TellsFirst q k × IsWatchArgs k.watched (opening_of opening).args × IsPlainOpening opening × OpensSoFar awaited (sent_at q.now calls wire) (opening_of opening).args (opening_of opening).sending × FallsAt (IsOpening (opening_of opening).args wire None) calls 3 q.now (opening_places (opening_of opening).sending)
-Tells awaited calls wire q (stage.Open stream) k at = (last : ClientStream) × IsOpened calls wire q k last at × SoFar awaited (sent_at q.now calls wire) true last (stream_of stream) × IsSound true (stream_of stream) × SendsSoFar calls last q.now (stream_of stream)
+Tells awaited calls wire q (stage.Open stream) k at = (last : ClientStream) × IsOpened calls wire q k last at × SoFar awaited (sent_at q.now calls wire) true last (stream_of stream) × IsSound true (stream_of stream) × SendsSoFar calls wire last q.now (stream_of stream)
 Tells awaited calls wire q (stage.Closes closing) k at = (last : ClientStream) × IsOpened calls wire q k last at × (k.token ≡ stream_token last) × LastSoFar awaited (sent_at q.now calls wire) last closing × FallsAt (KillsLast last) calls 1 q.now (landing_places closing.doing)
 Tells awaited calls wire q stage.Ended k at = TellsEnd calls wire q k at k.opened
 
