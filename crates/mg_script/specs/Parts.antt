@@ -1,5 +1,5 @@
 -- What is read off one JSON value.
-use Rattle.std.specs.Prelude.{ℕ, ◌^◌, ◌&&◌, ◌||◌, ◌==◌, ℤ, pos, negsuc, List, [], ◌∷◌, Bool, true, false, not, Option, Some, None, option_and_then, Result, Ok, nat_le, nat_lt, int_le, if◌then◌else◌}
+use Rattle.std.specs.Prelude.{ℕ, ◌^◌, ◌&&◌, ◌||◌, ℤ, pos, negsuc, List, [], ◌∷◌, Bool, true, false, Option, Some, None, option_and_then, Result, Ok, nat_le, nat_lt, int_le, if◌then◌else◌}
 use Rattle.std.specs.List.{list_all}
 use Rattle.std.specs.Fmt.{signed_decimal}
 use Rattle.std.specs.Result.{result_ok}
@@ -62,13 +62,6 @@ abbrev pub small_number : Data → Option ℕ
 small_number d = option_and_then (λ n. if nat_lt n (2 ^ 32) then Some n else None) (option_and_then as_u64 (as_number d))
 
 -- ---- texts
-
-abbrev pub is_no_dot : ℕ → Bool
-is_no_dot b = not (b == 46)
-
--- whether the text has a dot
-abbrev pub has_dot : List ℕ → Bool
-has_dot s = not (list_all is_no_dot s)
 
 -- a digit of hexadecimal text, of which letters are lower case
 abbrev pub is_lower_digit : ℕ → Bool

@@ -9,4 +9,3 @@ place_text place.Top = codes "top"
 place_text (place.Job n) = codes "job " ++ decimal n
 place_text (place.Order n) = codes "order " ++ decimal n
 place_text (place.Fate n) = codes "fate " ++ decimal n
-place_text place.NotBuilt = codes "not built"

@@ -1,7 +1,6 @@
 -- What a script asks for, without where it lies in memory.
-use Rattle.std.specs.Prelude.{ℕ, ℤ, List, map, Bool, true, false, Option, Vec, string_bytes}
+use Rattle.std.specs.Prelude.{ℕ, ℤ, List, map, Option, Vec, string_bytes}
 use Rattle.std.specs.declared.alloc.Global.{Global}
-use Rattle.std.specs.List.{list_all}
 use Rattle.mg_bson.specs.Tree.{Tree, Fields}
 use Rattle.mg_bson.specs.View.{tree}
 use Rattle.mg_link.specs.Namespace.{Space, Target, space, target}
@@ -66,8 +65,8 @@ pieces ps = map piece ps
 abbrev pub task : Job → Task
 task (jobs.Insert ns docs) = insert (space ns) docs.items
 task (jobs.Follow on calls start filter batch) = follow (target on) calls (begin start) filter batch
-task (jobs.Put db bucket name id chunk cut) = put (string_bytes db) (string_bytes bucket) (string_bytes name) (tree id) chunk (pieces cut.items)
-task (jobs.Get db bucket id read) = get (string_bytes db) (string_bytes bucket) (tree id) read
+task (jobs.Put db bucket name id chunk cut) = put db (string_bytes bucket) (string_bytes name) (tree id) chunk (pieces cut.items)
+task (jobs.Get db bucket id read) = get db (string_bytes bucket) (tree id) read
 
 abbrev pub tasks : List Job → List Task
 tasks js = map task js
@@ -86,16 +85,3 @@ fates fs = map fated fs
 
 abbrev pub plan : Script → Plan
 plan s = record { tasks = tasks s.jobs.items; turns = s.order.items; fates = fates s.fates.items; wire = s.wire; ids = s.ids; moment = s.moment.millis }
-
--- ---- what can be run by now
-
--- a job that can be run
-abbrev pub task_built : Task → Bool
-task_built (insert ns docs) = true
-task_built (follow on calls b filter batch) = true
-task_built (put db bucket name id chunk pieces) = false
-task_built (get db bucket id read) = false
-
--- whether all that the script asks for can be run
-abbrev pub is_built : Plan → Bool
-is_built p = list_all task_built p.tasks

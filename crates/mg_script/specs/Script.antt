@@ -1,5 +1,5 @@
 -- The script that bytes are, or the place of the first fault.
-use Rattle.std.specs.Prelude.{ℕ, pos, ℤ, List, [], ◌∷◌, length, Bool, Option, Some, None, option_and_then, Result, Ok, Err, nat_le, nat_lt, codes, not, ◌&&◌, if◌then◌else◌}
+use Rattle.std.specs.Prelude.{ℕ, pos, ℤ, List, [], ◌∷◌, length, Option, Some, None, option_and_then, Result, Ok, Err, nat_le, nat_lt, codes, if◌then◌else◌}
 use Rattle.std.specs.Str.{is_utf8, bytes_eq}
 use Rattle.serde_json.specs.Data.{Data, Items}
 use Rattle.serde_json.specs.Find.{get, as_str}
@@ -10,10 +10,12 @@ use Rattle.mg_bson.specs.Find.{as_timestamp}
 use Rattle.mg_script.specs.declared.fault.Place.{Place}
 use Rattle.mg_script.specs.declared.fault.Place.TheVariants as place
 use Rattle.mg_link.specs.Namespace.{Space, Target, database, collection, cluster, space_of}
+use Rattle.mg_link.specs.Filter.{has_dot}
+use Rattle.mg_link.specs.Commands.{as_database}
 use Rattle.mg_script.specs.Plan as plans
-use Rattle.mg_script.specs.Plan.{Task, Begin, Lot, Fated, Plan, is_built}
+use Rattle.mg_script.specs.Plan.{Task, Begin, Lot, Fated, Plan}
 use Rattle.mg_script.specs.Reads.{◌>>=◌, found, guard, each}
-use Rattle.mg_script.specs.Parts.{has_only, optional, has_dot, lower_bytes, int64_number, int32_number, natural_number, small_number, member_at, array_at, array_or, text_at, text_or, number_at, number_or, single_at, bytes_at}
+use Rattle.mg_script.specs.Parts.{has_only, optional, lower_bytes, int64_number, int32_number, natural_number, small_number, member_at, array_at, array_or, text_at, text_or, number_at, number_or, single_at, bytes_at}
 use Rattle.mg_script.specs.Values.{value_at, document_at}
 
 -- ---- names
@@ -21,10 +23,6 @@ use Rattle.mg_script.specs.Values.{value_at, document_at}
 -- the namespace with the full name
 abbrev pub space_at : Place → List ℕ → Result Space Place
 space_at p s = found p (space_of s)
-
--- a name that is not empty and has no dot
-abbrev pub is_name : List ℕ → Bool
-is_name s = not (has_dot s) && nat_lt 0 (length s)
 
 -- the database of the name, and the cluster where the name is empty
 abbrev pub whole_target : Place → List ℕ → Result Target Place
@@ -41,7 +39,7 @@ target_at p s = or_whole (space_of s) (whole_target p s)
 
 -- the name of a database
 abbrev pub database_at : Place → Data → Result (List ℕ) Place
-database_at p d = text_at p (codes "db") d >>= λ s. guard p (is_name s) >>= λ named. Ok s
+database_at p d = text_at p (codes "db") d >>= λ s. found p (as_database s)
 
 -- ---- insert
 
@@ -257,17 +255,13 @@ plan_of d = do
   fates ← fates_of lists.fates
   Ok (record { tasks = tasks; turns = turns; fates = fates; wire = scalars.0; ids = scalars.1; moment = scalars.2 })
 
--- the script, where all of it can be run by now
-abbrev pub built : Plan → Result Plan Place
-built s = guard place.NotBuilt (is_built s) >>= λ yes. Ok s
-
 -- the JSON value of the bytes (RFC 8259)
 unfoldable pub data_of : List ℕ → Result Data Place
 data_of bytes = if is_utf8 bytes then found place.NotJson (read bytes) else Err place.NotJson
 
 -- the script of the bytes
 abbrev pub script_of : List ℕ → Result Plan Place
-script_of bytes = data_of bytes >>= plan_of >>= built
+script_of bytes = data_of bytes >>= plan_of
 
 -- the first number that is not below the count
 unfoldable pub first_missing : ℕ → List ℕ → Option ℕ

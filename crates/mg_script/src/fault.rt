@@ -20,8 +20,6 @@ pub enum Place {
     Order(usize),
     /// The fate of this number.
     Fate(usize),
-    /// Nowhere: it asks for what cannot be run yet.
-    NotBuilt,
 }
 
 impl fmt::Display for Place {
@@ -34,7 +32,6 @@ impl fmt::Display for Place {
             Place::Job(n) => write!(f, "job {n}"),
             Place::Order(n) => write!(f, "order {n}"),
             Place::Fate(n) => write!(f, "fate {n}"),
-            Place::NotBuilt => f.write_str("not built"),
         }
     }
 }

@@ -1,6 +1,7 @@
 //! Scripts, from their bytes on, and the text of what became of their jobs.
 #![tactic(auto)]
 
+mod database_name;
 mod fault;
 mod json;
 mod outcome;
@@ -12,6 +13,7 @@ mod print;
 mod script;
 mod value;
 
+pub use database_name::DatabaseName;
 pub use fault::{Place, ScriptError};
 pub use json::json_text;
 pub use outcome::{Answer, Ended, Outcome, Played, Run, Turned};

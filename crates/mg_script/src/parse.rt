@@ -1,8 +1,7 @@
 //! The script that bytes are.
 ghost use Rattle.std.specs.Prelude.{◌≡◌, length};
-ghost use Rattle.std.specs.List.{list_all};
 ghost use Rattle.serde_json.specs.View.{view, items_view};
-ghost use Rattle.mg_script.specs.Plan.{tasks, plan, task, task_built, is_built};
+ghost use Rattle.mg_script.specs.Plan.{tasks, plan};
 ghost use Rattle.mg_script.specs.Reads.{Gives};
 ghost use Rattle.mg_script.specs.Script.{turn_of, turns_of, wire_at, ids_at, moment_at, scalars_at, lists_of, plan_of, data_of, script_of, first_missing, missing};
 
@@ -161,47 +160,12 @@ fn value_from(alloc: Global, bytes: &[u8]) -> Result<Value, ScriptError>
 ///
 /// The text is JSON (RFC 8259) of an object of `jobs`, at most 65,536 of them, `order`, at most 1,048,576 numbers, and
 /// where they are given `fates`, at most 1,048,576 of them, `wire`, `ids` and `moment`. Of two members with one name the
-/// last one stands. A script that asks for what cannot be run yet is refused behind all other faults. That each number
-/// of `order` names a job is not looked at.
+/// last one stands. That each number of `order` names a job is not looked at.
 pub fn parse_script(alloc: Global, bytes: &[u8]) -> Result<Script, ScriptError>
     ensures { Gives plan result (script_of bytes.now) }
 {
     let value = value_from(alloc, bytes)?;
-    let script = script_from(alloc, &value)?;
-    if !is_built(&script) {
-        return Err(ScriptError::Fault(Place::NotBuilt));
-    }
-    Ok(script)
-}
-
-// ---- what can be run by now
-
-fn job_built(job: &Job) -> bool
-    ensures { result ≡ task_built (task job.now) }
-{
-    match job {
-        Job::Insert { .. } => true,
-        Job::Follow { .. } => true,
-        Job::Put { .. } => false,
-        Job::Get { .. } => false,
-    }
-}
-
-fn jobs_built(jobs: &[Job]) -> bool
-    ensures { result ≡ list_all task_built (tasks jobs.now) }
-{
-    for job in jobs {
-        if !job_built(job) {
-            return false;
-        }
-    }
-    true
-}
-
-fn is_built(script: &Script) -> bool
-    ensures { result ≡ is_built (plan script.now) }
-{
-    jobs_built(script.jobs.as_slice())
+    script_from(alloc, &value)
 }
 
 // ---- numbers that name no job

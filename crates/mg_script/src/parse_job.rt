@@ -7,8 +7,9 @@ ghost use Rattle.mg_script.specs.Plan.{pieces, task, tasks, begin};
 ghost use Rattle.mg_script.specs.Reads.{Gives, each};
 ghost use Rattle.mg_script.specs.Parts.{bytes_at, text_at};
 ghost use Rattle.mg_script.specs.Values.{value_at, document_at};
-ghost use Rattle.mg_script.specs.Script.{space_at, is_name, whole_target, target_at, database_at, inserted, insert_of, time_at, begin_by, begin_of, begin_at, filter_at, batch_at, followed, follow_of, id_at, bucket_at, uploaded, put_of, get_of, task_of, tasks_of};
+ghost use Rattle.mg_script.specs.Script.{space_at, whole_target, target_at, database_at, inserted, insert_of, time_at, begin_by, begin_of, begin_at, filter_at, batch_at, followed, follow_of, id_at, bucket_at, uploaded, put_of, get_of, task_of, tasks_of};
 
+use crate::database_name::DatabaseName;
 use crate::fault::{Place, ScriptError};
 use crate::parts::{
     array_at, bytes_at, has_dot, has_only, is_some, member_at, number_at, single_at, small_number,
@@ -31,13 +32,6 @@ fn space_at(alloc: Global, text: &str, place: Place) -> Result<Namespace, Script
         Some(namespace) => Ok(namespace),
         None => Err(ScriptError::Fault(place)),
     }
-}
-
-/// Whether the text can be the name of a database.
-fn is_name(text: &str) -> bool
-    ensures { result ≡ is_name text.now }
-{
-    !has_dot(text) && text.len() > 0
 }
 
 /// The database of the name, or the cluster where the name is empty.
@@ -63,14 +57,14 @@ fn target_at(alloc: Global, text: &str, place: Place) -> Result<OperationTarget,
     }
 }
 
-fn database_at(alloc: Global, value: &Value, place: Place) -> Result<String, ScriptError>
-    ensures { Gives string_bytes result (database_at place (view value.now)) }
+fn database_at(alloc: Global, value: &Value, place: Place) -> Result<DatabaseName, ScriptError>
+    ensures { Gives (λ n. n) result (database_at place (view value.now)) }
 {
-    let name = text_at(value, "db", place)?;
-    if !is_name(name) {
-        return Err(ScriptError::Fault(place));
+    let text = text_at(value, "db", place)?;
+    match DatabaseName::new(String::from_str(alloc, text)?) {
+        Some(name) => Ok(name),
+        None => Err(ScriptError::Fault(place)),
     }
-    Ok(String::from_str(alloc, name)?)
 }
 
 // ---- insert
@@ -237,8 +231,12 @@ fn id_at(alloc: Global, value: &Value, place: Place) -> Result<Bson, ScriptError
 
 /// The database and the name of a bucket.
 #[tactic(auto, unfolding(crate::specs::Script::bucket_at))]
-fn bucket_at(alloc: Global, value: &Value, place: Place) -> Result<(String, String), ScriptError>
-    ensures { Gives (λ b. (string_bytes b.0, string_bytes b.1)) result
+fn bucket_at(
+    alloc: Global,
+    value: &Value,
+    place: Place,
+) -> Result<(DatabaseName, String), ScriptError>
+    ensures { Gives (λ b. (b.0, string_bytes b.1)) result
         (bucket_at place (view value.now)) }
 {
     let db = database_at(alloc, value, place)?;

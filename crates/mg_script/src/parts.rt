@@ -3,8 +3,9 @@ ghost use Rattle.std.specs.Prelude.{◌≡◌, map, option_map, nat_le, nat_lt, 
 ghost use Rattle.std.specs.List.{list_all};
 ghost use Rattle.serde_json.specs.Events.{items_len};
 ghost use Rattle.serde_json.specs.View.{view, items_view, members_view};
+ghost use Rattle.mg_link.specs.Filter.{has_dot};
 ghost use Rattle.mg_script.specs.Reads.{Gives};
-ghost use Rattle.mg_script.specs.Parts.{is_among, are_among, has_only, only_member, int32_number, natural_number, small_number, is_no_dot, has_dot, is_lower_digit, lower_bytes, printed_number, member_at, array_at, array_or, text_at, text_or, number_at, number_or, single_at, bytes_at};
+ghost use Rattle.mg_script.specs.Parts.{is_among, are_among, has_only, only_member, int32_number, natural_number, small_number, is_lower_digit, lower_bytes, printed_number, member_at, array_at, array_or, text_at, text_or, number_at, number_or, single_at, bytes_at};
 
 use crate::fault::{Place, ScriptError};
 use hex::FromHexError;
@@ -98,22 +99,16 @@ pub(crate) fn small_number(value: &Value) -> Option<u32>
 
 // ---- texts
 
-fn is_no_dot(byte: u8) -> bool
-    ensures { result ≡ is_no_dot byte }
-{
-    byte != b'.'
-}
-
-fn has_no_dot(text: &str) -> bool
-    ensures { result ≡ list_all is_no_dot text.now }
-{
-    text.as_bytes().iter().all(|b| is_no_dot(*b))
-}
-
+/// Whether the text has a dot.
 pub(crate) fn has_dot(text: &str) -> bool
     ensures { result ≡ has_dot text.now }
 {
-    !has_no_dot(text)
+    for byte in text.as_bytes() {
+        if *byte == b'.' {
+            return true;
+        }
+    }
+    false
 }
 
 fn is_lower_digit(byte: u8) -> bool

@@ -1,4 +1,5 @@
 //! What a script asks for.
+use crate::database_name::DatabaseName;
 use mg_bson::{Bson, DateTime, Document, Timestamp};
 use mg_link::{Namespace, OperationTarget};
 use mg_options::ResumeToken;
@@ -29,7 +30,7 @@ pub enum Job {
     /// Writes a file, piece by piece.
     Put {
         /// The database of the bucket.
-        db: String,
+        db: DatabaseName,
         /// The name of the bucket.
         bucket: String,
         /// The name of the file.
@@ -44,7 +45,7 @@ pub enum Job {
     /// Reads a file, piece by piece.
     Get {
         /// The database of the bucket.
-        db: String,
+        db: DatabaseName,
         /// The name of the bucket.
         bucket: String,
         /// The `_id` of the file.

@@ -159,7 +159,7 @@ null~top
 {"jobs":[],"order":[0,4294967295,[0],-1]}~order 2
 {"jobs":[],"order":[7],"fates":[{},{"pend":1.0}]}~fate 1
 {"jobs":[{"db":"a","id":0,"job":"get","read":1}],"order":[7],"fates":[0]}~fate 0
-{"jobs":[{"db":"a","id":0,"job":"get","read":1}],"order":[7]}~not built
+{"jobs":[{"db":"a","id":0,"job":"get","read":1}],"order":[7]}~taken
 {"jobs":[],"order":[]}~taken
 {"jobs":[],"order":[4294967295,0]}~taken
 {"jobs":0,"jobs":[],"order":0,"order":[]}~taken
@@ -220,6 +220,7 @@ const JOBS: &str = r#"null~job 0
 {"chunk":4,"id":0,"job":"put","name":"f","pieces":[]}~job 0
 {"chunk":4,"db":"","id":0,"job":"put","name":"f","pieces":[]}~job 0
 {"chunk":4,"db":"a.b","id":0,"job":"put","name":"f","pieces":[]}~job 0
+{"chunk":4,"db":".","id":0,"job":"put","name":"f","pieces":[]}~job 0
 {"bucket":null,"chunk":4,"db":"a","id":0,"job":"put","name":"f","pieces":[]}~job 0
 {"chunk":4,"db":"a","job":"put","name":"f","pieces":[]}~job 0
 {"chunk":4,"db":"a","id":1.0,"job":"put","name":"f","pieces":[]}~job 0
@@ -232,14 +233,16 @@ const JOBS: &str = r#"null~job 0
 {"chunk":4,"db":"a","id":0,"job":"put","name":"f","pieces":["0x"]}~job 0
 {"chunk":4,"db":"a","id":0,"job":"put","name":"f","pieces":[0]}~job 0
 {"chunk":4,"db":"a","id":0,"job":"put","name":"f","pieces":[],"read":1}~job 0
-{"bucket":"","chunk":0,"db":"a","id":null,"job":"put","name":"","pieces":["","aAfF"]}~not built
+{"bucket":"","chunk":0,"db":"a","id":null,"job":"put","name":"","pieces":["","aAfF"]}~taken
 {"db":"a","id":0,"job":"get"}~job 0
 {"db":"a","id":0,"job":"get","read":-1}~job 0
+{"db":"","id":0,"job":"get","read":1}~job 0
 {"db":"a.","id":0,"job":"get","read":1}~job 0
+{"db":".a","id":0,"job":"get","read":1}~job 0
 {"db":"a","job":"get","read":1}~job 0
 {"db":"a","id":{"$oid":"0"},"job":"get","read":1}~job 0
 {"chunk":1,"db":"a","id":0,"job":"get","read":1}~job 0
-{"bucket":"b.c","db":"a","id":{"$date":1},"job":"get","read":4294967295}~not built"#;
+{"bucket":"b.c","db":"a","id":{"$date":1},"job":"get","read":4294967295}~taken"#;
 
 /// The second fate of a script, each with the place of the script's fault behind it.
 const FATES: &str = r#"0~fate 1
