@@ -62,12 +62,13 @@ reader_same old new c q same = ap (λ f. record (reader_in old c q) { doing = f 
 pub owner_same : (old new : Awaited) (c : ClientCursor) → ((m : ℕ) → client_ticket c ≡ Some m → new m ≡ old m) → cursor_owner new c ≡ cursor_owner old c
 owner_same old new c same = ap (λ f. record (cursor_owner old c) { coming = coming_to f }) (fetching_same old new c.doing same)
 
-pub chunks_same : (old new : Awaited) (calls : List Call) (at : Bucket) (d : ClientDownload) (bytes : List ℕ) (c : ClientCursor) (place : ℕ) → ((m : ℕ) → client_ticket c ≡ Some m → new m ≡ old m) → KnowsChunks old calls at d bytes c place → KnowsChunks new calls at d bytes c place
-chunks_same old new calls at d bytes c place same k =
+pub chunks_same : (old new : Awaited) (calls : List Call) (at : Bucket) (d : ClientDownload) (bytes : List ℕ) (c : ClientCursor) (place listed : ℕ) → ((m : ℕ) → client_ticket c ≡ Some m → new m ≡ old m) → KnowsChunks old calls at d bytes c place listed → KnowsChunks new calls at d bytes c place listed
+chunks_same old new calls at d bytes c place listed same k =
     record {
       named = k.named;
       reader = k.reader;
       later = k.later;
+      asked_at = k.asked_at;
       queries = k.queries;
       knows = subst (KnowsRead calls) (sym (reader_same old new c k.reader same)) k.knows;
       none_lost = k.none_lost;
@@ -175,7 +176,7 @@ taken_as (b ∷ bs) c missing empty d d' is =
     }
 
 -- where it is behind a batch
-record BatchKnown (calls : List Call) (log' : LogTold) (old new : Awaited) (at : Bucket) (d' : ClientDownload) (bytes : List ℕ) (c : ClientCursor) (place : ℕ) : Type 0 where
+record BatchKnown (calls : List Call) (log' : LogTold) (old new : Awaited) (at : Bucket) (d' : ClientDownload) (bytes : List ℕ) (c : ClientCursor) (place listed : ℕ) : Type 0 where
   calls' : List Call
   told : log' ≡ Some calls'
   cursor : ClientCursor
@@ -184,12 +185,12 @@ record BatchKnown (calls : List Call) (log' : LogTold) (old new : Awaited) (at :
   doing : d'.doing ≡ reads cursor missing empty
   sound : IsSound true cursor
   rests_so : cursor.doing ≡ client.rests
-  knows : KnowsChunks new calls' at d' bytes cursor place
+  knows : KnowsChunks new calls' at d' bytes cursor place listed
   passes : Passes calls calls' (cursor_owner old c) (cursor_owner new cursor)
 
-batch_known : (old new : Awaited) (log log' : LogTold) (wire : ℤ) (at : Bucket) (d d' : ClientDownload) (bytes : List ℕ) (c : ClientCursor) (m k place : ℕ) (calls : List Call) → d.doing ≡ reads c m k → IsSound true c → KnowsChunks old calls at d bytes c place → log ≡ Some calls → TakesOne old new log log' wire d d'
-    → BatchKnown calls log' old new at d' bytes c place
-batch_known old new log log' wire at d d' bytes c m k place calls doing sound know told one =
+batch_known : (old new : Awaited) (log log' : LogTold) (wire : ℤ) (at : Bucket) (d d' : ClientDownload) (bytes : List ℕ) (c : ClientCursor) (m k place listed : ℕ) (calls : List Call) → d.doing ≡ reads c m k → IsSound true c → KnowsChunks old calls at d bytes c place listed → log ≡ Some calls → TakesOne old new log log' wire d d'
+    → BatchKnown calls log' old new at d' bytes c place listed
+batch_known old new log log' wire at d d' bytes c m k place listed calls doing sound know told one =
     let same : one.cursor ≡ c = same_cursor one.cursor c one.missing m one.empty k (sym one.at ∙ doing) in
     let polls = subst (λ (x : ClientCursor). PollsNext old new log log' wire None one.started x one.behind (next.Batch one.reply)) same one.polls in
     let p = polled_on old new log log' wire one.started c one.behind (next.Batch one.reply) know.reader calls sound know.named polls told know.knows in
@@ -212,6 +213,7 @@ batch_known old new log log' wire at d d' bytes c m k place calls doing sound kn
         named = next_named old new log log' wire one.started c one.behind (next.Batch one.reply) tt know.named polls;
         reader = told_next (next.Batch one.reply) know.reader;
         later = know.later;
+        asked_at = know.asked_at;
         queries = subst (λ f. know.reader.query ≡ chunks_query (chunks_space at) f.id) (sym gets.file) know.queries;
         knows = p.knows;
         none_lost = know.none_lost;
@@ -228,23 +230,23 @@ batch_known old new log log' wire at d d' bytes c m k place calls doing sound kn
 -- ---- all batches of a poll
 
 -- the same, where its cursor stands at another place
-pub doing_known : (awaited : Awaited) (calls : List Call) (at : Bucket) (d d' : ClientDownload) (doing : Doing) (bytes : List ℕ) (c : ClientCursor) (place : ℕ) → d' ≡ record d { doing = doing } → KnowsChunks awaited calls at d bytes c place → KnowsChunks awaited calls at d' bytes c place
-doing_known awaited calls at d d' doing bytes c place is k =
-    subst (λ (x : ClientDownload). KnowsChunks awaited calls at x bytes c place) (sym is)
-    (record { named = k.named; reader = k.reader; later = k.later; queries = k.queries; knows = k.knows; none_lost = k.none_lost; not_refused = k.not_refused; chunks = k.chunks; received = k.received; taken = k.taken; parts = k.parts })
+pub doing_known : (awaited : Awaited) (calls : List Call) (at : Bucket) (d d' : ClientDownload) (doing : Doing) (bytes : List ℕ) (c : ClientCursor) (place listed : ℕ) → d' ≡ record d { doing = doing } → KnowsChunks awaited calls at d bytes c place listed → KnowsChunks awaited calls at d' bytes c place listed
+doing_known awaited calls at d d' doing bytes c place listed is k =
+    subst (λ (x : ClientDownload). KnowsChunks awaited calls at x bytes c place listed) (sym is)
+    (record { named = k.named; reader = k.reader; later = k.later; asked_at = k.asked_at; queries = k.queries; knows = k.knows; none_lost = k.none_lost; not_refused = k.not_refused; chunks = k.chunks; received = k.received; taken = k.taken; parts = k.parts })
 
-abbrev pub AfterFetch : Awaited → List Call → Bucket → ClientDownload → List ℕ → ℕ → Fetched → Type 0
-AfterFetch awaited calls at d' bytes place waits = (c : ClientCursor) × (m : ℕ) × (k : ℕ) × (d'.doing ≡ reads c m k) × KnowsChunks awaited calls at d' bytes c place
-AfterFetch awaited calls at d' bytes place enough = (c : ClientCursor) × (d'.doing ≡ idle c) × (c.doing ≡ client.rests) × KnowsChunks awaited calls at d' bytes c place
-AfterFetch awaited calls at d' bytes place (fails e) = Unit {0}
+abbrev pub AfterFetch : Awaited → List Call → Bucket → ClientDownload → List ℕ → ℕ → ℕ → Fetched → Type 0
+AfterFetch awaited calls at d' bytes place listed waits = (c : ClientCursor) × (m : ℕ) × (k : ℕ) × (d'.doing ≡ reads c m k) × KnowsChunks awaited calls at d' bytes c place listed
+AfterFetch awaited calls at d' bytes place listed enough = (c : ClientCursor) × (d'.doing ≡ idle c) × (c.doing ≡ client.rests) × KnowsChunks awaited calls at d' bytes c place listed
+AfterFetch awaited calls at d' bytes place listed (fails e) = Unit {0}
 
-pub record FetchKnown (calls : List Call) (log' : LogTold) (old new : Awaited) (at : Bucket) (d' : ClientDownload) (bytes : List ℕ) (c : ClientCursor) (place : ℕ) (r : Fetched) : Type 0 where
+pub record FetchKnown (calls : List Call) (log' : LogTold) (old new : Awaited) (at : Bucket) (d' : ClientDownload) (bytes : List ℕ) (c : ClientCursor) (place listed : ℕ) (r : Fetched) : Type 0 where
   pub calls' : List Call
   pub told : log' ≡ Some calls'
   pub passes : Passes calls calls' (cursor_owner old c) (doing_owner new d'.doing)
-  pub after : AfterFetch new calls' at d' bytes place r
+  pub after : AfterFetch new calls' at d' bytes place listed r
 
-module _ (old new : Awaited) (log log' : LogTold) (wire : ℤ) (at : Bucket) (d d' : ClientDownload) (bytes : List ℕ) (c : ClientCursor) (m k place : ℕ) (calls : List Call) (doing : d.doing ≡ reads c m k) (sound : IsSound true c) (rests_so : m ≡ 0 → c.doing ≡ client.rests) (know : KnowsChunks old calls at d bytes c place) (told : log ≡ Some calls) where
+module _ (old new : Awaited) (log log' : LogTold) (wire : ℤ) (at : Bucket) (d d' : ClientDownload) (bytes : List ℕ) (c : ClientCursor) (m k place listed : ℕ) (calls : List Call) (doing : d.doing ≡ reads c m k) (sound : IsSound true c) (rests_so : m ≡ 0 → c.doing ≡ client.rests) (know : KnowsChunks old calls at d bytes c place listed) (told : log ≡ Some calls) where
   polls_here : (started : Bool) (x behind : ClientCursor) (r : NextPoll) (m' k' : ℕ) → d.doing ≡ reads x m' k' → PollsNext old new log log' wire None started x behind r → PollsNext old new log log' wire None started c behind r
   polls_here started x behind r m' k' there polls = subst (λ (y : ClientCursor). PollsNext old new log log' wire None started y behind r) (same_cursor x c m' m k' k (sym there ∙ doing)) polls
 
@@ -252,7 +254,7 @@ module _ (old new : Awaited) (log log' : LogTold) (wire : ℤ) (at : Bucket) (d 
   polled started behind r polls = polled_on old new log log' wire started c behind r know.reader calls sound know.named polls told know.knows
 
   -- it failed, and owns nothing any more
-  failed_known : (started : Bool) (x behind : ClientCursor) (r : NextPoll) (m' k' : ℕ) (e : Error) (f : Fetched) → d.doing ≡ reads x m' k' → PollsNext old new log log' wire None started x behind r → d' ≡ spoiled_at d → f ≡ fails e → FetchKnown calls log' old new at d' bytes c place f
+  failed_known : (started : Bool) (x behind : ClientCursor) (r : NextPoll) (m' k' : ℕ) (e : Error) (f : Fetched) → d.doing ≡ reads x m' k' → PollsNext old new log log' wire None started x behind r → d' ≡ spoiled_at d → f ≡ fails e → FetchKnown calls log' old new at d' bytes c place listed f
   failed_known started x behind r m' k' e f there polls is answer =
       let p = polled started behind r (polls_here started x behind r m' k' there polls) in
       record {
@@ -260,19 +262,20 @@ module _ (old new : Awaited) (log log' : LogTold) (wire : ℤ) (at : Bucket) (d 
         told = p.told;
         passes = subst (λ (o : Owner). Passes calls p.calls' (cursor_owner old c) o) (sym (ap (doing_owner new) (ap (λ (y : ClientDownload). y.doing) is)))
             (passes_on calls p.calls' p.calls' (cursor_owner old c) (cursor_owner new behind) nobody p.passes (passes_here p.calls' (cursor_owner new behind) nobody (λ n is_one. is_one) (λ y is_one ne. absurd is_one) p.passes.holds));
-        after = subst (AfterFetch new p.calls' at d' bytes place) (sym answer) tt;
+        after = subst (AfterFetch new p.calls' at d' bytes place listed) (sym answer) tt;
       }
 
   -- it goes on with this cursor
   stays_known : (started : Bool) (x behind : ClientCursor) (r : NextPoll) (m' k' : ℕ) (next_doing : Doing) (f : Fetched) → IsNoFailure r → told_next r know.reader ≡ know.reader → d.doing ≡ reads x m' k' → PollsNext old new log log' wire None started x behind r → d' ≡ record d { doing = next_doing }
-      → doing_owner new next_doing ≡ cursor_owner new behind → ((calls' : List Call) → KnowsChunks new calls' at d' bytes behind place → AfterFetch new calls' at d' bytes place f) → FetchKnown calls log' old new at d' bytes c place f
+      → doing_owner new next_doing ≡ cursor_owner new behind → ((calls' : List Call) → KnowsChunks new calls' at d' bytes behind place listed → AfterFetch new calls' at d' bytes place listed f) → FetchKnown calls log' old new at d' bytes c place listed f
   stays_known started x behind r m' k' next_doing f fine untold there polls is owner after =
       let here = polls_here started x behind r m' k' there polls in
       let p = polled started behind r here in
-      let know' : KnowsChunks new p.calls' at d bytes behind place = record {
+      let know' : KnowsChunks new p.calls' at d bytes behind place listed = record {
         named = next_named old new log log' wire started c behind r fine know.named here;
         reader = know.reader;
         later = know.later;
+        asked_at = know.asked_at;
         queries = know.queries;
         knows = subst (λ (q : Reader). KnowsRead p.calls' (reader_in new behind q)) untold p.knows;
         none_lost = know.none_lost;
@@ -286,10 +289,10 @@ module _ (old new : Awaited) (log log' : LogTold) (wire : ℤ) (at : Bucket) (d 
         calls' = p.calls';
         told = p.told;
         passes = subst (λ (o : Owner). Passes calls p.calls' (cursor_owner old c) o) (sym (ap (doing_owner new) (ap (λ (y : ClientDownload). y.doing) is) ∙ owner)) p.passes;
-        after = after p.calls' (doing_known new p.calls' at d d' next_doing bytes behind place is know');
+        after = after p.calls' (doing_known new p.calls' at d d' next_doing bytes behind place listed is know');
       }
 
-  ends_known : (f : Fetched) → EndsFetch old new log log' wire d d' f → FetchKnown calls log' old new at d' bytes c place f
+  ends_known : (f : Fetched) → EndsFetch old new log log' wire d d' f → FetchKnown calls log' old new at d' bytes c place listed f
   ends_known f (none_missing x empty there quiet is answer) =
       let same = same_cursor x c 0 m empty k (sym there ∙ doing) in
       let rest : (n : ℕ) → client_ticket c ≡ Some n → new n ≡ old n = λ n held. quiet.rest n in
@@ -298,24 +301,24 @@ module _ (old new : Awaited) (log log' : LogTold) (wire : ℤ) (at : Bucket) (d 
         calls' = calls;
         told = quiet.log_same ∙ told;
         passes = subst (λ (o : Owner). Passes calls calls (cursor_owner old c) o) (sym (ap (doing_owner new) (ap (λ (y : ClientDownload). y.doing) at_c) ∙ owner_same old new c rest)) (passes_same calls (cursor_owner old c) know.knows.owned);
-        after = subst (AfterFetch new calls at d' bytes place) (sym answer) (c, ap (λ (y : ClientDownload). y.doing) at_c, rests_so (sym (same_missing x c 0 m empty k (sym there ∙ doing))), doing_known new calls at d d' (idle c) bytes c place at_c (chunks_same old new calls at d bytes c place rest know));
+        after = subst (AfterFetch new calls at d' bytes place listed) (sym answer) (c, ap (λ (y : ClientDownload). y.doing) at_c, rests_so (sym (same_missing x c 0 m empty k (sym there ∙ doing))), doing_known new calls at d d' (idle c) bytes c place listed at_c (chunks_same old new calls at d bytes c place listed rest know));
       }
   ends_known f (over x m' k' there short started behind polls is answer) =
       stays_known started x behind next.End m' k' (idle behind) f tt refl there polls is refl
-      (λ calls' know'. subst (AfterFetch new calls' at d' bytes place) (sym answer) (behind, ap (λ (y : ClientDownload). y.doing) is, next_rests old new log log' wire started c behind next.End tt (polls_here started x behind next.End m' k' there polls), know'))
+      (λ calls' know'. subst (AfterFetch new calls' at d' bytes place listed) (sym answer) (behind, ap (λ (y : ClientDownload). y.doing) is, next_rests old new log log' wire started c behind next.End tt (polls_here started x behind next.End m' k' there polls), know'))
   ends_known f (pends x m' k' there short started behind polls is answer) =
       stays_known started x behind next.Pending m' k' (reads behind m' k') f tt refl there polls is refl
-      (λ calls' know'. subst (AfterFetch new calls' at d' bytes place) (sym answer) (behind, m', k', ap (λ (y : ClientDownload). y.doing) is, know'))
+      (λ calls' know'. subst (AfterFetch new calls' at d' bytes place listed) (sym answer) (behind, m', k', ap (λ (y : ClientDownload). y.doing) is, know'))
   ends_known f (no_more x m' k' there short started behind e polls is answer) = failed_known started x behind (next.Failed e) m' k' e f there polls is answer
   ends_known f (not_taken x m' k' there short started behind reply e polls why is answer) = failed_known started x behind (next.Batch reply) m' k' e f there polls is answer
 
-pub fetches_known : (n : ℕ) (old new : Awaited) (log log' : LogTold) (wire : ℤ) (at : Bucket) (d d' : ClientDownload) (bytes : List ℕ) (c : ClientCursor) (m k place : ℕ) (calls : List Call) (f : Fetched) → d.doing ≡ reads c m k → IsSound true c → (m ≡ 0 → c.doing ≡ client.rests) → KnowsChunks old calls at d bytes c place → log ≡ Some calls
-    → Fetches n old new log log' wire d d' f → FetchKnown calls log' old new at d' bytes c place f
+pub fetches_known : (n : ℕ) (old new : Awaited) (log log' : LogTold) (wire : ℤ) (at : Bucket) (d d' : ClientDownload) (bytes : List ℕ) (c : ClientCursor) (m k place listed : ℕ) (calls : List Call) (f : Fetched) → d.doing ≡ reads c m k → IsSound true c → (m ≡ 0 → c.doing ≡ client.rests) → KnowsChunks old calls at d bytes c place listed → log ≡ Some calls
+    → Fetches n old new log log' wire d d' f → FetchKnown calls log' old new at d' bytes c place listed f
 unfolding Fetches
-fetches_known zero old new log log' wire at d d' bytes c m k place calls f doing sound rests_so know told ends = ends_known old new log log' wire at d d' bytes c m k place calls doing sound rests_so know told f ends
-fetches_known (suc n) old new log log' wire at d d' bytes c m k place calls f doing sound rests_so know told more =
-    let b = batch_known old more.0 log more.1 wire at d more.2 bytes c m k place calls doing sound know told more.3 in
-    let rest = fetches_known n more.0 new more.1 log' wire at more.2 d' bytes b.cursor b.missing b.empty place b.calls' f b.doing b.sound (λ none. b.rests_so) b.knows b.told more.4 in
+fetches_known zero old new log log' wire at d d' bytes c m k place listed calls f doing sound rests_so know told ends = ends_known old new log log' wire at d d' bytes c m k place listed calls doing sound rests_so know told f ends
+fetches_known (suc n) old new log log' wire at d d' bytes c m k place listed calls f doing sound rests_so know told more =
+    let b = batch_known old more.0 log more.1 wire at d more.2 bytes c m k place listed calls doing sound know told more.3 in
+    let rest = fetches_known n more.0 new more.1 log' wire at more.2 d' bytes b.cursor b.missing b.empty place listed b.calls' f b.doing b.sound (λ none. b.rests_so) b.knows b.told more.4 in
     record {
       calls' = rest.calls';
       told = rest.told;

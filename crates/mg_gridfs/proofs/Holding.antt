@@ -83,7 +83,7 @@ module _ (awaited : Awaited) (past past' : Past) (at : Bucket) (u : ClientUpload
   upload_later k = record { place = k.place; files = k.files; chunks = k.chunks; by = doing_later u.doing k.by }
 
 -- what it sent in a poll that has ended
-settled_own : (places places' : List ℕ) (since : ℕ) (calls : List Call) → IsSettled places since (length calls) places' → ((place : ℕ) → IsOf places place → (call : Call) × (slice_get calls place ≡ Some call)) → AreOwn places since calls places'
+pub settled_own : (places places' : List ℕ) (since : ℕ) (calls : List Call) → IsSettled places since (length calls) places' → ((place : ℕ) → IsOf places place → (call : Call) × (slice_get calls place ≡ Some call)) → AreOwn places since calls places'
 settled_own places places' since calls settled in_log =
     record {
       stood = λ place is. elim (settled.only place is) [
@@ -104,7 +104,7 @@ uploads_settle awaited calls calls' wire places places' at u taken settled k =
     k
 
 -- calls of others
-same_own : (places : List ℕ) (calls : List Call) → ((place : ℕ) → IsOf places place → (call : Call) × (slice_get calls place ≡ Some call)) → AreOwn places (length calls) calls places
+pub same_own : (places : List ℕ) (calls : List Call) → ((place : ℕ) → IsOf places place → (call : Call) × (slice_get calls place ≡ Some call)) → AreOwn places (length calls) calls places
 same_own places calls in_log =
     record {
       stood = λ place is. (inl is, in_log place is);

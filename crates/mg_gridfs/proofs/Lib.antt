@@ -30,6 +30,7 @@ pub mod Downloading
 pub mod Fronts
 pub mod Given
 pub mod Checked
+pub mod OneFile
 pub mod ReadBack
 pub mod Sizes
 pub mod Sounding
@@ -38,6 +39,9 @@ pub mod ReadCaused
 pub mod Opened
 pub mod Leaving
 pub mod OpeningKnown
+pub mod Growing
+pub mod Held
+pub mod Openings
 pub mod Named
 pub mod Owned
 pub mod Passed

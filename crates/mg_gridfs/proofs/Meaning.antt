@@ -6,7 +6,7 @@ use Rattle.std.proofs.lemmas.Slice.Eq.{bytes_eq-Decides}
 use Rattle.mg_bson.specs.Raw.{fields}
 use Rattle.mg_bson.specs.Reading.{◌>>=◌}
 use Rattle.mg_bson.specs.Tree.{Fields, Tree}
-use Rattle.mg_link.specs.Commands.{Asked, asked, asked_by, asks_create, asks_delete, asks_indexes, asks_insert, asks_more, asks_other, asks_query, find_fields, find_of, find_query, has_only, inserted, space_at, told}
+use Rattle.mg_link.specs.Commands.{Asked, asked, asked_by, asks_create, asks_delete, asks_indexes, asks_insert, asks_more, asks_other, asks_query, find_fields, find_of, find_query, has_only, space_at, told}
 use Rattle.mg_link.specs.Exec.{IsSuccess}
 use Rattle.mg_link.specs.Files.{AreChunks, Bucket, Spares, chunks_space, files_space, has_value, with_value}
 use Rattle.mg_link.specs.Filing.{Clears, HasDeleted, HasInserted, Leaves, Makes, part, whole_with}
@@ -108,7 +108,7 @@ reads_query : (o : Option Query) → IsReading (unwrap_or (option_map asks_query
 reads_query None = inr refl
 reads_query (Some q) = inl (q, refl)
 
-find_reads : (fs : Fields) → IsReading (unwrap_or (find_of fs) asks_other)
+pub find_reads : (fs : Fields) → IsReading (unwrap_or (find_of fs) asks_other)
 unfolding find_of
 find_reads fs =
     elim (has_only find_fields fs) as (λ t. IsReading (unwrap_or (if t then option_map asks_query (space_at (codes "find") fs >>= find_query fs) else None) asks_other)) [
@@ -120,7 +120,7 @@ pub any_reads : (b : ClientBucket) (command : List ℕ) → fields command ≡ f
 unfolding asked
 any_reads b command is = subst (λ (fs : Fields). IsReading (unwrap_or (asked_by fs) asks_other)) (sym is) (find_reads (fields_in (any_lines b)))
 
-read_leaves : (command : List ℕ) (at : Bucket) (id : Tree) → IsReading (asked command) → Leaves command at id
+pub read_leaves : (command : List ℕ) (at : Bucket) (id : Tree) → IsReading (asked command) → Leaves command at id
 read_leaves command at id (inl q) = leaves_by command at id (asks_query q.0) q.1 tt tt
 read_leaves command at id (inr other) = leaves_by command at id asks_other other tt tt
 

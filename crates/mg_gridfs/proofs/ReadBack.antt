@@ -8,7 +8,7 @@ use Rattle.mg_bson.specs.Find.{as_binary, as_date_time, as_document, as_string, 
 use Rattle.mg_bson.specs.Reading.{◌>>=◌}
 use Rattle.mg_bson.specs.Tree.{Fields, Tree}
 use Rattle.mg_link.specs.Commands.{as_count, as_integer, count_of}
-use Rattle.mg_link.specs.Files.{AreChunks, Bucket, File, IsChunk, LeavesFile, by_number, chunked, chunks_space, file_of, files_space, has_value, with_value}
+use Rattle.mg_link.specs.Files.{AreChunks, Bucket, File, IsChunk, IsWhole, LeavesFile, by_number, chunked, chunks_space, file_of, files_space, has_value, with_value}
 use Rattle.mg_link.specs.Filter.{Condition, matches, meets}
 use Rattle.mg_link.specs.History.{IsLegal, Step, state_of}
 use Rattle.mg_link.specs.Link.{Awaited}
@@ -21,16 +21,18 @@ use Rattle.mg_link.specs.Step.{documents_of}
 use Rattle.mg_link.specs.declared.error.Error.{Error}
 use Rattle.mg_link.specs.declared.error.Malformed.{Malformed}
 use Rattle.mg_link.specs.declared.error.Malformed.TheVariants as malformed
-use Rattle.mg_link.proofs.Files.{chunks_join}
+use Rattle.mg_link.proofs.Files.{chunks_join, quiet_stays}
 use Rattle.mg_link.proofs.Owners.{same_some, state_one}
+use Rattle.mg_link.proofs.Places.{get_within}
 use Rattle.mg_cursor.specs.Client.{ClientCursor}
 use Rattle.mg_cursor.specs.Reading.{in_reply, reader_in}
 use Rattle.mg_records.specs.FileRecords.{FileRecord, Numbers, chunk_count_of, chunk_length_of, file_fields, file_numbers, file_record_of, small_count, with_chunks}
 use Rattle.mg_records.specs.Readings.{any_value, needed, optional}
 use Rattle.mg_gridfs.specs.Downloads.{ClientDownload, Doing, and_then, data_of, ended, idle, judged, missing_chunk, needed_as, numbered_as, of_subtype_0, reads, sized_as, spoiled, wrong_size}
-use Rattle.mg_gridfs.specs.Downloaded.{AreReceived, HasAll, HasNone, IsFront, KnowsBy, KnowsChunks, chunks_query, record_query}
-use Rattle.mg_gridfs.specs.DownloadLaws.{DownloadReads, DownloadReadsFile, ReadsFront}
+use Rattle.mg_gridfs.specs.Downloaded.{AreReceived, HasAll, HasNone, IsFront, KnowsBy, KnowsChunks, KnowsRecord, chunks_query, record_query}
+use Rattle.mg_gridfs.specs.DownloadLaws.{DownloadReads, DownloadReadsFile, DownloadReadsUntil, ReadsFront}
 use Rattle.mg_gridfs.proofs.Fronts.{front_known, front_opened}
+use Rattle.mg_gridfs.proofs.OneFile.{first_meets, one_file, same_key}
 
 -- ---- results
 
@@ -79,14 +81,15 @@ chunks_are s at id ds left is = chunks_result s (chunks_space at) id (ds ++ left
 
 -- ---- what was listed, for each that is not spoiled
 
--- the chunks received are the first of the list at a call behind this place, or the file has no bytes
-record Listed (calls : List Call) (at : Bucket) (d : ClientDownload) (bytes : List ℕ) (place : ℕ) : Type 0 where
+-- the chunks received are the first of the list that the call at the second place asked for, behind the first place; or the file has no bytes
+record Listed (calls : List Call) (at : Bucket) (d : ClientDownload) (bytes : List ℕ) (place listed : ℕ) : Type 0 where
   chunks : List (List ℕ)
   documents : List Fields
   tail : List Fields
   whole : Bool
   front : IsFront calls (chunks_query (chunks_space at) d.file.id) (documents ++ tail) whole
   later : place < front.place
+  asked_at : front.place ≡ listed
   received : AreReceived d.file 0 chunks documents
   parts : concat chunks ≡ bytes ++ d.ahead
   at_end : d.doing ≡ ended → (whole ≡ true) × (tail ≡ []) × (chunk_count_of d.file.length d.file.chunk_size ≡ Ok (length chunks))
@@ -97,8 +100,8 @@ not_ended d c is over = let e : idle c ≡ ended = sym is ∙ over in cc
 not_over : (d : ClientDownload) (c : ClientCursor) (m k : ℕ) → d.doing ≡ reads c m k → d.doing ≡ ended → ⊥
 not_over d c m k is over = let e : reads c m k ≡ ended = sym is ∙ over in cc
 
-module _ (awaited : Awaited) (calls : List Call) (at : Bucket) (d : ClientDownload) (bytes : List ℕ) (place : ℕ) where
-  by_cursor : (c : ClientCursor) → (d.doing ≡ ended → ⊥) → KnowsChunks awaited calls at d bytes c place → Listed calls at d bytes place
+module _ (awaited : Awaited) (calls : List Call) (at : Bucket) (d : ClientDownload) (bytes : List ℕ) (place listed : ℕ) where
+  by_cursor : (c : ClientCursor) → (d.doing ≡ ended → ⊥) → KnowsChunks awaited calls at d bytes c place listed → Listed calls at d bytes place listed
   by_cursor c never k =
       record {
         chunks = k.chunks;
@@ -107,6 +110,7 @@ module _ (awaited : Awaited) (calls : List Call) (at : Bucket) (d : ClientDownlo
         whole = false;
         front = fronted.0;
         later = subst (λ (n : ℕ). place < n) (sym fronted.1) k.later;
+        asked_at = fronted.1 ∙ k.asked_at;
         received = k.received;
         parts = k.parts;
         at_end = λ over. absurd (never over);
@@ -118,7 +122,7 @@ module _ (awaited : Awaited) (calls : List Call) (at : Bucket) (d : ClientDownlo
         front_opened calls (reader_in awaited c k.reader) (k.reader.given ++ ([] ++ in_reply c.doing)) k.knows k.none_lost refl,
       )
 
-  by_end : HasAll calls at d bytes place → Listed calls at d bytes place
+  by_end : HasAll calls at d bytes place listed → Listed calls at d bytes place listed
   by_end h =
       record {
         chunks = h.chunks;
@@ -127,6 +131,7 @@ module _ (awaited : Awaited) (calls : List Call) (at : Bucket) (d : ClientDownlo
         whole = true;
         front = (moved (h.documents ++ []) none_more).0;
         later = subst (λ (n : ℕ). place < n) (sym (moved (h.documents ++ []) none_more).1) h.later;
+        asked_at = (moved (h.documents ++ []) none_more).1 ∙ h.asked_at;
         received = h.received;
         parts = h.parts ∙ sym (append-nil bytes) ∙ ap (λ (l : List ℕ). bytes ++ l) (sym h.none_ahead);
         at_end = λ over. (refl, refl, h.counted);
@@ -138,7 +143,7 @@ module _ (awaited : Awaited) (calls : List Call) (at : Bucket) (d : ClientDownlo
       moved : (ds : List Fields) (e : h.documents ≡ ds) → (g : IsFront calls (chunks_query (chunks_space at) d.file.id) ds true) × (g.place ≡ h.front.place)
       moved ds e = subst (λ (x : List Fields). (g : IsFront calls (chunks_query (chunks_space at) d.file.id) x true) × (g.place ≡ h.front.place)) e (h.front, refl)
 
-  listed_by : (x : Doing) → d.doing ≡ x → x ≢ spoiled → KnowsBy awaited calls at d bytes place x → HasNone d bytes ⊎ Listed calls at d bytes place
+  listed_by : (x : Doing) → d.doing ≡ x → x ≢ spoiled → KnowsBy awaited calls at d bytes place listed x → HasNone d bytes place listed ⊎ Listed calls at d bytes place listed
   listed_by (idle c) is fine k = inr (by_cursor c (not_ended d c is) k)
   listed_by (reads c m e) is fine k = inr (by_cursor c (not_over d c m e is) k)
   listed_by ended is fine (inl none) = inl none
@@ -147,8 +152,8 @@ module _ (awaited : Awaited) (calls : List Call) (at : Bucket) (d : ClientDownlo
 
 -- ---- the first law
 
-front_read : (calls : List Call) (at : Bucket) (d : ClientDownload) (bytes : List ℕ) (place : ℕ) (l : Listed calls at d bytes place) (history : List Step) → IsLegal history → Stands calls history → (fetched : ℕ) × ReadsFront history at d bytes fetched
-front_read calls at d bytes place l history legal stands =
+front_read : (calls : List Call) (at : Bucket) (d : ClientDownload) (bytes : List ℕ) (place listed : ℕ) (l : Listed calls at d bytes place listed) (history : List Step) → IsLegal history → Stands calls history → (fetched : ℕ) × ReadsFront history at d bytes fetched
+front_read calls at d bytes place listed l history legal stands =
     let f = l.front.each history legal stands in
     let stood = chunks_are (state_of (take (suc f.0) history)) at d.file.id (l.documents ++ l.tail) f.2 f.3 ∙ append_assoc l.documents l.tail f.2 in (
       f.0,
@@ -164,7 +169,7 @@ front_read calls at d bytes place l history legal stands =
     )
 
 pub download_reads : DownloadReads
-download_reads awaited calls at id d bytes k fine history legal stands =
+download_reads awaited calls at id d bytes listed k fine history legal stands =
     let f = k.of_record.front.each history legal stands in
     let first = records_are (state_of (take (suc f.0) history)) at id k.of_record.first k.of_record.more f.2 f.3 in
     record {
@@ -173,9 +178,9 @@ download_reads awaited calls at id d bytes k fine history legal stands =
       more = first.rest;
       stood = first.these;
       reads_as = k.of_record.reads_as;
-      chunks_so = elim (listed_by awaited calls at d bytes k.of_record.front.place d.doing refl fine k.by) [
+      chunks_so = elim (listed_by awaited calls at d bytes k.of_record.front.place listed d.doing refl fine k.by) [
         | inl none ↦ inl (none.no_length, none.none_read, none.none_ahead)
-        | inr l ↦ inr (front_read calls at d bytes k.of_record.front.place l history legal stands)
+        | inr l ↦ inr (front_read calls at d bytes k.of_record.front.place listed l history legal stands)
       ];
     }
 
@@ -209,7 +214,7 @@ file_stays history at id from leaves (suc j) = by_step (slice_get history (from 
         here ∙ ap (λ (h : List Step). file_of (state_of h) at id) (take_next history (from + j) step is) ∙ ap (λ (s : State). file_of s at id) (state_one (take (from + j) history) step) ∙ leaves (from + j) step le is
     by_step None is = here ∙ ap (λ (h : List Step). file_of (state_of h) at id) (take_end history (from + j) is)
 
-stays_at : (history : List Step) (at : Bucket) (id : Tree) (from : ℕ) → ((position : ℕ) (step : Step) → from ≤ position → slice_get history position ≡ Some step → LeavesFile (state_of (take position history)) step at id) → (n : ℕ) → from ≤ n
+pub stays_at : (history : List Step) (at : Bucket) (id : Tree) (from : ℕ) → ((position : ℕ) (step : Step) → from ≤ position → slice_get history position ≡ Some step → LeavesFile (state_of (take position history)) step at id) → (n : ℕ) → from ≤ n
     → file_of (state_of (take n history)) at id ≡ file_of (state_of (take from history)) at id
 stays_at history at id from leaves n le =
     let e : from + (n - from) ≡ n = omega arith in
@@ -298,6 +303,17 @@ record_says (Some n) (Some name) None id f h = absurd cc
 record_says (Some n) (Some name) (Some meta) None f h = absurd cc
 record_says (Some n) (Some name) (Some meta) (Some id) f h = record { numbers = n; are = refl; length_is = ap (length_of n.length) h }
 
+abbrev id_in : Tree → Option FileRecord → Tree
+id_in t None = t
+id_in t (Some f) = f.id
+
+id_says : (numbers : Option Numbers) (filename : Option (Option (List ℕ))) (metadata : Option (Option Fields)) (id : Option Tree) (f : FileRecord) → record_from numbers filename metadata id ≡ Some f → id ≡ Some f.id
+id_says None filename metadata id f h = absurd cc
+id_says (Some n) None metadata id f h = absurd cc
+id_says (Some n) (Some name) None id f h = absurd cc
+id_says (Some n) (Some name) (Some meta) None f h = absurd cc
+id_says (Some n) (Some name) (Some meta) (Some id) f h = ap (λ (o : Option FileRecord). Some (id_in id o)) h
+
 abbrev length_in : ℕ → Option Numbers → ℕ
 length_in n None = n
 length_in n (Some numbers) = numbers.length
@@ -326,6 +342,29 @@ length_said d f h =
     let n = record_says (file_numbers d) (optional as_string (codes "filename") d) (optional as_document (codes "metadata") d) (needed any_value (codes "_id") d) f read in
     numbers_say (needed count_of (codes "length") d) (needed small_count (codes "chunkSize") d) (needed as_date_time (codes "uploadDate") d) n.numbers n.are ∙ ap Some n.length_is
 
+id_said : (d : Fields) (f : FileRecord) → file_record_of d ≡ Ok f → get (codes "_id") d ≡ Some f.id
+id_said d f h =
+    let read : file_fields d ≡ Some f = with_chunks_is (file_fields d) f h in
+    let says = id_says (file_numbers d) (optional as_string (codes "filename") d) (optional as_document (codes "metadata") d) (needed any_value (codes "_id") d) f read in
+    by_value (get (codes "_id") d) says
+  where
+    by_value : (o : Option Tree) → option_and_then any_value o ≡ Some f.id → o ≡ Some f.id
+    by_value None e = absurd cc
+    by_value (Some t) e = e
+
+-- the first record of a file has its id
+record_meets : (s : State) (at : Bucket) (id : Tree) (first : Fields) (rest : List Fields) → (file_of s at id).records ≡ first ∷ rest → meets (has_value (codes "_id") id) first ≡ true
+unfolding file_of
+record_meets s at id first rest is = first_meets (has_value (codes "_id") id) (documents_of s (files_space at)) first rest is
+
+-- the file of the id that its record has is the one that was asked for
+its_file : (calls : List Call) (at : Bucket) (id : Tree) (f : FileRecord) → KnowsRecord calls at id f → (history : List Step) → IsLegal history → Stands calls history → (s : State) → file_of s at f.id ≡ file_of s at id
+its_file calls at id f k history legal stands s =
+    let x = k.front.each history legal stands in
+    let first = records_are (state_of (take (suc x.0) history)) at id k.first k.more x.2 x.3 in
+    let met = record_meets (state_of (take (suc x.0) history)) at id k.first first.rest first.these in
+    one_file f.id id (sym (same_key (codes "_id") id f.id k.first (id_said k.first f k.reads_as) met)) s at
+
 length_read : (d : Fields) (n m : ℕ) → option_and_then as_integer (get (codes "length") d) ≡ Some (pos n) → needed count_of (codes "length") d ≡ Some m → n ≡ m
 length_read d n m is says = same_some n m (sym (by_value (get (codes "length") d) is) ∙ says)
   where
@@ -339,53 +378,80 @@ nothing_in : (bytes : List ℕ) → length bytes ≡ 0 → bytes ≡ []
 nothing_in [] is = refl
 nothing_in (b ∷ bs) is = absurd cc
 
+-- the chunks that were listed are those of the file, where it was as it had been as its list took effect
+list_reads : (calls : List Call) (at : Bucket) (id : Tree) (d : ClientDownload) (bytes : List ℕ) (place listed : ℕ) (l : Listed calls at d bytes place listed) → ((s : State) → file_of s at d.file.id ≡ file_of s at id) → (history : List Step) → IsLegal history → Stands calls history → (whole : List ℕ) (size from : ℕ) → IsWhole (state_of (take from history)) at id whole size
+    → ((fetched : ℕ) → l.front.call.position ≡ Some fetched → file_of (state_of (take (suc fetched) history)) at id ≡ file_of (state_of (take from history)) at id) → (left : List ℕ) × (whole ≡ bytes ++ d.ahead ++ left) × (d.doing ≡ ended → left ≡ [])
+list_reads calls at id d bytes place listed l same_file history legal stands whole size from w same =
+    let f = l.front.each history legal stands in
+    let stood = chunks_are (state_of (take (suc f.0) history)) at d.file.id (l.documents ++ l.tail) f.2 f.3 ∙ append_assoc l.documents l.tail f.2 in
+    let file = same f.0 f.1 in
+    let chunks_there : (file_of (state_of (take from history)) at id).chunks ≡ l.documents ++ (l.tail ++ f.2)
+    = ap (λ (x : File). x.chunks) (sym file) ∙ ap (λ (x : File). x.chunks) (sym (same_file (state_of (take (suc f.0) history)))) ∙ stood in
+    let i = first_chunks d.file 0 (chunked size whole) l.chunks l.documents (l.tail ++ f.2) l.received (subst (AreChunks 0 (chunked size whole)) chunks_there w.chunks_are) in
+    let these : whole ≡ (bytes ++ d.ahead) ++ concat i.rest
+    = sym (chunks_join size whole) ∙ ap concat i.these ∙ concat-append l.chunks i.rest ∙ ap (λ (x : List ℕ). x ++ concat i.rest) l.parts in (
+      concat i.rest,
+      these,
+      λ over.
+          let e = l.at_end over in
+          let none : l.tail ++ f.2 ≡ [] = ap (λ (t : List Fields). t ++ f.2) e.1 ∙ f.4 e.0 in
+          ap concat (none_after (0 + length l.chunks) i.rest (l.tail ++ f.2) none i.are),
+    )
+
+-- a file without bytes is read as such, where it was as it had been as its record was found
+none_reads : (calls : List Call) (at : Bucket) (id : Tree) (d : ClientDownload) (bytes : List ℕ) (place listed : ℕ) (k : KnowsRecord calls at id d.file) → HasNone d bytes place listed → (history : List Step) → IsLegal history → Stands calls history → (whole : List ℕ) (size from : ℕ) → IsWhole (state_of (take from history)) at id whole size
+    → ((opened : ℕ) → k.front.call.position ≡ Some opened → file_of (state_of (take (suc opened) history)) at id ≡ file_of (state_of (take from history)) at id) → (left : List ℕ) × (whole ≡ bytes ++ d.ahead ++ left) × (d.doing ≡ ended → left ≡ [])
+none_reads calls at id d bytes place listed k none history legal stands whole size from w same =
+    let opened = k.front.each history legal stands in
+    let first = records_are (state_of (take (suc opened.0) history)) at id k.first k.more opened.2 opened.3 in
+    let first_is : k.first ≡ w.record_of
+    = same_some k.first w.record_of (ap (λ (l : List Fields). slice_get l 0) (sym first.these ∙ ap (λ (f : File). f.records) (same opened.0 opened.1) ∙ w.alone)) in
+    let says = length_said k.first d.file k.reads_as in
+    let n : length whole ≡ d.file.length = length_read k.first (length whole) d.file.length (ap (λ (f : Fields). option_and_then as_integer (get (codes "length") f)) first_is ∙ w.length_is) says in
+    let empty : whole ≡ [] = nothing_in whole (n ∙ none.no_length) in
+    let nothing : [] ≡ bytes ++ d.ahead ++ [] = ap (λ (l : List ℕ). l ++ []) (sym none.none_ahead) ∙ ap (λ (l : List ℕ). l ++ d.ahead ++ []) (sym none.none_read) in
+    ([], empty ∙ nothing, λ over. refl)
+
 pub download_reads_file : DownloadReadsFile
-download_reads_file awaited calls at id d bytes k fine same_id history legal stands whole size from stays after = elim (listed_by awaited calls at d bytes place d.doing refl fine k.by) [
-  | inl none ↦ no_bytes none
+download_reads_file awaited calls at id d bytes listed k fine same_id history legal stands whole size from stays after = elim (listed_by awaited calls at d bytes place listed d.doing refl fine k.by) [
+  | inl none ↦ none_reads calls at id d bytes place listed k.of_record none history legal stands whole size from stays.0 (λ position at_call. as_it_was position (after k.of_record.front.call position k.of_record.front.found at_call))
   | inr l ↦ some_bytes l
 ]
   where
     place : ℕ
     place = k.of_record.front.place
 
-    opened : (position : ℕ) × (k.of_record.front.call.position ≡ Some position) × (left : List Fields) × (result (state_of (take (suc position) history)) (record_query (files_space at) id) ≡ Some ((k.of_record.first ∷ k.of_record.more) ++ left)) × (false ≡ true → left ≡ [])
-    opened = k.of_record.front.each history legal stands
+    as_it_was : (position : ℕ) → from ≤ position → file_of (state_of (take (suc position) history)) at id ≡ file_of (state_of (take from history)) at id
+    as_it_was position since = stays_at history at id from stays.1 (suc position) (omega (arith, since))
 
-    from_opened : from ≤ opened.0
-    from_opened = after k.of_record.front.call opened.0 k.of_record.front.found opened.1
-
-    -- the record is that of the file
-    first_is : k.of_record.first ≡ stays.0.record_of
-    first_is =
-        let first = records_are (state_of (take (suc opened.0) history)) at id k.of_record.first k.of_record.more opened.2 opened.3 in
-        let le : from ≤ suc opened.0 = (let e = from_opened in omega arith) in
-        let file = stays_at history at id from stays.1 (suc opened.0) le in
-        same_some k.of_record.first stays.0.record_of (ap (λ (l : List Fields). slice_get l 0) (sym first.these ∙ ap (λ (f : File). f.records) file ∙ stays.0.alone))
-
-    no_bytes : HasNone d bytes → (left : List ℕ) × (whole ≡ bytes ++ d.ahead ++ left) × (d.doing ≡ ended → left ≡ [])
-    no_bytes none =
-        let says = length_said k.of_record.first d.file k.of_record.reads_as in
-        let n : length whole ≡ d.file.length = length_read k.of_record.first (length whole) d.file.length (ap (λ (f : Fields). option_and_then as_integer (get (codes "length") f)) first_is ∙ stays.0.length_is) says in
-        let empty : whole ≡ [] = nothing_in whole (n ∙ none.no_length) in
-        let nothing : [] ≡ bytes ++ d.ahead ++ [] = ap (λ (l : List ℕ). l ++ []) (sym none.none_ahead) ∙ ap (λ (l : List ℕ). l ++ d.ahead ++ []) (sym none.none_read) in
-        ([], empty ∙ nothing, λ over. refl)
-
-    some_bytes : Listed calls at d bytes place → (left : List ℕ) × (whole ≡ bytes ++ d.ahead ++ left) × (d.doing ≡ ended → left ≡ [])
+    some_bytes : Listed calls at d bytes place listed → (left : List ℕ) × (whole ≡ bytes ++ d.ahead ++ left) × (d.doing ≡ ended → left ≡ [])
     some_bytes l =
-        let f = l.front.each history legal stands in
-        let order : opened.0 < f.0 = stands.rising place l.front.place k.of_record.front.call l.front.call opened.0 f.0 l.later k.of_record.front.found l.front.found opened.1 f.1 in
-        let le : from ≤ suc f.0 = (let e = from_opened in omega arith) in
-        let stood = chunks_are (state_of (take (suc f.0) history)) at d.file.id (l.documents ++ l.tail) f.2 f.3 ∙ append_assoc l.documents l.tail f.2 in
-        let file = stays_at history at id from stays.1 (suc f.0) le in
-        let chunks_there : (file_of (state_of (take from history)) at id).chunks ≡ l.documents ++ (l.tail ++ f.2)
-        = ap (λ (x : File). x.chunks) (sym file) ∙ ap (λ (t : Tree). (file_of (state_of (take (suc f.0) history)) at t).chunks) (sym same_id) ∙ stood in
-        let i = first_chunks d.file 0 (chunked size whole) l.chunks l.documents (l.tail ++ f.2) l.received (subst (AreChunks 0 (chunked size whole)) chunks_there stays.0.chunks_are) in
-        let these : whole ≡ (bytes ++ d.ahead) ++ concat i.rest
-        = sym (chunks_join size whole) ∙ ap concat i.these ∙ concat-append l.chunks i.rest ∙ ap (λ (x : List ℕ). x ++ concat i.rest) l.parts in (
-          concat i.rest,
-          these,
-          λ over.
-              let e = l.at_end over in
-              let none : l.tail ++ f.2 ≡ [] = ap (λ (t : List Fields). t ++ f.2) e.1 ∙ f.4 e.0 in
-              ap concat (none_after (0 + length l.chunks) i.rest (l.tail ++ f.2) none i.are),
-        )
+        let opened = k.of_record.front.each history legal stands in
+        let since : from ≤ opened.0 = after k.of_record.front.call opened.0 k.of_record.front.found opened.1 in
+        list_reads calls at id d bytes place listed l (λ s. ap (λ (t : Tree). file_of s at t) same_id) history legal stands whole size from stays.0
+        (λ fetched at_call.
+        let order : opened.0 < fetched = stands.rising place l.front.place k.of_record.front.call l.front.call opened.0 fetched l.later k.of_record.front.found l.front.found opened.1 at_call in
+        as_it_was fetched (omega (arith, order, since)))
+
+-- ---- the third law
+
+pub download_reads_until : DownloadReadsUntil
+download_reads_until awaited calls at id d bytes listed k fine history legal stands whole size from upto w leaves between = elim (listed_by awaited calls at d bytes place listed d.doing refl fine k.by) [
+  | inl none ↦ none_reads calls at id d bytes place listed k.of_record none history legal stands whole size from w (λ position at_call. as_it_was k.of_record.front.call position (subst (λ (n : ℕ). slice_get calls n ≡ Some k.of_record.front.call) none.asked_at k.of_record.front.found) at_call)
+  | inr l ↦ list_reads calls at id d bytes place listed l (its_file calls at id d.file k.of_record history legal stands) history legal stands whole size from w (λ position at_call. as_it_was l.front.call position (subst (λ (n : ℕ). slice_get calls n ≡ Some l.front.call) l.asked_at l.front.found) at_call)
+]
+  where
+    place : ℕ
+    place = k.of_record.front.place
+
+    as_it_was : (call : Call) (position : ℕ) → slice_get calls listed ≡ Some call → call.position ≡ Some position → file_of (state_of (take (suc position) history)) at id ≡ file_of (state_of (take from history)) at id
+    as_it_was call position there at_call =
+        let here = between call position there at_call in
+        let since = here.0 in
+        let before = here.1 in
+        let step = stands.same listed call position there at_call in
+        let within : position < length history = get_within history position step.0 step.1 in
+        let n : ℕ = suc position - from in
+        let all : from + n ≡ suc position = omega (arith, since) in
+        subst (λ (m : ℕ). file_of (state_of (take m history)) at id ≡ file_of (state_of (take from history)) at id) all
+        (quiet_stays history at id from n (omega (arith, all, within)) (λ p own low high found. leaves p own low (omega (arith, all, before, high)) found))

@@ -29,7 +29,7 @@ use Rattle.mg_cursor.specs.declared.polls.TryPoll.{TryPoll}
 use Rattle.mg_cursor.specs.declared.polls.TryPoll.TheVariants as try
 use Rattle.mg_cursor.proofs.Keeping.{sound_next}
 use Rattle.mg_gridfs.specs.Buckets.{ClientBucket}
-use Rattle.mg_gridfs.specs.Checks.{CheckTurned, ChecksOn, ClientCheck, IsSoundCheck, LandsCheck, by_advance, by_creation, by_find, by_index, by_listing, reads}
+use Rattle.mg_gridfs.specs.Checks.{CheckTurned, ChecksOn, ClientCheck, IsSoundCheck, LandsCheck, by_advance, by_creation, by_find, by_index, by_listing}
 use Rattle.mg_gridfs.proofs.Meaning.{any_leaves, creation_leaves, index_leaves, leaves_by, listing_leaves}
 
 -- ---- getMore

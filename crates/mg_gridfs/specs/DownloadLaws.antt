@@ -50,7 +50,7 @@ pub record HasRead (history : List Step) (at : Bucket) (id : Tree) (d : ClientDo
 
 -- in every legal history in which the log stands
 abbrev pub DownloadReads : Type 0
-DownloadReads = (awaited : Awaited) (calls : List Call) (at : Bucket) (id : Tree) (d : ClientDownload) (bytes : List ℕ) → KnowsDownload awaited calls at id d bytes → d.doing ≢ spoiled
+DownloadReads = (awaited : Awaited) (calls : List Call) (at : Bucket) (id : Tree) (d : ClientDownload) (bytes : List ℕ) (listed : ℕ) → KnowsDownload awaited calls at id d bytes listed → d.doing ≢ spoiled
     → (history : List Step) → IsLegal history → Stands calls history → HasRead history at id d bytes
 
 -- a file that is not touched from one position to a later one
@@ -63,11 +63,22 @@ IsFrom calls from place = (call : Call) (position : ℕ) → slice_get calls pla
 
 -- Of a file that was whole before its record was found, and that nobody touches from then on, the front is read, and behind the end all of it.
 abbrev pub DownloadReadsFile : Type 0
-DownloadReadsFile = (awaited : Awaited) (calls : List Call) (at : Bucket) (id : Tree) (d : ClientDownload) (bytes : List ℕ) (k : KnowsDownload awaited calls at id d bytes) → d.doing ≢ spoiled → d.file.id ≡ id
+DownloadReadsFile = (awaited : Awaited) (calls : List Call) (at : Bucket) (id : Tree) (d : ClientDownload) (bytes : List ℕ) (listed : ℕ) (k : KnowsDownload awaited calls at id d bytes listed) → d.doing ≢ spoiled → d.file.id ≡ id
     → (history : List Step) → IsLegal history → Stands calls history → (whole : List ℕ) (size from : ℕ) → StaysWhole history at id whole size from → IsFrom calls from k.of_record.front.place
+    → (left : List ℕ) × (whole ≡ bytes ++ d.ahead ++ left) × (d.doing ≡ ended → left ≡ [])
+
+-- the call at this place took effect at a position from one on, before another
+abbrev pub IsBetween : List Call → (from upto place : ℕ) → Type 0
+IsBetween calls from upto place = (call : Call) (position : ℕ) → slice_get calls place ≡ Some call → call.position ≡ Some position → (from ≤ position) × (position < upto)
+
+-- Of a file that was whole, and that nobody touched until its chunks were listed, or were found to be none, the front is read, and behind the end all of it.
+abbrev pub DownloadReadsUntil : Type 0
+DownloadReadsUntil = (awaited : Awaited) (calls : List Call) (at : Bucket) (id : Tree) (d : ClientDownload) (bytes : List ℕ) (listed : ℕ) → KnowsDownload awaited calls at id d bytes listed → d.doing ≢ spoiled
+    → (history : List Step) → IsLegal history → Stands calls history → (whole : List ℕ) (size from upto : ℕ) → IsWhole (state_of (take from history)) at id whole size
+    → ((position : ℕ) (step : Step) → from ≤ position → position < upto → slice_get history position ≡ Some step → LeavesFile (state_of (take position history)) step at id) → IsBetween calls from upto listed
     → (left : List ℕ) × (whole ≡ bytes ++ d.ahead ++ left) × (d.doing ≡ ended → left ≡ [])
 
 -- it goes on knowing while others call, which leave its ticket and its cursor alone
 abbrev pub DownloadsGoOn : Type 0
-DownloadsGoOn = (old new : Awaited) (calls calls' : List Call) (at : Bucket) (id : Tree) (d : ClientDownload) (bytes : List ℕ) → Onward calls calls' (doing_owner old d.doing) → ((m : ℕ) → download_ticket d ≡ Some m → new m ≡ old m)
-    → KnowsDownload old calls at id d bytes → KnowsDownload new calls' at id d bytes
+DownloadsGoOn = (old new : Awaited) (calls calls' : List Call) (at : Bucket) (id : Tree) (d : ClientDownload) (bytes : List ℕ) (listed : ℕ) → Onward calls calls' (doing_owner old d.doing) → ((m : ℕ) → download_ticket d ≡ Some m → new m ≡ old m)
+    → KnowsDownload old calls at id d bytes listed → KnowsDownload new calls' at id d bytes listed

@@ -1,5 +1,5 @@
 -- What a download knows of its file in every legal history in which the log stands (GridFS specification, "File Download").
-use Rattle.std.specs.Prelude.{◌≡◌, ◌⊎◌, ◌<◌, ◌++◌, ℕ, suc, Bool, true, false, List, [], ◌∷◌, length, slice_get, take, Some, None, Ok, codes}
+use Rattle.std.specs.Prelude.{◌≡◌, ◌⊎◌, ◌<◌, ◌≤◌, ◌++◌, ℕ, suc, Bool, true, false, List, [], ◌∷◌, length, slice_get, take, Some, None, Ok, codes}
 use Rattle.std.specs.List.{concat}
 use Rattle.mg_bson.specs.Tree.{Fields, Tree}
 use Rattle.mg_link.specs.Exec.{Stage, unsent, first, second}
@@ -8,7 +8,7 @@ use Rattle.mg_link.specs.History.{IsLegal, Step, state_of}
 use Rattle.mg_link.specs.Link.{Awaited, LogTold}
 use Rattle.mg_link.specs.Log.{Call, reply}
 use Rattle.mg_link.specs.Namespace.{Space}
-use Rattle.mg_link.specs.Owner.{Owner, Passes, nobody}
+use Rattle.mg_link.specs.Owner.{IsOf, Owner, Passes, nobody}
 use Rattle.mg_link.specs.Query.{Query, limits, of_collection, result, selects, sorts}
 use Rattle.mg_link.specs.Reader.{FindingAt, KnowsRead, Reader, coming_to, finder_at}
 use Rattle.mg_link.specs.Standing.{Stands}
@@ -61,12 +61,14 @@ AreReceived f n (c ∷ cs) (d ∷ ds) = (judged f n d ≡ Ok c) × AreReceived f
 AreReceived f n [] (d ∷ ds) = ⊥
 AreReceived f n (c ∷ cs) [] = ⊥
 
--- The chunks of the file are listed by this cursor, and what was read and is ahead is what they hold that were received.
-pub record KnowsChunks (awaited : Awaited) (calls : List Call) (at : Bucket) (d : ClientDownload) (bytes : List ℕ) (cursor : ClientCursor) (place : ℕ) : Type 0 where
+-- The chunks of the file are listed by this cursor, which the find at the second place opened, and what was read and is ahead is what they hold that were received.
+pub record KnowsChunks (awaited : Awaited) (calls : List Call) (at : Bucket) (d : ClientDownload) (bytes : List ℕ) (cursor : ClientCursor) (place listed : ℕ) : Type 0 where
   pub named : IsNamed cursor.space
   pub reader : Reader
   -- the find of the record stands before, at this place
   pub later : place < reader.opened
+  -- and it stands at the other
+  pub asked_at : reader.opened ≡ listed
   pub queries : reader.query ≡ chunks_query (chunks_space at) d.file.id
   pub knows : KnowsRead calls (reader_in awaited cursor reader)
   pub none_lost : reader.losses ≡ 0
@@ -76,33 +78,36 @@ pub record KnowsChunks (awaited : Awaited) (calls : List Call) (at : Bucket) (d 
   pub taken : d.taken ≡ length chunks
   pub parts : concat chunks ≡ bytes ++ d.ahead
 
--- the file has no bytes
-pub record HasNone (d : ClientDownload) (bytes : List ℕ) : Type 0 where
+-- the file has no bytes, and its record was found by the call at the second place
+pub record HasNone (d : ClientDownload) (bytes : List ℕ) (place listed : ℕ) : Type 0 where
   pub no_length : d.file.length ≡ 0
   pub none_read : bytes ≡ []
+  pub asked_at : place ≡ listed
   pub none_ahead : d.ahead ≡ []
 
--- all chunks of the file were received, as many as its record says, and given
-pub record HasAll (calls : List Call) (at : Bucket) (d : ClientDownload) (bytes : List ℕ) (place : ℕ) : Type 0 where
+-- all chunks of the file were received by the find at the second place, as many as its record says, and given
+pub record HasAll (calls : List Call) (at : Bucket) (d : ClientDownload) (bytes : List ℕ) (place listed : ℕ) : Type 0 where
   pub chunks : List (List ℕ)
   pub documents : List Fields
   pub front : IsFront calls (chunks_query (chunks_space at) d.file.id) documents true
   pub later : place < front.place
+  pub asked_at : front.place ≡ listed
   pub received : AreReceived d.file 0 chunks documents
   pub counted : chunk_count_of d.file.length d.file.chunk_size ≡ Ok (length chunks)
   pub parts : concat chunks ≡ bytes
   pub none_ahead : d.ahead ≡ []
 
-abbrev pub KnowsBy : Awaited → List Call → Bucket → ClientDownload → List ℕ → (place : ℕ) → Doing → Type 0
-KnowsBy awaited calls at d bytes place (idle cursor) = KnowsChunks awaited calls at d bytes cursor place
-KnowsBy awaited calls at d bytes place (reads cursor missing empty) = KnowsChunks awaited calls at d bytes cursor place
-KnowsBy awaited calls at d bytes place ended = HasNone d bytes ⊎ HasAll calls at d bytes place
-KnowsBy awaited calls at d bytes place spoiled = Unit {0}
+abbrev pub KnowsBy : Awaited → List Call → Bucket → ClientDownload → List ℕ → (place listed : ℕ) → Doing → Type 0
+KnowsBy awaited calls at d bytes place listed (idle cursor) = KnowsChunks awaited calls at d bytes cursor place listed
+KnowsBy awaited calls at d bytes place listed (reads cursor missing empty) = KnowsChunks awaited calls at d bytes cursor place listed
+KnowsBy awaited calls at d bytes place listed ended = HasNone d bytes place listed ⊎ HasAll calls at d bytes place listed
+KnowsBy awaited calls at d bytes place listed spoiled = Unit {0}
 
--- What a download of this id knows that has read these bytes, where its bucket is this one of the server.
-pub record KnowsDownload (awaited : Awaited) (calls : List Call) (at : Bucket) (id : Tree) (d : ClientDownload) (bytes : List ℕ) : Type 0 where
+-- What a download of this id knows that has read these bytes, where its bucket is this one of the server: the call at this place listed its chunks, or found
+-- the record of a file without bytes.
+pub record KnowsDownload (awaited : Awaited) (calls : List Call) (at : Bucket) (id : Tree) (d : ClientDownload) (bytes : List ℕ) (listed : ℕ) : Type 0 where
   pub of_record : KnowsRecord calls at id d.file
-  pub by : KnowsBy awaited calls at d bytes of_record.front.place d.doing
+  pub by : KnowsBy awaited calls at d bytes of_record.front.place listed d.doing
 
 -- ---- openings
 
@@ -153,21 +158,26 @@ opened_owner awaited (fails e) = nobody
 
 -- ---- polls
 
-abbrev pub AfterRead : Awaited → List Call → Bucket → Tree → ClientDownload → List ℕ → List ℕ → ReadPoll → Type 0
-AfterRead awaited calls at id d' bytes room read.Pending = KnowsDownload awaited calls at id d' bytes
-AfterRead awaited calls at id d' bytes room (read.Read n) = KnowsDownload awaited calls at id d' (bytes ++ take n room)
-AfterRead awaited calls at id d' bytes room (read.Failed e) = Unit {0}
+abbrev pub AfterRead : Awaited → List Call → Bucket → Tree → ClientDownload → List ℕ → ℕ → List ℕ → ReadPoll → Type 0
+AfterRead awaited calls at id d' bytes listed room read.Pending = KnowsDownload awaited calls at id d' bytes listed
+AfterRead awaited calls at id d' bytes listed room (read.Read n) = KnowsDownload awaited calls at id d' (bytes ++ take n room) listed
+AfterRead awaited calls at id d' bytes listed room (read.Failed e) = Unit {0}
 
 -- A poll led a download on that had read these bytes; the cursors of others were left alone.
 abbrev pub ReadKnows : Awaited → Awaited → LogTold → LogTold → Bucket → ClientDownload → ClientDownload → List ℕ → ReadPoll → Type 0
-ReadKnows old new log log' at d d' room r = (calls : List Call) → log ≡ Some calls → (id : Tree) (bytes : List ℕ) → KnowsDownload old calls at id d bytes
-    → (calls' : List Call) × (log' ≡ Some calls') × Passes calls calls' (doing_owner old d.doing) (doing_owner new d'.doing) × AfterRead new calls' at id d' bytes room r
+ReadKnows old new log log' at d d' room r = (calls : List Call) → log ≡ Some calls → (id : Tree) (bytes : List ℕ) (listed : ℕ) → KnowsDownload old calls at id d bytes listed
+    → (calls' : List Call) × (log' ≡ Some calls') × Passes calls calls' (doing_owner old d.doing) (doing_owner new d'.doing) × AfterRead new calls' at id d' bytes listed room r
 
-abbrev pub AfterOpening : Awaited → List Call → Bucket → ClientFinding → Opened → Type 0
-AfterOpening awaited calls at o (waits doing) = KnowsOpening awaited calls at (record o { doing = doing })
-AfterOpening awaited calls at o (opens d) = KnowsDownload awaited calls at o.id d []
-AfterOpening awaited calls at o (fails e) = Unit {0}
+-- a call at this place is that of the ticket, or none that a log of this length has
+abbrev pub IsAskedSince : Awaited → ℕ → Looking → ℕ → Type 0
+IsAskedSince awaited room doing place = IsOf (looking_owner awaited doing).coming (Some place) ⊎ (room ≤ place)
+
+-- what an opening knows behind a poll that it began with a log of this length: where it is done, the call was its own that listed the chunks, or found that there are none
+abbrev pub AfterOpening : Awaited → Awaited → ℕ → List Call → Bucket → ClientFinding → Opened → Type 0
+AfterOpening old new room calls at o (waits doing) = KnowsOpening new calls at (record o { doing = doing })
+AfterOpening old new room calls at o (opens d) = (listed : ℕ) × KnowsDownload new calls at o.id d [] listed × IsAskedSince old room o.doing listed
+AfterOpening old new room calls at o (fails e) = Unit {0}
 
 abbrev pub OpeningKnows : Awaited → Awaited → LogTold → LogTold → Bucket → ClientFinding → Opened → Type 0
 OpeningKnows old new log log' at o r = (calls : List Call) → log ≡ Some calls → KnowsOpening old calls at o
-    → (calls' : List Call) × (log' ≡ Some calls') × Passes calls calls' (looking_owner old o.doing) (opened_owner new r) × AfterOpening new calls' at o r
+    → (calls' : List Call) × (log' ≡ Some calls') × Passes calls calls' (looking_owner old o.doing) (opened_owner new r) × AfterOpening old new (length calls) calls' at o r

@@ -18,6 +18,7 @@ pub mod Judging
 pub mod Fetching
 pub mod ReadCauses
 pub mod Downloaded
+pub mod Openings
 pub mod Cursors
 pub mod Laws
 pub mod DownloadLaws

@@ -1,5 +1,5 @@
 -- What an upload knows of its file in the store: the chunks there, those on their way and the bytes behind are the cut of all bytes taken (GridFS specification, "File Upload").
-use Rattle.std.specs.Prelude.{◌≡◌, ◌⊎◌, ◌<◌, ◌*◌, ◌+◌, ◌++◌, ℕ, ℤ, List, [], codes, length, Some}
+use Rattle.std.specs.Prelude.{◌≡◌, ◌⊎◌, ◌<◌, ◌*◌, ◌++◌, ℕ, ℤ, List, [], codes, length, Some}
 use Rattle.mg_bson.specs.Raw.{fields}
 use Rattle.mg_bson.specs.Tree.{Fields}
 use Rattle.mg_link.specs.Calls.{Keeps, Past, past_of}

@@ -4,7 +4,7 @@ ghost use Rattle.mg_link.specs.Files.{Bucket};
 ghost use Rattle.mg_link.specs.Link.{Awaited};
 ghost use Rattle.mg_link.specs.Log.{Call};
 ghost use Rattle.mg_gridfs.specs.Cursors.{CursorsBegin, CursorsGoOn};
-ghost use Rattle.mg_gridfs.specs.DownloadLaws.{AllReceived, CutsAsSized, DownloadReads, DownloadReadsFile, DownloadsGoOn};
+ghost use Rattle.mg_gridfs.specs.DownloadLaws.{AllReceived, CutsAsSized, DownloadReads, DownloadReadsFile, DownloadReadsUntil, DownloadsGoOn};
 ghost use Rattle.mg_gridfs.specs.Laws.{CutsAsCounted, CutsJoin, RecordIsRead, RemovalsAreAlone, UploadBegins, UploadStores, UploadsGoOn, UploadsSettle};
 ghost use Rattle.mg_gridfs.specs.Uploads.{ClientUpload};
 
@@ -68,6 +68,12 @@ pub fn download_reads()
 /// end all of it, whatever room it was read into and however its batches were cut.
 pub fn download_reads_the_file()
     ensures { DownloadReadsFile }
+{}
+
+/// Of a file that was whole, and that nobody touches until its chunks are listed, a download reads the front, and behind its end all
+/// of it, whatever comes of the file then.
+pub fn download_reads_until()
+    ensures { DownloadReadsUntil }
 {}
 
 /// What a download knows goes on to hold while others call.
