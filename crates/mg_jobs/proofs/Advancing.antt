@@ -1,6 +1,6 @@
 -- How far jobs come, turn by turn.
 use Rattle.std.proofs.Common.{◌≡◌, ◌+◌, ◌-◌, ◌<◌, ◌≤◌, ◌⊎◌, ℕ, zero, suc, Bool, true, false, cond, List, [], ◌∷◌, ◌++◌, Option, Some, None, Result, Ok, Err, refl, sym, ap, ◌∙◌, subst, inl, inr, length, take, arith}
-use Rattle.std.specs.Prelude.{slice_get, slice_set, nat_eq, nat_lt, IfOk, IsSome, is_some}
+use Rattle.std.specs.Prelude.{slice_get, slice_set, nat_eq, nat_lt, IfOk, IsSome, is_some, Vec}
 use Rattle.std.proofs.lemmas.Bool.{cases_eq, eq-eqb, ne_eqb, lt-ltb}
 use Rattle.std.proofs.lemmas.List.{length-map}
 use Rattle.mg_link.specs.Acts.{PendsAfter}
@@ -19,10 +19,16 @@ use Rattle.mg_change.specs.declared.opening.Opening.{Opening}
 use Rattle.mg_change.specs.declared.stream.ChangeStream.{ChangeStream}
 use Rattle.mg_jobs.specs.Counts.{RoseIf, one_if}
 use Rattle.mg_jobs.specs.Follows.{HasEnded, HasGiven, IsFailed, IsUnfinished}
+use Rattle.mg_jobs.specs.Gets.{KeepsRead, OpensAs, done_behind, get_end, gets_ended, gets_ticket}
 use Rattle.mg_jobs.specs.Headline.{DoTasks, OutcomeOf, OutcomesOf, task_of}
-use Rattle.mg_script.specs.Plan.{Task, task, tasks}
+use Rattle.mg_script.specs.Plan.{Task, task, tasks, pieces}
 use Rattle.mg_jobs.specs.Playing.{IsSameFollow, end_of, follow_ended, inserts_ended}
-use Rattle.mg_jobs.specs.Progress.{AllAt, AllPlayed, Came, CloseGoes, FollowAt, FollowGoes, FollowPlayed, GoesBy, InsertAt, InsertGoes, InsertPlayed, InsertReady, IsAt, IsFinished, IsPlayed, JobGoes, NotOpen, OpenPlayed, RestGoes, TurnsBy, calls_of, came, one_unless, pended_since, pends_last, turns_done}
+use Rattle.mg_jobs.specs.Progress.{AllAt, AllPlayed, Came, CloseGoes, FollowAt, FollowGoes, FollowPlayed, GetEndedAt, GetGoes, GetPlayed, GetStageAt, GoesBy, InsertAt, InsertGoes, InsertPlayed, InsertReady, IsAt, IsFinished, IsPlayed, JobGoes, NotOpen, OpenPlayed, RestGoes, TurnsBy, calls_of, came, one_unless, pended_since, pends_last, turns_done, PutAt, PutPlayed}
+use Rattle.mg_gridfs.specs.Uploads as uploads
+use Rattle.mg_gridfs.specs.UploadView.{upload_of}
+use Rattle.mg_jobs.specs.Puts.{IsPutDoing, put_end, puts_ended}
+use Rattle.mg_jobs.specs.declared.put.PutStage.{PutStage}
+use Rattle.mg_jobs.specs.declared.put.PutStage.TheVariants as puts
 use Rattle.mg_jobs.specs.Runs.{has_ended, idle}
 use Rattle.mg_script.specs.declared.outcome.Ended.{Ended}
 use Rattle.mg_script.specs.declared.outcome.Ended.TheVariants as ended
@@ -30,6 +36,11 @@ use Rattle.mg_script.specs.declared.outcome.Outcome.{Outcome}
 use Rattle.mg_script.specs.declared.outcome.Played.{Played}
 use Rattle.mg_script.specs.declared.outcome.Turned.{Turned}
 use Rattle.mg_jobs.specs.declared.follow.FollowPlayer.{FollowPlayer}
+use Rattle.std.specs.declared.alloc.Global.{Global}
+use Rattle.mg_gridfs.specs.declared.download.GridFsDownloadStream.{GridFsDownloadStream}
+use Rattle.mg_gridfs.specs.declared.open_download.OpenDownloadStream.{OpenDownloadStream}
+use Rattle.mg_jobs.specs.declared.get.GetStage.{GetStage}
+use Rattle.mg_jobs.specs.declared.get.GetStage.TheVariants as gets
 use Rattle.mg_jobs.specs.declared.insert.InsertStage.{InsertStage}
 use Rattle.mg_jobs.specs.declared.insert.InsertStage.TheVariants as inserts
 use Rattle.mg_jobs.specs.declared.follow.Stage.{Stage}
@@ -210,6 +221,67 @@ insert_stays k last inserts.Unsent over at = absurd cc
 insert_stays k last (inserts.Goes inserting) over at = absurd cc
 insert_stays k last (inserts.Ended e) over at = (omega arith, at.1, refl)
 
+-- ---- a get
+
+get_ended_on : (done k : ℕ) (e : Ended (Unit {0})) → GetEndedAt e done k → GetEndedAt e done (k + 1)
+get_ended_on done k ended.Unfinished at = absurd at
+get_ended_on done k (ended.Gave x) at = (at.0, omega (arith, at.1))
+get_ended_on done k (ended.Failed e) at = omega (arith, at)
+
+get_stays : (bytes done k : ℕ) (last : Bool) (s : GetStage) → gets_ended s ≡ true → GetStageAt s bytes done k last → GetStageAt s bytes done (k + 1) false
+get_stays bytes done k last gets.Unsent over at = absurd cc
+get_stays bytes done k last (gets.Opens opening) over at = absurd cc
+get_stays bytes done k last (gets.Reads download room) over at = absurd cc
+get_stays bytes done k last (gets.Ended e) over at = (get_ended_on done k e at.0, at.1, refl)
+
+pub get_over : (before bytes done : ℕ) (e : Ended (Unit {0})) → GetGoes before before (gets.Ended e) bytes done (gets.Ended e) bytes done
+get_over before bytes done e = (false, refl, λ calls k last at. get_stays bytes done k last (gets.Ended e) refl at)
+
+-- behind its opening
+pub get_opened_at : (download : GridFsDownloadStream) (s : GetStage) (bytes done done' k : ℕ) → OpensAs download s → gets_ticket s ≡ None → done ≡ 0 → done' ≡ done_behind s done → k ≡ 0 → GetStageAt s bytes done' (k + 1) false
+get_opened_at download gets.Unsent bytes done done' k opens none first on at = absurd opens
+get_opened_at download (gets.Opens opening) bytes done done' k opens none first on at = absurd opens
+get_opened_at download (gets.Reads d room) bytes done done' k opens none first on at = (omega (arith, first, on, at), omega (arith, first, on), omega (arith, first, on), ap (λ o. is_some o) none)
+get_opened_at download (gets.Ended ended.Unfinished) bytes done done' k opens none first on at = absurd opens
+get_opened_at download (gets.Ended (ended.Gave x)) bytes done done' k opens none first on at = absurd opens
+get_opened_at download (gets.Ended (ended.Failed e)) bytes done done' k opens none first on at = (omega (arith, first, on), omega (arith, first, on), refl)
+
+-- behind a read of so many bytes, which stand behind those before
+pub get_kept_at : (download : GridFsDownloadStream) (room : Vec ℕ Global) (count : ℕ) (before after : List ℕ) (s : GetStage) (done done' k : ℕ) → KeepsRead download room count before after s → (0 < count → length (before ++ take count room.items) ≡ length before + count) → gets_ticket s ≡ None → done' ≡ done_behind s done → k ≡ done → 1 ≤ done → done ≤ length before + 1
+    → GetStageAt s (length after) done' (k + 1) false
+get_kept_at download room count before after gets.Unsent done done' k keeps longer none on at some few = absurd keeps
+get_kept_at download room count before after (gets.Opens opening) done done' k keeps longer none on at some few = absurd keeps
+get_kept_at download room count before after (gets.Reads d r) done done' k keeps longer none on at some few =
+    let more = keeps.0 in
+    let long : length after ≡ length before + count = ap (λ (l : List ℕ). length l) keeps.3 ∙ longer more in
+    (omega (arith, on, at), omega (arith, on), omega (arith, on, few, long, more), ap (λ o. is_some o) none)
+get_kept_at download room count before after (gets.Ended ended.Unfinished) done done' k keeps longer none on at some few = absurd keeps.1
+get_kept_at download room count before after (gets.Ended (ended.Gave x)) done done' k keeps longer none on at some few =
+    let same : length after ≡ length before = ap (λ (l : List ℕ). length l) keeps.0 in
+    ((omega (arith, on, some), omega (arith, on, at)), omega (arith, on, few, same), refl)
+get_kept_at download room count before after (gets.Ended (ended.Failed e)) done done' k keeps longer none on at some few =
+    let same : length after ≡ length before = ap (λ (l : List ℕ). length l) keeps.0 in
+    (omega (arith, on, at), omega (arith, on, few, same), refl)
+
+-- it fails where it stood
+pub get_fails_at : (bytes done k : ℕ) (e : Error) → k ≡ done → done ≤ bytes + 1 → GetStageAt (gets.Ended (ended.Failed e)) bytes done (k + 1) false
+get_fails_at bytes done k e at few = (omega (arith, at), few, refl)
+
+-- it goes on from one stage to another by a poll that pended, or to its end by one that did not
+pub get_waits : (before now : ℕ) (s s' : GetStage) (bytes done : ℕ) → RoseJust 1 before now → ((k : ℕ) (last : Bool) → GetStageAt s bytes done k last → GetStageAt s' bytes done k true) → GetGoes before now s bytes done s' bytes done
+get_waits before now s s' bytes done rose so = (true, rose, λ calls k last at. subst (λ n. GetStageAt s' bytes done n true) (omega arith) (so k last at))
+
+pub get_rests : (before now : ℕ) (s s' : GetStage) (bytes done bytes' done' : ℕ) → now ≡ before → ((k : ℕ) (last : Bool) → GetStageAt s bytes done k last → GetStageAt s' bytes' done' (k + 1) false) → GetGoes before now s bytes done s' bytes' done'
+get_rests before now s s' bytes done bytes' done' same so = (false, same, λ calls k last at. so k last at)
+
+-- A new opening goes on from where nothing was asked for.
+pub get_begins : (before now : ℕ) (opening : OpenDownloadStream) (s : GetStage) (bytes done bytes' done' : ℕ) → gets_ticket (gets.Opens opening) ≡ None → GetGoes before now (gets.Opens opening) bytes done s bytes' done' → GetGoes before now gets.Unsent bytes done s bytes' done'
+get_begins before now opening s bytes done bytes' done' none goes = (goes.0, goes.1, λ calls k last at. goes.2 calls k last (at.0, at.1, at.2, ap (λ o. is_some o) none ∙ sym at.3))
+
+-- It fails there.
+pub get_fails_first : (before bytes done : ℕ) (e : Error) → GetGoes before before gets.Unsent bytes done (gets.Ended (ended.Failed e)) bytes done
+get_fails_first before bytes done e = (false, refl, λ calls k last at. get_fails_at bytes done k e (at.0 ∙ sym at.1) (let first = at.1 in omega (arith, first)))
+
 -- ---- a job
 
 follow_stays : (calls k : ℕ) (last : Bool) (s : Stage) (c : Came) → follow_ended s ≡ true → FollowAt calls s c k last → FollowAt calls s c (k + 1) false
@@ -219,12 +291,20 @@ follow_stays calls k last (stage.Open stream) c over at = absurd cc
 follow_stays calls k last (stage.Closes closing) c over at = absurd cc
 follow_stays calls k last stage.Ended c over at = ended_on calls k last c at
 
+put_stays : (calls k : ℕ) (last : Bool) (s : PutStage) (done count : ℕ) → puts_ended s ≡ true → PutAt calls s done count k last → PutAt calls s done count (k + 1) false
+put_stays calls k last puts.Undrawn done count over at = absurd cc
+put_stays calls k last (puts.Begins begun) done count over at = absurd cc
+put_stays calls k last (puts.Goes going) done count over at = absurd cc
+put_stays calls k last (puts.Ended ended.Unfinished) done count over at = absurd at.0
+put_stays calls k last (puts.Ended (ended.Gave n)) done count over at = (omega (arith, at.0), refl)
+put_stays calls k last (puts.Ended (ended.Failed e)) done count over at = (omega (arith, at.0), refl)
+
 -- the turn of a job that has ended counts as one that did not pend
 pub over_turns : (p : Player) → has_ended p ≡ true → TurnsBy idle p p
 over_turns (player.Insert job) over calls k last at = insert_stays k last job.stage over at
 over_turns (player.Follow job) over calls k last at = follow_stays calls k last job.stage (came job) over at
-over_turns (player.Put job) over calls k last at = tt
-over_turns (player.Get job) over calls k last at = tt
+over_turns (player.Put job) over calls k last at = put_stays calls k last job.stage job.done (length job.what.pieces.now) over at
+over_turns (player.Get job) over calls k last at = get_stays (length job.bytes.items) job.done k last job.stage over at
 
 counted_so : (pended : Bool) (now : ℕ) → RoseIf pended 0 now → (nat_lt 0 now ≡ pended) × (now ≡ one_if pended)
 counted_so true now h = let some = h.0 in let one = h.1 in (lt-ltb 0 now (omega (arith, some)), omega (arith, some, one))
@@ -343,11 +423,38 @@ follow_played calls k last stage.Ended c at =
       | inr closed ↦ given_so c.opened c.closed calls c.answered c.alive k last closed.opened (closed_so c.closed calls c.answered k last closed.closed (closed.answered, closed.all, at.1))
     ]
 
+get_played : (bytes done k : ℕ) (last : Bool) (s : GetStage) → GetStageAt s bytes done k last → GetPlayed (get_end s) bytes k last
+get_played bytes done k last gets.Unsent at = let none = at.0 in (omega (arith, none), λ zero. at.2)
+get_played bytes done k last (gets.Opens opening) at = let none = at.0 in (omega (arith, none), λ zero. at.2)
+get_played bytes done k last (gets.Reads download room) at =
+    let same = at.0 in
+    let some = at.1 in
+    let few = at.2 in
+    (omega (arith, same, few), λ none. absurd (omega (arith, same, some, none)))
+get_played bytes done k last (gets.Ended ended.Unfinished) at = absurd at.0
+get_played bytes done k last (gets.Ended (ended.Gave x)) at = let some = at.0.0 in let more = at.0.1 in (omega (arith, some, more), at.2)
+get_played bytes done k last (gets.Ended (ended.Failed e)) at = let more = at.0 in (omega (arith, more), at.2)
+
+put_going : (doing : uploads.Doing) (done count : ℕ) → IsPutDoing doing done count → done ≤ count
+put_going uploads.idle done count is = is
+put_going (uploads.busy (uploads.write piece) phase) done count is = omega (arith, is)
+put_going (uploads.busy uploads.close phase) done count is = omega (arith, is)
+put_going (uploads.busy uploads.abort phase) done count is = absurd is
+put_going uploads.closed done count is = absurd is
+
+put_played : (calls k : ℕ) (last : Bool) (s : PutStage) (done count : ℕ) → PutAt calls s done count k last → PutPlayed (put_end s) calls k last
+put_played calls k last puts.Undrawn done count at = omega (arith, at.2)
+put_played calls k last (puts.Begins begun) done count at = absurd at
+put_played calls k last (puts.Goes going) done count at = let few = put_going (upload_of going.upload).doing done count at.2 in omega (arith, few, at.0, at.1)
+put_played calls k last (puts.Ended ended.Unfinished) done count at = absurd at.0
+put_played calls k last (puts.Ended (ended.Gave n)) done count at = at
+put_played calls k last (puts.Ended (ended.Failed e)) done count at = at
+
 played_at : (p : Player) (r : Outcome) (k : ℕ) (last : Bool) → OutcomeOf p r → IsAt (calls_of (task_of p)) p k last → IsPlayed (task_of p) k last r
 played_at (player.Insert job) r k last of at = subst (λ (x : Outcome). IsPlayed (task_of (player.Insert job)) k last x) (sym of) (insert_played k last job.stage at)
 played_at (player.Follow job) r k last of at = subst (λ (x : Outcome). IsPlayed (task_of (player.Follow job)) k last x) (sym of) (follow_played job.watched.calls k last job.stage (came job) at)
-played_at (player.Put job) r k last of at = subst (λ (x : Outcome). IsPlayed (task_of (player.Put job)) k last x) (sym of) tt
-played_at (player.Get job) r k last of at = subst (λ (x : Outcome). IsPlayed (task_of (player.Get job)) k last x) (sym of.1) (of.2, tt)
+played_at (player.Put job) r k last of at = subst (λ (x : Outcome). IsPlayed (task_of (player.Put job)) k last x) (sym of) (put_played (length (pieces job.what.pieces.now)) k last job.stage job.done (length job.what.pieces.now) at)
+played_at (player.Get job) r k last of at = subst (λ (x : Outcome). IsPlayed (task_of (player.Get job)) k last x) (sym of) (get_played (length job.bytes.items) job.done k last job.stage at)
 
 -- where each job is by its turns says what became of it
 pub all_played : (ts : List Task) (order : List ℕ) (players : List Player) (notes : List Turned) (outcomes : List Outcome) → length outcomes ≡ length players → DoTasks ts players → AllAt ts order notes players → OutcomesOf players outcomes → AllPlayed ts order notes outcomes

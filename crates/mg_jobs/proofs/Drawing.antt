@@ -1,4 +1,4 @@
--- Which ids the inserts of a run draw, turn by turn.
+-- Which ids the inserts and puts of a run draw, turn by turn.
 use Rattle.std.proofs.Common.{◌≡◌, ◌+◌, ◌≤◌, ℕ, Bool, true, false, cond, List, [], ◌∷◌, ◌++◌, length, Some, refl, sym, ap, ◌∙◌, subst, inl, inr, ◌⊎◌, Result, Ok, Err, take, arith}
 use Rattle.std.specs.Prelude.{IfOk, slice_get, slice_set, nat_eq}
 use Rattle.std.proofs.lemmas.Bool.{cases_Bool, cases_eq, eq-eqb, ne_eqb}
@@ -16,6 +16,10 @@ use Rattle.mg_jobs.specs.Headline.{AreFirst, DoTasks, IsFirst, task_of}
 use Rattle.mg_jobs.specs.Playing.{HasIds, inserts_ended}
 use Rattle.mg_jobs.specs.Progress.{IsPlayed}
 use Rattle.mg_jobs.specs.Runs.{has_ended}
+use Rattle.mg_jobs.specs.Drawing.{PutHadTurn, put_draws}
+use Rattle.mg_jobs.specs.Puts.{PutHasIds, PutTask, chunks_in, puts_ended, writes}
+use Rattle.mg_jobs.specs.declared.put.PutStage.{PutStage}
+use Rattle.mg_jobs.specs.declared.put.PutStage.TheVariants as puts
 use Rattle.mg_jobs.specs.declared.insert.InsertStage.{InsertStage}
 use Rattle.mg_jobs.specs.declared.insert.InsertStage.TheVariants as inserts
 use Rattle.mg_jobs.specs.declared.player.Player.{Player}
@@ -152,10 +156,38 @@ nothing_drawn : (b : Bool) (n : ℕ) → n ≡ 0 → n ≡ cond b 0 0
 nothing_drawn true n none = none
 nothing_drawn false n none = none
 
+drawn_before : (b : Bool) (stage : PutStage) (t : PutTask) → PutHadTurn b stage → put_draws stage t ≡ cond b 0 (chunks_in t.chunk t.pieces)
+drawn_before true puts.Undrawn t had = absurd cc
+drawn_before false puts.Undrawn t had = refl
+drawn_before true (puts.Begins begun) t had = refl
+drawn_before false (puts.Begins begun) t had = absurd cc
+drawn_before true (puts.Goes going) t had = refl
+drawn_before false (puts.Goes going) t had = absurd cc
+drawn_before true (puts.Ended end) t had = refl
+drawn_before false (puts.Ended end) t had = absurd cc
+
+put_over : (ids : ℕ → List ℕ) (stage : PutStage) (t : PutTask) → puts_ended stage ≡ true → AreLater ids (put_draws stage t) ids
+put_over ids puts.Undrawn t ended = absurd cc
+put_over ids (puts.Begins begun) t ended = absurd cc
+put_over ids (puts.Goes going) t ended = absurd cc
+put_over ids (puts.Ended end) t ended = later_same ids
+
+put_over_has : (stage : PutStage) → puts_ended stage ≡ true → PutHasIds stage
+put_over_has puts.Undrawn ended = absurd cc
+put_over_has (puts.Begins begun) ended = tt
+put_over_has (puts.Goes going) ended = tt
+put_over_has (puts.Ended end) ended = tt
+
+put_had : (stage : PutStage) → PutHasIds stage → PutHadTurn true stage
+put_had puts.Undrawn has = absurd has
+put_had (puts.Begins begun) has = refl
+put_had (puts.Goes going) has = refl
+put_had (puts.Ended end) has = refl
+
 job_draws : (b : Bool) (p : Player) → JobHadTurn b p → turn_draws p ≡ cond b 0 (draws (Some (task_of p)))
 job_draws b (player.Insert job) had = insert_draws b job.stage job.documents.now had
 job_draws b (player.Follow job) had = nothing_drawn b 0 refl
-job_draws b (player.Put job) had = nothing_drawn b 0 refl
+job_draws b (player.Put job) had = drawn_before b job.stage (writes job.what) had
 job_draws b (player.Get job) had = nothing_drawn b 0 refl
 
 insert_over : (ids : ℕ → List ℕ) (s : InsertStage) (ds : List Fields) → inserts_ended s ≡ true → AreLater ids (next_draws s ds) ids
@@ -176,7 +208,7 @@ had_ids (inserts.Ended e) has = refl
 job_had : (p : Player) → JobHasIds p → JobHadTurn true p
 job_had (player.Insert job) has = had_ids job.stage has
 job_had (player.Follow job) has = tt
-job_had (player.Put job) has = tt
+job_had (player.Put job) has = put_had job.stage has
 job_had (player.Get job) has = tt
 
 -- what a job sends that has yet to draw its ids has those that the source gives next
@@ -192,13 +224,13 @@ draws_as ids given ts order j (player.Get job) stands had = tt
 pub ended_draws : (ids : ℕ → List ℕ) (p : Player) → has_ended p ≡ true → AreLater ids (turn_draws p) ids
 ended_draws ids (player.Insert job) ended = insert_over ids job.stage job.documents.now ended
 ended_draws ids (player.Follow job) ended = later_same ids
-ended_draws ids (player.Put job) ended = later_same ids
+ended_draws ids (player.Put job) ended = put_over ids job.stage (writes job.what) ended
 ended_draws ids (player.Get job) ended = later_same ids
 
 pub ended_has : (p : Player) → has_ended p ≡ true → JobHasIds p
 ended_has (player.Insert job) ended = over_has job.stage ended
 ended_has (player.Follow job) ended = tt
-ended_has (player.Put job) ended = tt
+ended_has (player.Put job) ended = put_over_has job.stage ended
 ended_has (player.Get job) ended = tt
 
 -- ---- a run
@@ -223,7 +255,7 @@ drawn_on ids now later ts order players k p p' there does draws_it has d =
 first_had_none : (p : Player) → IsFirst p → JobHadTurn false p
 first_had_none (player.Insert job) first = subst (HadTurn false) (sym first) refl
 first_had_none (player.Follow job) first = tt
-first_had_none (player.Put job) first = tt
+first_had_none (player.Put job) first = subst (PutHadTurn false) (sym first.0) refl
 first_had_none (player.Get job) first = tt
 
 -- Jobs that have done nothing have drawn nothing.

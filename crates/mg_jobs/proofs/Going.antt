@@ -6,7 +6,7 @@ use Rattle.mg_jobs.specs.Follows.{FollowTurns, Placing}
 use Rattle.mg_jobs.specs.Headline.{FollowPlays, follow_task}
 use Rattle.mg_jobs.specs.Playing.{StageHolds, stage_ticket}
 use Rattle.mg_jobs.specs.Plays as words
-use Rattle.mg_jobs.specs.Plays.{AnySent}
+use Rattle.mg_jobs.specs.Plays.{AnySent, by_placing}
 use Rattle.mg_jobs.specs.Progress.{Came, FollowGoes, came}
 use Rattle.mg_jobs.specs.Telling.{FollowSays, FollowTells, Kept, kept}
 use Rattle.mg_jobs.specs.declared.follow.FollowPlayer.{FollowPlayer}
@@ -35,7 +35,7 @@ module _ (job before mid job' : FollowPlayer) (was after : Stage) (from : was â‰
       (record {
         tickets = subst (Î» (s : Stage). Tickets old new (stage_ticket s) (stage_ticket after)) from tickets;
         holds = holds;
-        next = place;
+        next = by_placing place;
         turned = turned_follow old new log log' job end place (record {
           watching = other_stage old new log log' was job.stage job before after mid end place from parts ends refl turned.watching;
           vainly = vain_other old new log log' was job.stage job before after mid end from parts ends refl turned.vainly;

@@ -5,49 +5,59 @@ use Rattle.mg_link.specs.Calls.{Keeps, past_of}
 use Rattle.mg_link.specs.Link.{Awaited, LogTold}
 use Rattle.mg_link.specs.Log.{Call}
 use Rattle.mg_link.specs.Namespace.{space}
+use Rattle.mg_link.specs.Owner.{Onward, nobody}
 use Rattle.mg_link.proofs.Adding.{adds_none}
 use Rattle.mg_link.proofs.Calls.{keeps_longer}
 use Rattle.mg_link.proofs.Owners.{same_some}
 use Rattle.mg_ops.specs.Drawn.{with_ids}
 use Rattle.mg_jobs.specs.Causes.{commands_at, sent_at}
 use Rattle.mg_jobs.specs.Drawing.{InsertDrawsAs, JobHadTurn, sent_documents, sent_from}
-use Rattle.mg_jobs.specs.Follows.{Placing, same_place}
-use Rattle.mg_jobs.specs.Headline.{IsFirst, IsSameTask, follow_task, insert_task, task_of}
+use Rattle.mg_jobs.specs.Follows.{Placing}
+use Rattle.mg_jobs.specs.Gets.{gets_ended, sought}
+use Rattle.mg_jobs.specs.Headline.{IsFirst, IsSameTask, follow_task, get_task, insert_task, task_of}
 use Rattle.mg_jobs.specs.Playing.{IsSameFollow, IsSameInsert, follow_ended, job_ticket}
-use Rattle.mg_jobs.specs.Progress.{Came, FollowAt, IsAt, came}
+use Rattle.mg_jobs.specs.Progress.{Came, FollowAt, GetStageAt, IsAt, came, PutAt}
 use Rattle.mg_jobs.specs.Runs.{has_ended}
 use Rattle.mg_jobs.specs.Sends.{MaySend}
 use Rattle.mg_jobs.specs.Plays as words
-use Rattle.mg_jobs.specs.Plays.{Account, AnySent, Places}
-use Rattle.mg_jobs.specs.Telling.{FollowSays, FollowTells, InsertSaid, InsertSays, InsertTurns, JobTells, Kept, StageSends, StageSent, TellsAs, TellsBehind, TellsOn, Tells, TurnTells, kept, number, number_of}
+use Rattle.mg_jobs.specs.Plays.{Account, AnySent, Moves, Places, by_placing, no_move}
+use Rattle.mg_jobs.specs.Telling.{FollowSays, FollowTells, InsertSaid, InsertSays, InsertTurns, JobTells, Kept, StageSends, StageSent, TellsAs, TellsBehind, TellsOn, Tells, TurnTells, kept, number, number_of, GetGoesOn, GetSays, GetTells, PutTells, put_number}
 use Rattle.mg_script.specs.Plan.{Task}
 use Rattle.mg_script.specs.declared.outcome.Ended.{Ended}
 use Rattle.mg_jobs.specs.declared.follow.FollowPlayer.{FollowPlayer}
+use Rattle.mg_jobs.specs.declared.get.GetPlayer.{GetPlayer}
+use Rattle.mg_jobs.specs.declared.get.GetStage.{GetStage}
+use Rattle.mg_jobs.specs.declared.get.GetStage.TheVariants as gets
 use Rattle.mg_jobs.specs.declared.insert.InsertPlayer.{InsertPlayer}
 use Rattle.mg_jobs.specs.declared.insert.InsertStage.{InsertStage}
 use Rattle.mg_jobs.specs.declared.follow.Stage.{Stage}
 use Rattle.mg_jobs.specs.declared.follow.Stage.TheVariants as stage
 use Rattle.mg_jobs.specs.declared.follow.Watched.{Watched}
+use Rattle.mg_jobs.specs.Puts.{puts_ended, writes}
+use Rattle.mg_jobs.specs.declared.put.PutStage.{PutStage}
+use Rattle.mg_jobs.specs.declared.put.PutStage.TheVariants as puts
 use Rattle.mg_jobs.specs.declared.player.Player.{Player}
 use Rattle.mg_jobs.specs.declared.player.Player.TheVariants as player
+use Rattle.mg_jobs.proofs.GetTelling.{get_tells_later}
 use Rattle.mg_jobs.proofs.Commands.{at_kept, at_sent, below_more, below_since}
 use Rattle.mg_jobs.proofs.InsertTelling.{insert_tells_grow, none_done, sent_of_others, sent_on, stage_of_others, stage_on}
+use Rattle.mg_jobs.proofs.PutTelling.{put_later}
 use Rattle.mg_jobs.proofs.Telling.{extends_going, extends_same, going_on, grows_ended, grows_later, tells_later}
 
 -- ---- what others do
 
 -- Where its own ticket goes with the same call, a job tells in a later log what it told.
-pub job_later : (t : Task) (old new : Awaited) (calls calls' : List Call) (wire : ℤ) (q : Places) (p : Player) (at : Option ℕ) → Keeps calls calls' → ((m : ℕ) → job_ticket p ≡ Some m → new m ≡ old m) → JobTells old calls wire q t p at → JobTells new calls' wire q t p at
-job_later t old new calls calls' wire q (player.Insert job) at keeps same told =
+pub job_later : (t : Task) (old new : Awaited) (calls calls' : List Call) (wire : ℤ) (q : Places) (p : Player) (at : Option ℕ) → Keeps calls calls' → Onward calls calls' nobody → ((m : ℕ) → job_ticket p ≡ Some m → new m ≡ old m) → JobTells old calls wire q t p at → JobTells new calls' wire q t p at
+job_later t old new calls calls' wire q (player.Insert job) at keeps onward same told =
     record {
       alone = told.alone;
       within = below_more q.now (length calls) (length calls') (keeps_longer calls calls' keeps) told.within;
       tells = insert_tells_grow (sent_at q.now calls wire) (sent_at q.now calls' wire) (grows_later q.now calls calls' wire keeps) (space job.ns.now) (sent_documents t) old new job.stage same told.tells;
       sends = subst (λ (l : List Fields). StageSent (space job.ns.now) (sent_documents t) l job.stage) (sym (at_kept calls calls' keeps q.now told.within)) told.sends;
     }
-job_later t old new calls calls' wire q (player.Follow job) at keeps same told = tells_later old new calls calls' wire q job.stage (kept job) at keeps same told
-job_later t old new calls calls' wire q (player.Put job) at keeps same told = tt
-job_later t old new calls calls' wire q (player.Get job) at keeps same told = tt
+job_later t old new calls calls' wire q (player.Follow job) at keeps onward same told = tells_later old new calls calls' wire q job.stage (kept job) at keeps same told
+job_later t old new calls calls' wire q (player.Put job) at keeps onward same told = put_later (writes job.what) old new calls calls' wire q job.done job.stage keeps onward same told
+job_later t old new calls calls' wire q (player.Get job) at keeps onward same told = get_tells_later old new calls calls' wire q (sought job.what) job.stage job.done at keeps same told
 
 -- It tells the same where the number of its first id is another, unless it had a turn.
 pub job_of_others : (ids : ℕ → List ℕ) (n n' : ℕ) (awaited : Awaited) (calls : List Call) (wire : ℤ) (q : Places) (p : Player) (at : Option ℕ) (had : Bool) → JobHadTurn had p → (had ≡ true → n' ≡ n) → JobTells awaited calls wire q (sent_from ids n (task_of p)) p at → JobTells awaited calls wire q (sent_from ids n' (task_of p)) p at
@@ -62,8 +72,8 @@ job_of_others ids n n' awaited calls wire q (player.Insert job) at had turn same
       sends = sent_of_others (space job.ns.now) sent sent' (commands_at calls q.now) had job.stage turn as_one told.sends;
     }
 job_of_others ids n n' awaited calls wire q (player.Follow job) at had turn same told = told
-job_of_others ids n n' awaited calls wire q (player.Put job) at had turn same told = tt
-job_of_others ids n n' awaited calls wire q (player.Get job) at had turn same told = tt
+job_of_others ids n n' awaited calls wire q (player.Put job) at had turn same told = told
+job_of_others ids n n' awaited calls wire q (player.Get job) at had turn same told = told
 
 -- ---- what it tells as it gets ready
 
@@ -116,21 +126,22 @@ follow_teller so f f' same =
 -- ---- turns
 
 -- a turn in which nothing was sent, behind which a job tells what it told
-pub quiet_turn : {P : Type 0} (does : P → Task) (says : Account P) (count : P → ℕ) (so : Task → Type 0) (awaited : Awaited) (log : LogTold) (wire : ℤ) (p p' : P) → words.TellsAs does says count so p p' → words.TurnTells does says count so awaited awaited log log wire p p' same_place
-quiet_turn does says count so awaited log wire p p' teller calls calls' told told' ids n may q at tells =
-    subst (λ (c : List Call). words.TellsBehind says count awaited calls c wire (sent_from ids n (does p)) q (count p) p' at) (same_some calls calls' (sym told ∙ told'))
+pub quiet_turn : {P : Type 0} (does : P → Task) (says : Account P) (count : P → ℕ) (so : Task → Type 0) (awaited : Awaited) (log : LogTold) (wire : ℤ) (p p' : P) → words.TellsAs does says count so p p' → words.TurnTells does says count so awaited awaited log log wire p p' no_move
+quiet_turn does says count so awaited log wire p p' teller calls calls' told told' ids n may q at at' placed tells =
+    subst (λ (x : Option ℕ). words.TellsBehind says count awaited calls calls' wire (sent_from ids n (does p)) q (count p) p' x) (sym placed)
+    (subst (λ (c : List Call). words.TellsBehind says count awaited calls c wire (sent_from ids n (does p)) q (count p) p' at) (same_some calls calls' (sym told ∙ told'))
     (record {
       longer = omega arith;
       places = q;
       tells = teller.tells awaited calls wire q ids n at may tells;
       extends = extends_same q (count p) (count p') (length calls) teller.number_same;
       adds = adds_none (MaySend (sent_from ids n (does p))) calls;
-    })
+    }))
 
 -- a turn of an insert
 pub insert_turn : (so : Task → Type 0) (old new : Awaited) (log log' : LogTold) (wire : ℤ) (job job' : InsertPlayer) → job'.ns ≡ job.ns → ((sent : List Fields) → InsertTurns old new log log' wire (space job.ns.now) sent job.stage job'.stage) → ((sent : List Fields) → StageSends log log' (space job.ns.now) sent job.stage job'.stage)
-    → words.TurnTells insert_task InsertSays no_number so old new log log' wire job job' same_place
-insert_turn so old new log log' wire job job' same turns sends calls calls' told told' ids n may q at tells =
+    → words.TurnTells insert_task InsertSays no_number so old new log log' wire job job' no_move
+insert_turn so old new log log' wire job job' same turns sends calls calls' told told' ids n may q at at' placed tells =
     let sent : List Fields = with_ids ids n job.documents.now in
     let r = turns sent calls calls' told told' q.now tells.tells in
     let s = sends sent (commands_at calls q.now) tells.sends in
@@ -151,17 +162,26 @@ insert_turn so old new log log' wire job job' same turns sends calls calls' told
     }
 
 -- a turn of a follow
-pub follow_turn : (so : Task → Type 0) (old new : Awaited) (log log' : LogTold) (wire : ℤ) (job job' : FollowPlayer) (next : Placing) → FollowTells old new log log' wire job.stage (kept job) job'.stage (kept job') next → words.TurnTells task_followed FollowSays follow_number so old new log log' wire job job' next
-follow_turn so old new log log' wire job job' next tells calls calls' told told' ids n may q at t =
+pub follow_turn : (so : Task → Type 0) (old new : Awaited) (log log' : LogTold) (wire : ℤ) (job job' : FollowPlayer) (next : Placing) → FollowTells old new log log' wire job.stage (kept job) job'.stage (kept job') next → words.TurnTells task_followed FollowSays follow_number so old new log log' wire job job' (by_placing next)
+follow_turn so old new log log' wire job job' next tells calls calls' told told' ids n may q at at' placed t =
     let r = tells calls calls' told told' q at t in
-    record { longer = r.longer; places = r.places; tells = r.tells; extends = r.extends; adds = r.adds }
+    record { longer = r.longer; places = r.places; tells = subst (λ (x : Option ℕ). Tells new calls' wire r.places job'.stage (kept job') x) (sym placed) r.tells; extends = r.extends; adds = r.adds }
+
+abbrev pub get_number : GetPlayer → ℕ
+get_number job = job.done
+
+-- a turn of a get
+pub get_turn : (so : Task → Type 0) (old new : Awaited) (log log' : LogTold) (wire : ℤ) (job job' : GetPlayer) (next : Moves) → job'.what ≡ job.what → GetGoesOn old new log log' wire (sought job.what) job.stage job.done job'.stage job'.done next → words.TurnTells get_task GetSays get_number so old new log log' wire job job' next
+get_turn so old new log log' wire job job' next same goes calls calls' told told' ids n may q at at' placed t =
+    let r = goes calls calls' told told' q at at' placed t in
+    record { longer = r.longer; places = r.places; tells = subst (λ w. GetTells new calls' wire r.places (sought w) job'.stage job'.done at') (sym same) r.tells; extends = r.extends; adds = r.adds }
 
 -- a job that got ready, and then took its turn
-pub ready_turn : (so : Task → Type 0) (old new : Awaited) (log log' : LogTold) (wire : ℤ) (p q p' : Player) (next : Placing) → IsSameTask p q → TellsAs so p q → TurnTells AnySent old new log log' wire q p' next → TurnTells so old new log log' wire p p' next
-ready_turn so old new log log' wire p q p' next task teller turn calls calls' told told' ids n may places at tells =
-    let r = turn calls calls' told told' ids n tt places at (subst (λ (u : Task). JobTells old calls wire places (sent_from ids n u) q at) (sym task) (teller.tells old calls wire places ids n at may tells)) in
-    subst (λ (u : Task). TellsBehind new calls calls' wire (sent_from ids n u) places (number_of p) p' (next at)) task
-    (subst (λ (m : ℕ). TellsBehind new calls calls' wire (sent_from ids n (task_of q)) places m p' (next at)) teller.number_same r)
+pub ready_turn : (so : Task → Type 0) (old new : Awaited) (log log' : LogTold) (wire : ℤ) (p q p' : Player) (next : Moves) → IsSameTask p q → TellsAs so p q → TurnTells AnySent old new log log' wire q p' next → TurnTells so old new log log' wire p p' next
+ready_turn so old new log log' wire p q p' next task teller turn calls calls' told told' ids n may places at at' placed tells =
+    let r = turn calls calls' told told' ids n tt places at at' placed (subst (λ (u : Task). JobTells old calls wire places (sent_from ids n u) q at) (sym task) (teller.tells old calls wire places ids n at may tells)) in
+    subst (λ (u : Task). TellsBehind new calls calls' wire (sent_from ids n u) places (number_of p) p' at') task
+    (subst (λ (m : ℕ). TellsBehind new calls calls' wire (sent_from ids n (task_of q)) places m p' at') teller.number_same r)
 
 -- ---- at first, and after some turns
 
@@ -170,8 +190,8 @@ pub first_tells : (t : Task) (awaited : Awaited) (calls : List Call) (wire : ℤ
 first_tells t awaited calls wire (player.Insert job) is =
     subst (λ (s : InsertStage). InsertSaid awaited calls wire (record { opened = []; owns = []; now = [] }) (space job.ns.now) (sent_documents t) s) (sym is) (record { alone = (refl, refl); within = tt; tells = tt; sends = refl })
 first_tells t awaited calls wire (player.Follow job) is = subst (λ (s : Stage). Tells awaited calls wire (record { opened = []; owns = []; now = [] }) s (kept job) None) (sym is.0) ((refl, is.2.no_answer, refl), refl)
-first_tells t awaited calls wire (player.Put job) is = tt
-first_tells t awaited calls wire (player.Get job) is = tt
+first_tells t awaited calls wire (player.Put job) is = subst (λ (s : PutStage). PutTells awaited calls wire (record { opened = []; owns = []; now = [] }) (writes job.what) job.done s) (sym is.0) ((refl, refl, refl), is.1)
+first_tells t awaited calls wire (player.Get job) is = subst (λ (s : GetStage). GetTells awaited calls wire (record { opened = []; owns = []; now = [] }) (sought job.what) s job.done None) (sym is.0) ((refl, refl), refl)
 
 -- a follow goes on where it was after so many turns, unless it has ended
 number_at_stage : (calls : ℕ) (s : Stage) (k : Kept) (c : Came) (done : ℕ) (last : Bool) → c.answered ≡ length k.said → FollowAt calls s c done last → (number s k ≡ done) ⊎ (follow_ended s ≡ true)
@@ -181,9 +201,23 @@ number_at_stage calls (stage.Open stream) k c done last same at = inl (omega (ar
 number_at_stage calls (stage.Closes closing) k c done last same at = inl (omega (arith, same, at.0.answered, at.0.all))
 number_at_stage calls stage.Ended k c done last same at = inr refl
 
+-- so does a get
+get_number_at : (s : GetStage) (bytes done k : ℕ) (last : Bool) → GetStageAt s bytes done k last → (done ≡ k) ⊎ (gets_ended s ≡ true)
+get_number_at gets.Unsent bytes done k last at = inl (at.1 ∙ sym at.0)
+get_number_at (gets.Opens opening) bytes done k last at = inl (at.1 ∙ sym at.0)
+get_number_at (gets.Reads download room) bytes done k last at = inl (sym at.0)
+get_number_at (gets.Ended e) bytes done k last at = inr refl
+
+-- a put goes on where it was after so many turns, unless it has ended
+put_number_at : (calls : ℕ) (s : PutStage) (made count k : ℕ) (last : Bool) → PutAt calls s made count k last → (put_number made s ≡ k) ⊎ (puts_ended s ≡ true)
+put_number_at calls puts.Undrawn made count k last at = inl (sym at.2)
+put_number_at calls (puts.Begins begun) made count k last at = absurd at
+put_number_at calls (puts.Goes going) made count k last at = inl (omega (arith, at.1))
+put_number_at calls (puts.Ended end) made count k last at = inr refl
+
 -- so does a job of any kind
 pub number_at : (calls : ℕ) (p : Player) (done : ℕ) (last : Bool) → IsAt calls p done last → (number_of p ≡ done) ⊎ (has_ended p ≡ true)
 number_at calls (player.Insert job) done last at = none_done job.stage done last at
 number_at calls (player.Follow job) done last at = number_at_stage calls job.stage (kept job) (came job) done last refl at
-number_at calls (player.Put job) done last at = inr refl
-number_at calls (player.Get job) done last at = inr refl
+number_at calls (player.Put job) done last at = put_number_at calls job.stage job.done (length job.what.pieces.now) done last at
+number_at calls (player.Get job) done last at = get_number_at job.stage (length job.bytes.items) job.done done last at

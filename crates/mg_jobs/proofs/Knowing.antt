@@ -1,23 +1,26 @@
 -- What the jobs of a run know goes on to hold, turn by turn.
 use Rattle.std.proofs.Common.{◌≡◌, ◌⊎◌, ℕ, zero, suc, ℤ, pos, List, [], ◌∷◌, ◌++◌, Option, Some, None, refl, sym, ap, ◌∙◌, subst, inl, inr, length, map, arith, append_assoc, length-append, ◌+◌, take}
-use Rattle.std.specs.Prelude.{cond, nat_eq, slice_get, slice_set}
+use Rattle.std.specs.Prelude.{Vec, cond, nat_eq, slice_get, slice_set, string_bytes}
+use Rattle.std.specs.declared.alloc.Global.{Global}
 use Rattle.mg_link.specs.Link.{Awaited, LogTold}
 use Rattle.mg_link.specs.Log.{Call}
 use Rattle.mg_link.specs.Owner.{Owner, Holds, Onward, Passes, nobody, PassesPlain}
-use Rattle.mg_link.proofs.Apart.{holds_nobody, passes_same}
+use Rattle.mg_link.proofs.Apart.{holds_nobody, passes_same, onward_refl}
 use Rattle.mg_link.proofs.Runs.{OwnsNothing, apart_after, apart_at_first, others_onward}
 use Rattle.mg_bson.specs.Tree.{Fields}
+use Rattle.mg_bson.specs.View.{tree}
 use Rattle.mg_link.specs.Namespace.{Space, Target, space, target}
 use Rattle.mg_link.specs.State.{Start, Watch}
 use Rattle.mg_link.proofs.Answering.{knows_new}
 use Rattle.mg_change.specs.Following.{not_open}
 use Rattle.mg_script.specs.Plan as plan
-use Rattle.mg_script.specs.Plan.{Begin, Task, begin, task, tasks}
+use Rattle.mg_script.specs.Plan.{Begin, Task, begin, pieces, task, tasks}
 use Rattle.mg_script.specs.declared.script.Job.{Job}
-use Rattle.mg_jobs.specs.Follows.{FollowKnows, FollowTurns, FollowsNothing, HasNothing, IsUnfinished, IsUnwatched, IsWatched, Placing, filter_in, same_place}
+use Rattle.mg_jobs.specs.Follows.{FollowKnows, FollowTurns, FollowsNothing, HasNothing, IsUnfinished, IsUnwatched, IsWatched, Placing, filter_in}
 use Rattle.mg_jobs.specs.Playing.{IsPlainInsert, IsPlainJob, IsSameFollow, job_ticket}
-use Rattle.mg_jobs.specs.Headline.{AllKnow, AreFirst, DoTasks, Does, IsFirst, IsSameTask, Knowing, Made, OutcomeOf, OutcomesOf, Plays, PlaysAt, Took, Turns, FollowPlays, InsertPlays, insert_task}
+use Rattle.mg_jobs.specs.Headline.{AllKnow, AreFirst, DoTasks, Does, IsFirst, IsSameTask, Knowing, Made, OutcomeOf, OutcomesOf, Plays, PlaysAt, Took, Turns, FollowPlays, InsertPlays, insert_task, written_task}
 use Rattle.mg_jobs.specs.Plays as words
+use Rattle.mg_jobs.specs.Plays.{Moves, by_placing, no_move}
 use Rattle.mg_jobs.specs.declared.follow.FollowPlayer.{FollowPlayer}
 use Rattle.mg_jobs.specs.declared.follow.Stage.{Stage}
 use Rattle.mg_jobs.specs.declared.follow.Stage.TheVariants as stage
@@ -29,6 +32,12 @@ use Rattle.mg_link.proofs.Places.{get_past_other, get_set_other, get_set_same}
 use Rattle.mg_jobs.proofs.Apart.{stays, which}
 use Rattle.std.proofs.lemmas.Bool.{cases_eq, eq-eqb, ne_eqb}
 use Rattle.std.proofs.lemmas.List.{length-map}
+use Rattle.mg_jobs.proofs.GetKnowing.{get_first, get_same, holds_get}
+use Rattle.mg_jobs.proofs.PutKnowing.{holds_put, kept_put, same_put}
+use Rattle.mg_jobs.specs.Puts.{PutKnows}
+use Rattle.mg_jobs.specs.declared.put.PutPlayer.{PutPlayer}
+use Rattle.mg_jobs.specs.declared.put.PutStage.{PutStage}
+use Rattle.mg_jobs.specs.declared.put.Written.{Written}
 use Rattle.mg_jobs.proofs.Turning.{SameParts, kept_follow, parts_knows, same_follow, unfinished_not_given}
 use Rattle.mg_jobs.proofs.Vainly.{kept_vain, same_vain, vain_parts}
 use Rattle.mg_jobs.proofs.Watched.{watch_or_nothing}
@@ -39,38 +48,38 @@ pub same_player : (old new : Awaited) (calls : List Call) (p : Player) (o : Owne
 same_player old new calls (player.Insert job) o at same plays = plays
 same_player old new calls (player.Follow job) o at same (inl knows) = inl (same_follow old new calls job.stage job o at same knows)
 same_player old new calls (player.Follow job) o at same (inr vain) = inr (vain.0, same_vain old new calls job.stage job same vain.1)
-same_player old new calls (player.Put job) o at same plays = plays
-same_player old new calls (player.Get job) o at same plays = plays
+same_player old new calls (player.Put job) o at same plays = same_put old new calls job.stage o same plays
+same_player old new calls (player.Get job) o at same plays = get_same old new calls calls job o at (onward_refl calls o) same plays
 
 pub kept_player : (awaited : Awaited) (calls calls' : List Call) (p : Player) (o : Owner) (at : Option ℕ) → Onward calls calls' o → Plays awaited calls p o at → Plays awaited calls' p o at
 kept_player awaited calls calls' (player.Insert job) o at onward plays = plays
 kept_player awaited calls calls' (player.Follow job) o at onward (inl knows) = inl (kept_follow awaited calls calls' job.stage job o at onward knows)
 kept_player awaited calls calls' (player.Follow job) o at onward (inr vain) = inr (vain.0, kept_vain awaited calls calls' job.stage job (subst (Onward calls calls') vain.0 onward) vain.1)
-kept_player awaited calls calls' (player.Put job) o at onward plays = plays
-kept_player awaited calls calls' (player.Get job) o at onward plays = plays
+kept_player awaited calls calls' (player.Put job) o at onward plays = kept_put awaited calls calls' o onward job.stage plays
+kept_player awaited calls calls' (player.Get job) o at onward plays = get_same awaited awaited calls calls' job o at onward (λ m e. refl) plays
 
 module _ {so : Task → Type 0} (old new : Awaited) (log log' : LogTold) (wire : ℤ) (players : List Player) (k : ℕ) (p p' : Player) (at : slice_get players k ≡ Some p) (apart : MayAllGo old wire players) (goes : Goes so old new log log' wire p p') where
   -- the places where streams were opened, behind the turn
-  abbrev pub places_on : (ℕ → Option ℕ) → ℕ → Option ℕ
-  places_on places i = cond (nat_eq i k) (goes.next (places k)) (places i)
+  abbrev pub places_on : Option ℕ → (ℕ → Option ℕ) → ℕ → Option ℕ
+  places_on place places i = cond (nat_eq i k) place (places i)
 
-  pub place_here : (places : ℕ → Option ℕ) (i : ℕ) → i ≡ k → places_on places i ≡ goes.next (places k)
-  place_here places i e = ap (λ b. cond b (goes.next (places k)) (places i)) (eq-eqb i k e)
+  pub place_here : (place : Option ℕ) (places : ℕ → Option ℕ) (i : ℕ) → i ≡ k → places_on place places i ≡ place
+  place_here place places i e = ap (λ b. cond b place (places i)) (eq-eqb i k e)
 
-  pub place_other : (places : ℕ → Option ℕ) (i : ℕ) → (i ≡ k → ⊥) → places_on places i ≡ places i
-  place_other places i ne = ap (λ b. cond b (goes.next (places k)) (places i)) (ne_eqb i k ne)
+  pub place_other : (place : Option ℕ) (places : ℕ → Option ℕ) (i : ℕ) → (i ≡ k → ⊥) → places_on place places i ≡ places i
+  place_other place places i ne = ap (λ b. cond b place (places i)) (ne_eqb i k ne)
 
-  abbrev pub knowing_turn : (calls calls' : List Call) (all : AllKnow old calls players) (here : PlaysAt old calls p all.owners k (all.places k)) → Took new calls calls' p' here.owner (goes.next (all.places k)) → AllKnow new calls' (slice_set players k p')
+  abbrev pub knowing_turn : (calls calls' : List Call) (all : AllKnow old calls players) (here : PlaysAt old calls p all.owners k (all.places k)) → Took new calls calls' p' here.owner goes.next (all.places k) → AllKnow new calls' (slice_set players k p')
   knowing_turn calls calls' all here took =
       record {
         owners = slice_set all.owners k took.owner;
-        places = places_on all.places;
+        places = places_on took.place all.places;
         apart = apart_after calls calls' all.owners k here.owner took.owner here.there took.passes all.apart;
         each = λ i a ha. elim (which old new log log' wire players k p p' at apart goes i a ha) [
           | inl mine ↦ record {
             owner = took.owner;
             there = subst (λ n. slice_get (slice_set all.owners k took.owner) n ≡ Some took.owner) (sym mine.0) (get_set_same all.owners k here.owner took.owner here.there);
-            plays = subst (λ (at : Option ℕ). Plays new calls' a took.owner at) (sym (place_here all.places i mine.0)) (subst (λ (x : Player). Plays new calls' x took.owner (goes.next (all.places k))) mine.1 took.plays);
+            plays = subst (λ (at : Option ℕ). Plays new calls' a took.owner at) (sym (place_here took.place all.places i mine.0)) (subst (λ (x : Player). Plays new calls' x took.owner took.place) mine.1 took.plays);
           }
           | inr other ↦
               let was = all.each i a other.1 in
@@ -78,7 +87,7 @@ module _ {so : Task → Type 0} (old new : Awaited) (log log' : LogTold) (wire :
               record {
                 owner = was.owner;
                 there = get_past_other all.owners k i was.owner took.owner other.0 was.there;
-                plays = subst (λ (at : Option ℕ). Plays new calls' a was.owner at) (sym (place_other all.places i other.0))
+                plays = subst (λ (at : Option ℕ). Plays new calls' a was.owner at) (sym (place_other took.place all.places i other.0))
                     (same_player old new calls' a was.owner (all.places i) (stays old new log log' wire players k p p' at apart goes i a other.0 other.1) (kept_player old calls calls' a was.owner (all.places i) onward was.plays));
               }
         ];
@@ -95,37 +104,37 @@ module _ {so : Task → Type 0} (old new : Awaited) (log log' : LogTold) (wire :
 -- ---- turns of each kind
 
 -- an insert names no cursor, and leaves every other job alone
-pub turned_insert : (old new : Awaited) (log log' : LogTold) (job job' : InsertPlayer) → (IsPlainJob job → PassesPlain log log' × IsPlainJob job') → words.Turns InsertPlays old new log log' job job' same_place
+pub turned_insert : (old new : Awaited) (log log' : LogTold) (job job' : InsertPlayer) → (IsPlainJob job → PassesPlain log log' × IsPlainJob job') → words.Turns InsertPlays old new log log' job job' no_move
 turned_insert old new log log' job job' plain calls told o at plays =
     let on = plain plays.1 in
     let m = on.0 calls told in
-    (m.0, m.1, record { owner = nobody; plays = (refl, on.1); passes = subst (λ (x : Owner). Passes calls m.0 x nobody) (sym plays.0) m.2 })
+    (m.0, m.1, record { place = at; placed = refl; owner = nobody; plays = (refl, on.1); passes = subst (λ (x : Owner). Passes calls m.0 x nobody) (sym plays.0) m.2 })
 
-pub turned_follow : (old new : Awaited) (log log' : LogTold) (job job' : FollowPlayer) (next : Placing) → FollowTurns old new log log' job.stage job job'.stage job' next → words.Turns FollowPlays old new log log' job job' next
+pub turned_follow : (old new : Awaited) (log log' : LogTold) (job job' : FollowPlayer) (next : Placing) → FollowTurns old new log log' job.stage job job'.stage job' next → words.Turns FollowPlays old new log log' job job' (by_placing next)
 turned_follow old new log log' job job' next turned calls told o at (inl knows) =
     let m = turned.watching calls told o at knows in
-    (m.0, m.1, record { owner = m.2.owner; plays = inl m.2.knows; passes = m.2.passes })
+    (m.0, m.1, record { place = next at; placed = refl; owner = m.2.owner; plays = inl m.2.knows; passes = m.2.passes })
 turned_follow old new log log' job job' next turned calls told o at (inr vain) =
     let m = turned.vainly calls told vain.1 in
-    (m.0, m.1, record { owner = nobody; plays = inr (refl, m.2); passes = subst (λ (x : Owner). Passes calls m.0 x nobody) (sym vain.0) m.3 })
+    (m.0, m.1, record { place = next at; placed = refl; owner = nobody; plays = inr (refl, m.2); passes = subst (λ (x : Owner). Passes calls m.0 x nobody) (sym vain.0) m.3 })
 
 holds_player : (awaited : Awaited) (calls : List Call) (p : Player) (o : Owner) (at : Option ℕ) → Plays awaited calls p o at → Holds calls o
 holds_player awaited calls (player.Insert job) o at plays = subst (Holds calls) (sym plays.0) (holds_nobody calls)
 holds_player awaited calls (player.Follow job) o at (inl knows) = subst (Holds calls) (sym knows.owns) knows.knows.owned
 holds_player awaited calls (player.Follow job) o at (inr vain) = subst (Holds calls) (sym vain.0) (holds_nobody calls)
-holds_player awaited calls (player.Put job) o at plays = subst (Holds calls) (sym plays) (holds_nobody calls)
-holds_player awaited calls (player.Get job) o at plays = subst (Holds calls) (sym plays) (holds_nobody calls)
+holds_player awaited calls (player.Put job) o at plays = holds_put awaited calls o job.stage plays
+holds_player awaited calls (player.Get job) o at plays = holds_get awaited calls job o at plays
 
 -- a job that owns no cursor, and does nothing
-pub turned_nobody : {P : Type 0} (awaited : Awaited) (log : LogTold) (p : P) → words.Turns (λ (a : Awaited) (cs : List Call) (q : P) (o : Owner) (at : Option ℕ). o ≡ nobody) awaited awaited log log p p same_place
-turned_nobody awaited log p calls told o at is = (calls, told, record { owner = o; plays = is; passes = passes_same calls o (subst (Holds calls) (sym is) (holds_nobody calls)) })
+pub turned_nobody : {P : Type 0} (awaited : Awaited) (log : LogTold) (p : P) → words.Turns (λ (a : Awaited) (cs : List Call) (q : P) (o : Owner) (at : Option ℕ). o ≡ nobody) awaited awaited log log p p no_move
+turned_nobody awaited log p calls told o at is = (calls, told, record { place = at; placed = refl; owner = o; plays = is; passes = passes_same calls o (subst (Holds calls) (sym is) (holds_nobody calls)) })
 
 -- a job that does nothing
-pub turned_not : (awaited : Awaited) (log : LogTold) (p p' : Player) → ((calls : List Call) (o : Owner) (at : Option ℕ) → Plays awaited calls p o at → Plays awaited calls p' o at) → Turns awaited awaited log log p p' same_place
-turned_not awaited log p p' knows calls told o at plays = (calls, told, record { owner = o; plays = knows calls o at plays; passes = passes_same calls o (holds_player awaited calls p o at plays) })
+pub turned_not : (awaited : Awaited) (log : LogTold) (p p' : Player) → ((calls : List Call) (o : Owner) (at : Option ℕ) → Plays awaited calls p o at → Plays awaited calls p' o at) → Turns awaited awaited log log p p' no_move
+turned_not awaited log p p' knows calls told o at plays = (calls, told, record { place = at; placed = refl; owner = o; plays = knows calls o at plays; passes = passes_same calls o (holds_player awaited calls p o at plays) })
 
 -- a job that found a place for its answer, and then took its turn
-pub turned_ready : (old new : Awaited) (log log' : LogTold) (p q p' : Player) (next : Placing) → ((awaited : Awaited) (calls : List Call) (o : Owner) (at : Option ℕ) → Plays awaited calls p o at → Plays awaited calls q o at) → Turns old new log log' q p' next → Turns old new log log' p p' next
+pub turned_ready : (old new : Awaited) (log log' : LogTold) (p q p' : Player) (next : Moves) → ((awaited : Awaited) (calls : List Call) (o : Owner) (at : Option ℕ) → Plays awaited calls p o at → Plays awaited calls q o at) → Turns old new log log' q p' next → Turns old new log log' p p' next
 turned_ready old new log log' p q p' next knows turned calls told o at plays = turned calls told o at (knows old calls o at plays)
 
 -- what differs at most in the room for answers knows the same
@@ -214,8 +223,8 @@ plays_by awaited calls job (inr none) first = inr (refl, vain_first awaited call
 pub plays_first : (awaited : Awaited) (calls : List Call) (p : Player) → IsFirst p → Plays awaited calls p (first_owner p) None
 plays_first awaited calls (player.Insert job) first = (refl, subst (λ s. IsPlainInsert s) (sym first) tt)
 plays_first awaited calls (player.Follow job) first = plays_by awaited calls job (watch_or_nothing (target job.watched.target.now) (begin job.watched.start.now) (filter_in job.watched)) first
-plays_first awaited calls (player.Put job) first = refl
-plays_first awaited calls (player.Get job) first = refl
+plays_first awaited calls (player.Put job) first = subst (λ (s : PutStage). PutKnows awaited calls s nobody) (sym first.0) refl
+plays_first awaited calls (player.Get job) first = get_first awaited calls job first.0 first.1
 
 pub get_length : {A B : Type 0} (xs : List A) (ys : List B) → length ys ≡ length xs → (i : ℕ) (y : B) → slice_get ys i ≡ Some y → (x : A) × (slice_get xs i ≡ Some x)
 get_length xs [] same i y h = absurd cc
@@ -245,6 +254,9 @@ same_insert a b ns documents = ap (λ n. plan.insert (space n.now) b.documents.n
 -- an insert of these documents, and a follow of this, do these tasks
 pub does_insert : (ns : Space) (docs : List Fields) (job : InsertPlayer) → space job.ns.now ≡ ns → job.documents.now ≡ docs → Does (plan.insert ns docs) (player.Insert job)
 does_insert ns docs job on these = sym (ap (λ (s : Space). plan.insert s job.documents.now) on ∙ ap (plan.insert ns) these)
+
+pub does_put : (w : Written) (cut : List (Vec ℕ Global)) (job : PutPlayer) → job.what ≡ w → w.pieces.now ≡ cut → Does (plan.put w.db.now (string_bytes w.bucket.now) (string_bytes w.name.now) (tree w.id.now) w.chunk (pieces cut)) (player.Put job)
+does_put w cut job is these = sym (ap written_task is ∙ ap (λ (ps : List (Vec ℕ Global)). plan.put w.db.now (string_bytes w.bucket.now) (string_bytes w.name.now) (tree w.id.now) w.chunk (pieces ps)) these)
 
 pub does_follow : (on : Target) (calls : ℕ) (start : Begin) (filter : Option Fields) (batch : Option ℕ) (job : FollowPlayer) → target job.watched.target.now ≡ on → job.watched.calls ≡ calls → begin job.watched.start.now ≡ start → filter_in job.watched ≡ filter → job.watched.batch_size ≡ batch → Does (plan.follow on calls start filter batch) (player.Follow job)
 does_follow on calls start filter batch job target_is calls_are start_is filter_is batch_is =

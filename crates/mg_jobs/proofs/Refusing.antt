@@ -7,8 +7,9 @@ use Rattle.std.proofs.lemmas.Option.{slice_get_within}
 use Rattle.mg_bson.specs.Raw.{fields}
 use Rattle.mg_bson.specs.Tree.{Fields, Tree}
 use Rattle.mg_link.specs.Commands.{Asked, asked, asks_insert, inserted, told}
+use Rattle.mg_link.specs.Files.{chunked}
 use Rattle.mg_link.specs.History.{IsLegal, Step, state_of}
-use Rattle.mg_link.specs.Kept.{Kept, given_after, given_of, state_behind, state_of_kept, step_of, steps_from, steps_of}
+use Rattle.mg_link.specs.Kept.{IsByRules as AreByRules, Kept, given_after, given_of, state_behind, state_of_kept, step_of, steps_from, steps_of}
 use Rattle.mg_link.specs.Link.{Awaited}
 use Rattle.mg_link.specs.Log.{Call}
 use Rattle.mg_link.specs.Namespace.{Space, Target, target}
@@ -23,6 +24,7 @@ use Rattle.mg_link.specs.declared.error.ErrorKind.TheVariants as kind
 use Rattle.mg_link.proofs.Inserting.{failing, inserting_is}
 use Rattle.mg_link.proofs.Places.{get_front, get_some}
 use Rattle.mg_link.proofs.Telling.{insert_tells, told_reads}
+use Rattle.mg_options.specs.Fields.{Line, fields_in}
 use Rattle.mg_options.specs.declared.change_stream.ChangeStreamOptions.{ChangeStreamOptions}
 use Rattle.mg_ops.specs.Aims.{Aim, aim_of, asked_for}
 use Rattle.mg_ops.specs.Bodies.{insert_command, watch_command}
@@ -41,6 +43,9 @@ use Rattle.mg_change.specs.ClientOpenings.{first_aggregate}
 use Rattle.mg_change.specs.ClientStreams.{resuming_in}
 use Rattle.mg_change.specs.OpenedStreams.{IsOpening}
 use Rattle.mg_change.specs.Sent.{Falling}
+use Rattle.mg_gridfs.specs.Buckets.{ClientBucket}
+use Rattle.mg_gridfs.specs.Causes.{IsOfCheck, a_creation, a_find, a_listing, an_index}
+use Rattle.mg_gridfs.specs.Commands.{any_lines, chunk_documents, chunks_lines, creation_lines, deletion_lines, index_lines, listing_lines, record_document, record_lines}
 use Rattle.mg_script.specs.Plan.{Begin, Task, follow, get, insert, put}
 use Rattle.mg_script.specs.Script.{first_missing}
 use Rattle.mg_script.specs.declared.outcome.Answer.{Answer}
@@ -55,13 +60,16 @@ use Rattle.mg_jobs.specs.Drawing.{as_sent}
 use Rattle.mg_jobs.specs.Fated.{AreItsSteps}
 use Rattle.mg_jobs.specs.Follows.{IsArgsFor, options_of, stages_of, start_of}
 use Rattle.mg_jobs.specs.Progress.{FollowPlayed, IsPlayed, pends_last, turns_done}
-use Rattle.mg_jobs.specs.Sends.{MaySend, SendsOnly, asks, kills, opens, resumes}
-use Rattle.mg_jobs.proofs.Inserted.{AreInserted, IsQuiet, OnlyInserts, inserts_only, kept_inserted, quiet_only}
+use Rattle.mg_jobs.specs.Gets.{GetTask, IsGetCommand, chunks_find, for_chunks, for_more, for_record, get_of, no_manner, record_find}
+use Rattle.mg_jobs.specs.Puts.{PutTask, put_bucket, put_of, total}
+use Rattle.mg_jobs.specs.Sends.{IsPutCommand, MaySend, SendsOnly, asks, checks, inserts, kills, opens, plain_manner, reads_on, records, removes, resumes}
+use Rattle.mg_jobs.proofs.Added.{AreModestEntries, first_by_rules, kept_modest}
+use Rattle.mg_jobs.proofs.Mild.{IsMildCommand, IsQuiet, creates_mild, deletes_mild, finds_mild, indexes_mild, inserts_mild, lists_mild, quiet_mild}
 use Rattle.mg_jobs.proofs.OpeningTaken.{fits_size, opening_taken}
 use Rattle.mg_jobs.proofs.Positions.{answers_well}
 use Rattle.mg_jobs.proofs.Replying.{inserts_so}
 use Rattle.mg_jobs.proofs.SaidTwice.{follow_both, insert_both}
-use Rattle.mg_jobs.proofs.Senders.{more_only, none_missing, state_before, turn_of}
+use Rattle.mg_jobs.proofs.Senders.{more_mild, none_missing, state_before, turn_of}
 
 -- ---- the call of a step
 
@@ -125,12 +133,12 @@ full_own c i calls (insert ns docs) e room = inl room
 full_own c i calls (put db bucket name id chunk pieces) e room = room
 full_own c i calls (get db bucket id read) e room = room
 
--- an aggregate adds nothing
-aggregate_only : (command : List ℕ) (a : ChangeStreamAggregate) (wire : ℤ) → fields command ≡ resuming_in a wire None → OnlyInserts (fields command)
+-- an aggregate changes nothing
+aggregate_mild : (command : List ℕ) (a : ChangeStreamAggregate) (wire : ℤ) → fields command ≡ resuming_in a wire None → IsMildCommand (fields command)
 unfolding asked
-aggregate_only command a wire is =
+aggregate_mild command a wire is =
     let o = options_for a.args.options a.resume wire in
-    quiet_only (fields command) (subst IsQuiet (sym (asks_as_aimed command (target a.args.target) a.args.pipeline.items o None is)) (quiet_aim (aim_of (target a.args.target) a.args.pipeline.items o)))
+    quiet_mild (fields command) (subst IsQuiet (sym (asks_as_aimed command (target a.args.target) a.args.pipeline.items o None is)) (quiet_aim (aim_of (target a.args.target) a.args.pipeline.items o)))
   where
     quiet_aim : (a : Option Aim) → IsQuiet (asked_for a)
     quiet_aim None = tt
@@ -197,10 +205,10 @@ module _ (history : List Kept) (fates : List Fate) (kept : AreKept 0 fates) (cal
 
   -- ---- the opening of a follow
 
-  module _ (only : (p : ℕ) (k : Kept) → slice_get history p ≡ Some k → OnlyInserts (fields k.command)) where
-    -- only documents were inserted before a step
-    inserted_before : (before : List Kept) (k : Kept) (later : List Kept) → history ≡ before ++ k ∷ later → AreInserted (state_of_kept before).changes
-    inserted_before before k later these = kept_inserted before (λ p j at. only p j (ap (λ (h : List Kept). slice_get h p) these ∙ get_front before (k ∷ later) p j at))
+  module _ (ruled : AreByRules history) (mild : (p : ℕ) (k : Kept) → slice_get history p ≡ Some k → IsMildCommand (fields k.command)) where
+    -- no entry ended a watch before a step
+    modest_before : (before : List Kept) (k : Kept) (later : List Kept) → history ≡ before ++ k ∷ later → AreModestEntries (state_of_kept before).changes
+    modest_before before k later these = kept_modest before (first_by_rules before (k ∷ later) (subst AreByRules these ruled)) (λ p j at. mild p j (ap (λ (h : List Kept). slice_get h p) these ∙ get_front before (k ∷ later) p j at))
 
     module _ (c : Course) (i : ℕ) (on : Target) (start : Begin) (filter : Option Fields) (batch : Option ℕ) where
       -- none of the steps of a follow is refused that sent its opening aggregate alone
@@ -212,7 +220,7 @@ module _ (history : List Kept) (fates : List Fate) (kept : AreKept 0 fates) (cal
           let built : watch_command (target args.target) args.pipeline.items args.options ≡ watch_command on (stages_of filter) (options_of on start batch) =
           ap (λ (t : Target). watch_command t args.pipeline.items args.options) are.target_is ∙ ap (λ (ds : List Fields). watch_command on ds args.options) are.stages ∙ ap (λ (o : ChangeStreamOptions). watch_command on (stages_of filter) o) are.options_are in
           let there : IsThere (state_of_kept r.before) (start_of start) = subst (IsThere (state_of_kept r.before)) may.watches.from_is (subst (λ (s : State). IsThere s may.from) r.state_is (may.there position step own at)) in
-          opening_taken (state_of_kept r.before) (given_of r.before) (inserted_before r.before r.this r.later r.these) by.call.command step.reply on start filter batch may.watch.filter may.short (fits_size batch small) may.watches.by there (sent ∙ built) r.replies
+          opening_taken (state_of_kept r.before) (given_of r.before) (modest_before r.before r.this r.later r.these) by.call.command step.reply on start filter batch may.watch.filter may.short (fits_size batch small) may.watches.by there (sent ∙ built) r.replies
           (subst (λ (command : List ℕ). IsRefused (told (asked command) step.reply)) r.command_is refused)
 
     -- ---- how a job ends
@@ -263,24 +271,43 @@ module _ (history : List Kept) (fates : List Fate) (kept : AreKept 0 fates) (cal
       λ fit. ends_in legal prompt IsMemory awaited wire c i (λ e room. room) t r sends caused played (well.1 fit),
     )
 
--- ---- what the commands of a run add
+-- ---- the commands of a run
 
--- a job's command adds entries of inserts only
-sends_inserts : (t : Task) (command : List ℕ) → MaySend t (fields command) → OnlyInserts (fields command)
+-- those of the check of a bucket's indexes
+check_mild : (b : ClientBucket) (ls : List Line) → IsOfCheck b ls → IsMildCommand (fields_in ls)
+check_mild b ls (a_find is) = subst (λ (ls : List Line). IsMildCommand (fields_in ls)) (sym is) (finds_mild (fields_in (any_lines b)) refl)
+check_mild b ls (a_creation at is) = subst (λ (ls : List Line). IsMildCommand (fields_in ls)) (sym is) (creates_mild (fields_in (creation_lines b at)) refl)
+check_mild b ls (a_listing at is) = subst (λ (ls : List Line). IsMildCommand (fields_in ls)) (sym is) (lists_mild (fields_in (listing_lines b at)) refl)
+check_mild b ls (an_index at is) = subst (λ (ls : List Line). IsMildCommand (fields_in ls)) (sym is) (indexes_mild (fields_in (index_lines b at)) refl)
+
+put_mild : (t : PutTask) (fs : Fields) → IsPutCommand t fs → IsMildCommand fs
+put_mild t fs (checks ls of is) = subst IsMildCommand (sym is) (check_mild (put_bucket t) ls of)
+put_mild t fs (reads_on id space is) = subst IsMildCommand (sym is) (more_mild id space plain_manner)
+put_mild t fs (inserts ids first stretch of is) = subst IsMildCommand (sym is) (inserts_mild (fields_in (chunks_lines (put_bucket t) (chunk_documents ids 0 t.id first (chunked t.chunk stretch)))) refl)
+put_mild t fs (records moment is) = subst IsMildCommand (sym is) (inserts_mild (fields_in (record_lines (put_bucket t) (record_document t.id (total t.pieces) t.chunk moment t.name None))) refl)
+put_mild t fs (removes is) = subst IsMildCommand (sym is) (deletes_mild (fields_in (deletion_lines (put_bucket t) t.id)) refl)
+
+get_mild : (g : GetTask) (fs : Fields) → IsGetCommand g fs → IsMildCommand fs
+get_mild g fs (for_record room is) = subst IsMildCommand (sym is) (finds_mild (record_find g) refl)
+get_mild g fs (for_chunks room id is) = subst IsMildCommand (sym is) (finds_mild (chunks_find g id) refl)
+get_mild g fs (for_more room cursor space is) = subst IsMildCommand (sym is) (more_mild cursor space no_manner)
+
+-- a job's command is mild
+sends_mildly : (t : Task) (command : List ℕ) → MaySend t (fields command) → IsMildCommand (fields command)
 unfolding asked
-sends_inserts (insert ns docs) command p = subst OnlyInserts (sym p.command_is) (inserts_only (insert_command ns p.piece) refl)
-sends_inserts (follow on count start filter batch) command (opens args wire its is) = aggregate_only command (first_aggregate args) wire is
-sends_inserts (follow on count start filter batch) command (resumes a wire its is) = aggregate_only command a wire is
-sends_inserts (follow on count start filter batch) command (asks args its id space is) = subst OnlyInserts (sym is) (more_only id space (watch_manner args.options))
-sends_inserts (follow on count start filter batch) command (kills space ids is) = quiet_only (fields command) (subst IsQuiet (sym (asks_to_kill_plainly command space ids is)) tt)
-sends_inserts (put db bucket name id chunk pieces) command p = absurd p
-sends_inserts (get db bucket id read) command p = absurd p
+sends_mildly (insert ns docs) command p = subst IsMildCommand (sym p.command_is) (inserts_mild (insert_command ns p.piece) refl)
+sends_mildly (follow on count start filter batch) command (opens args wire its is) = aggregate_mild command (first_aggregate args) wire is
+sends_mildly (follow on count start filter batch) command (resumes a wire its is) = aggregate_mild command a wire is
+sends_mildly (follow on count start filter batch) command (asks args its id space is) = subst IsMildCommand (sym is) (more_mild id space (watch_manner args.options))
+sends_mildly (follow on count start filter batch) command (kills space ids is) = quiet_mild (fields command) (subst IsQuiet (sym (asks_to_kill_plainly command space ids is)) tt)
+sends_mildly (put db bucket name id chunk pieces) command p = put_mild (put_of db bucket name id chunk pieces) (fields command) p
+sends_mildly (get db bucket id read) command p = get_mild (get_of db bucket id read) (fields command) p
 
--- Where each step is that of a call, and each call was sent by a job in its turns, all entries are those of inserts.
-pub run_inserts : (history : List Kept) (calls : List Call) → AreItsSteps history calls → Stands calls (steps_of history) → (ids : ℕ → List ℕ) (ts : List Task) (order : List ℕ) (notes : List Turned) → first_missing (length ts) order ≡ None → length notes ≡ length order
+-- Where each step is that of a call, and each call was sent by a job in its turns, all commands are mild.
+pub run_mildly : (history : List Kept) (calls : List Call) → AreItsSteps history calls → Stands calls (steps_of history) → (ids : ℕ → List ℕ) (ts : List Task) (order : List ℕ) (notes : List Turned) → first_missing (length ts) order ≡ None → length notes ≡ length order
     → StartedBy (sum_by (λ (n : Turned). n.started) notes) (Some []) (Some calls)
-    → ((i : ℕ) (t : Task) → slice_get ts i ≡ Some t → SendsOnly (MaySend (as_sent ids ts order i t)) (course [] order notes) i calls) → (p : ℕ) (k : Kept) → slice_get history p ≡ Some k → OnlyInserts (fields k.command)
-run_inserts history calls alone stands ids ts order notes named abreast started sends p k at =
+    → ((i : ℕ) (t : Task) → slice_get ts i ≡ Some t → SendsOnly (MaySend (as_sent ids ts order i t)) (course [] order notes) i calls) → (p : ℕ) (k : Kept) → slice_get history p ≡ Some k → IsMildCommand (fields k.command)
+run_mildly history calls alone stands ids ts order notes named abreast started sends p k at =
     let s = alone p (slice_get_within history p k at) in
     let all = started [] refl in
     let same : all.0 ≡ calls = same_some all.0 calls (sym all.1) in
@@ -293,4 +320,4 @@ run_inserts history calls alone stands ids ts order notes named abreast started 
     let may = (sends turn.0 t.0 t.1).each turn.1 s.0 s.1 turn.2 s.2 in
     let step = stands.same s.0 s.1 p s.2 s.3 in
     let command_is : k.command ≡ s.1.command = ap (λ (x : Kept). x.command) (sym (same_some (get_kept history p step.0 step.1).0 k (sym (get_kept history p step.0 step.1).1 ∙ at))) ∙ (get_kept history p step.0 step.1).2 ∙ step.2 in
-    subst (λ (command : List ℕ). OnlyInserts (fields command)) (sym command_is) (sends_inserts (as_sent ids ts order turn.0 t.0) s.1.command may)
+    subst (λ (command : List ℕ). IsMildCommand (fields command)) (sym command_is) (sends_mildly (as_sent ids ts order turn.0 t.0) s.1.command may)

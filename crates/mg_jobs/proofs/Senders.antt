@@ -16,7 +16,7 @@ use Rattle.mg_link.proofs.Legal.{steps_from-append}
 use Rattle.mg_ops.specs.Cursors.{Manner, next_command}
 use Rattle.mg_script.specs.Script.{first_missing}
 use Rattle.mg_store.proofs.Sending.{length-steps}
-use Rattle.mg_jobs.proofs.Inserted.{IsQuiet, OnlyInserts, quiet_only}
+use Rattle.mg_jobs.proofs.Mild.{IsMildCommand, IsQuiet, quiet_mild}
 use Rattle.mg_jobs.specs.Causes.{SentIn}
 use Rattle.mg_jobs.specs.Progress.{turns_done}
 use Rattle.mg_script.specs.declared.outcome.Turned.{Turned}
@@ -100,5 +100,5 @@ more_quiet : (fs : Fields) → found_quiet (more_of fs)
 unfolding more_of
 more_quiet fs = by_more (option_and_then as_integer (get (codes "getMore") fs)) (space_at (codes "collection") fs)
 
-pub more_only : (id : ℤ) (space : Space) (m : Manner) → OnlyInserts (next_command id space m)
-more_only id space m = quiet_only (next_command id space m) (more_quiet (next_command id space m))
+pub more_mild : (id : ℤ) (space : Space) (m : Manner) → IsMildCommand (next_command id space m)
+more_mild id space m = quiet_mild (next_command id space m) (more_quiet (next_command id space m))

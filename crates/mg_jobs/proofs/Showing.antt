@@ -6,7 +6,7 @@ use Rattle.mg_link.specs.Calls.{Keeps}
 use Rattle.mg_link.specs.Link.{Awaited, LogTold}
 use Rattle.mg_link.specs.Log.{Call}
 use Rattle.mg_jobs.specs.Counts.{OthersStay, is_held, shown}
-use Rattle.mg_jobs.specs.Follows.{Placing}
+use Rattle.mg_jobs.specs.Plays.{Moves}
 use Rattle.mg_jobs.specs.Drawing.{sent_from}
 use Rattle.mg_jobs.specs.Headline.{Turns, task_of}
 use Rattle.mg_jobs.specs.Playing.{job_ticket}
@@ -14,6 +14,8 @@ use Rattle.mg_jobs.specs.Runs.{Goes}
 use Rattle.mg_jobs.specs.Telling.{TurnTells}
 use Rattle.mg_script.specs.Plan.{Task}
 use Rattle.mg_jobs.specs.declared.player.Player.{Player}
+use Rattle.mg_link.specs.Owner.{nobody}
+use Rattle.mg_link.proofs.Apart.{onward_refl}
 use Rattle.mg_jobs.proofs.JobTelling.{job_later}
 use Rattle.mg_jobs.proofs.Knowing.{same_player}
 use Rattle.mg_jobs.proofs.OwnTickets.{cases_held, held_is, is_held_so, none_is_not, shown_held, shown_new, shown_out, shown_own}
@@ -28,17 +30,17 @@ keeps_same : (calls : List Call) → Keeps calls calls
 keeps_same calls place call there = (call, there, refl, λ seen. refl)
 
 module _ (old old' new new' : Awaited) (log log' : LogTold) where
-  turns_agree : (p p' : Player) (next : Placing) → Agree (job_ticket p) old old' → Agree (job_ticket p') new new' → Turns old' new log log' p p' next → Turns old new' log log' p p' next
+  turns_agree : (p p' : Player) (next : Moves) → Agree (job_ticket p) old old' → Agree (job_ticket p') new new' → Turns old' new log log' p p' next → Turns old new' log log' p p' next
   turns_agree p p' next before after turns calls told o at plays =
       let r = turns calls told o at (same_player old old' calls p o at before plays) in
-      (r.0, r.1, record { owner = r.2.owner; plays = same_player new new' r.0 p' r.2.owner (next at) after r.2.plays; passes = r.2.passes })
+      (r.0, r.1, record { place = r.2.place; placed = r.2.placed; owner = r.2.owner; plays = same_player new new' r.0 p' r.2.owner r.2.place after r.2.plays; passes = r.2.passes })
 
   module _ (wire : ℤ) where
-    tells_agree : (so : Task → Type 0) (p p' : Player) (next : Placing) → Agree (job_ticket p) old old' → Agree (job_ticket p') new new' → TurnTells so old' new log log' wire p p' next → TurnTells so old new' log log' wire p p' next
-    tells_agree so p p' next before after turn calls calls' is is' ids n may q at told =
+    tells_agree : (so : Task → Type 0) (p p' : Player) (next : Moves) → Agree (job_ticket p) old old' → Agree (job_ticket p') new new' → TurnTells so old' new log log' wire p p' next → TurnTells so old new' log log' wire p p' next
+    tells_agree so p p' next before after turn calls calls' is is' ids n may q at at' placed told =
         let t : Task = sent_from ids n (task_of p) in
-        let r = turn calls calls' is is' ids n may q at (job_later t old old' calls calls wire q p at (keeps_same calls) before told) in
-        record { longer = r.longer; places = r.places; tells = job_later t new new' calls' calls' wire r.places p' (next at) (keeps_same calls') after r.tells; extends = r.extends; adds = r.adds }
+        let r = turn calls calls' is is' ids n may q at at' placed (job_later t old old' calls calls wire q p at (keeps_same calls) (onward_refl calls nobody) before told) in
+        record { longer = r.longer; places = r.places; tells = job_later t new new' calls' calls' wire r.places p' at' (keeps_same calls') (onward_refl calls' nobody) after r.tells; extends = r.extends; adds = r.adds }
 
 -- ---- the tickets of a turn
 

@@ -1,5 +1,5 @@
--- How large the events of inserts are, and the replies that give them.
-use Rattle.std.proofs.Common.{◌≡◌, ◌⊎◌, ◌≤◌, ◌+◌, ◌*◌, ◌++◌, ℕ, suc, ℤ, pos, Bool, true, false, List, [], ◌∷◌, length, Option, Some, subst, inl, inr, arith, length-append}
+-- How large the events of inserts and deletes are, and the replies that give them.
+use Rattle.std.proofs.Common.{◌≡◌, ◌⊎◌, ◌≤◌, ◌+◌, ◌*◌, ◌++◌, ℕ, suc, ℤ, pos, Bool, true, false, List, [], ◌∷◌, length, Option, None, Some, refl, subst, inl, inr, arith, length-append}
 use Rattle.std.specs.Prelude.{if◌then◌else◌, codes, decimal}
 use Rattle.std.specs.Int.{w64, to_be_bytes}
 use Rattle.std.specs.Str.{bytes_eq}
@@ -11,7 +11,8 @@ use Rattle.mg_bson.specs.Bytes.{bytes, fields_bytes, fields_depth, framed, items
 use Rattle.mg_bson.specs.Find.{get}
 use Rattle.mg_bson.specs.Literal.{◌⇒◌⨾◌, empty, word}
 use Rattle.mg_link.specs.Namespace.{Space, full_name}
-use Rattle.mg_link.specs.Rules.{bytes_of, cursor_fields, documents_of_items, first_batch, insert_event, max_batch, max_document, max_name, max_reply, max_stored_levels, stamp_of, token_fields, token_of}
+use Rattle.mg_link.specs.Query.{id_alone}
+use Rattle.mg_link.specs.Rules.{bytes_of, cursor_fields, deleted_event, documents_of_items, first_batch, insert_event, max_batch, max_document, max_given_levels, max_name, max_reply, max_stored_levels, stamp_of, token_fields, token_of}
 
 -- ---- lengths
 
@@ -114,6 +115,46 @@ event_modest place space id d db coll part few flat =
       some = omega (arith, f, a, b, c, n, k, g, token, kind, stamp, names, key);
       few = omega (arith, f, a, b, c, n, k, g, token, kind, stamp, names, key, short, whole, db, coll, few);
       flat = omega (arith, depth, flat);
+    }
+
+-- ---- the event of a delete
+
+key_none : length (value_bytes (document empty)) ≤ 10
+unfolding le32
+key_none = omega arith
+
+key_few : (d : Fields) (o : Option Tree) → get (codes "_id") d ≡ o → length (value_bytes (document (id_alone o))) ≤ 10 + length (bytes d)
+key_few d None is = let none = key_none in omega (arith, none)
+key_few d (Some id) is =
+    let key = key_long id in
+    let short = (part_of (codes "_id") d id is).short in
+    let whole = framed_long (fields_bytes d) in
+    omega (arith, key, short, whole)
+
+-- as many levels as a reply may give
+pub deleted_modest : (place : ℕ) (space : Space) (d : Fields) → length space.db ≤ max_name → length space.coll ≤ max_name → length (bytes d) ≤ max_document → levels (deleted_event place space d) ≤ max_given_levels → IsModest (deleted_event place space d)
+deleted_modest place space d db coll few flat =
+    let key_of : Tree = document (id_alone (get (codes "_id") d)) in
+    let from_key : Fields = "documentKey" ⇒ key_of ⨾ empty in
+    let from_names : Fields = "ns" ⇒ document (names_in space) ⨾ from_key in
+    let from_time : Fields = "clusterTime" ⇒ stamp_of place ⨾ from_names in
+    let from_kind : Fields = "operationType" ⇒ word "delete" ⨾ from_time in
+    let all : Fields = "_id" ⇒ token_of place ⨾ from_kind in
+    let f = framed_long (fields_bytes all) in
+    let a = field_long (codes "_id") (token_of place) from_kind in
+    let b = field_long (codes "operationType") (word "delete") from_time in
+    let c = field_long (codes "clusterTime") (stamp_of place) from_names in
+    let n = field_long (codes "ns") (document (names_in space)) from_key in
+    let k = field_long (codes "documentKey") key_of empty in
+    let token = token_long place in
+    let kind = text_long (codes "delete") in
+    let stamp = stamp_long place in
+    let names = names_long space in
+    let key = key_few d (get (codes "_id") d) refl in
+    record {
+      some = omega (arith, f, a, b, c, n, k, token, kind, stamp, names);
+      few = omega (arith, f, a, b, c, n, k, token, kind, stamp, names, key, db, coll, few);
+      flat = flat;
     }
 
 -- ---- batches of such events

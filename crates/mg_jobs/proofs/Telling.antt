@@ -96,7 +96,7 @@ since_is places from upto place room of =
       | inr now ↦ let r = is_from from (upto - from) place now in let low = r.0 in let high = r.1 in inr (low, omega (arith, high, room))
     ]
 
-is_since : (places : List ℕ) (from upto place : ℕ) → from ≤ place → place < upto → IsOf (sent_since places from upto) place
+pub is_since : (places : List ℕ) (from upto place : ℕ) → from ≤ place → place < upto → IsOf (sent_since places from upto) place
 is_since places from upto place low high = in_second places (places_from from (upto - from)) place (from_is from (upto - from) place low (omega arith))
 
 -- ---- logs
@@ -257,7 +257,7 @@ pub extends_same : (q : Places) (n n' from : ℕ) → n' ≡ n → Extends q q n
 extends_same q n n' from same = record { opened = λ place of. inl of; owns = λ k own there. inl there; now = λ place of. (same, inl of); whole = whole_same q from }
 
 -- nothing goes on
-extends_rest : (q : Places) (n n' from : ℕ) → q.now ≡ [] → Extends q q n n' from from
+pub extends_rest : (q : Places) (n n' from : ℕ) → q.now ≡ [] → Extends q q n n' from from
 extends_rest q n n' from none = record { opened = λ place of. inl of; owns = λ k own there. inl there; now = λ place of. absurd (subst (λ (l : List ℕ). IsOf l place) none of); whole = whole_same q from }
 
 -- what goes on sent more
@@ -271,7 +271,7 @@ extends_going q n n' from upto same room = record { opened = λ place of. inl of
 abbrev pub opened_by : Places → ℕ → ℕ → Places
 opened_by q from upto = record { opened = sent_since q.now from upto; owns = []; now = [] }
 
-extends_opened : (q : Places) (n n' from upto : ℕ) → n ≡ 0 → q.opened ≡ [] → q.owns ≡ [] → from ≤ upto → Extends q (opened_by q from upto) n n' from upto
+pub extends_opened : (q : Places) (n n' from upto : ℕ) → n ≡ 0 → q.opened ≡ [] → q.owns ≡ [] → from ≤ upto → Extends q (opened_by q from upto) n n' from upto
 extends_opened q n n' from upto first opens none room =
     record { opened = λ place of. inr (first, since_is q.now from upto place room of); owns = λ k own there. absurd cc; now = λ place of. absurd of; whole = whole_opened q from upto opens none }
 
@@ -285,7 +285,7 @@ get_last [] y (suc i) x h = absurd cc
 get_last (z ∷ xs) y zero x h = inl h
 get_last (z ∷ xs) y (suc i) x h = elim (get_last xs y i x h) [ inl before ↦ inl before | inr last ↦ inr (ap suc last.0, last.1) ]
 
-extends_answered : (q : Places) (n n' from upto : ℕ) → n ≡ suc (length q.owns) → from ≤ upto → Extends q (answered_by q from upto) n n' from upto
+pub extends_answered : (q : Places) (n n' from upto : ℕ) → n ≡ suc (length q.owns) → from ≤ upto → Extends q (answered_by q from upto) n n' from upto
 extends_answered q n n' from upto count room =
     record {
       opened = λ place of. inl of;
@@ -299,11 +299,11 @@ extends_answered q n n' from upto count room =
 
 -- ---- the arms of a turn
 
-same_told : (log : LogTold) (calls calls' : List Call) → log ≡ Some calls → log ≡ Some calls' → calls ≡ calls'
+pub same_told : (log : LogTold) (calls calls' : List Call) → log ≡ Some calls → log ≡ Some calls' → calls ≡ calls'
 same_told log calls calls' told told' = let e : Some calls ≡ Some calls' = sym told ∙ told' in cc
 
 -- the same log behind a poll by another name
-keeps_to : (log' : LogTold) (calls mid calls' : List Call) → log' ≡ Some mid → log' ≡ Some calls' → Keeps calls mid → Keeps calls calls'
+pub keeps_to : (log' : LogTold) (calls mid calls' : List Call) → log' ≡ Some mid → log' ≡ Some calls' → Keeps calls mid → Keeps calls calls'
 keeps_to log' calls mid calls' told told' keeps = subst (λ (c : List Call). Keeps calls c) (same_told log' mid calls' told told') keeps
 
 -- nothing was sent

@@ -10,7 +10,7 @@ use Rattle.mg_link.specs.Calls.{Keeps, Past, Stays}
 use Rattle.mg_link.specs.Link.{Awaited, LogTold}
 use Rattle.mg_link.specs.Log.{Call}
 use Rattle.mg_link.specs.Namespace.{Space, Target, space, target}
-use Rattle.mg_link.specs.Owner.{NamesItsOwn, Owner}
+use Rattle.mg_link.specs.Owner.{NamesItsOwn, Owner, Onward, nobody}
 use Rattle.mg_link.specs.State.{Start, Watch}
 use Rattle.mg_link.specs.declared.error.Error.{Error}
 use Rattle.mg_link.proofs.Places.{get_within}
@@ -33,14 +33,16 @@ use Rattle.mg_jobs.specs.Causes.{AllCaused, AllSentIn, ClosedBy, CloseCaused, Co
 use Rattle.mg_jobs.specs.Counts.{HoldsNewest, NewestAt, StartedBy}
 use Rattle.mg_ops.specs.Drawn.{AreLater, with_ids}
 use Rattle.mg_jobs.specs.Drawing.{DrawsAs, HaveDrawn, JobHadTurn, as_sent, drawn_in, first_id, has_turn, sent_from}
-use Rattle.mg_jobs.specs.Follows.{Followed, FollowedFrom, HasGiven, IsArgsFor, IsUnfinished, Placing, events_of, filter_in, token_at}
-use Rattle.mg_jobs.specs.Headline.{AllFollowed, AllKnow, AreFirst, DoTasks, FollowedOr, IsFirst, IsSameTask, Knowing, OutcomeFollowed, OutcomeOf, OutcomesOf, Plays, Took, task_of}
-use Rattle.mg_script.specs.Plan.{Begin, Task, begin}
+use Rattle.mg_jobs.specs.Follows.{Followed, FollowedFrom, HasGiven, IsArgsFor, IsUnfinished, events_of, filter_in, token_at}
+use Rattle.mg_jobs.proofs.GetCausing.{get_caused}
+use Rattle.mg_jobs.specs.Gets.{sought}
+use Rattle.mg_jobs.specs.Headline.{AllFiled, AllFollowed, AllKnow, AreFirst, DoTasks, FollowedOr, IsFirst, IsSameTask, Knowing, OutcomeFiled, OutcomeFollowed, OutcomeOf, OutcomesOf, Plays, Took, task_of}
+use Rattle.mg_script.specs.Plan.{Begin, Task, begin, pieces}
 use Rattle.mg_jobs.specs.Playing.{end_of, job_ticket}
 use Rattle.mg_jobs.specs.Progress.{AllAt, FollowAt, HoldsIf, InsertAt, IsAt, IsOpen, calls_of, came, pends_last, turns_done}
 use Rattle.mg_jobs.specs.Runs.{MayAllGo, Goes, has_ended}
 use Rattle.mg_jobs.specs.Sends.{AllSendOnly, MaySend, SendsOnly}
-use Rattle.mg_jobs.specs.Plays.{Extends, IsNow, Places}
+use Rattle.mg_jobs.specs.Plays.{Extends, IsNow, Moves, MovesTo, Places}
 use Rattle.mg_jobs.specs.Telling.{AllSent, AllTell, FollowTold, InsertTells, IsOpened, JobTells, JobTold, TellsEnd, TurnTells, kept, number_of, landing_places}
 use Rattle.mg_script.specs.declared.outcome.Ended.{Ended}
 use Rattle.mg_script.specs.declared.outcome.Ended.TheVariants as ended
@@ -61,6 +63,10 @@ use Rattle.mg_jobs.proofs.Commands.{call_falls_so, falls_below}
 use Rattle.mg_jobs.proofs.Drawing.{draws_as, id_had, id_own, turn_other}
 use Rattle.mg_jobs.proofs.Identified.{calls_identified, honest_over, opened_well}
 use Rattle.mg_jobs.proofs.InsertTelling.{ends_of, ends_sent}
+use Rattle.mg_gridfs.proofs.Fronts.{nobody_onward}
+use Rattle.mg_jobs.specs.Puts.{writes}
+use Rattle.mg_jobs.proofs.PutTold.{put_outcome}
+use Rattle.mg_jobs.proofs.Filed.{get_filed, put_filed}
 use Rattle.mg_jobs.proofs.JobTelling.{first_tells, job_later, job_of_others, number_at}
 use Rattle.mg_jobs.proofs.Newest.{newest_other, newest_own, none_sent, started_in}
 use Rattle.mg_jobs.proofs.OwnTickets.{none_if}
@@ -105,15 +111,15 @@ module _ (begun : ℕ) (order : List ℕ) (notes : List Turned) (j : ℕ) (note 
       }
 
   -- another job's turn
-  job_other : (ids : ℕ → List ℕ) (ts : List Task) (old new : Awaited) (calls calls' : List Call) (wire : ℤ) (i : ℕ) (p : Player) (at : Option ℕ) → (i ≡ j → ⊥) → length order ≡ length notes → length calls ≡ begun + sum_by (λ (t : Turned). t.started) notes → Keeps calls calls' → ((m : ℕ) → job_ticket p ≡ Some m → new m ≡ old m) → JobHadTurn (has_turn i order) p
+  job_other : (ids : ℕ → List ℕ) (ts : List Task) (old new : Awaited) (calls calls' : List Call) (wire : ℤ) (i : ℕ) (p : Player) (at : Option ℕ) → (i ≡ j → ⊥) → length order ≡ length notes → length calls ≡ begun + sum_by (λ (t : Turned). t.started) notes → Keeps calls calls' → Onward calls calls' nobody → ((m : ℕ) → job_ticket p ≡ Some m → new m ≡ old m) → JobHadTurn (has_turn i order) p
       → JobTold ids (first_id ts order i) old calls wire now i p at → JobTold ids (first_id ts (order ++ j ∷ []) i) new calls' wire then i p at
-  job_other ids ts old new calls calls' wire i p at ne abreast count keeps same had t =
+  job_other ids ts old new calls calls' wire i p at ne abreast count keeps onward same had t =
       let n : ℕ = first_id ts order i in
       let n' : ℕ = first_id ts (order ++ j ∷ []) i in
       let on = sends_other (MaySend (sent_from ids n (task_of p))) begun order notes j note abreast calls calls' count i ne keeps t.sends in
       record {
         places = t.places;
-        tells = job_of_others ids n n' new calls' wire t.places p at (has_turn i order) had (λ turn. id_had ts i j order turn) (job_later (sent_from ids n (task_of p)) old new calls calls' wire t.places p at keeps same t.tells);
+        tells = job_of_others ids n n' new calls' wire t.places p at (has_turn i order) had (λ turn. id_had ts i j order turn) (job_later (sent_from ids n (task_of p)) old new calls calls' wire t.places p at keeps onward same t.tells);
         sent = all_later i t.places (number_of p) ne abreast t.sent;
         sends = record {
           each = λ k place call sent there.
@@ -172,17 +178,17 @@ module _ (begun : ℕ) (order : List ℕ) (notes : List Turned) (j : ℕ) (note 
   counts_at n over (inl is) quiet = inl is
   counts_at n over (inr ends) quiet = inr (quiet ends)
 
-  job_turn : (ids given : ℕ → List ℕ) (ts : List Task) (old new : Awaited) (log log' : LogTold) (calls calls' : List Call) (wire : ℤ) (p p' : Player) (next : Placing) (at : Option ℕ) (m : ℕ) (last : Bool) → log ≡ Some calls → log' ≡ Some calls' → length notes ≡ length order → length calls ≡ begun + sum_by (λ (t : Turned). t.started) notes → length calls' ≡ length calls + note.started
-      → IsAt m p (turns_done j order notes) last → (has_ended p ≡ true → note.started ≡ 0) → AreLater ids (drawn_in ts order) given → JobHadTurn (has_turn j order) p → IsSameTask p p' → TurnTells (DrawsAs given p) old new log log' wire p p' next → JobTold ids (first_id ts order j) old calls wire now j p at → JobTold ids (first_id ts (order ++ j ∷ []) j) new calls' wire then j p' (next at)
-  job_turn ids given ts old new log log' calls calls' wire p p' next at m last is is' abreast count more is_at quiet stands had task tells t =
+  job_turn : (ids given : ℕ → List ℕ) (ts : List Task) (old new : Awaited) (log log' : LogTold) (calls calls' : List Call) (wire : ℤ) (p p' : Player) (next : Moves) (at at' : Option ℕ) (m : ℕ) (last : Bool) → log ≡ Some calls → log' ≡ Some calls' → length notes ≡ length order → length calls ≡ begun + sum_by (λ (t : Turned). t.started) notes → length calls' ≡ length calls + note.started
+      → IsAt m p (turns_done j order notes) last → (has_ended p ≡ true → note.started ≡ 0) → AreLater ids (drawn_in ts order) given → JobHadTurn (has_turn j order) p → IsSameTask p p' → TurnTells (DrawsAs given p) old new log log' wire p p' next → MovesTo next calls calls' at at' → JobTold ids (first_id ts order j) old calls wire now j p at → JobTold ids (first_id ts (order ++ j ∷ []) j) new calls' wire then j p' at'
+  job_turn ids given ts old new log log' calls calls' wire p p' next at at' m last is is' abreast count more is_at quiet stands had task tells placed t =
       let n : ℕ = first_id ts order j in
-      let r = tells calls calls' is is' ids n (draws_as ids given ts order j p stands had) t.places at t.tells in
+      let r = tells calls calls' is is' ids n (draws_as ids given ts order j p stands had) t.places at at' placed t.tells in
       let counts = counts_at (number_of p) (has_ended p) (number_at m p (turns_done j order notes) last is_at) quiet in
       let sends : SendsOnly (MaySend (sent_from ids n (task_of p))) then j calls' = sends_turn (MaySend (sent_from ids n (task_of p))) begun order notes j note (sym abreast) calls calls' count r.adds t.sends in
-      subst (λ (k : ℕ). JobTold ids k new calls' wire then j p' (next at)) (sym (id_own ts j order))
+      subst (λ (k : ℕ). JobTold ids k new calls' wire then j p' at') (sym (id_own ts j order))
       (record {
         places = r.places;
-        tells = subst (λ (u : Task). JobTells new calls' wire r.places (sent_from ids n u) p' (next at)) (sym task) r.tells;
+        tells = subst (λ (u : Task). JobTells new calls' wire r.places (sent_from ids n u) p' at') (sym task) r.tells;
         sent = all_now abreast (length calls) (length calls') (number_of p) count more counts t.places r.places (number_of p') t.sent r.extends;
         sends = subst (λ (u : Task). SendsOnly (MaySend (sent_from ids n u)) then j calls') (sym task) sends;
       })
@@ -201,8 +207,9 @@ module _ (given : ℕ → List ℕ) (old new : Awaited) (log log' : LogTold) (wi
       let here_knows = before.2.each k p at in
       let took = goes.turned before.0 before.1 here_knows.owner (before.2.places k) here_knows.plays in
       let sames : took.0 ≡ s.0 = (let e : Some took.0 ≡ Some s.0 = sym took.1 ∙ s.1 in cc) in
-      let known : AllKnow new s.0 (slice_set players k p') =
-      knowing_turn old new log log' wire players k p p' at apart goes before.0 s.0 before.2 here_knows (subst (λ (c : List Call). Took new before.0 c p' here_knows.owner (goes.next (before.2.places k))) sames took.2) in (
+      let onward : Onward before.0 s.0 nobody = subst (λ (c : List Call). Onward before.0 c nobody) sames (nobody_onward before.0 took.0 here_knows.owner took.2.owner took.2.passes) in
+      let on_log : Took new before.0 s.0 p' here_knows.owner goes.next (before.2.places k) = subst (λ (c : List Call). Took new before.0 c p' here_knows.owner goes.next (before.2.places k)) sames took.2 in
+      let known : AllKnow new s.0 (slice_set players k p') = knowing_turn old new log log' wire players k p p' at apart goes before.0 s.0 before.2 here_knows on_log in (
         s.0,
         s.1,
         known,
@@ -211,13 +218,13 @@ module _ (given : ℕ → List ℕ) (old new : Awaited) (log log' : LogTold) (wi
           each = λ i t a ht ha. elim (which old new log log' wire players k p p' at apart goes i a ha) [
             | inl mine ↦
                 let here : slice_get ts k ≡ Some t = ap (slice_get ts) (sym mine.0) ∙ ht in
-                subst (λ (x : Option ℕ). JobTold ids (first_id ts (order ++ k ∷ []) i) new s.0 wire (course calls (order ++ k ∷ []) (notes ++ note ∷ [])) i a x) (sym (place_here old new log log' wire players k p p' at apart goes before.2.places i mine.0))
-                (subst (λ (x : Player). JobTold ids (first_id ts (order ++ k ∷ []) i) new s.0 wire (course calls (order ++ k ∷ []) (notes ++ note ∷ [])) i x (goes.next (before.2.places k))) mine.1
-                (subst (λ (m : ℕ). JobTold ids (first_id ts (order ++ k ∷ []) m) new s.0 wire (course calls (order ++ k ∷ []) (notes ++ note ∷ [])) m p' (goes.next (before.2.places k))) (sym mine.0)
-                (job_turn (length calls) order notes k note ids given ts old new log log' before.0 s.0 wire p p' goes.next (before.2.places k) (calls_of t) _ before.1 s.1 (sym abreast) count more (all k t p here at) quiet drawn.stands (drawn.each k p at) goes.task goes.told (before.3.each k t p here at))))
+                subst (λ (x : Option ℕ). JobTold ids (first_id ts (order ++ k ∷ []) i) new s.0 wire (course calls (order ++ k ∷ []) (notes ++ note ∷ [])) i a x) (sym (place_here old new log log' wire players k p p' at apart goes on_log.place before.2.places i mine.0))
+                (subst (λ (x : Player). JobTold ids (first_id ts (order ++ k ∷ []) i) new s.0 wire (course calls (order ++ k ∷ []) (notes ++ note ∷ [])) i x on_log.place) mine.1
+                (subst (λ (m : ℕ). JobTold ids (first_id ts (order ++ k ∷ []) m) new s.0 wire (course calls (order ++ k ∷ []) (notes ++ note ∷ [])) m p' on_log.place) (sym mine.0)
+                (job_turn (length calls) order notes k note ids given ts old new log log' before.0 s.0 wire p p' goes.next (before.2.places k) on_log.place (calls_of t) _ before.1 s.1 (sym abreast) count more (all k t p here at) quiet drawn.stands (drawn.each k p at) goes.task goes.told on_log.placed (before.3.each k t p here at))))
             | inr other ↦
-                subst (λ (x : Option ℕ). JobTold ids (first_id ts (order ++ k ∷ []) i) new s.0 wire (course calls (order ++ k ∷ []) (notes ++ note ∷ [])) i a x) (sym (place_other old new log log' wire players k p p' at apart goes before.2.places i other.0))
-                (job_other (length calls) order notes k note ids ts old new before.0 s.0 wire i a (before.2.places i) other.0 abreast count kept_calls (stays old new log log' wire players k p p' at apart goes i a other.0 other.1) (drawn.each i a other.1) (before.3.each i t a ht other.1))
+                subst (λ (x : Option ℕ). JobTold ids (first_id ts (order ++ k ∷ []) i) new s.0 wire (course calls (order ++ k ∷ []) (notes ++ note ∷ [])) i a x) (sym (place_other old new log log' wire players k p p' at apart goes on_log.place before.2.places i other.0))
+                (job_other (length calls) order notes k note ids ts old new before.0 s.0 wire i a (before.2.places i) other.0 abreast count kept_calls onward (stays old new log log' wire players k p p' at apart goes i a other.0 other.1) (drawn.each i a other.1) (before.3.each i t a ht other.1))
           ];
           newest = λ i a m place ha e there. elim (which old new log log' wire players k p p' at apart goes i a ha) [
             | inl mine ↦
@@ -420,7 +427,7 @@ insert_awaits awaited past at ds (inserts.Ended (ended.Failed e)) k last tells i
 
 -- what became of a job, by what it knows and tells
 abbrev OutcomeOfTask : (ℕ → List ℕ) → List Task → Awaited → Course → ℕ → List Call → ℤ → Task → Outcome → Type 0
-OutcomeOfTask ids ts awaited c i calls wire t r = OutcomeFollowed c i calls t r × OutcomeCaused awaited c i calls wire (as_sent ids ts c.order i t) r
+OutcomeOfTask ids ts awaited c i calls wire t r = OutcomeFollowed c i calls t r × OutcomeCaused awaited c i calls wire (as_sent ids ts c.order i t) r × OutcomeFiled c i calls t r
 
 abbrev IsNowAt : Course → ℕ → Task → Player → Type 0
 IsNowAt c i t p = IsAt (calls_of t) p (turns_done i c.order c.notes) (pends_last i c.order c.notes)
@@ -439,14 +446,25 @@ outcome_of_job ids ts awaited c i calls wire (player.Insert job) r o at of is_at
             pieces = ends_sent (space job.ns.now) sent (commands_at calls told.places.now) job.stage told.tells.sends;
             waits = λ pended is. insert_awaits awaited past (space job.ns.now) sent job.stage (turns_done i c.order c.notes) (pends_last i c.order c.notes) told.tells.tells is_at pended is;
           }),
+      tt,
     )
 outcome_of_job ids ts awaited c i calls wire (player.Follow job) r o at of is_at plays told =
     let t : FollowTold awaited calls wire c i job.stage (kept job) at = record { places = told.places; tells = told.tells; sent = told.sent } in
     let count : ℕ = job.watched.calls in
     subst (λ (x : Outcome). OutcomeOfTask ids ts awaited c i calls wire (task_of (player.Follow job)) x) (sym of)
-    (follow_outcome awaited c i calls wire job at o plays t count (turns_done i c.order c.notes) (pends_last i c.order c.notes) is_at o plays, stage_caused awaited c i calls wire job at o plays t job.stage count refl is_at t)
-outcome_of_job ids ts awaited c i calls wire (player.Put job) r o at of is_at plays told = (tt, tt)
-outcome_of_job ids ts awaited c i calls wire (player.Get job) r o at of is_at plays told = (tt, tt)
+    (follow_outcome awaited c i calls wire job at o plays t count (turns_done i c.order c.notes) (pends_last i c.order c.notes) is_at o plays, stage_caused awaited c i calls wire job at o plays t job.stage count refl is_at t, tt)
+outcome_of_job ids ts awaited c i calls wire (player.Put job) r o at of is_at plays told = (
+  tt,
+  subst (λ (x : Outcome). OutcomeCaused awaited c i calls wire (as_sent ids ts c.order i (task_of (player.Put job))) x) (sym of)
+      (put_outcome awaited c i calls wire (writes job.what) told.places job.stage (length (pieces job.what.pieces.now)) job.done (length job.what.pieces.now) (turns_done i c.order c.notes) told.tells told.sent is_at),
+  subst (λ (x : Outcome). OutcomeFiled c i calls (task_of (player.Put job)) x) (sym of) (put_filed awaited c i (number_of (player.Put job)) calls wire (writes job.what) told.places job.done job.stage told.tells told.sent),
+)
+outcome_of_job ids ts awaited c i calls wire (player.Get job) r o at of is_at plays told =
+    subst (λ (x : Outcome). OutcomeOfTask ids ts awaited c i calls wire (task_of (player.Get job)) x) (sym of) (
+      tt,
+      get_caused awaited c i calls wire told.places (sought job.what) job.stage (length job.bytes.items) job.done at (turns_done i c.order c.notes) told.sent told.tells is_at,
+      get_filed awaited c i job.done calls wire job o at told.places plays told.tells told.sent told.sends,
+    )
 
 -- What the jobs of a run know and tell at its end says what became of them.
 all_outcomes : (ids given : ℕ → List ℕ) (awaited : Awaited) (log log' : LogTold) (wire : ℤ) (ts : List Task) (order : List ℕ) (notes : List Turned) (players : List Player) (outcomes : List Outcome) → length outcomes ≡ length players → HaveDrawn ids given ts order players → AllTell ids awaited log log' wire ts order notes players → AllAt ts order notes players → DoTasks ts players → OutcomesOf players outcomes
@@ -480,6 +498,17 @@ pub caused_so : (ids given : ℕ → List ℕ) (awaited : Awaited) (log log' : L
     → HaveDrawn ids given ts order players → AllTell ids awaited log log' wire ts order notes players → AllAt ts order notes players → DoTasks ts players → IfOk result (λ p. AllCaused ids awaited log log' wire ts order p.turns.items p.outcomes.items)
 caused_so ids given awaited log log' wire ts order notes players (Ok p) count of turns drawn tell all does = subst (λ (ns : List Turned). AllCaused ids awaited log log' wire ts order ns p.outcomes.items) (sym turns) (all_caused ids given awaited log log' wire ts order notes players p.outcomes.items count drawn tell all does of)
 caused_so ids given awaited log log' wire ts order notes players (Err e) count of turns drawn tell all does = tt
+
+-- what became of files
+all_filed : (ids given : ℕ → List ℕ) (awaited : Awaited) (log log' : LogTold) (wire : ℤ) (ts : List Task) (order : List ℕ) (notes : List Turned) (players : List Player) (outcomes : List Outcome) → length outcomes ≡ length players → HaveDrawn ids given ts order players → AllTell ids awaited log log' wire ts order notes players → AllAt ts order notes players → DoTasks ts players → OutcomesOf players outcomes → AllFiled log log' ts order notes outcomes
+all_filed ids given awaited log log' wire ts order notes players outcomes count drawn tell all does of calls told =
+    let o = all_outcomes ids given awaited log log' wire ts order notes players outcomes count drawn tell all does of calls told in
+    (o.0, o.1, λ i t r ht hr. (o.2 i t r ht hr).2)
+
+pub filed_so : (ids given : ℕ → List ℕ) (awaited : Awaited) (log log' : LogTold) (wire : ℤ) (ts : List Task) (order : List ℕ) (notes : List Turned) (players : List Player) (result : Result Played Error) → IfOk result (λ p. length p.outcomes.items ≡ length players) → IfOk result (λ p. OutcomesOf players p.outcomes.items) → IfOk result (λ p. p.turns.items ≡ notes)
+    → HaveDrawn ids given ts order players → AllTell ids awaited log log' wire ts order notes players → AllAt ts order notes players → DoTasks ts players → IfOk result (λ p. AllFiled log log' ts order p.turns.items p.outcomes.items)
+filed_so ids given awaited log log' wire ts order notes players (Ok p) count of turns drawn tell all does = subst (λ (ns : List Turned). AllFiled log log' ts order ns p.outcomes.items) (sym turns) (all_filed ids given awaited log log' wire ts order notes players p.outcomes.items count drawn tell all does of)
+filed_so ids given awaited log log' wire ts order notes players (Err e) count of turns drawn tell all does = tt
 
 pub followed_so : (ids given : ℕ → List ℕ) (awaited : Awaited) (log log' : LogTold) (wire : ℤ) (ts : List Task) (order : List ℕ) (notes : List Turned) (players : List Player) (result : Result Played Error) → IfOk result (λ p. length p.outcomes.items ≡ length players) → IfOk result (λ p. OutcomesOf players p.outcomes.items) → IfOk result (λ p. p.turns.items ≡ notes)
     → HaveDrawn ids given ts order players → AllTell ids awaited log log' wire ts order notes players → AllAt ts order notes players → DoTasks ts players → Knowing awaited log log' players → IfOk result (λ p. AllFollowed log log' ts order p.turns.items p.outcomes.items)

@@ -1,5 +1,5 @@
 -- Whose call it is that waits for its reply.
-use Rattle.std.proofs.Common.{◌≡◌, ◌⊎◌, ◌+◌, ◌<◌, ◌≤◌, ℕ, ℤ, Bool, true, List, [], ◌∷◌, ◌++◌, length, Option, Some, Result, Ok, Err, IfOk, sym, ap, ◌∙◌, subst, inl, inr, arith}
+use Rattle.std.proofs.Common.{◌≡◌, ◌⊎◌, ◌+◌, ◌<◌, ◌≤◌, ℕ, suc, ℤ, Bool, true, List, [], ◌∷◌, ◌++◌, length, Option, Some, Result, Ok, Err, IfOk, sym, ap, ◌∙◌, subst, inl, inr, arith}
 use Rattle.std.specs.Prelude.{is_some, slice_get, slice_set}
 use Rattle.std.proofs.lemmas.Bool.{cases_eq, cases_order}
 use Rattle.std.proofs.lemmas.List.Sums.{sum_by-cons}
@@ -21,13 +21,24 @@ use Rattle.mg_jobs.specs.Causes.{AllSentIn, AllWaitAlone, Course, WaitsAlone, Se
 use Rattle.mg_ops.specs.Drawn.{with_ids}
 use Rattle.mg_jobs.specs.Drawing.{HaveDrawn, first_id}
 use Rattle.mg_ops.proofs.InsertCauses.{insert_own}
+use Rattle.mg_gridfs.specs.DownloadView.{download_of, finding_of}
+use Rattle.mg_gridfs.proofs.Growing as files
+use Rattle.mg_jobs.specs.Gets.{GetTask, gets_ticket, sought}
 use Rattle.mg_jobs.specs.Playing.{inserts_ticket, job_ticket, stage_ticket}
-use Rattle.mg_jobs.specs.Progress.{AllAt, Came, FollowAt, InsertAt, IsAt, calls_of, came, pends_last, turns_done}
+use Rattle.mg_jobs.specs.Plays.{Places}
+use Rattle.mg_jobs.specs.Progress.{AllAt, Came, FollowAt, GetStageAt, InsertAt, IsAt, calls_of, came, pends_last, turns_done, PutAt}
+use Rattle.mg_gridfs.specs.UploadView.{upload_of}
+use Rattle.mg_jobs.proofs.PutTelling.{uploading_own}
+use Rattle.mg_jobs.specs.Puts.{PutTask, puts_ticket, writes}
+use Rattle.mg_jobs.specs.Telling.{AllSent, PutTells, put_number, AllTell, AllTold, FollowTold, GetTells, InsertTells, JobTold, Kept, kept, number}
+use Rattle.mg_jobs.specs.declared.put.PutStage.{PutStage}
+use Rattle.mg_jobs.specs.declared.put.PutStage.TheVariants as puts
 use Rattle.mg_jobs.specs.Runs.{AreHeld, HeldBy}
-use Rattle.mg_jobs.specs.Telling.{AllTell, AllTold, FollowTold, InsertTells, JobTold, Kept, kept, number}
 use Rattle.mg_script.specs.Plan.{Task}
 use Rattle.mg_script.specs.declared.outcome.Played.{Played}
 use Rattle.mg_script.specs.declared.outcome.Turned.{Turned}
+use Rattle.mg_jobs.specs.declared.get.GetStage.{GetStage}
+use Rattle.mg_jobs.specs.declared.get.GetStage.TheVariants as gets
 use Rattle.mg_jobs.specs.declared.insert.InsertStage.{InsertStage}
 use Rattle.mg_jobs.specs.declared.insert.InsertStage.TheVariants as inserts
 use Rattle.mg_jobs.specs.declared.follow.Stage.{Stage}
@@ -110,11 +121,23 @@ follow_pended calls (stage.Open stream) c k last ticket at holds = some_if (stag
 follow_pended calls (stage.Closes closing) c k last ticket at holds = at.1
 follow_pended calls stage.Ended c k last ticket at holds = absurd cc
 
+get_pended : (s : GetStage) (bytes done k : ℕ) (last : Bool) (ticket : ℕ) → GetStageAt s bytes done k last → gets_ticket s ≡ Some ticket → last ≡ true
+get_pended gets.Unsent bytes done k last ticket at holds = absurd cc
+get_pended (gets.Opens opening) bytes done k last ticket at holds = some_if (gets_ticket (gets.Opens opening)) ticket last at.3 holds
+get_pended (gets.Reads download room) bytes done k last ticket at holds = some_if (gets_ticket (gets.Reads download room)) ticket last at.3 holds
+get_pended (gets.Ended e) bytes done k last ticket at holds = absurd cc
+
+put_pended : (calls : ℕ) (s : PutStage) (done count k : ℕ) (last : Bool) (ticket : ℕ) → PutAt calls s done count k last → puts_ticket s ≡ Some ticket → last ≡ true
+put_pended calls puts.Undrawn done count k last ticket at holds = absurd cc
+put_pended calls (puts.Begins begun) done count k last ticket at holds = absurd at
+put_pended calls (puts.Goes going) done count k last ticket at holds = some_if (puts_ticket (puts.Goes going)) ticket last at.3 holds
+put_pended calls (puts.Ended end) done count k last ticket at holds = absurd cc
+
 pub job_pended : (calls : ℕ) (p : Player) (k : ℕ) (last : Bool) (ticket : ℕ) → IsAt calls p k last → job_ticket p ≡ Some ticket → last ≡ true
 job_pended calls (player.Insert job) k last ticket at holds = insert_pended job.stage k last ticket at holds
 job_pended calls (player.Follow job) k last ticket at holds = follow_pended calls job.stage (came job) k last ticket at holds
-job_pended calls (player.Put job) k last ticket at holds = absurd cc
-job_pended calls (player.Get job) k last ticket at holds = absurd cc
+job_pended calls (player.Put job) k last ticket at holds = put_pended calls job.stage job.done (length job.what.pieces.now) k last ticket at holds
+job_pended calls (player.Get job) k last ticket at holds = get_pended job.stage (length job.bytes.items) job.done k last ticket at holds
 
 -- the call of its ticket is one that it sent
 pub record SentOwn (awaited : Awaited) (c : Course) (i ticket : ℕ) : Type 0 where
@@ -150,12 +173,26 @@ stage_own awaited past at sent inserts.Unsent ticket tells holds = absurd cc
 stage_own awaited past at sent (inserts.Goes i) ticket tells holds = insert_own awaited past at sent i ticket tells.0 holds
 stage_own awaited past at sent (inserts.Ended e) ticket tells holds = absurd cc
 
+get_own : (awaited : Awaited) (calls : List Call) (wire : ℤ) (c : Course) (i : ℕ) (q : Places) (g : GetTask) (s : GetStage) (done : ℕ) (at : Option ℕ) (ticket : ℕ) → AllSent c i q done → GetTells awaited calls wire q g s done at → gets_ticket s ≡ Some ticket → SentOwn awaited c i ticket
+get_own awaited calls wire c i q g gets.Unsent done at ticket sent t holds = absurd cc
+get_own awaited calls wire c i q g (gets.Opens opening) done at ticket sent t holds = sent_own awaited c i done q.now calls wire ticket sent.now (files.opening_own awaited (sent_at q.now calls wire) (finding_of opening) ticket t.2 t.3 holds)
+get_own awaited calls wire c i q g (gets.Reads download room) done at ticket sent t holds = sent_own awaited c i done q.now calls wire ticket sent.now (files.fetching_own awaited (sent_at q.now calls wire) (download_of download) ticket t.2 holds)
+get_own awaited calls wire c i q g (gets.Ended e) done at ticket sent t holds = absurd cc
+
+put_own : (awaited : Awaited) (calls : List Call) (wire : ℤ) (c : Course) (i : ℕ) (t : PutTask) (done : ℕ) (s : PutStage) (q : Places) (ticket : ℕ) → PutTells awaited calls wire q t done s → AllSent c i q (put_number done s) → puts_ticket s ≡ Some ticket → SentOwn awaited c i ticket
+put_own awaited calls wire c i t done puts.Undrawn q ticket tells sent holds = absurd cc
+put_own awaited calls wire c i t done (puts.Begins begun) q ticket tells sent holds = absurd cc
+put_own awaited calls wire c i t done (puts.Goes going) q ticket tells sent holds =
+    let u = upload_of going.upload in
+    sent_own awaited c i (suc done) q.now calls wire ticket sent.now (uploading_own awaited (sent_at q.now calls wire) ticket u.aim u.doing tells.0.underway holds)
+put_own awaited calls wire c i t done (puts.Ended end) q ticket tells sent holds = absurd cc
+
 pub job_own : (ids : ℕ → List ℕ) (first : ℕ) (awaited : Awaited) (calls : List Call) (wire : ℤ) (c : Course) (i : ℕ) (p : Player) (at : Option ℕ) (ticket : ℕ) → JobTold ids first awaited calls wire c i p at → job_ticket p ≡ Some ticket → SentOwn awaited c i ticket
 job_own ids first awaited calls wire c i (player.Insert job) at ticket t holds =
     sent_own awaited c i 0 t.places.now calls wire ticket t.sent.now (stage_own awaited (sent_at t.places.now calls wire) (space job.ns.now) (with_ids ids first job.documents.now) job.stage ticket t.tells.tells holds)
 job_own ids first awaited calls wire c i (player.Follow job) at ticket t holds = follow_own awaited calls wire c i job.stage (kept job) at ticket (record { places = t.places; tells = t.tells; sent = t.sent }) holds
-job_own ids first awaited calls wire c i (player.Put job) at ticket t holds = absurd cc
-job_own ids first awaited calls wire c i (player.Get job) at ticket t holds = absurd cc
+job_own ids first awaited calls wire c i (player.Put job) at ticket t holds = put_own awaited calls wire c i (writes job.what) job.done job.stage t.places ticket t.tells t.sent holds
+job_own ids first awaited calls wire c i (player.Get job) at ticket t holds = get_own awaited calls wire c i t.places (sought job.what) job.stage job.done at ticket t.sent t.tells holds
 
 -- ---- at the end of a run
 

@@ -1,5 +1,5 @@
 -- What the answers of jobs are caused by, and what jobs wait for: by the turns in which they sent their commands.
-use Rattle.std.specs.Prelude.{◌≡◌, ◌↔◌, ◌⊎◌, ◌<◌, ◌≤◌, ◌+◌, ◌-◌, ◌++◌, IsTrue, false, true, Bool, cond, nat_eq, ℕ, zero, suc, ℤ, List, [], ◌∷◌, length, Option, Some, None, slice_get}
+use Rattle.std.specs.Prelude.{◌≡◌, ◌↔◌, ◌⊎◌, ◌<◌, ◌≤◌, ◌+◌, ◌-◌, ◌++◌, IsTrue, false, true, Bool, cond, nat_eq, ℕ, zero, suc, ℤ, List, [], ◌∷◌, length, Option, Some, None, slice_get, IsSome}
 use Rattle.std.specs.List.{concat, sum_by}
 use Rattle.mg_bson.specs.Tree.{Tree, Fields}
 use Rattle.mg_bson.specs.Raw.{fields}
@@ -20,12 +20,23 @@ use Rattle.mg_change.specs.ClientStreams.{ClientStream, IsAlive, resuming_in, st
 use Rattle.mg_change.specs.ClosingCauses.{LastDone, LastFails, LastWaits, last_kill}
 use Rattle.mg_change.specs.OpenedStreams.{IsOpening}
 use Rattle.mg_change.specs.OpeningCauses.{StreamOpened, OpeningFails}
+use Rattle.mg_gridfs.specs.Downloads.{ClientDownload}
+use Rattle.mg_gridfs.specs.ReadCauses as files
+use Rattle.mg_gridfs.specs.ReadCauses.{HeardRecord, ReadFails}
+use Rattle.mg_cursor.specs.Client.{ClientCursor}
+use Rattle.mg_records.specs.FileRecords.{FileRecord}
 use Rattle.mg_change.specs.Sent.{Falling, IsSentAt, KillsReplaced}
 use Rattle.mg_ops.specs.Appended.{Appended}
 use Rattle.mg_jobs.specs.Counts.{PolledBy, one_if}
 use Rattle.mg_jobs.specs.Drawing.{as_sent}
 use Rattle.mg_jobs.specs.Follows.{FollowedFrom, IsArgsFor, IsUnfinished, poll_of}
-use Rattle.mg_jobs.specs.Kinds.{OfFollow, OfInsert}
+use Rattle.mg_jobs.specs.Gets.{GetTask, chunks_find, get_bucket, get_of, more_chunks, no_room, record_find}
+use Rattle.mg_gridfs.specs.Buckets.{IsSize}
+use Rattle.mg_gridfs.specs.Causes.{CallFails, IsUploading}
+use Rattle.mg_gridfs.specs.Storing.{HasStored}
+use Rattle.mg_gridfs.specs.Uploads.{ClientUpload, fresh_upload, upload_ticket}
+use Rattle.mg_jobs.specs.Kinds.{OfFollow, OfGet, OfInsert, OfPut}
+use Rattle.mg_jobs.specs.Puts.{CannotOpen, PutTask, joined, put_aim, put_of}
 use Rattle.mg_ops.specs.InsertCauses.{InsertFails, InsertWaits}
 use Rattle.mg_ops.specs.InsertSends.{InsertPieces}
 use Rattle.mg_script.specs.Plan.{Begin, Task, insert, follow, put, get}
@@ -238,13 +249,68 @@ FollowCaused awaited c i count calls wire on start filter batch ended.Unfinished
 FollowCaused awaited c i count calls wire on start filter batch (ended.Gave x) said token alive closed = OpenCaused awaited c i count calls wire on start filter batch said token alive closed
 FollowCaused awaited c i count calls wire on start filter batch (ended.Failed e) said token alive closed = ((e.kind ≡ kind.OutOfMemory) × (places_of c i ≡ [])) ⊎ OpenFailed c i calls wire on start filter batch e
 
+-- ---- a get
+
+-- its opening heard this record
+pub record GetOpened (c : Course) (i : ℕ) (calls : List Call) (wire : ℤ) (g : GetTask) (f : FileRecord) : Type 0 where
+  pub places : List ℕ
+  pub sent : AllSentIn c i 0 places
+  pub heard : HeardRecord (sent_at places calls wire) (get_bucket g.at) g.id (Some f)
+
+-- why a get fails: memory ran out; a read is to have no room, and then it may send nothing; its opening fails; or a read of the file whose record the opening heard
+pub data GetFails (c : Course) (i : ℕ) (calls : List Call) (wire : ℤ) (g : GetTask) (e : Error) : Type 0 where
+  out_of_memory : e.kind ≡ kind.OutOfMemory → GetFails c i calls wire g e
+  has_no_room : g.read ≡ 0 → e ≡ no_room → GetFails c i calls wire g e
+  not_opened : 0 < g.read → (places : List ℕ) → AllSentIn c i 0 places → files.OpeningFails (sent_at places calls wire) (get_bucket g.at) g.id e → GetFails c i calls wire g e
+  not_read : 0 < g.read → (d : ClientDownload) → GetOpened c i calls wire g d.file → (k : ℕ) (places : List ℕ) → AllSentIn c i (suc k) places → (cursor : ClientCursor) → ReadFails (sent_at places calls wire) d cursor e → GetFails c i calls wire g e
+
+-- what a get waits for: the record, the list of the chunks of the record that was heard, or more of them
+pub data GetWaits (awaited : Awaited) (c : Course) (i : ℕ) (calls : List Call) (wire : ℤ) (g : GetTask) : Type 0 where
+  for_record : (places : List ℕ) → AllSentIn c i 0 places → IsAwaited awaited (sent_at places calls wire) (record_find g) → GetWaits awaited c i calls wire g
+  for_chunks : (places : List ℕ) → AllSentIn c i 0 places → (f : FileRecord) → HeardRecord (sent_at places calls wire) (get_bucket g.at) g.id (Some f) → IsAwaited awaited (sent_at places calls wire) (chunks_find g f.id) → GetWaits awaited c i calls wire g
+  for_more : (k : ℕ) (places : List ℕ) → AllSentIn c i (suc k) places → (cursor : ℤ) (space : Space) → IsAwaited awaited (sent_at places calls wire) (more_chunks cursor space) → GetWaits awaited c i calls wire g
+
+-- where its newest turn pended and it has not ended, it waits; where it ended well, its opening heard a record
+abbrev pub GetCaused : {A : Type 0} → Awaited → Course → ℕ → List Call → ℤ → GetTask → Ended A → Type 0
+GetCaused awaited c i calls wire g ended.Unfinished = pends_last i c.order c.notes ≡ true → GetWaits awaited c i calls wire g
+GetCaused awaited c i calls wire g (ended.Gave x) = (0 < g.read) × (f : FileRecord) × GetOpened c i calls wire g f
+GetCaused awaited c i calls wire g (ended.Failed e) = GetFails c i calls wire g e
+
+-- ---- a put
+
+-- It ended well, and gives how many bytes its pieces have, of which the file is stored; or it failed: its upload was not opened, or its last call failed. All
+-- that it sent stands at the first places, and what that call sent at the second.
+abbrev pub PutEndsBy : Past → Past → PutTask → Ended ℕ → Type 0
+PutEndsBy all now t ended.Unfinished = Unit {0}
+PutEndsBy all now t (ended.Gave n) = (n ≡ length (joined t.pieces)) × IsSize t.chunk × HasStored all t.at (fresh_upload (put_aim t)) (joined t.pieces)
+PutEndsBy all now t (ended.Failed e) = CannotOpen t e ⊎ (IsSize t.chunk × CallFails now (put_aim t) e)
+
+-- a call of its upload waits for a reply
+pub record PutWaits (awaited : Awaited) (now : Past) (t : PutTask) : Type 0 where
+  pub upload : ClientUpload
+  pub aim_is : upload.aim ≡ put_aim t
+  pub holds : IsSome (upload_ticket upload)
+  pub underway : IsUploading awaited now upload
+
+-- the call that wrote each piece, and then its last call, sent its commands in its turns; its opening sent none
+pub record PutEnds (awaited : Awaited) (c : Course) (i : ℕ) (calls : List Call) (wire : ℤ) (t : PutTask) (end : Ended ℕ) : Type 0 where
+  pub owns : List (List ℕ)
+  pub sent_each : (k : ℕ) (own : List ℕ) → slice_get owns k ≡ Some own → AllSentIn c i (suc k) own
+  pub places : List ℕ
+  pub sent : AllSentIn c i (suc (length owns)) places
+  -- its turns sent these, and nothing else
+  pub whole : concat owns ++ places ≡ places_of c i
+  pub by : PutEndsBy (sent_at (concat owns ++ places) calls wire) (sent_at places calls wire) t end
+  -- where its newest turn pended and it has not ended
+  pub waits : pends_last i c.order c.notes ≡ true → IsUnfinished end → PutWaits awaited (sent_at places calls wire) t
+
 -- ---- all jobs
 
 abbrev pub OutcomeCaused : Awaited → Course → ℕ → List Call → ℤ → Task → Outcome → Type 0
 OutcomeCaused awaited c i calls wire (follow on count start filter batch) = OfFollow (λ opened said token alive closed. FollowCaused awaited c i count calls wire on start filter batch opened said.items token alive closed)
 OutcomeCaused awaited c i calls wire (insert ns docs) = OfInsert (λ end. InsertEnds awaited c i calls wire ns docs end)
-OutcomeCaused awaited c i calls wire (put db bucket name id chunk pieces) = λ r. Unit {0}
-OutcomeCaused awaited c i calls wire (get db bucket id read) = λ r. Unit {0}
+OutcomeCaused awaited c i calls wire (put db bucket name id chunk pieces) = OfPut (λ end. PutEnds awaited c i calls wire (put_of db bucket name id chunk pieces) end)
+OutcomeCaused awaited c i calls wire (get db bucket id read) = OfGet (λ bytes end. GetCaused awaited c i calls wire (get_of db bucket id read) end)
 
 -- Over a link that tells its log and awaits these replies, each job's outcome has its causes, and what it waits for, among the commands of its own turns;
 -- inserts draw these ids.

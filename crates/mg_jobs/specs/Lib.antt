@@ -13,10 +13,15 @@ pub mod Playing
 pub mod Counts
 pub mod Runs
 pub mod Follows
+pub mod Gets
+pub mod Puts
+pub mod Files
 pub mod Headline
 pub mod Progress
 pub mod Causes
 pub mod Telling
+pub mod Kept
+pub mod Putting
 pub mod Own
 pub mod Completing
 pub mod Drawing

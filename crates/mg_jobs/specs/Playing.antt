@@ -7,6 +7,7 @@ use Rattle.mg_change.specs.ClosingStreams.{IsSoundClosing, Landing, ends, lands,
 use Rattle.mg_change.specs.OpeningView.{IsPlainOpening, ticket_in}
 use Rattle.mg_change.specs.StreamView.{IsPlainStream, OwnsToken, stream_of}
 use Rattle.mg_ops.specs.Inserts.{SendsPlain, insert_ticket}
+use Rattle.mg_jobs.specs.Gets.{get_ticket}
 use Rattle.mg_jobs.specs.declared.insert.InsertPlayer.{InsertPlayer}
 use Rattle.mg_jobs.specs.declared.insert.InsertStage.{InsertStage}
 use Rattle.mg_jobs.specs.declared.insert.InsertStage.TheVariants as inserts
@@ -15,6 +16,7 @@ use Rattle.mg_script.specs.declared.outcome.Ended.TheVariants as ended
 use Rattle.mg_jobs.specs.declared.follow.FollowPlayer.{FollowPlayer}
 use Rattle.mg_jobs.specs.declared.follow.Stage.{Stage}
 use Rattle.mg_jobs.specs.declared.follow.Stage.TheVariants as stage
+use Rattle.mg_jobs.specs.Puts.{put_ticket}
 use Rattle.mg_jobs.specs.declared.player.Player.{Player}
 use Rattle.mg_jobs.specs.declared.player.Player.TheVariants as player
 
@@ -111,5 +113,5 @@ IsPlainJob job = IsPlainInsert job.stage
 abbrev pub job_ticket : Player → Option ℕ
 job_ticket (player.Insert insert) = player_ticket insert
 job_ticket (player.Follow follow) = stage_ticket follow.stage
-job_ticket (player.Put job) = None
-job_ticket (player.Get job) = None
+job_ticket (player.Put job) = put_ticket job
+job_ticket (player.Get job) = get_ticket job

@@ -8,7 +8,7 @@ use Rattle.mg_link.specs.Log.{Call}
 use Rattle.mg_link.specs.Owner.{IsOf, Owner, Passes}
 use Rattle.mg_jobs.specs.Causes.{sent_since}
 use Rattle.mg_jobs.specs.Drawing.{sent_from}
-use Rattle.mg_jobs.specs.Follows.{Placing}
+use Rattle.mg_jobs.specs.Follows.{Placing, same_place}
 use Rattle.mg_jobs.specs.Sends.{MaySend}
 use Rattle.mg_script.specs.Plan.{Task}
 
@@ -56,15 +56,30 @@ pub record CanGo {P : Type 0} (ticket : P → Option ℕ) (keeps : ℤ → P →
 
 -- ---- a turn
 
-pub record Took {P : Type 0} (knows : Knowledge P) (awaited : Awaited) (calls calls' : List Call) (p : P) (o : Owner) (at : Option ℕ) : Type 0 where
+-- how a turn says which call opened the stream of its job: by the one before; or it was one of those that it waited for at these places, or that the turn sent
+pub data Moves : Type 0 where
+  by_placing : (next : Placing) → Moves
+  by_finding : (waited : List (Option ℕ)) → Moves
+
+abbrev pub no_move : Moves
+no_move = by_placing same_place
+
+-- behind a turn from one log to another it is the second, where it was the first
+abbrev pub MovesTo : Moves → List Call → List Call → Option ℕ → Option ℕ → Type 0
+MovesTo (by_placing next) calls calls' at at' = at' ≡ next at
+MovesTo (by_finding waited) calls calls' at at' = (place : ℕ) × (at' ≡ Some place) × (IsOf waited (Some place) ⊎ ((length calls ≤ place) × (place < length calls')))
+
+pub record Took {P : Type 0} (knows : Knowledge P) (awaited : Awaited) (calls calls' : List Call) (p : P) (o : Owner) (next : Moves) (at : Option ℕ) : Type 0 where
+  pub place : Option ℕ
+  pub placed : MovesTo next calls calls' at place
   pub owner : Owner
-  pub plays : knows awaited calls' p owner at
+  pub plays : knows awaited calls' p owner place
   pub passes : Passes calls calls' o owner
 
 -- A job took a turn: it knows what it should, and leaves every other job alone.
-abbrev pub Turns : {P : Type 0} → Knowledge P → Awaited → Awaited → LogTold → LogTold → P → P → Placing → Type 0
+abbrev pub Turns : {P : Type 0} → Knowledge P → Awaited → Awaited → LogTold → LogTold → P → P → Moves → Type 0
 Turns knows old new log log' p p' next = (calls : List Call) → log ≡ Some calls → (o : Owner) (at : Option ℕ) → knows old calls p o at
-    → (calls' : List Call) × (log' ≡ Some calls') × Took knows new calls calls' p' o (next at)
+    → (calls' : List Call) × (log' ≡ Some calls') × Took knows new calls calls' p' o next at
 
 -- what a job tells behind a turn that led from one log to another, where it told of these places before
 pub record TellsBehind {P : Type 0} (says : Account P) (number : P → ℕ) (awaited : Awaited) (begun calls : List Call) (wire : ℤ) (t : Task) (q : Places) (n : ℕ) (p : P) (at : Option ℕ) : Type 0 where
@@ -79,9 +94,9 @@ abbrev pub AnySent : Task → Type 0
 AnySent t = Unit {0}
 
 -- A turn led a job from one state to another: it goes on telling, where its task is sent as one of which this holds.
-abbrev pub TurnTells : {P : Type 0} → (P → Task) → Account P → (P → ℕ) → (Task → Type 0) → Awaited → Awaited → LogTold → LogTold → ℤ → P → P → Placing → Type 0
-TurnTells does says number so old new log log' wire p p' next = (calls calls' : List Call) → log ≡ Some calls → log' ≡ Some calls' → (ids : ℕ → List ℕ) (n : ℕ) → so (sent_from ids n (does p)) → (q : Places) (at : Option ℕ)
-    → says old calls wire q (sent_from ids n (does p)) p at → TellsBehind says number new calls calls' wire (sent_from ids n (does p)) q (number p) p' (next at)
+abbrev pub TurnTells : {P : Type 0} → (P → Task) → Account P → (P → ℕ) → (Task → Type 0) → Awaited → Awaited → LogTold → LogTold → ℤ → P → P → Moves → Type 0
+TurnTells does says number so old new log log' wire p p' next = (calls calls' : List Call) → log ≡ Some calls → log' ≡ Some calls' → (ids : ℕ → List ℕ) (n : ℕ) → so (sent_from ids n (does p)) → (q : Places) (at at' : Option ℕ)
+    → MovesTo next calls calls' at at' → says old calls wire q (sent_from ids n (does p)) p at → TellsBehind says number new calls calls' wire (sent_from ids n (does p)) q (number p) p' at'
 
 -- what the first tells, the second tells too, where its task is sent as one of which this holds
 pub record TellsAs {P : Type 0} (does : P → Task) (says : Account P) (number : P → ℕ) (so : Task → Type 0) (p p' : P) : Type 0 where
@@ -92,7 +107,7 @@ pub record TellsAs {P : Type 0} (does : P → Task) (says : Account P) (number :
 pub record Goes {P : Type 0} (ticket : P → Option ℕ) (keeps : ℤ → P → Type 0) (does : P → Task) (knows : Knowledge P) (says : Account P) (number : P → ℕ) (drew : P → Type 0) (so : Task → Type 0) (old new : Awaited) (log log' : LogTold) (wire : ℤ) (p p' : P) : Type 0 where
   pub tickets : Tickets old new (ticket p) (ticket p')
   pub holds : keeps wire p'
-  pub next : Placing
+  pub next : Moves
   pub turned : Turns knows old new log log' p p' next
   pub told : TurnTells does says number so old new log log' wire p p' next
   pub task : does p' ≡ does p

@@ -19,7 +19,7 @@ use Rattle.mg_jobs.specs.Fated.{AreItsSteps}
 use Rattle.mg_jobs.specs.Drawing.{as_sent}
 use Rattle.mg_jobs.specs.Progress.{AllPlayed}
 use Rattle.mg_jobs.specs.Sends.{MaySend, SendsOnly}
-use Rattle.mg_jobs.specs.Headline.{OutcomeFollowed}
+use Rattle.mg_jobs.specs.Headline.{OutcomeFiled, OutcomeFollowed}
 use Rattle.mg_script.specs.Plan.{Plan, Task, plan, tasks}
 use Rattle.mg_script.specs.Plan as plans
 use Rattle.mg_store.specs.InMemory.{AreAsFates, AreKept, pends_in}
@@ -74,14 +74,14 @@ ReadMissing old new n = (script : Plan) × ReadScript old new script × LacksJob
 
 -- ---- what came of the words and the input
 
--- the ids that a script's inserts draw: the bytes that it names, a byte 0, and eight bytes that count up
+-- the ids that a script's inserts and puts draw: the bytes that it names, a byte 0, and eight bytes that count up
 abbrev pub script_ids : Script → ℕ → List ℕ
 script_ids script n = counted_id (script.ids ++ 0 ∷ []) n
 
 -- What the jobs of a run over one link came to. The link's log stands in the history of the run's own store, which is legal and whose steps are by the
 -- rules; the ids that are printed as open are those of the cursors in the state that it leads to; each of its calls is as the fate of its number in the script says, and each of them names the log's own cursors only. In every legal history in
--- which the log stands each follow answered consecutive entries from its own opening place on; each answer of a follow has its cause among the commands of
--- its own turns; each insert sends its documents with the script's next ids. There is one outcome for each job and one note for each turn, by which it
+-- which the log stands each follow answered consecutive entries from its own opening place on, and each get that ended well gave the bytes of its file; each answer of a follow has its cause among the commands of
+-- its own turns; each put that ended well left its file whole, where nobody else touched it; each insert sends its documents with the script's next ids. There is one outcome for each job and one note for each turn, by which it
 -- follows how far each job came. Each note says rightly whether its turn pended: one poll pended in it, or none, and that of the newest command which its
 -- job sent up to then, by the notes; and each call pended as often as its fate says, or less while it waits. A call that waits was sent in a turn of a job
 -- whose newest turn pended by its note, and which waits for no other. Each command that a turn sent, by the notes, is one that its job may send. Where every
@@ -99,6 +99,7 @@ pub record RunFollowed (run : Run) : Type 0 where
   pub turns : Vec Turned Global
   pub turns_are : run.turns.items ≡ turns ∷ []
   pub followed : (i : ℕ) (t : Task) (r : Outcome) → slice_get (tasks run.script.jobs.items) i ≡ Some t → slice_get run.outcomes.items i ≡ Some r → OutcomeFollowed (course [] run.script.order.items turns.items) i calls t r
+  pub filed : (i : ℕ) (t : Task) (r : Outcome) → slice_get (tasks run.script.jobs.items) i ≡ Some t → slice_get run.outcomes.items i ≡ Some r → OutcomeFiled (course [] run.script.order.items turns.items) i calls t r
   pub own : NamesItsOwn calls
   pub caused : (i : ℕ) (t : Task) (r : Outcome) → slice_get (tasks run.script.jobs.items) i ≡ Some t → slice_get run.outcomes.items i ≡ Some r
       → OutcomeCaused (out_at calls) (course [] run.script.order.items turns.items) i calls run.script.wire (as_sent (script_ids run.script) (tasks run.script.jobs.items) run.script.order.items i t) r

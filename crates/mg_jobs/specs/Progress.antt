@@ -7,19 +7,29 @@ use Rattle.mg_change.specs.OpeningView.{ticket_in}
 use Rattle.mg_change.specs.StreamView.{stream_of}
 use Rattle.mg_ops.specs.Inserts.{insert_ticket}
 use Rattle.mg_jobs.specs.Follows.{HasGiven, IsFailed, IsUnfinished}
+use Rattle.mg_jobs.specs.Gets.{gets_ticket}
 use Rattle.mg_jobs.specs.Kinds.{OfFollow, OfGet, OfInsert, OfPut}
+use Rattle.mg_gridfs.specs.Uploads.{upload_ticket}
+use Rattle.mg_gridfs.specs.UploadView.{upload_of}
+use Rattle.mg_jobs.specs.Puts.{IsPutDoing}
 use Rattle.mg_script.specs.Plan.{Task, insert, follow, put, get}
 use Rattle.mg_script.specs.declared.outcome.Ended.{Ended}
 use Rattle.mg_script.specs.declared.outcome.Ended.TheVariants as ended
 use Rattle.mg_script.specs.declared.outcome.Outcome.{Outcome}
 use Rattle.mg_script.specs.declared.outcome.Turned.{Turned}
 use Rattle.mg_jobs.specs.declared.follow.FollowPlayer.{FollowPlayer}
+use Rattle.mg_jobs.specs.declared.get.GetPlayer.{GetPlayer}
+use Rattle.mg_jobs.specs.declared.get.GetStage.{GetStage}
+use Rattle.mg_jobs.specs.declared.get.GetStage.TheVariants as gets
 use Rattle.mg_jobs.specs.declared.insert.InsertStage.{InsertStage}
 use Rattle.mg_jobs.specs.declared.insert.InsertStage.TheVariants as inserts
 use Rattle.mg_jobs.specs.declared.follow.Stage.{Stage}
 use Rattle.mg_jobs.specs.declared.follow.Stage.TheVariants as stage
 use Rattle.mg_jobs.specs.declared.player.Player.{Player}
 use Rattle.mg_jobs.specs.declared.player.Player.TheVariants as player
+use Rattle.mg_jobs.specs.declared.put.PutPlayer.{PutPlayer}
+use Rattle.mg_jobs.specs.declared.put.PutStage.{PutStage}
+use Rattle.mg_jobs.specs.declared.put.PutStage.TheVariants as puts
 
 -- ---- what the notes say
 
@@ -68,6 +78,23 @@ abbrev pub InsertReady : InsertStage → ℕ → Type 0
 InsertReady inserts.Unsent k = ⊥
 InsertReady (inserts.Goes inserting) k = k ≡ 0
 InsertReady (inserts.Ended e) k = IsFinished e
+
+-- how a get has ended that had so many calls behind it: in its opening, in a read, or by a read behind its last byte
+abbrev pub GetEndedAt : {A : Type 0} → Ended A → (done k : ℕ) → Type 0
+GetEndedAt ended.Unfinished done k = ⊥
+GetEndedAt (ended.Gave x) done k = (1 ≤ done) × (done + 1 ≤ k)
+GetEndedAt (ended.Failed e) done k = done + 1 ≤ k
+
+-- A get at a stage, which gave so many bytes and had so many calls behind it that ended, after k turns that did not pend, where its newest turn pended or
+-- not: it is opened in the first of them, and each of the next ones gave a byte or ended it.
+abbrev pub GetStageAt : GetStage → (bytes done : ℕ) → ℕ → Bool → Type 0
+GetStageAt gets.Unsent bytes done k last = (k ≡ 0) × (done ≡ 0) × (bytes ≡ 0) × (last ≡ false)
+GetStageAt (gets.Opens opening) bytes done k last = (k ≡ 0) × (done ≡ 0) × (bytes ≡ 0) × HoldsIf last (gets_ticket (gets.Opens opening))
+GetStageAt (gets.Reads download room) bytes done k last = (k ≡ done) × (1 ≤ done) × (done ≤ bytes + 1) × HoldsIf last (gets_ticket (gets.Reads download room))
+GetStageAt (gets.Ended end) bytes done k last = GetEndedAt end done k × (done ≤ bytes + 1) × (last ≡ false)
+
+abbrev pub GetAt : GetPlayer → ℕ → Bool → Type 0
+GetAt job k last = GetStageAt job.stage (length job.bytes.items) job.done k last
 
 -- what a follow has come to: its opening and its closing, how many calls were answered, how many are left, and whether its stream has more
 pub record Came : Type 0 where
@@ -134,25 +161,45 @@ FollowAt calls (stage.Open stream) c k last = IsOpen calls c k × HoldsIf last (
 FollowAt calls (stage.Closes closing) c k last = Closes calls c k × (last ≡ true) × IsSome (stream_closing_ticket closing)
 FollowAt calls stage.Ended c k last = (NeverOpen c k ⊎ IsClosed calls c k) × (last ≡ false)
 
+-- a put that has ended after so many turns: one for its opening, one for each piece and one for its end; or one that failed
+abbrev pub PutOver : {A : Type 0} → Ended A → (count k : ℕ) → Type 0
+PutOver ended.Unfinished count k = ⊥
+PutOver (ended.Gave x) count k = count + 2 ≤ k
+PutOver (ended.Failed e) count k = 1 ≤ k
+
+-- a put of so many pieces, of which so many are written, at a stage, after k turns that did not pend, where its newest turn pended or not
+abbrev pub PutAt : ℕ → PutStage → (done count k : ℕ) → Bool → Type 0
+PutAt calls puts.Undrawn done count k last = (count ≡ calls) × (done ≡ 0) × (k ≡ 0) × (last ≡ false)
+PutAt calls (puts.Begins begun) done count k last = ⊥
+PutAt calls (puts.Goes going) done count k last = (count ≡ calls) × (done + 1 ≡ k) × IsPutDoing (upload_of going.upload).doing done count × HoldsIf last (upload_ticket (upload_of going.upload))
+PutAt calls (puts.Ended e) done count k last = PutOver e calls k × (last ≡ false)
+
+-- a put that drew its ids, for which there may have been no place
+abbrev pub PutReady : ℕ → PutStage → (done count k : ℕ) → Bool → Type 0
+PutReady calls puts.Undrawn done count k last = ⊥
+PutReady calls (puts.Begins begun) done count k last = (count ≡ calls) × (done ≡ 0) × (k ≡ 0)
+PutReady calls (puts.Goes going) done count k last = PutAt calls (puts.Goes going) done count k last
+PutReady calls (puts.Ended e) done count k last = PutOver e calls k
+
 -- a job of so many calls, after k turns that did not pend, where its newest turn pended or not
 abbrev pub IsAt : ℕ → Player → ℕ → Bool → Type 0
 IsAt calls (player.Insert job) k last = InsertAt job.stage k last
 IsAt calls (player.Follow job) k last = FollowAt calls job.stage (came job) k last
-IsAt calls (player.Put job) k last = Unit {0}
-IsAt calls (player.Get job) k last = Unit {0}
+IsAt calls (player.Put job) k last = PutAt calls job.stage job.done (length job.what.pieces.now) k last
+IsAt calls (player.Get job) k last = GetAt job k last
 
 -- the same of a job that got what it needs for a turn
 abbrev pub IsReadyAt : ℕ → Player → ℕ → Bool → Type 0
 IsReadyAt calls (player.Insert job) k last = InsertReady job.stage k
 IsReadyAt calls (player.Follow job) k last = FollowAt calls job.stage (came job) k last
-IsReadyAt calls (player.Put job) k last = Unit {0}
-IsReadyAt calls (player.Get job) k last = Unit {0}
+IsReadyAt calls (player.Put job) k last = PutReady calls job.stage job.done (length job.what.pieces.now) k last
+IsReadyAt calls (player.Get job) k last = GetAt job k last
 
--- the calls of a task
+-- the calls of a task; those of a put are its pieces
 abbrev pub calls_of : Task → ℕ
 calls_of (insert ns docs) = 0
 calls_of (follow on calls start filter batch) = calls
-calls_of (put db bucket name id chunk pieces) = 0
+calls_of (put db bucket name id chunk pieces) = length pieces
 calls_of (get db bucket id read) = 0
 
 -- each job is where its turns have brought it
@@ -180,6 +227,14 @@ CloseGoes before now c s' c' = ComesTo (λ calls k last. Closes calls c k) (λ c
 -- a turn takes an insert on
 abbrev pub InsertGoes : ℕ → ℕ → InsertStage → InsertStage → Type 0
 InsertGoes before now p p' = ComesTo (λ calls k last. InsertReady p k) (λ calls k last. InsertAt p' k last) before now
+
+-- a turn takes a put on
+abbrev pub PutGoes : ℕ → ℕ → PutPlayer → PutPlayer → Type 0
+PutGoes before now p p' = ComesTo (λ calls k last. PutReady calls p.stage p.done (length p.what.pieces.now) k last) (λ calls k last. PutAt calls p'.stage p'.done (length p'.what.pieces.now) k last) before now
+
+-- a turn takes a get on
+abbrev pub GetGoes : ℕ → ℕ → GetStage → (bytes done : ℕ) → GetStage → (bytes' done' : ℕ) → Type 0
+GetGoes before now s bytes done s' bytes' done' = ComesTo (λ calls k last. GetStageAt s bytes done k last) (λ calls k last. GetStageAt s' bytes' done' k last) before now
 
 -- a turn takes a job on
 abbrev pub JobGoes : ℕ → ℕ → Player → Player → Type 0
@@ -214,12 +269,26 @@ FollowPlayed ended.Unfinished closed calls answered alive k last = (k ≡ 0) × 
 FollowPlayed (ended.Gave x) closed calls answered alive k last = OpenPlayed closed calls answered k last
 FollowPlayed (ended.Failed e) closed calls answered alive k last = (1 ≤ k) × (answered ≡ 0) × (alive ≡ false) × IsUnfinished closed × (last ≡ false)
 
--- a task comes to this outcome by k turns that did not pend, where its newest turn pended or not; puts and gets stay unfinished
+-- A get that is unfinished gave a byte in each turn that did not pend behind the first, and none before that; the newest turn of one that has ended did not
+-- pend, and one that ended well had two or more.
+abbrev pub GetPlayed : {A : Type 0} → Ended A → (bytes k : ℕ) → Bool → Type 0
+GetPlayed ended.Unfinished bytes k last = (k ≤ bytes + 1) × (k ≡ 0 → bytes ≡ 0)
+GetPlayed (ended.Gave x) bytes k last = (2 ≤ k) × (last ≡ false)
+GetPlayed (ended.Failed e) bytes k last = (1 ≤ k) × (last ≡ false)
+
+-- a put is unfinished just where none of its calls failed and it had fewer turns that did not pend than one for its opening, one for each piece, and one for
+-- its end; the newest turn of one that has ended did not pend
+abbrev pub PutPlayed : {A : Type 0} → Ended A → ℕ → ℕ → Bool → Type 0
+PutPlayed ended.Unfinished count k last = k < count + 2
+PutPlayed (ended.Gave x) count k last = (count + 2 ≤ k) × (last ≡ false)
+PutPlayed (ended.Failed e) count k last = (1 ≤ k) × (last ≡ false)
+
+-- a task comes to this outcome by k turns that did not pend, where its newest turn pended or not
 abbrev pub IsPlayed : Task → ℕ → Bool → Outcome → Type 0
 IsPlayed (insert ns docs) k last = OfInsert (λ e. InsertPlayed e k last)
 IsPlayed (follow on calls start filter batch) k last = OfFollow (λ opened said token alive closed. FollowPlayed opened closed calls (length said.items) alive k last)
-IsPlayed (put db bucket name id chunk pieces) k last = OfPut (λ e. IsUnfinished e)
-IsPlayed (get db bucket id read) k last = OfGet (λ bytes e. (bytes.items ≡ []) × IsUnfinished e)
+IsPlayed (put db bucket name id chunk pieces) k last = OfPut (λ e. PutPlayed e (length pieces) k last)
+IsPlayed (get db bucket id read) k last = OfGet (λ bytes e. GetPlayed e (length bytes.items) k last)
 
 -- each job's outcome is what its turns brought
 abbrev pub AllPlayed : List Task → List ℕ → List Turned → List Outcome → Type 0

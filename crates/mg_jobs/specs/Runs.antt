@@ -1,9 +1,11 @@
 -- Jobs that share a link, turn by turn.
 use Rattle.std.specs.Prelude.{◌≡◌, ◌⊎◌, ℕ, ℤ, Bool, true, false, Option, Some, None, IsSome, List, length, slice_get}
 use Rattle.mg_link.specs.Link.{Awaited, LogTold}
+use Rattle.mg_jobs.specs.Gets.{GetHolds, get_ended}
 use Rattle.mg_jobs.specs.Headline.{Plays, task_of}
 use Rattle.mg_jobs.specs.Plays as words
 use Rattle.mg_jobs.specs.Playing.{HasRoom, IsSameFollow, StageHolds, follow_ended, insert_ended, job_ticket}
+use Rattle.mg_jobs.specs.Puts.{PutHolds, put_ended}
 use Rattle.mg_ops.specs.Drawn.{AreLater}
 use Rattle.mg_jobs.specs.Drawing.{JobHasIds, turn_draws}
 use Rattle.mg_jobs.specs.Telling.{JobTells, number_of}
@@ -20,15 +22,15 @@ use Rattle.mg_jobs.specs.declared.run.Runner.{Runner}
 abbrev pub has_ended : Player → Bool
 has_ended (player.Insert insert) = insert_ended insert
 has_ended (player.Follow follow) = follow_ended follow.stage
-has_ended (player.Put job) = true
-has_ended (player.Get job) = true
+has_ended (player.Put job) = put_ended job
+has_ended (player.Get job) = get_ended job
 
 -- what it has in flight is its own command
 abbrev pub JobHolds : ℤ → Player → Type 0
 JobHolds wire (player.Insert insert) = Unit {0}
 JobHolds wire (player.Follow follow) = StageHolds follow.stage
-JobHolds wire (player.Put job) = Unit {0}
-JobHolds wire (player.Get job) = Unit {0}
+JobHolds wire (player.Put job) = PutHolds job
+JobHolds wire (player.Get job) = GetHolds job
 
 -- there is a place for what a turn gives
 abbrev pub IsReady : Player → Type 0

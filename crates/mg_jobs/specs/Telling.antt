@@ -1,5 +1,5 @@
 -- What a job can tell, turn by turn, of what its answers are caused by.
-use Rattle.std.specs.Prelude.{◌≡◌, ◌↔◌, ◌⊎◌, ◌+◌, ◌≤◌, ◌++◌, IsTrue, Bool, true, ℕ, suc, ℤ, List, [], length, Option, Some, None, slice_get}
+use Rattle.std.specs.Prelude.{◌≡◌, ◌↔◌, ◌⊎◌, ◌+◌, ◌≤◌, ◌++◌, IsTrue, Bool, true, ℕ, suc, ℤ, List, [], length, Option, Some, None, slice_get, ◌<◌}
 use Rattle.std.specs.List.{sum_by}
 use Rattle.mg_bson.specs.Tree.{Fields, Tree}
 use Rattle.mg_link.specs.Calls.{Past, past_of, AddsOnly}
@@ -20,9 +20,23 @@ use Rattle.mg_change.specs.OpeningView.{IsPlainOpening, opening_of}
 use Rattle.mg_change.specs.Sent as calling
 use Rattle.mg_change.specs.Sent.{ending_places, opening_places}
 use Rattle.mg_change.specs.StreamView.{stream_of}
-use Rattle.mg_jobs.specs.Causes.{Answered, AreInLog, CallFalls, ClosedBy, Course, EndsBy, EndsSent, FallsAt, KillsLast, AllSentIn, SentNoneBehind, commands_at, course, places_of, sent_at}
+use Rattle.mg_jobs.specs.Causes.{Answered, AreInLog, CallFalls, ClosedBy, Course, EndsBy, EndsSent, FallsAt, KillsLast, AllSentIn, SentNoneBehind, commands_at, course, places_of, sent_at, PutEndsBy}
 use Rattle.mg_jobs.specs.Follows.{FollowTurns, HasGiven, IsArgsFor, Placing, filter_in}
-use Rattle.mg_jobs.specs.Headline.{AllKnow, task_of}
+use Rattle.mg_gridfs.specs.Buckets.{IsSize}
+use Rattle.mg_gridfs.specs.Causes.{IsUploading}
+use Rattle.mg_gridfs.specs.Storing.{KnowsUpload}
+use Rattle.mg_gridfs.specs.Uploads.{ClientUpload}
+use Rattle.mg_gridfs.specs.UploadView.{upload_of}
+use Rattle.mg_jobs.specs.Gets.{AsksPlainly, GetTask, IsGetCommand, IsOpeningFor, get_bucket, no_room, sought}
+use Rattle.mg_jobs.specs.Headline.{AllKnow, GetPlays, task_of}
+use Rattle.mg_cursor.specs.Client.{ClientCursor}
+use Rattle.mg_gridfs.specs.Downloads.{ClientDownload}
+use Rattle.mg_gridfs.specs.DownloadView.{IsDownload, download_of, finding_of}
+use Rattle.mg_gridfs.specs.Findings.{IsSoundFinding}
+use Rattle.mg_gridfs.specs.ReadCauses as files
+use Rattle.mg_gridfs.specs.ReadCauses.{HeardRecord, IsFetching, ReadFails}
+use Rattle.mg_link.specs.Owner.{IsOf}
+use Rattle.mg_records.specs.FileRecords.{FileRecord}
 use Rattle.mg_ops.specs.InsertCauses.{HasSent, IsInsertOf}
 use Rattle.mg_ops.specs.InsertSends.{HasSentPieces}
 use Rattle.mg_ops.specs.Logs.{AddsJust}
@@ -31,14 +45,18 @@ use Rattle.mg_ops.specs.Drawn.{with_ids}
 use Rattle.mg_jobs.specs.Drawing.{first_id, sent_documents, sent_from}
 use Rattle.mg_jobs.specs.Playing.{job_ticket}
 use Rattle.mg_jobs.specs.Plays as words
-use Rattle.mg_jobs.specs.Plays.{Extends, Places, all_places}
-use Rattle.mg_jobs.specs.Sends.{IsCommandOf, MaySend, SendsOnly}
+use Rattle.mg_jobs.specs.Plays.{Extends, Moves, MovesTo, Places, all_places}
+use Rattle.mg_jobs.specs.Puts.{BegunFor, CutBy, PutTask, put_aim, taken_in, total, writes}
+use Rattle.mg_jobs.specs.Sends.{IsCommandOf, MaySend, PutFlies, SendsOnly}
 use Rattle.mg_ops.specs.Underway.{HasInserted}
 use Rattle.mg_script.specs.declared.outcome.Answer.{Answer}
 use Rattle.mg_script.specs.declared.outcome.Ended.{Ended}
 use Rattle.mg_script.specs.declared.outcome.Ended.TheVariants as ended
 use Rattle.mg_script.specs.declared.outcome.Turned.{Turned}
 use Rattle.mg_jobs.specs.declared.follow.FollowPlayer.{FollowPlayer}
+use Rattle.mg_jobs.specs.declared.get.GetPlayer.{GetPlayer}
+use Rattle.mg_jobs.specs.declared.get.GetStage.{GetStage}
+use Rattle.mg_jobs.specs.declared.get.GetStage.TheVariants as gets
 use Rattle.mg_jobs.specs.declared.insert.InsertPlayer.{InsertPlayer}
 use Rattle.mg_jobs.specs.declared.insert.InsertStage.{InsertStage}
 use Rattle.mg_jobs.specs.declared.insert.InsertStage.TheVariants as inserts
@@ -47,6 +65,9 @@ use Rattle.mg_jobs.specs.declared.follow.Stage.TheVariants as stage
 use Rattle.mg_jobs.specs.declared.follow.Watched.{Watched}
 use Rattle.mg_jobs.specs.declared.player.Player.{Player}
 use Rattle.mg_jobs.specs.declared.player.Player.TheVariants as player
+use Rattle.mg_jobs.specs.declared.put.PutPlayer.{PutPlayer}
+use Rattle.mg_jobs.specs.declared.put.PutStage.{PutStage}
+use Rattle.mg_jobs.specs.declared.put.PutStage.TheVariants as puts
 
 -- what a follow keeps beside its stage
 pub record Kept : Type 0 where
@@ -190,6 +211,86 @@ pub record InsertSaid (awaited : Awaited) (calls : List Call) (wire : ℤ) (q : 
   pub tells : InsertTells awaited (sent_at q.now calls wire) at sent stage
   pub sends : StageSent at sent (commands_at calls q.now) stage
 
+-- ---- gets
+
+-- no call has ended
+abbrev pub TellsNoCall : Places → Type 0
+TellsNoCall q = (q.opened ≡ []) × (q.owns ≡ [])
+
+-- the opening sent at the places told of it: it heard this record, and listed the chunks by the call at this place
+pub record TellsGetOpened (calls : List Call) (wire : ℤ) (q : Places) (g : GetTask) (f : FileRecord) (at : Option ℕ) : Type 0 where
+  pub heard : HeardRecord (sent_at q.opened calls wire) (get_bucket g.at) g.id (Some f)
+  pub listed : (place : ℕ) → at ≡ Some place → IsOf q.opened place
+
+-- how a get failed that had so many calls behind it
+pub data TellsGetFails (calls : List Call) (wire : ℤ) (q : Places) (g : GetTask) (done : ℕ) (e : Error) : Type 0 where
+  out_of_memory : e.kind ≡ kind.OutOfMemory → TellsGetFails calls wire q g done e
+  has_no_room : g.read ≡ 0 → e ≡ no_room → TellsGetFails calls wire q g done e
+  not_opened : 0 < g.read → TellsNoCall q → done ≡ 0 → files.OpeningFails (sent_at q.now calls wire) (get_bucket g.at) g.id e → TellsGetFails calls wire q g done e
+  not_read : 0 < g.read → 1 ≤ done → (d : ClientDownload) (at : Option ℕ) → TellsGetOpened calls wire q g d.file at → (cursor : ClientCursor) → ReadFails (sent_at q.now calls wire) d cursor e → TellsGetFails calls wire q g done e
+
+abbrev pub TellsGetEnd : {A : Type 0} → List Call → ℤ → Places → GetTask → ℕ → Option ℕ → Ended A → Type 0
+TellsGetEnd calls wire q g done at ended.Unfinished = Unit {0}
+TellsGetEnd calls wire q g done at (ended.Gave x) = (0 < g.read) × (f : FileRecord) × TellsGetOpened calls wire q g f at
+TellsGetEnd calls wire q g done at (ended.Failed e) = TellsGetFails calls wire q g done e
+
+-- what a get can tell at each stage, where the call at this place listed its chunks
+abbrev pub GetTells : Awaited → List Call → ℤ → Places → GetTask → GetStage → ℕ → Option ℕ → Type 0
+GetTells awaited calls wire q g gets.Unsent done at = TellsNoCall q × (q.now ≡ [])
+GetTells awaited calls wire q g (gets.Opens opening) done at = TellsNoCall q × IsOpeningFor g (finding_of opening) × IsSoundFinding (finding_of opening) × files.IsOpening awaited (sent_at q.now calls wire) (finding_of opening)
+GetTells awaited calls wire q g (gets.Reads download room) done at = TellsGetOpened calls wire q g (download_of download).file at × (suc (length q.owns) ≡ done) × IsFetching awaited (sent_at q.now calls wire) (download_of download) × IsDownload download × AsksPlainly (download_of download)
+GetTells awaited calls wire q g (gets.Ended end) done at = TellsGetEnd calls wire q g done at end
+
+-- what a get tells behind a turn, and whether it sent what it may
+pub record GetTell (awaited : Awaited) (begun calls : List Call) (wire : ℤ) (q : Places) (n : ℕ) (g : GetTask) (s : GetStage) (done : ℕ) (at : Option ℕ) : Type 0 where
+  pub longer : length begun ≤ length calls
+  pub places : Places
+  pub tells : GetTells awaited calls wire places g s done at
+  pub extends : Extends q places n done (length begun) (length calls)
+  pub adds : AddsOnly (IsGetCommand g) begun calls
+
+-- A turn, or a part of one, led a get from one stage to another: it goes on telling.
+abbrev pub GetGoesOn : Awaited → Awaited → LogTold → LogTold → ℤ → GetTask → GetStage → ℕ → GetStage → ℕ → Moves → Type 0
+GetGoesOn old new log log' wire g s done s' done' next = (calls calls' : List Call) → log ≡ Some calls → log' ≡ Some calls' → (q : Places) (at at' : Option ℕ) → MovesTo next calls calls' at at' → GetTells old calls wire q g s done at → GetTell new calls calls' wire q done g s' done' at'
+
+-- A get took a turn, or a part of one: it goes on knowing and telling.
+pub record GetTurns (old new : Awaited) (log log' : LogTold) (wire : ℤ) (p p' : GetPlayer) : Type 0 where
+  pub next : Moves
+  pub turned : words.Turns GetPlays old new log log' p p' next
+  pub told : GetGoesOn old new log log' wire (sought p.what) p.stage p.done p'.stage p'.done next
+
+-- ---- puts
+
+-- a put whose upload is open: each piece that is written was written by a call of its own, its call that goes on has sent what stands at the places of that and
+-- has such a command on its way, and its upload knows what it stored
+pub record PutTellsOpen (awaited : Awaited) (calls : List Call) (wire : ℤ) (q : Places) (t : PutTask) (done : ℕ) (u : ClientUpload) : Type 0 where
+  pub aim_is : u.aim ≡ put_aim t
+  pub sized : IsSize t.chunk
+  pub opened : q.opened ≡ []
+  pub counted : length q.owns ≡ done
+  pub cut : CutBy u (taken_in u.doing t.pieces done) u.doing
+  pub underway : IsUploading awaited (sent_at q.now calls wire) u
+  pub flies : PutFlies t u.doing
+  pub knows : KnowsUpload awaited (sent_at (all_places q) calls wire) t.at u (taken_in u.doing t.pieces done)
+
+-- it has sent nothing
+abbrev pub SentNothing : Places → Type 0
+SentNothing q = (q.opened ≡ []) × (q.owns ≡ []) × (q.now ≡ [])
+
+-- what it can tell at each stage
+abbrev pub PutTells : Awaited → List Call → ℤ → Places → PutTask → ℕ → PutStage → Type 0
+PutTells awaited calls wire q t done puts.Undrawn = SentNothing q × (done ≡ 0)
+PutTells awaited calls wire q t done (puts.Begins begun) = SentNothing q × (done ≡ 0) × BegunFor t begun
+PutTells awaited calls wire q t done (puts.Goes going) = PutTellsOpen awaited calls wire q t done (upload_of going.upload) × (going.length ≡ total t.pieces)
+PutTells awaited calls wire q t done (puts.Ended end) = (q.opened ≡ []) × (length q.owns ≡ done) × PutEndsBy (sent_at (all_places q) calls wire) (sent_at q.now calls wire) t end
+
+-- the number of what goes on: how many turns that did not pend come before it
+abbrev pub put_number : ℕ → PutStage → ℕ
+put_number done puts.Undrawn = 0
+put_number done (puts.Begins begun) = 0
+put_number done (puts.Goes going) = suc done
+put_number done (puts.Ended end) = suc done
+
 -- ---- all jobs
 
 -- what an insert tells of what it sent at these places, where its task is sent as this one; a follow, whose stream the call at this place opened
@@ -199,24 +300,31 @@ InsertSays awaited calls wire q t job at = InsertSaid awaited calls wire q (spac
 abbrev pub FollowSays : Awaited → List Call → ℤ → Places → Task → FollowPlayer → Option ℕ → Type 0
 FollowSays awaited calls wire q t job at = Tells awaited calls wire q job.stage (kept job) at
 
+-- a get, whose chunks the call at this place listed
+abbrev pub GetSays : Awaited → List Call → ℤ → Places → Task → GetPlayer → Option ℕ → Type 0
+GetSays awaited calls wire q t job at = GetTells awaited calls wire q (sought job.what) job.stage job.done at
+
+abbrev pub PutSays : Awaited → List Call → ℤ → Places → Task → PutPlayer → Option ℕ → Type 0
+PutSays awaited calls wire q t job at = PutTells awaited calls wire q (writes job.what) job.done job.stage
+
 abbrev pub JobTells : Awaited → List Call → ℤ → Places → Task → Player → Option ℕ → Type 0
 JobTells awaited calls wire q t (player.Insert job) at = InsertSays awaited calls wire q t job at
 JobTells awaited calls wire q t (player.Follow job) at = FollowSays awaited calls wire q t job at
-JobTells awaited calls wire q t (player.Put job) at = Unit {0}
-JobTells awaited calls wire q t (player.Get job) at = Unit {0}
+JobTells awaited calls wire q t (player.Put job) at = PutSays awaited calls wire q t job at
+JobTells awaited calls wire q t (player.Get job) at = GetSays awaited calls wire q t job at
 
 -- the number of what goes on in a job: how many turns that did not pend come before it
 abbrev pub number_of : Player → ℕ
 number_of (player.Insert job) = 0
 number_of (player.Follow job) = number job.stage (kept job)
-number_of (player.Put job) = 0
-number_of (player.Get job) = 0
+number_of (player.Put job) = put_number job.done job.stage
+number_of (player.Get job) = job.done
 
 -- what a job of any kind tells behind a turn, and in it
 abbrev pub TellsBehind : Awaited → List Call → List Call → ℤ → Task → Places → ℕ → Player → Option ℕ → Type 0
 TellsBehind = words.TellsBehind JobTells number_of
 
-abbrev pub TurnTells : (Task → Type 0) → Awaited → Awaited → LogTold → LogTold → ℤ → Player → Player → Placing → Type 0
+abbrev pub TurnTells : (Task → Type 0) → Awaited → Awaited → LogTold → LogTold → ℤ → Player → Player → Moves → Type 0
 TurnTells so = words.TurnTells task_of JobTells number_of so
 
 abbrev pub TellsAs : (Task → Type 0) → Player → Player → Type 0

@@ -16,7 +16,7 @@ ghost use Rattle.mg_jobs.specs.Progress.{CloseGoes, FollowAt, FollowGoes, RestGo
 ghost use Rattle.mg_jobs.specs.Telling.{FollowGoesOn, FollowTells, IsWatchArgs, RestTells, kept};
 
 use crate::kind::Kind;
-use mg_bson::{Bson, Document};
+use mg_bson::{Bson, DateTime, Document};
 use mg_change::{ChangeStream, Closing, EventPoll, Opening};
 use mg_link::{Action, Error, IdSource, Link, OperationTarget, Step, push_reserved};
 use mg_ops::WatchArgs;
@@ -367,7 +367,7 @@ impl<'a> Kind for FollowPlayer<'a> {
         self.make_room()
     }
 
-    fn go<L: Link>(self, alloc: Global, link: &mut L) -> FollowPlayer<'a> {
+    fn go<L: Link>(self, alloc: Global, link: &mut L, _moment: DateTime) -> FollowPlayer<'a> {
         let mut follow = self;
         let stage = mem::replace(&mut follow.stage, Stage::Ended);
         match stage {

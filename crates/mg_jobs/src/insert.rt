@@ -12,7 +12,7 @@ ghost use Rattle.mg_jobs.specs.Progress.{InsertAt, InsertGoes, InsertReady};
 ghost use Rattle.mg_jobs.specs.Telling.{InsertTurns, StageSends, TellsNew, TellsOn};
 
 use crate::kind::Kind;
-use mg_bson::Document;
+use mg_bson::{DateTime, Document};
 use mg_link::{Action, Error, IdSource, Link, Namespace, Step};
 use mg_ops::Inserting;
 use mg_script::{Ended, Outcome};
@@ -187,7 +187,7 @@ impl<'a> Kind for InsertPlayer<'a> {
         Ok(())
     }
 
-    fn go<L: Link>(self, _alloc: Global, link: &mut L) -> InsertPlayer<'a> {
+    fn go<L: Link>(self, _alloc: Global, link: &mut L, _moment: DateTime) -> InsertPlayer<'a> {
         let InsertPlayer {
             ns,
             documents,

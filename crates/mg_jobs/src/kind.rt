@@ -11,6 +11,7 @@ ghost use Rattle.mg_script.specs.declared.outcome.Outcome.{Outcome};
 ghost use Rattle.mg_jobs.specs.Plays.{AnySent, CanGo, GetsReady, Goes, Places};
 ghost use Rattle.mg_jobs.specs.Progress.{ComesTo};
 
+use mg_bson::DateTime;
 use mg_link::{Error, IdSource, Link};
 use mg_script::Outcome;
 use std::alloc::Global;
@@ -83,8 +84,8 @@ pub(crate) trait Kind: Sized + Drop {
         ensures undrawn { OnErr result (ids.new ≡ ids.old) }
         ensures err { IfErr result (λ e. e ≡ plain kinds.OutOfMemory) };
 
-    /// One turn: what goes on does so until a reply pends, or to its end.
-    fn go<L: Link>(self, alloc: Global, link: &mut L) -> Self
+    /// One turn: what goes on does so until a reply pends, or to its end. New records get the moment.
+    fn go<L: Link>(self, alloc: Global, link: &mut L, moment: DateTime) -> Self
         requires can { CanGo ticket holds (L.awaited link.old) (L.wire link.old) self }
         requires ready { is_ready self }
         ensures goes { Goes ticket holds task plays tells number has_ids AnySent (L.awaited link.old) (L.awaited link.new) (L.log link.old) (L.log link.new) (L.wire link.new) self result }

@@ -2,6 +2,7 @@
 #![tactic(auto)]
 
 mod counting;
+mod drawn;
 mod fated;
 mod fates;
 mod follow;
@@ -16,8 +17,8 @@ mod run;
 
 pub use mg_link::{MemSink, MemSource, ReadFailed, Sink, Source, StdSink, StdSource, WriteFailed};
 pub use mg_script::{
-    Answer, Ended, Job, Outcome, Place, Played, Run, Script, ScriptError, Start, Turned, json_text,
-    parse_script, value_from_json,
+    Answer, DatabaseName, Ended, Job, Outcome, Place, Played, Run, Script, ScriptError, Start,
+    Turned, json_text, parse_script, value_from_json,
 };
 pub use program::{Ending, Finished, run_program};
 pub use run::{Runner, run_jobs};

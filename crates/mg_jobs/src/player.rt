@@ -6,10 +6,11 @@ ghost use Rattle.mg_jobs.specs.Progress.{IsAt, calls_of};
 ghost use Rattle.mg_jobs.specs.Runs.{IsNew};
 
 use crate::follow::{FollowPlayer, Watched};
-use crate::get::GetPlayer;
+use crate::get::{GetPlayer, Sought};
 use crate::insert::InsertPlayer;
 use crate::kind::Kind;
-use crate::put::PutPlayer;
+use crate::put::{PutPlayer, Written};
+use mg_bson::DateTime;
 use mg_link::{Error, IdSource, Link};
 use mg_script::{Job, Outcome};
 use std::alloc::Global;
@@ -67,25 +68,19 @@ impl<'a> Player<'a> {
                 id,
                 chunk,
                 pieces,
-            } => Player::Put(PutPlayer {
-                db,
-                bucket,
-                name,
-                id,
-                chunk: *chunk,
-                pieces,
-            }),
+            } => {
+                let written = Written::new(db, bucket, name, id, *chunk, pieces.as_slice());
+                Player::Put(PutPlayer::new(written))
+            }
             Job::Get {
                 db,
                 bucket,
                 id,
                 read,
-            } => Player::Get(GetPlayer {
-                db,
-                bucket,
-                id,
-                read: *read,
-            }),
+            } => {
+                let sought = Sought::new(db, bucket, id, *read);
+                Player::Get(GetPlayer::new(alloc, sought))
+            }
         }
     }
 }
@@ -164,12 +159,12 @@ impl<'a> Kind for Player<'a> {
         }
     }
 
-    fn go<L: Link>(self, alloc: Global, link: &mut L) -> Player<'a> {
+    fn go<L: Link>(self, alloc: Global, link: &mut L, moment: DateTime) -> Player<'a> {
         match self {
-            Player::Insert(job) => Player::Insert(job.go(alloc, link)),
-            Player::Follow(job) => Player::Follow(job.go(alloc, link)),
-            Player::Put(job) => Player::Put(job.go(alloc, link)),
-            Player::Get(job) => Player::Get(job.go(alloc, link)),
+            Player::Insert(job) => Player::Insert(job.go(alloc, link, moment)),
+            Player::Follow(job) => Player::Follow(job.go(alloc, link, moment)),
+            Player::Put(job) => Player::Put(job.go(alloc, link, moment)),
+            Player::Get(job) => Player::Get(job.go(alloc, link, moment)),
         }
     }
 

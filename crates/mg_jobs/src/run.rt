@@ -8,7 +8,7 @@ ghost use Rattle.mg_jobs.specs.Counts.{AreNoted, IsNoted, LosesNothing, PolledNe
 ghost use Rattle.mg_ops.specs.Drawn.{AreLater};
 ghost use Rattle.mg_jobs.specs.Drawing.{DrawsAs, HaveDrawn, drawn_in};
 ghost use Rattle.mg_jobs.specs.Runs.{AreHeld, AreNew, AreSameJobs, CanGo, Draws, Goes, IsReady, IsSameJob, Stands, has_ended, idle, job_ended, notes_of, players_of};
-ghost use Rattle.mg_jobs.specs.Headline.{AllFollowed, AreFirst, GoesOnNaming, DoTasks, Knowing, OutcomesOf};
+ghost use Rattle.mg_jobs.specs.Headline.{AllFiled, AllFollowed, AreFirst, GoesOnNaming, DoTasks, Knowing, OutcomesOf};
 ghost use Rattle.mg_script.specs.Plan.{Task, tasks};
 ghost use Rattle.mg_jobs.specs.Progress.{AllAt, AllPlayed, GoesBy, TurnsBy};
 ghost use Rattle.mg_jobs.specs.Causes.{AllCaused, AllPollOwn, AllWaitAlone, PollsOwn};
@@ -37,6 +37,7 @@ use std::mem;
 struct Turn<'a> {
     alloc: Global,
     player: Player<'a>,
+    moment: DateTime,
 }
 
 /// A job behind its turn, with the turn's note.
@@ -63,9 +64,13 @@ fn counted_since<'a, L: Link, B: Began>(link: L, turn: Turn<'a>) -> (L, Gone<'a>
     ensures polled { PolledNewest result.1.note.pended (job_ticket turn.entry.player) (job_ticket result.1.player) (L.awaited link) (L.awaited result.0) (L.log link) (L.log result.0) (L.polls link) (L.polls result.0) }
     ensures comes { GoesBy result.1.note turn.entry.player result.1.player }
 {
-    let Turn { alloc, player } = turn;
+    let Turn {
+        alloc,
+        player,
+        moment,
+    } = turn;
     let mut counting = Counting::<L, B>::new(link, player.ticket_number());
-    let player = player.go(alloc, &mut counting);
+    let player = player.go(alloc, &mut counting, moment);
     let (link, note) = counting.into_parts();
     (link, Gone { player, note })
 }
@@ -91,6 +96,7 @@ fn turn_of<'a, L: Link, I: IdSource>(
     alloc: Global,
     link: &mut L,
     ids: &mut I,
+    moment: DateTime,
 ) -> Result<Turned, Error>
     requires { CanGo (L.awaited link.old) (L.wire link.old) player.old }
     ensures goes { Goes (DrawsAs (I.ids ids.old) player.old) (L.awaited link.old) (L.awaited link.new) (L.log link.old) (L.log link.new) (L.wire link.new) player.old player.new }
@@ -115,6 +121,7 @@ fn turn_of<'a, L: Link, I: IdSource>(
     let turn = Turn {
         alloc,
         player: taken,
+        moment,
     };
     let gone = replace_with(link, turn, counted);
     let Gone {
@@ -174,7 +181,7 @@ impl<'a> Runner<'a> {
         &mut self,
         link: &mut L,
         ids: &mut I,
-        _moment: DateTime,
+        moment: DateTime,
         job: u32,
     ) -> Result<(), Error>
         requires { Stands (L.awaited link.old) (L.wire link.old) self.old }
@@ -190,7 +197,8 @@ impl<'a> Runner<'a> {
         // A turn that did not pend brings its job on, as its note says.
         ensures rows { OnOk result ((ts : List Task) (order : List ℕ) → length order ≡ length (notes_of self.old) → AllAt ts order (notes_of self.old) (players_of self.old)
             → AllAt ts (order ++ job ∷ []) (notes_of self.new) (players_of self.new)) }
-        // The first turn of an insert draws the source's next ids, one for each of its documents that has none.
+        // The first turn of an insert draws the source's next ids, one for each of its documents that has none; that of a put one for
+        // each of its chunks.
         ensures drawn { OnOk result ((first : ℕ → List ℕ) (ts : List Task) (order : List ℕ) → DoTasks ts (players_of self.old)
             → HaveDrawn first (I.ids ids.old) ts order (players_of self.old) → HaveDrawn first (I.ids ids.new) ts (order ++ job ∷ []) (players_of self.new)) }
         // Each job goes on telling what caused its answers, and what it sends.
@@ -227,7 +235,7 @@ impl<'a> Runner<'a> {
         self.turns.reserve(1)?;
         let alloc = self.alloc;
         let player = &mut self.players[at];
-        let note = turn_of(player, alloc, link, ids)?;
+        let note = turn_of(player, alloc, link, ids, moment)?;
         push_reserved(&mut self.turns, note);
         Ok(())
     }
@@ -315,7 +323,11 @@ pub fn run_jobs<L: Link, I: IdSource>(
     // Each follow answers consecutive matching entries from the opening place of its own aggregate on, each once, in order,
     // just up to its token, also after errors.
     ensures followed { IfOk result (λ p. AllFollowed (L.log link.old) (L.log link.new) (tasks jobs.now) order.now p.turns.items p.outcomes.items) }
-    // Each insert drew the source's next ids in its first turn, one for each of its documents that has none.
+    // Over an honest link each put that ended well left its file whole, where nobody else touched it, and each get that ended
+    // well gave the bytes of the file that stood whole before its first step and that nobody touched up to its last one.
+    ensures filed { IfOk result (λ p. AllFiled (L.log link.old) (L.log link.new) (tasks jobs.now) order.now p.turns.items p.outcomes.items) }
+    // Each insert drew the source's next ids in its first turn, one for each of its documents that has none; each put one for each
+    // of its chunks.
     ensures drawn { IfOk result (λ p. AreLater (I.ids ids.old) (drawn_in (tasks jobs.now) order.now) (I.ids ids.new)) }
     // A run that failed drew those of some front of its turns.
     ensures stopped { (n : ℕ) × AreLater (I.ids ids.old) (drawn_in (tasks jobs.now) (take n order.now)) (I.ids ids.new) }
@@ -329,8 +341,9 @@ pub fn run_jobs<L: Link, I: IdSource>(
     // Over a link that tells its log, each call that waits for its reply was sent in a turn of a job whose newest turn pended
     // by its note, and that job waits for no other, unless a ticket was out for the same call before the run.
     ensures waits_alone { IfOk result (λ p. AllWaitAlone (L.awaited link.old) (L.awaited link.new) (L.log link.old) order.now p.turns.items) }
-    // Over a prompt link each job ends well, where its server holds nothing back: a follow answers the next event where one
-    // was left, and what fails does so for want of memory, or by a limit that a command or document of the job passes.
+    // Over a prompt link each follow and each insert ends well, where its server holds nothing back: a follow answers the next
+    // event where one was left, and what fails does so for want of memory, or by a limit that a command or document of the job
+    // passes.
     ensures complete { L.prompt link.old → IfOk result (λ p. AllWell (I.ids ids.old) (L.log link.old) (L.log link.new) (tasks jobs.now) order.now p.turns.items p.outcomes.items) }
     // One outcome for each job, and one note for each turn.
     ensures outcomes { IfOk result (λ p. length p.outcomes.items ≡ length jobs.now) }

@@ -21,7 +21,7 @@ use Rattle.mg_jobs.specs.Fated.{AreItsSteps}
 use Rattle.mg_jobs.specs.Progress.{AllPlayed, pends_last, turns_done}
 use Rattle.mg_jobs.specs.Causes.{AllPollOwn, AllWaitAlone, Course, OutcomeCaused, course}
 use Rattle.mg_jobs.specs.Drawing.{as_sent}
-use Rattle.mg_jobs.specs.Headline.{OutcomeFollowed}
+use Rattle.mg_jobs.specs.Headline.{OutcomeFiled, OutcomeFollowed}
 use Rattle.mg_jobs.specs.Program.{script_ids}
 use Rattle.mg_jobs.specs.Sends.{MaySend, SendsOnly}
 use Rattle.mg_script.specs.Plan.{Task, tasks}
@@ -30,7 +30,7 @@ use Rattle.mg_script.specs.declared.outcome.Turned.{Turned}
 use Rattle.mg_script.specs.declared.script.Job.{Job}
 use Rattle.mg_jobs.proofs.Drawing.{played_as_sent, sent_same}
 use Rattle.mg_jobs.proofs.Positions.{answered_well}
-use Rattle.mg_jobs.proofs.Refusing.{job_ends_in, run_inserts}
+use Rattle.mg_jobs.proofs.Refusing.{job_ends_in, run_mildly}
 use Rattle.mg_jobs.proofs.Tallies.{noted_rose, turns_counted}
 use Rattle.mg_jobs.proofs.program.run_over.Goals as goal
 
@@ -72,6 +72,7 @@ returns-clause-followed g c =
     (subst (λ (l : LogTold). AreNoted notes l (Some f.0) (pends_in c.new-link.result.pended) (pends_in c.run_jobs.new.link.pended)) begins
     (subst (λ (l : LogTold). AreNoted notes (Some c.new-link.result.calls) l (pends_in c.new-link.result.pended) (pends_in c.run_jobs.new.link.pended)) f.1 c.in_ok-played.ensures.noted))) in
     let history = c.into_parts-store.result.0.history in
+    let rules : IsByRules history = subst (λ s. IsByRules s.history) stored c.into_parts-store.ensures.by_rules in
     let legal : IsLegal (steps_of history) = subst (λ s. IsLegal (steps_of s.history)) stored c.into_parts-store.ensures.legal in
     let stands : Stands f.0 (steps_of history) = subst (λ l. Stands l (steps_of history)) calls (subst (λ s. Stands link.calls (steps_of s.history)) stored c.into_parts-store.ensures.stands) in
     let holds : HoldsBackNone (steps_of history) = subst (λ s. HoldsBackNone (steps_of s.history)) stored c.into_parts-store.ensures.prompt in
@@ -112,12 +113,16 @@ returns-clause-followed g c =
     record {
       calls = f.0;
       log_is = c.in_ok-logs.ensures.items ∙ ap (λ l. l ∷ []) (c.into_parts-store.ensures.calls ∙ calls);
-      by_rules = subst (λ s. IsByRules s.history) stored c.into_parts-store.ensures.by_rules;
+      by_rules = rules;
       legal = legal;
       cursors = subst (λ s. AreOpen (state_of_kept s.history) s.open_ids) stored c.into_parts-store.ensures.cursors;
       stands = stands;
       alone = alone_is;
       followed = λ i t r ht hr. subst (λ (o : List ℕ). OutcomeFollowed (course [] o c.in_ok-played.played.turns.items) i f.0 t r) c.as_slice-2.ensures.value (f.2 i t r (ap (λ l. slice_get (tasks l) i) jobs ∙ ht) hr);
+      filed = λ i t r ht hr.
+          let filed = c.in_ok-played.ensures.filed [] begins in
+          subst (λ (l : List Call). OutcomeFiled (course [] c.args.script.order.items notes) i l t r) (same_some filed.0 f.0 (sym filed.1 ∙ f.1))
+          (subst (λ (o : List ℕ). OutcomeFiled (course [] o notes) i filed.0 t r) c.as_slice-2.ensures.value (filed.2 i t r (ap (λ l. slice_get (tasks l) i) jobs ∙ ht) hr));
       own = f.3 names_none_at_first;
       turns = c.in_ok-played.played.turns;
       turns_are = c.in_ok-turns.ensures.items;
@@ -146,6 +151,6 @@ returns-clause-followed g c =
       prompt = λ i taken. answered_well (course [] c.args.script.order.items notes) i f.0 (steps_of history) legal stands holds taken;
       well = well_is;
       well_here = λ kept i t r ht hr.
-          job_ends_in history fates kept f.0 link.pended as_fates_is stands (run_inserts history f.0 alone_is stands (script_ids script) (tasks script.jobs.items) script.order.items notes c.requires.jobs notes_is started sends_is) legal holds (out_at f.0) script.wire here i (sent i t) r (sends_is i t ht) (caused_is i t r ht hr)
+          job_ends_in history fates kept f.0 link.pended as_fates_is stands rules (run_mildly history f.0 alone_is stands (script_ids script) (tasks script.jobs.items) script.order.items notes c.requires.jobs notes_is started sends_is) legal holds (out_at f.0) script.wire here i (sent i t) r (sends_is i t ht) (caused_is i t r ht hr)
           (played_as_sent (script_ids script) (tasks script.jobs.items) script.order.items i t (turns_done i script.order.items notes) (pends_last i script.order.items notes) r (rows_is i t r ht hr)) (well_is kept i t r ht hr);
     }

@@ -11,7 +11,7 @@ use Rattle.mg_jobs.proofs.Drawing.{drawn_first, drawn_so}
 use Rattle.mg_jobs.proofs.Waiting.{wait_so}
 use Rattle.mg_jobs.proofs.Polling.{polls_so}
 use Rattle.mg_jobs.proofs.Tallies.{noted_so, pended_so}
-use Rattle.mg_jobs.proofs.Told.{caused_so, followed_so, sends_so, tell_as, tell_first}
+use Rattle.mg_jobs.proofs.Told.{caused_so, filed_so, followed_so, sends_so, tell_as, tell_first}
 use Rattle.mg_jobs.proofs.run.run_jobs.Goals as goal
 
 pub play-requires-clause-jobs : goal.play-requires-clause-jobs
@@ -28,6 +28,15 @@ returns-clause-followed g c =
     (c.in_ok-play.ensures.told _ (g.L.Link.log c.args.link.now) (tasks c.args.jobs.now) c.in_ok-runner.ensures.tasks c.in_ok-runner.ensures.at first (tell_first _ _ _ _ (tasks c.args.jobs.now) c.in_ok-runner.runner.players.items c.in_ok-runner.ensures.first))
     (c.in_ok-play.ensures.rows _ c.in_ok-runner.ensures.at) (c.play.ensures.tasks _ c.in_ok-runner.ensures.tasks)
     (c.play.ensures.knowing _ (knowing_first _ _ c.in_ok-runner.runner.players.items c.in_ok-runner.ensures.first))
+
+pub returns-clause-filed : goal.returns-clause-filed
+returns-clause-filed g c =
+    let jobs = c.in_ok-runner.ensures.jobs ∙ sym (length-map c.args.jobs.now task) in
+    let first = drawn_first (g.I.IdSource.ids c.args.ids.now) (tasks c.args.jobs.now) c.in_ok-runner.runner.players.items jobs c.in_ok-runner.ensures.first in
+    filed_so (g.I.IdSource.ids c.args.ids.now) (g.I.IdSource.ids c.play.new.ids) _ _ _ _ (tasks c.args.jobs.now) c.args.order.now c.play.new.runner.turns.items c.play.new.runner.players.items c.into_played.result c.into_played.ensures.outcomes c.into_played.ensures.each c.into_played.ensures.turns
+    (c.in_ok-play.ensures.drawn _ (tasks c.args.jobs.now) c.in_ok-runner.ensures.tasks first)
+    (c.in_ok-play.ensures.told _ (g.L.Link.log c.args.link.now) (tasks c.args.jobs.now) c.in_ok-runner.ensures.tasks c.in_ok-runner.ensures.at first (tell_first _ _ _ _ (tasks c.args.jobs.now) c.in_ok-runner.runner.players.items c.in_ok-runner.ensures.first))
+    (c.in_ok-play.ensures.rows _ c.in_ok-runner.ensures.at) (c.play.ensures.tasks _ c.in_ok-runner.ensures.tasks)
 
 pub returns-in_err-play-clause-naming : goal.returns-in_err-play-clause-naming
 returns-in_err-play-clause-naming g c = λ calls told.

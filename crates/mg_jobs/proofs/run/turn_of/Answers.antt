@@ -4,13 +4,12 @@ use Rattle.mg_link.proofs.Onward.{tickets_same}
 use Rattle.mg_jobs.proofs.Knowing.{turned_not, turned_ready}
 use Rattle.mg_jobs.specs.Counts.{PolledNewest, was_held}
 use Rattle.mg_jobs.specs.Drawing.{DrawsAs, JobHasIds}
-use Rattle.mg_jobs.specs.Follows.{same_place}
 use Rattle.mg_jobs.proofs.Advancing.{over_turns}
 use Rattle.mg_jobs.proofs.Drawing.{ended_draws, ended_has}
 use Rattle.mg_jobs.proofs.JobTelling.{quiet_turn, ready_turn, tells_same_job}
 use Rattle.mg_jobs.specs.Headline.{task_of}
 use Rattle.mg_jobs.specs.Playing.{job_ticket}
-use Rattle.mg_jobs.specs.Plays.{AnySent}
+use Rattle.mg_jobs.specs.Plays.{AnySent, no_move}
 use Rattle.mg_jobs.specs.Progress.{GoesBy}
 use Rattle.mg_jobs.specs.Runs.{CanGo, Goes, IsReady}
 use Rattle.mg_jobs.specs.Telling.{JobTells, number_of}
@@ -23,7 +22,7 @@ returns-then-has_ended-clause-goes g c =
     record {
       tickets = tickets_same _ _ c.requires.out;
       holds = c.requires.holds;
-      next = same_place;
+      next = no_move;
       turned = turned_not _ _ c.args.player.now c.args.player.now (λ calls o at plays. plays);
       told = quiet_turn task_of JobTells number_of so _ _ _ c.args.player.now c.args.player.now (tells_same_job task_of JobTells number_of so c.args.player.now);
       task = refl;
@@ -36,7 +35,7 @@ returns-in_err-ready-clause-goes g c =
     record {
       tickets = subst (λ t. Tickets (g.L.Link.awaited c.args.link.now) (g.L.Link.awaited c.args.link.now) (job_ticket c.args.player.now) t) (sym got.ticket) (tickets_same _ _ c.requires.out);
       holds = got.holds (g.L.Link.wire c.args.link.now) c.requires.holds;
-      next = same_place;
+      next = no_move;
       turned = turned_not _ _ c.args.player.now c.ready.new.self (got.knows _);
       told = quiet_turn task_of JobTells number_of (DrawsAs (g.I.IdSource.ids c.args.ids.now) c.args.player.now) _ _ _ c.args.player.now c.ready.new.self got.tells;
       task = got.task;

@@ -1,7 +1,8 @@
 use Rattle.std.proofs.Common.{refl}
-use Rattle.mg_jobs.proofs.JobTelling.{no_number, tells_same_job}
+use Rattle.mg_jobs.proofs.JobTelling.{get_number, tells_same_job}
 use Rattle.mg_jobs.specs.Headline.{get_task}
-use Rattle.mg_jobs.specs.Plays.{AnySent, says_nothing}
+use Rattle.mg_jobs.specs.Plays.{AnySent}
+use Rattle.mg_jobs.specs.Telling.{GetSays}
 use Rattle.mg_jobs.proofs.get.GetPlayerKind.ready.Goals as goal
 
 pub returns-clause-got : goal.returns-clause-got
@@ -11,6 +12,6 @@ returns-clause-got g c = record {
   knows = λ awaited calls o at plays. plays;
   task = refl;
   at = λ calls k last at. at;
-  tells = tells_same_job get_task says_nothing no_number AnySent c.args.self.now;
+  tells = tells_same_job get_task GetSays get_number AnySent c.args.self.now;
   has = λ has. has;
 }

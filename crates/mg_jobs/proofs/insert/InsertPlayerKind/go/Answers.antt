@@ -3,8 +3,7 @@ use Rattle.mg_link.specs.Namespace.{space}
 use Rattle.mg_jobs.proofs.InsertTelling.{turns_over}
 use Rattle.mg_jobs.proofs.JobTelling.{insert_turn}
 use Rattle.mg_jobs.proofs.Knowing.{turned_insert}
-use Rattle.mg_jobs.specs.Follows.{same_place}
-use Rattle.mg_jobs.specs.Plays.{AnySent}
+use Rattle.mg_jobs.specs.Plays.{AnySent, no_move}
 use Rattle.mg_jobs.proofs.insert.InsertPlayerKind.go.Goals as goal
 
 pub returns-clause-goes : goal.returns-clause-goes
@@ -13,7 +12,7 @@ returns-clause-goes g c =
     record {
       tickets = c.go.ensures.tickets;
       holds = tt;
-      next = same_place;
+      next = no_move;
       turned = turned_insert (g.L.Link.awaited c.args.link.now) (g.L.Link.awaited c.go.new.link) (g.L.Link.log c.args.link.now) (g.L.Link.log c.go.new.link) job (record job { stage = c.go.result }) c.go.ensures.plain;
       told = insert_turn AnySent (g.L.Link.awaited c.args.link.now) (g.L.Link.awaited c.go.new.link) (g.L.Link.log c.args.link.now) (g.L.Link.log c.go.new.link) (g.L.Link.wire c.go.new.link) job (record job { stage = c.go.result }) refl
           (λ sent. turns_over _ _ _ _ _ _ (space job.ns.now) sent job.stage c.go.result c.go.ensures.later.wire (c.go.ensures.told (space job.ns.now) sent))

@@ -1,22 +1,46 @@
-use Rattle.std.proofs.Common.{None, false, refl}
-use Rattle.mg_link.proofs.Onward.{tickets_same}
-use Rattle.mg_jobs.proofs.JobTelling.{no_number, quiet_turn, tells_same_job}
-use Rattle.mg_jobs.proofs.Knowing.{turned_nobody}
-use Rattle.mg_jobs.specs.Follows.{same_place}
-use Rattle.mg_jobs.specs.Headline.{put_task}
-use Rattle.mg_jobs.specs.Plays.{AnySent, says_nothing}
+use Rattle.std.proofs.Common.{◌∙◌, ap, length, subst, sym}
+use Rattle.mg_link.specs.Acts.{IsOut}
+use Rattle.mg_script.specs.Plan.{pieces}
+use Rattle.mg_jobs.specs.Puts.{PutStageHolds, puts_ticket, writes}
+use Rattle.mg_jobs.specs.declared.put.PutStage.{PutStage}
+use Rattle.mg_jobs.specs.declared.put.PutStage.TheVariants as puts
+use Rattle.mg_jobs.proofs.PutDriving.{comes_as, turns_as}
+use Rattle.mg_jobs.proofs.PutGoing.{at_stage, ended_comes, opening_comes, put_comes, put_goes, put_same, undrawn_comes}
+use Rattle.mg_jobs.proofs.PutOpening.{opening_turns}
 use Rattle.mg_jobs.proofs.put.PutPlayerKind.go.Goals as goal
 
-pub returns-clause-goes : goal.returns-clause-goes
-returns-clause-goes g c = record {
-  tickets = tickets_same _ None (λ n e. absurd cc);
-  holds = tt;
-  next = same_place;
-  turned = turned_nobody _ _ c.args.self;
-  told = quiet_turn put_task says_nothing no_number AnySent _ _ _ c.args.self c.args.self (tells_same_job put_task says_nothing no_number AnySent c.args.self);
-  task = refl;
-  has = λ has. has;
-}
+pub go_on-requires-clause-held : goal.go_on-requires-clause-held
+go_on-requires-clause-held g c = subst (λ (s : PutStage). IsOut (g.L.Link.awaited c.args.link.now) (puts_ticket s)) (sym c.replace.ensures.value ∙ c.in-Goes.is) c.requires.can.out
 
-pub returns-clause-comes : goal.returns-clause-comes
-returns-clause-comes g c = (false, refl, λ calls k last at. tt)
+pub go_on-requires-clause-holds : goal.go_on-requires-clause-holds
+go_on-requires-clause-holds g c = subst (λ (s : PutStage). PutStageHolds s c.args.self.done (length (pieces c.args.self.what.pieces.now))) (sym c.replace.ensures.value ∙ c.in-Goes.is) c.requires.can.holds
+
+pub returns-in-Goes-clause-goes : goal.returns-in-Goes-clause-goes
+returns-in-Goes-clause-goes g c = put_goes _ _ _ _ _ c.args.self c.go_on.result (puts.Goes c.in-Goes.going) (sym c.in-Goes.is ∙ c.replace.ensures.value) c.go_on.ensures.turned
+
+pub returns-in-Goes-clause-comes : goal.returns-in-Goes-clause-comes
+returns-in-Goes-clause-comes g c = put_comes _ _ c.args.self c.go_on.result (puts.Goes c.in-Goes.going) (sym c.in-Goes.is ∙ c.replace.ensures.value) c.go_on.ensures.comes
+
+pub returns-in-Begins-clause-goes : goal.returns-in-Begins-clause-goes
+returns-in-Begins-clause-goes g c =
+    let none = subst (λ (s : PutStage). PutStageHolds s c.args.self.done (length (pieces c.args.self.what.pieces.now))) (sym c.replace.ensures.value ∙ c.in-Begins.is) c.requires.can.holds in
+    put_goes _ _ _ _ _ c.args.self c.moved_to.result (puts.Begins c.in-Begins.begun) (sym c.in-Begins.is ∙ c.replace.ensures.value) (turns_as _ _ _ _ _ _ _ _ c.moved_to.ensures (opening_turns _ _ _ c.args.self c.in-Begins.begun c.opening-next.result none c.opening-next.ensures))
+
+pub returns-in-Begins-clause-comes : goal.returns-in-Begins-clause-comes
+returns-in-Begins-clause-comes g c =
+    comes_as _ _ c.args.self _ _ c.moved_to.ensures (opening_comes _ (writes c.args.self.what) c.args.self c.in-Begins.begun c.opening-next.result (sym c.in-Begins.is ∙ c.replace.ensures.value) c.opening-next.ensures)
+
+pub returns-in-Undrawn-clause-goes : goal.returns-in-Undrawn-clause-goes
+returns-in-Undrawn-clause-goes g c =
+    put_same (g.L.Link.awaited c.args.link.now) (g.L.Link.log c.args.link.now) _ c.args.self _ (ap (λ (s : PutStage). record c.args.self { stage = s }) (c.replace.ensures.after ∙ sym c.in-Undrawn.is ∙ c.replace.ensures.value)) c.requires.can.out c.requires.can.holds
+
+pub returns-in-Undrawn-clause-comes : goal.returns-in-Undrawn-clause-comes
+returns-in-Undrawn-clause-comes g c = undrawn_comes _ c.args.self _ (sym c.in-Undrawn.is ∙ c.replace.ensures.value)
+
+pub returns-in-Ended-clause-goes : goal.returns-in-Ended-clause-goes
+returns-in-Ended-clause-goes g c =
+    put_same (g.L.Link.awaited c.args.link.now) (g.L.Link.log c.args.link.now) _ c.args.self c.moved_to-in-Ended.result (c.moved_to-in-Ended.ensures ∙ at_stage c.args.self (puts.Ended c.in-Ended.ended) (sym c.in-Ended.is ∙ c.replace.ensures.value)) c.requires.can.out c.requires.can.holds
+
+pub returns-in-Ended-clause-comes : goal.returns-in-Ended-clause-comes
+returns-in-Ended-clause-comes g c =
+    ended_comes _ c.args.self c.moved_to-in-Ended.result c.in-Ended.ended (sym c.in-Ended.is ∙ c.replace.ensures.value) (c.moved_to-in-Ended.ensures ∙ at_stage c.args.self (puts.Ended c.in-Ended.ended) (sym c.in-Ended.is ∙ c.replace.ensures.value))

@@ -1,0 +1,225 @@
+-- What becomes of files, by the steps of their jobs.
+use Rattle.std.proofs.Common.{◌≡◌, ◌⊎◌, ◌+◌, ◌<◌, ◌≤◌, ◌++◌, ◌∷◌, [], ℕ, zero, suc, ℤ, List, Option, Some, None, option_map, length, take, refl, sym, ap, ◌∙◌, subst, inl, inr, arith, append-nil, append_assoc}
+use Rattle.std.specs.Prelude.{codes, option_and_then, slice_get, unwrap_or}
+use Rattle.std.proofs.lemmas.List.{take_all}
+use Rattle.mg_bson.specs.Find.{get}
+use Rattle.mg_bson.specs.Raw.{fields}
+use Rattle.mg_bson.specs.Tree.{Fields, Tree}
+use Rattle.mg_link.specs.Commands.{Asked, as_integer, asked, asked_by, asks_more, asks_other, more_of, space_at}
+use Rattle.mg_link.specs.Files.{AreChunks, Bucket, File, IsWhole, LeavesFile, chunked, file_of}
+use Rattle.mg_link.specs.Filing as filing
+use Rattle.mg_link.specs.Filing.{IsOwnStep, Leaves}
+use Rattle.mg_link.specs.History.{IsLegal, IsLegalFrom, Step, state_after, state_of, step_after, told_at}
+use Rattle.mg_link.specs.Link.{Awaited}
+use Rattle.mg_link.specs.Log.{Call}
+use Rattle.mg_link.specs.Owner.{IsOf, Owner}
+use Rattle.mg_link.specs.Namespace.{Space}
+use Rattle.mg_link.specs.Standing.{Stands}
+use Rattle.mg_link.specs.State.{State, nothing}
+use Rattle.mg_link.specs.Step.{May}
+use Rattle.mg_link.proofs.Owners.{same_some}
+use Rattle.mg_link.proofs.Places.{get_within}
+use Rattle.mg_gridfs.specs.Storing.{HasStored}
+use Rattle.mg_gridfs.specs.Uploads.{fresh_upload}
+use Rattle.mg_gridfs.proofs.Holding.{stored_is_whole}
+use Rattle.mg_gridfs.specs.Downloaded.{KnowsBy, KnowsDownload}
+use Rattle.mg_gridfs.specs.DownloadLaws.{IsBetween}
+use Rattle.mg_gridfs.specs.Downloads as downloads
+use Rattle.mg_gridfs.specs.Downloads.{ClientDownload, Doing}
+use Rattle.mg_gridfs.specs.DownloadView.{download_of}
+use Rattle.mg_gridfs.proofs.Meaning.{IsReading, find_reads, leaves_by, read_leaves}
+use Rattle.mg_gridfs.proofs.ReadBack.{download_reads_until, stays_at}
+use Rattle.mg_records.specs.FileRecords.{FileRecord}
+use Rattle.mg_jobs.specs.Causes.{Course, SentIn, places_of, sent_at}
+use Rattle.mg_jobs.specs.Files.{IsFirstStepOf, IsLastStepOf, IsStepOf, LeftWhole, OthersLeave, OthersLeaveFrom}
+use Rattle.mg_jobs.specs.Gets.{GetKnowsAt, GetTask, IsGetCommand, chunks_find, for_chunks, for_more, for_record, get_end, more_chunks, record_find, sought}
+use Rattle.mg_jobs.specs.Headline.{GaveFront, GetGave, GetPlays, PutLeft}
+use Rattle.mg_jobs.specs.Plays.{Places, all_places}
+use Rattle.mg_jobs.specs.Puts.{PutTask, joined, put_aim, put_end}
+use Rattle.mg_jobs.specs.Sends.{SendsOnly}
+use Rattle.mg_jobs.specs.Telling.{AllSent, GetTells, PutTells, TellsGetOpened}
+use Rattle.mg_jobs.specs.declared.get.GetPlayer.{GetPlayer}
+use Rattle.mg_jobs.specs.declared.get.GetStage.{GetStage}
+use Rattle.mg_jobs.specs.declared.get.GetStage.TheVariants as gets
+use Rattle.mg_jobs.specs.declared.put.PutStage.{PutStage}
+use Rattle.mg_jobs.specs.declared.put.PutStage.TheVariants as puts
+use Rattle.mg_script.specs.declared.outcome.Ended.{Ended}
+use Rattle.mg_script.specs.declared.outcome.Ended.TheVariants as ended
+use Rattle.mg_jobs.proofs.Positions.{sent_place}
+
+-- ---- whose steps these are
+
+module _ (c : Course) (i : ℕ) (calls : List Call) (wire : ℤ) (places : List ℕ) (whole : places ≡ places_of c i) where
+  -- a step of the job is one of what it sent
+  own_step : (position : ℕ) → IsStepOf c i calls position → IsOwnStep (sent_at places calls wire) position
+  own_step position s =
+      record {
+        place = s.place;
+        own = inl (subst (λ (l : List ℕ). IsOf l s.place) (sym whole) (sent_place c i s.done s.place s.sent));
+        call = s.call;
+        there = s.there;
+        placed = s.placed;
+      }
+
+  others_leave : (history : List Step) (b : Bucket) (id : Tree) → OthersLeave c i calls history b id → filing.OthersLeave (sent_at places calls wire) history b id
+  others_leave history b id leave position step found = elim (leave position step (omega arith) (get_within history position step found) found) [
+    | inl own ↦ inl (own_step position own)
+    | inr leaves ↦ inr leaves
+  ]
+
+-- behind the last step of the job nobody touches the file
+left_behind : (c : Course) (i : ℕ) (calls : List Call) (history : List Step) (b : Bucket) (id : Tree) (last upto position : ℕ) (step : Step) → OthersLeave c i calls history b id → IsLastStepOf c i calls last → last < upto → upto ≤ position → slice_get history position ≡ Some step
+    → LeavesFile (state_of (take position history)) step b id
+left_behind c i calls history b id last upto position step leave is_last behind from found = elim (leave position step (omega arith) (get_within history position step found) found) [
+  | inl own ↦ let before : position ≤ last = is_last.last position own in absurd (omega (arith, before, behind, from))
+  | inr leaves ↦ leaves
+]
+
+-- ---- a file that is the same
+
+-- where the file is the same it is whole as before
+whole_same : (s s' : State) (b : Bucket) (id : Tree) (bytes : List ℕ) (size : ℕ) → file_of s' b id ≡ file_of s b id → IsWhole s b id bytes size → IsWhole s' b id bytes size
+whole_same s s' b id bytes size same w =
+    record {
+      record_of = w.record_of;
+      alone = ap (λ (f : File). f.records) same ∙ w.alone;
+      length_is = w.length_is;
+      size_is = w.size_is;
+      chunks_are = subst (λ (ks : List Fields). AreChunks 0 (chunked size bytes) ks) (sym (ap (λ (f : File). f.chunks) same)) w.chunks_are;
+    }
+
+-- A file that is whole at the end, and that nobody touched from one position on, was whole there.
+whole_at : (history : List Step) (b : Bucket) (id : Tree) (bytes : List ℕ) (size upto : ℕ) → ((position : ℕ) (step : Step) → upto ≤ position → slice_get history position ≡ Some step → LeavesFile (state_of (take position history)) step b id) → IsWhole (state_of history) b id bytes size
+    → IsWhole (state_of (take upto history)) b id bytes size
+whole_at history b id bytes size upto leaves w =
+    let n : ℕ = upto + length history in
+    let all : take n history ≡ history = take_all n history (omega arith) in
+    let same = stays_at history b id upto leaves n (omega arith) in
+    whole_same (state_of (take n history)) (state_of (take upto history)) b id bytes size (sym same) (subst (λ (h : List Step). IsWhole (state_of h) b id bytes size) (sym all) w)
+
+-- ---- a put
+
+-- A put whose file is stored left it whole.
+pub put_left : (c : Course) (i : ℕ) (calls : List Call) (wire : ℤ) (places : List ℕ) (t : PutTask) → places ≡ places_of c i → HasStored (sent_at places calls wire) t.at (fresh_upload (put_aim t)) (joined t.pieces) → LeftWhole c i calls t.at t.id (joined t.pieces) t.chunk
+put_left c i calls wire places t whole stored history legal stands leave last upto is_last behind =
+    whole_at history t.at t.id (joined t.pieces) t.chunk upto (λ position step from found. left_behind c i calls history t.at t.id last upto position step leave is_last behind from found)
+    (stored_is_whole (sent_at places calls wire) t.at (fresh_upload (put_aim t)) (joined t.pieces) stored history legal stands (others_leave c i calls wire places whole history t.at t.id leave))
+
+-- What a put tells at the end of a run says what it left.
+pub put_filed : (awaited : Awaited) (c : Course) (i n : ℕ) (calls : List Call) (wire : ℤ) (t : PutTask) (q : Places) (done : ℕ) (s : PutStage) → PutTells awaited calls wire q t done s → AllSent c i q n → PutLeft c i calls t (put_end s)
+put_filed awaited c i n calls wire t q done puts.Undrawn tells sent = tt
+put_filed awaited c i n calls wire t q done (puts.Begins begun) tells sent = tt
+put_filed awaited c i n calls wire t q done (puts.Goes going) tells sent = tt
+put_filed awaited c i n calls wire t q done (puts.Ended ended.Unfinished) tells sent = tt
+put_filed awaited c i n calls wire t q done (puts.Ended (ended.Gave size)) tells sent = put_left c i calls wire (all_places q) t sent.whole tells.2.2
+put_filed awaited c i n calls wire t q done (puts.Ended (ended.Failed e)) tells sent = tt
+
+-- ---- a get
+
+-- what a step is caused by, in the state that it is taken in
+may_in : (s : State) (history : List Step) (position : ℕ) (step : Step) → IsLegalFrom s history → slice_get history position ≡ Some step → May (state_after s (take position history)) (asked step.command) (told_at step) step.made
+unfolding IsLegalFrom state_after
+may_in s [] position step legal found = absurd cc
+may_in s (y ∷ ys) zero step legal found = subst (λ (x : Step). May s (asked x.command) (told_at x) x.made) (same_some y step found) legal.0
+may_in s (y ∷ ys) (suc position) step legal found = may_in (step_after s y) ys position step legal.1 found
+
+-- a getMore asks for more, or for nothing that has a meaning
+abbrev IsMore : Asked → Type 0
+IsMore a = ((id : ℤ) × (space : Space) × (a ≡ asks_more id space)) ⊎ (a ≡ asks_other)
+
+more_by : (id : Option ℤ) (space : Option Space) → IsMore (unwrap_or (option_and_then (λ x. option_map (asks_more x) space) id) asks_other)
+more_by None space = inr refl
+more_by (Some x) None = inr refl
+more_by (Some x) (Some at) = inl (x, at, refl)
+
+more_reads : (fs : Fields) → IsMore (unwrap_or (more_of fs) asks_other)
+unfolding more_of
+more_reads fs = more_by (option_and_then as_integer (get (codes "getMore") fs)) (space_at (codes "collection") fs)
+
+more_leaves : (command : List ℕ) (at : Bucket) (id : Tree) → IsMore (asked command) → Leaves command at id
+more_leaves command at id (inl m) = leaves_by command at id (asks_more m.0 m.1) m.2 tt tt
+more_leaves command at id (inr other) = leaves_by command at id asks_other other tt tt
+
+-- a command that a get may send leaves each file
+get_leaves : (g : GetTask) (command : List ℕ) (at : Bucket) (id : Tree) → IsGetCommand g (fields command) → Leaves command at id
+unfolding asked
+get_leaves g command at id (for_record some is) = read_leaves command at id (subst (λ (fs : Fields). IsReading (unwrap_or (asked_by fs) asks_other)) (sym is) (find_reads (record_find g)))
+get_leaves g command at id (for_chunks some file is) = read_leaves command at id (subst (λ (fs : Fields). IsReading (unwrap_or (asked_by fs) asks_other)) (sym is) (find_reads (chunks_find g file)))
+get_leaves g command at id (for_more some cursor space is) = more_leaves command at id (subst (λ (fs : Fields). IsMore (unwrap_or (asked_by fs) asks_other)) (sym is) (more_reads (more_chunks cursor space)))
+
+module _ (c : Course) (i : ℕ) (calls : List Call) (g : GetTask) (sends : SendsOnly (IsGetCommand g) c i calls) (history : List Step) (legal : IsLegal history) (stands : Stands calls history) where
+  -- so does each step of it
+  own_leaves : (position : ℕ) (step : Step) → IsStepOf c i calls position → slice_get history position ≡ Some step → LeavesFile (state_of (take position history)) step g.at g.id
+  own_leaves position step s found =
+      let x = stands.same s.place s.call position s.there s.placed in
+      let same : x.0 ≡ step = same_some x.0 step (sym x.1 ∙ found) in
+      let command : step.command ≡ s.call.command = ap (λ (y : Step). y.command) (sym same) ∙ x.2 in
+      get_leaves g s.call.command g.at g.id (sends.each s.done s.place s.call s.sent s.there) (state_of (take position history)) step command (may_in nothing history position step legal found)
+
+  module _ (first last : ℕ) (is_first : IsFirstStepOf c i calls first) (is_last : IsLastStepOf c i calls last) (leave : OthersLeaveFrom c i calls history g.at g.id first last) where
+    -- nobody touches the file from its first step to its last one
+    all_leave : (position : ℕ) (step : Step) → first ≤ position → position < suc last → slice_get history position ≡ Some step → LeavesFile (state_of (take position history)) step g.at g.id
+    all_leave position step low high found = elim (last_or position last high) [
+      | inl before ↦ elim (leave position step low before found) [ inl own ↦ own_leaves position step own found | inr leaves ↦ leaves ]
+      | inr is ↦ own_leaves position step (subst (IsStepOf c i calls) (sym is) is_last.own) found
+    ]
+      where
+        last_or : (a b : ℕ) → a < suc b → (a < b) ⊎ (a ≡ b)
+        last_or zero zero less = inr refl
+        last_or zero (suc b) less = inl (omega arith)
+        last_or (suc a) zero less = absurd (omega (arith, less))
+        last_or (suc a) (suc b) less = elim (last_or a b (omega (arith, less))) [ inl below ↦ inl (omega (arith, below)) | inr same ↦ inr (ap suc same) ]
+
+    -- a step of its own is one between them
+    own_between : (done place : ℕ) → SentIn c i done place → IsBetween calls first (suc last) place
+    own_between done place sent call position there placed =
+        let own : IsStepOf c i calls position = record { done = done; place = place; sent = sent; call = call; there = there; placed = placed } in
+        let low = is_first.first position own in
+        let high = is_last.last position own in
+        (low, omega (arith, high))
+
+    -- What it read is the front of its file, and behind the end all of it.
+    read_front : (awaited : Awaited) (d : ClientDownload) (bytes : List ℕ) (listed done : ℕ) → KnowsDownload awaited calls g.at g.id d bytes listed → (d.doing ≡ downloads.spoiled → ⊥) → SentIn c i done listed → (whole : List ℕ) (size : ℕ) → IsWhole (state_of (take first history)) g.at g.id whole size
+        → (left : List ℕ) × (whole ≡ bytes ++ d.ahead ++ left) × (d.doing ≡ downloads.ended → left ≡ [])
+    read_front awaited d bytes listed done k unspoiled sent whole size w = download_reads_until awaited calls g.at g.id d bytes listed k unspoiled history legal stands whole size first (suc last) w all_leave (own_between done listed sent)
+
+-- nothing is ahead of what ended
+none_ahead : (awaited : Awaited) (calls : List Call) (at : Bucket) (d : ClientDownload) (bytes : List ℕ) (place listed : ℕ) (doing : Doing) → doing ≡ downloads.ended → KnowsBy awaited calls at d bytes place listed doing → d.ahead ≡ []
+none_ahead awaited calls at d bytes place listed (downloads.idle cursor) over k = absurd cc
+none_ahead awaited calls at d bytes place listed (downloads.reads cursor missing empty) over k = absurd cc
+none_ahead awaited calls at d bytes place listed downloads.ended over (inl none) = none.none_ahead
+none_ahead awaited calls at d bytes place listed downloads.ended over (inr all) = all.none_ahead
+none_ahead awaited calls at d bytes place listed downloads.spoiled over k = absurd cc
+
+-- what was read before anything was is the front of each file
+nothing_front : (c : Course) (i : ℕ) (calls : List Call) (g : GetTask) (bytes : List ℕ) → bytes ≡ [] → GaveFront c i calls g bytes
+nothing_front c i calls g bytes none history legal stands first last is_first is_last leave whole size w = (whole, ap (λ (l : List ℕ). l ++ whole) (sym none))
+
+-- the call that listed the chunks is one of its opening
+listed_sent : (c : Course) (i n : ℕ) (calls : List Call) (wire : ℤ) (g : GetTask) (f : FileRecord) (at : Option ℕ) (q : Places) (listed : ℕ) → TellsGetOpened calls wire q g f at → AllSent c i q n → at ≡ Some listed → SentIn c i 0 listed
+listed_sent c i n calls wire g f at q listed t sent is = sent.opened listed (t.listed listed is)
+
+stage_filed : (awaited : Awaited) (c : Course) (i n : ℕ) (calls : List Call) (wire : ℤ) (g : GetTask) (s : GetStage) (bytes : List ℕ) (done : ℕ) (at : Option ℕ) (q : Places) → GetKnowsAt awaited calls g s bytes at → GetTells awaited calls wire q g s done at → AllSent c i q n → SendsOnly (IsGetCommand g) c i calls
+    → GetGave c i calls g bytes (get_end s)
+stage_filed awaited c i n calls wire g gets.Unsent bytes done at q k t sent sends = nothing_front c i calls g bytes k.0
+stage_filed awaited c i n calls wire g (gets.Opens opening) bytes done at q k t sent sends = nothing_front c i calls g bytes k.2
+stage_filed awaited c i n calls wire g (gets.Reads download room) bytes done at q k t sent sends = λ history legal stands first last is_first is_last leave whole size w.
+    let d : ClientDownload = download_of download in
+    let own = listed_sent c i n calls wire g d.file at q k.0 t.0 sent k.2 in
+    let r = read_front c i calls g sends history legal stands first last is_first is_last leave awaited d bytes k.0 0 k.1 k.3 own whole size w in
+    (d.ahead ++ r.0, r.1 ∙ append_assoc bytes d.ahead r.0)
+stage_filed awaited c i n calls wire g (gets.Ended ended.Unfinished) bytes done at q k t sent sends = absurd k
+stage_filed awaited c i n calls wire g (gets.Ended (ended.Gave x)) bytes done at q k t sent sends = λ history legal stands first last is_first is_last leave whole size w.
+    let d : ClientDownload = k.0 in
+    let own = listed_sent c i n calls wire g t.1 at q k.1 t.2 sent k.4 in
+    let unspoiled : d.doing ≡ downloads.spoiled → ⊥ = λ bad. let both : downloads.ended ≡ downloads.spoiled = sym k.3 ∙ bad in absurd cc in
+    let r = read_front c i calls g sends history legal stands first last is_first is_last leave awaited d bytes k.1 0 k.2 unspoiled own whole size w in
+    let ahead : d.ahead ≡ [] = none_ahead awaited calls g.at d bytes k.2.of_record.front.place k.1 d.doing k.3 k.2.by in
+    let all : whole ≡ bytes ++ [] ++ [] = r.1 ∙ ap (λ (l : List ℕ). bytes ++ l ++ r.0) ahead ∙ ap (λ (l : List ℕ). bytes ++ [] ++ l) (r.2 k.3) in
+    sym (all ∙ append-nil (bytes ++ []) ∙ append-nil bytes)
+stage_filed awaited c i n calls wire g (gets.Ended (ended.Failed e)) bytes done at q k t sent sends = tt
+
+-- What a get knows and tells at the end of a run says whose bytes it gave.
+pub get_filed : (awaited : Awaited) (c : Course) (i n : ℕ) (calls : List Call) (wire : ℤ) (job : GetPlayer) (o : Owner) (at : Option ℕ) (q : Places) → GetPlays awaited calls job o at → GetTells awaited calls wire q (sought job.what) job.stage job.done at → AllSent c i q n → SendsOnly (IsGetCommand (sought job.what)) c i calls
+    → GetGave c i calls (sought job.what) job.bytes.items (get_end job.stage)
+get_filed awaited c i n calls wire job o at q plays tells sent sends = stage_filed awaited c i n calls wire (sought job.what) job.stage job.bytes.items job.done at q plays.knows tells sent sends

@@ -1,0 +1,60 @@
+-- What a put tells at the end of a run says what caused its outcome.
+use Rattle.std.proofs.Common.{◌≡◌, ◌++◌, ℕ, suc, ℤ, true, false, List, [], length, sym, ap, ◌∙◌, subst}
+use Rattle.std.specs.List.{concat}
+use Rattle.mg_link.specs.Link.{Awaited}
+use Rattle.mg_link.specs.Log.{Call}
+use Rattle.mg_gridfs.specs.UploadView.{upload_of}
+use Rattle.mg_jobs.specs.Causes.{AllSentIn, Course, PutEnds, PutEndsBy, sent_at}
+use Rattle.mg_jobs.specs.Plays.{Places, all_places}
+use Rattle.mg_jobs.specs.Progress.{PutAt, pends_last}
+use Rattle.mg_jobs.specs.Puts.{PutTask, put_end}
+use Rattle.mg_jobs.specs.Telling.{AllSent, PutTells, put_number}
+use Rattle.mg_jobs.specs.declared.put.PutStage.{PutStage}
+use Rattle.mg_jobs.specs.declared.put.PutStage.TheVariants as puts
+use Rattle.mg_jobs.proofs.Whole.{only_now}
+use Rattle.mg_script.specs.declared.outcome.Ended.{Ended}
+
+-- what its last call sent stands behind what each piece's call sent
+last_sent : (c : Course) (i : ℕ) (q : Places) (done : ℕ) → length q.owns ≡ done → AllSentIn c i (suc done) q.now → AllSentIn c i (suc (length q.owns)) q.now
+last_sent c i q done counted sent = subst (λ (n : ℕ). AllSentIn c i (suc n) q.now) (sym counted) sent
+
+all_sent : (q : Places) → q.opened ≡ [] → all_places q ≡ concat q.owns ++ q.now
+all_sent q none = ap (λ (l : List ℕ). l ++ (concat q.owns ++ q.now)) none
+
+-- one that has ended
+over_told : (awaited : Awaited) (c : Course) (i : ℕ) (calls : List Call) (wire : ℤ) (t : PutTask) (q : Places) (done : ℕ) (end : Ended ℕ) → AllSent c i q (suc done) → q.opened ≡ [] → length q.owns ≡ done → PutEndsBy (sent_at (all_places q) calls wire) (sent_at q.now calls wire) t end
+    → (pends_last i c.order c.notes ≡ false) → PutEnds awaited c i calls wire t end
+over_told awaited c i calls wire t q done end sent none counted by quiet =
+    record {
+      owns = q.owns;
+      sent_each = sent.owns;
+      places = q.now;
+      sent = last_sent c i q done counted sent.now;
+      whole = sym (all_sent q none) ∙ sent.whole;
+      by = subst (λ (l : List ℕ). PutEndsBy (sent_at l calls wire) (sent_at q.now calls wire) t end) (all_sent q none) by;
+      waits = λ pended is. absurd (let bad : true ≡ false = sym pended ∙ quiet in cc);
+    }
+
+pub put_outcome : (awaited : Awaited) (c : Course) (i : ℕ) (calls : List Call) (wire : ℤ) (t : PutTask) (q : Places) (s : PutStage) (pieces done count k : ℕ) → PutTells awaited calls wire q t done s → AllSent c i q (put_number done s) → PutAt pieces s done count k (pends_last i c.order c.notes) → PutEnds awaited c i calls wire t (put_end s)
+put_outcome awaited c i calls wire t q puts.Undrawn pieces done count k tells sent at =
+    record {
+      owns = [];
+      sent_each = λ n own there. absurd cc;
+      places = [];
+      sent = λ place of. absurd of;
+      whole = sym (only_now q tells.0.0 tells.0.1 ∙ tells.0.2) ∙ sent.whole;
+      by = tt;
+      waits = λ pended is. absurd (let bad : true ≡ false = sym pended ∙ at.3 in cc);
+    }
+put_outcome awaited c i calls wire t q (puts.Begins begun) pieces done count k tells sent at = absurd at
+put_outcome awaited c i calls wire t q (puts.Goes going) pieces done count k tells sent at =
+    record {
+      owns = q.owns;
+      sent_each = sent.owns;
+      places = q.now;
+      sent = last_sent c i q done tells.0.counted sent.now;
+      whole = sym (all_sent q tells.0.opened) ∙ sent.whole;
+      by = tt;
+      waits = λ pended is. record { upload = upload_of going.upload; aim_is = tells.0.aim_is; holds = at.3 ∙ pended; underway = tells.0.underway };
+    }
+put_outcome awaited c i calls wire t q (puts.Ended end) pieces done count k tells sent at = over_told awaited c i calls wire t q done end sent tells.0 tells.1 tells.2 at.1
