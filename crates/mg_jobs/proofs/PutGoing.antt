@@ -13,7 +13,7 @@ use Rattle.mg_jobs.specs.Progress.{HoldsIf, PutAt, PutGoes, PutOver, PutReady}
 use Rattle.mg_jobs.specs.Putting.{Opens, OpensFrom, PutTurns}
 use Rattle.mg_jobs.specs.Puts.{IsPutDoing, PutHasIds, PutHolds, PutTask, put_ticket}
 use Rattle.mg_jobs.specs.Telling.{PutSays, put_number}
-use Rattle.mg_jobs.specs.declared.put.Begun.{Begun}
+use Rattle.mg_jobs.specs.declared.put.Beginning.{Beginning}
 use Rattle.mg_jobs.specs.declared.put.PutPlayer.{PutPlayer}
 use Rattle.mg_jobs.specs.declared.put.PutStage.{PutStage}
 use Rattle.mg_jobs.specs.declared.put.PutStage.TheVariants as puts
@@ -61,11 +61,11 @@ opens_at t size (puts.Ended ended.Unfinished) calls done count k opens same none
 opens_at t size (puts.Ended (ended.Gave n)) calls done count k opens same none first = absurd opens
 opens_at t size (puts.Ended (ended.Failed e)) calls done count k opens same none first = (omega arith, refl)
 
-opens_from_at : (t : PutTask) (begun : Result Begun Error) (s : PutStage) (calls done count k : ℕ) → OpensFrom t begun s → count ≡ calls → done ≡ 0 → k ≡ 0 → PutAt calls s done count (k + 1) false
+opens_from_at : (t : PutTask) (begun : Result Beginning Error) (s : PutStage) (calls done count k : ℕ) → OpensFrom t begun s → count ≡ calls → done ≡ 0 → k ≡ 0 → PutAt calls s done count (k + 1) false
 opens_from_at t (Ok begun) s calls done count k opens same none first = opens_at t begun.length s calls done count k opens same none first
 opens_from_at t (Err e) s calls done count k opens same none first = subst (λ (x : PutStage). PutAt calls x done count (k + 1) false) (sym opens) (omega arith, refl)
 
-pub opening_comes : (before : ℕ) (t : PutTask) (p : PutPlayer) (begun : Result Begun Error) (s : PutStage) → puts.Begins begun ≡ p.stage → OpensFrom t begun s → PutGoes before before p (record p { stage = s })
+pub opening_comes : (before : ℕ) (t : PutTask) (p : PutPlayer) (begun : Result Beginning Error) (s : PutStage) → puts.Begins begun ≡ p.stage → OpensFrom t begun s → PutGoes before before p (record p { stage = s })
 opening_comes before t p begun s is opens = (
   false,
   refl,

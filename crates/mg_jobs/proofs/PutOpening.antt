@@ -25,7 +25,7 @@ use Rattle.mg_jobs.specs.Putting.{Opens, OpensFrom, PutTurns}
 use Rattle.mg_jobs.specs.Puts.{BegunFor, IsPutDoing, NamesFiles, PutTask, PutsKnowing, put_aim, total, writes}
 use Rattle.mg_jobs.specs.Sends.{MaySend}
 use Rattle.mg_jobs.specs.Telling.{PutSays, PutTells, PutTellsOpen, SentNothing, put_number}
-use Rattle.mg_jobs.specs.declared.put.Begun.{Begun}
+use Rattle.mg_jobs.specs.declared.put.Beginning.{Beginning}
 use Rattle.mg_jobs.specs.declared.put.PutPlayer.{PutPlayer}
 use Rattle.mg_jobs.specs.declared.put.PutStage.{PutStage}
 use Rattle.mg_jobs.specs.declared.put.PutStage.TheVariants as puts
@@ -70,7 +70,7 @@ opens_tells t awaited calls wire q size done (puts.Ended ended.Unfinished) none 
 opens_tells t awaited calls wire q size done (puts.Ended (ended.Gave n)) none sum nothing opens = absurd opens
 opens_tells t awaited calls wire q size done (puts.Ended (ended.Failed e)) none sum nothing opens = (nothing.0, ap length nothing.1 ∙ sym none, inl opens)
 
-module _ (awaited : Awaited) (log : LogTold) (wire : ℤ) (p : PutPlayer) (begun : Result Begun Error) (none : p.done ≡ 0) where
+module _ (awaited : Awaited) (log : LogTold) (wire : ℤ) (p : PutPlayer) (begun : Result Beginning Error) (none : p.done ≡ 0) where
   abbrev T : PutTask
   T = writes p.what
 
@@ -129,7 +129,7 @@ module _ (awaited : Awaited) (log : LogTold) (wire : ℤ) (p : PutPlayer) (begun
   opened_so size (puts.Ended end) counts opens = failed_so end (λ calls q nothing is. opens_tells T awaited calls wire q size p.done (puts.Ended end) none (counts is) nothing opens)
 
 -- A turn that opens its upload.
-pub opening_turns : (awaited : Awaited) (log : LogTold) (wire : ℤ) (p : PutPlayer) (begun : Result Begun Error) (s : PutStage) → p.done ≡ 0 → OpensFrom (writes p.what) begun s → PutTurns awaited awaited log log wire (record p { stage = puts.Begins begun }) (record p { stage = s })
+pub opening_turns : (awaited : Awaited) (log : LogTold) (wire : ℤ) (p : PutPlayer) (begun : Result Beginning Error) (s : PutStage) → p.done ≡ 0 → OpensFrom (writes p.what) begun s → PutTurns awaited awaited log log wire (record p { stage = puts.Begins begun }) (record p { stage = s })
 opening_turns awaited log wire p (Ok begun) s none opens = opened_so awaited log wire p (Ok begun) none begun.length s (λ is. is) opens
 opening_turns awaited log wire p (Err e) s none opens =
     subst (λ (x : PutStage). PutTurns awaited awaited log log wire (record p { stage = puts.Begins (Err e) }) (record p { stage = x })) (sym opens)

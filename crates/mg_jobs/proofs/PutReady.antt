@@ -11,7 +11,7 @@ use Rattle.mg_jobs.specs.Progress.{PutAt, PutReady}
 use Rattle.mg_jobs.specs.Putting.{Drew, DrewFor}
 use Rattle.mg_jobs.specs.Puts.{BegunFor, PutKnows, PutStageHolds, PutTask, chunks_in, puts_ticket, total, where_counted}
 use Rattle.mg_jobs.specs.Telling.{PutTells, put_number}
-use Rattle.mg_jobs.specs.declared.put.Begun.{Begun}
+use Rattle.mg_jobs.specs.declared.put.Beginning.{Beginning}
 use Rattle.mg_jobs.specs.declared.put.PutStage.{PutStage}
 use Rattle.mg_jobs.specs.declared.put.PutStage.TheVariants as puts
 use Rattle.mg_link.specs.declared.error.Error.{Error}
@@ -30,7 +30,7 @@ chunks_none chunk pieces many = ap (λ (b : Bool). if b then where_counted (chun
 
 -- ---- its stage
 
-begun_for : (ids : ℕ → List ℕ) (t : PutTask) (begun : Result Begun Error) → Drew ids t begun → BegunFor t begun
+begun_for : (ids : ℕ → List ℕ) (t : PutTask) (begun : Result Beginning Error) → Drew ids t begun → BegunFor t begun
 begun_for ids t (Ok begun) drew = drew.0
 begun_for ids t (Err e) drew = drew
 

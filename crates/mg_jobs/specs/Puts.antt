@@ -21,7 +21,7 @@ use Rattle.mg_gridfs.specs.declared.stream.GridFsUploadStream.{GridFsUploadStrea
 use Rattle.mg_script.specs.Plan as plan
 use Rattle.mg_script.specs.declared.outcome.Ended.{Ended}
 use Rattle.mg_script.specs.declared.outcome.Ended.TheVariants as ended
-use Rattle.mg_jobs.specs.declared.put.Begun.{Begun}
+use Rattle.mg_jobs.specs.declared.put.Beginning.{Beginning}
 use Rattle.mg_jobs.specs.declared.put.PutPlayer.{PutPlayer}
 use Rattle.mg_jobs.specs.declared.put.PutStage.{PutStage}
 use Rattle.mg_jobs.specs.declared.put.PutStage.TheVariants as puts
@@ -138,7 +138,7 @@ abbrev pub IsSamePut : PutPlayer → PutPlayer → Type 0
 IsSamePut job job' = (job'.what ≡ job.what) × (job'.done ≡ job.done) × (PutHasIds job.stage → PutHasIds job'.stage)
 
 -- it knows its length; or memory ran out for the ids of its chunks
-abbrev pub BegunFor : PutTask → Result Begun Error → Type 0
+abbrev pub BegunFor : PutTask → Result Beginning Error → Type 0
 BegunFor t (Ok begun) = begun.length ≡ total t.pieces
 BegunFor t (Err e) = e ≡ plain kind.OutOfMemory
 

@@ -12,7 +12,7 @@ use Rattle.mg_jobs.specs.Kept.{kept_id}
 use Rattle.mg_jobs.specs.Plays.{AnySent, TurnTells, Turns, no_move}
 use Rattle.mg_jobs.specs.Puts.{CannotOpen, NamesFiles, PutHasIds, PutHolds, PutTask, chunks_in, put_aim, put_ticket, total}
 use Rattle.mg_jobs.specs.Telling.{PutSays, put_number}
-use Rattle.mg_jobs.specs.declared.put.Begun.{Begun}
+use Rattle.mg_jobs.specs.declared.put.Beginning.{Beginning}
 use Rattle.mg_jobs.specs.declared.put.PutPlayer.{PutPlayer}
 use Rattle.mg_jobs.specs.declared.put.PutStage.{PutStage}
 use Rattle.mg_jobs.specs.declared.put.PutStage.TheVariants as puts
@@ -26,7 +26,7 @@ HasFailed by (ended.Gave x) = ⊥
 HasFailed by (ended.Failed e) = by e
 
 -- it has the next ids of a source that gave these, one for each of its chunks, and knows its length; or memory ran out
-abbrev pub Drew : (ℕ → List ℕ) → PutTask → Result Begun Error → Type 0
+abbrev pub Drew : (ℕ → List ℕ) → PutTask → Result Beginning Error → Type 0
 Drew ids t (Ok begun) = (begun.length ≡ total t.pieces) × ((k : ℕ) → k < chunks_in t.chunk t.pieces → kept_id begun.ids.ids.items (begun.ids.next + k) ≡ ids k)
 Drew ids t (Err e) = e ≡ plain kind.OutOfMemory
 
@@ -51,7 +51,7 @@ Opens t size (puts.Goes going) = NamesFiles t × (upload_of going.upload ≡ fre
 Opens t size (puts.Ended end) = HasFailed (CannotOpen t) end
 
 -- so it opens, where there was a place for its ids
-abbrev pub OpensFrom : PutTask → Result Begun Error → PutStage → Type 0
+abbrev pub OpensFrom : PutTask → Result Beginning Error → PutStage → Type 0
 OpensFrom t (Ok begun) stage' = Opens t begun.length stage'
 OpensFrom t (Err e) stage' = stage' ≡ puts.Ended (ended.Failed e)
 

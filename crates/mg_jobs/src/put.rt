@@ -125,7 +125,7 @@ fn upload_for(
 
 /// The ids of all chunks of a file, and how many bytes it will have.
 #[derive(Drop)]
-struct Begun {
+struct Beginning {
     ids: DrawnIds,
     length: u64,
 }
@@ -145,7 +145,7 @@ enum PutStage {
     /// It has no ids yet.
     Undrawn,
     /// It drew the ids of its chunks. Its upload is opened next, unless there was no place for them.
-    Begins(Result<Begun, Error>),
+    Begins(Result<Beginning, Error>),
     Goes(Going),
     Ended(Ended<u64>),
 }
@@ -170,20 +170,20 @@ impl Drop for PutPlayer<'_> {
 }
 
 /// Draws the ids of all chunks. Nothing is sent.
-fn begun<I: IdSource>(alloc: Global, ids: &mut I, what: Written<'_>) -> Result<Begun, Error>
+fn begun<I: IdSource>(alloc: Global, ids: &mut I, what: Written<'_>) -> Result<Beginning, Error>
     ensures drawn { AreLater (I.ids ids.old) (put_draws PutStage.Undrawn (writes what.entry)) (I.ids ids.new) }
     ensures drew { Drew (I.ids ids.old) (writes what.entry) result }
 {
     let length = length_of(what.pieces)?;
     let drawn = draw(alloc, ids, chunks_of(length, what.chunk))?;
-    Ok(Begun { ids: drawn, length })
+    Ok(Beginning { ids: drawn, length })
 }
 
 /// A put whose upload was opened, or its failure. Nothing is sent.
-fn opened(alloc: Global, what: Written<'_>, begun: Begun) -> PutStage
+fn opened(alloc: Global, what: Written<'_>, begun: Beginning) -> PutStage
     ensures { Opens (writes what.entry) begun.length result }
 {
-    let Begun { mut ids, length } = begun;
+    let Beginning { mut ids, length } = begun;
     match upload_for(alloc, what, &mut ids) {
         Ok(upload) => PutStage::Goes(Going {
             upload,
@@ -195,7 +195,7 @@ fn opened(alloc: Global, what: Written<'_>, begun: Begun) -> PutStage
 }
 
 /// The same of a put that had a place for its ids.
-fn opening(alloc: Global, what: Written<'_>, begun: Result<Begun, Error>) -> PutStage
+fn opening(alloc: Global, what: Written<'_>, begun: Result<Beginning, Error>) -> PutStage
     ensures { OpensFrom (writes what.entry) begun result }
 {
     match begun {
