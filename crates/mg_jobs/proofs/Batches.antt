@@ -23,11 +23,11 @@ abbrev batch_with : Option ℤ → Option Space → Option Items → Option Tree
 batch_with i s b t = option_and_then (λ (id : ℤ). option_and_then (λ (space : Space). option_map (λ (events : List Fields). record { id = id; space = space; events = events; token = t }) (option_and_then documents_in b)) s) i
 
 -- what is read of its parts
-record IsRead (cursor : Result Cursor Malformed) (items : Result Items Malformed) (batch : Batch) : Type 0 where
-  it : Cursor
-  says : cursor ≡ Ok it
-  items_are : items ≡ Ok it.batch
-  documents_are : documents_in it.batch ≡ Some batch.events
+pub record IsRead (cursor : Result Cursor Malformed) (items : Result Items Malformed) (batch : Batch) : Type 0 where
+  pub it : Cursor
+  pub says : cursor ≡ Ok it
+  pub items_are : items ≡ Ok it.batch
+  pub documents_are : documents_in it.batch ≡ Some batch.events
 
 documents_by : (id : ℤ) (space : Space) (t : Option Tree) (o : Option (List Fields)) (batch : Batch) → option_map (λ (events : List Fields). record { id = id; space = space; events = events; token = t }) o ≡ Some batch → o ≡ Some batch.events
 documents_by id space t (Some events) batch h =
@@ -46,12 +46,12 @@ read_in : (o : Option Fields) (batch : Batch) → option_and_then batch_by o ≡
 read_in (Some d) batch h = parts_read (option_and_then as_int64 (get (codes "id") d)) (option_and_then space_of (text_of (codes "ns") d)) (batch_items d) (token_in d) batch h
 read_in None batch h = absurd cc
 
-read_as : (said : Fields) (batch : Batch) → batch_of said ≡ Some batch → IsRead (cursor_of said) (batch_at said) batch
+pub read_as : (said : Fields) (batch : Batch) → batch_of said ≡ Some batch → IsRead (cursor_of said) (batch_at said) batch
 unfolding batch_of cursor_of batch_at
 read_as said batch there = read_in (option_and_then as_document (get (codes "cursor") said)) batch there
 
 -- the documents of such a reply are the events of its batch
-events_read : (bytes : List ℕ) (batch : Batch) → batch_of (fields bytes) ≡ Some batch → option_map (map fields) (documents_of bytes) ≡ Some batch.events
+pub events_read : (bytes : List ℕ) (batch : Batch) → batch_of (fields bytes) ≡ Some batch → option_map (map fields) (documents_of bytes) ≡ Some batch.events
 events_read bytes batch there = let r = read_as (fields bytes) batch there in sym (documents_read bytes r.it r.says) ∙ r.documents_are
 
 -- it keeps to the grammar

@@ -13,6 +13,7 @@ use Rattle.mg_ops.specs.Logs.{AddsJust, commands_sent}
 use Rattle.mg_ops.specs.declared.aggregate.ChangeStreamAggregate.{ChangeStreamAggregate}
 use Rattle.mg_cursor.specs.Client.{ClientCursor}
 use Rattle.mg_change.specs.ClientStreams.{ClientStream}
+use Rattle.mg_change.specs.Sent as calling
 use Rattle.mg_change.specs.Sent.{AsksMoreOf, Falling, IsSentAt, KillsReplaced, ResumesBy, Sent}
 use Rattle.mg_change.proofs.Sent.{falling_on}
 use Rattle.mg_jobs.specs.Causes.{AreInLog, CallFalls, FallsAt, command_at, commands_at, places_from, sent_at, sent_since}
@@ -113,7 +114,7 @@ falls_below may calls n places m k less f = record { within = f.within; falling 
 
 -- how many are left is not said
 pub call_falls_so : (calls : List Call) (wire : ℤ) (at : ClientStream) (places : List ℕ) (m : ℕ) → CallFalls calls wire at places m → CallFalls calls wire at places 0
-call_falls_so calls wire at places m f = falls_below (IsSentAt (KillsReplaced (sent_at places calls wire) true at) at) calls 4 places m 0 (omega arith) f
+call_falls_so calls wire at places m f = falls_below (IsSentAt (KillsReplaced (sent_at places calls wire) true at) at) calls (calling.places at) places m 0 (omega arith) f
 
 -- ---- a call in several turns
 

@@ -1,6 +1,7 @@
 -- How jobs end over a link that loses nothing, where their server holds nothing back.
 use Rattle.std.proofs.Common.{◌≡◌, ◌≢◌, ◌⊎◌, ◌≤◌, ◌+◌, ◌++◌, ℕ, suc, ℤ, pos, Bool, true, false, List, [], ◌∷◌, length, take, Contains, Option, Some, None, refl, sym, ap, ◌∙◌, subst, inl, inr, arith}
 use Rattle.std.specs.Prelude.{IfOk, Result, Ok, Err, slice_get, unwrap_or, if◌then◌else◌}
+use Rattle.std.specs.List.{concat}
 use Rattle.std.specs.Ordering.{int_eq}
 use Rattle.std.proofs.lemmas.Bool.{cases_Bool}
 use Rattle.std.proofs.lemmas.Bool.Decides.{Decides-int_eq}
@@ -13,7 +14,7 @@ use Rattle.mg_link.specs.Exec.{FailsAs, FailsByReply, IsSuccess}
 use Rattle.mg_link.specs.History.{Step, state_of}
 use Rattle.mg_link.specs.Link.{Awaited, LogTold}
 use Rattle.mg_link.specs.Log.{Sight, fault, reply, Call}
-use Rattle.mg_link.specs.Namespace.{Space, Target, space, target}
+use Rattle.mg_link.specs.Namespace.{Space, Target, target}
 use Rattle.mg_link.specs.Reply.{verdict_of}
 use Rattle.mg_link.specs.Resumable.{is_resumable}
 use Rattle.mg_link.specs.Session.{Session}
@@ -27,6 +28,7 @@ use Rattle.mg_link.specs.declared.error.ErrorKind.{ErrorKind}
 use Rattle.mg_link.specs.declared.error.ErrorKind.TheVariants as kind
 use Rattle.mg_link.specs.declared.reply.Verdict.{Verdict}
 use Rattle.mg_link.specs.declared.reply.Verdict.TheVariants as verdict
+use Rattle.mg_link.proofs.Owners.{same_some}
 use Rattle.mg_link.proofs.Pasts.{heard_by}
 use Rattle.mg_link.proofs.Places.{get_within}
 use Rattle.mg_options.specs.declared.change_stream.ChangeStreamOptions.{ChangeStreamOptions}
@@ -52,15 +54,20 @@ use Rattle.mg_change.specs.ClosingCauses.{LastFails, last_ids, last_kill}
 use Rattle.mg_change.specs.ClosingStreams.{unless_none}
 use Rattle.mg_change.specs.OpeningCauses.{OpeningFails}
 use Rattle.mg_change.specs.OpeningCauses as openings
-use Rattle.mg_jobs.specs.Causes.{AllCaused, AllSentIn, Answered, Closed, CloseCaused, Course, FollowCaused, InsertEnds, OpenCaused, OpenFailed, OutcomeCaused, SentIn, course, sent_at}
-use Rattle.mg_jobs.specs.Completing.{AllWell, AnswerWell, AnswersAreWell, AnswersWell, AreFresh, CallsWell, EndsWell, Excuses, FindsNothing, FitsLimits, FollowWell, IsExcused, IsExcusedInsert, IsMemory, IsShort, IsTooLarge, JobWell, NoneLeft, Nothings, OutcomeEnds, OutcomeFits, OutcomeWell, SendFresh, finds_none, is_over, own_excuses, takes_again, takes_first}
+use Rattle.mg_jobs.specs.Causes.{AllCaused, AllSentIn, Answered, CloseCaused, Closed, Course, FollowCaused, GetCaused, InsertEnds, OpenCaused, OpenFailed, OutcomeCaused, PutEnds, SentIn, course, sent_at}
+use Rattle.mg_jobs.specs.Completing.{AllWell, AnswerWell, AnswersAreWell, AnswersWell, AreFresh, CallsWell, EndsWell, Excuses, FindsNothing, FitsLimits, FollowWell, GetWell, IsExcused, IsExcusedGet, IsExcusedInsert, IsMemory, IsShort, IsTooLarge, JobWell, NoneLeft, Nothings, OutcomeEnds, OutcomeFits, OutcomeGot, OutcomeWell, SendFresh, finds_none, is_over, own_excuses, takes_again, takes_first}
 use Rattle.mg_jobs.specs.Counts.{Faultless, LosesNothing}
 use Rattle.mg_jobs.specs.Drawing.{as_sent}
 use Rattle.mg_jobs.specs.Follows.{IsArgsFor, poll_of}
+use Rattle.mg_jobs.specs.Gets.{GetTask, IsGetCommand, get_of}
+use Rattle.mg_jobs.specs.Headline.{AllFiled, GetGave, OutcomeFiled}
 use Rattle.mg_jobs.specs.Own.{IsHeard, IsOwnCommand, IsOwnCursor, asks, kills, opens, resumes}
 use Rattle.mg_ops.specs.InsertCauses.{InsertFails, IsPiece, ListsFor, cannot_encode, cannot_insert, command_fails, no_memory}
 use Rattle.mg_script.specs.Plan.{Begin, Task, follow, get, insert, put}
-use Rattle.mg_jobs.specs.Progress.{AllPlayed, FollowPlayed, InsertPlayed, IsPlayed, OpenPlayed, pends_last, turns_done}
+use Rattle.mg_jobs.specs.Progress.{AllPlayed, FollowPlayed, GetPlayed, InsertPlayed, IsPlayed, OpenPlayed, PutPlayed, pends_last, turns_done}
+use Rattle.mg_jobs.specs.PutLimits.{HasFewIndexes, IsExcusedPut, IsValidPut}
+use Rattle.mg_jobs.specs.Puts.{PutTask, put_of}
+use Rattle.mg_jobs.specs.Sends.{AllSendOnly, MaySend, SendsOnly}
 use Rattle.mg_script.specs.declared.outcome.Answer.{Answer}
 use Rattle.mg_script.specs.declared.outcome.Answer.TheVariants as answers
 use Rattle.mg_script.specs.declared.outcome.Ended.{Ended}
@@ -70,9 +77,12 @@ use Rattle.mg_script.specs.declared.outcome.Played.{Played}
 use Rattle.mg_script.specs.declared.outcome.Turned.{Turned}
 use Rattle.mg_jobs.proofs.Drawing.{played_as_sent}
 use Rattle.mg_jobs.proofs.Batches.{breaks_not, events_are, tells_not}
+use Rattle.mg_jobs.proofs.GetWell.{get_well}
 use Rattle.mg_jobs.proofs.InsertWell.{never_lists}
 use Rattle.mg_jobs.proofs.Own.{HasOwn, StandsOwn, called_own, opened_own}
-use Rattle.mg_jobs.proofs.SaidTwice.{follow_both, insert_both}
+use Rattle.mg_jobs.proofs.PutHeard.{OwnStep}
+use Rattle.mg_jobs.proofs.PutWell.{put_well}
+use Rattle.mg_jobs.proofs.SaidTwice.{follow_both, get_both, insert_both, put_both}
 use Rattle.mg_jobs.proofs.Creating.{CreatesNone, asked_creates, asking_none, inserting_none, killing_none, resuming_none}
 use Rattle.mg_jobs.proofs.Prompting.{Brings, IsPrompted, IsWatchOnly, more_gives, prompt_success, prompted}
 use Rattle.mg_jobs.proofs.Identified.{IsHonest, StandsWell, empty_well, failed_so, failed_well, gave_well, heard_more, honest_over, next_well, opened_well, replied_well, resumed_brings, settled_first, watch_at}
@@ -452,25 +462,57 @@ module _ (awaited : Awaited) (c : Course) (i : ℕ) (begun calls : List Call) (w
   insert_well (ended.Gave n) k last ends played turns = tt
   insert_well (ended.Failed e) k last ends played turns = insert_fails ends.places ends.sent e ends.by
 
+-- ---- a put
+
+-- the step of a command whose reply was heard
+abbrev own_step : (own : List ℕ) (history : List Step) (command : Fields) (bytes : List ℕ) (call : Call) → Taken own history command bytes call → OwnStep own history command bytes
+own_step own history command bytes call t = record { position = t.position; step = t.step; is_own = t.is_own; there = t.there; at_once = t.at_once; before_is = t.before_is; command_is = t.command_is; reply_is = t.reply_is }
+
+put_ends : (awaited : Awaited) (c : Course) (i : ℕ) (begun calls : List Call) (wire : ℤ) → length begun ≡ c.begun → Faultless begun calls → (well : AnswersWell c i calls) (t : PutTask) → IsValidPut t → SendFresh well.own well.history → HasFewIndexes well.own well.history t → (end : Ended ℕ) (k : ℕ) (last : Bool) → PutEnds awaited c i calls wire t end → PutPlayed end (length t.pieces) k last
+    → length t.pieces + 2 ≤ k → EndsWell (IsExcusedPut (IsHeard c i calls) t) end
+put_ends awaited c i begun calls wire whole faultless well t valid fresh few end k last ends played turns =
+    let n : ℕ = suc (length ends.owns) in
+    put_well well.own well.history well.legal (sent_at ends.places calls wire) (IsHeard c i calls) (never_lost c i n begun calls wire ends.places whole faultless well ends.sent)
+    (λ command bytes h. own_step well.own well.history command bytes h.heard.call (taken c i n begun calls wire ends.places whole faultless well ends.sent command bytes h)) (hears c i n begun calls wire ends.places whole faultless well ends.sent)
+    t valid fresh
+    (λ place place' command command' bytes bytes' h h' less.
+    let before = taken c i n begun calls wire ends.places whole faultless well ends.sent command bytes (record { place = place; heard = h }) in
+    let behind = taken c i n begun calls wire ends.places whole faultless well ends.sent command' bytes' (record { place = place'; heard = h' }) in
+    well.stands.rising place place' h.call h'.call before.position behind.position less h.there h'.there before.position_is behind.position_is) few (sent_at (concat ends.owns ++ ends.places) calls wire) end k last ends.by played turns
+
 -- ---- a job
 
 jobs_end_well : (awaited : Awaited) (c : Course) (i : ℕ) (begun calls : List Call) (wire : ℤ) (t : Task) (r : Outcome) → length begun ≡ c.begun → Faultless begun calls → OutcomeCaused awaited c i calls wire t r
-    → IsPlayed t (turns_done i c.order c.notes) (pends_last i c.order c.notes) r → OutcomeWell c i calls t r
-jobs_end_well awaited c i begun calls wire (follow on count start filter batch) r whole faultless caused played =
+    → IsPlayed t (turns_done i c.order c.notes) (pends_last i c.order c.notes) r → OutcomeGot c i calls t r → OutcomeWell c i calls t r
+jobs_end_well awaited c i begun calls wire (follow on count start filter batch) r whole faultless caused played got =
     let k : ℕ = turns_done i c.order c.notes in
     let last : Bool = pends_last i c.order c.notes in
     follow_both (λ opened said token alive closed. FollowCaused awaited c i count calls wire on start filter batch opened said.items token alive closed) (λ opened said token alive closed. FollowPlayed opened closed count (length said.items) alive k last)
     (λ opened said token alive closed. (by : AnswersWell c i calls) → (SizePasses batch → ⊥) → suc count ≤ k → FollowWell (IsExcused (IsArgsFor on start filter batch) (IsHeard c i calls)) (FindsNothing c i calls by.history) count opened said.items closed)
     (λ opened said token alive closed why plays well small turns. follow_well awaited c i begun calls wire whole faultless well on start filter batch small opened count k last said.items token alive closed why plays turns)
     r caused played
-jobs_end_well awaited c i begun calls wire (insert ns docs) r whole faultless caused played =
+jobs_end_well awaited c i begun calls wire (insert ns docs) r whole faultless caused played got =
     let k : ℕ = turns_done i c.order c.notes in
     let last : Bool = pends_last i c.order c.notes in
     insert_both (λ end. InsertEnds awaited c i calls wire ns docs end) (λ end. InsertPlayed end k last) (λ end. (answers : AnswersWell c i calls) → IsNamed ns → SendFresh answers.own answers.history → 1 ≤ k → EndsWell (IsExcusedInsert ns docs) end)
     (λ end why plays well named fresh turns. insert_well awaited c i begun calls wire whole faultless well ns docs named fresh end k last why plays turns)
     r caused played
-jobs_end_well awaited c i begun calls wire (put db bucket name id chunk pieces) r whole faultless caused played = tt
-jobs_end_well awaited c i begun calls wire (get db bucket id read) r whole faultless caused played = tt
+jobs_end_well awaited c i begun calls wire (put db bucket name id chunk pieces) r whole faultless caused played got =
+    let k : ℕ = turns_done i c.order c.notes in
+    let last : Bool = pends_last i c.order c.notes in
+    let t : PutTask = put_of db bucket name id chunk pieces in
+    put_both (λ end. PutEnds awaited c i calls wire t end) (λ end. PutPlayed end (length pieces) k last) (λ end. (answers : AnswersWell c i calls) → IsValidPut t → SendFresh answers.own answers.history → HasFewIndexes answers.own answers.history t → length pieces + 2 ≤ k → EndsWell (IsExcusedPut (IsHeard c i calls) t) end)
+    (λ end why plays well valid fresh few turns. put_ends awaited c i begun calls wire whole faultless well t valid fresh few end k last why plays turns)
+    r caused played
+jobs_end_well awaited c i begun calls wire (get db bucket id read) r whole faultless caused played got =
+    let k : ℕ = turns_done i c.order c.notes in
+    let last : Bool = pends_last i c.order c.notes in
+    let g : GetTask = get_of db bucket id read in
+    get_both (λ bytes end. GetCaused awaited c i calls wire g end × GetPlayed end (length bytes.items) k last) (λ bytes end. SendsOnly (IsGetCommand g) c i calls × GetGave c i calls g bytes.items end) (λ bytes end. (answers : AnswersWell c i calls) → GetWell (IsExcusedGet (IsHeard c i calls) g) c i calls answers.history g end)
+    (λ bytes end why gave well named some its stands turns. get_well c i begun calls wire whole faultless well g named some its stands gave.0 awaited end bytes.items k last why.0 why.1 gave.1 turns)
+    r
+    (get_both (λ bytes end. GetCaused awaited c i calls wire g end) (λ bytes end. GetPlayed end (length bytes.items) k last) (λ bytes end. GetCaused awaited c i calls wire g end × GetPlayed end (length bytes.items) k last) (λ bytes end why plays. (why, plays)) r caused played)
+    got
 
 -- ---- a job that fits the limits
 
@@ -506,8 +548,15 @@ module _ (excuses others : Excuses) (each : (short : Type 0) (e : Error) → exc
       let k : ℕ = turns_done i c.order c.notes in
       insert_both (λ end. (by : AnswersWell c i calls) → IsNamed ns → SendFresh by.own by.history → 1 ≤ k → EndsWell (excuses ⊥) end) (λ end. (by : AnswersWell c i calls) → IsNamed ns → SendFresh by.own by.history → 1 ≤ k → EndsWell (excuses ⊥) end)
       (λ end. (by : AnswersWell c i calls) → IsNamed ns → SendFresh by.own by.history → 1 ≤ k → EndsWell (others ⊥) end) (λ end ends again by named fresh turns. ends_so end (ends by named fresh turns)) r well well
-  outcome_so c i calls (put db bucket name id chunk pieces) r well = tt
-  outcome_so c i calls (get db bucket id read) r well = tt
+  outcome_so c i calls (put db bucket name id chunk pieces) r well =
+      let k : ℕ = turns_done i c.order c.notes in
+      let t : PutTask = put_of db bucket name id chunk pieces in
+      put_both (λ end. (by : AnswersWell c i calls) → IsValidPut t → SendFresh by.own by.history → HasFewIndexes by.own by.history t → length pieces + 2 ≤ k → EndsWell (excuses ⊥) end) (λ end. (by : AnswersWell c i calls) → IsValidPut t → SendFresh by.own by.history → HasFewIndexes by.own by.history t → length pieces + 2 ≤ k → EndsWell (excuses ⊥) end)
+      (λ end. (by : AnswersWell c i calls) → IsValidPut t → SendFresh by.own by.history → HasFewIndexes by.own by.history t → length pieces + 2 ≤ k → EndsWell (others ⊥) end) (λ end ends again by valid fresh few turns. ends_so end (ends by valid fresh few turns)) r well well
+  outcome_so c i calls (get db bucket id read) r well =
+      let g : GetTask = get_of db bucket id read in
+      get_both (λ bytes end. (by : AnswersWell c i calls) → GetWell (excuses ⊥) c i calls by.history g end) (λ bytes end. (by : AnswersWell c i calls) → GetWell (excuses ⊥) c i calls by.history g end) (λ bytes end. (by : AnswersWell c i calls) → GetWell (others ⊥) c i calls by.history g end)
+      (λ bytes end ends again by named some its stands turns. ends_so end (ends by named some its stands turns)) r well well
 
 -- a command that is sent where it is short
 any_short : (are_its : WatchArgs → Type 0) (heard : List ℕ → Type 0) (short : Type 0) (command : Fields) → IsOwnCommand are_its heard short command → IsOwnCommand are_its heard (Unit {0}) command
@@ -538,31 +587,57 @@ fits_memory c i calls (follow on count start filter batch) fit short e excused =
       | inr by ↦ absurd (fit by.0 (any_short (IsArgsFor on start filter batch) (IsHeard c i calls) short by.0 by.1) by.2.1)
     ]
 fits_memory c i calls (insert ns docs) fit short e excused = insert_memory ns docs fit e excused
-fits_memory c i calls (put db bucket name id chunk pieces) fit short e excused = excused
-fits_memory c i calls (get db bucket id read) fit short e excused = excused
+fits_memory c i calls (put db bucket name id chunk pieces) fit short e excused =
+    elim excused [
+      | inl room ↦ room
+      | inr cannot ↦ absurd (fit e cannot)
+    ]
+fits_memory c i calls (get db bucket id read) fit short e excused =
+    elim excused [
+      | inl room ↦ room
+      | inr by ↦ absurd (fit by.0 by.1 by.2.1)
+    ]
 
 jobs_fit : (c : Course) (i : ℕ) (calls : List Call) (t : Task) (r : Outcome) → OutcomeWell c i calls t r → OutcomeFits c i calls t r
 jobs_fit c i calls t r well fit = outcome_so (own_excuses c i calls t) IsMemory (fits_memory c i calls t fit) c i calls t r well
 
-pub jobs_end : (awaited : Awaited) (c : Course) (i : ℕ) (begun calls : List Call) (wire : ℤ) (t : Task) (r : Outcome) → length begun ≡ c.begun → Faultless begun calls → OutcomeCaused awaited c i calls wire t r → IsPlayed t (turns_done i c.order c.notes) (pends_last i c.order c.notes) r → JobWell c i calls t r
-jobs_end awaited c i begun calls wire t r whole faultless caused played = let well = jobs_end_well awaited c i begun calls wire t r whole faultless caused played in (well, jobs_fit c i calls t r well)
+pub jobs_end : (awaited : Awaited) (c : Course) (i : ℕ) (begun calls : List Call) (wire : ℤ) (t : Task) (r : Outcome) → length begun ≡ c.begun → Faultless begun calls → OutcomeCaused awaited c i calls wire t r → IsPlayed t (turns_done i c.order c.notes) (pends_last i c.order c.notes) r → OutcomeGot c i calls t r
+    → JobWell c i calls t r
+jobs_end awaited c i begun calls wire t r whole faultless caused played got = let well = jobs_end_well awaited c i begun calls wire t r whole faultless caused played got in (well, jobs_fit c i calls t r well)
 
 -- ---- a run
 
-all_well : (ids : ℕ → List ℕ) (awaited : Awaited) (log log' : LogTold) (wire : ℤ) (tasks : List Task) (order : List ℕ) (notes : List Turned) (outcomes : List Outcome) → LosesNothing log log' → AllCaused ids awaited log log' wire tasks order notes outcomes → AllPlayed tasks order notes outcomes → AllWell ids log log' tasks order notes outcomes
-all_well ids awaited log log' wire tasks order notes outcomes lossless caused played calls told =
-    let by = caused calls told in
-    let kept = lossless calls told in
-    let here = by.1 in
-    let there = kept.1 in
-    let same : kept.0 ≡ by.0 = cc in (
-      by.0,
-      by.1,
-      (λ i t r ht hr. jobs_end awaited (course calls order notes) i calls by.0 wire (as_sent ids tasks order i t) r refl (subst (λ (cs : List Call). Faultless calls cs) same kept.2) (by.2 i t r ht hr) (played_as_sent ids tasks order i t (turns_done i order notes) (pends_last i order notes) r (played i t r ht hr))),
-    )
+-- what a get sent and gave
+has_got : (ids : ℕ → List ℕ) (tasks : List Task) (c : Course) (i : ℕ) (calls : List Call) (t : Task) (r : Outcome) → SendsOnly (MaySend (as_sent ids tasks c.order i t)) c i calls → OutcomeFiled c i calls t r → OutcomeGot c i calls (as_sent ids tasks c.order i t) r
+has_got ids tasks c i calls (follow on count start filter batch) r sends filed = tt
+has_got ids tasks c i calls (insert ns docs) r sends filed = tt
+has_got ids tasks c i calls (put db bucket name id chunk pieces) r sends filed = tt
+has_got ids tasks c i calls (get db bucket id read) r sends filed =
+    let g : GetTask = get_of db bucket id read in
+    get_both (λ bytes end. GetGave c i calls g bytes.items end) (λ bytes end. GetGave c i calls g bytes.items end) (λ bytes end. SendsOnly (IsGetCommand g) c i calls × GetGave c i calls g bytes.items end) (λ bytes end gave again. (sends, gave)) r filed filed
 
--- the same of a run, unless memory ran out
-pub well_so : (ids : ℕ → List ℕ) (awaited : Awaited) (log log' : LogTold) (wire : ℤ) (tasks : List Task) (order : List ℕ) (result : Result Played Error) → LosesNothing log log' → IfOk result (λ p. AllCaused ids awaited log log' wire tasks order p.turns.items p.outcomes.items) → IfOk result (λ p. AllPlayed tasks order p.turns.items p.outcomes.items)
-    → IfOk result (λ p. AllWell ids log log' tasks order p.turns.items p.outcomes.items)
-well_so ids awaited log log' wire tasks order (Ok p) lossless caused played = all_well ids awaited log log' wire tasks order p.turns.items p.outcomes.items lossless caused played
-well_so ids awaited log log' wire tasks order (Err e) lossless caused played = tt
+module _ (ids : ℕ → List ℕ) (awaited : Awaited) (log log' : LogTold) (wire : ℤ) (tasks : List Task) (order : List ℕ) where
+  all_well : (notes : List Turned) (outcomes : List Outcome) → LosesNothing log log' → AllCaused ids awaited log log' wire tasks order notes outcomes → AllPlayed tasks order notes outcomes → AllFiled log log' tasks order notes outcomes → AllSendOnly ids log log' tasks order notes
+      → AllWell ids log log' tasks order notes outcomes
+  all_well notes outcomes lossless caused played filed sends calls told =
+      let by = caused calls told in
+      let kept = lossless calls told in
+      let gave = filed calls told in
+      let sent = sends calls told in
+      let here = by.1 in
+      let there = kept.1 in
+      let same : kept.0 ≡ by.0 = cc in
+      let gave_is : gave.0 ≡ by.0 = same_some gave.0 by.0 (sym gave.1 ∙ here) in
+      let sent_is : sent.0 ≡ by.0 = same_some sent.0 by.0 (sym sent.1 ∙ here) in
+      let c : Course = course calls order notes in (
+        by.0,
+        by.1,
+        (λ i t r ht hr. jobs_end awaited c i calls by.0 wire (as_sent ids tasks order i t) r refl (subst (λ (cs : List Call). Faultless calls cs) same kept.2) (by.2 i t r ht hr) (played_as_sent ids tasks order i t (turns_done i order notes) (pends_last i order notes) r (played i t r ht hr))
+            (has_got ids tasks c i by.0 t r (subst (λ (cs : List Call). SendsOnly (MaySend (as_sent ids tasks order i t)) c i cs) sent_is (sent.2 i t ht)) (subst (λ (cs : List Call). OutcomeFiled c i cs t r) gave_is (gave.2 i t r ht hr)))),
+      )
+
+  -- the same of a run, unless memory ran out
+  pub well_so : (result : Result Played Error) → LosesNothing log log' → IfOk result (λ p. AllCaused ids awaited log log' wire tasks order p.turns.items p.outcomes.items) → IfOk result (λ p. AllPlayed tasks order p.turns.items p.outcomes.items) → IfOk result (λ p. AllFiled log log' tasks order p.turns.items p.outcomes.items)
+      → IfOk result (λ p. AllSendOnly ids log log' tasks order p.turns.items) → IfOk result (λ p. AllWell ids log log' tasks order p.turns.items p.outcomes.items)
+  well_so (Ok p) lossless caused played filed sends = all_well p.turns.items p.outcomes.items lossless caused played filed sends
+  well_so (Err e) lossless caused played filed sends = tt

@@ -8,7 +8,7 @@ use Rattle.mg_bson.specs.Tree.{Fields, Tree}
 use Rattle.mg_link.specs.Commands.{Asked, as_integer, asked, asked_by, asks_more, asks_other, more_of, space_at}
 use Rattle.mg_link.specs.Files.{AreChunks, Bucket, File, IsWhole, LeavesFile, chunked, file_of}
 use Rattle.mg_link.specs.Filing as filing
-use Rattle.mg_link.specs.Filing.{IsOwnStep, Leaves}
+use Rattle.mg_link.specs.Filing.{IsOwnStep, KnowsFile, Leaves, cleared}
 use Rattle.mg_link.specs.History.{IsLegal, IsLegalFrom, Step, state_after, state_of, step_after, told_at}
 use Rattle.mg_link.specs.Link.{Awaited}
 use Rattle.mg_link.specs.Log.{Call}
@@ -28,10 +28,10 @@ use Rattle.mg_gridfs.specs.Downloads as downloads
 use Rattle.mg_gridfs.specs.Downloads.{ClientDownload, Doing}
 use Rattle.mg_gridfs.specs.DownloadView.{download_of}
 use Rattle.mg_gridfs.proofs.Meaning.{IsReading, find_reads, leaves_by, read_leaves}
-use Rattle.mg_gridfs.proofs.ReadBack.{download_reads_until, stays_at}
+use Rattle.mg_gridfs.proofs.ReadBack.{download_reads, download_reads_until, stays_at}
 use Rattle.mg_records.specs.FileRecords.{FileRecord}
 use Rattle.mg_jobs.specs.Causes.{Course, SentIn, places_of, sent_at}
-use Rattle.mg_jobs.specs.Files.{IsFirstStepOf, IsLastStepOf, IsStepOf, LeftWhole, OthersLeave, OthersLeaveFrom}
+use Rattle.mg_jobs.specs.Files.{IsFirstStepOf, IsLastStepOf, IsStepOf, LeftNoChunk, LeftWhole, OthersLeave, OthersLeaveFrom}
 use Rattle.mg_jobs.specs.Gets.{GetKnowsAt, GetTask, IsGetCommand, chunks_find, for_chunks, for_more, for_record, get_end, more_chunks, record_find, sought}
 use Rattle.mg_jobs.specs.Headline.{GaveFront, GetGave, GetPlays, PutLeft}
 use Rattle.mg_jobs.specs.Plays.{Places, all_places}
@@ -43,7 +43,6 @@ use Rattle.mg_jobs.specs.declared.get.GetStage.{GetStage}
 use Rattle.mg_jobs.specs.declared.get.GetStage.TheVariants as gets
 use Rattle.mg_jobs.specs.declared.put.PutStage.{PutStage}
 use Rattle.mg_jobs.specs.declared.put.PutStage.TheVariants as puts
-use Rattle.mg_script.specs.declared.outcome.Ended.{Ended}
 use Rattle.mg_script.specs.declared.outcome.Ended.TheVariants as ended
 use Rattle.mg_jobs.proofs.Positions.{sent_place}
 
@@ -105,6 +104,20 @@ put_left c i calls wire places t whole stored history legal stands leave last up
     whole_at history t.at t.id (joined t.pieces) t.chunk upto (λ position step from found. left_behind c i calls history t.at t.id last upto position step leave is_last behind from found)
     (stored_is_whole (sent_at places calls wire) t.at (fresh_upload (put_aim t)) (joined t.pieces) stored history legal stands (others_leave c i calls wire places whole history t.at t.id leave))
 
+-- A put that knows of no chunk left none.
+put_cleared : (c : Course) (i : ℕ) (calls : List Call) (wire : ℤ) (places : List ℕ) (t : PutTask) → places ≡ places_of c i → KnowsFile (sent_at places calls wire) t.at t.id cleared → LeftNoChunk c i calls t.at t.id
+put_cleared c i calls wire places t whole k history legal stands leave last upto is_last behind =
+    let n : ℕ = upto + length history in
+    let all : take n history ≡ history = take_all n history (omega arith) in
+    let same = stays_at history t.at t.id upto (λ position step from found. left_behind c i calls history t.at t.id last upto position step leave is_last behind from found) n (omega arith) in
+    ap (λ (f : File). f.chunks) (sym same) ∙ subst (λ (h : List Step). (file_of (state_of h) t.at t.id).chunks ≡ []) (sym all) (k.each history legal stands (others_leave c i calls wire places whole history t.at t.id leave))
+
+-- one that sent nothing has no step
+put_sent_none : (c : Course) (i : ℕ) (calls : List Call) (t : PutTask) → places_of c i ≡ [] → LeftNoChunk c i calls t.at t.id
+put_sent_none c i calls t none history legal stands leave last upto is_last behind =
+    let own = is_last.own in
+    absurd (subst (λ (l : List ℕ). IsOf l own.place) none (sent_place c i own.done own.place own.sent))
+
 -- What a put tells at the end of a run says what it left.
 pub put_filed : (awaited : Awaited) (c : Course) (i n : ℕ) (calls : List Call) (wire : ℤ) (t : PutTask) (q : Places) (done : ℕ) (s : PutStage) → PutTells awaited calls wire q t done s → AllSent c i q n → PutLeft c i calls t (put_end s)
 put_filed awaited c i n calls wire t q done puts.Undrawn tells sent = tt
@@ -112,7 +125,11 @@ put_filed awaited c i n calls wire t q done (puts.Begins begun) tells sent = tt
 put_filed awaited c i n calls wire t q done (puts.Goes going) tells sent = tt
 put_filed awaited c i n calls wire t q done (puts.Ended ended.Unfinished) tells sent = tt
 put_filed awaited c i n calls wire t q done (puts.Ended (ended.Gave size)) tells sent = put_left c i calls wire (all_places q) t sent.whole tells.2.2
-put_filed awaited c i n calls wire t q done (puts.Ended (ended.Failed e)) tells sent = tt
+put_filed awaited c i n calls wire t q done (puts.Ended (ended.Failed e)) tells sent =
+    λ leaves. elim tells.2 [
+      | inl cannot ↦ put_sent_none c i calls t (sym sent.whole ∙ cannot.1)
+      | inr fails ↦ put_cleared c i calls wire (all_places q) t sent.whole (fails.2 leaves)
+    ]
 
 -- ---- a get
 
@@ -158,7 +175,7 @@ module _ (c : Course) (i : ℕ) (calls : List Call) (g : GetTask) (sends : Sends
 
   module _ (first last : ℕ) (is_first : IsFirstStepOf c i calls first) (is_last : IsLastStepOf c i calls last) (leave : OthersLeaveFrom c i calls history g.at g.id first last) where
     -- nobody touches the file from its first step to its last one
-    all_leave : (position : ℕ) (step : Step) → first ≤ position → position < suc last → slice_get history position ≡ Some step → LeavesFile (state_of (take position history)) step g.at g.id
+    pub all_leave : (position : ℕ) (step : Step) → first ≤ position → position < suc last → slice_get history position ≡ Some step → LeavesFile (state_of (take position history)) step g.at g.id
     all_leave position step low high found = elim (last_or position last high) [
       | inl before ↦ elim (leave position step low before found) [ inl own ↦ own_leaves position step own found | inr leaves ↦ leaves ]
       | inr is ↦ own_leaves position step (subst (IsStepOf c i calls) (sym is) is_last.own) found
@@ -171,7 +188,7 @@ module _ (c : Course) (i : ℕ) (calls : List Call) (g : GetTask) (sends : Sends
         last_or (suc a) (suc b) less = elim (last_or a b (omega (arith, less))) [ inl below ↦ inl (omega (arith, below)) | inr same ↦ inr (ap suc same) ]
 
     -- a step of its own is one between them
-    own_between : (done place : ℕ) → SentIn c i done place → IsBetween calls first (suc last) place
+    pub own_between : (done place : ℕ) → SentIn c i done place → IsBetween calls first (suc last) place
     own_between done place sent call position there placed =
         let own : IsStepOf c i calls position = record { done = done; place = place; sent = sent; call = call; there = there; placed = placed } in
         let low = is_first.first position own in
@@ -201,22 +218,28 @@ listed_sent c i n calls wire g f at q listed t sent is = sent.opened listed (t.l
 
 stage_filed : (awaited : Awaited) (c : Course) (i n : ℕ) (calls : List Call) (wire : ℤ) (g : GetTask) (s : GetStage) (bytes : List ℕ) (done : ℕ) (at : Option ℕ) (q : Places) → GetKnowsAt awaited calls g s bytes at → GetTells awaited calls wire q g s done at → AllSent c i q n → SendsOnly (IsGetCommand g) c i calls
     → GetGave c i calls g bytes (get_end s)
-stage_filed awaited c i n calls wire g gets.Unsent bytes done at q k t sent sends = nothing_front c i calls g bytes k.0
-stage_filed awaited c i n calls wire g (gets.Opens opening) bytes done at q k t sent sends = nothing_front c i calls g bytes k.2
-stage_filed awaited c i n calls wire g (gets.Reads download room) bytes done at q k t sent sends = λ history legal stands first last is_first is_last leave whole size w.
-    let d : ClientDownload = download_of download in
-    let own = listed_sent c i n calls wire g d.file at q k.0 t.0 sent k.2 in
-    let r = read_front c i calls g sends history legal stands first last is_first is_last leave awaited d bytes k.0 0 k.1 k.3 own whole size w in
-    (d.ahead ++ r.0, r.1 ∙ append_assoc bytes d.ahead r.0)
+stage_filed awaited c i n calls wire g gets.Unsent bytes done at q k t sent sends = (nothing_front c i calls g bytes k.0, inl k.0)
+stage_filed awaited c i n calls wire g (gets.Opens opening) bytes done at q k t sent sends = (nothing_front c i calls g bytes k.2, inl k.2)
+stage_filed awaited c i n calls wire g (gets.Reads download room) bytes done at q k t sent sends =
+    let d : ClientDownload = download_of download in (
+      λ history legal stands first last is_first is_last leave whole size w.
+          let own = listed_sent c i n calls wire g d.file at q k.0 t.0 sent k.2 in
+          let r = read_front c i calls g sends history legal stands first last is_first is_last leave awaited d bytes k.0 0 k.1 k.3 own whole size w in
+          (d.ahead ++ r.0, r.1 ∙ append_assoc bytes d.ahead r.0),
+      inr (record { download = d; unspoiled = k.3; reads = λ history legal stands. download_reads awaited calls g.at g.id d bytes k.0 k.1 k.3 history legal stands }),
+    )
 stage_filed awaited c i n calls wire g (gets.Ended ended.Unfinished) bytes done at q k t sent sends = absurd k
-stage_filed awaited c i n calls wire g (gets.Ended (ended.Gave x)) bytes done at q k t sent sends = λ history legal stands first last is_first is_last leave whole size w.
+stage_filed awaited c i n calls wire g (gets.Ended (ended.Gave x)) bytes done at q k t sent sends =
     let d : ClientDownload = k.0 in
-    let own = listed_sent c i n calls wire g t.1 at q k.1 t.2 sent k.4 in
     let unspoiled : d.doing ≡ downloads.spoiled → ⊥ = λ bad. let both : downloads.ended ≡ downloads.spoiled = sym k.3 ∙ bad in absurd cc in
-    let r = read_front c i calls g sends history legal stands first last is_first is_last leave awaited d bytes k.1 0 k.2 unspoiled own whole size w in
-    let ahead : d.ahead ≡ [] = none_ahead awaited calls g.at d bytes k.2.of_record.front.place k.1 d.doing k.3 k.2.by in
-    let all : whole ≡ bytes ++ [] ++ [] = r.1 ∙ ap (λ (l : List ℕ). bytes ++ l ++ r.0) ahead ∙ ap (λ (l : List ℕ). bytes ++ [] ++ l) (r.2 k.3) in
-    sym (all ∙ append-nil (bytes ++ []) ∙ append-nil bytes)
+    let ahead : d.ahead ≡ [] = none_ahead awaited calls g.at d bytes k.2.of_record.front.place k.1 d.doing k.3 k.2.by in (
+      λ history legal stands first last is_first is_last leave whole size w.
+          let own = listed_sent c i n calls wire g t.1 at q k.1 t.2 sent k.4 in
+          let r = read_front c i calls g sends history legal stands first last is_first is_last leave awaited d bytes k.1 0 k.2 unspoiled own whole size w in
+          let all : whole ≡ bytes ++ [] ++ [] = r.1 ∙ ap (λ (l : List ℕ). bytes ++ l ++ r.0) ahead ∙ ap (λ (l : List ℕ). bytes ++ [] ++ l) (r.2 k.3) in
+          sym (all ∙ append-nil (bytes ++ []) ∙ append-nil bytes),
+      record { download = d; over = k.3; none_ahead = ahead; reads = λ history legal stands. download_reads awaited calls g.at g.id d bytes k.1 k.2 unspoiled history legal stands },
+    )
 stage_filed awaited c i n calls wire g (gets.Ended (ended.Failed e)) bytes done at q k t sent sends = tt
 
 -- What a get knows and tells at the end of a run says whose bytes it gave.

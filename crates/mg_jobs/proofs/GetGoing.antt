@@ -62,7 +62,7 @@ get_ended awaited log wire p after e was is holds =
       holds = holds;
       next = no_move;
       turned = λ calls told o at plays. (calls, told, record { place = at; placed = refl; owner = o; plays = plays; passes = passes_same calls o (holds_get awaited calls p o at plays) });
-      told = quiet_turn get_task GetSays get_number AnySent awaited log wire p p (tells_same_job get_task GetSays get_number AnySent p);
+      told = quiet_turn get_task GetPlays GetSays get_number AnySent awaited log wire p p (tells_same_job get_task GetSays get_number AnySent p);
       task = refl;
       has = λ has. has;
     })

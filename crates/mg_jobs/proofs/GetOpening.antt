@@ -1,16 +1,24 @@
 -- An opening of the file that a get is to read.
-use Rattle.std.proofs.Common.{◌≡◌, Option, Some, None, refl, sym, ap, ◌∙◌, subst, inl, inr}
+use Rattle.std.proofs.Common.{◌≡◌, Option, Some, None, string_bytes, refl, sym, ap, ◌∙◌, subst, inl, inr}
+use Rattle.std.specs.Prelude.{option_map}
 use Rattle.mg_bson.specs.Tree.{Tree}
 use Rattle.mg_link.specs.Commands.{as_database}
 use Rattle.mg_link.specs.Files.{Bucket, chunks_space, files_space}
 use Rattle.mg_link.specs.declared.concern.ReadConcern.{ReadConcern}
 use Rattle.mg_options.specs.Copies.{SameIn, level_of}
+use Rattle.mg_options.specs.declared.grid_fs.GridFsBucketOptions.{GridFsBucketOptions}
 use Rattle.mg_ops.specs.Naming.{IsNamed}
-use Rattle.mg_gridfs.specs.Buckets.{ClientBucket, SameBucket}
+use Rattle.mg_gridfs.specs.Buckets.{ClientBucket, SameBucket, bucket_by}
+use Rattle.mg_gridfs.specs.declared.bucket.DatabaseDefaults.{DatabaseDefaults}
 use Rattle.mg_gridfs.specs.Downloaded.{IsPlainAt}
 use Rattle.mg_gridfs.specs.Findings.{ClientFinding, IsNewFinding}
 use Rattle.mg_jobs.specs.Gets.{GetTask, IsOpeningFor, get_bucket}
 use Rattle.mg_jobs.proofs.Naming.{chunks_named, files_named}
+
+-- a new bucket by its names, of which nothing else is given
+pub plain_bucket : (at : Bucket) (d : DatabaseDefaults) (o : GridFsBucketOptions) → string_bytes d.name ≡ at.db → d.read_concern ≡ None → d.write_concern ≡ None → d.selection_criteria ≡ None → option_map string_bytes o.bucket_name ≡ Some at.name → o.chunk_size_bytes ≡ None → o.read_concern ≡ None → o.write_concern ≡ None → o.selection_criteria ≡ None
+    → bucket_by d o ≡ get_bucket at
+plain_bucket at d o db reads writes asks named size less more others = rw (db, reads, writes, asks, named, size, less, more, others) refl
 
 none_given : (reads : Option ReadConcern) → SameIn level_of None reads → reads ≡ None
 none_given None same = refl

@@ -1,21 +1,22 @@
 -- What the parts of a get's turn come to: what it knows of its file, and what it tells.
-use Rattle.std.proofs.Common.{◌≡◌, ◌<◌, ◌≤◌, ◌+◌, ◌++◌, ◌∷◌, true, ℕ, zero, suc, ℤ, List, [], length, take, Option, Some, None, Vec, refl, sym, ap, ◌∙◌, subst, inl, inr, arith, append-nil, length-append}
+use Rattle.std.proofs.Common.{◌≡◌, ◌<◌, ◌≤◌, ◌++◌, ◌∷◌, true, ℕ, zero, suc, ℤ, List, [], length, take, Option, Some, None, Vec, refl, sym, ap, ◌∙◌, subst, inl, inr, arith, append-nil, length-append}
+use Rattle.std.specs.List.{concat}
 use Rattle.std.specs.Prelude.{slice_get}
 use Rattle.std.specs.declared.alloc.Global.{Global}
 use Rattle.mg_bson.specs.Tree.{Tree}
-use Rattle.mg_link.specs.Calls.{AddsOnly, Keeps, Past, RequestFails, past_of}
+use Rattle.mg_link.specs.Calls.{AddsOnly, Grows, Keeps, Past, RequestFails, past_of}
 use Rattle.mg_link.specs.Errors as errors
 use Rattle.mg_link.specs.Exec as exec
 use Rattle.mg_link.specs.Exec.{Stage}
 use Rattle.mg_link.specs.Link.{Awaited, LogTold}
 use Rattle.mg_link.specs.Log.{Call}
-use Rattle.mg_link.specs.Owner.{IsOf, Owner, Passes, nobody}
+use Rattle.mg_link.specs.Owner.{IsOf, Onward, Owner, Passes, nobody}
 use Rattle.mg_link.specs.Reader.{finder_at}
 use Rattle.mg_link.specs.declared.error.Error.{Error}
 use Rattle.mg_link.specs.declared.error.ErrorKind.TheVariants as kind
 use Rattle.mg_link.proofs.Adding.{adds_none}
-use Rattle.mg_link.proofs.Apart.{holds_nobody, passes_here, passes_on, passes_same}
-use Rattle.mg_link.proofs.Calls.{keeps_longer}
+use Rattle.mg_link.proofs.Apart.{holds_nobody, onward_refl, passes_here, passes_on, passes_same}
+use Rattle.mg_link.proofs.Calls.{grows_on, keeps_longer}
 use Rattle.mg_link.proofs.Places.{get_within}
 use Rattle.mg_options.specs.Fields.{Line, fields_in}
 use Rattle.mg_cursor.specs.Causes.{IsUnderway, TellsNoCursor, UnderwayBy}
@@ -40,11 +41,11 @@ use Rattle.mg_gridfs.specs.declared.polls.ReadPoll.TheVariants as read
 use Rattle.mg_gridfs.proofs.Growing.{fetching_grows, opening_fails_grow, opening_grows, opening_own}
 use Rattle.mg_gridfs.proofs.Opened.{record_grows}
 use Rattle.mg_gridfs.proofs.ReadCaused.{read_fails_grow}
-use Rattle.mg_script.specs.declared.outcome.Ended.{Ended}
 use Rattle.mg_script.specs.declared.outcome.Ended.TheVariants as ended
 use Rattle.mg_jobs.specs.Causes.{sent_at, sent_since}
 use Rattle.mg_jobs.specs.Gets.{AsksPlainly, GetKnowsAt, GetTask, IsGetCommand, IsOpeningFor, KeepsRead, OpensAs, done_behind, get_bucket, get_owner, room_of, sought}
-use Rattle.mg_jobs.specs.Plays.{Moves, MovesTo, Places, by_finding, no_move}
+use Rattle.mg_jobs.specs.Plays.{Moves, MovesTo, Places, all_places, by_finding, no_move}
+use Rattle.mg_jobs.specs.Spares.{ListsIts, SparesWhole}
 use Rattle.mg_jobs.specs.Telling as tells
 use Rattle.mg_jobs.specs.Telling.{GetTell, GetTells, GetTurns, TellsGetFails, TellsGetOpened, TellsNoCall}
 use Rattle.mg_jobs.specs.declared.get.GetPlayer.{GetPlayer}
@@ -53,7 +54,10 @@ use Rattle.mg_jobs.specs.declared.get.GetStage.TheVariants as gets
 use Rattle.mg_jobs.proofs.Adding.{adds_sent}
 use Rattle.mg_jobs.proofs.GetCausing.{heard_same}
 use Rattle.mg_jobs.proofs.GetSending.{IsGiving, IsNewDownload, ReadsOn, found_same, has_none, listed_same, lists_some, new_giving, new_plain, opened_new, opening_such, read_gives, read_on}
-use Rattle.mg_jobs.proofs.Telling.{answered_by, extends_answered, extends_going, extends_opened, extends_same, going_on, grows_ended, grows_later, in_first, is_since, keeps_to, opened_by, same_told}
+use Rattle.mg_jobs.proofs.GetListed.{opened_listed, opening_listed}
+use Rattle.mg_jobs.proofs.GetSpared.{grows_among, lists_grow, stops_grow}
+use Rattle.mg_jobs.proofs.GetStopping.{ReadLeaves, read_leaves}
+use Rattle.mg_jobs.proofs.Telling.{answered_by, extends_answered, extends_going, extends_opened, extends_same, going_on, grows_ended, grows_later, in_first, in_second, is_since, keeps_to, opened_by, same_told}
 
 -- ---- why an opening fails, by the words of a bucket that is a copy
 
@@ -167,7 +171,7 @@ module _ (old new : Awaited) (log log' : LogTold) (wire : ℤ) (job : GetPlayer)
                 passes = subst (λ (y : Owner). Passes calls x.0 y (looking_owner new doing)) (sym k.owns) x.2;
               },
             );
-        told = λ calls calls' told told' q at at' placed t.
+        told = λ calls calls' told told' q at at' placed k t.
             let c = came_to (findings.waits doing) calls calls' told told' q.now t.3 caused in
             let past : Past = past_of q.now (length calls) calls' wire in
             let later : Past = sent_at (sent_since q.now (length calls) (length calls')) calls' wire in
@@ -189,7 +193,7 @@ module _ (old new : Awaited) (log log' : LogTold) (wire : ℤ) (job : GetPlayer)
     turned = λ calls told own at k.
         let x = knows calls told k.knows.1 in
         (x.0, x.1, record { place = at; placed = refl; owner = nobody; plays = record { knows = tt; owns = refl }; passes = subst (λ (y : Owner). Passes calls x.0 y nobody) (sym k.owns) x.2 });
-    told = λ calls calls' told told' q at at' placed t.
+    told = λ calls calls' told told' q at at' placed k t.
         let c = came_to (findings.fails e) calls calls' told told' q.now t.3 caused in
         record {
           longer = c.room;
@@ -278,23 +282,36 @@ module _ (old new : Awaited) (log log' : LogTold) (wire : ℤ) (job : GetPlayer)
         subst (λ (x : ClientCursor). IsUnderway new past x) same tt
     new_fetching past (has_none f is) c at = absurd (let e : None ≡ Some c = sym (ap (λ (x : ClientDownload). cursor_in x.doing) is) ∙ at in cc)
 
+    -- all that it sent is told
+    opened_grows_to : (calls calls' : List Call) (q : Places) → Grows (past_of q.now (length calls) calls' wire) (sent_at (all_places (opened_by q (length calls) (length calls'))) calls' wire)
+    opened_grows_to calls calls' q =
+        let now : List ℕ = sent_since q.now (length calls) (length calls') in
+        grows_on (past_of q.now (length calls) calls' wire) (sent_at now calls' wire) (sent_at (all_places (opened_by q (length calls) (length calls'))) calls' wire) (grows_ended q.now (length calls) calls' wire)
+        (grows_among now (now ++ []) (length calls') calls' wire (λ place of. in_first now [] place of))
+
     stage_tells : (s : GetStage) (done : ℕ) → OpensAs download s → done ≡ done_behind s job.done → (calls calls' : List Call) (q : Places) (at : Option ℕ) → GetTells old calls wire q g (gets.Opens opening) job.done None → Keeps calls calls' → AddsOnly (IsGetCommand g) calls calls' → length calls ≤ length calls'
-        → MovesTo moves calls calls' None at → ((b : ClientBucket) → o.bucket ≡ Some b → OpeningCame new (past_of q.now (length calls) calls' wire) b o.id (findings.opens d)) → GetTell new calls calls' wire q job.done g s done at
-    stage_tells gets.Unsent done opens_so behind calls calls' q at t keeps adds room placed came = absurd opens_so
-    stage_tells (gets.Opens x) done opens_so behind calls calls' q at t keeps adds room placed came = absurd opens_so
-    stage_tells (gets.Reads x hand) done opens_so behind calls calls' q at t keeps adds room placed came =
+        → MovesTo moves calls calls' None at → ((b : ClientBucket) → o.bucket ≡ Some b → OpeningCame new (past_of q.now (length calls) calls' wire) b o.id (findings.opens d)) → ListsIts (past_of q.now (length calls) calls' wire) g d → GetTell new calls calls' wire q job.done g s done at
+    stage_tells gets.Unsent done opens_so behind calls calls' q at t keeps adds room placed came lists = absurd opens_so
+    stage_tells (gets.Opens x) done opens_so behind calls calls' q at t keeps adds room placed came lists = absurd opens_so
+    stage_tells (gets.Reads x hand) done opens_so behind calls calls' q at t keeps adds room placed came lists =
         let q' : Places = opened_by q (length calls) (length calls') in
         record {
           longer = room;
           places = q';
-          tells = subst (λ (y : GridFsDownloadStream). GetTells new calls' wire q' g (gets.Reads y hand) done at) (sym opens_so)
-              (tells_opened calls calls' q at t.1 room t.3 placed came, omega (arith, behind, first), new_fetching (sent_at q'.now calls' wire) new_one, is_download, new_plain d new_one);
+          tells = subst (λ (y : GridFsDownloadStream). GetTells new calls' wire q' g (gets.Reads y hand) done at) (sym opens_so) (
+            tells_opened calls calls' q at t.1 room t.3 placed came,
+            omega (arith, behind, first),
+            new_fetching (sent_at q'.now calls' wire) new_one,
+            is_download,
+            new_plain d new_one,
+            lists_grow (past_of q.now (length calls) calls' wire) (sent_at (all_places q') calls' wire) (opened_grows_to calls calls' q) (onward_refl calls' nobody) g d lists,
+          );
           extends = extends_opened q job.done done (length calls) (length calls') first t.0.0 t.0.1 room;
           adds = adds;
         }
-    stage_tells (gets.Ended ended.Unfinished) done opens_so behind calls calls' q at t keeps adds room placed came = absurd opens_so
-    stage_tells (gets.Ended (ended.Gave x)) done opens_so behind calls calls' q at t keeps adds room placed came = absurd opens_so
-    stage_tells (gets.Ended (ended.Failed e)) done opens_so behind calls calls' q at t keeps adds room placed came = record {
+    stage_tells (gets.Ended ended.Unfinished) done opens_so behind calls calls' q at t keeps adds room placed came lists = absurd opens_so
+    stage_tells (gets.Ended (ended.Gave x)) done opens_so behind calls calls' q at t keeps adds room placed came lists = absurd opens_so
+    stage_tells (gets.Ended (ended.Failed e)) done opens_so behind calls calls' q at t keeps adds room placed came lists = record {
       longer = room;
       places = going_on q (length calls) (length calls');
       tells = tells.out_of_memory (ap (λ (x : Error). x.kind) opens_so);
@@ -322,9 +339,11 @@ module _ (old new : Awaited) (log log' : LogTold) (wire : ℤ) (job : GetPlayer)
               passes = stage_passes s opens_so calls x.0 own passes;
             },
           );
-      told = λ calls calls' told told' q at at' placed t.
+      told = λ calls calls' told told' q at at' placed k t.
           let c = came_to (findings.opens d) calls calls' told told' q.now t.3 caused in
-          stage_tells s after.done opens_so behind calls calls' q at' t c.keeps (adds_so (findings.opens d) calls calls' t.1 opens told told' c.keeps) c.room placed c.came;
+          let b = bucket_opens old new log log' wire o d opens in
+          let lists = opened_listed g b.0 (t.1.placed b.0 b.1) (past_of q.now (length calls) calls' wire) d (new_plain d new_one) (opening_listed old new log log' wire o d sound opens calls told q.now t.3 b.0 b.1 calls' told') in
+          stage_tells s after.done opens_so behind calls calls' q at' t c.keeps (adds_so (findings.opens d) calls calls' t.1 opens told told' c.keeps) c.room placed c.came lists;
     }
 
 -- ---- before it
@@ -342,8 +361,8 @@ opening_begins old new log log' wire job after opening aim new_one sound rest =
             knows = (aim, record { placed = aim.placed; by = subst (LookingKnown old calls g.at o.id) (sym new_one) tt }, k.knows.0, k.knows.1);
             owns = k.owns ∙ ap (looking_owner old) (sym new_one);
           });
-      told = λ calls calls' told told' q at at' placed t.
-          rest.told calls calls' told told' q at at' placed (t.0, aim, sound, λ b is. subst (LookingUnderway old (sent_at q.now calls wire) b o.id) (sym new_one) tt);
+      told = λ calls calls' told told' q at at' placed k t.
+          rest.told calls calls' told told' q at at' placed (aim, record { placed = aim.placed; by = subst (LookingKnown old calls g.at o.id) (sym new_one) tt }, k.0, k.1) (t.0, aim, sound, λ b is. subst (LookingUnderway old (sent_at q.now calls wire) b o.id) (sym new_one) tt);
     }
 
 -- It fails before it has asked for anything.
@@ -351,12 +370,18 @@ pub fails_unsent : (awaited : Awaited) (log : LogTold) (wire : ℤ) (job : GetPl
 fails_unsent awaited log wire job e why = record {
   next = no_move;
   turned = λ calls told own at k. (calls, told, record { place = at; placed = refl; owner = nobody; plays = record { knows = tt; owns = refl }; passes = subst (λ (y : Owner). Passes calls calls y nobody) (sym k.owns) (passes_same calls nobody (holds_nobody calls)) });
-  told = λ calls calls' told told' q at at' placed t.
+  told = λ calls calls' told told' q at at' placed k t.
       subst (λ (c : List Call). GetTell awaited calls c wire q job.done (sought job.what) (gets.Ended (ended.Failed e)) job.done at') (same_told log calls calls' told told')
       (record { longer = omega arith; places = q; tells = why calls q; extends = extends_same q job.done job.done (length calls) refl; adds = adds_none (IsGetCommand (sought job.what)) calls });
 }
 
 -- ---- a read
+
+-- how it stands, or why it failed, in a later log
+leaves_grow : (past past' : Past) → Grows past past' → Onward past.calls past'.calls nobody → (calls : List Call) (g : GetTask) (f : FileRecord) (listed : ℕ) (d : ClientDownload) (r : ReadPoll) → ReadLeaves past calls g f listed d r → ReadLeaves past' calls g f listed d r
+leaves_grow past past' grows onward calls g f listed d read.Pending l = lists_grow past past' grows onward g d l
+leaves_grow past past' grows onward calls g f listed d (read.Read n) l = lists_grow past past' grows onward g d l
+leaves_grow past past' grows onward calls g f listed d (read.Failed e) l = stops_grow past past' grows onward (SparesWhole calls g.at g.id f listed) (SparesWhole calls g.at g.id f listed) (λ s. s) e l
 
 module _ (old new : Awaited) (log log' : LogTold) (wire : ℤ) (job : GetPlayer) (download : GridFsDownloadStream) (hand : Vec ℕ Global) (sound : IsDownload download) (some : 0 < job.what.read) (d' : ClientDownload) (r : ReadPoll) (given : List ℕ)
     (reads_so : Reads old new log log' wire (length hand.items) (download_of download) d' given r) (caused : ReadCaused old new log log' wire (download_of download) d' r) where
@@ -391,6 +416,17 @@ module _ (old new : Awaited) (log log' : LogTold) (wire : ℤ) (job : GetPlayer)
         adds = adds_sent (IsGetCommand task) log log' s.commands s.adds s.such calls calls' told told' keeps;
       }
 
+  -- how its cursor stands behind it, or why it failed
+  left_by : (calls calls' : List Call) → log ≡ Some calls → log' ≡ Some calls' → (q q' : Places) (at : Option ℕ) (k : GetKnowsAt old calls task (gets.Reads download hand) job.bytes.items at) → Told calls q at → all_places q' ≡ sent_since (all_places q) (length calls) (length calls')
+      → ReadLeaves (sent_at (all_places q') calls' wire) calls' task before.file k.0 d' r
+  left_by calls calls' told told' q q' at k t whole =
+      let all : List ℕ = all_places q in
+      let under = fetching_grows (sent_at q.now calls wire) (sent_at all calls wire) (grows_among q.now all (length calls) calls wire (λ place of. in_second q.opened (concat q.owns ++ q.now) place (in_second (concat q.owns) q.now place of))) old old before (λ m e. refl) t.2 in
+      let x = read_leaves old new log log' wire task before d' given r sound.between.sound calls told all job.bytes.items k.0 k.1 under t.5 (length hand.items) reads_so in
+      let here : ReadLeaves (past_of all (length calls) calls' wire) calls' task before.file k.0 d' r = subst (λ (c : List Call). ReadLeaves (past_of all (length calls) c wire) c task before.file k.0 d' r) (same_told log' x.calls' calls' x.told' told') x.leaves in
+      subst (λ (l : List ℕ). ReadLeaves (sent_at l calls' wire) calls' task before.file k.0 d' r) (sym whole)
+      (leaves_grow (past_of all (length calls) calls' wire) (sent_at (sent_since all (length calls) (length calls')) calls' wire) (grows_ended all (length calls) calls' wire) (onward_refl calls' nobody) calls' task before.file k.0 d' r here)
+
   -- what its opening heard is told so by a later log, whatever else was sent
   still_opened : (calls calls' : List Call) (q q' : Places) (f f' : FileRecord) (at : Option ℕ) → Keeps calls calls' → q'.opened ≡ q.opened → f' ≡ f → TellsGetOpened calls wire q task f at → TellsGetOpened calls' wire q' task f' at
   still_opened calls calls' q q' f f' at keeps same file t = record {
@@ -413,7 +449,7 @@ read_waits old new log log' wire job download hand sound some download' hand' gi
       turned = λ calls told own at k.
           let x = knows calls told g.id job.bytes.items k.knows.0 k.knows.1 in
           (x.0, x.1, record { place = at; placed = refl; owner = doing_owner new d'.doing; plays = record { knows = (k.knows.0, x.3, k.knows.2, unspoiled); owns = refl }; passes = subst (λ (y : Owner). Passes calls x.0 y (doing_owner new d'.doing)) (sym k.owns) x.2 });
-      told = λ calls calls' told told' q at at' placed t.
+      told = λ calls calls' told told' q at at' placed k t.
           let c = come_to old new log log' wire job download hand sound some d' read.Pending given reads_so caused calls calls' told told' q at t in
           let on = on_it old new log log' wire job download hand sound some d' read.Pending given reads_so caused t.4 in
           let q' : Places = going_on q (length calls) (length calls') in
@@ -427,6 +463,7 @@ read_waits old new log log' wire job download hand sound some download' hand' gi
               fetching_grows past (sent_at q'.now calls' wire) (grows_ended q.now (length calls) calls' wire) new new d' (λ m e. refl) c.came,
               sound',
               on.plain,
+              left_by old new log log' wire job download hand sound some d' read.Pending given reads_so caused calls calls' told told' q q' at k t (extends_going q job.done job.done (length calls) (length calls') refl c.room).whole,
             );
             extends = extends_going q job.done job.done (length calls) (length calls') refl c.room;
             adds = c.adds;
@@ -444,7 +481,7 @@ read_fails old new log log' wire job download hand sound some d' now given e rea
       turned = λ calls told own at k.
           let x = knows calls told g.id job.bytes.items k.knows.0 k.knows.1 in
           (x.0, x.1, record { place = at; placed = refl; owner = nobody; plays = record { knows = tt; owns = refl }; passes = to_nobody calls x.0 own (doing_owner new d'.doing) (subst (λ (y : Owner). Passes calls x.0 y (doing_owner new d'.doing)) (sym k.owns) x.2) });
-      told = λ calls calls' told told' q at at' placed t.
+      told = λ calls calls' told told' q at at' placed k t.
           let c = come_to old new log log' wire job download hand sound some d' (read.Failed e) given reads_so caused calls calls' told told' q at t in
           let q' : Places = going_on q (length calls) (length calls') in
           let past : Past = past_of q.now (length calls) calls' wire in
@@ -452,7 +489,8 @@ read_fails old new log log' wire job download hand sound some d' now given e rea
             longer = c.room;
             places = q';
             tells = tells.not_read some (let count = t.1 in omega (arith, count)) d at (still_opened old new log log' wire job download hand sound some d' (read.Failed e) given reads_so caused calls calls' q q' d.file d.file at c.keeps refl refl t.0) c.came.0
-                (read_fails_grow past (sent_at q'.now calls' wire) (grows_ended q.now (length calls) calls' wire) d c.came.0 e c.came.2);
+                (read_fails_grow past (sent_at q'.now calls' wire) (grows_ended q.now (length calls) calls' wire) d c.came.0 e c.came.2) c.came.1 sound.between.sound t.4 t.1 k.0 (t.0.listed k.0 k.2)
+                (left_by old new log log' wire job download hand sound some d' (read.Failed e) given reads_so caused calls calls' told told' q q' at k t (extends_going q job.done job.done (length calls) (length calls') refl c.room).whole);
             extends = extends_going q job.done job.done (length calls) (length calls') refl c.room;
             adds = c.adds;
           };
@@ -516,10 +554,10 @@ module _ (old new : Awaited) (log log' : LogTold) (wire : ℤ) (job after : GetP
   kept_passes (gets.Reads x room) keeps calls calls' own p = subst (λ (y : GridFsDownloadStream). Passes calls calls' own (doing_owner new (download_of y).doing)) (sym keeps.1) p
   kept_passes (gets.Ended end) keeps calls calls' own p = to_nobody calls calls' own (doing_owner new (download_of download').doing) p
 
-  kept_tells : (s : GetStage) → KeepsRead download' hand' count job.bytes.items after.bytes.items s → after.done ≡ done_behind s job.done → (calls calls' : List Call) → log ≡ Some calls → log' ≡ Some calls' → (q : Places) (at : Option ℕ) → GetTells old calls wire q aim (gets.Reads download hand) job.done at → GetTell new calls calls' wire q job.done aim s after.done at
-  kept_tells gets.Unsent keeps behind calls calls' told told' q at t = absurd keeps
-  kept_tells (gets.Opens x) keeps behind calls calls' told told' q at t = absurd keeps
-  kept_tells (gets.Reads x room) keeps behind calls calls' told told' q at t =
+  kept_tells : (s : GetStage) → KeepsRead download' hand' count job.bytes.items after.bytes.items s → after.done ≡ done_behind s job.done → (calls calls' : List Call) → log ≡ Some calls → log' ≡ Some calls' → (q : Places) (at : Option ℕ) → GetKnowsAt old calls aim (gets.Reads download hand) job.bytes.items at → GetTells old calls wire q aim (gets.Reads download hand) job.done at → GetTell new calls calls' wire q job.done aim s after.done at
+  kept_tells gets.Unsent keeps behind calls calls' told told' q at k t = absurd keeps
+  kept_tells (gets.Opens x) keeps behind calls calls' told told' q at k t = absurd keeps
+  kept_tells (gets.Reads x room) keeps behind calls calls' told told' q at k t =
       let c = come_to old new log log' wire job download hand sound some (download_of download') (read.Read count) given reads_so caused calls calls' told told' q at t in
       let on = on_this t.4 in
       let q' : Places = answered_by q (length calls) (length calls') in
@@ -534,23 +572,24 @@ module _ (old new : Awaited) (log log' : LogTold) (wire : ℤ) (job after : GetP
           giving_fetching new (sent_at q'.now calls' wire) (download_of download') (download_of download').doing sound'.between.sound.by (gives_so keeps.0),
           sound',
           on.plain,
+          left_by old new log log' wire job download hand sound some (download_of download') (read.Read count) given reads_so caused calls calls' told told' q q' at k t (extends_answered q job.done after.done (length calls) (length calls') (sym counted) c.room).whole,
         );
         extends = extends_answered q job.done after.done (length calls) (length calls') (sym counted) c.room;
         adds = c.adds;
       }
-  kept_tells (gets.Ended ended.Unfinished) keeps behind calls calls' told told' q at t = absurd keeps.1
-  kept_tells (gets.Ended (ended.Gave x)) keeps behind calls calls' told told' q at t =
+  kept_tells (gets.Ended ended.Unfinished) keeps behind calls calls' told told' q at k t = absurd keeps.1
+  kept_tells (gets.Ended (ended.Gave x)) keeps behind calls calls' told told' q at k t =
       let c = come_to old new log log' wire job download hand sound some (download_of download') (read.Read count) given reads_so caused calls calls' told told' q at t in
       let q' : Places = going_on q (length calls) (length calls') in
       let f : FileRecord = (download_of download).file in
       record {
         longer = c.room;
         places = q';
-        tells = (some, f, still_opened old new log log' wire job download hand sound some (download_of download') (read.Read count) given reads_so caused calls calls' q q' f f at c.keeps refl refl t.0);
+        tells = (some, f, still_opened old new log log' wire job download hand sound some (download_of download') (read.Read count) given reads_so caused calls calls' q q' f f at c.keeps refl refl t.0, t.1 ∙ sym behind);
         extends = extends_going q job.done after.done (length calls) (length calls') behind c.room;
         adds = c.adds;
       }
-  kept_tells (gets.Ended (ended.Failed e)) keeps behind calls calls' told told' q at t =
+  kept_tells (gets.Ended (ended.Failed e)) keeps behind calls calls' told told' q at k t =
       let c = come_to old new log log' wire job download hand sound some (download_of download') (read.Read count) given reads_so caused calls calls' told told' q at t in
       record {
         longer = c.room;
@@ -576,6 +615,6 @@ module _ (old new : Awaited) (log log' : LogTold) (wire : ℤ) (job after : GetP
             passes = kept_passes s keeps calls x.0 own passes;
           },
         );
-    told = λ calls calls' told told' q at at' placed t.
-        subst (λ (x : Option ℕ). GetTell new calls calls' wire q job.done aim s after.done x) (sym placed) (kept_tells s keeps behind calls calls' told told' q at t);
+    told = λ calls calls' told told' q at at' placed k t.
+        subst (λ (x : Option ℕ). GetTell new calls calls' wire q job.done aim s after.done x) (sym placed) (kept_tells s keeps behind calls calls' told told' q at k t);
   }

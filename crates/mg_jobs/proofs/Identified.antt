@@ -254,7 +254,7 @@ module _ (watched : ℤ → Type 0) (are_its : WatchArgs → Type 0) (past : Pas
   cursor_fails e c (causes.untold may why is) = cursor_behind e c is
   cursor_fails e c (causes.broken may bytes said heard says is breaks) = cursor_said bytes said c heard says is
 
-  cursor_left : (c : ClientCursor) → Resumes past at c → IsItsCursor c
+  pub cursor_left : (c : ClientCursor) → Resumes past at c → IsItsCursor c
   cursor_left c (causes.owed owes is) = cursor_rest c is
   cursor_left c (causes.more_failed e why is) = cursor_fails e c why
   cursor_left c (causes.first_broken bytes e first breaks is) = cursor_rest c is
@@ -348,7 +348,7 @@ module _ (watched : ℤ → Type 0) (are_its : WatchArgs → Type 0) (past : Pas
   never_missing after e (causes.cannot_ask may by same empty settled) is = not_built at.cursor.manner.size (get_more at.cursor None) e by is
   never_missing after e (causes.no_id event next lacks io settled) is = let id = (next_well (event ∷ after.behind) after.cursor next).0.0 in let has = id.1 in absurd cc
 
-  called_stands : (answer : Answer) (after : ClientStream) → Called past None at after (poll_of answer) → StandsWell watched are_its after × ((e : Error) → answer ≡ answers.Failed e → e.kind ≡ kind.MissingResumeToken → ⊥)
+  pub called_stands : (answer : Answer) (after : ClientStream) → Called past None at after (poll_of answer) → StandsWell watched are_its after × ((e : Error) → answer ≡ answers.Failed e → e.kind ≡ kind.MissingResumeToken → ⊥)
   called_stands (answers.Event event) after called = (gave_well after event called, λ e same is. cc)
   called_stands answers.Nothing after called = (empty_well after called.0 called.1, λ e same is. cc)
   called_stands (answers.Failed f) after called = (failed_well after f called, λ e same is. let fails : f ≡ e = cc in never_missing after f called.why (ap (λ (x : Error). x.kind) fails ∙ is))

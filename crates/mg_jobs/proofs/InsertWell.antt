@@ -84,11 +84,11 @@ none_at : (o : Option Tree) → failures_at o ≡ Some [] → write_errors_at o 
 none_at None h = refl
 none_at (Some t) h = none_of (as_array t) h
 
-reads_count : (said : Fields) (n : ℕ) → option_and_then as_integer (get (codes "n") said) ≡ Some (pos n) → count_of said ≡ Ok n
+pub reads_count : (said : Fields) (n : ℕ) → option_and_then as_integer (get (codes "n") said) ≡ Some (pos n) → count_of said ≡ Ok n
 unfolding count_of
 reads_count said n is = ap (λ (o : Option ℤ). found malformed.BadCount (option_and_then as_count o)) is
 
-reads_none : (count : ℕ) (said : Fields) → failures_at (get (codes "writeErrors") said) ≡ Some [] → get (codes "writeConcernError") said ≡ None → failures_of count said ≡ Ok []
+pub reads_none : (count : ℕ) (said : Fields) → failures_at (get (codes "writeErrors") said) ≡ Some [] → get (codes "writeConcernError") said ≡ None → failures_of count said ≡ Ok []
 unfolding failures_of
 reads_none count said none met = rw (none_at (get (codes "writeErrors") said) none, met) refl
 

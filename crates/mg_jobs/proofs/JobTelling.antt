@@ -5,7 +5,7 @@ use Rattle.mg_link.specs.Calls.{Keeps, past_of}
 use Rattle.mg_link.specs.Link.{Awaited, LogTold}
 use Rattle.mg_link.specs.Log.{Call}
 use Rattle.mg_link.specs.Namespace.{space}
-use Rattle.mg_link.specs.Owner.{Onward, nobody}
+use Rattle.mg_link.specs.Owner.{Onward, Owner, nobody}
 use Rattle.mg_link.proofs.Adding.{adds_none}
 use Rattle.mg_link.proofs.Calls.{keeps_longer}
 use Rattle.mg_link.proofs.Owners.{same_some}
@@ -14,13 +14,13 @@ use Rattle.mg_jobs.specs.Causes.{commands_at, sent_at}
 use Rattle.mg_jobs.specs.Drawing.{InsertDrawsAs, JobHadTurn, sent_documents, sent_from}
 use Rattle.mg_jobs.specs.Follows.{Placing}
 use Rattle.mg_jobs.specs.Gets.{gets_ended, sought}
-use Rattle.mg_jobs.specs.Headline.{IsFirst, IsSameTask, follow_task, get_task, insert_task, task_of}
+use Rattle.mg_jobs.specs.Headline.{FollowPlays, GetPlays, InsertPlays, IsFirst, IsSameTask, Plays, follow_task, get_task, insert_task, task_of}
 use Rattle.mg_jobs.specs.Playing.{IsSameFollow, IsSameInsert, follow_ended, job_ticket}
 use Rattle.mg_jobs.specs.Progress.{Came, FollowAt, GetStageAt, IsAt, came, PutAt}
 use Rattle.mg_jobs.specs.Runs.{has_ended}
 use Rattle.mg_jobs.specs.Sends.{MaySend}
 use Rattle.mg_jobs.specs.Plays as words
-use Rattle.mg_jobs.specs.Plays.{Account, AnySent, Moves, Places, by_placing, no_move}
+use Rattle.mg_jobs.specs.Plays.{Account, AnySent, Knowledge, Moves, Places, by_placing, no_move}
 use Rattle.mg_jobs.specs.Telling.{FollowSays, FollowTells, InsertSaid, InsertSays, InsertTurns, JobTells, Kept, StageSends, StageSent, TellsAs, TellsBehind, TellsOn, Tells, TurnTells, kept, number, number_of, GetGoesOn, GetSays, GetTells, PutTells, put_number}
 use Rattle.mg_script.specs.Plan.{Task}
 use Rattle.mg_script.specs.declared.outcome.Ended.{Ended}
@@ -57,7 +57,7 @@ job_later t old new calls calls' wire q (player.Insert job) at keeps onward same
     }
 job_later t old new calls calls' wire q (player.Follow job) at keeps onward same told = tells_later old new calls calls' wire q job.stage (kept job) at keeps same told
 job_later t old new calls calls' wire q (player.Put job) at keeps onward same told = put_later (writes job.what) old new calls calls' wire q job.done job.stage keeps onward same told
-job_later t old new calls calls' wire q (player.Get job) at keeps onward same told = get_tells_later old new calls calls' wire q (sought job.what) job.stage job.done at keeps same told
+job_later t old new calls calls' wire q (player.Get job) at keeps onward same told = get_tells_later old new calls calls' wire q (sought job.what) job.stage job.done at keeps onward same told
 
 -- It tells the same where the number of its first id is another, unless it had a turn.
 pub job_of_others : (ids : ℕ → List ℕ) (n n' : ℕ) (awaited : Awaited) (calls : List Call) (wire : ℤ) (q : Places) (p : Player) (at : Option ℕ) (had : Bool) → JobHadTurn had p → (had ≡ true → n' ≡ n) → JobTells awaited calls wire q (sent_from ids n (task_of p)) p at → JobTells awaited calls wire q (sent_from ids n' (task_of p)) p at
@@ -126,8 +126,8 @@ follow_teller so f f' same =
 -- ---- turns
 
 -- a turn in which nothing was sent, behind which a job tells what it told
-pub quiet_turn : {P : Type 0} (does : P → Task) (says : Account P) (count : P → ℕ) (so : Task → Type 0) (awaited : Awaited) (log : LogTold) (wire : ℤ) (p p' : P) → words.TellsAs does says count so p p' → words.TurnTells does says count so awaited awaited log log wire p p' no_move
-quiet_turn does says count so awaited log wire p p' teller calls calls' told told' ids n may q at at' placed tells =
+pub quiet_turn : {P : Type 0} (does : P → Task) (knows : Knowledge P) (says : Account P) (count : P → ℕ) (so : Task → Type 0) (awaited : Awaited) (log : LogTold) (wire : ℤ) (p p' : P) → words.TellsAs does says count so p p' → words.TurnTells does knows says count so awaited awaited log log wire p p' no_move
+quiet_turn does knows says count so awaited log wire p p' teller calls calls' told told' ids n may q at at' placed o plays tells =
     subst (λ (x : Option ℕ). words.TellsBehind says count awaited calls calls' wire (sent_from ids n (does p)) q (count p) p' x) (sym placed)
     (subst (λ (c : List Call). words.TellsBehind says count awaited calls c wire (sent_from ids n (does p)) q (count p) p' at) (same_some calls calls' (sym told ∙ told'))
     (record {
@@ -140,8 +140,8 @@ quiet_turn does says count so awaited log wire p p' teller calls calls' told tol
 
 -- a turn of an insert
 pub insert_turn : (so : Task → Type 0) (old new : Awaited) (log log' : LogTold) (wire : ℤ) (job job' : InsertPlayer) → job'.ns ≡ job.ns → ((sent : List Fields) → InsertTurns old new log log' wire (space job.ns.now) sent job.stage job'.stage) → ((sent : List Fields) → StageSends log log' (space job.ns.now) sent job.stage job'.stage)
-    → words.TurnTells insert_task InsertSays no_number so old new log log' wire job job' no_move
-insert_turn so old new log log' wire job job' same turns sends calls calls' told told' ids n may q at at' placed tells =
+    → words.TurnTells insert_task InsertPlays InsertSays no_number so old new log log' wire job job' no_move
+insert_turn so old new log log' wire job job' same turns sends calls calls' told told' ids n may q at at' placed o plays tells =
     let sent : List Fields = with_ids ids n job.documents.now in
     let r = turns sent calls calls' told told' q.now tells.tells in
     let s = sends sent (commands_at calls q.now) tells.sends in
@@ -162,8 +162,8 @@ insert_turn so old new log log' wire job job' same turns sends calls calls' told
     }
 
 -- a turn of a follow
-pub follow_turn : (so : Task → Type 0) (old new : Awaited) (log log' : LogTold) (wire : ℤ) (job job' : FollowPlayer) (next : Placing) → FollowTells old new log log' wire job.stage (kept job) job'.stage (kept job') next → words.TurnTells task_followed FollowSays follow_number so old new log log' wire job job' (by_placing next)
-follow_turn so old new log log' wire job job' next tells calls calls' told told' ids n may q at at' placed t =
+pub follow_turn : (so : Task → Type 0) (old new : Awaited) (log log' : LogTold) (wire : ℤ) (job job' : FollowPlayer) (next : Placing) → FollowTells old new log log' wire job.stage (kept job) job'.stage (kept job') next → words.TurnTells task_followed FollowPlays FollowSays follow_number so old new log log' wire job job' (by_placing next)
+follow_turn so old new log log' wire job job' next tells calls calls' told told' ids n may q at at' placed o plays t =
     let r = tells calls calls' told told' q at t in
     record { longer = r.longer; places = r.places; tells = subst (λ (x : Option ℕ). Tells new calls' wire r.places job'.stage (kept job') x) (sym placed) r.tells; extends = r.extends; adds = r.adds }
 
@@ -171,15 +171,15 @@ abbrev pub get_number : GetPlayer → ℕ
 get_number job = job.done
 
 -- a turn of a get
-pub get_turn : (so : Task → Type 0) (old new : Awaited) (log log' : LogTold) (wire : ℤ) (job job' : GetPlayer) (next : Moves) → job'.what ≡ job.what → GetGoesOn old new log log' wire (sought job.what) job.stage job.done job'.stage job'.done next → words.TurnTells get_task GetSays get_number so old new log log' wire job job' next
-get_turn so old new log log' wire job job' next same goes calls calls' told told' ids n may q at at' placed t =
-    let r = goes calls calls' told told' q at at' placed t in
+pub get_turn : (so : Task → Type 0) (old new : Awaited) (log log' : LogTold) (wire : ℤ) (job job' : GetPlayer) (next : Moves) → job'.what ≡ job.what → GetGoesOn old new log log' wire (sought job.what) job.stage job.bytes.items job.done job'.stage job'.done next → words.TurnTells get_task GetPlays GetSays get_number so old new log log' wire job job' next
+get_turn so old new log log' wire job job' next same goes calls calls' told told' ids n may q at at' placed o plays t =
+    let r = goes calls calls' told told' q at at' placed plays.knows t in
     record { longer = r.longer; places = r.places; tells = subst (λ w. GetTells new calls' wire r.places (sought w) job'.stage job'.done at') (sym same) r.tells; extends = r.extends; adds = r.adds }
 
 -- a job that got ready, and then took its turn
-pub ready_turn : (so : Task → Type 0) (old new : Awaited) (log log' : LogTold) (wire : ℤ) (p q p' : Player) (next : Moves) → IsSameTask p q → TellsAs so p q → TurnTells AnySent old new log log' wire q p' next → TurnTells so old new log log' wire p p' next
-ready_turn so old new log log' wire p q p' next task teller turn calls calls' told told' ids n may places at at' placed tells =
-    let r = turn calls calls' told told' ids n tt places at at' placed (subst (λ (u : Task). JobTells old calls wire places (sent_from ids n u) q at) (sym task) (teller.tells old calls wire places ids n at may tells)) in
+pub ready_turn : (so : Task → Type 0) (old new : Awaited) (log log' : LogTold) (wire : ℤ) (p q p' : Player) (next : Moves) → IsSameTask p q → ((awaited : Awaited) (calls : List Call) (o : Owner) (at : Option ℕ) → Plays awaited calls p o at → Plays awaited calls q o at) → TellsAs so p q → TurnTells AnySent old new log log' wire q p' next → TurnTells so old new log log' wire p p' next
+ready_turn so old new log log' wire p q p' next task knows teller turn calls calls' told told' ids n may places at at' placed o plays tells =
+    let r = turn calls calls' told told' ids n tt places at at' placed o (knows old calls o at plays) (subst (λ (u : Task). JobTells old calls wire places (sent_from ids n u) q at) (sym task) (teller.tells old calls wire places ids n at may tells)) in
     subst (λ (u : Task). TellsBehind new calls calls' wire (sent_from ids n u) places (number_of p) p' at') task
     (subst (λ (m : ℕ). TellsBehind new calls calls' wire (sent_from ids n (task_of q)) places m p' at') teller.number_same r)
 

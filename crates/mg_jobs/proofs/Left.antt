@@ -16,7 +16,7 @@ asking_few unsent = omega arith
 asking_few (first ticket) = omega arith
 asking_few (second ticket) = omega arith
 
-resuming_few : (stage : Stage) → resuming_places stage ≤ 3
+pub resuming_few : (stage : Stage) → resuming_places stage ≤ 3
 resuming_few unsent = omega arith
 resuming_few (first ticket) = omega arith
 resuming_few (second ticket) = omega arith
@@ -26,7 +26,7 @@ ending_few unsent = omega arith
 ending_few (first ticket) = omega arith
 ending_few (second ticket) = omega arith
 
-killing_few : (o : Option Sending) → killing_places o ≤ 1
+pub killing_few : (o : Option Sending) → killing_places o ≤ 1
 killing_few None = omega arith
 killing_few (Some sending) = ending_few sending.stage
 

@@ -33,7 +33,7 @@ is_all None = false
 is_all (Some b) = b
 
 -- the options of a watch that say where it begins, how large its batches are, and whether it is of all databases
-abbrev plain : Option Tree → Option Tree → Option Timestamp → Option Bool → Option ℕ → ChangeStreamOptions
+abbrev pub plain : Option Tree → Option Tree → Option Timestamp → Option Bool → Option ℕ → ChangeStreamOptions
 plain resume start time all batch = record no_options { resume_after = resume; start_after = start; start_at_operation_time = time; all_changes_for_cluster = all; batch_size = batch }
 
 abbrev resume_in : Begin → Option Tree
@@ -57,7 +57,7 @@ time_in (at_time seconds increment) = Some (record { time = seconds; increment =
 abbrev begun : Option Bool → Begin → Option ℕ → ChangeStreamOptions
 begun all start batch = plain (resume_in start) (after_in start) (time_in start) all batch
 
-begun_is : (on : Target) (start : Begin) (batch : Option ℕ) → options_of on start batch ≡ begun (all_changes_of on) start batch
+pub begun_is : (on : Target) (start : Begin) (batch : Option ℕ) → options_of on start batch ≡ begun (all_changes_of on) start batch
 begun_is on nowhere batch = refl
 begun_is on (resume_after token) batch = refl
 begun_is on (start_after token) batch = refl

@@ -27,7 +27,7 @@ use Rattle.mg_jobs.proofs.Replying.{collection_there, database_there, fits, name
 
 -- ---- names and sizes
 
-takes : (on : Target) → HasShortTarget on → Takes on
+pub takes : (on : Target) → HasShortTarget on → Takes on
 takes (collection space) short =
     let db = database_there space.db short.named.db in
     let coll = collection_there space.coll short.named.coll in
@@ -35,7 +35,7 @@ takes (collection space) short =
 takes (database db) short = let there = database_there db short.0 in (named db there.0 short.1, undotted db there.1)
 takes cluster short = tt
 
-short_space : (on : Target) → HasShortTarget on → (length (watch_space on).db ≤ max_name) × (length (watch_space on).coll ≤ max_name)
+pub short_space : (on : Target) → HasShortTarget on → (length (watch_space on).db ≤ max_name) × (length (watch_space on).coll ≤ max_name)
 short_space (collection space) short = (short.db_fits, short.coll_fits)
 short_space (database db) short = (short.1, omega arith)
 short_space cluster short = (omega arith, omega arith)
@@ -73,7 +73,7 @@ module _ (s : State) (given : ℕ) (modest : AreModestEntries s.changes) (w : Wa
   behind : (b : Bool) (token : Tree) (place : ℕ) → token_place (length s.changes) token ≡ Some place → place_at s w (state.after token) b ≡ Ok place
   behind b token place is = ap (place_after w s.changes b) is ∙ unresumed b w s.changes place modest
 
-  begins : (start : Begin) → IsThere s (start_of start) → (from : ℕ) × (place_at s w (start_of start) (is_resumed start) ≡ Ok from)
+  pub begins : (start : Begin) → IsThere s (start_of start) → (from : ℕ) × (place_at s w (start_of start) (is_resumed start) ≡ Ok from)
   begins nowhere there = (length s.changes, refl)
   begins (resume_after token) there = (there.0, behind true token there.0 there.1)
   begins (start_after token) there = (there.0, behind false token there.0 there.1)
@@ -84,7 +84,7 @@ module _ (s : State) (given : ℕ) (modest : AreModestEntries s.changes) (w : Wa
   abbrev reply_from : ℕ → ℕ → Fields
   reply_from from size = watch_reply s (pos (suc given)) w from size
 
-  answered : (fs : Fields) (start : Start) (resumes : Bool) (size : Option ℕ) (from : ℕ) → length (watch_space w.target).db ≤ max_name → length (watch_space w.target).coll ≤ max_name → request_of fs ≡ Ok (watch w start resumes size) → place_at s w start resumes ≡ Ok from
+  pub answered : (fs : Fields) (start : Start) (resumes : Bool) (size : Option ℕ) (from : ℕ) → length (watch_space w.target).db ≤ max_name → length (watch_space w.target).coll ≤ max_name → request_of fs ≡ Ok (watch w start resumes size) → place_at s w start resumes ≡ Ok from
       → answer_of s (pos (suc given)) fs ≡ answer_with [] (reply_from from (size_of size))
   unfolding answer_of
   answered fs start resumes size from db coll reads at =

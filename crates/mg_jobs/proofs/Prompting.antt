@@ -67,7 +67,7 @@ lawful step p = record { before = p.before; numbered = p.numbered; may = p.may }
 -- ---- what its reply tells
 
 module _ (step : Step) (p : IsLawful step) where
-  never_garbled : told_at step ≡ garbled → ⊥
+  pub never_garbled : told_at step ≡ garbled → ⊥
   never_garbled is = subst (λ (t : Told). MayTell p.before (grown p.before step.made) (asked step.command) t step.made) is p.may.tells
 
   pub told_so : (v : Verdict) → verdict_of (fields step.reply) ≡ v → told_at step ≡ told_by v (asked step.command) (fields step.reply)

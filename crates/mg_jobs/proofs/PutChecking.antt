@@ -172,7 +172,7 @@ created_flies b k c t (check.unread reply e is fails answer) = turn_as t (check.
 created_flies b k c t (check.other e is code answer) = turn_as t (check.fails e) answer tt
 
 -- the list is opened without options
-opened_plainly : (reply : List ℕ) (out : CursorSpecification) → OpensWith None None None reply out → (new_client out).manner ≡ plain_manner
+pub opened_plainly : (reply : List ℕ) (out : CursorSpecification) → OpensWith None None None reply out → (new_client out).manner ≡ plain_manner
 opened_plainly reply out read = rw (read.opens.size_is, read.time_is, read.comment_is) refl
 
 list_flies : (k : Place) (reply : List ℕ) (t : CheckTurned) → HearsList k reply t → TurnFlies t

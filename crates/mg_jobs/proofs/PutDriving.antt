@@ -23,7 +23,7 @@ use Rattle.mg_jobs.specs.declared.put.PutStage.TheVariants as puts
 use Rattle.mg_jobs.proofs.PutPolled.{takes_close, takes_write}
 use Rattle.mg_jobs.proofs.PutSending.{joined_total}
 use Rattle.mg_jobs.proofs.PutTurning.{put_over, put_still}
-use Rattle.mg_jobs.proofs.PutWriting.{ClosePolled, WritePolled, close_adds, close_done, close_fails, close_room, close_waits, write_adds, write_done, write_fails, write_room, write_waits}
+use Rattle.mg_jobs.proofs.PutWriting.{ClosePolled, WritePolled, close_adds, close_clears, close_done, close_fails, close_room, close_waits, write_adds, write_clears, write_done, write_fails, write_room, write_waits}
 use Rattle.mg_jobs.proofs.Telling.{answered_by, extends_answered, extends_going, going_on}
 
 -- ---- the put behind a poll, by another name
@@ -79,7 +79,7 @@ module _ (p : PutPlayer) (going going' : Going) (bytes : List ℕ) (old new : Aw
     holds = record { sound = sound; doing = subst (λ (d : Doing). IsPutDoing d p.done (length T.pieces)) (sym polled.leaves.2) (omega (arith, within)) };
     has = tt;
     turned = λ calls told o at plays. put_still old new log log' U U' polled.passes calls told o plays (record p { stage = puts.Goes going' }) going' at refl refl;
-    told = λ calls calls' told told' ids n may q at at' placed says.
+    told = λ calls calls' told told' ids n may q at at' placed o plays says.
         record {
           longer = write_room T old new log log' wire U U' bytes wrote.Pending polled holds.sound.between p.done there holds.doing calls calls' told told' q says.0;
           places = going_on q (length calls) (length calls');
@@ -96,7 +96,7 @@ module _ (p : PutPlayer) (going going' : Going) (bytes : List ℕ) (old new : Aw
     holds = record { sound = sound; doing = subst (λ (d : Doing). IsPutDoing d (p.done + 1) (length T.pieces)) (sym polled.leaves.0) (omega (arith, within)) };
     has = tt;
     turned = λ calls told o at plays. put_still old new log log' U U' polled.passes calls told o plays (record p { stage = puts.Goes going'; done = p.done + 1 }) going' at refl refl;
-    told = λ calls calls' told told' ids m may q at at' placed says.
+    told = λ calls calls' told told' ids m may q at at' placed o plays says.
         record {
           longer = write_room T old new log log' wire U U' bytes (wrote.Wrote n) polled holds.sound.between p.done there holds.doing calls calls' told told' q says.0;
           places = answered_by q (length calls) (length calls');
@@ -113,11 +113,11 @@ module _ (p : PutPlayer) (going going' : Going) (bytes : List ℕ) (old new : Aw
     holds = tt;
     has = tt;
     turned = λ calls told o at plays. put_over old new log log' U U' polled.passes calls told o plays (record p { stage = puts.Ended (ended.Failed e) }) (ended.Failed e) at refl;
-    told = λ calls calls' told told' ids n may q at at' placed says.
+    told = λ calls calls' told told' ids n may q at at' placed o plays says.
         record {
           longer = write_room T old new log log' wire U U' bytes (wrote.Failed e) polled holds.sound.between p.done there holds.doing calls calls' told told' q says.0;
           places = going_on q (length calls) (length calls');
-          tells = (says.0.opened, says.0.counted, inr (says.0.sized, write_fails T old new log log' wire U U' bytes (wrote.Failed e) polled holds.sound.between p.done there holds.doing calls calls' told told' q says.0 e refl));
+          tells = (says.0.opened, says.0.counted, inr (says.0.sized, write_fails T old new log log' wire U U' bytes (wrote.Failed e) polled holds.sound.between p.done there holds.doing calls calls' told told' q says.0 e refl, write_clears T old new log log' wire U U' bytes (wrote.Failed e) polled holds.sound.between p.done there holds.doing calls calls' told told' q says.0 e refl), tt);
           extends = extends_going q (suc p.done) (suc p.done) (length calls) (length calls') refl (write_room T old new log log' wire U U' bytes (wrote.Failed e) polled holds.sound.between p.done there holds.doing calls calls' told told' q says.0);
           adds = write_adds T old new log log' wire U U' bytes (wrote.Failed e) polled holds.sound.between p.done there holds.doing calls calls' told told' q says.0;
         };
@@ -139,15 +139,15 @@ module _ (p : PutPlayer) (going going' : Going) (bytes : List ℕ) (there : slic
     λ calls k last at. (at.0, omega (arith, at.1), subst (λ (d : Doing). IsPutDoing d p.done (length p.what.pieces.now)) (sym leaves.2) (omega (arith, within_now)), pended.0),
   )
 
-  pub write_done_comes : (n before now : ℕ) → LeavesWrite (upload_of going.upload) (upload_of going'.upload) (wrote.Wrote n) → now ≡ before → PutGoes before now (record p { stage = puts.Goes going }) (record p { stage = puts.Goes going'; done = p.done + 1 })
-  write_done_comes n before now leaves same = (
+  pub write_done_comes : (before now : ℕ) → (upload_of going'.upload).doing ≡ idle → now ≡ before → PutGoes before now (record p { stage = puts.Goes going }) (record p { stage = puts.Goes going'; done = p.done + 1 })
+  write_done_comes before now rests same = (
     false,
     same,
     λ calls k last at. (
       at.0,
       omega (arith, at.1),
-      subst (λ (d : Doing). IsPutDoing d (p.done + 1) (length p.what.pieces.now)) (sym leaves.0) (omega (arith, within_now)),
-      subst (λ (d : Doing). HoldsIf false (ticket_by d)) (sym leaves.0) refl,
+      subst (λ (d : Doing). IsPutDoing d (p.done + 1) (length p.what.pieces.now)) (sym rests) (omega (arith, within_now)),
+      subst (λ (d : Doing). HoldsIf false (ticket_by d)) (sym rests) refl,
     ),
   )
 
@@ -189,7 +189,7 @@ module _ (p : PutPlayer) (going going' : Going) (old new : Awaited) (log log' : 
     holds = record { sound = sound; doing = subst (λ (d : Doing). IsPutDoing d p.done (length (pieces p.what.pieces.now))) (sym polled.leaves.1) all_made };
     has = tt;
     turned = λ calls told o at plays. put_still old new log log' V V' polled.passes calls told o plays (record p { stage = puts.Goes going' }) going' at refl refl;
-    told = λ calls calls' told told' ids n may q at at' placed says.
+    told = λ calls calls' told told' ids n may q at at' placed o plays says.
         record {
           longer = close_room Task old new log log' wire V V' end.Pending polled holds.sound.between p.done all holds.doing calls calls' told told' q says.0;
           places = going_on q (length calls) (length calls');
@@ -206,11 +206,11 @@ module _ (p : PutPlayer) (going going' : Going) (old new : Awaited) (log log' : 
     holds = tt;
     has = tt;
     turned = λ calls told o at plays. put_over old new log log' V V' polled.passes calls told o plays (record p { stage = puts.Ended (ended.Gave going.length) }) (ended.Gave going.length) at refl;
-    told = λ calls calls' told told' ids n may q at at' placed says.
+    told = λ calls calls' told told' ids n may q at at' placed o plays says.
         record {
           longer = close_room Task old new log log' wire V V' end.Done polled holds.sound.between p.done all holds.doing calls calls' told told' q says.0;
           places = going_on q (length calls) (length calls');
-          tells = (says.0.opened, says.0.counted, (says.1 ∙ sym (joined_total (Task).pieces), says.0.sized, close_done Task old new log log' wire V V' end.Done polled holds.sound.between p.done all holds.doing calls calls' told told' q says.0 refl));
+          tells = (says.0.opened, says.0.counted, (says.1 ∙ sym (joined_total (Task).pieces), says.0.sized, close_done Task old new log log' wire V V' end.Done polled holds.sound.between p.done all holds.doing calls calls' told told' q says.0 refl), all_made);
           extends = extends_going q (suc p.done) (suc p.done) (length calls) (length calls') refl (close_room Task old new log log' wire V V' end.Done polled holds.sound.between p.done all holds.doing calls calls' told told' q says.0);
           adds = close_adds Task old new log log' wire V V' end.Done polled holds.sound.between p.done all holds.doing calls calls' told told' q says.0;
         };
@@ -223,11 +223,11 @@ module _ (p : PutPlayer) (going going' : Going) (old new : Awaited) (log log' : 
     holds = tt;
     has = tt;
     turned = λ calls told o at plays. put_over old new log log' V V' polled.passes calls told o plays (record p { stage = puts.Ended (ended.Failed e) }) (ended.Failed e) at refl;
-    told = λ calls calls' told told' ids n may q at at' placed says.
+    told = λ calls calls' told told' ids n may q at at' placed o plays says.
         record {
           longer = close_room Task old new log log' wire V V' (end.Failed e) polled holds.sound.between p.done all holds.doing calls calls' told told' q says.0;
           places = going_on q (length calls) (length calls');
-          tells = (says.0.opened, says.0.counted, inr (says.0.sized, close_fails Task old new log log' wire V V' (end.Failed e) polled holds.sound.between p.done all holds.doing calls calls' told told' q says.0 e refl));
+          tells = (says.0.opened, says.0.counted, inr (says.0.sized, close_fails Task old new log log' wire V V' (end.Failed e) polled holds.sound.between p.done all holds.doing calls calls' told told' q says.0 e refl, close_clears Task old new log log' wire V V' (end.Failed e) polled holds.sound.between p.done all holds.doing calls calls' told told' q says.0 e refl), tt);
           extends = extends_going q (suc p.done) (suc p.done) (length calls) (length calls') refl (close_room Task old new log log' wire V V' (end.Failed e) polled holds.sound.between p.done all holds.doing calls calls' told told' q says.0);
           adds = close_adds Task old new log log' wire V V' (end.Failed e) polled holds.sound.between p.done all holds.doing calls calls' told told' q says.0;
         };

@@ -27,10 +27,11 @@ use Rattle.mg_script.specs.declared.outcome.Ended.TheVariants as ended
 pub at_stage : (p : PutPlayer) (s : PutStage) → s ≡ p.stage → record p { stage = s } ≡ p
 at_stage p s is = ap (λ (x : PutStage). record p { stage = x }) is
 
-pub put_goes : (old new : Awaited) (log log' : LogTold) (wire : ℤ) (p r : PutPlayer) (s : PutStage) → s ≡ p.stage → PutTurns old new log log' wire (record p { stage = s }) r
-    → Goes put_ticket (λ w x. PutHolds x) put_task PutPlays PutSays (λ x. put_number x.done x.stage) (λ x. PutHasIds x.stage) AnySent old new log log' wire p r
-put_goes old new log log' wire p r s is turns =
-    let t = subst (λ (x : PutPlayer). PutTurns old new log log' wire x r) (at_stage p s is) turns in
+-- over a link whose wire version stays
+pub put_goes : (old new : Awaited) (log log' : LogTold) (wire wire' : ℤ) (p r : PutPlayer) (s : PutStage) → s ≡ p.stage → wire' ≡ wire → PutTurns old new log log' wire (record p { stage = s }) r
+    → Goes put_ticket (λ w x. PutHolds x) put_task PutPlays PutSays (λ x. put_number x.done x.stage) (λ x. PutHasIds x.stage) AnySent old new log log' wire' p r
+put_goes old new log log' wire wire' p r s is same turns =
+    let t = subst (λ (x : PutPlayer). PutTurns old new log log' wire' x r) (at_stage p s is) (subst (λ (w : ℤ). PutTurns old new log log' w (record p { stage = s }) r) (sym same) turns) in
     record {
       tickets = t.tickets;
       holds = t.holds;
@@ -84,7 +85,7 @@ put_same awaited log wire p r is out holds =
       holds = holds;
       next = no_move;
       turned = λ calls told o at plays. (calls, told, record { place = at; placed = refl; owner = o; plays = plays; passes = passes_same calls o (holds_put awaited calls o p.stage plays) });
-      told = quiet_turn put_task PutSays (λ y. put_number y.done y.stage) AnySent awaited log wire p p (tells_same_job put_task PutSays (λ y. put_number y.done y.stage) AnySent p);
+      told = quiet_turn put_task PutPlays PutSays (λ y. put_number y.done y.stage) AnySent awaited log wire p p (tells_same_job put_task PutSays (λ y. put_number y.done y.stage) AnySent p);
       task = refl;
       has = λ has. has;
     })

@@ -19,7 +19,7 @@ use Rattle.mg_gridfs.proofs.Staying.{cursors_begin}
 use Rattle.mg_script.specs.declared.outcome.Ended.{Ended}
 use Rattle.mg_script.specs.declared.outcome.Ended.TheVariants as ended
 use Rattle.mg_jobs.specs.Causes.{sent_at}
-use Rattle.mg_jobs.specs.Headline.{put_task}
+use Rattle.mg_jobs.specs.Headline.{PutPlays, put_task}
 use Rattle.mg_jobs.specs.Plays.{AnySent, Places, TellsBehind, TurnTells, all_places, no_move}
 use Rattle.mg_jobs.specs.Putting.{Opens, OpensFrom, PutTurns}
 use Rattle.mg_jobs.specs.Puts.{BegunFor, IsPutDoing, NamesFiles, PutTask, PutsKnowing, put_aim, total, writes}
@@ -34,13 +34,14 @@ use Rattle.mg_jobs.proofs.Whole.{only_now}
 
 -- ---- what it tells
 
+-- one that has sent nothing did so at no places
+nowhere : (q : Places) → SentNothing q → all_places q ≡ []
+nowhere q nothing = only_now q nothing.0 nothing.1 ∙ nothing.2
+
 -- an upload that has taken nothing tells of no places
 module _ (t : PutTask) (awaited : Awaited) (calls : List Call) (wire : ℤ) (q : Places) (named : NamesFiles t) (sized : IsSize t.chunk) (nothing : SentNothing q) where
-  none_sent : all_places q ≡ []
-  none_sent = only_now q nothing.0 nothing.1 ∙ nothing.2
-
   fresh_knows : KnowsUpload awaited (sent_at (all_places q) calls wire) t.at (fresh_upload (put_aim t)) []
-  fresh_knows = subst (λ (l : List ℕ). KnowsUpload awaited (past_of l (length calls) calls wire) t.at (fresh_upload (put_aim t)) []) (sym none_sent) (upload_begins awaited calls wire t.at (put_aim t) (record { files = refl; chunks = refl }) named.0 named.1)
+  fresh_knows = subst (λ (l : List ℕ). KnowsUpload awaited (past_of l (length calls) calls wire) t.at (fresh_upload (put_aim t)) []) (sym (nowhere q nothing)) (upload_begins awaited calls wire t.at (put_aim t) (record { files = refl; chunks = refl }) named.0 named.1)
 
   fresh_tells : PutTellsOpen awaited calls wire q t 0 (fresh_upload (put_aim t))
   fresh_tells = record {
@@ -51,6 +52,8 @@ module _ (t : PutTask) (awaited : Awaited) (calls : List Call) (wire : ℤ) (q :
     cut = record { front = []; parts = refl; even = omega arith };
     underway = tt;
     flies = tt;
+    its = tt;
+    reads = tt;
     knows = fresh_knows;
   }
 
@@ -68,7 +71,7 @@ opens_tells t awaited calls wire q size done (puts.Goes going) none sum nothing 
     (opened_tells t awaited calls wire q opens.0 sized nothing (upload_of going.upload) done none opens.1, opens.3 ∙ sum)
 opens_tells t awaited calls wire q size done (puts.Ended ended.Unfinished) none sum nothing opens = absurd opens
 opens_tells t awaited calls wire q size done (puts.Ended (ended.Gave n)) none sum nothing opens = absurd opens
-opens_tells t awaited calls wire q size done (puts.Ended (ended.Failed e)) none sum nothing opens = (nothing.0, ap length nothing.1 ∙ sym none, inl opens)
+opens_tells t awaited calls wire q size done (puts.Ended (ended.Failed e)) none sum nothing opens = (nothing.0, ap length nothing.1 ∙ sym none, inl (opens, nowhere q nothing), tt)
 
 module _ (awaited : Awaited) (log : LogTold) (wire : ℤ) (p : PutPlayer) (begun : Result Beginning Error) (none : p.done ≡ 0) where
   abbrev T : PutTask
@@ -82,8 +85,8 @@ module _ (awaited : Awaited) (log : LogTold) (wire : ℤ) (p : PutPlayer) (begun
   quietly calls o is = subst (λ (own : Owner). Passes calls calls own nobody) (sym is) (passes_same calls nobody (holds_nobody calls))
 
   module _ (s : PutStage) (tells : (calls : List Call) (q : Places) → SentNothing q → BegunFor T begun → PutTells awaited calls wire q T p.done s) where
-    told_so : TurnTells put_task PutSays (λ x. put_number x.done x.stage) AnySent awaited awaited log log wire Before (record p { stage = s }) no_move
-    told_so calls calls' told told' ids n may q at at' placed says =
+    told_so : TurnTells put_task PutPlays PutSays (λ x. put_number x.done x.stage) AnySent awaited awaited log log wire Before (record p { stage = s }) no_move
+    told_so calls calls' told told' ids n may q at at' placed o plays says =
         subst (λ (l : List Call). TellsBehind PutSays (λ x. put_number x.done x.stage) awaited calls l wire (put_task Before) q 0 (record p { stage = s }) at') (same_some calls calls' (sym told ∙ told'))
         (record {
           longer = omega arith;
@@ -133,4 +136,4 @@ pub opening_turns : (awaited : Awaited) (log : LogTold) (wire : ℤ) (p : PutPla
 opening_turns awaited log wire p (Ok begun) s none opens = opened_so awaited log wire p (Ok begun) none begun.length s (λ is. is) opens
 opening_turns awaited log wire p (Err e) s none opens =
     subst (λ (x : PutStage). PutTurns awaited awaited log log wire (record p { stage = puts.Begins (Err e) }) (record p { stage = x })) (sym opens)
-    (failed_so awaited log wire p (Err e) none (ended.Failed e) (λ calls q nothing is. (nothing.0, ap length nothing.1 ∙ sym none, inl (inl is))))
+    (failed_so awaited log wire p (Err e) none (ended.Failed e) (λ calls q nothing is. (nothing.0, ap length nothing.1 ∙ sym none, inl (inl is, nowhere q nothing), tt)))

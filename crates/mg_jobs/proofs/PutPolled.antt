@@ -38,10 +38,10 @@ joined_on ps k p there = let next : k + 1 ≡ suc k = omega arith in ap (λ (n :
 
 -- ---- what an upload is doing makes no difference to its bytes
 
-cut_doing : (u : ClientUpload) (d : Doing) (taken : List ℕ) (more : ℕ) → IsCutAt u taken more → IsCutAt (record u { doing = d }) taken more
+pub cut_doing : (u : ClientUpload) (d : Doing) (taken : List ℕ) (more : ℕ) → IsCutAt u taken more → IsCutAt (record u { doing = d }) taken more
 cut_doing u d taken more cut = record { front = cut.front; parts = cut.parts; even = cut.even }
 
-phase_doing : (u : ClientUpload) (d : Doing) (taken : List ℕ) (p : Phase) → CutByPhase u taken p → CutByPhase (record u { doing = d }) taken p
+pub phase_doing : (u : ClientUpload) (d : Doing) (taken : List ℕ) (p : Phase) → CutByPhase u taken p → CutByPhase (record u { doing = d }) taken p
 phase_doing u d taken begins cut = cut_doing u d taken 0 cut
 phase_doing u d taken (checks c) cut = cut_doing u d taken 0 cut
 phase_doing u d taken fills cut = cut_doing u d taken 0 cut
@@ -109,17 +109,17 @@ takes_close (busy close p) made count doing refuses = refuses
 takes_close (busy abort p) made count doing refuses = doing
 takes_close closed made count doing refuses = doing
 
-first_cut : (u : ClientUpload) (taken : List ℕ) (b : Bool) → IsCutAt u taken 0 → CutByPhase u taken (if b then fills else begins)
+pub first_cut : (u : ClientUpload) (taken : List ℕ) (b : Bool) → IsCutAt u taken 0 → CutByPhase u taken (if b then fills else begins)
 first_cut u taken true cut = cut
 first_cut u taken false cut = cut
 
-first_flies : (t : PutTask) (b : Bool) → PhaseFlies t (if b then fills else begins)
+pub first_flies : (t : PutTask) (b : Bool) → PhaseFlies t (if b then fills else begins)
 first_flies t true = tt
 first_flies t false = tt
 
 module _ (t : PutTask) (old new : Awaited) (log log' : LogTold) (wire : ℤ) (ids : ℕ → List ℕ) (drawn : ℕ) (u u' : ClientUpload) (between : IsBetween u) (aim : u.aim ≡ put_aim t) where
   -- a phase that goes on
-  sound_on : (call : uploads.Call) (p : Phase) → u.doing ≡ busy call p → IsSoundPhase (at_work u) p × IsOfCall call p
+  pub sound_on : (call : uploads.Call) (p : Phase) → u.doing ≡ busy call p → IsSoundPhase (at_work u) p × IsOfCall call p
   sound_on call p is = (sound_doing u idle p (subst (SoundBy u) is between.sound.by), (subst RestsBy is between.rests_so).1)
 
   drives_on : (taken rest : List ℕ) → joined t.pieces ≡ taken ++ rest → (call : uploads.Call) → Fits call rest → (p : Phase) → u.doing ≡ busy call p → CutBy u taken (busy call p) → PutFlies t u.doing → (s : Stepped) → Drives old new log log' wire ids drawn call u u' p s → AddsTold (IsPutCommand t) log log' × (u'.aim ≡ put_aim t) × Stands t u' taken u'.doing
@@ -131,17 +131,17 @@ module _ (t : PutTask) (old new : Awaited) (log log' : LogTold) (wire : ℤ) (id
   -- ---- a write
 
   module _ (bytes : List ℕ) (made : ℕ) (there : slice_get t.pieces made ≡ Some bytes) (within : made < length t.pieces) (doing : IsPutDoing u.doing made (length t.pieces)) (cut : CutBy u (taken_in u.doing t.pieces made) u.doing) (flies : PutFlies t u.doing) where
-    abbrev Now : List ℕ
+    abbrev pub Now : List ℕ
     Now = joined (take (made + 1) t.pieces)
 
-    rest_of : joined t.pieces ≡ Now ++ joined (drop (made + 1) t.pieces)
+    pub rest_of : joined t.pieces ≡ Now ++ joined (drop (made + 1) t.pieces)
     rest_of = joined_parts (made + 1) t.pieces
 
     at_idle : u.doing ≡ idle → IsCutAt u (joined (take made t.pieces)) 0
     at_idle is = subst (λ (d : Doing). CutBy u (taken_in d t.pieces made) d) is cut
 
     -- the bytes of the piece are taken
-    takes : u.doing ≡ idle → IsCutAt (with_bytes bytes u) Now 0
+    pub takes : u.doing ≡ idle → IsCutAt (with_bytes bytes u) Now 0
     takes is =
         let c = at_idle is in
         record {
@@ -191,7 +191,7 @@ module _ (t : PutTask) (old new : Awaited) (log log' : LogTold) (wire : ℤ) (id
         driven t (joined t.pieces) close log log' d.left u' s d.behind
         (steps_send t (joined t.pieces) [] (sym (append-nil (joined t.pieces))) close refl d.steps old new log log' wire ids drawn (at_work u) d.left (rests moment) s aim (bounds_doing u idle between.sound.bounds) (subst (SoundBy u) is between.sound.by) tt (cut_doing u idle (joined t.pieces) 0 whole) tt d.does)
 
-    no_write : (piece : ℕ) (p : Phase) → u.doing ≡ busy (write piece) p → ⊥
+    pub no_write : (piece : ℕ) (p : Phase) → u.doing ≡ busy (write piece) p → ⊥
     no_write piece p is = let more : made + 1 ≤ length t.pieces = subst (λ (d : Doing). IsPutDoing d made (length t.pieces)) is doing in omega (arith, more, all)
 
     pub close_sends : (moment : ℤ) (r : Step2) → Closes old new log log' wire ids drawn moment u u' r → PollSent t log log' u' (AheadEnd r) (joined t.pieces)

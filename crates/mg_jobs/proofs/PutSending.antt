@@ -76,10 +76,10 @@ some_last [] some = absurd (some refl)
 some_last (b ∷ bs) some = refl
 
 module _ (t : PutTask) (taken rest : List ℕ) (whole : joined t.pieces ≡ taken ++ rest) (call : uploads.Call) (fits : Fits call rest) (old new : Awaited) (log log' : LogTold) (wire : ℤ) (u u' : ClientUpload) (r : Stepped) (aim : u.aim ≡ put_aim t) where
-  abbrev May : Fields → Type 0
+  abbrev pub May : Fields → Type 0
   May = IsPutCommand t
 
-  abbrev Then : Type 0
+  abbrev pub Then : Type 0
   Then = Stands t u' taken (doing_behind call r)
 
   then_as : (v : ClientUpload) (q : Stepped) → u' ≡ v → r ≡ q → Stands t v taken (doing_behind call q) → Then
@@ -215,7 +215,7 @@ module _ (t : PutTask) (taken rest : List ℕ) (whole : joined t.pieces ≡ take
 
   -- ---- a step
 
-  abbrev Sent : Type 0
+  abbrev pub Sent : Type 0
   Sent = AddsTold May log log' × Then
 
   ran : (s : Sending) (c : Step Sending (List ℕ)) → May (fields s.command) → Runs old new log log' wire s c → AddsTold May log log'
@@ -232,7 +232,7 @@ module _ (t : PutTask) (taken rest : List ℕ) (whole : joined t.pieces ≡ take
       let may : May (fields s.command) = subst (FlightFlies t) is flies in
       (ran s c may runs, landed_so error left (λ f there. command_left s c runs may f (sym left_is ∙ there)) h)
 
-  step_sends : (ids : ℕ → List ℕ) (drawn : ℕ) (p : Phase) → IsSoundPhase u p → IsOfCall call p → CutByPhase u taken p → PhaseFlies t p → DoesStep old new log log' wire ids drawn u u' p r → Sent
+  pub step_sends : (ids : ℕ → List ℕ) (drawn : ℕ) (p : Phase) → IsSoundPhase u p → IsOfCall call p → CutByPhase u taken p → PhaseFlies t p → DoesStep old new log log' wire ids drawn u u' p r → Sent
   step_sends ids drawn p sound own cut flies (begins_check is q n does) = (quiet q, begins_so (subst (CutByPhase u taken) is cut) does)
   step_sends ids drawn p sound own cut flies (checks_on c is n x checks_so leads) =
       let l = check_sends t old new log log' wire u.aim.bucket (ap (λ (a : Aim). a.bucket) aim) c x (subst (IsSoundPhase u) is sound).0 (subst (PhaseFlies t) is flies) checks_so in

@@ -4,7 +4,7 @@ use Rattle.std.specs.List.{concat}
 use Rattle.mg_link.specs.Link.{Awaited}
 use Rattle.mg_link.specs.Log.{Call}
 use Rattle.mg_gridfs.specs.UploadView.{upload_of}
-use Rattle.mg_jobs.specs.Causes.{AllSentIn, Course, PutEnds, PutEndsBy, sent_at}
+use Rattle.mg_jobs.specs.Causes.{AllSentIn, Course, HasWritten, PutEnds, PutEndsBy, sent_at}
 use Rattle.mg_jobs.specs.Plays.{Places, all_places}
 use Rattle.mg_jobs.specs.Progress.{PutAt, pends_last}
 use Rattle.mg_jobs.specs.Puts.{PutTask, put_end}
@@ -23,8 +23,8 @@ all_sent q none = ap (λ (l : List ℕ). l ++ (concat q.owns ++ q.now)) none
 
 -- one that has ended
 over_told : (awaited : Awaited) (c : Course) (i : ℕ) (calls : List Call) (wire : ℤ) (t : PutTask) (q : Places) (done : ℕ) (end : Ended ℕ) → AllSent c i q (suc done) → q.opened ≡ [] → length q.owns ≡ done → PutEndsBy (sent_at (all_places q) calls wire) (sent_at q.now calls wire) t end
-    → (pends_last i c.order c.notes ≡ false) → PutEnds awaited c i calls wire t end
-over_told awaited c i calls wire t q done end sent none counted by quiet =
+    → HasWritten t done end → (pends_last i c.order c.notes ≡ false) → PutEnds awaited c i calls wire t end
+over_told awaited c i calls wire t q done end sent none counted by all quiet =
     record {
       owns = q.owns;
       sent_each = sent.owns;
@@ -33,6 +33,7 @@ over_told awaited c i calls wire t q done end sent none counted by quiet =
       whole = sym (all_sent q none) ∙ sent.whole;
       by = subst (λ (l : List ℕ). PutEndsBy (sent_at l calls wire) (sent_at q.now calls wire) t end) (all_sent q none) by;
       waits = λ pended is. absurd (let bad : true ≡ false = sym pended ∙ quiet in cc);
+      written = subst (λ (n : ℕ). HasWritten t n end) (sym counted) all;
     }
 
 pub put_outcome : (awaited : Awaited) (c : Course) (i : ℕ) (calls : List Call) (wire : ℤ) (t : PutTask) (q : Places) (s : PutStage) (pieces done count k : ℕ) → PutTells awaited calls wire q t done s → AllSent c i q (put_number done s) → PutAt pieces s done count k (pends_last i c.order c.notes) → PutEnds awaited c i calls wire t (put_end s)
@@ -45,6 +46,7 @@ put_outcome awaited c i calls wire t q puts.Undrawn pieces done count k tells se
       whole = sym (only_now q tells.0.0 tells.0.1 ∙ tells.0.2) ∙ sent.whole;
       by = tt;
       waits = λ pended is. absurd (let bad : true ≡ false = sym pended ∙ at.3 in cc);
+      written = tt;
     }
 put_outcome awaited c i calls wire t q (puts.Begins begun) pieces done count k tells sent at = absurd at
 put_outcome awaited c i calls wire t q (puts.Goes going) pieces done count k tells sent at =
@@ -56,5 +58,6 @@ put_outcome awaited c i calls wire t q (puts.Goes going) pieces done count k tel
       whole = sym (all_sent q tells.0.opened) ∙ sent.whole;
       by = tt;
       waits = λ pended is. record { upload = upload_of going.upload; aim_is = tells.0.aim_is; holds = at.3 ∙ pended; underway = tells.0.underway };
+      written = tt;
     }
-put_outcome awaited c i calls wire t q (puts.Ended end) pieces done count k tells sent at = over_told awaited c i calls wire t q done end sent tells.0 tells.1 tells.2 at.1
+put_outcome awaited c i calls wire t q (puts.Ended end) pieces done count k tells sent at = over_told awaited c i calls wire t q done end sent tells.0 tells.1 tells.2 tells.3 at.1

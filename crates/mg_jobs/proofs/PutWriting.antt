@@ -4,7 +4,7 @@ use Rattle.std.specs.Prelude.{slice_get}
 use Rattle.mg_link.specs.Acts.{Tickets}
 use Rattle.mg_link.specs.Calls.{AddsOnly, Past, past_of}
 use Rattle.mg_link.specs.Files.{AreChunks, Bucket, chunked}
-use Rattle.mg_link.specs.Filing.{KnowsFile, stays, whole_with}
+use Rattle.mg_link.specs.Filing.{KnowsFile, cleared, stays, whole_with}
 use Rattle.mg_link.specs.Link.{Awaited, LogTold}
 use Rattle.mg_link.specs.Log.{Call}
 use Rattle.mg_link.specs.declared.error.Error.{Error}
@@ -12,11 +12,11 @@ use Rattle.mg_link.proofs.Calls.{keeps_longer}
 use Rattle.mg_link.proofs.Owners.{same_some}
 use Rattle.mg_link.proofs.Places.{get_within}
 use Rattle.mg_gridfs.specs.Calls.{Closes, LeavesEnd, LeavesWrite, Writes}
-use Rattle.mg_gridfs.specs.Causes.{CallFails, CloseCame, CloseCaused, IsUploading, UnderwayBy, WriteCame, WriteCaused}
+use Rattle.mg_gridfs.specs.Causes.{CloseCame, CloseCaused, IsUploading, UnderwayBy, WriteCame, WriteCaused}
 use Rattle.mg_gridfs.specs.Cursors.{LeavesOthers}
 use Rattle.mg_gridfs.specs.Laws.{IsSettled}
-use Rattle.mg_gridfs.specs.Storing.{AfterClose, AfterWrite, CloseStores, HasStored, KnowsUpload, WriteStores, taken_by}
-use Rattle.mg_gridfs.specs.Uploads.{Aim, ClientUpload, Doing, IsBetween, close, fresh_upload, idle, record_of, upload_ticket}
+use Rattle.mg_gridfs.specs.Storing.{AfterClose, AfterWrite, CloseStores, HasCleared, HasStored, KnowsUpload, WriteStores, may_leave, taken_by}
+use Rattle.mg_gridfs.specs.Uploads.{Aim, ClientUpload, Doing, IsBetween, close, closed, error_by, fresh_upload, idle, record_of, upload_ticket}
 use Rattle.mg_gridfs.specs.declared.polls.Step2.{Step2}
 use Rattle.mg_gridfs.specs.declared.polls.Step2.TheVariants as end
 use Rattle.mg_gridfs.specs.declared.polls.WritePoll.{WritePoll}
@@ -24,12 +24,14 @@ use Rattle.mg_gridfs.specs.declared.polls.WritePoll.TheVariants as wrote
 use Rattle.mg_gridfs.proofs.Holding.{uploads_settle}
 use Rattle.mg_jobs.specs.Causes.{places_from, sent_at, sent_since}
 use Rattle.mg_jobs.specs.Plays.{Places, all_places}
-use Rattle.mg_jobs.specs.Puts.{CutBy, IsPutDoing, PutTask, joined, put_aim, taken_in}
+use Rattle.mg_jobs.specs.PutFailures.{AnswersPut, PutFails, PutReads}
+use Rattle.mg_jobs.specs.Puts.{CutBy, IsPutDoing, PutTask, joined, put_aim, put_bucket, taken_in}
 use Rattle.mg_jobs.specs.Sends.{IsPutCommand}
 use Rattle.mg_jobs.specs.Telling.{PutTellsOpen}
+use Rattle.mg_jobs.proofs.PutFailed.{CloseEnds, WriteEnds, close_ends, write_ends}
 use Rattle.mg_jobs.proofs.PutPolled.{Ahead, AheadEnd, PollSent, close_sends, taken_on, taken_whole, takes_close, takes_write, write_sends}
 use Rattle.mg_jobs.proofs.PutSending.{Stands}
-use Rattle.mg_jobs.proofs.PutTelling.{fails_on, stored_settles, uploading_on}
+use Rattle.mg_jobs.proofs.PutTelling.{cleared_settles, fails_on, reads_on, stored_settles, uploading_on}
 use Rattle.mg_jobs.proofs.Telling.{answered_by, going_on, grows_ended, in_first, is_since, since_is}
 use Rattle.mg_jobs.proofs.Whole.{whole_answered, whole_going}
 
@@ -61,8 +63,12 @@ module _ (t : PutTask) (old new : Awaited) (log log' : LogTold) (wire : ℤ) (u 
   underway_on h = uploading_on (past_of q.now From calls' wire) (sent_at (sent_since q.now From Upto) calls' wire) (grows_ended q.now From calls' wire) new new u'.aim u'.doing (λ m held. refl) h
 
   -- why its call failed
-  fails_behind : (e : Error) → u.aim ≡ put_aim t → CallFails (past_of q.now From calls' wire) u.aim e → CallFails (sent_at (sent_since q.now From Upto) calls' wire) (put_aim t) e
-  fails_behind e aim fails = fails_on (past_of q.now From calls' wire) (sent_at (sent_since q.now From Upto) calls' wire) (grows_ended q.now From calls' wire) (put_aim t) e (subst (λ (a : Aim). CallFails (past_of q.now From calls' wire) a e) aim fails)
+  fails_behind : (e : Error) → PutFails (past_of q.now From calls' wire) t e → PutFails (sent_at (sent_since q.now From Upto) calls' wire) t e
+  fails_behind e fails = fails_on (past_of q.now From calls' wire) (sent_at (sent_since q.now From Upto) calls' wire) (grows_ended q.now From calls' wire) t e fails
+
+  -- what it knows of the list that it reads
+  reads_behind : PutReads new (past_of q.now From calls' wire) (put_bucket t) u'.doing → PutReads new (sent_at (sent_since q.now From Upto) calls' wire) (put_bucket t) u'.doing
+  reads_behind h = reads_on (past_of q.now From calls' wire) (sent_at (sent_since q.now From Upto) calls' wire) (grows_ended q.now From calls' wire) new new (put_bucket t) u'.doing (λ m held. refl) h
 
   -- what the upload stored
   knows_behind : (q' : Places) (taken taken' : List ℕ) → From ≤ Upto → all_places q' ≡ sent_since (all_places q) From Upto → taken ≡ taken' → KnowsUpload new (past_of (all_places q) From calls' wire) t.at u' taken → KnowsUpload new (sent_at (all_places q') calls' wire) t.at u' taken'
@@ -79,11 +85,30 @@ stored_by past t u taken aim s =
       knows = subst (λ (a : Aim). KnowsFile past t.at a.id (stays (whole_with (record_of a s.ending) s.chunks))) aim s.knows;
     }
 
+-- none of its chunks is left, told of its aim
+cleared_by : (past : Past) (t : PutTask) (u : ClientUpload) (e : Error) → u.aim ≡ put_aim t → HasCleared past t.at u e → HasCleared past t.at (fresh_upload (put_aim t)) e
+cleared_by past t u e aim h leaves = subst (λ (a : Aim). KnowsFile past t.at a.id cleared) aim (h leaves)
+
+-- a put that goes on has not closed its upload
+still_open : (u u' : ClientUpload) (made count : ℕ) → IsPutDoing u.doing made count → u' ≡ u → u'.doing ≡ closed → ⊥
+still_open u u' made count doing same over = subst (λ (d : Doing). IsPutDoing d made count) (sym (ap (λ (x : ClientUpload). x.doing) same) ∙ over) doing
+
+-- A poll that failed and left the upload as it was ran out of memory.
+write_leaves : (u u' : ClientUpload) (e : Error) (made count : ℕ) → IsPutDoing u.doing made count → made < count → u' ≡ u → LeavesWrite u u' (wrote.Failed e) → may_leave e.kind
+write_leaves u u' e made count doing within same (inl over) = absurd (still_open u u' made count doing same over)
+write_leaves u u' e made count doing within same (inr (kept, inl rest)) = subst (λ (x : Error). may_leave x.kind) (sym rest.1) tt
+write_leaves u u' e made count doing within same (inr (kept, inr refused)) = absurd (takes_write u.doing made count doing within refused.0)
+
+close_leaves : (u u' : ClientUpload) (e : Error) (made count : ℕ) → IsPutDoing u.doing made count → u' ≡ u → LeavesEnd close u u' (end.Failed e) → may_leave e.kind
+close_leaves u u' e made count doing same (inl over) = absurd (still_open u u' made count doing same over)
+close_leaves u u' e made count doing same (inr left) = absurd (takes_close u.doing made count doing left.1)
+
 -- ---- a write
 
 -- what a poll of a write says
 pub record WritePolled (old new : Awaited) (log log' : LogTold) (wire : ℤ) (u u' : ClientUpload) (bytes : List ℕ) (r : WritePoll) : Type 0 where
   pub ids : ℕ → List ℕ
+  pub twelve : (k : ℕ) → length (ids k) ≡ 12
   pub drawn : ℕ
   pub does : Writes old new log log' wire ids drawn u u' bytes r
   pub leaves : LeavesWrite u u' r
@@ -114,6 +139,11 @@ module _ (t : PutTask) (old new : Awaited) (log log' : LogTold) (wire : ℤ) (u 
       let s = polled.stored t.at calls told (all_places q) (taken_in u.doing t.pieces made) tells.knows in
       as_told t old new log log' wire u u' calls calls' told' q (λ (l : List Call). AfterWrite new (past_of (all_places q) (length calls) l wire) t.at u u' (taken_in u.doing t.pieces made) bytes r) s.0 s.1 s.3
 
+  ended : WriteEnds t new u' r (past_of q.now (length calls) calls' wire)
+  ended =
+      let w = write_ends t old new log log' wire polled.ids polled.drawn polled.twelve u u' between tells.aim_is calls told q.now tells.underway (tells.its, tells.reads) bytes made there within doing tells.cut tells.flies r polled.does in
+      as_told t old new log log' wire u u' calls calls' told' q (λ (l : List Call). WriteEnds t new u' r (past_of q.now (length calls) l wire)) w.0 w.1 w.3
+
   taken_so : (d : Doing) (made' : ℕ) → taken_in d t.pieces made' ≡ joined (take (made + 1) t.pieces) → taken_by u.doing (taken_in u.doing t.pieces made) bytes ≡ taken_in d t.pieces made'
   taken_so d made' same = taken_on u.doing t.pieces made bytes doing within there ∙ sym same
 
@@ -131,6 +161,8 @@ module _ (t : PutTask) (old new : Awaited) (log log' : LogTold) (wire : ℤ) (u 
         cut = subst (λ (l : List ℕ). CutBy u' l u'.doing) (sym taken) stands.0;
         underway = underway_on t old new log log' wire u u' calls calls' told' q (subst (WriteCame new (past_of q.now (length calls) calls' wire) u u') is came);
         flies = stands.1;
+        its = (subst (λ (x : WritePoll). WriteEnds t new u' x (past_of q.now (length calls) calls' wire)) is ended).0;
+        reads = reads_behind t old new log log' wire u u' calls calls' told' q (subst (λ (x : WritePoll). WriteEnds t new u' x (past_of q.now (length calls) calls' wire)) is ended).1;
         knows = knows_behind t old new log log' wire u u' calls calls' told' q (going_on q (length calls) (length calls')) (taken_by u.doing (taken_in u.doing t.pieces made) bytes) (taken_in u'.doing t.pieces made) write_room (whole_going q (length calls) (length calls')) (taken_so u'.doing made taken)
             (subst (AfterWrite new (past_of (all_places q) (length calls) calls' wire) t.at u u' (taken_in u.doing t.pieces made) bytes) is stored);
       }
@@ -150,22 +182,33 @@ module _ (t : PutTask) (old new : Awaited) (log log' : LogTold) (wire : ℤ) (u 
         cut = subst (λ (l : List ℕ). CutBy u' l u'.doing) (sym taken) stands.0;
         underway = subst (UnderwayBy new (sent_at [] calls' wire) u'.aim) (sym rests_so) tt;
         flies = stands.1;
+        its = subst (λ (d : Doing). AnswersPut t (error_by d)) (sym rests_so) tt;
+        reads = subst (PutReads new (sent_at [] calls' wire) (put_bucket t)) (sym rests_so) tt;
         knows = knows_behind t old new log log' wire u u' calls calls' told' q (answered_by q (length calls) (length calls')) (taken_by u.doing (taken_in u.doing t.pieces made) bytes) (taken_in u'.doing t.pieces (made + 1)) write_room (whole_answered q (length calls) (length calls')) (taken_so u'.doing (made + 1) taken)
             (subst (AfterWrite new (past_of (all_places q) (length calls) calls' wire) t.at u u' (taken_in u.doing t.pieces made) bytes) is stored);
       }
 
   -- it fails
-  pub write_fails : (e : Error) → r ≡ wrote.Failed e → CallFails (sent_at (sent_since q.now (length calls) (length calls')) calls' wire) (put_aim t) e
-  write_fails e is = elim (subst (WriteCame new (past_of q.now (length calls) calls' wire) u u') is came) [
-    | inl refused ↦ absurd (takes_write u.doing made (length t.pieces) doing within refused.0)
-    | inr fails ↦ fails_behind t old new log log' wire u u' calls calls' told' q e tells.aim_is fails
-  ]
+  pub write_fails : (e : Error) → r ≡ wrote.Failed e → PutFails (sent_at (sent_since q.now (length calls) (length calls')) calls' wire) t e
+  write_fails e is = fails_behind t old new log log' wire u u' calls calls' told' q e (subst (λ (x : WritePoll). WriteEnds t new u' x (past_of q.now (length calls) calls' wire)) is ended)
+
+  -- and leaves no chunk, unless its error may
+  pub write_clears : (e : Error) → r ≡ wrote.Failed e → HasCleared (sent_at (all_places (going_on q (length calls) (length calls'))) calls' wire) t.at (fresh_upload (put_aim t)) e
+  write_clears e is =
+      let q' : Places = going_on q (length calls) (length calls') in
+      let past : Past = past_of (all_places q) (length calls) calls' wire in
+      let h : HasCleared past t.at u e = elim (subst (AfterWrite new past t.at u u' (taken_in u.doing t.pieces made) bytes) is stored) [
+        | inl left ↦ (λ leaves. absurd (leaves (write_leaves u u' e made (length t.pieces) doing within left.0 (subst (LeavesWrite u u') is polled.leaves))))
+        | inr cleared_so ↦ cleared_so
+      ] in
+      cleared_by (sent_at (all_places q') calls' wire) t u e tells.aim_is (cleared_settles calls calls' wire (all_places q) (all_places q') t.at u e (settled_all q q' (length calls) (length calls') write_room (whole_going q (length calls) (length calls'))) h)
 
 -- ---- a close
 
 -- what a poll of a close says
 pub record ClosePolled (old new : Awaited) (log log' : LogTold) (wire : ℤ) (u u' : ClientUpload) (r : Step2) : Type 0 where
   pub ids : ℕ → List ℕ
+  pub twelve : (k : ℕ) → length (ids k) ≡ 12
   pub drawn : ℕ
   pub moment : ℤ
   pub does : Closes old new log log' wire ids drawn moment u u' r
@@ -194,6 +237,11 @@ module _ (t : PutTask) (old new : Awaited) (log log' : LogTold) (wire : ℤ) (u 
       let s = polled.stored t.at calls told (all_places q) (taken_in u.doing t.pieces made) tells.knows in
       as_told t old new log log' wire u u' calls calls' told' q (λ (l : List Call). AfterClose new (past_of (all_places q) (length calls) l wire) t.at u u' (taken_in u.doing t.pieces made) r) s.0 s.1 s.3
 
+  closed_so : CloseEnds t new u' r (past_of q.now (length calls) calls' wire)
+  closed_so =
+      let w = close_ends t old new log log' wire polled.ids polled.drawn polled.twelve u u' between tells.aim_is calls told q.now tells.underway (tells.its, tells.reads) made all doing tells.cut tells.flies polled.moment r polled.does in
+      as_told t old new log log' wire u u' calls calls' told' q (λ (l : List Call). CloseEnds t new u' r (past_of q.now (length calls) l wire)) w.0 w.1 w.3
+
   end_taken : taken_in u.doing t.pieces made ≡ joined t.pieces
   end_taken = taken_whole u.doing t.pieces made doing all
 
@@ -211,6 +259,8 @@ module _ (t : PutTask) (old new : Awaited) (log log' : LogTold) (wire : ℤ) (u 
         cut = subst (λ (l : List ℕ). CutBy u' l u'.doing) (sym taken) stands.0;
         underway = underway_on t old new log log' wire u u' calls calls' told' q (subst (CloseCame new (past_of q.now (length calls) calls' wire) u u') is end_came);
         flies = stands.1;
+        its = (subst (λ (x : Step2). CloseEnds t new u' x (past_of q.now (length calls) calls' wire)) is closed_so).0;
+        reads = reads_behind t old new log log' wire u u' calls calls' told' q (subst (λ (x : Step2). CloseEnds t new u' x (past_of q.now (length calls) calls' wire)) is closed_so).1;
         knows = knows_behind t old new log log' wire u u' calls calls' told' q (going_on q (length calls) (length calls')) (taken_in u.doing t.pieces made) (taken_in u'.doing t.pieces made) close_room (whole_going q (length calls) (length calls')) (end_taken ∙ sym taken)
             (subst (AfterClose new (past_of (all_places q) (length calls) calls' wire) t.at u u' (taken_in u.doing t.pieces made)) is end_stored);
       }
@@ -225,8 +275,16 @@ module _ (t : PutTask) (old new : Awaited) (log log' : LogTold) (wire : ℤ) (u 
       (stored_settles calls calls' wire (all_places q) (all_places q') t.at u (joined t.pieces) (settled_all q q' (length calls) (length calls') close_room (whole_going q (length calls) (length calls'))) s)
 
   -- it fails
-  pub close_fails : (e : Error) → r ≡ end.Failed e → CallFails (sent_at (sent_since q.now (length calls) (length calls')) calls' wire) (put_aim t) e
-  close_fails e is = elim (subst (CloseCame new (past_of q.now (length calls) calls' wire) u u') is end_came) [
-    | inl refused ↦ absurd (takes_close u.doing made (length t.pieces) doing refused.0)
-    | inr fails ↦ fails_behind t old new log log' wire u u' calls calls' told' q e tells.aim_is fails
-  ]
+  pub close_fails : (e : Error) → r ≡ end.Failed e → PutFails (sent_at (sent_since q.now (length calls) (length calls')) calls' wire) t e
+  close_fails e is = fails_behind t old new log log' wire u u' calls calls' told' q e (subst (λ (x : Step2). CloseEnds t new u' x (past_of q.now (length calls) calls' wire)) is closed_so)
+
+  -- and leaves no chunk, unless its error may
+  pub close_clears : (e : Error) → r ≡ end.Failed e → HasCleared (sent_at (all_places (going_on q (length calls) (length calls'))) calls' wire) t.at (fresh_upload (put_aim t)) e
+  close_clears e is =
+      let q' : Places = going_on q (length calls) (length calls') in
+      let past : Past = past_of (all_places q) (length calls) calls' wire in
+      let h : HasCleared past t.at u e = elim (subst (AfterClose new past t.at u u' (taken_in u.doing t.pieces made)) is end_stored) [
+        | inl left ↦ (λ leaves. absurd (leaves (close_leaves u u' e made (length t.pieces) doing left.0 (subst (LeavesEnd close u u') is polled.leaves))))
+        | inr cleared_so ↦ cleared_so
+      ] in
+      cleared_by (sent_at (all_places q') calls' wire) t u e tells.aim_is (cleared_settles calls calls' wire (all_places q) (all_places q') t.at u e (settled_all q q' (length calls) (length calls') close_room (whole_going q (length calls) (length calls'))) h)

@@ -1,5 +1,5 @@
 -- Which steps of a job its store does not refuse, where every fate keeps its command: those of an insert into a collection with short names, and those of an opening that may begin.
-use Rattle.std.proofs.Common.{◌≡◌, ◌≤◌, ◌++◌, ℕ, zero, ℤ, pos, suc, Bool, true, false, List, [], ◌∷◌, length, take, Contains, Option, Some, None, refl, sym, ap, ◌∙◌, subst, inl, inr, arith}
+use Rattle.std.proofs.Common.{◌≡◌, ◌≤◌, ◌+◌, ◌++◌, ℕ, zero, ℤ, pos, suc, Bool, true, false, List, [], ◌∷◌, length, take, Contains, Option, Some, None, refl, sym, ap, ◌∙◌, subst, inl, inr, arith}
 use Rattle.std.specs.Prelude.{option_and_then, slice_get}
 use Rattle.std.specs.List.{sum_by}
 use Rattle.std.proofs.lemmas.List.Elements.{Contains-append_cases, Contains-push_cases}
@@ -53,14 +53,15 @@ use Rattle.mg_script.specs.declared.outcome.Ended.{Ended}
 use Rattle.mg_script.specs.declared.outcome.Ended.TheVariants as ended
 use Rattle.mg_script.specs.declared.outcome.Outcome.{Outcome}
 use Rattle.mg_script.specs.declared.outcome.Turned.{Turned}
-use Rattle.mg_jobs.specs.Causes.{AllSentIn, Course, FallsAt, FollowCaused, InsertEnds, OutcomeCaused, command_at, commands_at, course, places_of}
-use Rattle.mg_jobs.specs.Completing.{AnswersWell, EndsWell, Excuses, FindsNothing, FollowEndsIn, FollowWell, HasShortNames, IsMemory, IsThere, JobWell, JobWellIn, MayBegin, NoneRefused, OutcomeEnds, OutcomeEndsIn, SendFresh, own_excuses, own_position, positions_at}
+use Rattle.mg_jobs.specs.Causes.{AllSentIn, Course, FallsAt, FollowCaused, InsertEnds, OutcomeCaused, PutEnds, command_at, commands_at, course, places_of}
+use Rattle.mg_jobs.specs.Completing.{AnswersWell, EndsWell, Excuses, FindsNothing, FollowEndsIn, FollowWell, GetWell, HasShortNames, IsMemory, IsThere, JobWell, JobWellIn, MayBegin, NoneRefused, OutcomeEnds, OutcomeEndsIn, SendFresh, own_excuses, own_position, positions_at}
 use Rattle.mg_jobs.specs.Counts.{StartedBy}
 use Rattle.mg_jobs.specs.Drawing.{as_sent}
 use Rattle.mg_jobs.specs.Fated.{AreItsSteps}
 use Rattle.mg_jobs.specs.Follows.{IsArgsFor, options_of, stages_of, start_of}
 use Rattle.mg_jobs.specs.Progress.{FollowPlayed, IsPlayed, pends_last, turns_done}
 use Rattle.mg_jobs.specs.Gets.{GetTask, IsGetCommand, chunks_find, for_chunks, for_more, for_record, get_of, no_manner, record_find}
+use Rattle.mg_jobs.specs.PutLimits.{HasFewIndexes, IsValidPut}
 use Rattle.mg_jobs.specs.Puts.{PutTask, put_bucket, put_of, total}
 use Rattle.mg_jobs.specs.Sends.{IsPutCommand, MaySend, SendsOnly, asks, checks, inserts, kills, opens, plain_manner, reads_on, records, removes, resumes}
 use Rattle.mg_jobs.proofs.Added.{AreModestEntries, first_by_rules, kept_modest}
@@ -68,18 +69,18 @@ use Rattle.mg_jobs.proofs.Mild.{IsMildCommand, IsQuiet, creates_mild, deletes_mi
 use Rattle.mg_jobs.proofs.OpeningTaken.{fits_size, opening_taken}
 use Rattle.mg_jobs.proofs.Positions.{answers_well}
 use Rattle.mg_jobs.proofs.Replying.{inserts_so}
-use Rattle.mg_jobs.proofs.SaidTwice.{follow_both, insert_both}
+use Rattle.mg_jobs.proofs.SaidTwice.{follow_both, get_both, insert_both, put_both}
 use Rattle.mg_jobs.proofs.Senders.{more_mild, none_missing, state_before, turn_of}
 
 -- ---- the call of a step
 
 -- a call at one of these places has this position
-record CallAt (calls : List Call) (places : List ℕ) (position : ℕ) : Type 0 where
-  place : ℕ
-  of : IsOf places place
-  call : Call
-  there : slice_get calls place ≡ Some call
-  position_is : call.position ≡ Some position
+pub record CallAt (calls : List Call) (places : List ℕ) (position : ℕ) : Type 0 where
+  pub place : ℕ
+  pub of : IsOf places place
+  pub call : Call
+  pub there : slice_get calls place ≡ Some call
+  pub position_is : call.position ≡ Some position
 
 only_one : (p position : ℕ) → Contains (p ∷ []) position → p ≡ position
 only_one p position has = elim (Contains-push_cases [] p position has) [ inl none ↦ (let lt = none.1 in absurd (omega arith)) | inr is ↦ is ]
@@ -92,7 +93,7 @@ here_at : (calls : List Call) (place : ℕ) (places : List ℕ) (position : ℕ)
 here_at calls place places position None is has = let lt = has.1 in absurd (omega arith)
 here_at calls place places position (Some call) is has = placed_at calls place places position call is call.position refl has
 
-call_at : (calls : List Call) (places : List ℕ) (position : ℕ) → Contains (positions_at calls places) position → CallAt calls places position
+pub call_at : (calls : List Call) (places : List ℕ) (position : ℕ) → Contains (positions_at calls places) position → CallAt calls places position
 call_at calls [] position has = let lt = has.1 in absurd (omega arith)
 call_at calls (place ∷ places) position has =
     elim (Contains-append_cases (own_position (option_and_then (λ (call : Call). call.position) (slice_get calls place))) (positions_at calls places) position has) [
@@ -109,7 +110,7 @@ falls_later : (may : ℕ → Fields → Type 0) (n m : ℕ) (o : Option Call) (c
 falls_later may n m None cs falling = (n, falling)
 falls_later may n m (Some first) cs falling = (falling.0, falling.3)
 
-falls_each : (may : ℕ → Fields → Type 0) (calls : List Call) (n : ℕ) (places : List ℕ) (m : ℕ) → Falling may n (commands_at calls places) m → (place : ℕ) (call : Call) → IsOf places place → slice_get calls place ≡ Some call → (p : ℕ) × may p (fields call.command)
+pub falls_each : (may : ℕ → Fields → Type 0) (calls : List Call) (n : ℕ) (places : List ℕ) (m : ℕ) → Falling may n (commands_at calls places) m → (place : ℕ) (call : Call) → IsOf places place → slice_get calls place ≡ Some call → (p : ℕ) × may p (fields call.command)
 falls_each may calls n [] m falling place call of there = absurd of
 falls_each may calls n (first ∷ places) m falling place call (inl same) there = falls_first may n m (slice_get calls first) (commands_at calls places) call (ap (slice_get calls) same ∙ there) falling
 falls_each may calls n (first ∷ places) m falling place call (inr of) there =
@@ -130,8 +131,15 @@ get_kept kept p step at = kept_from nothing 0 false kept p step at
 full_own : (c : Course) (i : ℕ) (calls : List Call) (t : Task) (e : Error) → e.kind ≡ kind.OutOfMemory → own_excuses c i calls t ⊥ e
 full_own c i calls (follow on count start filter batch) e room = inl room
 full_own c i calls (insert ns docs) e room = inl room
-full_own c i calls (put db bucket name id chunk pieces) e room = room
-full_own c i calls (get db bucket id read) e room = room
+full_own c i calls (put db bucket name id chunk pieces) e room = inl room
+full_own c i calls (get db bucket id read) e room = inl room
+
+-- none of the steps of a follow is refused that may begin and had its turns
+abbrev pub TakesValid : Course → ℕ → List Call → List Step → Task → Type 0
+TakesValid c i calls history (follow on count start filter batch) = (SizePasses batch → ⊥) → suc count ≤ turns_done i c.order c.notes → MayBegin c i calls history on start filter → NoneRefused c i calls history
+TakesValid c i calls history (insert ns docs) = Unit {0}
+TakesValid c i calls history (put db bucket name id chunk pieces) = Unit {0}
+TakesValid c i calls history (get db bucket id read) = Unit {0}
 
 -- an aggregate changes nothing
 aggregate_mild : (command : List ℕ) (a : ChangeStreamAggregate) (wire : ℤ) → fields command ≡ resuming_in a wire None → IsMildCommand (fields command)
@@ -159,7 +167,7 @@ tells_inserted s id command given at ds names is read refused =
 
 module _ (history : List Kept) (fates : List Fate) (kept : AreKept 0 fates) (calls : List Call) (pended : List ℕ) (as_fates : AreAsFates history fates calls pended) (stands : Stands calls (steps_of history)) where
   -- a call took its step by the rules
-  took : (k : ℕ) (call : Call) → slice_get calls k ≡ Some call → TookStep (by_rules call.command) history call.command call.position
+  pub took : (k : ℕ) (call : Call) → slice_get calls k ≡ Some call → TookStep (by_rules call.command) history call.command call.position
   took k call there =
       let within = slice_get_within calls k call there in
       let counted = as_fates.counted in
@@ -167,16 +175,16 @@ module _ (history : List Kept) (fates : List Fate) (kept : AreKept 0 fates) (cal
       subst (λ (f : Fate). TookAs f.kind history call.command call.position) (kept k (omega arith)) (as_fates.each k call n.0 there n.1).took
 
   -- the step of a call has its command, and the reply of the rules
-  record IsByRules (step : Step) (position : ℕ) (command : List ℕ) : Type 0 where
-    before : List Kept
-    this : Kept
-    later : List Kept
-    these : history ≡ before ++ this ∷ later
-    state_is : state_of (take position (steps_of history)) ≡ state_of_kept before
-    command_is : step.command ≡ command
-    replies : fields step.reply ≡ by_rules command before
+  pub record IsByRules (step : Step) (position : ℕ) (command : List ℕ) : Type 0 where
+    pub before : List Kept
+    pub this : Kept
+    pub later : List Kept
+    pub these : history ≡ before ++ this ∷ later
+    pub state_is : state_of (take position (steps_of history)) ≡ state_of_kept before
+    pub command_is : step.command ≡ command
+    pub replies : fields step.reply ≡ by_rules command before
 
-  step_by : (k : ℕ) (call : Call) (position : ℕ) (step : Step) → slice_get calls k ≡ Some call → call.position ≡ Some position → slice_get (steps_of history) position ≡ Some step → IsByRules step position call.command
+  pub step_by : (k : ℕ) (call : Call) (position : ℕ) (step : Step) → slice_get calls k ≡ Some call → call.position ≡ Some position → slice_get (steps_of history) position ≡ Some step → IsByRules step position call.command
   step_by k call position step there placed at =
       let t = took k call there in
       let s = stands.same k call position there placed in
@@ -207,7 +215,7 @@ module _ (history : List Kept) (fates : List Fate) (kept : AreKept 0 fates) (cal
 
   module _ (ruled : AreByRules history) (mild : (p : ℕ) (k : Kept) → slice_get history p ≡ Some k → IsMildCommand (fields k.command)) where
     -- no entry ended a watch before a step
-    modest_before : (before : List Kept) (k : Kept) (later : List Kept) → history ≡ before ++ k ∷ later → AreModestEntries (state_of_kept before).changes
+    pub modest_before : (before : List Kept) (k : Kept) (later : List Kept) → history ≡ before ++ k ∷ later → AreModestEntries (state_of_kept before).changes
     modest_before before k later these = kept_modest before (first_by_rules before (k ∷ later) (subst AreByRules these ruled)) (λ p j at. mild p j (ap (λ (h : List Kept). slice_get h p) these ∙ get_front before (k ∷ later) p j at))
 
     module _ (c : Course) (i : ℕ) (on : Target) (start : Begin) (filter : Option Fields) (batch : Option ℕ) where
@@ -241,9 +249,9 @@ module _ (history : List Kept) (fates : List Fate) (kept : AreKept 0 fates) (cal
         opens_well (ended.Failed e) closed said token alive k last well (inr f) played turns may =
             well (answered (none_refused_opening c i on start filter batch wire f.args f.args_are (subst (λ (places : List ℕ). FallsAt (IsOpening f.args wire None) calls 3 places 1) f.whole f.opens) small may))
 
-      ends_in : (t : Task) (r : Outcome) → SendsOnly (MaySend t) c i calls → OutcomeCaused awaited c i calls wire t r → IsPlayed t (turns_done i c.order c.notes) (pends_last i c.order c.notes) r → OutcomeEnds excuses c i calls t r → OutcomeEndsIn excuses c i calls (steps_of history) t r
+      ends_in : (t : Task) (r : Outcome) → SendsOnly (MaySend t) c i calls → OutcomeCaused awaited c i calls wire t r → IsPlayed t (turns_done i c.order c.notes) (pends_last i c.order c.notes) r → OutcomeEnds excuses c i calls t r → TakesValid c i calls (steps_of history) t → OutcomeEndsIn excuses c i calls (steps_of history) t r
       unfolding answers_well
-      ends_in (follow on count start filter batch) r sends caused played ends =
+      ends_in (follow on count start filter batch) r sends caused played ends takes =
           let k : ℕ = turns_done i c.order c.notes in
           let last : Bool = pends_last i c.order c.notes in
           follow_both (λ opened said token alive closed. (by : AnswersWell c i calls) → (SizePasses batch → ⊥) → suc count ≤ k → FollowWell excuses (FindsNothing c i calls by.history) count opened said.items closed)
@@ -251,24 +259,33 @@ module _ (history : List Kept) (fates : List Fate) (kept : AreKept 0 fates) (cal
           (λ opened said token alive closed. (SizePasses batch → ⊥) → suc count ≤ k → FollowEndsIn excuses (FindsNothing c i calls (steps_of history)) (NoneRefused c i calls (steps_of history)) (MayBegin c i calls (steps_of history) on start filter) count opened said.items closed)
           (λ opened said token alive closed well why small turns. record {
             opens = opens_well on count start filter batch small opened closed said.items token alive k last (λ by. well by small turns) why.0 why.1 turns;
+            goes_well = λ may. well (answered (takes small turns may)) small turns;
             ends = λ taken. well (answered taken) small turns;
           }) r ends
           (follow_both (λ opened said token alive closed. FollowCaused awaited c i count calls wire on start filter batch opened said.items token alive closed) (λ opened said token alive closed. FollowPlayed opened closed count (length said.items) alive k last)
           (λ opened said token alive closed. FollowCaused awaited c i count calls wire on start filter batch opened said.items token alive closed × FollowPlayed opened closed count (length said.items) alive k last) (λ opened said token alive closed a b. (a, b)) r caused played)
-      ends_in (insert ns docs) r sends caused played ends =
+      ends_in (insert ns docs) r sends caused played ends takes =
           let k : ℕ = turns_done i c.order c.notes in
           insert_both (λ end. (by : AnswersWell c i calls) → IsNamed ns → SendFresh by.own by.history → 1 ≤ k → EndsWell (excuses ⊥) end) (λ end. InsertEnds awaited c i calls wire ns docs end)
           (λ end. HasShortNames ns → SendFresh (positions_at calls (places_of c i)) (steps_of history) → 1 ≤ k → EndsWell (excuses ⊥) end)
           (λ end well why names fresh turns. well (answered (none_refused c i ns docs sends (subst (AllSentIn c i 0) why.whole why.sent) names)) names.named fresh turns) r ends caused
-      ends_in (put db bucket name id chunk pieces) r sends caused played ends = tt
-      ends_in (get db bucket id read) r sends caused played ends = tt
+      ends_in (put db bucket name id chunk pieces) r sends caused played ends takes =
+          let k : ℕ = turns_done i c.order c.notes in
+          let t : PutTask = put_of db bucket name id chunk pieces in
+          put_both (λ end. (by : AnswersWell c i calls) → IsValidPut t → SendFresh by.own by.history → HasFewIndexes by.own by.history t → length pieces + 2 ≤ k → EndsWell (excuses ⊥) end) (λ end. PutEnds awaited c i calls wire t end)
+          (λ end. NoneRefused c i calls (steps_of history) → IsValidPut t → SendFresh (positions_at calls (places_of c i)) (steps_of history) → HasFewIndexes (positions_at calls (places_of c i)) (steps_of history) t → length pieces + 2 ≤ k → EndsWell (excuses ⊥) end)
+          (λ end well why taken valid fresh few turns. well (answered taken) valid fresh few turns) r ends caused
+      ends_in (get db bucket id read) r sends caused played ends takes =
+          let g : GetTask = get_of db bucket id read in
+          get_both (λ bytes end. (by : AnswersWell c i calls) → GetWell (excuses ⊥) c i calls by.history g end) (λ bytes end. (by : AnswersWell c i calls) → GetWell (excuses ⊥) c i calls by.history g end) (λ bytes end. NoneRefused c i calls (steps_of history) → GetWell (excuses ⊥) c i calls (steps_of history) g end)
+          (λ bytes end well again taken. well (answered taken)) r ends ends
 
     -- A job of a run over this store ends so in its history.
     pub job_ends_in : IsLegal (steps_of history) → HoldsBackNone (steps_of history) → (awaited : Awaited) (wire : ℤ) (c : Course) (i : ℕ) (t : Task) (r : Outcome) → SendsOnly (MaySend t) c i calls → OutcomeCaused awaited c i calls wire t r
-        → IsPlayed t (turns_done i c.order c.notes) (pends_last i c.order c.notes) r → JobWell c i calls t r → JobWellIn c i calls (steps_of history) t r
-    job_ends_in legal prompt awaited wire c i t r sends caused played well = (
-      ends_in legal prompt (own_excuses c i calls t) awaited wire c i (full_own c i calls t) t r sends caused played well.0,
-      λ fit. ends_in legal prompt IsMemory awaited wire c i (λ e room. room) t r sends caused played (well.1 fit),
+        → IsPlayed t (turns_done i c.order c.notes) (pends_last i c.order c.notes) r → JobWell c i calls t r → TakesValid c i calls (steps_of history) t → JobWellIn c i calls (steps_of history) t r
+    job_ends_in legal prompt awaited wire c i t r sends caused played well takes = (
+      ends_in legal prompt (own_excuses c i calls t) awaited wire c i (full_own c i calls t) t r sends caused played well.0 takes,
+      λ fit. ends_in legal prompt IsMemory awaited wire c i (λ e room. room) t r sends caused played (well.1 fit) takes,
     )
 
 -- ---- the commands of a run

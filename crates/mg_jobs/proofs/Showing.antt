@@ -37,9 +37,9 @@ module _ (old old' new new' : Awaited) (log log' : LogTold) where
 
   module _ (wire : ℤ) where
     tells_agree : (so : Task → Type 0) (p p' : Player) (next : Moves) → Agree (job_ticket p) old old' → Agree (job_ticket p') new new' → TurnTells so old' new log log' wire p p' next → TurnTells so old new' log log' wire p p' next
-    tells_agree so p p' next before after turn calls calls' is is' ids n may q at at' placed told =
+    tells_agree so p p' next before after turn calls calls' is is' ids n may q at at' placed o plays told =
         let t : Task = sent_from ids n (task_of p) in
-        let r = turn calls calls' is is' ids n may q at at' placed (job_later t old old' calls calls wire q p at (keeps_same calls) (onward_refl calls nobody) before told) in
+        let r = turn calls calls' is is' ids n may q at at' placed o (same_player old old' calls p o at before plays) (job_later t old old' calls calls wire q p at (keeps_same calls) (onward_refl calls nobody) before told) in
         record { longer = r.longer; places = r.places; tells = job_later t new new' calls' calls' wire r.places p' at' (keeps_same calls') (onward_refl calls' nobody) after r.tells; extends = r.extends; adds = r.adds }
 
 -- ---- the tickets of a turn

@@ -12,7 +12,7 @@ use Rattle.mg_bson.specs.Find.{get}
 use Rattle.mg_bson.specs.Literal.{◌⇒◌⨾◌, empty, word}
 use Rattle.mg_link.specs.Namespace.{Space, full_name}
 use Rattle.mg_link.specs.Query.{id_alone}
-use Rattle.mg_link.specs.Rules.{bytes_of, cursor_fields, deleted_event, documents_of_items, first_batch, insert_event, max_batch, max_document, max_given_levels, max_name, max_reply, max_stored_levels, stamp_of, token_fields, token_of}
+use Rattle.mg_link.specs.Rules.{bytes_of, cursor_fields, deleted_event, documents_of_items, first_batch, insert_event, max_batch, max_document, max_given_levels, max_name, max_reply, max_stored_levels, next_batch, stamp_of, token_fields, token_of}
 
 -- ---- lengths
 
@@ -247,3 +247,16 @@ watch_small id space events place entries db coll modest fits =
     let g = cursor_long id space (codes "firstBatch") events place db coll b in
     let flat = events_flat events modest in
     (omega (arith, a, c, d, e, f, g), omega (arith, flat))
+
+pub more_small : (id : ℤ) (space : Space) (events : List Fields) (place : ℕ) → length space.db ≤ max_name → length space.coll ≤ max_name → AreModest events → (bytes_of events ≤ max_batch) ⊎ (length events ≡ 1)
+    → IsSmall ("cursor" ⇒ document (cursor_fields id space (next_batch events place)) ⨾ "ok" ⇒ int32 (pos 1) ⨾ empty)
+more_small id space events place db coll modest fits =
+    let cursor : Tree = document (cursor_fields id space (next_batch events place)) in
+    let b : FitsBatch (codes "nextBatch") events = record { short = omega arith; modest = modest; fits = fits } in
+    let rest : Fields = "ok" ⇒ int32 (pos 1) ⨾ empty in
+    let a = framed_long (fields_bytes (field (codes "cursor") cursor rest)) in
+    let c = field_long (codes "cursor") cursor rest in
+    let f = ok_long in
+    let g = cursor_long id space (codes "nextBatch") events place db coll b in
+    let flat = events_flat events modest in
+    (omega (arith, a, c, f, g), omega (arith, flat))

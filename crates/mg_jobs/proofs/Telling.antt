@@ -52,7 +52,7 @@ use Rattle.mg_jobs.proofs.Commands.{began_as, falls_later, falls_more, falls_non
 use Rattle.mg_jobs.proofs.Fallings.{closing_falls, closing_left, kill_of, opening_falls, opening_left}
 use Rattle.mg_jobs.proofs.Lasting.{Lasts}
 use Rattle.mg_jobs.proofs.Later.{begins, called_grows, last_begins, so_far_grows}
-use Rattle.mg_jobs.proofs.Left.{held_few, landing_few, places_few}
+use Rattle.mg_jobs.proofs.Left.{held_few, landing_few}
 use Rattle.mg_jobs.proofs.OwnTickets.{none_is_not}
 use Rattle.mg_jobs.proofs.Sending.{calls_such, closing_such, opening_such}
 use Rattle.mg_jobs.proofs.Sends.{for_answered, for_opened, for_so_far, such_adds}
@@ -84,7 +84,7 @@ pub in_second : {A : Type 0} (xs ys : List A) (x : A) → IsOf ys x → IsOf (xs
 in_second [] ys x of = of
 in_second (y ∷ xs) ys x of = inr (in_second xs ys x of)
 
-in_either : {A : Type 0} (xs ys : List A) (x : A) → IsOf (xs ++ ys) x → IsOf xs x ⊎ IsOf ys x
+pub in_either : {A : Type 0} (xs ys : List A) (x : A) → IsOf (xs ++ ys) x → IsOf xs x ⊎ IsOf ys x
 in_either [] ys x of = inr of
 in_either (y ∷ xs) ys x (inl e) = inl (inl e)
 in_either (y ∷ xs) ys x (inr of) = elim (in_either xs ys x of) [ inl a ↦ inl (inr a) | inr b ↦ inr b ]
@@ -125,15 +125,15 @@ grows_ended places since calls wire =
 -- ---- what calls kill
 
 -- it stays told
-falls_grown : (past past' : Past) → Grows past past' → (calls : List Call) (at : ClientStream) (own : List ℕ) (m : ℕ) → FallsAt (IsSentAt (KillsReplaced past true at) at) calls 4 own m → FallsAt (IsSentAt (KillsReplaced past' true at) at) calls 4 own m
+falls_grown : (past past' : Past) → Grows past past' → (calls : List Call) (at : ClientStream) (own : List ℕ) (m : ℕ) → FallsAt (IsSentAt (KillsReplaced past true at) at) calls (calling.places at) own m → FallsAt (IsSentAt (KillsReplaced past' true at) at) calls (calling.places at) own m
 falls_grown past past' grows calls at own m f =
     let now = KillsReplaced past true at in
     let such = KillsReplaced past' true at in
-    record { within = f.within; falling = falling_as (IsSentAt such at) (IsSentAt now at) (same_at such now (replaced_grows past past' grows true at) at at refl refl) 4 (commands_at calls own) m f.falling }
+    record { within = f.within; falling = falling_as (IsSentAt such at) (IsSentAt now at) (same_at such now (replaced_grows past past' grows true at) at at refl refl) (calling.places at) (commands_at calls own) m f.falling }
 
 call_falls_later : (places : List ℕ) (calls calls' : List Call) (wire : ℤ) (at : ClientStream) (m : ℕ) → Keeps calls calls' → CallFalls calls wire at places m → CallFalls calls' wire at places m
 call_falls_later places calls calls' wire at m keeps f =
-    falls_later (IsSentAt (KillsReplaced (sent_at places calls' wire) true at) at) calls calls' 4 places m keeps (falls_grown (sent_at places calls wire) (sent_at places calls' wire) (grows_later places calls calls' wire keeps) calls at places m f)
+    falls_later (IsSentAt (KillsReplaced (sent_at places calls' wire) true at) at) calls calls' (calling.places at) places m keeps (falls_grown (sent_at places calls wire) (sent_at places calls' wire) (grows_later places calls calls' wire keeps) calls at places m f)
 
 -- ---- answered calls
 
@@ -481,7 +481,7 @@ module _ (old : Awaited) (log log' : LogTold) (wire : ℤ) (at : ClientStream) (
   kills_polled : (command : Fields) → PollKills old log log' wire true s command → kills_now command
   kills_polled command k = replaced_grows (past_of own (length calls) calls' wire) (sent_at (sent_since own (length calls) (length calls')) calls' wire) ended_grows true at command (k.replaced calls calls' told told' own at so_far)
 
-  falls_before : (n : ℕ) → CallFalls calls wire at own n → FallsAt (IsSentAt kills_now at) calls 4 own n
+  falls_before : (n : ℕ) → CallFalls calls wire at own n → FallsAt (IsSentAt kills_now at) calls (calling.places at) own n
   falls_before n f =
       falls_grown (past_of own (length calls) calls' wire) (sent_at (sent_since own (length calls) (length calls')) calls' wire) ended_grows calls at own n
       (falls_grown (sent_at own calls wire) (past_of own (length calls) calls' wire) (record { own = λ place call there mine. mine; keeps = keeps; wire = refl }) calls at own n f)
@@ -491,7 +491,7 @@ module _ (old : Awaited) (log log' : LogTold) (wire : ℤ) (at : ClientStream) (
   call_falls r sent so =
       let n : ℕ = calling.places s in
       let m : ℕ = places_behind (event_ending r) s1 in
-      falls_more (IsSentAt kills_now at) log log' calls calls' 4 own n m sent.commands told told' keeps (falls_before n so.falls) sent.adds (began_as kills_now (PollKills old log log' wire true s) kills_polled at s so_far.same n sent.commands m so.cursor sent.falling)
+      falls_more (IsSentAt kills_now at) log log' calls calls' (calling.places at) own n m sent.commands told told' keeps (falls_before n so.falls) sent.adds (began_as kills_now (PollKills old log log' wire true s) kills_polled at s so_far.same n sent.commands m so.cursor sent.falling)
 
   -- a call that waits has sent its getMore, or needs none
   call_goes_on : IsSome (stream_ticket s1) → CallSent old log log' wire None s s1 polls.Pending → SendsSoFar calls wire at own s → SendsSoFar calls' wire at (sent_since own (length calls) (length calls')) s1
@@ -577,7 +577,7 @@ rest_stays_tells awaited log wire stream k sound rest calls calls' told told' q 
       begins awaited (sent_at q.now calls wire) (stream_of stream) sound rest,
       sound,
       record {
-        falls = none_now (IsSentAt (KillsReplaced (sent_at q.now calls wire) true (stream_of stream)) (stream_of stream)) calls 4 q (calling.places (stream_of stream)) none (places_few (stream_of stream).cursor (stream_of stream).doing);
+        falls = none_now (IsSentAt (KillsReplaced (sent_at q.now calls wire) true (stream_of stream)) (stream_of stream)) calls (calling.places (stream_of stream)) q (calling.places (stream_of stream)) none (omega arith);
         cursor = λ many. refl;
         rests = λ waits. none;
       },

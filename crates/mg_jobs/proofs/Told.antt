@@ -179,10 +179,10 @@ module _ (begun : ℕ) (order : List ℕ) (notes : List Turned) (j : ℕ) (note 
   counts_at n over (inr ends) quiet = inr (quiet ends)
 
   job_turn : (ids given : ℕ → List ℕ) (ts : List Task) (old new : Awaited) (log log' : LogTold) (calls calls' : List Call) (wire : ℤ) (p p' : Player) (next : Moves) (at at' : Option ℕ) (m : ℕ) (last : Bool) → log ≡ Some calls → log' ≡ Some calls' → length notes ≡ length order → length calls ≡ begun + sum_by (λ (t : Turned). t.started) notes → length calls' ≡ length calls + note.started
-      → IsAt m p (turns_done j order notes) last → (has_ended p ≡ true → note.started ≡ 0) → AreLater ids (drawn_in ts order) given → JobHadTurn (has_turn j order) p → IsSameTask p p' → TurnTells (DrawsAs given p) old new log log' wire p p' next → MovesTo next calls calls' at at' → JobTold ids (first_id ts order j) old calls wire now j p at → JobTold ids (first_id ts (order ++ j ∷ []) j) new calls' wire then j p' at'
-  job_turn ids given ts old new log log' calls calls' wire p p' next at at' m last is is' abreast count more is_at quiet stands had task tells placed t =
+      → IsAt m p (turns_done j order notes) last → (has_ended p ≡ true → note.started ≡ 0) → AreLater ids (drawn_in ts order) given → JobHadTurn (has_turn j order) p → IsSameTask p p' → TurnTells (DrawsAs given p) old new log log' wire p p' next → MovesTo next calls calls' at at' → (o : Owner) → Plays old calls p o at → JobTold ids (first_id ts order j) old calls wire now j p at → JobTold ids (first_id ts (order ++ j ∷ []) j) new calls' wire then j p' at'
+  job_turn ids given ts old new log log' calls calls' wire p p' next at at' m last is is' abreast count more is_at quiet stands had task tells placed o plays t =
       let n : ℕ = first_id ts order j in
-      let r = tells calls calls' is is' ids n (draws_as ids given ts order j p stands had) t.places at at' placed t.tells in
+      let r = tells calls calls' is is' ids n (draws_as ids given ts order j p stands had) t.places at at' placed o plays t.tells in
       let counts = counts_at (number_of p) (has_ended p) (number_at m p (turns_done j order notes) last is_at) quiet in
       let sends : SendsOnly (MaySend (sent_from ids n (task_of p))) then j calls' = sends_turn (MaySend (sent_from ids n (task_of p))) begun order notes j note (sym abreast) calls calls' count r.adds t.sends in
       subst (λ (k : ℕ). JobTold ids k new calls' wire then j p' at') (sym (id_own ts j order))
@@ -221,7 +221,7 @@ module _ (given : ℕ → List ℕ) (old new : Awaited) (log log' : LogTold) (wi
                 subst (λ (x : Option ℕ). JobTold ids (first_id ts (order ++ k ∷ []) i) new s.0 wire (course calls (order ++ k ∷ []) (notes ++ note ∷ [])) i a x) (sym (place_here old new log log' wire players k p p' at apart goes on_log.place before.2.places i mine.0))
                 (subst (λ (x : Player). JobTold ids (first_id ts (order ++ k ∷ []) i) new s.0 wire (course calls (order ++ k ∷ []) (notes ++ note ∷ [])) i x on_log.place) mine.1
                 (subst (λ (m : ℕ). JobTold ids (first_id ts (order ++ k ∷ []) m) new s.0 wire (course calls (order ++ k ∷ []) (notes ++ note ∷ [])) m p' on_log.place) (sym mine.0)
-                (job_turn (length calls) order notes k note ids given ts old new log log' before.0 s.0 wire p p' goes.next (before.2.places k) on_log.place (calls_of t) _ before.1 s.1 (sym abreast) count more (all k t p here at) quiet drawn.stands (drawn.each k p at) goes.task goes.told on_log.placed (before.3.each k t p here at))))
+                (job_turn (length calls) order notes k note ids given ts old new log log' before.0 s.0 wire p p' goes.next (before.2.places k) on_log.place (calls_of t) _ before.1 s.1 (sym abreast) count more (all k t p here at) quiet drawn.stands (drawn.each k p at) goes.task goes.told on_log.placed here_knows.owner here_knows.plays (before.3.each k t p here at))))
             | inr other ↦
                 subst (λ (x : Option ℕ). JobTold ids (first_id ts (order ++ k ∷ []) i) new s.0 wire (course calls (order ++ k ∷ []) (notes ++ note ∷ [])) i a x) (sym (place_other old new log log' wire players k p p' at apart goes on_log.place before.2.places i other.0))
                 (job_other (length calls) order notes k note ids ts old new before.0 s.0 wire i a (before.2.places i) other.0 abreast count kept_calls onward (stays old new log log' wire players k p p' at apart goes i a other.0 other.1) (drawn.each i a other.1) (before.3.each i t a ht other.1))

@@ -20,27 +20,30 @@ use Rattle.mg_change.specs.ClientStreams.{ClientStream, IsAlive, resuming_in, st
 use Rattle.mg_change.specs.ClosingCauses.{LastDone, LastFails, LastWaits, last_kill}
 use Rattle.mg_change.specs.OpenedStreams.{IsOpening}
 use Rattle.mg_change.specs.OpeningCauses.{StreamOpened, OpeningFails}
-use Rattle.mg_gridfs.specs.Downloads.{ClientDownload}
+use Rattle.mg_gridfs.specs.Downloads.{ClientDownload, IsSoundDownload}
 use Rattle.mg_gridfs.specs.ReadCauses as files
-use Rattle.mg_gridfs.specs.ReadCauses.{HeardRecord, ReadFails}
+use Rattle.mg_gridfs.specs.ReadCauses.{HeardRecord, ReadFails, cursor_in}
 use Rattle.mg_cursor.specs.Client.{ClientCursor}
 use Rattle.mg_records.specs.FileRecords.{FileRecord}
+use Rattle.mg_change.specs.Sent as calling
 use Rattle.mg_change.specs.Sent.{Falling, IsSentAt, KillsReplaced}
 use Rattle.mg_ops.specs.Appended.{Appended}
 use Rattle.mg_jobs.specs.Counts.{PolledBy, one_if}
 use Rattle.mg_jobs.specs.Drawing.{as_sent}
 use Rattle.mg_jobs.specs.Follows.{FollowedFrom, IsArgsFor, IsUnfinished, poll_of}
-use Rattle.mg_jobs.specs.Gets.{GetTask, chunks_find, get_bucket, get_of, more_chunks, no_room, record_find}
+use Rattle.mg_jobs.specs.Gets.{AsksPlainly, GetTask, chunks_find, get_bucket, get_of, more_chunks, no_room, record_find}
 use Rattle.mg_gridfs.specs.Buckets.{IsSize}
-use Rattle.mg_gridfs.specs.Causes.{CallFails, IsUploading}
-use Rattle.mg_gridfs.specs.Storing.{HasStored}
+use Rattle.mg_gridfs.specs.Causes.{IsUploading}
+use Rattle.mg_gridfs.specs.Storing.{HasCleared, HasStored}
 use Rattle.mg_gridfs.specs.Uploads.{ClientUpload, fresh_upload, upload_ticket}
 use Rattle.mg_jobs.specs.Kinds.{OfFollow, OfGet, OfInsert, OfPut}
+use Rattle.mg_jobs.specs.PutFailures.{PutFails}
 use Rattle.mg_jobs.specs.Puts.{CannotOpen, PutTask, joined, put_aim, put_of}
 use Rattle.mg_ops.specs.InsertCauses.{InsertFails, InsertWaits}
 use Rattle.mg_ops.specs.InsertSends.{InsertPieces}
 use Rattle.mg_script.specs.Plan.{Begin, Task, insert, follow, put, get}
 use Rattle.mg_jobs.specs.Progress.{pends_last, turns_done}
+use Rattle.mg_jobs.specs.Spares.{ReadStops, SparesWhole}
 use Rattle.mg_script.specs.declared.outcome.Answer.{Answer}
 use Rattle.mg_script.specs.declared.outcome.Answer.TheVariants as answers
 use Rattle.mg_script.specs.declared.outcome.Ended.{Ended}
@@ -75,6 +78,10 @@ pub record SentIn (c : Course) (i k place : ℕ) : Type 0 where
 
 abbrev pub AllSentIn : Course → ℕ → ℕ → List ℕ → Type 0
 AllSentIn c i k places = (place : ℕ) → IsOf places place → SentIn c i k place
+
+-- each of these places is that of a command of job i
+abbrev pub AreSentIn : Course → ℕ → List ℕ → Type 0
+AreSentIn c i places = (place : ℕ) → IsOf places place → (k : ℕ) × SentIn c i k place
 
 -- so many places, from one on
 abbrev pub places_from : ℕ → ℕ → List ℕ
@@ -144,9 +151,10 @@ pub record InsertEnds (awaited : Awaited) (c : Course) (i : ℕ) (calls : List C
 
 -- ---- a follow
 
--- a call of a stream that stood so as it began sent its commands at these places, and the cursor that it killed is the one that its resumption replaced
+-- A call of a stream that stood so as it began sent its commands at these places: a getMore only where its cursor was at rest and no resumption was owed. The
+-- cursor that it killed is the one that its resumption replaced.
 abbrev pub CallFalls : List Call → ℤ → ClientStream → List ℕ → ℕ → Type 0
-CallFalls calls wire at own m = FallsAt (IsSentAt (KillsReplaced (sent_at own calls wire) true at) at) calls 4 own m
+CallFalls calls wire at own m = FallsAt (IsSentAt (KillsReplaced (sent_at own calls wire) true at) at) calls (calling.places at) own m
 
 -- The calls of a stream, one behind the other: at which places each sent its commands, what it answered with its cause, and how the stream stood
 -- before the first of them and behind the last. A call sends at most the getMore of its cursor, then at most twice the aggregate that resumes the stream,
@@ -257,33 +265,63 @@ pub record GetOpened (c : Course) (i : ℕ) (calls : List Call) (wire : ℤ) (g 
   pub sent : AllSentIn c i 0 places
   pub heard : HeardRecord (sent_at places calls wire) (get_bucket g.at) g.id (Some f)
 
--- why a get fails: memory ran out; a read is to have no room, and then it may send nothing; its opening fails; or a read of the file whose record the opening heard
+-- Its turns sent just these commands: its opening at the first places; so many calls behind it, which have ended; and what goes on, or ended it, at the last ones.
+pub record GetSent (c : Course) (i : ℕ) (opened : List ℕ) (k : ℕ) (now : List ℕ) : Type 0 where
+  pub owns : List (List ℕ)
+  pub counted : length owns ≡ k
+  pub sent_each : (n : ℕ) (own : List ℕ) → slice_get owns n ≡ Some own → AllSentIn c i (suc n) own
+  pub sent_now : AllSentIn c i (suc k) now
+  pub whole : opened ++ (concat owns ++ now) ≡ places_of c i
+
+-- Why a read of the file with this record failed, by all that the get sent: its opening listed the chunks at this place.
+pub record GetStopped (c : Course) (i : ℕ) (calls : List Call) (wire : ℤ) (g : GetTask) (f : FileRecord) (e : Error) : Type 0 where
+  pub places : List ℕ
+  pub sent : AreSentIn c i places
+  pub listed : ℕ
+  pub by_opening : SentIn c i 0 listed
+  pub why : ReadStops (sent_at places calls wire) (SparesWhole calls g.at g.id f listed) e
+
+-- Why a get fails: memory ran out; a read is to have no room, and then it may send nothing; its opening fails, for which all was sent; or a read of the file whose
+-- record the opening heard, which asks for more chunks by its own cursor, without options, and behind which nothing was sent.
 pub data GetFails (c : Course) (i : ℕ) (calls : List Call) (wire : ℤ) (g : GetTask) (e : Error) : Type 0 where
   out_of_memory : e.kind ≡ kind.OutOfMemory → GetFails c i calls wire g e
   has_no_room : g.read ≡ 0 → e ≡ no_room → GetFails c i calls wire g e
-  not_opened : 0 < g.read → (places : List ℕ) → AllSentIn c i 0 places → files.OpeningFails (sent_at places calls wire) (get_bucket g.at) g.id e → GetFails c i calls wire g e
-  not_read : 0 < g.read → (d : ClientDownload) → GetOpened c i calls wire g d.file → (k : ℕ) (places : List ℕ) → AllSentIn c i (suc k) places → (cursor : ClientCursor) → ReadFails (sent_at places calls wire) d cursor e → GetFails c i calls wire g e
+  not_opened : 0 < g.read → (places : List ℕ) → AllSentIn c i 0 places → files.OpeningFails (sent_at places calls wire) (get_bucket g.at) g.id e → places ≡ places_of c i → GetFails c i calls wire g e
+  not_read : 0 < g.read → (d : ClientDownload) (opened : GetOpened c i calls wire g d.file) (k : ℕ) (places : List ℕ) → AllSentIn c i (suc k) places → (cursor : ClientCursor) → ReadFails (sent_at places calls wire) d cursor e
+      → cursor_in d.doing ≡ Some cursor → IsSoundDownload d → AsksPlainly d → GetSent c i opened.places k places → GetStopped c i calls wire g d.file e → GetFails c i calls wire g e
 
--- what a get waits for: the record, the list of the chunks of the record that was heard, or more of them
+-- What a get waits for: the record, or the list of the chunks of the record that was heard, for which all was sent; or more of them.
 pub data GetWaits (awaited : Awaited) (c : Course) (i : ℕ) (calls : List Call) (wire : ℤ) (g : GetTask) : Type 0 where
-  for_record : (places : List ℕ) → AllSentIn c i 0 places → IsAwaited awaited (sent_at places calls wire) (record_find g) → GetWaits awaited c i calls wire g
-  for_chunks : (places : List ℕ) → AllSentIn c i 0 places → (f : FileRecord) → HeardRecord (sent_at places calls wire) (get_bucket g.at) g.id (Some f) → IsAwaited awaited (sent_at places calls wire) (chunks_find g f.id) → GetWaits awaited c i calls wire g
-  for_more : (k : ℕ) (places : List ℕ) → AllSentIn c i (suc k) places → (cursor : ℤ) (space : Space) → IsAwaited awaited (sent_at places calls wire) (more_chunks cursor space) → GetWaits awaited c i calls wire g
+  for_record : (places : List ℕ) → AllSentIn c i 0 places → IsAwaited awaited (sent_at places calls wire) (record_find g) → places ≡ places_of c i → GetWaits awaited c i calls wire g
+  for_chunks : (places : List ℕ) → AllSentIn c i 0 places → (f : FileRecord) → HeardRecord (sent_at places calls wire) (get_bucket g.at) g.id (Some f) → IsAwaited awaited (sent_at places calls wire) (chunks_find g f.id) → places ≡ places_of c i → GetWaits awaited c i calls wire g
+  for_more : (k : ℕ) (places : List ℕ) → AllSentIn c i (suc k) places → (cursor : ℤ) (space : Space) → IsAwaited awaited (sent_at places calls wire) (more_chunks cursor space)
+      → (f : FileRecord) (opened : GetOpened c i calls wire g f) → GetSent c i opened.places k places → GetWaits awaited c i calls wire g
+
+-- what a get sent that has not ended: nothing, or commands of its opening; or its opening heard a record
+pub data GetStands (c : Course) (i : ℕ) (calls : List Call) (wire : ℤ) (g : GetTask) : Type 0 where
+  unopened : AllSentIn c i 0 (places_of c i) → GetStands c i calls wire g
+  has_opened : (f : FileRecord) (opened : GetOpened c i calls wire g f) (k : ℕ) (places : List ℕ) → GetSent c i opened.places k places → GetStands c i calls wire g
 
 -- where its newest turn pended and it has not ended, it waits; where it ended well, its opening heard a record
 abbrev pub GetCaused : {A : Type 0} → Awaited → Course → ℕ → List Call → ℤ → GetTask → Ended A → Type 0
-GetCaused awaited c i calls wire g ended.Unfinished = pends_last i c.order c.notes ≡ true → GetWaits awaited c i calls wire g
-GetCaused awaited c i calls wire g (ended.Gave x) = (0 < g.read) × (f : FileRecord) × GetOpened c i calls wire g f
+GetCaused awaited c i calls wire g ended.Unfinished = (pends_last i c.order c.notes ≡ true → GetWaits awaited c i calls wire g) × GetStands c i calls wire g
+GetCaused awaited c i calls wire g (ended.Gave x) = (0 < g.read) × (f : FileRecord) × (opened : GetOpened c i calls wire g f) × (k : ℕ) × (places : List ℕ) × GetSent c i opened.places k places
 GetCaused awaited c i calls wire g (ended.Failed e) = GetFails c i calls wire g e
 
 -- ---- a put
 
--- It ended well, and gives how many bytes its pieces have, of which the file is stored; or it failed: its upload was not opened, or its last call failed. All
--- that it sent stands at the first places, and what that call sent at the second.
+-- It ended well, and gives how many bytes its pieces have, of which the file is stored; or it failed: its upload was not opened, and it sent nothing, or its last
+-- call failed, and none of its chunks is left, unless the error may leave some. All that it sent stands at the first places, and what that call sent at the second.
 abbrev pub PutEndsBy : Past → Past → PutTask → Ended ℕ → Type 0
 PutEndsBy all now t ended.Unfinished = Unit {0}
 PutEndsBy all now t (ended.Gave n) = (n ≡ length (joined t.pieces)) × IsSize t.chunk × HasStored all t.at (fresh_upload (put_aim t)) (joined t.pieces)
-PutEndsBy all now t (ended.Failed e) = CannotOpen t e ⊎ (IsSize t.chunk × CallFails now (put_aim t) e)
+PutEndsBy all now t (ended.Failed e) = (CannotOpen t e × (all.places ≡ [])) ⊎ (IsSize t.chunk × PutFails now t e × HasCleared all t.at (fresh_upload (put_aim t)) e)
+
+-- where it ended well, each of its pieces was written by one of so many calls
+abbrev pub HasWritten : PutTask → ℕ → Ended ℕ → Type 0
+HasWritten t count ended.Unfinished = Unit {0}
+HasWritten t count (ended.Gave n) = count ≡ length t.pieces
+HasWritten t count (ended.Failed e) = Unit {0}
 
 -- a call of its upload waits for a reply
 pub record PutWaits (awaited : Awaited) (now : Past) (t : PutTask) : Type 0 where
@@ -303,6 +341,7 @@ pub record PutEnds (awaited : Awaited) (c : Course) (i : ℕ) (calls : List Call
   pub by : PutEndsBy (sent_at (concat owns ++ places) calls wire) (sent_at places calls wire) t end
   -- where its newest turn pended and it has not ended
   pub waits : pends_last i c.order c.notes ≡ true → IsUnfinished end → PutWaits awaited (sent_at places calls wire) t
+  pub written : HasWritten t (length owns) end
 
 -- ---- all jobs
 

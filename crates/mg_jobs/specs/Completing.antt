@@ -1,10 +1,11 @@
 -- What jobs come to over a link that loses nothing, where their server holds nothing back.
-use Rattle.std.specs.Prelude.{◌≡◌, ◌⊎◌, ◌≤◌, ◌++◌, Contains, Ok, ℕ, suc, ℤ, pos, true, List, [], ◌∷◌, length, take, Option, Some, None, option_and_then, slice_get}
+use Rattle.std.specs.Prelude.{◌≡◌, ◌⊎◌, ◌≤◌, ◌+◌, ◌++◌, Contains, Ok, ℕ, suc, ℤ, pos, true, List, [], ◌∷◌, length, take, Option, Some, None, option_and_then, slice_get, ◌<◌, ◌^◌}
 use Rattle.mg_bson.specs.Tree.{Fields, Tree}
 use Rattle.mg_bson.specs.Raw.{fields}
 use Rattle.mg_bson.specs.Writable.{max_len}
 use Rattle.mg_link.specs.Commands.{as_database, asked, asks_insert, asks_more}
 use Rattle.mg_link.specs.Errors.{plain}
+use Rattle.mg_link.specs.Files.{IsWhole, chunked}
 use Rattle.mg_link.specs.History.{Step, IsLegal, state_of, told_at}
 use Rattle.mg_link.specs.Link.{LogTold}
 use Rattle.mg_link.specs.Log.{Call}
@@ -23,14 +24,22 @@ use Rattle.mg_ops.specs.Naming.{IsNamed}
 use Rattle.mg_ops.specs.declared.aggregate.ChangeStreamAggregate.{ChangeStreamAggregate}
 use Rattle.mg_ops.specs.declared.change_stream.WatchArgs.{WatchArgs}
 use Rattle.mg_change.specs.ClientStreams.{resuming_in}
+use Rattle.mg_records.specs.FileRecords.{FileRecord, file_record_of}
+use Rattle.mg_gridfs.specs.Findings.{ReadsRecord}
 use Rattle.mg_jobs.specs.Causes.{Course, SentIn, course, places_of}
 use Rattle.mg_jobs.specs.Drawing.{as_sent}
+use Rattle.mg_jobs.specs.Files.{IsFirstStepOf, IsLastStepOf, OthersLeaveFrom}
 use Rattle.mg_jobs.specs.Follows.{IsArgsFor, IsWatch}
-use Rattle.mg_jobs.specs.Kinds.{OfFollow, OfInsert}
+use Rattle.mg_jobs.specs.Kinds.{OfFollow, OfGet, OfInsert, OfPut}
+use Rattle.mg_jobs.specs.Gets.{GetTask, IsGetCommand, chunks_find, get_of, more_chunks, record_find}
+use Rattle.mg_jobs.specs.Headline.{GetGave}
 use Rattle.mg_ops.specs.InsertCauses.{IsPiece}
 use Rattle.mg_jobs.specs.Own.{IsHeard, IsOwnCommand, IsOwnCursor}
+use Rattle.mg_jobs.specs.PutLimits.{CannotPut, HasFewIndexes, IsExcusedPut, IsValidPut}
+use Rattle.mg_jobs.specs.Puts.{put_of}
 use Rattle.mg_script.specs.Plan.{Begin, Task, insert, follow, put, get}
 use Rattle.mg_jobs.specs.Progress.{turns_done}
+use Rattle.mg_jobs.specs.Sends.{SendsOnly}
 use Rattle.mg_script.specs.declared.outcome.Answer.{Answer}
 use Rattle.mg_script.specs.declared.outcome.Answer.TheVariants as answers
 use Rattle.mg_script.specs.declared.outcome.Ended.{Ended}
@@ -173,24 +182,65 @@ FollowWell excuses nothings count ended.Unfinished said closed = ⊥
 FollowWell excuses nothings count (ended.Gave x) said closed = CallsWell excuses nothings count said closed
 FollowWell excuses nothings count (ended.Failed e) said closed = excuses ⊥ e
 
+-- ---- what a get comes to
+
+-- A command that a get, which heard these replies, must send: the find of its record, the list of the chunks of a record that was told, or a getMore of a cursor
+-- that was.
+pub data IsGetOwn (heard : List ℕ → Type 0) (g : GetTask) (command : Fields) : Type 0 where
+  finds_record : command ≡ record_find g → IsGetOwn heard g command
+  lists_chunks : (bytes : List ℕ) → heard bytes → (f : FileRecord) → ReadsRecord bytes (Some f) → command ≡ chunks_find g f.id → IsGetOwn heard g command
+  gets_more : (id : ℤ) (at : Space) → IsOwnCursor heard id at → command ≡ more_chunks id at → IsGetOwn heard g command
+
+-- memory ran out, or a command that it must send passes the limits
+abbrev pub IsExcusedGet : (List ℕ → Type 0) → GetTask → Error → Type 0
+IsExcusedGet heard g e = (e.kind ≡ kind.OutOfMemory) ⊎ ((command : Fields) × IsGetOwn heard g command × CannotBeSent command e)
+
+-- In this history the file of a get has these bytes: it is whole before the get's first step, and nobody else touches it up to the last one. Its record is one
+-- that is read, as an upload's is, and counts its chunks.
+pub record StandsWhole (c : Course) (i : ℕ) (calls : List Call) (history : List Step) (g : GetTask) (bytes : List ℕ) : Type 0 where
+  pub first : ℕ
+  pub last : ℕ
+  pub is_first : IsFirstStepOf c i calls first
+  pub is_last : IsLastStepOf c i calls last
+  pub alone : OthersLeaveFrom c i calls history g.at g.id first last
+  pub size : ℕ
+  pub whole : IsWhole (state_of (take first history)) g.at g.id bytes size
+  pub file : FileRecord
+  pub read : file_record_of whole.record_of ≡ Ok file
+  pub few : length (chunked size bytes) < 2 ^ 32
+
+-- in this history a get of a file that is whole, with two turns more than it has bytes, ends well, where its database has a name and it reads some bytes a turn
+abbrev pub GetWell : (Error → Type 0) → Course → ℕ → List Call → List Step → GetTask → Ended (Unit {0}) → Type 0
+GetWell is_excused c i calls history g end = as_database g.at.db ≡ Some g.at.db → 0 < g.read → (whole : List ℕ) → StandsWhole c i calls history g whole → length whole + 2 ≤ turns_done i c.order c.notes → EndsWell is_excused end
+
+-- what else is told of a job that says how it ends: of a get, which commands it sent and what it gave of its file
+abbrev pub OutcomeGot : Course → ℕ → List Call → Task → Outcome → Type 0
+OutcomeGot c i calls (follow on count start filter batch) = λ r. Unit {0}
+OutcomeGot c i calls (insert ns docs) = λ r. Unit {0}
+OutcomeGot c i calls (put db bucket name id chunk pieces) = λ r. Unit {0}
+OutcomeGot c i calls (get db bucket id read) = OfGet (λ bytes end. SendsOnly (IsGetCommand (get_of db bucket id read)) c i calls × GetGave c i calls (get_of db bucket id read) bytes.items end)
+
 -- ---- what a job comes to
 
 -- A follow with a size of batches that may be, and one turn more than calls that did not pend, ends well by these excuses; so does an insert of fresh documents
--- with one such turn.
+-- with one such turn, a valid put that inserts fresh ones and finds few indexes, with two such turns more than pieces, and a get of a file that is whole, with two
+-- turns more than it has bytes.
 abbrev pub OutcomeEnds : Excuses → Course → ℕ → List Call → Task → Outcome → Type 0
 OutcomeEnds excuses c i calls (follow on count start filter batch) =
     OfFollow (λ opened said token alive closed. (answers : AnswersWell c i calls) → (SizePasses batch → ⊥) → suc count ≤ turns_done i c.order c.notes → FollowWell excuses (FindsNothing c i calls answers.history) count opened said.items closed)
 OutcomeEnds excuses c i calls (insert ns docs) =
     OfInsert (λ end. (answers : AnswersWell c i calls) → IsNamed ns → SendFresh answers.own answers.history → 1 ≤ turns_done i c.order c.notes → EndsWell (excuses ⊥) end)
-OutcomeEnds excuses c i calls (put db bucket name id chunk pieces) = λ r. Unit {0}
-OutcomeEnds excuses c i calls (get db bucket id read) = λ r. Unit {0}
+OutcomeEnds excuses c i calls (put db bucket name id chunk pieces) =
+    OfPut (λ end. (answers : AnswersWell c i calls) → IsValidPut (put_of db bucket name id chunk pieces) → SendFresh answers.own answers.history → HasFewIndexes answers.own answers.history (put_of db bucket name id chunk pieces) → length pieces + 2 ≤ turns_done i c.order c.notes → EndsWell (excuses ⊥) end)
+OutcomeEnds excuses c i calls (get db bucket id read) =
+    OfGet (λ bytes end. (answers : AnswersWell c i calls) → GetWell (excuses ⊥) c i calls answers.history (get_of db bucket id read) end)
 
 -- the excuses of a job: those of its own documents and commands
 abbrev pub own_excuses : Course → ℕ → List Call → Task → Excuses
 own_excuses c i calls (follow on count start filter batch) = IsExcused (IsArgsFor on start filter batch) (IsHeard c i calls)
 own_excuses c i calls (insert ns docs) = λ short. IsExcusedInsert ns docs
-own_excuses c i calls (put db bucket name id chunk pieces) = IsMemory
-own_excuses c i calls (get db bucket id read) = IsMemory
+own_excuses c i calls (put db bucket name id chunk pieces) = λ short. IsExcusedPut (IsHeard c i calls) (put_of db bucket name id chunk pieces)
+own_excuses c i calls (get db bucket id read) = λ short. IsExcusedGet (IsHeard c i calls) (get_of db bucket id read)
 
 abbrev pub OutcomeWell : Course → ℕ → List Call → Task → Outcome → Type 0
 OutcomeWell c i calls t r = OutcomeEnds (own_excuses c i calls t) c i calls t r
@@ -199,14 +249,14 @@ OutcomeWell c i calls t r = OutcomeEnds (own_excuses c i calls t) c i calls t r
 abbrev pub FitsLimits : Course → ℕ → List Call → Task → Type 0
 FitsLimits c i calls (follow on count start filter batch) = (command : Fields) → IsOwnCommand (IsArgsFor on start filter batch) (IsHeard c i calls) (Unit {0}) command → PassesLimit max_len command → ⊥
 FitsLimits c i calls (insert ns docs) = (piece : List Fields) → IsPiece docs piece → (SomePassLimit piece → ⊥) × (PassesLimit max_len (insert_command ns piece) → ⊥)
-FitsLimits c i calls (put db bucket name id chunk pieces) = Unit {0}
-FitsLimits c i calls (get db bucket id read) = Unit {0}
+FitsLimits c i calls (put db bucket name id chunk pieces) = (e : Error) → CannotPut (IsHeard c i calls) (put_of db bucket name id chunk pieces) e → ⊥
+FitsLimits c i calls (get db bucket id read) = (command : Fields) → IsGetOwn (IsHeard c i calls) (get_of db bucket id read) command → PassesLimit max_len command → ⊥
 
 -- then nothing but want of memory excuses it
 abbrev pub OutcomeFits : Course → ℕ → List Call → Task → Outcome → Type 0
 OutcomeFits c i calls t r = FitsLimits c i calls t → OutcomeEnds IsMemory c i calls t r
 
--- a job ends well, and by want of memory alone where it fits the limits
+-- a job ends as its kind promises, and by want of memory alone where it fits the limits
 abbrev pub JobWell : Course → ℕ → List Call → Task → Outcome → Type 0
 JobWell c i calls t r = OutcomeWell c i calls t r × OutcomeFits c i calls t r
 
@@ -238,20 +288,24 @@ pub record MayBegin (c : Course) (i : ℕ) (calls : List Call) (history : List S
   pub short : HasShortTarget on
   pub there : (position : ℕ) (step : Step) → Contains (positions_at calls (places_of c i)) position → slice_get history position ≡ Some step → IsThere (state_of (take position history)) from
 
--- it is opened where it may begin, and ends well where none of its steps was refused
+-- it is opened and ends well where it may begin, and it ends well where none of its steps was refused
 pub record FollowEndsIn {A B : Type 0} (excuses : Excuses) (nothings : Nothings) (taken begins : Type 0) (count : ℕ) (opened : Ended A) (said : List Answer) (closed : Ended B) : Type 0 where
   pub opens : begins → EndsWell (excuses ⊥) opened
+  pub goes_well : begins → FollowWell excuses nothings count opened said closed
   pub ends : taken → FollowWell excuses nothings count opened said closed
 
 -- In the history of its store a follow with a size of batches that may be, and one turn more than calls that did not pend, ends so. An insert of fresh documents
--- into a collection with short names, with one such turn, ends well.
+-- into a collection with short names, with one such turn, ends well. So does a valid put of fresh ones that finds few indexes, with two such turns more than pieces,
+-- and a get of a file that is whole, with two turns more than it has bytes, where none of its steps was refused.
 abbrev pub OutcomeEndsIn : Excuses → Course → ℕ → List Call → List Step → Task → Outcome → Type 0
 OutcomeEndsIn excuses c i calls history (follow on count start filter batch) =
     OfFollow (λ opened said token alive closed. (SizePasses batch → ⊥) → suc count ≤ turns_done i c.order c.notes → FollowEndsIn excuses (FindsNothing c i calls history) (NoneRefused c i calls history) (MayBegin c i calls history on start filter) count opened said.items closed)
 OutcomeEndsIn excuses c i calls history (insert ns docs) =
     OfInsert (λ end. HasShortNames ns → SendFresh (positions_at calls (places_of c i)) history → 1 ≤ turns_done i c.order c.notes → EndsWell (excuses ⊥) end)
-OutcomeEndsIn excuses c i calls history (put db bucket name id chunk pieces) = λ r. Unit {0}
-OutcomeEndsIn excuses c i calls history (get db bucket id read) = λ r. Unit {0}
+OutcomeEndsIn excuses c i calls history (put db bucket name id chunk pieces) =
+    OfPut (λ end. NoneRefused c i calls history → IsValidPut (put_of db bucket name id chunk pieces) → SendFresh (positions_at calls (places_of c i)) history → HasFewIndexes (positions_at calls (places_of c i)) history (put_of db bucket name id chunk pieces) → length pieces + 2 ≤ turns_done i c.order c.notes → EndsWell (excuses ⊥) end)
+OutcomeEndsIn excuses c i calls history (get db bucket id read) =
+    OfGet (λ bytes end. NoneRefused c i calls history → GetWell (excuses ⊥) c i calls history (get_of db bucket id read) end)
 
 -- it ends so, and by want of memory alone where it fits the limits
 abbrev pub JobWellIn : Course → ℕ → List Call → List Step → Task → Outcome → Type 0
@@ -259,7 +313,7 @@ JobWellIn c i calls history t r = OutcomeEndsIn (own_excuses c i calls t) c i ca
 
 -- ---- a run
 
--- each job of a run ends well in which inserts draw these ids
+-- each job of a run ends as its kind promises, in which inserts draw these ids
 abbrev pub AllWell : (ℕ → List ℕ) → LogTold → LogTold → List Task → List ℕ → List Turned → List Outcome → Type 0
 AllWell ids log log' tasks order notes outcomes = (calls : List Call) → log ≡ Some calls → (calls' : List Call) × (log' ≡ Some calls')
     × ((i : ℕ) (t : Task) (r : Outcome) → slice_get tasks i ≡ Some t → slice_get outcomes i ≡ Some r → JobWell (course calls order notes) i calls' (as_sent ids tasks order i t) r)

@@ -13,7 +13,8 @@ use Rattle.mg_link.specs.State.{Start, Watch}
 use Rattle.mg_script.specs.Plan.{Task, begin, insert, follow, pieces, put, get}
 use Rattle.mg_jobs.specs.Causes.{Course, SentIn, course}
 use Rattle.mg_jobs.specs.Follows.{FollowKnows, Followed, FollowsNothing, HasNothing, IsUnfinished, IsWatch, NeverFollowed, WatchesNothing, events_of, filter_in, token_at}
-use Rattle.mg_jobs.specs.Files.{GaveFile, IsFirstStepOf, IsLastStepOf, OthersLeaveFrom, LeftWhole}
+use Rattle.mg_jobs.specs.Files.{GaveFile, HasReadAll, HasReadFront, IsFirstStepOf, IsLastStepOf, OthersLeaveFrom, LeftNoChunk, LeftWhole}
+use Rattle.mg_gridfs.specs.Storing.{may_leave}
 use Rattle.mg_jobs.specs.Gets.{GetKnows, GetTask, get_end, get_of, sought}
 use Rattle.mg_jobs.specs.Kinds.{OfFollow, OfGet, OfPut}
 use Rattle.mg_jobs.specs.Playing.{IsPlainJob, end_of}
@@ -173,17 +174,18 @@ abbrev pub GaveFront : Course → ℕ → List Call → GetTask → List ℕ →
 GaveFront c i calls g bytes = (history : List Step) → IsLegal history → Stands calls history → (first last : ℕ) → IsFirstStepOf c i calls first → IsLastStepOf c i calls last → OthersLeaveFrom c i calls history g.at g.id first last
     → (whole : List ℕ) (size : ℕ) → IsWhole (state_of (take first history)) g.at g.id whole size → (left : List ℕ) × (whole ≡ bytes ++ left)
 
--- a get that ended well gave the bytes of its file, and one that is unfinished the first of them
+-- A get that ended well gave the bytes of its file, and one that is unfinished the first of them. Whatever file it was, they are those of all chunks that stood,
+-- or begin what the first of them gave.
 abbrev pub GetGave : {A : Type 0} → Course → ℕ → List Call → GetTask → List ℕ → Ended A → Type 0
-GetGave c i calls g bytes ended.Unfinished = GaveFront c i calls g bytes
-GetGave c i calls g bytes (ended.Gave x) = GaveFile c i calls g.at g.id bytes
+GetGave c i calls g bytes ended.Unfinished = GaveFront c i calls g bytes × ((bytes ≡ []) ⊎ HasReadFront calls g.at g.id bytes)
+GetGave c i calls g bytes (ended.Gave x) = GaveFile c i calls g.at g.id bytes × HasReadAll calls g.at g.id bytes
 GetGave c i calls g bytes (ended.Failed e) = Unit {0}
 
--- a put that ended well left its file whole
+-- a put that ended well left its file whole, and one that failed none of its chunks, unless its error may leave some
 abbrev pub PutLeft : Course → ℕ → List Call → PutTask → Ended ℕ → Type 0
 PutLeft c i calls t ended.Unfinished = Unit {0}
 PutLeft c i calls t (ended.Gave n) = LeftWhole c i calls t.at t.id (joined t.pieces) t.chunk
-PutLeft c i calls t (ended.Failed e) = Unit {0}
+PutLeft c i calls t (ended.Failed e) = (may_leave e.kind → ⊥) → LeftNoChunk c i calls t.at t.id
 
 -- what an outcome says of the file of its task
 abbrev pub OutcomeFiled : Course → ℕ → List Call → Task → Outcome → Type 0

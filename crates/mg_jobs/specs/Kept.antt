@@ -1,11 +1,18 @@
 -- Ids that are kept.
-use Rattle.std.specs.Prelude.{ℕ, List, [], ◌∷◌, Option, Some, None, slice_get}
+use Rattle.std.specs.Prelude.{◌==◌, ℕ, List, [], ◌∷◌, length, Option, Some, None, slice_get, if◌then◌else◌}
 use Rattle.mg_bson.specs.declared.object_id.ObjectId.{ObjectId}
+
+abbrev pub zeros : List ℕ
+zeros = 0 ∷ 0 ∷ 0 ∷ 0 ∷ 0 ∷ 0 ∷ 0 ∷ 0 ∷ 0 ∷ 0 ∷ 0 ∷ 0 ∷ []
+
+-- bytes as those of an id, which are twelve
+abbrev pub as_id : List ℕ → List ℕ
+as_id bytes = if length bytes == 12 then bytes else zeros
 
 -- the bytes of an id, or zeros where there is none
 abbrev pub id_or_zeros : Option ObjectId → List ℕ
-id_or_zeros None = 0 ∷ 0 ∷ 0 ∷ 0 ∷ 0 ∷ 0 ∷ 0 ∷ 0 ∷ 0 ∷ 0 ∷ 0 ∷ 0 ∷ []
-id_or_zeros (Some id) = id.0
+id_or_zeros None = zeros
+id_or_zeros (Some id) = as_id id.0
 
 -- the kept id of this number
 abbrev pub kept_id : List ObjectId → ℕ → List ℕ

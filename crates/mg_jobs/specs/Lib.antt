@@ -14,7 +14,9 @@ pub mod Counts
 pub mod Runs
 pub mod Follows
 pub mod Gets
+pub mod Spares
 pub mod Puts
+pub mod PutFailures
 pub mod Files
 pub mod Headline
 pub mod Progress
@@ -23,6 +25,7 @@ pub mod Telling
 pub mod Kept
 pub mod Putting
 pub mod Own
+pub mod PutLimits
 pub mod Completing
 pub mod Drawing
 pub mod Fated

@@ -93,10 +93,10 @@ pub record TellsBehind {P : Type 0} (says : Account P) (number : P → ℕ) (awa
 abbrev pub AnySent : Task → Type 0
 AnySent t = Unit {0}
 
--- A turn led a job from one state to another: it goes on telling, where its task is sent as one of which this holds.
-abbrev pub TurnTells : {P : Type 0} → (P → Task) → Account P → (P → ℕ) → (Task → Type 0) → Awaited → Awaited → LogTold → LogTold → ℤ → P → P → Moves → Type 0
-TurnTells does says number so old new log log' wire p p' next = (calls calls' : List Call) → log ≡ Some calls → log' ≡ Some calls' → (ids : ℕ → List ℕ) (n : ℕ) → so (sent_from ids n (does p)) → (q : Places) (at at' : Option ℕ)
-    → MovesTo next calls calls' at at' → says old calls wire q (sent_from ids n (does p)) p at → TellsBehind says number new calls calls' wire (sent_from ids n (does p)) q (number p) p' at'
+-- A turn led a job, which knew what it should, from one state to another: it goes on telling, where its task is sent as one of which this holds.
+abbrev pub TurnTells : {P : Type 0} → (P → Task) → Knowledge P → Account P → (P → ℕ) → (Task → Type 0) → Awaited → Awaited → LogTold → LogTold → ℤ → P → P → Moves → Type 0
+TurnTells does knows says number so old new log log' wire p p' next = (calls calls' : List Call) → log ≡ Some calls → log' ≡ Some calls' → (ids : ℕ → List ℕ) (n : ℕ) → so (sent_from ids n (does p)) → (q : Places) (at at' : Option ℕ)
+    → MovesTo next calls calls' at at' → (o : Owner) → knows old calls p o at → says old calls wire q (sent_from ids n (does p)) p at → TellsBehind says number new calls calls' wire (sent_from ids n (does p)) q (number p) p' at'
 
 -- what the first tells, the second tells too, where its task is sent as one of which this holds
 pub record TellsAs {P : Type 0} (does : P → Task) (says : Account P) (number : P → ℕ) (so : Task → Type 0) (p p' : P) : Type 0 where
@@ -109,7 +109,7 @@ pub record Goes {P : Type 0} (ticket : P → Option ℕ) (keeps : ℤ → P → 
   pub holds : keeps wire p'
   pub next : Moves
   pub turned : Turns knows old new log log' p p' next
-  pub told : TurnTells does says number so old new log log' wire p p' next
+  pub told : TurnTells does knows says number so old new log log' wire p p' next
   pub task : does p' ≡ does p
   pub has : drew p → drew p'
 

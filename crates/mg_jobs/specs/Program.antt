@@ -85,9 +85,9 @@ script_ids script n = counted_id (script.ids ++ 0 ∷ []) n
 -- follows how far each job came. Each note says rightly whether its turn pended: one poll pended in it, or none, and that of the newest command which its
 -- job sent up to then, by the notes; and each call pended as often as its fate says, or less while it waits. A call that waits was sent in a turn of a job
 -- whose newest turn pended by its note, and which waits for no other. Each command that a turn sent, by the notes, is one that its job may send. Where every
--- fate keeps its command, each job ends well whose steps were answered at once; and so were, in the history of the run's own
+-- fate keeps its command, each job ends as its kind promises whose steps were answered at once; and so were, in the history of the run's own
 -- store, the steps of each job of which it refused none.
--- There each insert of fresh documents ends well, and each follow that may begin is opened, whatever else the run's store did.
+-- There each insert of fresh documents ends well, and each follow that may begin is opened and ends well, whatever else the run's store did.
 pub record RunFollowed (run : Run) : Type 0 where
   pub calls : List Call
   pub log_is : run.logs.items ≡ calls ∷ []

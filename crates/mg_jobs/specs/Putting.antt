@@ -62,4 +62,4 @@ pub record PutTurns (old new : Awaited) (log log' : LogTold) (wire : ℤ) (p p' 
   pub holds : PutHolds p'
   pub has : PutHasIds p'.stage
   pub turned : Turns PutPlays old new log log' p p' no_move
-  pub told : TurnTells put_task PutSays (λ p. put_number p.done p.stage) AnySent old new log log' wire p p' no_move
+  pub told : TurnTells put_task PutPlays PutSays (λ p. put_number p.done p.stage) AnySent old new log log' wire p p' no_move

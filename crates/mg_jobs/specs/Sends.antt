@@ -46,7 +46,8 @@ pub record IsStretchOf (t : PutTask) (first : ℕ) (stretch : List ℕ) : Type 0
   pub from : length front ≡ first * t.chunk
   pub whole : (rest ≡ []) ⊎ ((count : ℕ) × (length stretch ≡ count * t.chunk))
 
--- A command that a put may send: of the check of its bucket's indexes; an insert of the next chunks of its file, or of its record; or the removal of its chunks.
+-- A command that a put may send: of the check of its bucket's indexes; an insert of some chunks of its file, each with its own number, or of its record; or the
+-- removal of its chunks.
 pub data IsPutCommand (t : PutTask) (command : Fields) : Type 0 where
   checks : (lines : List Line) → IsOfCheck (put_bucket t) lines → command ≡ fields_in lines → IsPutCommand t command
   reads_on : (id : ℤ) (space : Space) → command ≡ next_command id space plain_manner → IsPutCommand t command
@@ -85,7 +86,7 @@ PutFlies t (busy call phase) = PhaseFlies t phase
 PutFlies t closed = Unit {0}
 
 -- The command is one that a job with this task may send: an insert of some of these documents; the aggregate that opens the watch or resumes it, or a
--- getMore or killCursors; one of the file that is put; a find of the record of the file that is read, or of its chunks, or a getMore.
+-- getMore or killCursors; one of the file that is put; a find of the record of the file that is read, or of the chunks of some id, or a getMore.
 abbrev pub MaySend : Task → Fields → Type 0
 MaySend (insert ns docs) = IsInsertOf ns docs
 MaySend (follow on count start filter batch) = IsCommandOf (IsArgsFor on start filter batch)

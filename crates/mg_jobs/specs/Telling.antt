@@ -20,21 +20,21 @@ use Rattle.mg_change.specs.OpeningView.{IsPlainOpening, opening_of}
 use Rattle.mg_change.specs.Sent as calling
 use Rattle.mg_change.specs.Sent.{ending_places, opening_places}
 use Rattle.mg_change.specs.StreamView.{stream_of}
-use Rattle.mg_jobs.specs.Causes.{Answered, AreInLog, CallFalls, ClosedBy, Course, EndsBy, EndsSent, FallsAt, KillsLast, AllSentIn, SentNoneBehind, commands_at, course, places_of, sent_at, PutEndsBy}
+use Rattle.mg_jobs.specs.Causes.{Answered, AreInLog, CallFalls, ClosedBy, Course, EndsBy, EndsSent, FallsAt, KillsLast, AllSentIn, SentNoneBehind, commands_at, course, places_of, sent_at, PutEndsBy, HasWritten}
 use Rattle.mg_jobs.specs.Follows.{FollowTurns, HasGiven, IsArgsFor, Placing, filter_in}
 use Rattle.mg_gridfs.specs.Buckets.{IsSize}
 use Rattle.mg_gridfs.specs.Causes.{IsUploading}
 use Rattle.mg_gridfs.specs.Storing.{KnowsUpload}
-use Rattle.mg_gridfs.specs.Uploads.{ClientUpload}
+use Rattle.mg_gridfs.specs.Uploads.{ClientUpload, upload_error}
 use Rattle.mg_gridfs.specs.UploadView.{upload_of}
-use Rattle.mg_jobs.specs.Gets.{AsksPlainly, GetTask, IsGetCommand, IsOpeningFor, get_bucket, no_room, sought}
-use Rattle.mg_jobs.specs.Headline.{AllKnow, GetPlays, task_of}
+use Rattle.mg_jobs.specs.Gets.{AsksPlainly, GetKnowsAt, GetTask, IsGetCommand, IsOpeningFor, get_bucket, no_room, sought}
+use Rattle.mg_jobs.specs.Headline.{AllKnow, GetPlays, Plays, task_of}
 use Rattle.mg_cursor.specs.Client.{ClientCursor}
-use Rattle.mg_gridfs.specs.Downloads.{ClientDownload}
+use Rattle.mg_gridfs.specs.Downloads.{ClientDownload, IsSoundDownload}
 use Rattle.mg_gridfs.specs.DownloadView.{IsDownload, download_of, finding_of}
 use Rattle.mg_gridfs.specs.Findings.{IsSoundFinding}
 use Rattle.mg_gridfs.specs.ReadCauses as files
-use Rattle.mg_gridfs.specs.ReadCauses.{HeardRecord, IsFetching, ReadFails}
+use Rattle.mg_gridfs.specs.ReadCauses.{HeardRecord, IsFetching, ReadFails, cursor_in}
 use Rattle.mg_link.specs.Owner.{IsOf}
 use Rattle.mg_records.specs.FileRecords.{FileRecord}
 use Rattle.mg_ops.specs.InsertCauses.{HasSent, IsInsertOf}
@@ -46,7 +46,9 @@ use Rattle.mg_jobs.specs.Drawing.{first_id, sent_documents, sent_from}
 use Rattle.mg_jobs.specs.Playing.{job_ticket}
 use Rattle.mg_jobs.specs.Plays as words
 use Rattle.mg_jobs.specs.Plays.{Extends, Moves, MovesTo, Places, all_places}
-use Rattle.mg_jobs.specs.Puts.{BegunFor, CutBy, PutTask, put_aim, taken_in, total, writes}
+use Rattle.mg_jobs.specs.PutFailures.{AnswersPut, PutReads}
+use Rattle.mg_jobs.specs.Puts.{BegunFor, CutBy, PutTask, put_aim, put_bucket, taken_in, total, writes}
+use Rattle.mg_jobs.specs.Spares.{ListsIts, ReadStops, SparesWhole}
 use Rattle.mg_jobs.specs.Sends.{IsCommandOf, MaySend, PutFlies, SendsOnly}
 use Rattle.mg_ops.specs.Underway.{HasInserted}
 use Rattle.mg_script.specs.declared.outcome.Answer.{Answer}
@@ -227,18 +229,20 @@ pub data TellsGetFails (calls : List Call) (wire : ℤ) (q : Places) (g : GetTas
   out_of_memory : e.kind ≡ kind.OutOfMemory → TellsGetFails calls wire q g done e
   has_no_room : g.read ≡ 0 → e ≡ no_room → TellsGetFails calls wire q g done e
   not_opened : 0 < g.read → TellsNoCall q → done ≡ 0 → files.OpeningFails (sent_at q.now calls wire) (get_bucket g.at) g.id e → TellsGetFails calls wire q g done e
-  not_read : 0 < g.read → 1 ≤ done → (d : ClientDownload) (at : Option ℕ) → TellsGetOpened calls wire q g d.file at → (cursor : ClientCursor) → ReadFails (sent_at q.now calls wire) d cursor e → TellsGetFails calls wire q g done e
+  not_read : 0 < g.read → 1 ≤ done → (d : ClientDownload) (at : Option ℕ) → TellsGetOpened calls wire q g d.file at → (cursor : ClientCursor) → ReadFails (sent_at q.now calls wire) d cursor e
+      → cursor_in d.doing ≡ Some cursor → IsSoundDownload d → AsksPlainly d → suc (length q.owns) ≡ done
+      → (listed : ℕ) → IsOf q.opened listed → ReadStops (sent_at (all_places q) calls wire) (SparesWhole calls g.at g.id d.file listed) e → TellsGetFails calls wire q g done e
 
 abbrev pub TellsGetEnd : {A : Type 0} → List Call → ℤ → Places → GetTask → ℕ → Option ℕ → Ended A → Type 0
 TellsGetEnd calls wire q g done at ended.Unfinished = Unit {0}
-TellsGetEnd calls wire q g done at (ended.Gave x) = (0 < g.read) × (f : FileRecord) × TellsGetOpened calls wire q g f at
+TellsGetEnd calls wire q g done at (ended.Gave x) = (0 < g.read) × (f : FileRecord) × TellsGetOpened calls wire q g f at × (suc (length q.owns) ≡ done)
 TellsGetEnd calls wire q g done at (ended.Failed e) = TellsGetFails calls wire q g done e
 
 -- what a get can tell at each stage, where the call at this place listed its chunks
 abbrev pub GetTells : Awaited → List Call → ℤ → Places → GetTask → GetStage → ℕ → Option ℕ → Type 0
 GetTells awaited calls wire q g gets.Unsent done at = TellsNoCall q × (q.now ≡ [])
 GetTells awaited calls wire q g (gets.Opens opening) done at = TellsNoCall q × IsOpeningFor g (finding_of opening) × IsSoundFinding (finding_of opening) × files.IsOpening awaited (sent_at q.now calls wire) (finding_of opening)
-GetTells awaited calls wire q g (gets.Reads download room) done at = TellsGetOpened calls wire q g (download_of download).file at × (suc (length q.owns) ≡ done) × IsFetching awaited (sent_at q.now calls wire) (download_of download) × IsDownload download × AsksPlainly (download_of download)
+GetTells awaited calls wire q g (gets.Reads download room) done at = TellsGetOpened calls wire q g (download_of download).file at × (suc (length q.owns) ≡ done) × IsFetching awaited (sent_at q.now calls wire) (download_of download) × IsDownload download × AsksPlainly (download_of download) × ListsIts (sent_at (all_places q) calls wire) g (download_of download)
 GetTells awaited calls wire q g (gets.Ended end) done at = TellsGetEnd calls wire q g done at end
 
 -- what a get tells behind a turn, and whether it sent what it may
@@ -249,15 +253,15 @@ pub record GetTell (awaited : Awaited) (begun calls : List Call) (wire : ℤ) (q
   pub extends : Extends q places n done (length begun) (length calls)
   pub adds : AddsOnly (IsGetCommand g) begun calls
 
--- A turn, or a part of one, led a get from one stage to another: it goes on telling.
-abbrev pub GetGoesOn : Awaited → Awaited → LogTold → LogTold → ℤ → GetTask → GetStage → ℕ → GetStage → ℕ → Moves → Type 0
-GetGoesOn old new log log' wire g s done s' done' next = (calls calls' : List Call) → log ≡ Some calls → log' ≡ Some calls' → (q : Places) (at at' : Option ℕ) → MovesTo next calls calls' at at' → GetTells old calls wire q g s done at → GetTell new calls calls' wire q done g s' done' at'
+-- A turn, or a part of one, led a get that knew what it should from one stage to another: it goes on telling.
+abbrev pub GetGoesOn : Awaited → Awaited → LogTold → LogTold → ℤ → GetTask → GetStage → List ℕ → ℕ → GetStage → ℕ → Moves → Type 0
+GetGoesOn old new log log' wire g s bytes done s' done' next = (calls calls' : List Call) → log ≡ Some calls → log' ≡ Some calls' → (q : Places) (at at' : Option ℕ) → MovesTo next calls calls' at at' → GetKnowsAt old calls g s bytes at → GetTells old calls wire q g s done at → GetTell new calls calls' wire q done g s' done' at'
 
 -- A get took a turn, or a part of one: it goes on knowing and telling.
 pub record GetTurns (old new : Awaited) (log log' : LogTold) (wire : ℤ) (p p' : GetPlayer) : Type 0 where
   pub next : Moves
   pub turned : words.Turns GetPlays old new log log' p p' next
-  pub told : GetGoesOn old new log log' wire (sought p.what) p.stage p.done p'.stage p'.done next
+  pub told : GetGoesOn old new log log' wire (sought p.what) p.stage p.bytes.items p.done p'.stage p'.done next
 
 -- ---- puts
 
@@ -271,6 +275,8 @@ pub record PutTellsOpen (awaited : Awaited) (calls : List Call) (wire : ℤ) (q 
   pub cut : CutBy u (taken_in u.doing t.pieces done) u.doing
   pub underway : IsUploading awaited (sent_at q.now calls wire) u
   pub flies : PutFlies t u.doing
+  pub its : AnswersPut t (upload_error u)
+  pub reads : PutReads awaited (sent_at q.now calls wire) (put_bucket t) u.doing
   pub knows : KnowsUpload awaited (sent_at (all_places q) calls wire) t.at u (taken_in u.doing t.pieces done)
 
 -- it has sent nothing
@@ -282,7 +288,7 @@ abbrev pub PutTells : Awaited → List Call → ℤ → Places → PutTask → �
 PutTells awaited calls wire q t done puts.Undrawn = SentNothing q × (done ≡ 0)
 PutTells awaited calls wire q t done (puts.Begins begun) = SentNothing q × (done ≡ 0) × BegunFor t begun
 PutTells awaited calls wire q t done (puts.Goes going) = PutTellsOpen awaited calls wire q t done (upload_of going.upload) × (going.length ≡ total t.pieces)
-PutTells awaited calls wire q t done (puts.Ended end) = (q.opened ≡ []) × (length q.owns ≡ done) × PutEndsBy (sent_at (all_places q) calls wire) (sent_at q.now calls wire) t end
+PutTells awaited calls wire q t done (puts.Ended end) = (q.opened ≡ []) × (length q.owns ≡ done) × PutEndsBy (sent_at (all_places q) calls wire) (sent_at q.now calls wire) t end × HasWritten t done end
 
 -- the number of what goes on: how many turns that did not pend come before it
 abbrev pub put_number : ℕ → PutStage → ℕ
@@ -325,7 +331,7 @@ abbrev pub TellsBehind : Awaited → List Call → List Call → ℤ → Task �
 TellsBehind = words.TellsBehind JobTells number_of
 
 abbrev pub TurnTells : (Task → Type 0) → Awaited → Awaited → LogTold → LogTold → ℤ → Player → Player → Moves → Type 0
-TurnTells so = words.TurnTells task_of JobTells number_of so
+TurnTells so = words.TurnTells task_of Plays JobTells number_of so
 
 abbrev pub TellsAs : (Task → Type 0) → Player → Player → Type 0
 TellsAs so = words.TellsAs task_of JobTells number_of so

@@ -26,10 +26,17 @@ impl IdSource for DrawnIds {
         let at = self.next;
         if at < self.ids.len() {
             self.next = at + 1;
-            return self.ids[at];
+            return copied(&self.ids[at]);
         }
         ObjectId([0; 12])
     }
+}
+
+/// The same id, which has twelve bytes.
+fn copied(id: &ObjectId) -> ObjectId
+    ensures same { result ≡ id.now }
+{
+    *id
 }
 
 /// Draws so many ids, also where there is no place to keep them: memory does not change which ids come next.

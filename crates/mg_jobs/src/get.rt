@@ -1,5 +1,5 @@
 //! A job that reads a file.
-ghost use Rattle.std.specs.Prelude.{◌≡◌, ◌+◌, ◌<◌, ◌≤◌, [], IfErr, IfOk, None, Some, false, length};
+ghost use Rattle.std.specs.Prelude.{◌≡◌, ◌+◌, ◌<◌, ◌≤◌, [], IfErr, IfOk, None, Some, false, length, string_bytes};
 ghost use Rattle.mg_link.specs.Acts.{IsOut, Tickets};
 ghost use Rattle.mg_link.specs.Commands.{as_database};
 ghost use Rattle.mg_link.specs.Errors.{plain};
@@ -9,7 +9,7 @@ ghost use Rattle.mg_gridfs.specs.Buckets.{bucket_of};
 ghost use Rattle.mg_gridfs.specs.Downloads.{download_ticket};
 ghost use Rattle.mg_gridfs.specs.DownloadView.{IsDownload, download_of, finding_of, ticket_in};
 ghost use Rattle.mg_gridfs.specs.Findings.{IsSoundFinding, finding_ticket, starts};
-ghost use Rattle.mg_jobs.specs.Gets.{FewCalls, GetStageHolds, IsOpeningFor, KeepsRead, OpensAs, done_behind, get_bucket, gets_ticket, room_of, sought};
+ghost use Rattle.mg_jobs.specs.Gets.{FewCalls, GetStageHolds, IsOpeningFor, KeepsRead, OpensAs, done_behind, get_bucket, get_end, gets_ticket, room_of, sought};
 ghost use Rattle.mg_jobs.specs.Progress.{GetAt, GetGoes};
 ghost use Rattle.mg_jobs.specs.Telling.{GetTurns};
 
@@ -90,7 +90,7 @@ impl Drop for GetPlayer<'_> {
 
 /// A bucket that says nothing but its names.
 fn bucket_named(alloc: Global, db: &DatabaseName, bucket: &String) -> Result<GridFsBucket, Error>
-    ensures ok { IfOk result (λ b. bucket_of b ≡ get_bucket (record { db = db.now; name = bucket.now })) }
+    ensures ok { IfOk result (λ b. bucket_of b ≡ get_bucket (record { db = db.now; name = string_bytes bucket.now })) }
     ensures named { as_database db.now ≡ Some db.now }
     ensures err { IfErr result (λ e. e ≡ plain kinds.OutOfMemory) }
 {
@@ -100,8 +100,7 @@ fn bucket_named(alloc: Global, db: &DatabaseName, bucket: &String) -> Result<Gri
         write_concern: None,
         selection_criteria: None,
     };
-    let mut options = GridFsBucketOptions::builder();
-    options.bucket_name = Some(bucket.clone()?);
+    let options = GridFsBucketOptions::builder().bucket_name(bucket.clone()?);
     GridFsBucket::new(alloc, defaults, options)
 }
 

@@ -14,7 +14,7 @@ ghost use Rattle.mg_script.specs.Plan.{pieces};
 ghost use Rattle.mg_jobs.specs.Drawing.{put_draws};
 ghost use Rattle.mg_jobs.specs.Progress.{PutGoes};
 ghost use Rattle.mg_jobs.specs.Putting.{Drew, DrewFor, Opens, OpensFrom, PutTurns};
-ghost use Rattle.mg_jobs.specs.Puts.{CannotOpen, HoldsUpload, IsSamePut, NamesFiles, PutHasIds, put_aim, put_bucket, total, where_counted, writes};
+ghost use Rattle.mg_jobs.specs.Puts.{CannotOpen, HoldsUpload, IsSamePut, NamesFiles, PutHasIds, put_aim, put_bucket, put_end, total, where_counted, writes};
 
 use crate::drawn::{DrawnIds, draw};
 use crate::kind::Kind;
@@ -131,12 +131,22 @@ struct Beginning {
 }
 
 /// An upload that goes on, with the ids of its chunks.
-#[derive(Drop)]
 struct Going {
     upload: GridFsUploadStream,
     ids: DrawnIds,
     /// How many bytes the file will have.
     length: u64,
+}
+
+// By hand, so that letting one go is one call.
+impl Drop for Going {
+    fn drop(self) {
+        let Going {
+            upload: _,
+            ids: _,
+            length: _,
+        } = self;
+    }
 }
 
 /// How far a put has come.
@@ -225,23 +235,23 @@ impl<'a> PutPlayer<'a> {
         ensures same { IsSamePut self.old self.new }
         ensures has { PutHasIds self.new.stage }
     {
-        match mem::replace(&mut self.stage, PutStage::Ended(Ended::Unfinished)) {
-            PutStage::Undrawn => self.stage = PutStage::Begins(begun(alloc, ids, self.what)),
-            PutStage::Begins(begun) => self.stage = PutStage::Begins(begun),
-            PutStage::Goes(going) => self.stage = PutStage::Goes(going),
-            PutStage::Ended(ended) => self.stage = PutStage::Ended(ended),
-        }
+        let next = match mem::replace(&mut self.stage, PutStage::Undrawn) {
+            PutStage::Undrawn => PutStage::Begins(begun(alloc, ids, self.what)),
+            PutStage::Begins(begun) => PutStage::Begins(begun),
+            PutStage::Goes(going) => PutStage::Goes(going),
+            PutStage::Ended(ended) => PutStage::Ended(ended),
+        };
+        enter(&mut self.stage, next);
     }
 
     /// The put at its next stage, with so many pieces written.
     fn moved_to(self, stage: PutStage, done: usize) -> PutPlayer<'a>
         ensures { result ≡ record self.entry { stage = stage; done = done } }
     {
-        PutPlayer {
-            what: self.what,
-            stage,
-            done,
-        }
+        let mut put = self;
+        enter(&mut put.stage, stage);
+        put.done = done;
+        put
     }
 
     /// Writes the next piece, or closes the upload behind the last one.
@@ -391,11 +401,25 @@ impl<'a> Kind for PutPlayer<'a> {
             stage,
             done: _,
         } = self;
-        match stage {
-            PutStage::Undrawn => Ok(Outcome::Put(Ended::Unfinished)),
-            PutStage::Begins(_) => Ok(Outcome::Put(Ended::Unfinished)),
-            PutStage::Goes(_) => Ok(Outcome::Put(Ended::Unfinished)),
-            PutStage::Ended(ended) => Ok(Outcome::Put(ended)),
-        }
+        Ok(Outcome::Put(end_of(stage)))
     }
+}
+
+/// What a put came to.
+fn end_of(stage: PutStage) -> Ended<u64>
+    ensures { result ≡ put_end stage }
+{
+    match stage {
+        PutStage::Undrawn => Ended::Unfinished,
+        PutStage::Begins(_) => Ended::Unfinished,
+        PutStage::Goes(_) => Ended::Unfinished,
+        PutStage::Ended(ended) => ended,
+    }
+}
+
+/// Puts the next stage in the place of the last one, which is let go by this one call.
+fn enter(stage: &mut PutStage, next: PutStage)
+    ensures { stage.new ≡ next }
+{
+    *stage = next;
 }

@@ -335,8 +335,9 @@ pub fn run_jobs<L: Link, I: IdSource>(
     ensures rows { IfOk result (λ p. AllPlayed (tasks jobs.now) order.now p.turns.items p.outcomes.items) }
     // Each answer of a follow has its cause among the commands of its own turns, and the call that opened it is the one from
     // whose opening place it answers. By those of its own an insert that ended well appended its documents, in order, and
-    // one that failed did so; what it sends has the ids that it drew. One that is unfinished, and whose last turn pended,
-    // waits for the reply to a command of its own.
+    // one that failed did so; what it sends has the ids that it drew. A put that ended well stored its file by its own commands;
+    // one that failed did so by those of its last call, as a get by those of its opening or of its last call. A job that is
+    // unfinished, and whose last turn pended, waits for the reply to a command of its own.
     ensures caused { IfOk result (λ p. AllCaused (I.ids ids.old) (L.awaited link.new) (L.log link.old) (L.log link.new) (L.wire link.old) (tasks jobs.now) order.now p.turns.items p.outcomes.items) }
     // Over a link that tells its log, each call that waits for its reply was sent in a turn of a job whose newest turn pended
     // by its note, and that job waits for no other, unless a ticket was out for the same call before the run.

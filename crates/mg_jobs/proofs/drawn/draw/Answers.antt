@@ -1,4 +1,4 @@
-use Rattle.std.proofs.Common.{◌≡◌, ◌+◌, ◌∷◌, ◌++◌, [], Bool, true, false, List, length, length-append, sym, ap, ◌∙◌}
+use Rattle.std.proofs.Common.{◌≡◌, ◌+◌, ◌∷◌, ◌++◌, [], Bool, true, false, List, length, length-append, sym, ap, ◌∙◌, rules}
 use Rattle.std.specs.Prelude.{if◌then◌else◌}
 use Rattle.mg_jobs.specs.Kept.{kept_id}
 use Rattle.mg_jobs.proofs.KeptIds.{one_kept, one_later}
@@ -16,6 +16,7 @@ loop-number-preserved g c =
     let n = c.loop-number._number in
     let id = c.next_id-id.result in
     let kept = c.loop-number.kept.items in
+    let long : length c.next_id-id.result.0 ≡ 12 = search rules in
     record {
       drawn = one_later (ids c.args.ids.now) (ids c.loop-number.ids) (ids c.next_id-id.new.self) n c.loop-number.invariant.drawn c.next_id-id.ensures.later;
       count = λ fits. elim c.if-fits.branch [
@@ -28,7 +29,7 @@ loop-number-preserved g c =
         | then-fits w ↦
             let all = pushed kept (kept ++ id ∷ []) w.push.new.self.items _ (sym w.is_ok-fits.ensures.value ∙ sym w.fits-is ∙ fits) w.push.ensures.items in
             λ k within. ap (λ v. kept_id v.items k) w.kept-is ∙ ap (λ l. kept_id l k) all
-            ∙ one_kept (ids c.args.ids.now) (ids c.loop-number.ids) kept id n (c.loop-number.invariant.count w.if-fits.true) c.loop-number.invariant.drawn c.next_id-id.ensures.id (c.loop-number.invariant.kept w.if-fits.true) k within
+            ∙ one_kept (ids c.args.ids.now) (ids c.loop-number.ids) kept id n (c.loop-number.invariant.count w.if-fits.true) c.loop-number.invariant.drawn long c.next_id-id.ensures.id (c.loop-number.invariant.kept w.if-fits.true) k within
         | else-fits w ↦ absurd (let bad : false ≡ true = sym w.if-fits.false ∙ sym w.fits-is ∙ fits in cc)
       ];
     }

@@ -6,6 +6,7 @@ use Rattle.mg_link.specs.Ids.{counted_id}
 use Rattle.mg_link.specs.History.{IsLegal}
 use Rattle.mg_link.specs.Kept.{IsByRules, state_of_kept, steps_of}
 use Rattle.mg_link.specs.Log.{Call}
+use Rattle.mg_link.specs.Owner.{NamesItsOwn}
 use Rattle.mg_link.specs.Places.{out_at, polls_in}
 use Rattle.mg_link.specs.Prompt.{HoldsBackNone}
 use Rattle.mg_link.specs.Standing.{Stands}
@@ -18,7 +19,7 @@ use Rattle.mg_link.specs.Link.{LogTold}
 use Rattle.mg_jobs.specs.Completing.{JobWell}
 use Rattle.mg_jobs.specs.Counts.{AreNoted, StartedBy}
 use Rattle.mg_jobs.specs.Fated.{AreItsSteps}
-use Rattle.mg_jobs.specs.Progress.{AllPlayed, pends_last, turns_done}
+use Rattle.mg_jobs.specs.Progress.{AllPlayed, IsPlayed, pends_last, turns_done}
 use Rattle.mg_jobs.specs.Causes.{AllPollOwn, AllWaitAlone, Course, OutcomeCaused, course}
 use Rattle.mg_jobs.specs.Drawing.{as_sent}
 use Rattle.mg_jobs.specs.Headline.{OutcomeFiled, OutcomeFollowed}
@@ -30,7 +31,8 @@ use Rattle.mg_script.specs.declared.outcome.Turned.{Turned}
 use Rattle.mg_script.specs.declared.script.Job.{Job}
 use Rattle.mg_jobs.proofs.Drawing.{played_as_sent, sent_same}
 use Rattle.mg_jobs.proofs.Positions.{answered_well}
-use Rattle.mg_jobs.proofs.Refusing.{job_ends_in, run_mildly}
+use Rattle.mg_jobs.proofs.Refusing.{run_mildly}
+use Rattle.mg_jobs.proofs.RunTaken.{run_ends_in, tasks_counted}
 use Rattle.mg_jobs.proofs.Tallies.{noted_rose, turns_counted}
 use Rattle.mg_jobs.proofs.program.run_over.Goals as goal
 
@@ -110,6 +112,10 @@ returns-clause-followed g c =
     (subst (λ l. AllPlayed (tasks l) c.as_slice-2.result.now notes c.in_ok-played.played.outcomes.items) jobs c.in_ok-played.ensures.rows) in
     let notes_is : length notes ≡ length script.order.items = c.in_ok-played.ensures.turns ∙ ap length c.as_slice-2.ensures.value in
     let started : StartedBy (sum_by (λ (n : Turned). n.started) notes) (Some []) (Some f.0) = notes_started notes (Some []) (Some f.0) 0 (pends_in link.pended) noted in
+    let played_is : (i : ℕ) (t : Task) (r : Outcome) → slice_get (tasks script.jobs.items) i ≡ Some t → slice_get c.in_ok-played.played.outcomes.items i ≡ Some r → IsPlayed (sent i t) (turns_done i script.order.items notes) (pends_last i script.order.items notes) r = λ i t r ht hr.
+    played_as_sent (script_ids script) (tasks script.jobs.items) script.order.items i t (turns_done i script.order.items notes) (pends_last i script.order.items notes) r (rows_is i t r ht hr) in
+    let own_is : NamesItsOwn f.0 = f.3 names_none_at_first in
+    let outcomes_is : length c.in_ok-played.played.outcomes.items ≡ length (tasks script.jobs.items) = c.in_ok-played.ensures.outcomes ∙ ap length jobs ∙ sym (tasks_counted script.jobs.items) in
     record {
       calls = f.0;
       log_is = c.in_ok-logs.ensures.items ∙ ap (λ l. l ∷ []) (c.into_parts-store.ensures.calls ∙ calls);
@@ -123,7 +129,7 @@ returns-clause-followed g c =
           let filed = c.in_ok-played.ensures.filed [] begins in
           subst (λ (l : List Call). OutcomeFiled (course [] c.args.script.order.items notes) i l t r) (same_some filed.0 f.0 (sym filed.1 ∙ f.1))
           (subst (λ (o : List ℕ). OutcomeFiled (course [] o notes) i filed.0 t r) c.as_slice-2.ensures.value (filed.2 i t r (ap (λ l. slice_get (tasks l) i) jobs ∙ ht) hr));
-      own = f.3 names_none_at_first;
+      own = own_is;
       turns = c.in_ok-played.played.turns;
       turns_are = c.in_ok-turns.ensures.items;
       caused = caused_is;
@@ -151,6 +157,6 @@ returns-clause-followed g c =
       prompt = λ i taken. answered_well (course [] c.args.script.order.items notes) i f.0 (steps_of history) legal stands holds taken;
       well = well_is;
       well_here = λ kept i t r ht hr.
-          job_ends_in history fates kept f.0 link.pended as_fates_is stands rules (run_mildly history f.0 alone_is stands (script_ids script) (tasks script.jobs.items) script.order.items notes c.requires.jobs notes_is started sends_is) legal holds (out_at f.0) script.wire here i (sent i t) r (sends_is i t ht) (caused_is i t r ht hr)
-          (played_as_sent (script_ids script) (tasks script.jobs.items) script.order.items i t (turns_done i script.order.items notes) (pends_last i script.order.items notes) r (rows_is i t r ht hr)) (well_is kept i t r ht hr);
+          run_ends_in history fates kept f.0 link.pended as_fates_is stands alone_is rules (run_mildly history f.0 alone_is stands (script_ids script) (tasks script.jobs.items) script.order.items notes c.requires.jobs notes_is started sends_is) legal holds own_is (out_at f.0) script.wire
+          (script_ids script) (tasks script.jobs.items) script.order.items notes c.in_ok-played.played.outcomes.items c.requires.jobs notes_is outcomes_is started sends_is caused_is played_is i t r ht hr (well_is kept i t r ht hr);
     }

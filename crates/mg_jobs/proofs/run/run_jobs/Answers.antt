@@ -87,9 +87,6 @@ returns-clause-waits_alone g c =
     (c.in_ok-play.ensures.rows _ c.in_ok-runner.ensures.at)
     (c.play.ensures.none_lost (g.L.Link.awaited c.args.link.now) (λ ticket out. inr refl))
 
-pub returns-clause-complete : goal.returns-clause-complete
-returns-clause-complete g c = λ prompt. well_so _ _ _ _ _ (tasks c.args.jobs.now) c.args.order.now c.into_played.result (c.in_ok-play.ensures.lossless prompt) (returns-clause-caused g c) (returns-clause-rows g c)
-
 pub returns-clause-noted : goal.returns-clause-noted
 returns-clause-noted g c = noted_so c.into_played.result c.play.new.runner.turns.items _ _ _ _ c.into_played.ensures.turns c.in_ok-play.ensures.noted
 
@@ -111,3 +108,6 @@ returns-clause-sends g c =
     (c.in_ok-play.ensures.drawn _ (tasks c.args.jobs.now) c.in_ok-runner.ensures.tasks first)
     (c.in_ok-play.ensures.told _ (g.L.Link.log c.args.link.now) (tasks c.args.jobs.now) c.in_ok-runner.ensures.tasks c.in_ok-runner.ensures.at first (tell_first _ _ _ _ (tasks c.args.jobs.now) c.in_ok-runner.runner.players.items c.in_ok-runner.ensures.first))
     (c.play.ensures.tasks _ c.in_ok-runner.ensures.tasks)
+
+pub returns-clause-complete : goal.returns-clause-complete
+returns-clause-complete g c = λ prompt. well_so _ _ _ _ _ (tasks c.args.jobs.now) c.args.order.now c.into_played.result (c.in_ok-play.ensures.lossless prompt) (returns-clause-caused g c) (returns-clause-rows g c) (returns-clause-filed g c) (returns-clause-sends g c)

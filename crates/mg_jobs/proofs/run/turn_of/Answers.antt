@@ -7,7 +7,7 @@ use Rattle.mg_jobs.specs.Drawing.{DrawsAs, JobHasIds}
 use Rattle.mg_jobs.proofs.Advancing.{over_turns}
 use Rattle.mg_jobs.proofs.Drawing.{ended_draws, ended_has}
 use Rattle.mg_jobs.proofs.JobTelling.{quiet_turn, ready_turn, tells_same_job}
-use Rattle.mg_jobs.specs.Headline.{task_of}
+use Rattle.mg_jobs.specs.Headline.{Plays, task_of}
 use Rattle.mg_jobs.specs.Playing.{job_ticket}
 use Rattle.mg_jobs.specs.Plays.{AnySent, no_move}
 use Rattle.mg_jobs.specs.Progress.{GoesBy}
@@ -24,7 +24,7 @@ returns-then-has_ended-clause-goes g c =
       holds = c.requires.holds;
       next = no_move;
       turned = turned_not _ _ c.args.player.now c.args.player.now (λ calls o at plays. plays);
-      told = quiet_turn task_of JobTells number_of so _ _ _ c.args.player.now c.args.player.now (tells_same_job task_of JobTells number_of so c.args.player.now);
+      told = quiet_turn task_of Plays JobTells number_of so _ _ _ c.args.player.now c.args.player.now (tells_same_job task_of JobTells number_of so c.args.player.now);
       task = refl;
       has = λ has. has;
     }
@@ -37,7 +37,7 @@ returns-in_err-ready-clause-goes g c =
       holds = got.holds (g.L.Link.wire c.args.link.now) c.requires.holds;
       next = no_move;
       turned = turned_not _ _ c.args.player.now c.ready.new.self (got.knows _);
-      told = quiet_turn task_of JobTells number_of (DrawsAs (g.I.IdSource.ids c.args.ids.now) c.args.player.now) _ _ _ c.args.player.now c.ready.new.self got.tells;
+      told = quiet_turn task_of Plays JobTells number_of (DrawsAs (g.I.IdSource.ids c.args.ids.now) c.args.player.now) _ _ _ c.args.player.now c.ready.new.self got.tells;
       task = got.task;
       has = got.has;
     }
@@ -61,7 +61,7 @@ returns-clause-goes g c =
       holds = goes.holds;
       next = goes.next;
       turned = turned_ready _ _ _ _ c.args.player.now c.ready.new.self after _ got.knows goes.turned;
-      told = ready_turn (DrawsAs (g.I.IdSource.ids c.args.ids.now) c.args.player.now) _ _ _ _ _ c.args.player.now c.ready.new.self after _ got.task got.tells goes.told;
+      told = ready_turn (DrawsAs (g.I.IdSource.ids c.args.ids.now) c.args.player.now) _ _ _ _ _ c.args.player.now c.ready.new.self after _ got.task got.knows got.tells goes.told;
       task = goes.task ∙ got.task;
       has = λ has. goes.has (got.has has);
     }

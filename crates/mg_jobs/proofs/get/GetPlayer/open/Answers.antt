@@ -49,19 +49,19 @@ returns-in-Failed-clause-turned g c =
 pub returns-in-Pending-clause-comes : goal.returns-in-Pending-clause-comes
 returns-in-Pending-clause-comes g c =
     let job = c.args.self.now in
-    get_waits _ _ (gets.Opens c.args.opening) (gets.Opens c.in-Pending.opening) (length job.bytes.items) job.done c.in-Pending.ensures.pended.1 (λ k last at. (at.0, at.1, at.2, c.in-Pending.ensures.pended.0))
+    get_waits (g.L.Link.pends c.args.link.now) (g.L.Link.pends c.poll.new.link) (gets.Opens c.args.opening) (gets.Opens c.in-Pending.opening) (length job.bytes.items) job.done c.in-Pending.ensures.pended.1 (λ k last at. (at.0, at.1, at.2, c.in-Pending.ensures.pended.0))
 
 pub returns-in-Done-clause-comes : goal.returns-in-Done-clause-comes
 returns-in-Done-clause-comes g c =
     let job = c.args.self.now in
     let after = c.opened.new.self in
     let e = c.opened.ensures in
-    get_rests _ _ (gets.Opens c.args.opening) c.opened.result (length job.bytes.items) job.done (length after.bytes.items) after.done c.in-Done.ensures.pended
+    get_rests (g.L.Link.pends c.args.link.now) (g.L.Link.pends c.poll.new.link) (gets.Opens c.args.opening) c.opened.result (length job.bytes.items) job.done (length after.bytes.items) after.done c.in-Done.ensures.pended
     (λ k last at. get_opened_at c.in-Done.download c.opened.result (length after.bytes.items) job.done after.done k e.stage e.ticket c.requires.new e.done at.0)
 
 pub returns-in-Failed-clause-comes : goal.returns-in-Failed-clause-comes
 returns-in-Failed-clause-comes g c =
     let job = c.args.self.now in
     let first = c.requires.new in
-    get_rests _ _ (gets.Opens c.args.opening) (gets.Ended (ended.Failed c.in-Failed.error)) (length job.bytes.items) job.done (length job.bytes.items) job.done c.in-Failed.ensures.pended
+    get_rests (g.L.Link.pends c.args.link.now) (g.L.Link.pends c.poll.new.link) (gets.Opens c.args.opening) (gets.Ended (ended.Failed c.in-Failed.error)) (length job.bytes.items) job.done (length job.bytes.items) job.done c.in-Failed.ensures.pended
     (λ k last at. get_fails_at (length job.bytes.items) job.done k c.in-Failed.error (at.0 ∙ sym first) (omega (arith, first)))
