@@ -5,7 +5,8 @@ ghost use Rattle.mg_gridfs.specs.Downloads.{download_ticket};
 ghost use Rattle.mg_gridfs.specs.DownloadView.{IsDownload, download_of};
 
 use super::files::{bucket, number_of, put_into, size_of, small};
-use super::{Subject, are_found, empty_link, given, insert, one_field, text, with};
+use super::{Subject, are_found, empty_link, given};
+use layers::{insert, one_field, text, with};
 use mg_bson::{Binary, Bson, DateTime, Document};
 use mg_gridfs::{GridFsDownloadStream, ReadPoll};
 use mg_link::{Action, Error, ErrorKind, Step, plain};

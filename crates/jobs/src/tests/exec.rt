@@ -3,7 +3,8 @@ ghost use Rattle.mg_link.specs.Exec.{ticket_of};
 ghost use Rattle.mg_link.specs.Places.{out_at};
 
 use super::scripted::{command_words, end_word, link_of, reply_bytes};
-use super::{Subject, are_found, one_field};
+use super::{Subject, are_found};
+use layers::one_field;
 use mg_bson::{Bson, BsonError, RawDocumentBuf, to_bytes};
 use mg_link::{Action, Error, ErrorKind, Exec, Retry, ScriptLink, Step, plain, verdict_of};
 use std::alloc::{AllocError, Global};

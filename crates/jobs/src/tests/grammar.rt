@@ -1,4 +1,5 @@
-use super::{Subject, are_found, parted, repeated};
+use super::{Subject, are_found};
+use layers::{parted, repeated};
 use mg_jobs::{ScriptError, json_text, parse_script, value_from_json};
 use mg_link::Error;
 use serde_json::Value;

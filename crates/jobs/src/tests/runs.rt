@@ -166,9 +166,9 @@ const FILES: &str =
 {"fates":[{},{},{"pend":1},{"pend":1}],"jobs":[{"docs":[{"_id":5,"chunkSize":2,"length":3,"uploadDate":{"$date":0}}],"job":"insert","ns":"app.fs.files"},{"docs":[{"_id":1,"data":{"$bytes":"0102"},"files_id":5,"n":0},{"_id":2,"data":{"$bytes":"03"},"files_id":5,"n":1}],"job":"insert","ns":"app.fs.chunks"},{"db":"app","id":5,"job":"get","read":2}],"order":[0,1,2,2]}~0~job 0 insert ok 1|job 1 insert ok 2|job 2 get unfinished -|open none|commands 4|
 {"fates":[{},{},{"pend":1},{"pend":1}],"jobs":[{"docs":[{"_id":5,"chunkSize":2,"length":3,"uploadDate":{"$date":0}}],"job":"insert","ns":"app.fs.files"},{"docs":[{"_id":1,"data":{"$bytes":"0102"},"files_id":5,"n":0},{"_id":2,"data":{"$bytes":"03"},"files_id":5,"n":1}],"job":"insert","ns":"app.fs.chunks"},{"db":"app","id":5,"job":"get","read":2}],"order":[0,1,2,2,2,2,2,2]}~0~job 0 insert ok 1|job 1 insert ok 2|job 2 get ok 010203|open none|commands 4|"#;
 
-struct Runs;
+struct Script;
 
-impl Subject for Runs {
+impl Subject for Script {
     // The status and the lines of a script.
     fn found(alloc: Global, script: &str) -> Result<String, Error> {
         let outcome = outcome_of(alloc, "run", "", "", script)?;
@@ -178,10 +178,10 @@ impl Subject for Runs {
 
 #[test]
 fn runs(rt: HostRuntime) -> Result<(), Fail> {
-    are_found::<Runs>(&rt, rt.alloc(), "~", RUNS)
+    are_found::<Script>(&rt, rt.alloc(), "~", RUNS)
 }
 
 #[test]
 fn files(rt: HostRuntime) -> Result<(), Fail> {
-    are_found::<Runs>(&rt, rt.alloc(), "~", FILES)
+    are_found::<Script>(&rt, rt.alloc(), "~", FILES)
 }

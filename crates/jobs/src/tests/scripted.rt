@@ -1,5 +1,5 @@
-use super::{bytes_at, json_bytes, parted};
-use mg_bson::{Bson, RawDocument, RawValue, to_document};
+use layers::{bytes_at, document_word, json_bytes, parted};
+use mg_bson::{RawDocument, RawValue};
 use mg_change::EventPoll;
 use mg_cursor::{AdvanceResult, TryPoll};
 use mg_jobs::json_text;
@@ -117,13 +117,6 @@ pub(super) fn command_words(alloc: Global, link: &ScriptLink) -> Result<String, 
 /// What an error prints as.
 pub(super) fn error_word(alloc: Global, error: &Error) -> Result<String, Error> {
     Ok(format!(in alloc; "/{error}")?)
-}
-
-/// A document as its JSON text.
-pub(super) fn document_word(alloc: Global, document: RawDocument<'_>) -> Result<String, Error> {
-    let value = Bson::Document(to_document(alloc, document)?);
-    let json = json_text(alloc, &value)?;
-    Ok(format!(in alloc; "/{json}")?)
 }
 
 /// The document that is lent.

@@ -1,4 +1,5 @@
-use super::{Subject, are_found, json_value, parted};
+use super::{Subject, are_found};
+use crate::{json_value, parted};
 use mg_link::{Acknowledgment, Error, ReadConcernLevel, ReadPreference};
 use mg_options::{
     CollationAlternate, CollationCaseFirst, CollationMaxVariable, CollationStrength, CommitQuorum,

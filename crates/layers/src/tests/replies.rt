@@ -1,5 +1,5 @@
-use super::scripted::document_word;
-use super::{Subject, are_found, find, json_bytes, namespace, one_field, parted, text};
+use super::{Subject, are_found};
+use crate::{document_word, find, json_bytes, namespace, one_field, parted, text};
 use mg_bson::{Bson, Document, RawDocumentBuf};
 use mg_link::{Error, OperationTarget, ReadPreference, SelectionCriteria};
 use mg_ops::{

@@ -1,4 +1,5 @@
-use super::{Subject, are_found, json_value, parted, text};
+use super::{Subject, are_found};
+use crate::{json_value, parted, text};
 use mg_bson::{Bson, DateTime, Document, RawDocumentBuf, to_bytes};
 use mg_link::Error;
 use mg_records::{

@@ -1,7 +1,8 @@
-use super::{Subject, are_found, bytes_at};
+use super::{Subject, are_found};
+use crate::bytes_at;
 use mg_bson::RawDocumentBuf;
-use mg_jobs::json_text;
 use mg_link::Error;
+use mg_script::json_text;
 use std::alloc::Global;
 use std::test::Fail;
 

@@ -1,4 +1,5 @@
-use super::{Subject, are_found, bytes_at};
+use super::{Subject, are_found};
+use crate::bytes_at;
 use mg_bson::{BsonError, RawDocumentBuf, RawDocuments};
 use mg_link::Error;
 use std::alloc::Global;

@@ -1,4 +1,5 @@
-use super::{Subject, are_found, insert, json_bytes, namespace, one_field};
+use super::{Subject, are_found};
+use crate::{insert, json_bytes, namespace, one_field};
 use mg_bson::{Binary, Bson};
 use mg_link::{Error, ErrorKind, OperationTarget};
 use mg_ops::{ChangeStreamData, GetMore, Operation, WatchArgs, doc_slices, resume_options};

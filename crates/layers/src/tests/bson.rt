@@ -1,4 +1,5 @@
-use super::{Subject, are_found, bytes_at, bytes_of, expect, json_value, one_field, parted, with};
+use super::{Subject, are_found, bytes_of, expect};
+use crate::{bytes_at, json_value, one_field, parted, with};
 use mg_bson::{
     Binary, Bson, BsonError, Document, Malformation, ObjectId, RawDocument, RawDocumentBuf,
     RawValue, Regex, to_bytes, to_document,

@@ -1,5 +1,6 @@
 use super::records::shown;
-use super::{Subject, are_found, namespace, one_field, text};
+use super::{Subject, are_found};
+use crate::{namespace, one_field, text};
 use mg_bson::{Bson, Document, Timestamp};
 use mg_link::{
     Error, OperationTarget, ReadConcern, ReadConcernLevel, ReadPreference, SelectionCriteria,

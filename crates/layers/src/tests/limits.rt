@@ -1,6 +1,5 @@
-use super::{
-    Subject, are_found, expect, json_value, one_field, parted, repeated, text, with, with_text,
-};
+use super::{Subject, are_found, expect};
+use crate::{json_value, one_field, parted, repeated, text, with, with_text};
 use mg_bson::{Array, Bson, BsonError, Document, RawDocument, to_bytes};
 use mg_link::{Error, Namespace};
 use mg_store::Store;

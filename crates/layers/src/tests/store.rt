@@ -1,4 +1,5 @@
-use super::{expect, parted};
+use super::expect;
+use crate::parted;
 use mg_bson::RawDocumentBuf;
 use mg_link::{Error, Namespace, OutOfMemory};
 use mg_store::Store;

@@ -1,5 +1,6 @@
 use super::commands::{Commands, local_find, plain_update, watch};
-use super::{Subject, are_found, one_field, parted};
+use super::{Subject, are_found};
+use crate::{one_field, parted};
 use mg_bson::Bson;
 use mg_link::{
     ClientSession, ClientSessionHandle, Error, ExplicitClientSessionHandle,

@@ -1,4 +1,5 @@
-use super::{Subject, are_found, parted};
+use super::{Subject, are_found};
+use crate::parted;
 use mg_bson::{Bson, BsonError, Document, ObjectId, to_bytes};
 use mg_link::{
     BadArgument, CommandError, CountedIds, Error, ErrorKind, GridFsErrorKind, GridFsFileIdentifier,

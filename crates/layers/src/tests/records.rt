@@ -1,8 +1,8 @@
 use super::commands::{journaled, local, nearest};
 use super::unprinted::common;
-use super::{Subject, are_found, one_field, parted, text};
+use super::{Subject, are_found};
+use crate::{one_field, parted, text};
 use mg_bson::{Bson, Document};
-use mg_jobs::json_text;
 use mg_link::{
     Acknowledgment, Error, ReadConcern, ReadPreference, SelectionCriteria, WriteConcern,
 };
@@ -13,6 +13,7 @@ use mg_options::{
     InsertOneOptions, ListCollectionsOptions, ListIndexesOptions, append_concerns,
 };
 use mg_records::{DistinctOptions, DropIndexOptions, EstimatedDocumentCountOptions};
+use mg_script::json_text;
 use std::alloc::{AllocError, Global};
 use std::test::Fail;
 

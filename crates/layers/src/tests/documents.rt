@@ -1,4 +1,5 @@
-use super::{Subject, are_found, bytes_at, json_value, one_field, parted, with};
+use super::{Subject, are_found};
+use crate::{bytes_at, json_value, one_field, parted, with};
 use mg_bson::{
     Bson, DateTime, Document, ObjectId, RawDocument, RawDocumentBuf, RawValue, to_bytes,
     to_document,

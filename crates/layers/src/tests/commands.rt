@@ -1,8 +1,7 @@
 use super::records::{keys, shown};
 use super::sessions::session_of;
-use super::{
-    Subject, are_found, collection, find, namespace, one_field, parted, records, text, with,
-};
+use super::{Subject, are_found, records};
+use crate::{collection, find, namespace, one_field, parted, text, with};
 use mg_bson::{Bson, Document, to_document};
 use mg_link::{
     ClientSession, Error, OperationTarget, ReadConcern, ReadConcernLevel, ReadPreference,
