@@ -27,9 +27,9 @@ use Rattle.mg_change.specs.Sent as calling
 use Rattle.mg_change.specs.Sent.{Falling}
 use Rattle.mg_script.specs.declared.outcome.Answer.{Answer}
 use Rattle.mg_script.specs.declared.outcome.Answer.TheVariants as answers
-use Rattle.mg_jobs.specs.Causes.{AreInLog, command_at, commands_at}
-use Rattle.mg_jobs.specs.Follows.{poll_of}
-use Rattle.mg_jobs.proofs.Left.{killing_few, resuming_few}
+use Rattle.mg_players.specs.Causes.{AreInLog, command_at, commands_at}
+use Rattle.mg_players.specs.Follows.{poll_of}
+use Rattle.mg_players.proofs.Left.{killing_few, resuming_few}
 
 -- ---- the commands of a call in their order
 

@@ -54,20 +54,20 @@ use Rattle.mg_change.specs.ClosingCauses.{LastFails, last_ids, last_kill}
 use Rattle.mg_change.specs.ClosingStreams.{unless_none}
 use Rattle.mg_change.specs.OpeningCauses.{OpeningFails}
 use Rattle.mg_change.specs.OpeningCauses as openings
-use Rattle.mg_jobs.specs.Causes.{AllCaused, AllSentIn, Answered, CloseCaused, Closed, Course, FollowCaused, GetCaused, InsertEnds, OpenCaused, OpenFailed, OutcomeCaused, PutEnds, SentIn, course, sent_at}
+use Rattle.mg_players.specs.Causes.{AllCaused, AllSentIn, Answered, CloseCaused, Closed, Course, FollowCaused, GetCaused, InsertEnds, OpenCaused, OpenFailed, OutcomeCaused, PutEnds, SentIn, course, sent_at}
 use Rattle.mg_jobs.specs.Completing.{AllWell, AnswerWell, AnswersAreWell, AnswersWell, AreFresh, CallsWell, EndsWell, Excuses, FindsNothing, FitsLimits, FollowWell, GetWell, IsExcused, IsExcusedGet, IsExcusedInsert, IsMemory, IsShort, IsTooLarge, JobWell, NoneLeft, Nothings, OutcomeEnds, OutcomeFits, OutcomeGot, OutcomeWell, SendFresh, finds_none, is_over, own_excuses, takes_again, takes_first}
-use Rattle.mg_jobs.specs.Counts.{Faultless, LosesNothing}
-use Rattle.mg_jobs.specs.Drawing.{as_sent}
-use Rattle.mg_jobs.specs.Follows.{IsArgsFor, poll_of}
-use Rattle.mg_jobs.specs.Gets.{GetTask, IsGetCommand, get_of}
-use Rattle.mg_jobs.specs.Headline.{AllFiled, GetGave, OutcomeFiled}
+use Rattle.mg_players.specs.Counts.{Faultless, LosesNothing}
+use Rattle.mg_players.specs.Drawing.{as_sent}
+use Rattle.mg_players.specs.Follows.{IsArgsFor, poll_of}
+use Rattle.mg_players.specs.Gets.{GetTask, IsGetCommand, get_of}
+use Rattle.mg_players.specs.Headline.{AllFiled, GetGave, OutcomeFiled}
 use Rattle.mg_jobs.specs.Own.{IsHeard, IsOwnCommand, IsOwnCursor, asks, kills, opens, resumes}
 use Rattle.mg_ops.specs.InsertCauses.{InsertFails, IsPiece, ListsFor, cannot_encode, cannot_insert, command_fails, no_memory}
 use Rattle.mg_script.specs.Plan.{Begin, Task, follow, get, insert, put}
-use Rattle.mg_jobs.specs.Progress.{AllPlayed, FollowPlayed, GetPlayed, InsertPlayed, IsPlayed, OpenPlayed, PutPlayed, pends_last, turns_done}
+use Rattle.mg_players.specs.Progress.{AllPlayed, FollowPlayed, GetPlayed, InsertPlayed, IsPlayed, OpenPlayed, PutPlayed, pends_last, turns_done}
 use Rattle.mg_jobs.specs.PutLimits.{HasFewIndexes, IsExcusedPut, IsValidPut}
-use Rattle.mg_jobs.specs.Puts.{PutTask, put_of}
-use Rattle.mg_jobs.specs.Sends.{AllSendOnly, MaySend, SendsOnly}
+use Rattle.mg_players.specs.Puts.{PutTask, put_of}
+use Rattle.mg_players.specs.Sends.{AllSendOnly, MaySend, SendsOnly}
 use Rattle.mg_script.specs.declared.outcome.Answer.{Answer}
 use Rattle.mg_script.specs.declared.outcome.Answer.TheVariants as answers
 use Rattle.mg_script.specs.declared.outcome.Ended.{Ended}
@@ -75,16 +75,16 @@ use Rattle.mg_script.specs.declared.outcome.Ended.TheVariants as ended
 use Rattle.mg_script.specs.declared.outcome.Outcome.{Outcome}
 use Rattle.mg_script.specs.declared.outcome.Played.{Played}
 use Rattle.mg_script.specs.declared.outcome.Turned.{Turned}
-use Rattle.mg_jobs.proofs.Drawing.{played_as_sent}
-use Rattle.mg_jobs.proofs.Batches.{breaks_not, events_are, tells_not}
+use Rattle.mg_players.proofs.Drawing.{played_as_sent}
+use Rattle.mg_players.proofs.Batches.{breaks_not, events_are, tells_not}
 use Rattle.mg_jobs.proofs.GetWell.{get_well}
 use Rattle.mg_jobs.proofs.InsertWell.{never_lists}
 use Rattle.mg_jobs.proofs.Own.{HasOwn, StandsOwn, called_own, opened_own}
 use Rattle.mg_jobs.proofs.PutHeard.{OwnStep}
 use Rattle.mg_jobs.proofs.PutWell.{put_well}
 use Rattle.mg_jobs.proofs.SaidTwice.{follow_both, get_both, insert_both, put_both}
-use Rattle.mg_jobs.proofs.Creating.{CreatesNone, asked_creates, asking_none, inserting_none, killing_none, resuming_none}
-use Rattle.mg_jobs.proofs.Prompting.{Brings, IsPrompted, IsWatchOnly, more_gives, prompt_success, prompted}
+use Rattle.mg_players.proofs.Creating.{CreatesNone, asked_creates, asking_none, inserting_none, killing_none, resuming_none}
+use Rattle.mg_players.proofs.Prompting.{Brings, IsPrompted, IsWatchOnly, more_gives, prompt_success, prompted}
 use Rattle.mg_jobs.proofs.Identified.{IsHonest, StandsWell, empty_well, failed_so, failed_well, gave_well, heard_more, honest_over, next_well, opened_well, replied_well, resumed_brings, settled_first, watch_at}
 use Rattle.mg_link.proofs.Watched.{IsWatched}
 

@@ -30,19 +30,19 @@ use Rattle.mg_gridfs.specs.DownloadView.{download_of}
 use Rattle.mg_gridfs.proofs.Meaning.{IsReading, find_reads, leaves_by, read_leaves}
 use Rattle.mg_gridfs.proofs.ReadBack.{download_reads, download_reads_until, stays_at}
 use Rattle.mg_records.specs.FileRecords.{FileRecord}
-use Rattle.mg_jobs.specs.Causes.{Course, SentIn, places_of, sent_at}
-use Rattle.mg_jobs.specs.Files.{IsFirstStepOf, IsLastStepOf, IsStepOf, LeftNoChunk, LeftWhole, OthersLeave, OthersLeaveFrom}
-use Rattle.mg_jobs.specs.Gets.{GetKnowsAt, GetTask, IsGetCommand, chunks_find, for_chunks, for_more, for_record, get_end, more_chunks, record_find, sought}
-use Rattle.mg_jobs.specs.Headline.{GaveFront, GetGave, GetPlays, PutLeft}
-use Rattle.mg_jobs.specs.Plays.{Places, all_places}
-use Rattle.mg_jobs.specs.Puts.{PutTask, joined, put_aim, put_end}
-use Rattle.mg_jobs.specs.Sends.{SendsOnly}
-use Rattle.mg_jobs.specs.Telling.{AllSent, GetTells, PutTells, TellsGetOpened}
-use Rattle.mg_jobs.specs.declared.get.GetPlayer.{GetPlayer}
-use Rattle.mg_jobs.specs.declared.get.GetStage.{GetStage}
-use Rattle.mg_jobs.specs.declared.get.GetStage.TheVariants as gets
-use Rattle.mg_jobs.specs.declared.put.PutStage.{PutStage}
-use Rattle.mg_jobs.specs.declared.put.PutStage.TheVariants as puts
+use Rattle.mg_players.specs.Causes.{Course, SentIn, places_of, sent_at}
+use Rattle.mg_players.specs.Files.{IsFirstStepOf, IsLastStepOf, IsStepOf, LeftNoChunk, LeftWhole, OthersLeave, OthersLeaveFrom}
+use Rattle.mg_players.specs.Gets.{GetKnowsAt, GetTask, IsGetCommand, chunks_find, for_chunks, for_more, for_record, get_end, more_chunks, record_find, sought}
+use Rattle.mg_players.specs.Headline.{GaveFront, GetGave, GetPlays, PutLeft}
+use Rattle.mg_players.specs.Plays.{Places, all_places}
+use Rattle.mg_players.specs.Puts.{PutTask, joined, put_aim, put_end}
+use Rattle.mg_players.specs.Sends.{SendsOnly}
+use Rattle.mg_players.specs.Telling.{AllSent, GetTells, PutTells, TellsGetOpened}
+use Rattle.mg_players.specs.declared.get.GetPlayer.{GetPlayer}
+use Rattle.mg_players.specs.declared.get.GetStage.{GetStage}
+use Rattle.mg_players.specs.declared.get.GetStage.TheVariants as gets
+use Rattle.mg_players.specs.declared.put.PutStage.{PutStage}
+use Rattle.mg_players.specs.declared.put.PutStage.TheVariants as puts
 use Rattle.mg_script.specs.declared.outcome.Ended.TheVariants as ended
 use Rattle.mg_jobs.proofs.Positions.{sent_place}
 

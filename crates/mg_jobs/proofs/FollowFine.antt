@@ -30,17 +30,17 @@ use Rattle.mg_store.specs.InMemory.{AreAsFates, AreKept}
 use Rattle.mg_store.specs.declared.fate.Fate.{Fate}
 use Rattle.mg_store.proofs.Standing.{same_some}
 use Rattle.mg_script.specs.Plan.{Begin, at_time, nowhere, resume_after, start_after}
-use Rattle.mg_jobs.specs.Causes.{Course, places_of}
+use Rattle.mg_players.specs.Causes.{Course, places_of}
 use Rattle.mg_jobs.specs.Completing.{IsThere, MayBegin, positions_at}
 use Rattle.mg_jobs.specs.Fated.{AreItsSteps}
-use Rattle.mg_jobs.specs.Follows.{IsArgsFor, options_of, stages_of, start_of}
+use Rattle.mg_players.specs.Follows.{IsArgsFor, options_of, stages_of, start_of}
 use Rattle.mg_jobs.specs.Own.{IsOwnToken, of_batch, of_event, to_resume, to_start}
-use Rattle.mg_jobs.specs.Sends.{IsCommandOf}
+use Rattle.mg_players.specs.Sends.{IsCommandOf}
 use Rattle.mg_jobs.proofs.Hearing.{IsTold, killing_told, left_id, left_is, more_told, opening_told}
 use Rattle.mg_jobs.proofs.Mild.{IsMildCommand}
 use Rattle.mg_jobs.proofs.OpeningRead.{FitsSize, is_resumed, reads_watch}
 use Rattle.mg_jobs.proofs.OpeningTaken.{answered, begins, fits_size, opening_taken, short_space, takes}
-use Rattle.mg_jobs.proofs.Prompting.{lawful_at}
+use Rattle.mg_players.proofs.Prompting.{lawful_at}
 use Rattle.mg_jobs.proofs.StepsAt.{later_place}
 use Rattle.mg_jobs.proofs.StoreRuns.{modest_at, ruled_at, stored_at}
 use Rattle.mg_jobs.proofs.Tokened.{AreTokened, IsTokened, batch_tokened}

@@ -57,19 +57,19 @@ use Rattle.mg_script.specs.Plan.{Begin}
 use Rattle.mg_script.specs.declared.outcome.Answer.{Answer}
 use Rattle.mg_script.specs.declared.outcome.Ended.{Ended}
 use Rattle.mg_script.specs.declared.outcome.Ended.TheVariants as ended
-use Rattle.mg_jobs.specs.Causes.{AllSentIn, Answered, CallFalls, Course, FallsAt, KillsLast, SentIn, places_of, sent_at, CloseCaused, FollowCaused, OpenCaused, OpenStands, at_rest as at_ease, in_call, in_closing}
+use Rattle.mg_players.specs.Causes.{AllSentIn, Answered, CallFalls, Course, FallsAt, KillsLast, SentIn, places_of, sent_at, CloseCaused, FollowCaused, OpenCaused, OpenStands, at_rest as at_ease, in_call, in_closing}
 use Rattle.mg_jobs.specs.Completing.{IsThere, MayBegin, NoneRefused}
 use Rattle.mg_jobs.specs.Fated.{AreItsSteps}
-use Rattle.mg_jobs.specs.Follows.{IsArgsFor, options_of, poll_of, stages_of, start_of}
-use Rattle.mg_jobs.specs.Sends.{IsCommandOf, SendsOnly}
-use Rattle.mg_jobs.specs.Progress.{FollowPlayed}
-use Rattle.mg_jobs.proofs.Batches.{breaks_not, tells_not}
-use Rattle.mg_jobs.proofs.Creating.{CreatesNone, asked_creates, asking_none}
+use Rattle.mg_players.specs.Follows.{IsArgsFor, options_of, poll_of, stages_of, start_of}
+use Rattle.mg_players.specs.Sends.{IsCommandOf, SendsOnly}
+use Rattle.mg_players.specs.Progress.{FollowPlayed}
+use Rattle.mg_players.proofs.Batches.{breaks_not, tells_not}
+use Rattle.mg_players.proofs.Creating.{CreatesNone, asked_creates, asking_none}
 use Rattle.mg_jobs.proofs.FollowFine.{HeardIn, IsFine, IsSent, aggregate_fine, heard_among, kill_fine, more_fine, token_there}
 use Rattle.mg_jobs.proofs.Hearing.{IsTold, TellsThere}
 use Rattle.mg_jobs.proofs.Identified.{IsHonest, StandsWell, called_stands, heard_more, opened_well}
 use Rattle.mg_jobs.proofs.Killers.{kills_that, more_spares, resuming_spares}
-use Rattle.mg_jobs.proofs.Left.{places_few}
+use Rattle.mg_players.proofs.Left.{places_few}
 use Rattle.mg_jobs.proofs.Mild.{IsMildCommand}
 use Rattle.mg_jobs.proofs.Openers.{IsOpenedIn, TookAt, honest_as, opened_among, opened_place, opened_watched, took_at}
 use Rattle.mg_jobs.proofs.Own.{StandsOwn, called_own, opened_own}
@@ -78,7 +78,7 @@ use Rattle.mg_jobs.proofs.OwnFurther.{stands_further}
 use Rattle.mg_jobs.proofs.OpeningTaken.{fits_size}
 use Rattle.mg_jobs.proofs.PlacesRise.{Rise, below_others, of_either, of_first, of_rise, of_second}
 use Rattle.mg_jobs.proofs.Positions.{has_position, sent_place}
-use Rattle.mg_jobs.proofs.Prompting.{prompt_success}
+use Rattle.mg_players.proofs.Prompting.{prompt_success}
 use Rattle.mg_jobs.proofs.Refusing.{call_at, falls_each}
 use Rattle.mg_jobs.proofs.Resumed.{GoesOnFrom, as_before, behind, from_time, resumes_as}
 use Rattle.mg_jobs.proofs.StoreRuns.{never_fault, opened_lasts, prompted_at}

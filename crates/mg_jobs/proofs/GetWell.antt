@@ -45,28 +45,28 @@ use Rattle.mg_gridfs.specs.Findings.{BreaksFirst, BreaksRecord, GivesFirst, Read
 use Rattle.mg_gridfs.specs.ReadCauses as files
 use Rattle.mg_gridfs.specs.ReadCauses.{HeardRecord, TellsNoRecord}
 use Rattle.mg_gridfs.proofs.OpeningKnown.{found_asks}
-use Rattle.mg_jobs.specs.Causes as causes
-use Rattle.mg_jobs.specs.Causes.{AllSentIn, AreSentIn, Course, GetCaused, GetFails, SentIn, sent_at}
+use Rattle.mg_players.specs.Causes as causes
+use Rattle.mg_players.specs.Causes.{AllSentIn, AreSentIn, Course, GetCaused, GetFails, SentIn, sent_at}
 use Rattle.mg_jobs.specs.Completing.{AnswersWell, EndsWell, IsExcusedGet, StandsWhole, finds_record, gets_more, lists_chunks}
-use Rattle.mg_jobs.specs.Counts.{Faultless}
-use Rattle.mg_jobs.specs.Files.{IsStepOf}
-use Rattle.mg_jobs.specs.Gets.{GetTask, IsGetCommand, chunks_find, get_bucket, record_find}
-use Rattle.mg_jobs.specs.Headline.{GetGave}
+use Rattle.mg_players.specs.Counts.{Faultless}
+use Rattle.mg_players.specs.Files.{IsStepOf}
+use Rattle.mg_players.specs.Gets.{GetTask, IsGetCommand, chunks_find, get_bucket, record_find}
+use Rattle.mg_players.specs.Headline.{GetGave}
 use Rattle.mg_jobs.specs.Own.{IsHeard, IsOwnCursor}
-use Rattle.mg_jobs.specs.Progress.{GetPlayed}
-use Rattle.mg_jobs.specs.Sends.{SendsOnly}
-use Rattle.mg_jobs.specs.Spares as stops
-use Rattle.mg_jobs.specs.Spares.{AreAmong, IsTold, ReadStops, SparesWhole}
+use Rattle.mg_players.specs.Progress.{GetPlayed}
+use Rattle.mg_players.specs.Sends.{SendsOnly}
+use Rattle.mg_players.specs.Spares as stops
+use Rattle.mg_players.specs.Spares.{AreAmong, IsTold, ReadStops, SparesWhole}
 use Rattle.mg_script.specs.declared.outcome.Ended.{Ended}
 use Rattle.mg_script.specs.declared.outcome.Ended.TheVariants as ended
-use Rattle.mg_jobs.proofs.Batches.{read_as, tells_not}
-use Rattle.mg_jobs.proofs.Creating.{creates}
+use Rattle.mg_players.proofs.Batches.{read_as, tells_not}
+use Rattle.mg_players.proofs.Creating.{creates}
 use Rattle.mg_jobs.proofs.Filed.{all_leave, own_between}
-use Rattle.mg_jobs.proofs.GetJudged.{WholeSays, whole_counts, whole_says}
-use Rattle.mg_jobs.proofs.GetListing.{list_asks, plain_bucket, told_named}
-use Rattle.mg_jobs.proofs.GetSteps.{OpensBatch, TookStep, more_gives, prompt_at, query_opens, query_prompt, took}
-use Rattle.mg_jobs.proofs.Naming.{chunks_named}
-use Rattle.mg_jobs.proofs.Prompting.{IsPrompted, lawful, prompt_success}
+use Rattle.mg_players.proofs.GetJudged.{WholeSays, whole_counts, whole_says}
+use Rattle.mg_players.proofs.GetListing.{list_asks, plain_bucket, told_named}
+use Rattle.mg_players.proofs.GetSteps.{OpensBatch, TookStep, more_gives, prompt_at, query_opens, query_prompt, took}
+use Rattle.mg_players.proofs.Naming.{chunks_named}
+use Rattle.mg_players.proofs.Prompting.{IsPrompted, lawful, prompt_success}
 
 -- ---- replies
 

@@ -14,7 +14,7 @@ use Rattle.mg_link.proofs.Requests.{IsNamed}
 use Rattle.mg_link.proofs.Telling.{gave_reply, opened_reply, space_again}
 use Rattle.mg_ops.specs.Cursors.{Cursor, cursor_of}
 use Rattle.mg_cursor.specs.Batches.{batch_in, documents_of, or_else}
-use Rattle.mg_jobs.proofs.Batches.{events_are}
+use Rattle.mg_players.proofs.Batches.{events_are}
 use Rattle.mg_jobs.proofs.Tokened.{AreTokened, tokened_further}
 
 -- the cursor is one of this watch, behind a place up to this one

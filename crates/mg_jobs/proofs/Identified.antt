@@ -54,13 +54,13 @@ use Rattle.mg_change.specs.ClientStreams as streams
 use Rattle.mg_change.proofs.Turning.{left_id}
 use Rattle.mg_change.specs.OpeningCauses.{StreamOpened}
 use Rattle.mg_ops.proofs.Reading.{named_read}
-use Rattle.mg_jobs.specs.Causes.{Answered, sent_at}
-use Rattle.mg_jobs.specs.Follows.{poll_of}
+use Rattle.mg_players.specs.Causes.{Answered, sent_at}
+use Rattle.mg_players.specs.Follows.{poll_of}
 use Rattle.mg_script.specs.declared.outcome.Answer.{Answer}
 use Rattle.mg_script.specs.declared.outcome.Answer.TheVariants as answers
-use Rattle.mg_jobs.proofs.Batches.{events_are}
-use Rattle.mg_jobs.proofs.Prompting.{Brings, GoesOn, IsLawful, IsWatchOnly, Opens, lawful_at, more_brings, watch_brings}
-use Rattle.mg_jobs.proofs.Sends.{manner_behind, space_behind}
+use Rattle.mg_players.proofs.Batches.{events_are}
+use Rattle.mg_players.proofs.Prompting.{Brings, GoesOn, IsLawful, IsWatchOnly, Opens, lawful_at, more_brings, watch_brings}
+use Rattle.mg_players.proofs.Sends.{manner_behind, space_behind}
 
 -- ---- what a call heard
 

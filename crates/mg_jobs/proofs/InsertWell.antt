@@ -18,8 +18,8 @@ use Rattle.mg_link.specs.declared.reply.Verdict.TheVariants as verdict
 use Rattle.mg_ops.specs.Cursors.{found, ◌>>=◌}
 use Rattle.mg_ops.specs.Writes.{Inserted, ListsAs, as_count, count_of, failure, failures_of, last_index, write_errors_at, write_errors_in}
 use Rattle.mg_jobs.specs.Completing.{AreFresh}
-use Rattle.mg_jobs.proofs.Creating.{creates}
-use Rattle.mg_jobs.proofs.Prompting.{IsPrompted, lawful, may_tell, prompt_success, told_so}
+use Rattle.mg_players.proofs.Creating.{creates}
+use Rattle.mg_players.proofs.Prompting.{IsPrompted, lawful, may_tell, prompt_success, told_so}
 
 -- ---- the rules of the store let them in
 

@@ -13,7 +13,7 @@ use Rattle.mg_options.specs.Options.{change_stream_fields, no_options}
 use Rattle.mg_options.specs.declared.change_stream.ChangeStreamOptions.{ChangeStreamOptions}
 use Rattle.mg_ops.specs.Bodies.{watch_command}
 use Rattle.mg_ops.specs.Commands.{watch_stage}
-use Rattle.mg_jobs.specs.Follows.{all_changes_of, options_of, stages_of, start_of}
+use Rattle.mg_players.specs.Follows.{all_changes_of, options_of, stages_of, start_of}
 use Rattle.mg_script.specs.Plan.{Begin, at_time, nowhere, resume_after, start_after}
 
 -- the store takes the names of a target

@@ -20,7 +20,7 @@ use Rattle.mg_ops.specs.Limits.{SizePasses}
 use Rattle.mg_jobs.proofs.Sizes.{watch_small}
 use Rattle.mg_jobs.proofs.Added.{AreModestEntries, events_modest}
 use Rattle.mg_jobs.specs.Completing.{HasShortTarget, IsThere}
-use Rattle.mg_jobs.specs.Follows.{options_of, stages_of, start_of}
+use Rattle.mg_players.specs.Follows.{options_of, stages_of, start_of}
 use Rattle.mg_script.specs.Plan.{Begin, at_time, nowhere, resume_after, start_after}
 use Rattle.mg_jobs.proofs.OpeningRead.{FitsSize, Takes, is_resumed, reads_watch}
 use Rattle.mg_jobs.proofs.Replying.{collection_there, database_there, fits, named, undotted}

@@ -28,7 +28,7 @@ use Rattle.mg_change.specs.Causes as causes
 use Rattle.mg_change.specs.ClientOpenings.{first_aggregate, first_known}
 use Rattle.mg_change.specs.ClientStreams.{ClientStream, is_read_again, remembered, remembered_by, remembered_empty, resuming_in, token_behind}
 use Rattle.mg_change.specs.OpeningCauses.{StreamOpened}
-use Rattle.mg_jobs.specs.Follows.{poll_of}
+use Rattle.mg_players.specs.Follows.{poll_of}
 use Rattle.mg_jobs.specs.Own.{IsBehind, IsBrought, IsOwnCursor, IsOwnToken, KnowsOwn, of_batch, of_event, to_resume, to_start}
 use Rattle.mg_script.specs.declared.outcome.Answer.{Answer}
 use Rattle.mg_script.specs.declared.outcome.Answer.TheVariants as answers

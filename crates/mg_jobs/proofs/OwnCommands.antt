@@ -24,8 +24,8 @@ use Rattle.mg_ops.specs.declared.change_stream.WatchArgs.{WatchArgs}
 use Rattle.mg_ops.proofs.Asking.{asks_as_aimed, asks_to_kill_plainly}
 use Rattle.mg_script.specs.Plan.{Begin, at_time, nowhere, resume_after, start_after}
 use Rattle.mg_jobs.specs.Completing.{HasShortTarget}
-use Rattle.mg_jobs.specs.Follows.{IsArgsFor, all_changes_of, options_of, stages_of}
-use Rattle.mg_jobs.specs.Sends.{IsCommandOf, asks, kills, opens, resumes}
+use Rattle.mg_players.specs.Follows.{IsArgsFor, all_changes_of, options_of, stages_of}
+use Rattle.mg_players.specs.Sends.{IsCommandOf, asks, kills, opens, resumes}
 use Rattle.mg_jobs.proofs.OpeningRead.{FitsSize, plain}
 use Rattle.mg_jobs.proofs.Resumed.{plain_for}
 use Rattle.mg_jobs.proofs.WatchTaken.{sized}

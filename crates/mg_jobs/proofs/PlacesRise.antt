@@ -3,8 +3,8 @@ use Rattle.std.proofs.Common.{◌≡◌, ◌⊎◌, ◌≤◌, ◌<◌, ◌+◌,
 use Rattle.std.specs.Prelude.{cond, nat_eq}
 use Rattle.std.proofs.lemmas.Bool.{cases_Bool, eqb-true}
 use Rattle.mg_link.specs.Owner.{IsOf}
-use Rattle.mg_jobs.specs.Causes.{Course, places_from, places_in, places_of}
-use Rattle.mg_jobs.specs.Progress.{one_unless, pended_since, pends_last, turns_done}
+use Rattle.mg_players.specs.Causes.{Course, places_from, places_in, places_of}
+use Rattle.mg_players.specs.Progress.{one_unless, pended_since, pends_last, turns_done}
 use Rattle.mg_script.specs.declared.outcome.Turned.{Turned}
 
 -- each is above the one before, and none is below this

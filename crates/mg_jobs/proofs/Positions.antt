@@ -9,10 +9,10 @@ use Rattle.mg_link.specs.Log.{Call}
 use Rattle.mg_link.specs.Owner.{IsOf}
 use Rattle.mg_link.specs.Prompt.{HoldsBackNone}
 use Rattle.mg_link.specs.Standing.{Stands}
-use Rattle.mg_jobs.specs.Causes.{Course, SentIn, places_from, places_in, places_of}
+use Rattle.mg_players.specs.Causes.{Course, SentIn, places_from, places_in, places_of}
 use Rattle.mg_jobs.specs.Completing.{AnswersWell, AnswersWellIn, NoneRefused, own_position, positions_at}
-use Rattle.mg_jobs.proofs.Newest.{started_in}
-use Rattle.mg_jobs.proofs.Telling.{from_is, in_first, in_second}
+use Rattle.mg_players.proofs.Newest.{started_in}
+use Rattle.mg_players.proofs.Telling.{from_is, in_first, in_second}
 use Rattle.mg_script.specs.declared.outcome.Turned.{Turned}
 
 places_hold : (i : ℕ) (before : List ℕ) (noted : List Turned) (after : List ℕ) (note : Turned) (later : List Turned) (at place : ℕ) → length noted ≡ length before → at + started_in noted ≤ place → place < at + started_in noted + note.started → IsOf (places_in i (before ++ i ∷ after) (noted ++ note ∷ later) at) place

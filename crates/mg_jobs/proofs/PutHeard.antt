@@ -42,11 +42,11 @@ use Rattle.mg_gridfs.specs.Indexes.{keys_of, space_in}
 use Rattle.mg_gridfs.specs.declared.indexes.Place.{Place}
 use Rattle.mg_gridfs.proofs.Meaning.{IsReading, any_reads, has_name, index_named, named_in}
 use Rattle.mg_jobs.specs.Completing.{AreFresh, SendFresh}
-use Rattle.mg_jobs.specs.Puts.{PutTask, put_bucket}
-use Rattle.mg_jobs.proofs.Batches.{tells_not}
-use Rattle.mg_jobs.proofs.Creating.{creates}
+use Rattle.mg_players.specs.Puts.{PutTask, put_bucket}
+use Rattle.mg_players.proofs.Batches.{tells_not}
+use Rattle.mg_players.proofs.Creating.{creates}
 use Rattle.mg_jobs.proofs.InsertWell.{never_lists, reads_count, reads_none}
-use Rattle.mg_jobs.proofs.Prompting.{IsLawful, IsPrompted, lawful, may_tell, never_garbled, prompt_success, told_so}
+use Rattle.mg_players.proofs.Prompting.{IsLawful, IsPrompted, lawful, may_tell, never_garbled, prompt_success, told_so}
 
 -- the step of a command whose reply was heard, which was answered at once
 pub record OwnStep (own : List ℕ) (history : List Step) (command : Fields) (bytes : List ℕ) : Type 0 where

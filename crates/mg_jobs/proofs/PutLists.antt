@@ -42,16 +42,16 @@ use Rattle.mg_gridfs.specs.Cursors.{indexes_query}
 use Rattle.mg_gridfs.specs.Indexes.{space_in}
 use Rattle.mg_gridfs.specs.declared.indexes.Place.{Place}
 use Rattle.mg_jobs.specs.Own.{IsOwnCursor}
-use Rattle.mg_jobs.specs.PutFailures.{AreInTurn, IsListBatch, IsListed, IsOfList, StandsBehindNone, brought, first_batch, held_by, held_in, next_batch}
+use Rattle.mg_players.specs.PutFailures.{AreInTurn, IsListBatch, IsListed, IsOfList, StandsBehindNone, brought, first_batch, held_by, held_in, next_batch}
 use Rattle.mg_jobs.specs.PutLimits.{CannotPut, HasFewIndexes, a_getMore}
-use Rattle.mg_jobs.specs.Puts.{PutTask, put_bucket}
-use Rattle.mg_jobs.specs.Sends.{plain_manner}
-use Rattle.mg_jobs.proofs.Batches.{breaks_not, events_are, tells_not}
-use Rattle.mg_jobs.proofs.Creating.{asked_creates, asking_none}
+use Rattle.mg_players.specs.Puts.{PutTask, put_bucket}
+use Rattle.mg_players.specs.Sends.{plain_manner}
+use Rattle.mg_players.proofs.Batches.{breaks_not, events_are, tells_not}
+use Rattle.mg_players.proofs.Creating.{asked_creates, asking_none}
 use Rattle.mg_jobs.proofs.ListCursors.{AreIndexes, AsksToList, HoldsIndexes, OpenedList, indexes_front, result_indexes, result_length, result_listed, stays_list}
 use Rattle.mg_jobs.proofs.ListShortens.{FewOnly, IsFew, first_few, later_few, more_few, state_behind}
-use Rattle.mg_jobs.proofs.Prompting.{lawful, may_tell, never_garbled}
-use Rattle.mg_jobs.proofs.PutChecking.{opened_plainly}
+use Rattle.mg_players.proofs.Prompting.{lawful, may_tell, never_garbled}
+use Rattle.mg_players.proofs.PutChecking.{opened_plainly}
 use Rattle.mg_jobs.proofs.PutHeard.{OwnStep, lists_as, query_brings, request_well, told_as}
 
 -- ---- cursors that a reply tells

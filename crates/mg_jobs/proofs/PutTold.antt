@@ -4,14 +4,14 @@ use Rattle.std.specs.List.{concat}
 use Rattle.mg_link.specs.Link.{Awaited}
 use Rattle.mg_link.specs.Log.{Call}
 use Rattle.mg_gridfs.specs.UploadView.{upload_of}
-use Rattle.mg_jobs.specs.Causes.{AllSentIn, Course, HasWritten, PutEnds, PutEndsBy, sent_at}
-use Rattle.mg_jobs.specs.Plays.{Places, all_places}
-use Rattle.mg_jobs.specs.Progress.{PutAt, pends_last}
-use Rattle.mg_jobs.specs.Puts.{PutTask, put_end}
-use Rattle.mg_jobs.specs.Telling.{AllSent, PutTells, put_number}
-use Rattle.mg_jobs.specs.declared.put.PutStage.{PutStage}
-use Rattle.mg_jobs.specs.declared.put.PutStage.TheVariants as puts
-use Rattle.mg_jobs.proofs.Whole.{only_now}
+use Rattle.mg_players.specs.Causes.{AllSentIn, Course, HasWritten, PutEnds, PutEndsBy, sent_at}
+use Rattle.mg_players.specs.Plays.{Places, all_places}
+use Rattle.mg_players.specs.Progress.{PutAt, pends_last}
+use Rattle.mg_players.specs.Puts.{PutTask, put_end}
+use Rattle.mg_players.specs.Telling.{AllSent, PutTells, put_number}
+use Rattle.mg_players.specs.declared.put.PutStage.{PutStage}
+use Rattle.mg_players.specs.declared.put.PutStage.TheVariants as puts
+use Rattle.mg_players.proofs.Whole.{only_now}
 use Rattle.mg_script.specs.declared.outcome.Ended.{Ended}
 
 -- what its last call sent stands behind what each piece's call sent

@@ -14,15 +14,15 @@ use Rattle.mg_gridfs.specs.Steps.{FailsToUndo}
 use Rattle.mg_gridfs.specs.Uploads.{record_of}
 use Rattle.mg_script.specs.declared.outcome.Ended.{Ended}
 use Rattle.mg_script.specs.declared.outcome.Ended.TheVariants as ended
-use Rattle.mg_jobs.specs.Causes.{PutEndsBy}
+use Rattle.mg_players.specs.Causes.{PutEndsBy}
 use Rattle.mg_jobs.specs.Completing.{EndsWell, SendFresh}
-use Rattle.mg_jobs.specs.Progress.{PutPlayed}
-use Rattle.mg_jobs.specs.PutFailures as fails
-use Rattle.mg_jobs.specs.PutFailures.{HasManyChunks, IsCommonKind, IsPutError, PutCheckFails, PutFails}
+use Rattle.mg_players.specs.Progress.{PutPlayed}
+use Rattle.mg_players.specs.PutFailures as fails
+use Rattle.mg_players.specs.PutFailures.{HasManyChunks, IsCommonKind, IsPutError, PutCheckFails, PutFails}
 use Rattle.mg_jobs.specs.PutLimits as limits
 use Rattle.mg_jobs.specs.PutLimits.{HasFewIndexes, IsExcusedPut, IsValidPut}
-use Rattle.mg_jobs.specs.Puts.{CannotOpen, PutTask, put_aim, put_bucket}
-use Rattle.mg_jobs.proofs.PutErrors.{NoLimit, first_limit, never_both}
+use Rattle.mg_players.specs.Puts.{CannotOpen, PutTask, put_aim, put_bucket}
+use Rattle.mg_players.proofs.PutErrors.{NoLimit, first_limit, never_both}
 use Rattle.mg_jobs.proofs.PutHeard.{OwnStep, chunks_well, creation_well, deletion_well, find_well, index_well, listing_well, record_well}
 use Rattle.mg_jobs.proofs.PutLists as lists
 use Rattle.mg_jobs.proofs.PutLists.{asked_excused, more_well, never_broken, never_empty, never_too_many}

@@ -53,17 +53,17 @@ use Rattle.mg_script.specs.declared.outcome.Ended.{Ended}
 use Rattle.mg_script.specs.declared.outcome.Ended.TheVariants as ended
 use Rattle.mg_script.specs.declared.outcome.Outcome.{Outcome}
 use Rattle.mg_script.specs.declared.outcome.Turned.{Turned}
-use Rattle.mg_jobs.specs.Causes.{AllSentIn, Course, FallsAt, FollowCaused, InsertEnds, OutcomeCaused, PutEnds, command_at, commands_at, course, places_of}
+use Rattle.mg_players.specs.Causes.{AllSentIn, Course, FallsAt, FollowCaused, InsertEnds, OutcomeCaused, PutEnds, command_at, commands_at, course, places_of}
 use Rattle.mg_jobs.specs.Completing.{AnswersWell, EndsWell, Excuses, FindsNothing, FollowEndsIn, FollowWell, GetWell, HasShortNames, IsMemory, IsThere, JobWell, JobWellIn, MayBegin, NoneRefused, OutcomeEnds, OutcomeEndsIn, SendFresh, own_excuses, own_position, positions_at}
-use Rattle.mg_jobs.specs.Counts.{StartedBy}
-use Rattle.mg_jobs.specs.Drawing.{as_sent}
+use Rattle.mg_players.specs.Counts.{StartedBy}
+use Rattle.mg_players.specs.Drawing.{as_sent}
 use Rattle.mg_jobs.specs.Fated.{AreItsSteps}
-use Rattle.mg_jobs.specs.Follows.{IsArgsFor, options_of, stages_of, start_of}
-use Rattle.mg_jobs.specs.Progress.{FollowPlayed, IsPlayed, pends_last, turns_done}
-use Rattle.mg_jobs.specs.Gets.{GetTask, IsGetCommand, chunks_find, for_chunks, for_more, for_record, get_of, no_manner, record_find}
+use Rattle.mg_players.specs.Follows.{IsArgsFor, options_of, stages_of, start_of}
+use Rattle.mg_players.specs.Progress.{FollowPlayed, IsPlayed, pends_last, turns_done}
+use Rattle.mg_players.specs.Gets.{GetTask, IsGetCommand, chunks_find, for_chunks, for_more, for_record, get_of, no_manner, record_find}
 use Rattle.mg_jobs.specs.PutLimits.{HasFewIndexes, IsValidPut}
-use Rattle.mg_jobs.specs.Puts.{PutTask, put_bucket, put_of, total}
-use Rattle.mg_jobs.specs.Sends.{IsPutCommand, MaySend, SendsOnly, asks, checks, inserts, kills, opens, plain_manner, reads_on, records, removes, resumes}
+use Rattle.mg_players.specs.Puts.{PutTask, put_bucket, put_of, total}
+use Rattle.mg_players.specs.Sends.{IsPutCommand, MaySend, SendsOnly, asks, checks, inserts, kills, opens, plain_manner, reads_on, records, removes, resumes}
 use Rattle.mg_jobs.proofs.Added.{AreModestEntries, first_by_rules, kept_modest}
 use Rattle.mg_jobs.proofs.Mild.{IsMildCommand, IsQuiet, creates_mild, deletes_mild, finds_mild, indexes_mild, inserts_mild, lists_mild, quiet_mild}
 use Rattle.mg_jobs.proofs.OpeningTaken.{fits_size, opening_taken}

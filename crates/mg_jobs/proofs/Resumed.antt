@@ -10,7 +10,7 @@ use Rattle.mg_change.specs.ClientStreams.{SavedFor}
 use Rattle.mg_ops.specs.Resuming.{options_for, or_time, resume_at, resume_behind, resume_by, times_from}
 use Rattle.mg_ops.specs.declared.change_stream.ChangeStreamData.{ChangeStreamData}
 use Rattle.mg_script.specs.Plan.{Begin, at_time, nowhere, resume_after, start_after}
-use Rattle.mg_jobs.specs.Follows.{all_changes_of, options_of, start_of}
+use Rattle.mg_players.specs.Follows.{all_changes_of, options_of, start_of}
 use Rattle.mg_jobs.proofs.OpeningRead.{begun_is, plain}
 
 -- where it goes on that began there and knows this

@@ -31,15 +31,15 @@ use Rattle.mg_script.specs.declared.outcome.Ended.TheVariants as ended
 use Rattle.mg_script.specs.declared.outcome.Outcome.{Outcome}
 use Rattle.mg_script.specs.declared.outcome.Outcome.TheVariants as outcome
 use Rattle.mg_script.specs.declared.outcome.Turned.{Turned}
-use Rattle.mg_jobs.specs.Causes.{CloseCaused, Course, FallsAt, FollowCaused, OpenCaused, OutcomeCaused, SentIn, at_rest, course, in_call, in_closing, places_of, sent_at}
-use Rattle.mg_jobs.specs.Counts.{StartedBy}
-use Rattle.mg_jobs.specs.Drawing.{as_sent}
-use Rattle.mg_jobs.specs.Follows.{IsArgsFor}
-use Rattle.mg_jobs.specs.Gets.{GetTask, IsGetCommand, chunks_find, for_chunks, for_more, for_record, get_of, no_manner, record_find}
-use Rattle.mg_jobs.specs.Kinds.{OfFollow}
-use Rattle.mg_jobs.specs.Progress.{FollowPlayed, IsPlayed, pends_last, turns_done}
-use Rattle.mg_jobs.specs.Puts.{PutTask, put_bucket, put_of, total}
-use Rattle.mg_jobs.specs.Sends.{IsPutCommand, MaySend, SendsOnly, checks, inserts, plain_manner, reads_on, records, removes}
+use Rattle.mg_players.specs.Causes.{CloseCaused, Course, FallsAt, FollowCaused, OpenCaused, OutcomeCaused, SentIn, at_rest, course, in_call, in_closing, places_of, sent_at}
+use Rattle.mg_players.specs.Counts.{StartedBy}
+use Rattle.mg_players.specs.Drawing.{as_sent}
+use Rattle.mg_players.specs.Follows.{IsArgsFor}
+use Rattle.mg_players.specs.Gets.{GetTask, IsGetCommand, chunks_find, for_chunks, for_more, for_record, get_of, no_manner, record_find}
+use Rattle.mg_players.specs.Kinds.{OfFollow}
+use Rattle.mg_players.specs.Progress.{FollowPlayed, IsPlayed, pends_last, turns_done}
+use Rattle.mg_players.specs.Puts.{PutTask, put_bucket, put_of, total}
+use Rattle.mg_players.specs.Sends.{IsPutCommand, MaySend, SendsOnly, checks, inserts, plain_manner, reads_on, records, removes}
 use Rattle.mg_jobs.proofs.Identified.{StandsWell, opened_well}
 use Rattle.mg_jobs.proofs.Killers.{IsSparing, creates_spare, deletes_spare, finds_spare, indexes_spare, inserts_spare, lists_spare, next_spares, resuming_spares}
 use Rattle.mg_jobs.proofs.Openers.{IsOpenedIn, call_mine, calls_mine, honest_all, last_mine, opened_place}

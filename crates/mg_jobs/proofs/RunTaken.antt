@@ -17,13 +17,13 @@ use Rattle.mg_script.specs.Script.{first_missing}
 use Rattle.mg_script.specs.declared.outcome.Outcome.{Outcome}
 use Rattle.mg_script.specs.declared.outcome.Turned.{Turned}
 use Rattle.mg_script.specs.declared.script.Job.{Job}
-use Rattle.mg_jobs.specs.Causes.{Course, FollowCaused, OutcomeCaused, course}
+use Rattle.mg_players.specs.Causes.{Course, FollowCaused, OutcomeCaused, course}
 use Rattle.mg_jobs.specs.Completing.{JobWell, JobWellIn, NoneRefused}
-use Rattle.mg_jobs.specs.Counts.{StartedBy}
-use Rattle.mg_jobs.specs.Drawing.{as_sent}
+use Rattle.mg_players.specs.Counts.{StartedBy}
+use Rattle.mg_players.specs.Drawing.{as_sent}
 use Rattle.mg_jobs.specs.Fated.{AreItsSteps}
-use Rattle.mg_jobs.specs.Progress.{FollowPlayed, IsPlayed, pends_last, turns_done}
-use Rattle.mg_jobs.specs.Sends.{MaySend, SendsOnly}
+use Rattle.mg_players.specs.Progress.{FollowPlayed, IsPlayed, pends_last, turns_done}
+use Rattle.mg_players.specs.Sends.{MaySend, SendsOnly}
 use Rattle.mg_jobs.proofs.FollowTaken.{follow_taken}
 use Rattle.mg_jobs.proofs.Mild.{IsMildCommand}
 use Rattle.mg_jobs.proofs.Refusing.{TakesValid, job_ends_in}

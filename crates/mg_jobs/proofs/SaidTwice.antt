@@ -3,7 +3,7 @@ use Rattle.std.proofs.Common.{Bool, ℕ, Option}
 use Rattle.std.specs.Prelude.{Vec}
 use Rattle.std.specs.declared.alloc.Global.{Global}
 use Rattle.mg_bson.specs.Tree.{Tree}
-use Rattle.mg_jobs.specs.Kinds.{OfFollow, OfGet, OfInsert, OfPut, SaysEnd, SaysFollow, SaysGet}
+use Rattle.mg_players.specs.Kinds.{OfFollow, OfGet, OfInsert, OfPut, SaysEnd, SaysFollow, SaysGet}
 use Rattle.mg_script.specs.declared.outcome.Answer.{Answer}
 use Rattle.mg_script.specs.declared.outcome.Ended.{Ended}
 use Rattle.mg_script.specs.declared.outcome.Outcome.{Outcome}

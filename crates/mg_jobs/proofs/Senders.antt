@@ -17,8 +17,8 @@ use Rattle.mg_ops.specs.Cursors.{Manner, next_command}
 use Rattle.mg_script.specs.Script.{first_missing}
 use Rattle.mg_store.proofs.Sending.{length-steps}
 use Rattle.mg_jobs.proofs.Mild.{IsMildCommand, IsQuiet, quiet_mild}
-use Rattle.mg_jobs.specs.Causes.{SentIn}
-use Rattle.mg_jobs.specs.Progress.{turns_done}
+use Rattle.mg_players.specs.Causes.{SentIn}
+use Rattle.mg_players.specs.Progress.{turns_done}
 use Rattle.mg_script.specs.declared.outcome.Turned.{Turned}
 
 -- ---- the state before a step

@@ -5,20 +5,20 @@ use Rattle.mg_link.specs.Acts.{Tickets}
 use Rattle.mg_link.specs.Calls.{Keeps}
 use Rattle.mg_link.specs.Link.{Awaited, LogTold}
 use Rattle.mg_link.specs.Log.{Call}
-use Rattle.mg_jobs.specs.Counts.{OthersStay, is_held, shown}
-use Rattle.mg_jobs.specs.Plays.{Moves}
-use Rattle.mg_jobs.specs.Drawing.{sent_from}
-use Rattle.mg_jobs.specs.Headline.{Turns, task_of}
-use Rattle.mg_jobs.specs.Playing.{job_ticket}
-use Rattle.mg_jobs.specs.Runs.{Goes}
-use Rattle.mg_jobs.specs.Telling.{TurnTells}
+use Rattle.mg_players.specs.Counts.{OthersStay, is_held, shown}
+use Rattle.mg_players.specs.Plays.{Moves}
+use Rattle.mg_players.specs.Drawing.{sent_from}
+use Rattle.mg_players.specs.Headline.{Turns, task_of}
+use Rattle.mg_players.specs.Playing.{job_ticket}
+use Rattle.mg_players.specs.Runs.{Goes}
+use Rattle.mg_players.specs.Telling.{TurnTells}
 use Rattle.mg_script.specs.Plan.{Task}
-use Rattle.mg_jobs.specs.declared.player.Player.{Player}
+use Rattle.mg_players.specs.declared.player.Player.{Player}
 use Rattle.mg_link.specs.Owner.{nobody}
 use Rattle.mg_link.proofs.Apart.{onward_refl}
-use Rattle.mg_jobs.proofs.JobTelling.{job_later}
-use Rattle.mg_jobs.proofs.Knowing.{same_player}
-use Rattle.mg_jobs.proofs.OwnTickets.{cases_held, held_is, is_held_so, none_is_not, shown_held, shown_new, shown_out, shown_own}
+use Rattle.mg_players.proofs.JobTelling.{job_later}
+use Rattle.mg_players.proofs.Knowing.{same_player}
+use Rattle.mg_players.proofs.OwnTickets.{cases_held, held_is, is_held_so, none_is_not, shown_held, shown_new, shown_out, shown_own}
 
 -- ---- other tickets, and the same log
 

@@ -11,7 +11,7 @@ use Rattle.mg_link.specs.Step.{May}
 use Rattle.mg_link.proofs.Histories.{state_after-append}
 use Rattle.mg_link.proofs.Later.{Later, later_refl, later_step, later_trans, opens_given, opens_new, respects_of}
 use Rattle.mg_link.proofs.Places.{get_some, get_within, take_more}
-use Rattle.mg_jobs.proofs.Prompting.{lawful_at}
+use Rattle.mg_players.proofs.Prompting.{lawful_at}
 
 -- the state behind a step
 pub next_state : (history : List Step) (p : ℕ) (step : Step) → slice_get history p ≡ Some step → state_of (take (suc p) history) ≡ step_after (state_of (take p history)) step

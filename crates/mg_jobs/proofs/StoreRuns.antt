@@ -19,7 +19,7 @@ use Rattle.mg_store.proofs.Standing.{get_seam, same_some}
 use Rattle.mg_jobs.specs.Fated.{AreItsSteps}
 use Rattle.mg_jobs.proofs.Added.{AreModestEntries, kept_modest}
 use Rattle.mg_jobs.proofs.Mild.{IsMildCommand}
-use Rattle.mg_jobs.proofs.Prompting.{IsPrompted, prompted}
+use Rattle.mg_players.proofs.Prompting.{IsPrompted, prompted}
 use Rattle.mg_jobs.proofs.Refusing.{step_by, took}
 use Rattle.mg_jobs.proofs.StepsAt.{later_place, may_at, next_state}
 use Rattle.mg_jobs.proofs.Tokened.{kept_stored}

@@ -26,54 +26,54 @@ use Rattle.mg_change.specs.declared.stream.ChangeStream.{ChangeStream}
 use Rattle.mg_change.proofs.OpenSends.{one_opening}
 use Rattle.mg_change.proofs.Awaiting.{call_awaits, last_awaits}
 use Rattle.mg_change.proofs.Keeping.{sound_any}
-use Rattle.mg_jobs.proofs.Later.{opening_awaits_plainly}
+use Rattle.mg_players.proofs.Later.{opening_awaits_plainly}
 use Rattle.mg_ops.specs.InsertCauses.{InsertWaits}
 use Rattle.mg_ops.proofs.InsertCauses.{insert_waits}
-use Rattle.mg_jobs.specs.Causes.{AllCaused, AllSentIn, ClosedBy, CloseCaused, Course, FallsAt, FollowCaused, KillsLast, OpenStands, OpenCaused, OpenWaits, OutcomeCaused, SentIn, SentNoneBehind, at_rest, commands_at, course, in_call, in_closing, places_from, places_in, sent_at, sent_since}
-use Rattle.mg_jobs.specs.Counts.{HoldsNewest, NewestAt, StartedBy}
+use Rattle.mg_players.specs.Causes.{AllCaused, AllSentIn, ClosedBy, CloseCaused, Course, FallsAt, FollowCaused, KillsLast, OpenStands, OpenCaused, OpenWaits, OutcomeCaused, SentIn, SentNoneBehind, at_rest, commands_at, course, in_call, in_closing, places_from, places_in, sent_at, sent_since}
+use Rattle.mg_players.specs.Counts.{HoldsNewest, NewestAt, StartedBy}
 use Rattle.mg_ops.specs.Drawn.{AreLater, with_ids}
-use Rattle.mg_jobs.specs.Drawing.{DrawsAs, HaveDrawn, JobHadTurn, as_sent, drawn_in, first_id, has_turn, sent_from}
-use Rattle.mg_jobs.specs.Follows.{Followed, FollowedFrom, HasGiven, IsArgsFor, IsUnfinished, events_of, filter_in, token_at}
-use Rattle.mg_jobs.proofs.GetCausing.{get_caused}
-use Rattle.mg_jobs.specs.Gets.{sought}
-use Rattle.mg_jobs.specs.Headline.{AllFiled, AllFollowed, AllKnow, AreFirst, DoTasks, FollowedOr, IsFirst, IsSameTask, Knowing, OutcomeFiled, OutcomeFollowed, OutcomeOf, OutcomesOf, Plays, Took, task_of}
+use Rattle.mg_players.specs.Drawing.{DrawsAs, HaveDrawn, JobHadTurn, as_sent, drawn_in, first_id, has_turn, sent_from}
+use Rattle.mg_players.specs.Follows.{Followed, FollowedFrom, HasGiven, IsArgsFor, IsUnfinished, events_of, filter_in, token_at}
+use Rattle.mg_players.proofs.GetCausing.{get_caused}
+use Rattle.mg_players.specs.Gets.{sought}
+use Rattle.mg_players.specs.Headline.{AllFiled, AllFollowed, AllKnow, AreFirst, DoTasks, FollowedOr, IsFirst, IsSameTask, Knowing, OutcomeFiled, OutcomeFollowed, OutcomeOf, OutcomesOf, Plays, Took, task_of}
 use Rattle.mg_script.specs.Plan.{Begin, Task, begin, pieces}
-use Rattle.mg_jobs.specs.Playing.{end_of, job_ticket}
-use Rattle.mg_jobs.specs.Progress.{AllAt, FollowAt, HoldsIf, InsertAt, IsAt, IsOpen, calls_of, came, pends_last, turns_done}
-use Rattle.mg_jobs.specs.Runs.{MayAllGo, Goes, has_ended}
-use Rattle.mg_jobs.specs.Sends.{AllSendOnly, MaySend, SendsOnly}
-use Rattle.mg_jobs.specs.Plays.{Extends, IsNow, Moves, MovesTo, Places}
-use Rattle.mg_jobs.specs.Telling.{AllSent, AllTell, FollowTold, InsertTells, IsOpened, JobTells, JobTold, TellsEnd, TurnTells, kept, number_of, landing_places}
+use Rattle.mg_players.specs.Playing.{end_of, job_ticket}
+use Rattle.mg_players.specs.Progress.{AllAt, FollowAt, HoldsIf, InsertAt, IsAt, IsOpen, calls_of, came, pends_last, turns_done}
+use Rattle.mg_players.specs.Runs.{MayAllGo, Goes, has_ended}
+use Rattle.mg_players.specs.Sends.{AllSendOnly, MaySend, SendsOnly}
+use Rattle.mg_players.specs.Plays.{Extends, IsNow, Moves, MovesTo, Places}
+use Rattle.mg_players.specs.Telling.{AllSent, AllTell, FollowTold, InsertTells, IsOpened, JobTells, JobTold, TellsEnd, TurnTells, kept, number_of, landing_places}
 use Rattle.mg_script.specs.declared.outcome.Ended.{Ended}
 use Rattle.mg_script.specs.declared.outcome.Ended.TheVariants as ended
 use Rattle.mg_script.specs.declared.outcome.Outcome.{Outcome}
 use Rattle.mg_script.specs.declared.outcome.Outcome.TheVariants as outcome
 use Rattle.mg_script.specs.declared.outcome.Played.{Played}
 use Rattle.mg_script.specs.declared.outcome.Turned.{Turned}
-use Rattle.mg_jobs.specs.declared.follow.FollowPlayer.{FollowPlayer}
-use Rattle.mg_jobs.specs.declared.insert.InsertStage.{InsertStage}
-use Rattle.mg_jobs.specs.declared.insert.InsertStage.TheVariants as inserts
-use Rattle.mg_jobs.specs.declared.follow.Stage.{Stage}
-use Rattle.mg_jobs.specs.declared.follow.Stage.TheVariants as stage
-use Rattle.mg_jobs.specs.declared.player.Player.{Player}
-use Rattle.mg_jobs.specs.declared.player.Player.TheVariants as player
-use Rattle.mg_jobs.proofs.Apart.{stays, which}
-use Rattle.mg_jobs.proofs.Knowing.{get_length, know_first, knowing_turn, one_more, place_here, place_other, take_next}
-use Rattle.mg_jobs.proofs.Commands.{call_falls_so, falls_below}
-use Rattle.mg_jobs.proofs.Drawing.{draws_as, id_had, id_own, turn_other}
+use Rattle.mg_players.specs.declared.follow.FollowPlayer.{FollowPlayer}
+use Rattle.mg_players.specs.declared.insert.InsertStage.{InsertStage}
+use Rattle.mg_players.specs.declared.insert.InsertStage.TheVariants as inserts
+use Rattle.mg_players.specs.declared.follow.Stage.{Stage}
+use Rattle.mg_players.specs.declared.follow.Stage.TheVariants as stage
+use Rattle.mg_players.specs.declared.player.Player.{Player}
+use Rattle.mg_players.specs.declared.player.Player.TheVariants as player
+use Rattle.mg_players.proofs.Apart.{stays, which}
+use Rattle.mg_players.proofs.Knowing.{get_length, know_first, knowing_turn, one_more, place_here, place_other, take_next}
+use Rattle.mg_players.proofs.Commands.{call_falls_so, falls_below}
+use Rattle.mg_players.proofs.Drawing.{draws_as, id_had, id_own, turn_other}
 use Rattle.mg_jobs.proofs.Identified.{calls_identified, honest_over, opened_well}
-use Rattle.mg_jobs.proofs.InsertTelling.{ends_of, ends_sent}
+use Rattle.mg_players.proofs.InsertTelling.{ends_of, ends_sent}
 use Rattle.mg_gridfs.proofs.Fronts.{nobody_onward}
-use Rattle.mg_jobs.specs.Puts.{writes}
+use Rattle.mg_players.specs.Puts.{writes}
 use Rattle.mg_jobs.proofs.PutTold.{put_outcome}
 use Rattle.mg_jobs.proofs.Filed.{get_filed, put_filed}
-use Rattle.mg_jobs.proofs.JobTelling.{first_tells, job_later, job_of_others, number_at}
-use Rattle.mg_jobs.proofs.Newest.{newest_other, newest_own, none_sent, started_in}
-use Rattle.mg_jobs.proofs.OwnTickets.{none_if}
-use Rattle.mg_jobs.proofs.Sends.{sends_first, sends_other, sends_turn, sent_had}
-use Rattle.mg_jobs.proofs.Turning.{failed_not_unfinished, follow_followed, unfinished_not_given}
-use Rattle.mg_jobs.proofs.Whole.{only_now, only_opened, places_other, places_own}
-use Rattle.mg_jobs.proofs.Vainly.{nothing_at, outcome_vain}
+use Rattle.mg_players.proofs.JobTelling.{first_tells, job_later, job_of_others, number_at}
+use Rattle.mg_players.proofs.Newest.{newest_other, newest_own, none_sent, started_in}
+use Rattle.mg_players.proofs.OwnTickets.{none_if}
+use Rattle.mg_players.proofs.Sends.{sends_first, sends_other, sends_turn, sent_had}
+use Rattle.mg_players.proofs.Turning.{failed_not_unfinished, follow_followed, unfinished_not_given}
+use Rattle.mg_players.proofs.Whole.{only_now, only_opened, places_other, places_own}
+use Rattle.mg_players.proofs.Vainly.{nothing_at, outcome_vain}
 use Rattle.mg_link.proofs.Watched.{IsWatched}
 
 -- ---- one turn more

@@ -17,36 +17,36 @@ use Rattle.mg_change.proofs.Awaiting.{call_own, last_own, opening_own}
 use Rattle.mg_change.proofs.Keeping.{sound_any}
 use Rattle.mg_change.specs.OpeningView.{opening_of}
 use Rattle.mg_change.specs.StreamView.{stream_of}
-use Rattle.mg_jobs.specs.Causes.{AllSentIn, AllWaitAlone, Course, WaitsAlone, SentIn, course, sent_at}
+use Rattle.mg_players.specs.Causes.{AllSentIn, AllWaitAlone, Course, WaitsAlone, SentIn, course, sent_at}
 use Rattle.mg_ops.specs.Drawn.{with_ids}
-use Rattle.mg_jobs.specs.Drawing.{HaveDrawn, first_id}
+use Rattle.mg_players.specs.Drawing.{HaveDrawn, first_id}
 use Rattle.mg_ops.proofs.InsertCauses.{insert_own}
 use Rattle.mg_gridfs.specs.DownloadView.{download_of, finding_of}
 use Rattle.mg_gridfs.proofs.Growing as files
-use Rattle.mg_jobs.specs.Gets.{GetTask, gets_ticket, sought}
-use Rattle.mg_jobs.specs.Playing.{inserts_ticket, job_ticket, stage_ticket}
-use Rattle.mg_jobs.specs.Plays.{Places}
-use Rattle.mg_jobs.specs.Progress.{AllAt, Came, FollowAt, GetStageAt, InsertAt, IsAt, calls_of, came, pends_last, turns_done, PutAt}
+use Rattle.mg_players.specs.Gets.{GetTask, gets_ticket, sought}
+use Rattle.mg_players.specs.Playing.{inserts_ticket, job_ticket, stage_ticket}
+use Rattle.mg_players.specs.Plays.{Places}
+use Rattle.mg_players.specs.Progress.{AllAt, Came, FollowAt, GetStageAt, InsertAt, IsAt, calls_of, came, pends_last, turns_done, PutAt}
 use Rattle.mg_gridfs.specs.UploadView.{upload_of}
-use Rattle.mg_jobs.proofs.PutTelling.{uploading_own}
-use Rattle.mg_jobs.specs.Puts.{PutTask, puts_ticket, writes}
-use Rattle.mg_jobs.specs.Telling.{AllSent, PutTells, put_number, AllTell, AllTold, FollowTold, GetTells, InsertTells, JobTold, Kept, kept, number}
-use Rattle.mg_jobs.specs.declared.put.PutStage.{PutStage}
-use Rattle.mg_jobs.specs.declared.put.PutStage.TheVariants as puts
-use Rattle.mg_jobs.specs.Runs.{AreHeld, HeldBy}
+use Rattle.mg_players.proofs.PutTelling.{uploading_own}
+use Rattle.mg_players.specs.Puts.{PutTask, puts_ticket, writes}
+use Rattle.mg_players.specs.Telling.{AllSent, PutTells, put_number, AllTell, AllTold, FollowTold, GetTells, InsertTells, JobTold, Kept, kept, number}
+use Rattle.mg_players.specs.declared.put.PutStage.{PutStage}
+use Rattle.mg_players.specs.declared.put.PutStage.TheVariants as puts
+use Rattle.mg_players.specs.Runs.{AreHeld, HeldBy}
 use Rattle.mg_script.specs.Plan.{Task}
 use Rattle.mg_script.specs.declared.outcome.Played.{Played}
 use Rattle.mg_script.specs.declared.outcome.Turned.{Turned}
-use Rattle.mg_jobs.specs.declared.get.GetStage.{GetStage}
-use Rattle.mg_jobs.specs.declared.get.GetStage.TheVariants as gets
-use Rattle.mg_jobs.specs.declared.insert.InsertStage.{InsertStage}
-use Rattle.mg_jobs.specs.declared.insert.InsertStage.TheVariants as inserts
-use Rattle.mg_jobs.specs.declared.follow.Stage.{Stage}
-use Rattle.mg_jobs.specs.declared.follow.Stage.TheVariants as stage
-use Rattle.mg_jobs.specs.declared.player.Player.{Player}
-use Rattle.mg_jobs.specs.declared.player.Player.TheVariants as player
-use Rattle.mg_jobs.proofs.Knowing.{get_length}
-use Rattle.mg_jobs.proofs.Newest.{started_in}
+use Rattle.mg_players.specs.declared.get.GetStage.{GetStage}
+use Rattle.mg_players.specs.declared.get.GetStage.TheVariants as gets
+use Rattle.mg_players.specs.declared.insert.InsertStage.{InsertStage}
+use Rattle.mg_players.specs.declared.insert.InsertStage.TheVariants as inserts
+use Rattle.mg_players.specs.declared.follow.Stage.{Stage}
+use Rattle.mg_players.specs.declared.follow.Stage.TheVariants as stage
+use Rattle.mg_players.specs.declared.player.Player.{Player}
+use Rattle.mg_players.specs.declared.player.Player.TheVariants as player
+use Rattle.mg_players.proofs.Knowing.{get_length}
+use Rattle.mg_players.proofs.Newest.{started_in}
 
 -- ---- the tickets that are out
 

@@ -26,20 +26,20 @@ use Rattle.mg_ops.specs.declared.change_stream.WatchArgs.{WatchArgs}
 use Rattle.mg_change.specs.ClientStreams.{resuming_in}
 use Rattle.mg_records.specs.FileRecords.{FileRecord, file_record_of}
 use Rattle.mg_gridfs.specs.Findings.{ReadsRecord}
-use Rattle.mg_jobs.specs.Causes.{Course, SentIn, course, places_of}
-use Rattle.mg_jobs.specs.Drawing.{as_sent}
-use Rattle.mg_jobs.specs.Files.{IsFirstStepOf, IsLastStepOf, OthersLeaveFrom}
-use Rattle.mg_jobs.specs.Follows.{IsArgsFor, IsWatch}
-use Rattle.mg_jobs.specs.Kinds.{OfFollow, OfGet, OfInsert, OfPut}
-use Rattle.mg_jobs.specs.Gets.{GetTask, IsGetCommand, chunks_find, get_of, more_chunks, record_find}
-use Rattle.mg_jobs.specs.Headline.{GetGave}
+use Rattle.mg_players.specs.Causes.{Course, SentIn, course, places_of}
+use Rattle.mg_players.specs.Drawing.{as_sent}
+use Rattle.mg_players.specs.Files.{IsFirstStepOf, IsLastStepOf, OthersLeaveFrom}
+use Rattle.mg_players.specs.Follows.{IsArgsFor, IsWatch}
+use Rattle.mg_players.specs.Kinds.{OfFollow, OfGet, OfInsert, OfPut}
+use Rattle.mg_players.specs.Gets.{GetTask, IsGetCommand, chunks_find, get_of, more_chunks, record_find}
+use Rattle.mg_players.specs.Headline.{GetGave}
 use Rattle.mg_ops.specs.InsertCauses.{IsPiece}
 use Rattle.mg_jobs.specs.Own.{IsHeard, IsOwnCommand, IsOwnCursor}
 use Rattle.mg_jobs.specs.PutLimits.{CannotPut, HasFewIndexes, IsExcusedPut, IsValidPut}
-use Rattle.mg_jobs.specs.Puts.{put_of}
+use Rattle.mg_players.specs.Puts.{put_of}
 use Rattle.mg_script.specs.Plan.{Begin, Task, insert, follow, put, get}
-use Rattle.mg_jobs.specs.Progress.{turns_done}
-use Rattle.mg_jobs.specs.Sends.{SendsOnly}
+use Rattle.mg_players.specs.Progress.{turns_done}
+use Rattle.mg_players.specs.Sends.{SendsOnly}
 use Rattle.mg_script.specs.declared.outcome.Answer.{Answer}
 use Rattle.mg_script.specs.declared.outcome.Answer.TheVariants as answers
 use Rattle.mg_script.specs.declared.outcome.Ended.{Ended}

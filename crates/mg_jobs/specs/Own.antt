@@ -13,7 +13,7 @@ use Rattle.mg_ops.specs.declared.change_stream.WatchArgs.{WatchArgs}
 use Rattle.mg_cursor.specs.Batches.{documents_of}
 use Rattle.mg_change.specs.ClientOpenings.{first_aggregate}
 use Rattle.mg_change.specs.ClientStreams.{id_in, resuming_in}
-use Rattle.mg_jobs.specs.Causes.{Course, SentIn}
+use Rattle.mg_players.specs.Causes.{Course, SentIn}
 
 -- ---- what it heard
 

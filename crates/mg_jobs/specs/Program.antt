@@ -12,14 +12,14 @@ use Rattle.mg_link.specs.Log.{Call}
 use Rattle.mg_link.specs.Owner.{NamesItsOwn}
 use Rattle.mg_link.specs.Places.{out_at, polls_in}
 use Rattle.mg_link.specs.Standing.{Stands}
-use Rattle.mg_jobs.specs.Causes.{AllPollOwn, AllWaitAlone, OutcomeCaused, course}
+use Rattle.mg_players.specs.Causes.{AllPollOwn, AllWaitAlone, OutcomeCaused, course}
 use Rattle.mg_jobs.specs.Completing.{AnswersWellIn, JobWell, JobWellIn, NoneRefused}
-use Rattle.mg_jobs.specs.Counts.{AreNoted, turns_pended}
+use Rattle.mg_players.specs.Counts.{AreNoted, turns_pended}
 use Rattle.mg_jobs.specs.Fated.{AreItsSteps}
-use Rattle.mg_jobs.specs.Drawing.{as_sent}
-use Rattle.mg_jobs.specs.Progress.{AllPlayed}
-use Rattle.mg_jobs.specs.Sends.{MaySend, SendsOnly}
-use Rattle.mg_jobs.specs.Headline.{OutcomeFiled, OutcomeFollowed}
+use Rattle.mg_players.specs.Drawing.{as_sent}
+use Rattle.mg_players.specs.Progress.{AllPlayed}
+use Rattle.mg_players.specs.Sends.{MaySend, SendsOnly}
+use Rattle.mg_players.specs.Headline.{OutcomeFiled, OutcomeFollowed}
 use Rattle.mg_script.specs.Plan.{Plan, Task, plan, tasks}
 use Rattle.mg_script.specs.Plan as plans
 use Rattle.mg_store.specs.InMemory.{AreAsFates, AreKept, pends_in}

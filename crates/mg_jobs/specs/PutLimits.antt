@@ -14,9 +14,9 @@ use Rattle.mg_gridfs.specs.Indexes.{space_in}
 use Rattle.mg_gridfs.specs.Steps.{FailsToUndo}
 use Rattle.mg_gridfs.specs.declared.indexes.Place.{Place}
 use Rattle.mg_jobs.specs.Own.{IsOwnCursor}
-use Rattle.mg_jobs.specs.PutFailures.{NotBuilt}
-use Rattle.mg_jobs.specs.Puts.{NamesFiles, PutTask, put_aim, put_bucket, total}
-use Rattle.mg_jobs.specs.Sends.{plain_manner}
+use Rattle.mg_players.specs.PutFailures.{NotBuilt}
+use Rattle.mg_players.specs.Puts.{NamesFiles, PutTask, put_aim, put_bucket, total}
+use Rattle.mg_players.specs.Sends.{plain_manner}
 
 -- ---- what is not built
 

@@ -1,7 +1,7 @@
 //! A link over which the commands of a turn are counted.
 ghost use Rattle.std.specs.Prelude.{◌≡◌, ℕ, Option, nat_lt};
 ghost use Rattle.mg_link.specs.Link.{Awaited, Polls, LogTold};
-ghost use Rattle.mg_jobs.specs.Counts.{Counted, IsOwnTurn};
+ghost use Rattle.mg_players.specs.Counts.{Counted, IsOwnTurn};
 
 use mg_bson::RawDocument;
 use mg_link::{Link, LinkError, Polled, Ticket};
@@ -59,7 +59,7 @@ pub(crate) struct Counting<L: Link, B: Began> {
 
 impl<L: Link, B: Began> Model for Counting<L, B> {
     ghost use Rattle.std.specs.Prelude.{ℕ};
-    ghost use Rattle.mg_jobs.specs.Counts.{Counted, IsOwnTurn};
+    ghost use Rattle.mg_players.specs.Counts.{Counted, IsOwnTurn};
 
     ghost Value = { L × ℕ };
 
@@ -115,7 +115,7 @@ impl<L: Link, B: Began> Counting<L, B> {
 }
 
 impl<L: Link, B: Began> Link for Counting<L, B> {
-    ghost use Rattle.mg_jobs.specs.Counts.{shown};
+    ghost use Rattle.mg_players.specs.Counts.{shown};
 
     ghost faults = { λ c. L.faults c.0 };
 

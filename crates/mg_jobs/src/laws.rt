@@ -12,14 +12,14 @@ ghost use Rattle.mg_link.specs.Standing.{Stands};
 ghost use Rattle.mg_link.specs.State.{documents_at};
 ghost use Rattle.mg_link.specs.Step.{documents_of};
 ghost use Rattle.mg_ops.specs.Appended.{Appended, InsertsAt};
-ghost use Rattle.mg_jobs.specs.Causes.{Course, OutcomeCaused};
+ghost use Rattle.mg_players.specs.Causes.{Course, OutcomeCaused};
 ghost use Rattle.mg_jobs.specs.Completing.{JobWell, OutcomeGot};
-ghost use Rattle.mg_jobs.specs.Counts.{Faultless};
+ghost use Rattle.mg_players.specs.Counts.{Faultless};
 ghost use Rattle.mg_script.specs.Plan.{Task};
 ghost use Rattle.mg_script.specs.declared.outcome.Outcome.{Outcome};
 ghost use Rattle.mg_jobs.specs.declared.program.Ending.{Ending};
 ghost use Rattle.mg_jobs.specs.Program.{Caused, IsOf};
-ghost use Rattle.mg_jobs.specs.Progress.{IsPlayed, pends_last, turns_done};
+ghost use Rattle.mg_players.specs.Progress.{IsPlayed, pends_last, turns_done};
 
 /// Where it is known what is left in a source, this decides what came of it: each ending that is not a failed read or
 /// want of memory comes exactly where the bytes are too many, or no script with this first fault, or a script whose order

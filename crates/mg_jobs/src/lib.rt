@@ -2,17 +2,10 @@
 #![tactic(auto)]
 
 mod counting;
-mod drawn;
 mod fated;
 mod fates;
-mod follow;
-mod get;
-mod insert;
-mod kind;
 pub mod laws;
-mod player;
 mod program;
-mod put;
 mod run;
 
 pub use mg_link::{MemSink, MemSource, ReadFailed, Sink, Source, StdSink, StdSource, WriteFailed};

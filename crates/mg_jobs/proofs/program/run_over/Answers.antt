@@ -17,19 +17,19 @@ use Rattle.mg_store.specs.Stored.{AreOpen}
 use Rattle.mg_store.specs.declared.fate.Fate.{Fate}
 use Rattle.mg_link.specs.Link.{LogTold}
 use Rattle.mg_jobs.specs.Completing.{JobWell}
-use Rattle.mg_jobs.specs.Counts.{AreNoted, StartedBy}
+use Rattle.mg_players.specs.Counts.{AreNoted, StartedBy}
 use Rattle.mg_jobs.specs.Fated.{AreItsSteps}
-use Rattle.mg_jobs.specs.Progress.{AllPlayed, IsPlayed, pends_last, turns_done}
-use Rattle.mg_jobs.specs.Causes.{AllPollOwn, AllWaitAlone, Course, OutcomeCaused, course}
-use Rattle.mg_jobs.specs.Drawing.{as_sent}
-use Rattle.mg_jobs.specs.Headline.{OutcomeFiled, OutcomeFollowed}
+use Rattle.mg_players.specs.Progress.{AllPlayed, IsPlayed, pends_last, turns_done}
+use Rattle.mg_players.specs.Causes.{AllPollOwn, AllWaitAlone, Course, OutcomeCaused, course}
+use Rattle.mg_players.specs.Drawing.{as_sent}
+use Rattle.mg_players.specs.Headline.{OutcomeFiled, OutcomeFollowed}
 use Rattle.mg_jobs.specs.Program.{script_ids}
-use Rattle.mg_jobs.specs.Sends.{MaySend, SendsOnly}
+use Rattle.mg_players.specs.Sends.{MaySend, SendsOnly}
 use Rattle.mg_script.specs.Plan.{Task, tasks}
 use Rattle.mg_script.specs.declared.outcome.Outcome.{Outcome}
 use Rattle.mg_script.specs.declared.outcome.Turned.{Turned}
 use Rattle.mg_script.specs.declared.script.Job.{Job}
-use Rattle.mg_jobs.proofs.Drawing.{played_as_sent, sent_same}
+use Rattle.mg_players.proofs.Drawing.{played_as_sent, sent_same}
 use Rattle.mg_jobs.proofs.Positions.{answered_well}
 use Rattle.mg_jobs.proofs.Refusing.{run_mildly}
 use Rattle.mg_jobs.proofs.RunTaken.{run_ends_in, tasks_counted}

@@ -1,4 +1,4 @@
-use Rattle.mg_jobs.specs.Playing.{job_ticket}
+use Rattle.mg_players.specs.Playing.{job_ticket}
 use Rattle.mg_jobs.proofs.run.counted.Given as goal
 
 abbrev pub ghosts-counted_since : goal.ghosts-counted_since

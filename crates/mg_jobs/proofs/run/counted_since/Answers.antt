@@ -1,11 +1,11 @@
 use Rattle.std.proofs.Common.{subst, sym}
 use Rattle.mg_link.specs.Link.{Awaited}
-use Rattle.mg_jobs.specs.Counts.{IsNoted, shown}
-use Rattle.mg_jobs.specs.Runs.{Goes}
-use Rattle.mg_jobs.specs.Playing.{job_ticket}
-use Rattle.mg_jobs.specs.Plays.{AnySent}
-use Rattle.mg_jobs.proofs.Advancing.{noted_once, noted_so}
-use Rattle.mg_jobs.proofs.OwnTickets.{newest_of}
+use Rattle.mg_players.specs.Counts.{IsNoted, shown}
+use Rattle.mg_players.specs.Runs.{Goes}
+use Rattle.mg_players.specs.Playing.{job_ticket}
+use Rattle.mg_players.specs.Plays.{AnySent}
+use Rattle.mg_players.proofs.Advancing.{noted_once, noted_so}
+use Rattle.mg_players.proofs.OwnTickets.{newest_of}
 use Rattle.mg_jobs.proofs.Showing.{goes_shown}
 use Rattle.mg_jobs.proofs.Tallies.{is_noted}
 use Rattle.mg_jobs.proofs.run.counted_since.Goals as goal

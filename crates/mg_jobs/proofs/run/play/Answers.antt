@@ -2,17 +2,17 @@ use Rattle.std.proofs.Common.{◌≡◌, ◌+◌, ◌∷◌, [], List, false, ap
 use Rattle.std.specs.List.{All, sum_by}
 use Rattle.std.proofs.lemmas.List.Elements.{All-append, All-cons, All-nil}
 use Rattle.mg_link.proofs.Onward.{later_on, later_same}
-use Rattle.mg_jobs.specs.Causes.{AllPollOwn}
-use Rattle.mg_jobs.specs.Counts.{AreNoted, StartedBy}
-use Rattle.mg_jobs.specs.Progress.{AllAt}
-use Rattle.mg_jobs.specs.Telling.{AllTell}
+use Rattle.mg_players.specs.Causes.{AllPollOwn}
+use Rattle.mg_players.specs.Counts.{AreNoted, StartedBy}
+use Rattle.mg_players.specs.Progress.{AllAt}
+use Rattle.mg_players.specs.Telling.{AllTell}
 use Rattle.mg_script.specs.declared.outcome.Turned.{Turned}
 use Rattle.std.proofs.lemmas.Option.{slice_get-get_or}
-use Rattle.mg_jobs.proofs.Advancing.{at_next}
+use Rattle.mg_players.proofs.Advancing.{at_next}
 use Rattle.mg_ops.specs.Drawn.{AreLater}
-use Rattle.mg_jobs.specs.Drawing.{drawn_in}
-use Rattle.mg_jobs.proofs.Drawing.{drawn_next, drawn_whole}
-use Rattle.mg_jobs.proofs.Knowing.{length_take}
+use Rattle.mg_players.specs.Drawing.{drawn_in}
+use Rattle.mg_players.proofs.Drawing.{drawn_next, drawn_whole}
+use Rattle.mg_players.proofs.Knowing.{length_take}
 use Rattle.mg_jobs.proofs.Polling.{polls_next, polls_whole}
 use Rattle.mg_jobs.proofs.Tallies.{loses_on, noted_more, started_more}
 use Rattle.mg_jobs.proofs.Told.{tell_next, tell_whole}

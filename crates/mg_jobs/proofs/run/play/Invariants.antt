@@ -1,14 +1,15 @@
 use Rattle.std.proofs.Common.{◌≡◌, ℕ, List, [], length, take, false}
 use Rattle.std.specs.List.{All, sum_by}
 use Rattle.mg_link.specs.Link.{Awaited, Later, LogTold}
-use Rattle.mg_jobs.specs.Causes.{AllPollOwn}
-use Rattle.mg_jobs.specs.Counts.{AreNoted, LosesNothing, StartedBy}
-use Rattle.mg_jobs.specs.Drawing.{HaveDrawn}
-use Rattle.mg_jobs.specs.Headline.{DoTasks, Knowing}
+use Rattle.mg_players.specs.Causes.{AllPollOwn}
+use Rattle.mg_players.specs.Counts.{AreNoted, LosesNothing, StartedBy}
+use Rattle.mg_players.specs.Drawing.{HaveDrawn}
+use Rattle.mg_players.specs.Headline.{DoTasks, Knowing}
 use Rattle.mg_script.specs.Plan.{Task}
-use Rattle.mg_jobs.specs.Progress.{AllAt}
-use Rattle.mg_jobs.specs.Runs.{AreHeld, Stands}
-use Rattle.mg_jobs.specs.Telling.{AllTell}
+use Rattle.mg_players.specs.Progress.{AllAt}
+use Rattle.mg_players.specs.Runs.{AreHeld}
+use Rattle.mg_jobs.specs.Runners.{Stands}
+use Rattle.mg_players.specs.Telling.{AllTell}
 use Rattle.mg_script.specs.declared.outcome.Turned.{Turned}
 use Rattle.mg_jobs.proofs.run.play.Given as goal
 

@@ -4,10 +4,10 @@ use Rattle.mg_script.specs.Script.{first_missing}
 use Rattle.mg_jobs.proofs.Orders.{none_missing}
 use Rattle.std.proofs.lemmas.List.{length-map}
 use Rattle.mg_script.specs.Plan.{task, tasks}
-use Rattle.mg_jobs.proofs.Knowing.{knowing_first}
-use Rattle.mg_jobs.proofs.Advancing.{rows_so}
+use Rattle.mg_players.proofs.Knowing.{knowing_first}
+use Rattle.mg_players.proofs.Advancing.{rows_so}
 use Rattle.mg_jobs.proofs.Completing.{well_so}
-use Rattle.mg_jobs.proofs.Drawing.{drawn_first, drawn_so}
+use Rattle.mg_players.proofs.Drawing.{drawn_first, drawn_so}
 use Rattle.mg_jobs.proofs.Waiting.{wait_so}
 use Rattle.mg_jobs.proofs.Polling.{polls_so}
 use Rattle.mg_jobs.proofs.Tallies.{noted_so, pended_so}

@@ -1,19 +1,19 @@
 use Rattle.std.proofs.Common.{refl, sym, ap, subst, ◌∙◌}
 use Rattle.mg_link.specs.Acts.{IsOut, Tickets}
 use Rattle.mg_link.proofs.Onward.{tickets_same}
-use Rattle.mg_jobs.proofs.Knowing.{turned_not, turned_ready}
-use Rattle.mg_jobs.specs.Counts.{PolledNewest, was_held}
-use Rattle.mg_jobs.specs.Drawing.{DrawsAs, JobHasIds}
-use Rattle.mg_jobs.proofs.Advancing.{over_turns}
-use Rattle.mg_jobs.proofs.Drawing.{ended_draws, ended_has}
-use Rattle.mg_jobs.proofs.JobTelling.{quiet_turn, ready_turn, tells_same_job}
-use Rattle.mg_jobs.specs.Headline.{Plays, task_of}
-use Rattle.mg_jobs.specs.Playing.{job_ticket}
-use Rattle.mg_jobs.specs.Plays.{AnySent, no_move}
-use Rattle.mg_jobs.specs.Progress.{GoesBy}
-use Rattle.mg_jobs.specs.Runs.{CanGo, Goes, IsReady}
-use Rattle.mg_jobs.specs.Telling.{JobTells, number_of}
-use Rattle.mg_jobs.specs.declared.player.Player.{Player}
+use Rattle.mg_players.proofs.Knowing.{turned_not, turned_ready}
+use Rattle.mg_players.specs.Counts.{PolledNewest, was_held}
+use Rattle.mg_players.specs.Drawing.{DrawsAs, JobHasIds}
+use Rattle.mg_players.proofs.Advancing.{over_turns}
+use Rattle.mg_players.proofs.Drawing.{ended_draws, ended_has}
+use Rattle.mg_players.proofs.JobTelling.{quiet_turn, ready_turn, tells_same_job}
+use Rattle.mg_players.specs.Headline.{Plays, task_of}
+use Rattle.mg_players.specs.Playing.{job_ticket}
+use Rattle.mg_players.specs.Plays.{AnySent, no_move}
+use Rattle.mg_players.specs.Progress.{GoesBy}
+use Rattle.mg_players.specs.Runs.{CanGo, Goes, IsReady}
+use Rattle.mg_players.specs.Telling.{JobTells, number_of}
+use Rattle.mg_players.specs.declared.player.Player.{Player}
 use Rattle.mg_jobs.proofs.run.turn_of.Goals as goal
 
 pub returns-then-has_ended-clause-goes : goal.returns-then-has_ended-clause-goes

@@ -1,5 +1,5 @@
 use Rattle.std.proofs.Common.{rules}
-use Rattle.mg_jobs.proofs.OwnTickets.{own_begun}
+use Rattle.mg_players.proofs.OwnTickets.{own_begun}
 use Rattle.mg_jobs.proofs.counting.Counting.new.Goals as goal
 
 pub invariant_of-result : goal.invariant_of-result

@@ -1,7 +1,7 @@
 use Rattle.std.proofs.Common.{◌∙◌, ap, subst, sym}
 use Rattle.std.specs.Prelude.{IsSome}
-use Rattle.mg_jobs.specs.Counts.{shown}
-use Rattle.mg_jobs.proofs.OwnTickets.{own_answered, own_pended, shown_out}
+use Rattle.mg_players.specs.Counts.{shown}
+use Rattle.mg_players.proofs.OwnTickets.{own_answered, own_pended, shown_out}
 use Rattle.mg_jobs.proofs.Tallies.{counted_pends, counted_seen, rose_counted}
 use Rattle.mg_jobs.proofs.counting.CountingLink.poll.Goals as goal
 

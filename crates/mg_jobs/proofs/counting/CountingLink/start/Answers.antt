@@ -2,8 +2,8 @@ use Rattle.std.proofs.Common.{ℕ, Err, Some, arith, subst, sym}
 use Rattle.mg_link.specs.Link.{StartMeans, StartsAtOnce}
 use Rattle.mg_link.specs.Log.{fault, waiting}
 use Rattle.mg_link.specs.declared.link.LinkError.{LinkError}
-use Rattle.mg_jobs.specs.Counts.{IsOwnTurn}
-use Rattle.mg_jobs.proofs.OwnTickets.{none_if, own_lost, own_started, started_longer}
+use Rattle.mg_players.specs.Counts.{IsOwnTurn}
+use Rattle.mg_players.proofs.OwnTickets.{none_if, own_lost, own_started, started_longer}
 use Rattle.mg_jobs.proofs.Tallies.{counted_started}
 use Rattle.mg_jobs.proofs.counting.CountingLink.start.Goals as goal
 

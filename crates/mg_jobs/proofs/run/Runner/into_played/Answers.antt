@@ -1,7 +1,7 @@
 use Rattle.std.proofs.Common.{List, sym, subst, rules}
-use Rattle.mg_jobs.specs.Headline.{Made}
+use Rattle.mg_players.specs.Headline.{Made}
 use Rattle.mg_script.specs.declared.outcome.Outcome.{Outcome}
-use Rattle.mg_jobs.proofs.Knowing.{made_more}
+use Rattle.mg_players.proofs.Knowing.{made_more}
 use Rattle.mg_jobs.proofs.run.Runner.into_played.Goals as goal
 
 pub loop-player-preserved : goal.loop-player-preserved

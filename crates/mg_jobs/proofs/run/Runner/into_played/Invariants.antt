@@ -1,5 +1,5 @@
 use Rattle.std.proofs.Common.{◌≡◌, ◌+◌, length}
-use Rattle.mg_jobs.specs.Headline.{Made}
+use Rattle.mg_players.specs.Headline.{Made}
 use Rattle.mg_jobs.proofs.run.Runner.into_played.Given as goal
 
 abbrev pub invariant-loop-player : goal.invariant-loop-player

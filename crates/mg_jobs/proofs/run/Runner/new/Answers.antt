@@ -1,12 +1,12 @@
 use Rattle.std.proofs.Common.{◌+◌, [], length, arith, refl, sym, subst, take}
 use Rattle.std.proofs.lemmas.Option.{slice_get_read}
-use Rattle.mg_jobs.specs.Headline.{DoTasks}
+use Rattle.mg_players.specs.Headline.{DoTasks}
 use Rattle.mg_script.specs.Plan.{tasks}
-use Rattle.mg_jobs.specs.Progress.{AllAt}
-use Rattle.mg_jobs.proofs.Advancing.{at_first_more}
-use Rattle.mg_jobs.proofs.Knowing.{first_more, tasks_step}
+use Rattle.mg_players.specs.Progress.{AllAt}
+use Rattle.mg_players.proofs.Advancing.{at_first_more}
+use Rattle.mg_players.proofs.Knowing.{first_more, tasks_step}
 use Rattle.std.proofs.lemmas.Grind.{common_steps}
-use Rattle.mg_jobs.proofs.Apart.{apart_new, new_more}
+use Rattle.mg_players.proofs.Apart.{apart_new, new_more}
 use Rattle.mg_jobs.proofs.run.Runner.new.Goals as goal
 
 pub loop-job-preserved : goal.loop-job-preserved

@@ -1,8 +1,8 @@
 use Rattle.std.proofs.Common.{◌≡◌, [], length, take}
-use Rattle.mg_jobs.specs.Headline.{AreFirst, DoTasks}
+use Rattle.mg_players.specs.Headline.{AreFirst, DoTasks}
 use Rattle.mg_script.specs.Plan.{tasks}
-use Rattle.mg_jobs.specs.Progress.{AllAt}
-use Rattle.mg_jobs.specs.Runs.{AreNew}
+use Rattle.mg_players.specs.Progress.{AllAt}
+use Rattle.mg_players.specs.Runs.{AreNew}
 use Rattle.mg_jobs.proofs.run.Runner.new.Given as goal
 
 abbrev pub invariant-loop-job : goal.invariant-loop-job

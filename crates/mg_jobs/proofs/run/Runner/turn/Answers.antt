@@ -2,18 +2,19 @@ use Rattle.std.proofs.Common.{◌≡◌, ◌<◌, ◌++◌, ◌∷◌, [], lengt
 use Rattle.std.specs.Prelude.{slice_set}
 use Rattle.std.proofs.lemmas.Option.{slice_get_read}
 use Rattle.std.proofs.lemmas.Result.{err_from_is_err_and}
-use Rattle.mg_jobs.specs.Runs.{IsSameJob, ended_at, idle}
+use Rattle.mg_players.specs.Runs.{IsSameJob, idle}
+use Rattle.mg_jobs.specs.Runners.{ended_at}
 use Rattle.mg_script.specs.declared.outcome.Turned.{Turned}
-use Rattle.mg_jobs.specs.declared.player.Player.{Player}
-use Rattle.mg_jobs.proofs.Apart.{apart_as, on_err, same_at, same_job, same_jobs, stands_after}
-use Rattle.mg_jobs.proofs.Knowing.{knowing_on, tasks_after}
-use Rattle.mg_jobs.proofs.Advancing.{at_after}
-use Rattle.mg_jobs.proofs.Drawing.{drawn_on}
+use Rattle.mg_players.specs.declared.player.Player.{Player}
+use Rattle.mg_players.proofs.Apart.{apart_as, on_err, same_at, same_job, same_jobs, stands_after}
+use Rattle.mg_players.proofs.Knowing.{knowing_on, tasks_after}
+use Rattle.mg_players.proofs.Advancing.{at_after}
+use Rattle.mg_players.proofs.Drawing.{drawn_on}
 use Rattle.mg_jobs.proofs.Waiting.{held_turn}
 use Rattle.mg_jobs.proofs.Polling.{polls_turn}
 use Rattle.mg_jobs.proofs.Told.{all_turn, tell_as}
-use Rattle.mg_jobs.specs.Progress.{AllAt}
-use Rattle.mg_jobs.specs.Telling.{AllTell}
+use Rattle.mg_players.specs.Progress.{AllAt}
+use Rattle.mg_players.specs.Telling.{AllTell}
 use Rattle.mg_jobs.proofs.run.Runner.turn.Goals as goal
 
 pub returns-then-at-len-clause-same : goal.returns-then-at-len-clause-same

@@ -1,0 +1,168 @@
+-- What became of a get, by what it tells.
+use Rattle.std.proofs.Common.{◌≡◌, ◌≤◌, ◌++◌, ◌∷◌, [], ℕ, zero, suc, ℤ, false, true, List, length, Option, Some, None, refl, sym, ap, ◌∙◌, subst, inl, inr, arith}
+use Rattle.std.specs.List.{concat}
+use Rattle.std.specs.Prelude.{IsSome, slice_get}
+use Rattle.mg_link.specs.Calls.{HeardBy, IsAwaited, Past}
+use Rattle.mg_link.specs.Link.{Awaited}
+use Rattle.mg_link.specs.Log.{Call, reply}
+use Rattle.mg_link.specs.Owner.{IsOf}
+use Rattle.mg_link.specs.declared.error.Error.{Error}
+use Rattle.mg_link.proofs.Calls.{awaited_by, none_held}
+use Rattle.mg_options.specs.Fields.{Line, fields_in}
+use Rattle.mg_bson.specs.Tree.{Fields, Tree}
+use Rattle.mg_link.specs.Session.{Session}
+use Rattle.mg_ops.specs.Cursors.{Manner, next_command}
+use Rattle.mg_cursor.specs.Causes.{UnderwayBy}
+use Rattle.mg_cursor.specs.Client as client
+use Rattle.mg_cursor.specs.Client.{ClientCursor, get_more}
+use Rattle.mg_records.specs.FileRecords.{FileRecord}
+use Rattle.mg_gridfs.specs.Buckets.{ClientBucket}
+use Rattle.mg_gridfs.specs.Commands.{found_lines, listed_lines}
+use Rattle.mg_gridfs.specs.Downloaded.{IsPlainAt}
+use Rattle.mg_gridfs.specs.Downloads as downloads
+use Rattle.mg_gridfs.specs.Downloads.{ClientDownload}
+use Rattle.mg_gridfs.specs.DownloadView.{download_of, finding_of}
+use Rattle.mg_gridfs.specs.Findings as findings
+use Rattle.mg_gridfs.specs.Findings.{ClientFinding, IsSoundFinding, Looking}
+use Rattle.mg_gridfs.specs.ReadCauses.{HeardRecord, IsOpening, LookingUnderway, cursor_in}
+use Rattle.mg_script.specs.declared.outcome.Ended.{Ended}
+use Rattle.mg_script.specs.declared.outcome.Ended.TheVariants as ended
+use Rattle.mg_players.specs.Causes as causes
+use Rattle.mg_players.specs.Causes.{AllSentIn, AreSentIn, Course, GetCaused, GetFails, GetOpened, GetSent, GetStands, GetWaits, places_of, sent_at}
+use Rattle.mg_players.specs.Gets.{GetTask, IsOpeningFor, get_bucket, get_end, more_chunks, no_manner}
+use Rattle.mg_players.specs.Plays.{Places, all_places}
+use Rattle.mg_players.specs.Progress.{GetEndedAt, GetStageAt, pends_last}
+use Rattle.mg_players.specs.Telling as tells
+use Rattle.mg_players.specs.Telling.{AllSent, GetTells, TellsGetEnd, TellsGetFails, TellsGetOpened, TellsNoCall}
+use Rattle.mg_players.specs.declared.get.GetStage.{GetStage}
+use Rattle.mg_players.specs.declared.get.GetStage.TheVariants as gets
+use Rattle.mg_players.proofs.GetSending.{found_same, listed_same}
+use Rattle.mg_players.proofs.Whole.{only_now}
+use Rattle.mg_players.proofs.Telling.{in_either}
+
+-- ---- the record that was heard, by the words of a bucket that is a copy
+
+pub heard_same : (past : Past) (g : GetTask) (b : ClientBucket) (id : Tree) (found : Option FileRecord) → IsPlainAt b g.at → HeardRecord past b id found → HeardRecord past (get_bucket g.at) id found
+heard_same past g b id found is h = record { bytes = h.bytes; heard = subst (λ (lines : List Line). HeardBy past (fields_in lines) (reply h.bytes)) (found_same g b id is) h.heard; success = h.success; reads_so = h.reads_so }
+
+-- ---- all that it sent
+
+concat_of : (owns : List (List ℕ)) (place : ℕ) → IsOf (concat owns) place → (k : ℕ) × (own : List ℕ) × (slice_get owns k ≡ Some own) × IsOf own place
+concat_of [] place of = absurd of
+concat_of (own ∷ owns) place of = elim (in_either own (concat owns) place of) [
+  | inl here ↦ (0, own, refl, here)
+  | inr there ↦ let r = concat_of owns place there in (suc r.0, r.1, r.2, r.3)
+]
+
+-- each command that it tells of is its own
+pub all_own : (c : Course) (i : ℕ) (q : Places) (n : ℕ) → AllSent c i q n → AreSentIn c i (all_places q)
+all_own c i q n sent place of = elim (in_either q.opened (concat q.owns ++ q.now) place of) [
+  | inl opened ↦ (0, sent.opened place opened)
+  | inr rest ↦ elim (in_either (concat q.owns) q.now place rest) [
+    | inl answered ↦ let r = concat_of q.owns place answered in (suc r.0, sent.owns r.0 r.1 r.2 place r.3)
+    | inr now ↦ (n, sent.now place now)
+  ]
+]
+
+-- ---- why it failed
+
+above : (n : ℕ) → 1 ≤ n → (k : ℕ) × (n ≡ suc k)
+above zero some = absurd (omega (arith, some))
+above (suc n) some = (n, refl)
+
+module _ (c : Course) (i : ℕ) (calls : List Call) (wire : ℤ) (q : Places) (g : GetTask) (done : ℕ) (sent : AllSent c i q done) where
+  abbrev get_opened : (f : FileRecord) (at : Option ℕ) → TellsGetOpened calls wire q g f at → GetOpened c i calls wire g f
+  get_opened f at t = record { places = q.opened; sent = sent.opened; heard = t.heard }
+
+  -- without a call its turns sent what goes on alone
+  alone : TellsNoCall q → q.now ≡ places_of c i
+  alone none = sym (only_now q none.0 none.1) ∙ sent.whole
+
+  unopened_so : TellsNoCall q → done ≡ 0 → GetStands c i calls wire g
+  unopened_so none first = causes.unopened (subst (AllSentIn c i 0) (alone none) (subst (λ (n : ℕ). AllSentIn c i n q.now) first sent.now))
+
+  -- with so many, these
+  all_sent : (k : ℕ) → done ≡ suc k → suc (length q.owns) ≡ done → GetSent c i q.opened k q.now
+  all_sent k is counted = record {
+    owns = q.owns;
+    counted = omega (arith, is, counted);
+    sent_each = sent.owns;
+    sent_now = subst (λ (m : ℕ). AllSentIn c i m q.now) is sent.now;
+    whole = sent.whole;
+  }
+
+  get_fails : (e : Error) → TellsGetFails calls wire q g done e → GetFails c i calls wire g e
+  get_fails e (tells.out_of_memory room) = causes.out_of_memory room
+  get_fails e (tells.has_no_room none is) = causes.has_no_room none is
+  get_fails e (tells.not_opened some silent first fails) = causes.not_opened some q.now (subst (λ (n : ℕ). AllSentIn c i n q.now) first sent.now) fails (alone silent)
+  get_fails e (tells.not_read some more d at opened cursor fails its sound plain counted listed of why) =
+      let n = above done more in
+      causes.not_read some d (get_opened d.file at opened) n.0 q.now (subst (λ (m : ℕ). AllSentIn c i m q.now) n.1 sent.now) cursor fails its sound plain (all_sent n.0 n.1 counted)
+      (record { places = all_places q; sent = all_own c i q done sent; listed = listed; by_opening = sent.opened listed of; why = why })
+
+  get_end_caused : (awaited : Awaited) (end : Ended (Unit {0})) (at : Option ℕ) → (end ≡ ended.Unfinished → ⊥) → TellsGetEnd calls wire q g done at end → GetCaused awaited c i calls wire g end
+  get_end_caused awaited ended.Unfinished at over t = absurd (over refl)
+  get_end_caused awaited (ended.Gave x) at over t = (t.0, t.1, get_opened t.1 at t.2, length q.owns, q.now, all_sent (length q.owns) (sym t.3) t.3)
+  get_end_caused awaited (ended.Failed e) at over t = get_fails e t
+
+-- ---- what it waits for
+
+module _ (awaited : Awaited) (c : Course) (i : ℕ) (calls : List Call) (wire : ℤ) (q : Places) (g : GetTask) where
+  looking_waits : (b : ClientBucket) (id : Tree) (doing : Looking) → AllSentIn c i 0 q.now → q.now ≡ places_of c i → id ≡ g.id → IsPlainAt b g.at → IsSome (findings.ticket_by doing) → LookingUnderway awaited (sent_at q.now calls wire) b id doing → GetWaits awaited c i calls wire g
+  looking_waits b id findings.starts sent whole same is held h = none_held held
+  looking_waits b id (findings.finds sending) sent whole same is held h =
+      causes.for_record q.now sent
+      (subst (λ (x : Tree). IsAwaited awaited (sent_at q.now calls wire) (fields_in (found_lines (get_bucket g.at) x))) same
+      (subst (λ (lines : List Line). IsAwaited awaited (sent_at q.now calls wire) (fields_in lines)) (found_same g b id is) (awaited_by awaited (sent_at q.now calls wire) (fields_in (found_lines b id)) sending.stage h held)))
+      whole
+  looking_waits b id (findings.lists file count sending) sent whole same is held h =
+      causes.for_chunks q.now sent file
+      (subst (λ (x : Tree). HeardRecord (sent_at q.now calls wire) (get_bucket g.at) x (Some file)) same (heard_same (sent_at q.now calls wire) g b id (Some file) is h.1))
+      (subst (λ (lines : List Line). IsAwaited awaited (sent_at q.now calls wire) (fields_in lines)) (listed_same g b file.id is) (awaited_by awaited (sent_at q.now calls wire) (fields_in (listed_lines b file.id)) sending.stage h.0 held))
+      whole
+
+-- more chunks, in the manner and without the session of a plain cursor
+module _ (awaited : Awaited) (past : Past) where
+  cursor_waits : (c : ClientCursor) (doing : client.Doing) → client.SoundBy true c doing → UnderwayBy awaited past c doing → IsSome (client.ticket_by doing) → c.manner ≡ no_manner → IsAwaited awaited past (more_chunks c.id c.space)
+  cursor_waits c client.rests sound h held manner = none_held held
+  cursor_waits c (client.holds bytes) sound h held manner = none_held held
+  cursor_waits c (client.asks sending) sound h held manner =
+      let plain : get_more c h.session ≡ get_more c None = sym h.command_is ∙ sound.waits_on.command_is ∙ ap (λ (s : Option Session). get_more c s) sound.plainly in
+      let command : get_more c h.session ≡ more_chunks c.id c.space = plain ∙ ap (λ (m : Manner). next_command c.id c.space m) manner in
+      subst (λ (d : Fields). IsAwaited awaited past d) command (awaited_by awaited past (get_more c h.session) sending.stage h.flies held)
+
+  doing_waits : (d : ClientDownload) (doing : downloads.Doing) → downloads.SoundBy d doing → ((c : ClientCursor) → cursor_in doing ≡ Some c → UnderwayBy awaited past c c.doing) → ((c : ClientCursor) → cursor_in doing ≡ Some c → c.manner ≡ no_manner) → IsSome (downloads.ticket_by doing) → (c : ClientCursor) × IsAwaited awaited past (more_chunks c.id c.space)
+  doing_waits d (downloads.idle cursor) sound h manner held = (cursor, cursor_waits cursor cursor.doing sound.1 (h cursor refl) held (manner cursor refl))
+  doing_waits d (downloads.reads cursor missing empty) sound h manner held = (cursor, cursor_waits cursor cursor.doing sound.1.sound (h cursor refl) held (manner cursor refl))
+  doing_waits d downloads.ended sound h manner held = none_held held
+  doing_waits d downloads.spoiled sound h manner held = none_held held
+
+-- ---- at any stage
+
+none_waits : (doing : Looking) → doing ≡ findings.starts → IsSome (findings.ticket_by doing) → ⊥
+none_waits doing is held = none_held (subst (λ (x : Looking). IsSome (findings.ticket_by x)) is held)
+
+module _ (awaited : Awaited) (c : Course) (i : ℕ) (calls : List Call) (wire : ℤ) (q : Places) (g : GetTask) where
+  opening_waits : (o : ClientFinding) (bucket : Option ClientBucket) → o.bucket ≡ bucket → AllSentIn c i 0 q.now → q.now ≡ places_of c i → IsOpeningFor g o → IsSoundFinding o → IsOpening awaited (sent_at q.now calls wire) o → IsSome (findings.finding_ticket o) → GetWaits awaited c i calls wire g
+  opening_waits o None is sent whole aim sound h held = absurd (none_waits o.doing (sound.none is) held)
+  opening_waits o (Some b) is sent whole aim sound h held = looking_waits awaited c i calls wire q g b o.id o.doing sent whole aim.id_is (aim.placed b is) held (h b is)
+
+  over_at : (e : Ended (Unit {0})) (done k : ℕ) → GetEndedAt e done k → e ≡ ended.Unfinished → ⊥
+  over_at e done k at is = subst (λ (x : Ended (Unit {0})). GetEndedAt x done k) is at
+
+  pub get_caused : (s : GetStage) (bytes done : ℕ) (at : Option ℕ) (k : ℕ) → AllSent c i q done → GetTells awaited calls wire q g s done at → GetStageAt s bytes done k (pends_last i c.order c.notes) → GetCaused awaited c i calls wire g (get_end s)
+  get_caused gets.Unsent bytes done at k sent t is_at = (λ pended. let bad : false ≡ true = sym is_at.3 ∙ pended in absurd cc, unopened_so c i calls wire q g done sent t.0 is_at.1)
+  get_caused (gets.Opens opening) bytes done at k sent t is_at = (
+    λ pended. opening_waits (finding_of opening) (finding_of opening).bucket refl (subst (λ (n : ℕ). AllSentIn c i n q.now) is_at.1 sent.now) (alone c i calls wire q g done sent t.0) t.1 t.2 t.3 (is_at.3 ∙ pended),
+    unopened_so c i calls wire q g done sent t.0 is_at.1,
+  )
+  get_caused (gets.Reads download room) bytes done at k sent t is_at =
+      let n = above done is_at.1 in
+      let d : ClientDownload = download_of download in
+      let these : GetSent c i q.opened n.0 q.now = all_sent c i calls wire q g done sent n.0 n.1 t.1 in (
+        λ pended.
+            let w = doing_waits awaited (sent_at q.now calls wire) d d.doing t.3.between.sound.by t.2 t.4 (is_at.3 ∙ pended) in
+            causes.for_more n.0 q.now (subst (λ (m : ℕ). AllSentIn c i m q.now) n.1 sent.now) w.0.id w.0.space w.1 d.file (get_opened c i calls wire q g done sent d.file at t.0) these,
+        causes.has_opened d.file (get_opened c i calls wire q g done sent d.file at t.0) n.0 q.now these,
+      )
+  get_caused (gets.Ended end) bytes done at k sent t is_at = get_end_caused c i calls wire q g done sent awaited end at (over_at end done k is_at.0) t

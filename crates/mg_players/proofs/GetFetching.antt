@@ -1,0 +1,446 @@
+-- How the cursor of a read stands behind its batches, and why the read fails.
+use Rattle.std.proofs.Common.{◌≡◌, ◌≢◌, ◌⊎◌, ◌≤◌, ◌++◌, ◌+◌, ◌-◌, ℕ, zero, suc, ℤ, pos, Bool, true, List, [], ◌∷◌, length, take, Some, None, Ok, Err, refl, sym, ap, ◌∙◌, subst, inl, inr, arith, length-append, append_assoc}
+use Rattle.std.specs.List.{concat}
+use Rattle.std.proofs.lemmas.List.Folds.{concat-append}
+use Rattle.mg_bson.specs.Raw.{fields, items}
+use Rattle.mg_bson.specs.Tree.{Fields, Items}
+use Rattle.mg_link.specs.Calls.{Grows, Keeps, Past, past_of}
+use Rattle.mg_link.specs.Commands.{Batch, batch_of}
+use Rattle.mg_link.specs.Errors.{plain}
+use Rattle.mg_link.specs.Exec.{Sending}
+use Rattle.mg_link.specs.Files.{chunks_space}
+use Rattle.mg_link.specs.History.{IsLegal, Step, state_of}
+use Rattle.mg_link.specs.Link.{Awaited, LogTold}
+use Rattle.mg_link.specs.Log.{Call}
+use Rattle.mg_link.specs.Owner.{Passes}
+use Rattle.mg_link.specs.Query.{Query}
+use Rattle.mg_link.specs.Reader.{KnowsRead, Reader, owner_of_reader}
+use Rattle.mg_link.specs.Standing.{Stands}
+use Rattle.mg_link.specs.declared.action.Step.{Step as Polled}
+use Rattle.mg_link.specs.declared.action.Step.TheVariants as came
+use Rattle.mg_link.specs.declared.error.Error.{Error}
+use Rattle.mg_link.specs.declared.error.ErrorKind.TheVariants as kind
+use Rattle.mg_link.proofs.Calls.{keeps_longer, log_grows}
+use Rattle.mg_link.proofs.Owners.{same_some}
+use Rattle.mg_link.proofs.Pasts.{heard_reply}
+use Rattle.mg_ops.specs.Cursors.{Cursor, batch_at, cursor_of}
+use Rattle.mg_ops.proofs.Asking.{asks_for_more}
+use Rattle.mg_ops.proofs.Replying.{same_id}
+use Rattle.mg_cursor.specs.Batches.{NoBatchIn}
+use Rattle.mg_cursor.specs.Causes.{HeardMore, IsUnderway, NextCame}
+use Rattle.mg_cursor.specs.Client as client
+use Rattle.mg_cursor.specs.Client.{ClientCursor, IsAsking, IsSound, get_more}
+use Rattle.mg_cursor.specs.Polling.{Hears, PollsNext, ReadsReply, begins, broke, gave, goes_on, hands_out, is_over, not_built}
+use Rattle.mg_cursor.specs.Reading.{batch_documents, in_reply, reader_in, told_next}
+use Rattle.mg_cursor.specs.declared.polls.NextPoll.{NextPoll}
+use Rattle.mg_cursor.specs.declared.polls.NextPoll.TheVariants as next
+use Rattle.mg_cursor.proofs.Advancing as advancing
+use Rattle.mg_cursor.proofs.Advancing.{passes_next}
+use Rattle.mg_cursor.proofs.Caused.{next_caused}
+use Rattle.mg_cursor.proofs.Keeping.{sound_in_any, sound_next}
+use Rattle.mg_cursor.proofs.Reading.{next_read}
+use Rattle.mg_cursor.proofs.SeekCaused.{fails_grow, since_grows, underway_grow, underway_rest}
+use Rattle.mg_records.specs.FileRecords.{FileRecord, chunk_count_of}
+use Rattle.mg_gridfs.specs.Downloaded.{AreReceived, KnowsChunks, chunks_query}
+use Rattle.mg_gridfs.specs.Downloads.{ClientDownload, Doing, all_judged, ended, idle, most_empty, reads, spoiled}
+use Rattle.mg_gridfs.specs.Reads as steps
+use Rattle.mg_gridfs.specs.Reads.{EndsFetch, Fetched, Fetches, SpoilsBatch, TakesOne, enough, fails, no_more, none_missing, not_taken, over, pends, waits, with_chunks}
+use Rattle.mg_gridfs.proofs.Downloading.{next_named, next_rests, same_cursor, taken_as}
+use Rattle.mg_gridfs.proofs.Fronts.{nobody_onward}
+use Rattle.mg_gridfs.proofs.Received.{batch_is, received_behind, reply_documents}
+use Rattle.mg_players.specs.Gets.{GetTask, chunks_find}
+use Rattle.mg_players.specs.Spares as stops
+use Rattle.mg_players.specs.Spares.{IsListed, IsQueried, ReadStops, SparesWhole, WherePrompt, empties}
+use Rattle.mg_players.proofs.GetListing.{batch_fine, batch_there, documents_same, documents_there, list_asks, list_step, more_step, spared_by, told_named}
+use Rattle.mg_players.proofs.GetSpared.{listed_grow}
+use Rattle.mg_players.proofs.GetSteps.{more_over, more_same, prompt_at, query_at, query_prompt}
+
+-- ---- one poll
+
+-- nothing came, and nothing failed
+abbrev IsQuiet : NextPoll → Type 0
+IsQuiet next.Pending = Unit {0}
+IsQuiet (next.Batch reply) = ⊥
+IsQuiet next.End = Unit {0}
+IsQuiet (next.Failed e) = ⊥
+
+-- the same cursor, or one that asks
+abbrev GoesQuietly : ClientCursor → ClientCursor → Type 0
+GoesQuietly c c' = (c' ≡ c) ⊎ ((sending : Sending) × (c' ≡ record c { doing = client.asks sending }))
+
+quiet_reply : (c c' : ClientCursor) (reply : List ℕ) (r : NextPoll) → IsQuiet r → ReadsReply c reply c' r → GoesQuietly c c'
+quiet_reply c c' reply r quiet (gave said says is answer) = absurd (subst IsQuiet answer quiet)
+quiet_reply c c' reply r quiet (broke e fails_so is answer) = absurd (subst IsQuiet answer quiet)
+
+quiet_heard : (c c' : ClientCursor) (s : Polled Sending (List ℕ)) (r : NextPoll) → IsQuiet r → Hears c s c' r → GoesQuietly c c'
+quiet_heard c c' (came.Pending sending) r quiet h = inr (sending, h.0)
+quiet_heard c c' (came.Done reply) r quiet h = quiet_reply c c' reply r quiet h
+quiet_heard c c' (came.Failed e) r quiet h = absurd (subst IsQuiet h.1 quiet)
+
+quietly : (old new : Awaited) (log log' : LogTold) (wire : ℤ) (started : Bool) (c c' : ClientCursor) (r : NextPoll) → IsQuiet r → PollsNext old new log log' wire None started c c' r → GoesQuietly c c'
+quietly old new log log' wire started c c' r quiet (hands_out reply at none same is answer) = absurd (subst IsQuiet answer quiet)
+quietly old new log log' wire started c c' r quiet (is_over at has_ended none same is answer) = inl is
+quietly old new log log' wire started c c' r quiet (not_built at may e fails_so none same is answer) = absurd (subst IsQuiet answer quiet)
+quietly old new log log' wire started c c' r quiet (begins at may sending new_one asked) = quiet_heard c c' asked.came r quiet asked.hears
+quietly old new log log' wire started c c' r quiet (goes_on sending at asked) = quiet_heard c c' asked.came r quiet asked.hears
+
+-- a batch came: the one in hand, or one that was asked for
+batch_from : (old new : Awaited) (log log' : LogTold) (wire : ℤ) (started : Bool) (c c' : ClientCursor) (reply : List ℕ) → IsSound true c → PollsNext old new log log' wire None started c c' (next.Batch reply) → (c.doing ≡ client.holds reply) ⊎ (c.id ≢ pos 0)
+batch_from old new log log' wire started c c' reply sound (hands_out bytes at none same is answer) = let e : bytes ≡ reply = same_reply answer in inl (at ∙ ap (λ (b : List ℕ). client.holds b) e)
+  where
+    same_reply : next.Batch reply ≡ next.Batch bytes → bytes ≡ reply
+    same_reply is = cc
+batch_from old new log log' wire started c c' reply sound (is_over at has_ended none same is answer) = absurd (let bad : next.Batch reply ≡ next.End = answer in cc)
+batch_from old new log log' wire started c c' reply sound (not_built at may e fails_so none same is answer) = absurd (let bad : next.Batch reply ≡ next.Failed e = answer in cc)
+batch_from old new log log' wire started c c' reply sound (begins at may sending new_one asked) = inr may.held
+batch_from old new log log' wire started c c' reply sound (goes_on sending at asked) = let on : IsAsking true c sending = subst (client.SoundBy true c) at sound in inr on.may.held
+
+-- ---- the cursor behind it
+
+module _ (g : GetTask) where
+  -- where it goes quietly
+  quiet_listed : (past : Past) (d : ClientDownload) (empty : ℕ) (c c' : ClientCursor) → GoesQuietly c c' → IsListed past g d.file empty c → IsListed past g d.file empty c'
+  quiet_listed past d empty c c' (inl same) l = subst (λ (x : ClientCursor). IsListed past g d.file empty x) (sym same) l
+  quiet_listed past d empty c c' (inr asks) l =
+      subst (λ (x : ClientCursor). IsListed past g d.file empty x) (sym asks.1)
+      (record {
+        named = l.named;
+        told = record { command = l.told.command; bytes = l.told.bytes; heard = l.told.heard; said = l.told.said; says = l.told.says; id_is = l.told.id_is; space_is = l.told.space_is; plain = l.told.plain };
+        held = λ bytes is. let bad : client.asks asks.0 ≡ client.holds bytes = is in absurd cc;
+        queried = l.queried;
+        over = l.over;
+      })
+
+  -- behind no empty reply
+  listed_first : (past : Past) (d : ClientDownload) (empty : ℕ) (c : ClientCursor) → c.doing ≡ client.rests → IsListed past g d.file empty c → IsListed past g d.file 0 c
+  listed_first past d empty c rests l = record {
+    named = l.named;
+    told = l.told;
+    held = λ bytes is. let bad : client.rests ≡ client.holds bytes = sym rests ∙ is in absurd cc;
+    queried = l.queried;
+    over = λ some. absurd (omega (arith, some));
+  }
+
+-- ---- behind a batch
+
+module _ (g : GetTask) (past : Past) (f : FileRecord) (empty : ℕ) (c : ClientCursor) (l : IsListed past g f empty c) (reply : List ℕ) where
+  -- the batch that a reply told, in each legal history
+  batch_legal : (c.doing ≡ client.holds reply) ⊎ HeardMore past c reply → (history : List Step) → IsLegal history → Stands past.calls history → (b : Batch) × (batch_of (fields reply) ≡ Some b)
+  batch_legal (inl at) history legal stands =
+      let s = list_step past history legal stands g f c reply l.named (l.held reply at).1 in
+      (s.1.batch, ap (λ (b : List ℕ). batch_of (fields b)) s.0.reply_is ∙ s.1.there)
+  batch_legal (inr h) history legal stands =
+      let s = more_step past history legal stands c reply (told_named past c l.told) h in
+      (s.1.batch, ap (λ (b : List ℕ). batch_of (fields b)) s.0.reply_is ∙ s.1.there)
+
+  -- the reply in hand opened the cursor
+  held_id : (at : c.doing ≡ client.holds reply) (b : Batch) → batch_of (fields reply) ≡ Some b → c.id ≡ b.id
+  held_id at b there = let h = (l.held reply at).1 in h.id_is ∙ same_id (fields reply) h.said b h.says there
+
+  -- it has ended behind an empty one, where it was answered at once
+  held_over : c.doing ≡ client.holds reply → batch_documents reply ≡ [] → WherePrompt past (c.id ≡ pos 0)
+  held_over at none history legal stands own among prompt =
+      let h = (l.held reply at).1 in
+      let s = list_step past history legal stands g f c reply l.named h in
+      let q : Query = chunks_query (chunks_space g.at) f.id in
+      let p = prompt_at past history own legal prompt among (chunks_find g f.id) reply h.heard s.0 in
+      let there : batch_of (fields reply) ≡ Some s.1.batch = ap (λ (b : List ℕ). batch_of (fields b)) s.0.reply_is ∙ s.1.there in
+      let nothing : s.1.batch.events ≡ [] = sym (documents_same reply s.1.batch there) ∙ none in
+      let back = query_prompt s.0.step p q (list_asks g f.id s.0.step.command l.named s.0.command_is) s.1 in
+      held_id at s.1.batch there ∙ back.ends (back.some (λ bad. cc) nothing)
+
+  -- the same of one that was asked for
+  more_ended : (h : HeardMore past c reply) (said : Cursor) → cursor_of (fields reply) ≡ Ok said → batch_documents reply ≡ [] → WherePrompt past (said.id ≡ pos 0)
+  more_ended h said says none history legal stands own among prompt =
+      let named = told_named past c l.told in
+      let s = more_step past history legal stands c reply named h in
+      let p = prompt_at past history own legal prompt among (get_more c h.session) reply h.heard s.0 in
+      let there : batch_of (fields reply) ≡ Some s.1.batch = ap (λ (b : List ℕ). batch_of (fields b)) s.0.reply_is ∙ s.1.there in
+      let nothing : s.1.batch.events ≡ [] = sym (documents_same reply s.1.batch there) ∙ none in
+      same_id (fields reply) said s.1.batch says there
+      ∙ more_over s.0.step p c.id c.space (asks_for_more s.0.step.command c.id c.space c.manner.size c.manner.wait c.manner.comment h.session named s.0.command_is) (λ x stood. query_at history s.0.position c.id legal (l.queried history legal stands) x stood) s.1 nothing
+
+  -- the cursor that it tells is the same, or none
+  more_queried : (h : HeardMore past c reply) (said : Cursor) → cursor_of (fields reply) ≡ Ok said → (history : List Step) → IsLegal history → Stands past.calls history → said.id ≢ pos 0 → IsQueried history said.id
+  more_queried h said says history legal stands ne =
+      let s = more_step past history legal stands c reply (told_named past c l.told) h in
+      let there : batch_of (fields reply) ≡ Some s.1.batch = ap (λ (b : List ℕ). batch_of (fields b)) s.0.reply_is ∙ s.1.there in
+      let same = same_id (fields reply) said s.1.batch says there in
+      elim (more_same s.0.step (state_of (take s.0.position history)) c.id s.1) [
+        | inl on ↦ subst (IsQueried history) (sym (same ∙ on)) (l.queried history legal stands (λ z. ne (same ∙ on ∙ z)))
+        | inr over_so ↦ absurd (ne (same ∙ over_so))
+      ]
+
+  -- the cursor behind it, where so many were empty since
+  listed_behind : (c' : ClientCursor) (empty' : ℕ) → advancing.Passes (HeardMore past c reply) reply c c' → (1 ≤ empty' → batch_documents reply ≡ []) → IsListed past g f empty' c'
+  listed_behind c' empty' (advancing.was_held at is) none =
+      subst (λ (x : ClientCursor). IsListed past g f empty' x) (sym is)
+      (record {
+        named = l.named;
+        told = record { command = l.told.command; bytes = l.told.bytes; heard = l.told.heard; said = l.told.said; says = l.told.says; id_is = l.told.id_is; space_is = l.told.space_is; plain = l.told.plain };
+        held = λ bytes holding. let bad : client.rests ≡ client.holds bytes = holding in absurd cc;
+        queried = l.queried;
+        over = λ some. held_over at (none some);
+      })
+  listed_behind c' empty' (advancing.by_reply said h says is) none =
+      subst (λ (x : ClientCursor). IsListed past g f empty' x) (sym is)
+      (record {
+        named = l.named;
+        told = record { command = get_more c h.session; bytes = reply; heard = h.heard; said = said; says = says; id_is = refl; space_is = refl; plain = l.told.plain };
+        held = λ bytes holding. let bad : client.rests ≡ client.holds bytes = holding in absurd cc;
+        queried = λ history legal stands ne. more_queried h said says history legal stands ne;
+        over = λ some. more_ended h said says (none some);
+      })
+
+  -- it is not one empty one too many, where the steps were answered at once
+  never_many : (c.doing ≡ client.holds reply) ⊎ (c.id ≢ pos 0) → most_empty ≤ suc empty → WherePrompt past ⊥
+  never_many (inl at) many history legal stands own among prompt = let first = (l.held reply at).0 in absurd (omega (arith, many, first))
+  never_many (inr alive) many history legal stands own among prompt = alive (l.over (omega (arith, many)) history legal stands own among prompt)
+
+-- ---- all batches of a poll
+
+-- a batch is taken
+taken_so : (chunks : List (List ℕ)) (c : ClientCursor) (missing empty : ℕ) (d d' : ClientDownload) → d' ≡ with_chunks chunks c missing empty d → (m : ℕ) × (k : ℕ) × (d'.doing ≡ reads c m k) × (1 ≤ k → chunks ≡ [])
+taken_so [] c missing empty d d' is = (missing, suc empty, ap (λ (x : ClientDownload). x.doing) is, λ some. refl)
+taken_so (b ∷ bs) c missing empty d d' is = (missing - length (concat (b ∷ bs)), 0, ap (λ (x : ClientDownload). x.doing) is, λ some. absurd (omega (arith, some)))
+
+abbrev missing_of : Doing → ℕ
+missing_of (idle c) = 0
+missing_of (reads c missing empty) = missing
+missing_of ended = 0
+missing_of spoiled = 0
+
+same_empty : (c c' : ClientCursor) (m m' k k' : ℕ) → reads c m k ≡ reads c' m' k' → k ≡ k'
+same_empty c c' m m' k k' e = ap empties e
+
+same_missing : (c c' : ClientCursor) (m m' k k' : ℕ) → reads c m k ≡ reads c' m' k' → m ≡ m'
+same_missing c c' m m' k k' e = ap missing_of e
+
+-- no documents where there are no chunks
+none_received : (f : FileRecord) (n : ℕ) (cs : List (List ℕ)) (ds : List Fields) → cs ≡ [] → AreReceived f n cs ds → ds ≡ []
+none_received f n cs [] is a = refl
+none_received f n cs (d ∷ ds) is a = absurd (subst (λ (l : List (List ℕ)). AreReceived f n l (d ∷ ds)) is a)
+
+-- as many documents as chunks
+pub received_many : (f : FileRecord) (n : ℕ) (cs : List (List ℕ)) (ds : List Fields) → AreReceived f n cs ds → length cs ≡ length ds
+received_many f n [] [] a = refl
+received_many f n [] (d ∷ ds) a = absurd a
+received_many f n (c ∷ cs) [] a = absurd a
+received_many f n (c ∷ cs) (d ∷ ds) a = ap suc (received_many f (suc n) cs ds a.1)
+
+module _ (g : GetTask) (P : List ℕ) (L : ℕ) (wire : ℤ) (bytes : List ℕ) (place listed : ℕ) where
+  -- what has come of it
+  abbrev pub FetchStops : Awaited → List Call → ClientDownload → ClientDownload → Fetched → Type 0
+  FetchStops new calls d d' waits = (c : ClientCursor) × (m : ℕ) × (k : ℕ) × (d'.doing ≡ reads c m k) × IsListed (past_of P L calls wire) g d.file k c
+  FetchStops new calls d d' enough = (c : ClientCursor) × (d'.doing ≡ idle c) × IsListed (past_of P L calls wire) g d.file 0 c
+  FetchStops new calls d d' (fails e) = ReadStops (past_of P L calls wire) (SparesWhole calls g.at g.id d.file listed) e
+
+  pub record FetchStopped (log' : LogTold) (new : Awaited) (d d' : ClientDownload) (f : Fetched) : Type 0 where
+    pub calls' : List Call
+    pub told : log' ≡ Some calls'
+    pub after : FetchStops new calls' d d' f
+
+  -- where it stands before a batch
+  pub record StandsAt (old : Awaited) (log : LogTold) (calls : List Call) (d : ClientDownload) (c : ClientCursor) (m k : ℕ) : Type 0 where
+    pub doing : d.doing ≡ reads c m k
+    pub sound : IsSound true c
+    pub rests_so : m ≡ 0 → c.doing ≡ client.rests
+    pub know : KnowsChunks old calls g.at d bytes c place listed
+    pub told : log ≡ Some calls
+    pub room : L ≤ length calls
+    pub under : IsUnderway old (past_of P (length calls) calls wire) c
+    pub lists : IsListed (past_of P L calls wire) g d.file k c
+    pub counted : chunk_count_of d.file.length d.file.chunk_size ≡ Ok d.count
+
+  module _ (old new : Awaited) (log log' : LogTold) (calls : List Call) (d d' : ClientDownload) (c : ClientCursor) (m k : ℕ) (s : StandsAt old log calls d c m k) where
+    -- the log behind a poll, and what is known and was heard there
+    record PolledTo (behind : ClientCursor) (r : NextPoll) : Type 0 where
+      calls' : List Call
+      told : log' ≡ Some calls'
+      keeps : Keeps calls calls'
+      came : NextCame new (past_of P L calls' wire) None c behind r
+      knows : KnowsRead calls' (reader_in new behind (told_next r s.know.reader))
+      lists : IsListed (past_of P L calls' wire) g d.file k c
+
+    came_grows : (past past' : Past) → Grows past past' → (behind : ClientCursor) (r : NextPoll) → NextCame new past None c behind r → NextCame new past' None c behind r
+    came_grows past past' grows behind next.Pending h = underway_grow past past' grows new behind behind.doing h
+    came_grows past past' grows behind (next.Batch reply) (inl at) = inl at
+    came_grows past past' grows behind (next.Batch reply) (inr h) = inr (record { session = h.session; heard = heard_reply past past' grows (get_more c h.session) reply h.heard; success = h.success })
+    came_grows past past' grows behind next.End h = h
+    came_grows past past' grows behind (next.Failed e) (inl cannot) = inl cannot
+    came_grows past past' grows behind (next.Failed e) (inr fails_so) = inr (fails_grow past past' grows c e fails_so)
+
+    polled : (started : Bool) (behind : ClientCursor) (r : NextPoll) → PollsNext old new log log' wire None started c behind r → PolledTo behind r
+    polled started behind r polls =
+        let x = next_caused old new log log' wire None started c behind r (sound_in_any true c s.sound) polls calls s.told P s.under in
+        let n = next_read true old new log log' wire None started c behind r s.sound s.know.named polls s.know.reader calls s.told in
+        let same : n.0 ≡ x.0 = same_some n.0 x.0 (sym n.1 ∙ x.1) in
+        let passes : Passes calls x.0 (owner_of_reader (reader_in old c s.know.reader)) (owner_of_reader (reader_in new behind (told_next r s.know.reader)))
+        = subst (λ (l : List Call). Passes calls l (owner_of_reader (reader_in old c s.know.reader)) (owner_of_reader (reader_in new behind (told_next r s.know.reader)))) same (n.2.passes s.know.knows) in
+        let onward = nobody_onward calls x.0 (owner_of_reader (reader_in old c s.know.reader)) (owner_of_reader (reader_in new behind (told_next r s.know.reader))) passes in
+        record {
+          calls' = x.0;
+          told = x.1;
+          keeps = x.2;
+          came = came_grows (past_of P (length calls) x.0 wire) (past_of P L x.0 wire) (since_grows P L (length calls) x.0 wire s.room) behind r x.3;
+          knows = subst (λ (l : List Call). KnowsRead l (reader_in new behind (told_next r s.know.reader))) same (n.2.knows s.know.knows);
+          lists = listed_grow (past_of P L calls wire) (past_of P L x.0 wire) (log_grows P L calls x.0 wire x.2) onward g d.file k c s.lists;
+        }
+
+    at_c : (started : Bool) (x behind : ClientCursor) (r : NextPoll) (m' k' : ℕ) → d.doing ≡ reads x m' k' → PollsNext old new log log' wire None started x behind r → PollsNext old new log log' wire None started c behind r
+    at_c started x behind r m' k' there polls = subst (λ (y : ClientCursor). PollsNext old new log log' wire None started y behind r) (same_cursor x c m' m k' k (sym there ∙ s.doing)) polls
+
+    -- why it stops behind a batch that is not taken
+    module _ (behind : ClientCursor) (reply : List ℕ) (p : PolledTo behind (next.Batch reply)) where
+      abbrev reader' : Reader
+      reader' = reader_in new behind (told_next (next.Batch reply) s.know.reader)
+
+      given_many : length s.know.reader.given ≡ d.taken
+      given_many = sym (received_many d.file 0 s.know.chunks s.know.reader.given s.know.received) ∙ sym s.know.taken
+
+      legal_batch : (history : List Step) → IsLegal history → Stands p.calls' history → (b : Batch) × (batch_of (fields reply) ≡ Some b)
+      legal_batch = batch_legal g (past_of P L p.calls' wire) d.file k c p.lists reply p.came
+
+      spares_none : (e : Error) → NoBatchIn (fields reply) e → SparesWhole p.calls' g.at g.id d.file listed
+      spares_none e none =
+          spared_by p.calls' g.at g.id d.file listed reader' p.knows s.know.none_lost s.know.queries s.know.asked_at
+          (λ whole size long same some left are history legal stands over_so. let b = legal_batch history legal stands in batch_there reply b.0 e b.1 none)
+
+      spares_differs : (e : Error) (batch : Items) → batch_at (fields reply) ≡ Ok batch → all_judged d.file d.taken batch ≡ Err e → SparesWhole p.calls' g.at g.id d.file listed
+      spares_differs e batch at bad =
+          spared_by p.calls' g.at g.id d.file listed reader' p.knows s.know.none_lost s.know.queries s.know.asked_at
+          (λ whole size long same some left are history legal stands over_so.
+          let b = legal_batch history legal stands in
+          batch_fine d.file d.count whole size long same some s.counted s.know.reader.given (batch_documents reply) ([] ++ in_reply behind.doing) left are batch (documents_there reply b.0 batch b.1 at) e (ap (λ (n : ℕ). all_judged d.file n batch) given_many ∙ bad))
+
+      stops_so : (e : Error) → (c.doing ≡ client.holds reply) ⊎ (c.id ≢ pos 0) → (e ≡ plain kind.OutOfMemory) ⊎ SpoilsBatch k reply d e → ReadStops (past_of P L p.calls' wire) (SparesWhole p.calls' g.at g.id d.file listed) e
+      stops_so e from (inl memory) = stops.no_memory (ap (λ (x : Error). x.kind) memory)
+      stops_so e from (inr (steps.no_batch none)) = stops.differs (spares_none e none)
+      stops_so e from (inr (steps.differs batch at bad)) = stops.differs (spares_differs e batch at bad)
+      stops_so e from (inr (steps.too_many none many is)) = stops.too_many (never_many g (past_of P L p.calls' wire) d.file k c p.lists reply from many)
+
+    -- what ends the taking
+    ends_stopped : (f : Fetched) → EndsFetch old new log log' wire d d' f → FetchStopped log' new d d' f
+    ends_stopped f (none_missing x empty there quiet is answer) =
+        let same = same_cursor x c 0 m empty k (sym there ∙ s.doing) in
+        let none : m ≡ 0 = sym (same_missing x c 0 m empty k (sym there ∙ s.doing)) in
+        record {
+          calls' = calls;
+          told = quiet.log_same ∙ s.told;
+          after = subst (FetchStops new calls d d') (sym answer) (c, ap (λ (y : ClientDownload). y.doing) is ∙ ap (λ (y : ClientCursor). idle y) same, listed_first g (past_of P L calls wire) d k c (s.rests_so none) s.lists);
+        }
+    ends_stopped f (over x m' k' there short started behind polls is answer) =
+        let here = at_c started x behind next.End m' k' there polls in
+        let p = polled started behind next.End here in
+        let rests = next_rests old new log log' wire started c behind next.End tt here in
+        record {
+          calls' = p.calls';
+          told = p.told;
+          after = subst (FetchStops new p.calls' d d') (sym answer)
+              (behind, ap (λ (y : ClientDownload). y.doing) is, listed_first g (past_of P L p.calls' wire) d k behind rests (quiet_listed g (past_of P L p.calls' wire) d k c behind (quietly old new log log' wire started c behind next.End tt here) p.lists));
+        }
+    ends_stopped f (pends x m' k' there short started behind polls is answer) =
+        let here = at_c started x behind next.Pending m' k' there polls in
+        let p = polled started behind next.Pending here in
+        let same = same_empty x c m' m k' k (sym there ∙ s.doing) in
+        record {
+          calls' = p.calls';
+          told = p.told;
+          after = subst (FetchStops new p.calls' d d') (sym answer)
+              (behind, m', k', ap (λ (y : ClientDownload). y.doing) is, subst (λ (n : ℕ). IsListed (past_of P L p.calls' wire) g d.file n behind) (sym same) (quiet_listed g (past_of P L p.calls' wire) d k c behind (quietly old new log log' wire started c behind next.Pending tt here) p.lists));
+        }
+    ends_stopped f (no_more x m' k' there short started behind e polls is answer) =
+        let p = polled started behind (next.Failed e) (at_c started x behind (next.Failed e) m' k' there polls) in
+        record { calls' = p.calls'; told = p.told; after = subst (FetchStops new p.calls' d d') (sym answer) (why_none p) }
+      where
+        why_none : (p : PolledTo behind (next.Failed e)) → ReadStops (past_of P L p.calls' wire) (SparesWhole p.calls' g.at g.id d.file listed) e
+        why_none p = elim p.came [
+          | inl cannot ↦ elim cannot [
+            | inl memory ↦ stops.no_memory (ap (λ (y : Error). y.kind) memory)
+            | inr by ↦ stops.not_built c p.lists.told by
+          ]
+          | inr fails_so ↦ stops.no_batch c p.lists.told fails_so
+        ]
+    ends_stopped f (not_taken x m' k' there short started behind reply e polls why is answer) =
+        let here = at_c started x behind (next.Batch reply) m' k' there polls in
+        let p = polled started behind (next.Batch reply) here in
+        let same = same_empty x c m' m k' k (sym there ∙ s.doing) in
+        record {
+          calls' = p.calls';
+          told = p.told;
+          after = subst (FetchStops new p.calls' d d') (sym answer)
+              (stops_so behind reply p e (batch_from old new log log' wire started c behind reply s.sound here) (subst (λ (n : ℕ). (e ≡ plain kind.OutOfMemory) ⊎ SpoilsBatch n reply d e) same why));
+        }
+
+    -- one more batch is taken
+    record TakenTo (d1 : ClientDownload) : Type 0 where
+      calls1 : List Call
+      cursor : ClientCursor
+      missing : ℕ
+      empty : ℕ
+      stands : StandsAt new log' calls1 d1 cursor missing empty
+      file : d1.file ≡ d.file
+
+    took_one : (d1 : ClientDownload) → TakesOne old new log log' wire d d1 → TakenTo d1
+    took_one d1 one =
+        let t = one.takes in
+        let polls = at_c one.started one.cursor one.behind (next.Batch one.reply) one.missing one.empty one.at one.polls in
+        let p = polled one.started one.behind (next.Batch one.reply) polls in
+        let past : Past = past_of P L p.calls' wire in
+        let b = batch_is d.file d.taken (items t.array) t.chunks t.in_order in
+        let these = reply_documents one.reply t.array b.documents t.is_array t.bytes_are b.these in
+        let gets = taken_as t.chunks one.behind one.missing one.empty d d1 t.taken in
+        let so = taken_so t.chunks one.behind one.missing one.empty d d1 t.taken in
+        let know = s.know in
+        let number : d.taken ≡ 0 + length know.chunks = (let e = know.taken in omega arith) in
+        let behind_them = received_behind d.file 0 know.chunks t.chunks know.reader.given b.documents know.received (subst (λ (n : ℕ). AreReceived d.file n t.chunks b.documents) number b.received) in
+        let passes = passes_next (HeardMore past c one.reply) one.reply c one.behind (next.Batch one.reply) refl old new log log' wire None one.started p.came polls in
+        let longer = keeps_longer calls p.calls' p.keeps in
+        let room = s.room in
+        let rests = next_rests old new log log' wire one.started c one.behind (next.Batch one.reply) tt polls in
+        record {
+          calls1 = p.calls';
+          cursor = one.behind;
+          missing = so.0;
+          empty = so.1;
+          file = gets.file;
+          stands = record {
+            doing = so.2;
+            sound = sound_next true old new log log' wire None one.started c one.behind (next.Batch one.reply) s.sound refl polls;
+            rests_so = λ none. rests;
+            know = record {
+              named = next_named old new log log' wire one.started c one.behind (next.Batch one.reply) tt know.named polls;
+              reader = told_next (next.Batch one.reply) know.reader;
+              later = know.later;
+              asked_at = know.asked_at;
+              queries = subst (λ f. know.reader.query ≡ chunks_query (chunks_space g.at) f.id) (sym gets.file) know.queries;
+              knows = p.knows;
+              none_lost = know.none_lost;
+              not_refused = know.not_refused;
+              chunks = know.chunks ++ t.chunks;
+              received = subst (λ f. AreReceived f 0 (know.chunks ++ t.chunks) (know.reader.given ++ batch_documents one.reply)) (sym gets.file)
+                  (subst (λ (ds : List Fields). AreReceived d.file 0 (know.chunks ++ t.chunks) (know.reader.given ++ ds)) (sym these) behind_them);
+              taken = gets.taken ∙ ap (λ (n : ℕ). n + length t.chunks) know.taken ∙ sym (length-append know.chunks t.chunks);
+              parts = concat-append know.chunks t.chunks ∙ ap (λ (l : List ℕ). l ++ concat t.chunks) know.parts ∙ append_assoc bytes d.ahead (concat t.chunks) ∙ ap (λ (l : List ℕ). bytes ++ l) (sym gets.ahead);
+            };
+            told = p.told;
+            room = omega (arith, room, longer);
+            under = underway_rest new (past_of P (length p.calls') p.calls' wire) one.behind rests;
+            lists = subst (λ (f : FileRecord). IsListed past g f so.1 one.behind) (sym gets.file)
+                (listed_behind g past d.file k c p.lists one.reply one.behind so.1 passes (λ some. these ∙ none_received d.file d.taken t.chunks b.documents (so.3 some) b.received));
+            counted = subst (λ (f : FileRecord). chunk_count_of f.length f.chunk_size ≡ Ok d1.count) (sym gets.file) (s.counted ∙ ap (λ (n : ℕ). Ok n) (sym gets.count));
+          };
+        }
+
+  fetch_file : (new : Awaited) (calls : List Call) (d d1 d' : ClientDownload) (f : Fetched) → d1.file ≡ d.file → FetchStops new calls d1 d' f → FetchStops new calls d d' f
+  fetch_file new calls d d1 d' waits same h = (h.0, h.1, h.2, h.3, subst (λ (f : FileRecord). IsListed (past_of P L calls wire) g f h.2 h.0) same h.4)
+  fetch_file new calls d d1 d' enough same h = (h.0, h.1, subst (λ (f : FileRecord). IsListed (past_of P L calls wire) g f 0 h.0) same h.2)
+  fetch_file new calls d d1 d' (fails e) same h = subst (λ (f : FileRecord). ReadStops (past_of P L calls wire) (SparesWhole calls g.at g.id f listed) e) same h
+
+  pub fetches_stopped : (n : ℕ) (old new : Awaited) (log log' : LogTold) (calls : List Call) (d d' : ClientDownload) (c : ClientCursor) (m k : ℕ) (f : Fetched) → StandsAt old log calls d c m k → Fetches n old new log log' wire d d' f → FetchStopped log' new d d' f
+  unfolding Fetches
+  fetches_stopped zero old new log log' calls d d' c m k f s ends = ends_stopped old new log log' calls d d' c m k s f ends
+  fetches_stopped (suc n) old new log log' calls d d' c m k f s more =
+      let one = took_one old more.0 log more.1 calls d more.2 c m k s more.2 more.3 in
+      let rest = fetches_stopped n more.0 new more.1 log' one.calls1 more.2 d' one.cursor one.missing one.empty f one.stands more.4 in
+      record { calls' = rest.calls'; told = rest.told; after = fetch_file new rest.calls' d more.2 d' f one.file rest.after }

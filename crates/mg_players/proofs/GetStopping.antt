@@ -1,0 +1,180 @@
+-- What a poll of a get's read leaves: how its cursor stands, or why it failed.
+use Rattle.std.proofs.Common.{◌≡◌, ◌≢◌, ◌++◌, ◌+◌, ℕ, ℤ, pos, Bool, true, false, List, [], length, Some, None, Ok, refl, sym, ap, ◌∙◌, subst, inl, arith, append-nil}
+use Rattle.std.specs.Ordering.{int_eq}
+use Rattle.std.proofs.lemmas.Bool.Decides.{Decides-int_eq}
+use Rattle.mg_bson.specs.Tree.{Fields}
+use Rattle.mg_link.specs.Calls.{Past, past_of}
+use Rattle.mg_link.specs.Files.{AreChunks, chunked}
+use Rattle.mg_link.specs.Link.{Awaited, LogTold}
+use Rattle.mg_link.specs.Log.{Call}
+use Rattle.mg_link.specs.Query.{Query}
+use Rattle.mg_link.proofs.Owners.{same_some}
+use Rattle.mg_cursor.specs.Client as client
+use Rattle.mg_cursor.specs.Client.{ClientCursor, HasNext}
+use Rattle.mg_cursor.specs.Reading.{in_reply, reader_in}
+use Rattle.mg_records.specs.FileRecords.{FileRecord, chunk_count, chunk_count_of}
+use Rattle.mg_gridfs.specs.Downloaded.{KnowsBy, KnowsChunks, KnowsDownload}
+use Rattle.mg_gridfs.specs.Downloads.{ClientDownload, Doing, IsSoundDownload, SoundBy, idle, reads}
+use Rattle.mg_gridfs.specs.ReadCauses.{IsFetching, cursor_in}
+use Rattle.mg_gridfs.specs.Reads as steps
+use Rattle.mg_gridfs.specs.Reads.{Concludes, Fetched, Fills, HandsOut, Reads, ReadsNone, enough, fails, waits}
+use Rattle.mg_gridfs.specs.declared.polls.ReadPoll.{ReadPoll}
+use Rattle.mg_gridfs.specs.declared.polls.ReadPoll.TheVariants as read
+use Rattle.mg_gridfs.proofs.Downloading.{AfterFetch, doing_known, fetches_known, fetches_same}
+use Rattle.mg_players.specs.Gets.{GetTask}
+use Rattle.mg_players.specs.Spares as stops
+use Rattle.mg_players.specs.Spares.{IsListed, ListsIts, ReadStops, SparesWhole, empties}
+use Rattle.mg_players.proofs.GetFetching.{FetchStops, StandsAt, fetches_stopped, received_many}
+use Rattle.mg_players.proofs.GetJudged.{chunks_many, count_said, whole_counts}
+use Rattle.mg_players.proofs.GetListing.{spared_by}
+
+-- ---- the count of the chunks
+
+-- a cursor without a next has ended
+has_ended : (c : ClientCursor) → (HasNext c → ⊥) → c.id ≡ pos 0
+has_ended c none = by_eq (int_eq c.id (pos 0)) refl
+  where
+    by_eq : (t : Bool) → int_eq c.id (pos 0) ≡ t → c.id ≡ pos 0
+    by_eq true is = (Decides-int_eq c.id (pos 0)).0 is
+    by_eq false is = absurd (none (inl (λ e. let both : false ≡ true = sym is ∙ (Decides-int_eq c.id (pos 0)).1 e in cc)))
+
+-- the chunks of a whole file are as many as its record says
+pub spares_count : (awaited : Awaited) (calls : List Call) (g : GetTask) (d : ClientDownload) (bytes : List ℕ) (c : ClientCursor) (place listed : ℕ) → KnowsChunks awaited calls g.at d bytes c place listed → c.doing ≡ client.rests → (HasNext c → ⊥) → chunk_count_of d.file.length d.file.chunk_size ≡ Ok d.count → d.taken ≢ d.count
+    → SparesWhole calls g.at g.id d.file listed
+spares_count awaited calls g d bytes c place listed k rests none counted other =
+    spared_by calls g.at g.id d.file listed (reader_in awaited c k.reader) k.knows k.none_lost k.queries k.asked_at
+    (λ whole size long same some left are history legal stands over.
+    let many : k.reader.query.single ≡ false = ap (λ (q : Query). q.single) k.queries in
+    let nothing : left ≡ [] = over (has_ended c none) many k.not_refused in
+    let held : [] ++ in_reply c.doing ≡ [] = ap in_reply rests in
+    let all : (k.reader.given ++ ([] ++ in_reply c.doing)) ++ left ≡ k.reader.given
+    = ap (λ (l : List Fields). (k.reader.given ++ ([] ++ in_reply c.doing)) ++ l) nothing ∙ append-nil (k.reader.given ++ ([] ++ in_reply c.doing)) ∙ ap (λ (l : List Fields). k.reader.given ++ l) held ∙ append-nil k.reader.given in
+    let chunks_are = subst (AreChunks 0 (chunked size whole)) all are in
+    let cut = whole_counts whole size d.file long same some in
+    let total : chunk_count (length whole) size ≡ chunk_count d.file.length d.file.chunk_size = ap (λ (n : ℕ). chunk_count n size) long ∙ ap (λ (n : ℕ). chunk_count d.file.length n) same in
+    other (k.taken ∙ received_many d.file 0 k.chunks k.reader.given k.received ∙ sym (chunks_many 0 (chunked size whole) k.reader.given chunks_are) ∙ cut.count ∙ total ∙ sym (count_said d.file.length d.file.chunk_size d.count counted)))
+
+-- ---- what is given
+
+-- the cursor stands so, or it failed so
+abbrev pub ReadLeaves : Past → List Call → GetTask → FileRecord → ℕ → ClientDownload → ReadPoll → Type 0
+ReadLeaves past calls g f listed d' read.Pending = ListsIts past g d'
+ReadLeaves past calls g f listed d' (read.Read n) = ListsIts past g d'
+ReadLeaves past calls g f listed d' (read.Failed e) = ReadStops past (SparesWhole calls g.at g.id f listed) e
+
+module _ (g : GetTask) (listed : ℕ) (past : Past) (calls : List Call) where
+  -- one cursor
+  lists_one : (d : ClientDownload) (doing : Doing) (c : ClientCursor) → d.doing ≡ doing → cursor_in doing ≡ Some c → IsListed past g d.file (empties doing) c → ListsIts past g d
+  lists_one d doing c is has l x at =
+      let same : c ≡ x = same_some c x (sym has ∙ sym (ap cursor_in is) ∙ at) in
+      subst (λ (y : ClientCursor). IsListed past g d.file (empties d.doing) y) same (subst (λ (z : Doing). IsListed past g d.file (empties z) c) (sym is) l)
+
+  lists_none : (d : ClientDownload) → cursor_in d.doing ≡ None → ListsIts past g d
+  lists_none d none c at = absurd (let bad : None ≡ Some c = sym none ∙ at in cc)
+
+  gives_leaves : (room : ℕ) (c : ClientCursor) (d d' : ClientDownload) (given : List ℕ) (r : ReadPoll) (f : FileRecord) → d.file ≡ f → IsListed past g f 0 c → ((HasNext c → ⊥) → d.taken ≢ d.count → SparesWhole calls g.at g.id f listed) → HandsOut room c d d' given r → ReadLeaves past calls g f listed d' r
+  gives_leaves room c d d' given r f same l spares (steps.goes_on some is now answer) =
+      subst (ReadLeaves past calls g f listed d') (sym answer)
+      (lists_one d' (idle c) c (ap (λ (x : ClientDownload). x.doing) now) refl (subst (λ (x : FileRecord). IsListed past g x 0 c) (sym (ap (λ (x : ClientDownload). x.file) now ∙ same)) l))
+  gives_leaves room c d d' given r f same l spares (steps.ends none over full is now answer) = subst (ReadLeaves past calls g f listed d') (sym answer) (lists_none d' (ap (λ (x : ClientDownload). cursor_in x.doing) now))
+  gives_leaves room c d d' given r f same l spares (steps.miscounts none over other no_bytes now answer) = subst (ReadLeaves past calls g f listed d') (sym answer) (stops.differs (spares over other))
+
+-- ---- a poll
+
+module _ (old new : Awaited) (log log' : LogTold) (wire : ℤ) (g : GetTask) (d d' : ClientDownload) (given : List ℕ) (r : ReadPoll) (sound : IsSoundDownload d) (calls : List Call) (told : log ≡ Some calls) (P : List ℕ) (bytes : List ℕ) (listed : ℕ) (know : KnowsDownload old calls g.at g.id d bytes listed) where
+  abbrev before : Past
+  before = past_of P (length calls) calls wire
+
+  module _ (under : IsFetching old before d) (lists : ListsIts before g d) where
+    -- the log behind it
+    pub record ReadStopped : Type 0 where
+      pub calls' : List Call
+      pub told' : log' ≡ Some calls'
+      pub leaves : ReadLeaves (past_of P (length calls) calls' wire) calls' g d.file listed d' r
+
+    knows_at : (x : Doing) → d.doing ≡ x → KnowsBy old calls g.at d bytes know.of_record.front.place listed x
+    knows_at x is = subst (KnowsBy old calls g.at d bytes know.of_record.front.place listed) is know.by
+
+    sound_at : (x : Doing) → d.doing ≡ x → SoundBy d x
+    sound_at x is = subst (SoundBy d) is sound.by
+
+    lists_at : (x : Doing) (c : ClientCursor) → d.doing ≡ x → cursor_in x ≡ Some c → IsListed before g d.file (empties x) c
+    lists_at x c is has = subst (λ (y : Doing). IsListed before g d.file (empties y) c) is (lists c (ap cursor_in is ∙ has))
+
+    none_left : ReadsNone old new log log' d d' given r → ReadStopped
+    none_left h = record {
+      calls' = calls;
+      told' = h.quiet.log_same ∙ told;
+      leaves = subst (ReadLeaves before calls g d.file listed d') (sym h.answer) (subst (λ (x : ClientDownload). ListsIts before g x) (sym h.same) lists);
+    }
+
+    -- what is given behind all batches
+    concluded : (e left : ClientDownload) (room : ℕ) (l : List Call) (f : Fetched) → e.file ≡ d.file → chunk_count_of e.file.length e.file.chunk_size ≡ Ok e.count → left.file ≡ e.file → left.count ≡ e.count → FetchStops g P (length calls) wire bytes know.of_record.front.place listed new l e left f
+        → AfterFetch new l g.at left bytes know.of_record.front.place listed f → Concludes room f left d' given r → ReadLeaves (past_of P (length calls) l wire) l g d.file listed d' r
+    concluded e left room l waits file counted same count after known ends =
+        let past : Past = past_of P (length calls) l wire in
+        subst (ReadLeaves past l g d.file listed d') (sym ends.2)
+        (subst (λ (x : ClientDownload). ListsIts past g x) (sym ends.0) (lists_one g listed past l left (reads after.0 after.1 after.2) after.0 after.3 refl (subst (λ (f : FileRecord). IsListed past g f after.2 after.0) (sym same) after.4)))
+    concluded e left room l enough file counted same count after known ends =
+        let past : Past = past_of P (length calls) l wire in
+        let c : ClientCursor = ends.0 in
+        let first : after.0 ≡ c = same_some after.0 c (sym (ap cursor_in after.1) ∙ ap cursor_in ends.1) in
+        let second : known.0 ≡ c = same_some known.0 c (sym (ap cursor_in known.1) ∙ ap cursor_in ends.1) in
+        let rests : c.doing ≡ client.rests = ap (λ (x : ClientCursor). x.doing) (sym second) ∙ known.2 in
+        let chunks = subst (λ (x : ClientCursor). KnowsChunks new l g.at left bytes x know.of_record.front.place listed) second known.3 in
+        let counts : chunk_count_of left.file.length left.file.chunk_size ≡ Ok left.count = subst (λ (f : FileRecord). chunk_count_of f.length f.chunk_size ≡ Ok left.count) (sym same) (counted ∙ ap (λ (n : ℕ). Ok n) (sym count)) in
+        gives_leaves g listed past l room c left d' given r d.file (same ∙ file) (subst (λ (f : FileRecord). IsListed past g f 0 c) file (subst (λ (x : ClientCursor). IsListed past g e.file 0 x) first after.2))
+        (λ over other. subst (λ (f : FileRecord). SparesWhole l g.at g.id f listed) (same ∙ file) (spares_count new l g left bytes c know.of_record.front.place listed chunks rests over counts other)) ends.2
+    concluded e left room l (fails x) file counted same count after known ends =
+        let past : Past = past_of P (length calls) l wire in
+        subst (ReadLeaves past l g d.file listed d') (sym ends.2) (subst (λ (f : FileRecord). ReadStops past (SparesWhole l g.at g.id f listed) x) file after)
+
+    fills_left : (e : ClientDownload) (c : ClientCursor) (m k room : ℕ) → e.file ≡ d.file → StandsAt g P (length calls) wire bytes know.of_record.front.place listed old log calls e c m k → Fills old new log log' wire room e d' given r → ReadStopped
+    fills_left e c m k room file s fills =
+        let x = fetches_stopped g P (length calls) wire bytes know.of_record.front.place listed fills.batches old new log log' calls e fills.left c m k fills.fetched s fills.fetches in
+        let y = fetches_known fills.batches old new log log' wire g.at e fills.left bytes c m k know.of_record.front.place listed calls fills.fetched s.doing s.sound s.rests_so s.know told fills.fetches in
+        let same = fetches_same fills.batches old new log log' wire e fills.left fills.fetched fills.fetches in
+        let one : y.calls' ≡ x.calls' = same_some y.calls' x.calls' (sym y.told ∙ x.told) in
+        record {
+          calls' = x.calls';
+          told' = x.told;
+          leaves = concluded e fills.left room x.calls' fills.fetched file s.counted same.0 same.1 x.after (subst (λ (l : List Call). AfterFetch new l g.at fills.left bytes know.of_record.front.place listed fills.fetched) one y.after) fills.concludes;
+        }
+
+    -- Behind a poll the cursor stands as it should, or it failed so.
+    pub read_leaves : (room : ℕ) → Reads old new log log' wire room d d' given r → ReadStopped
+    read_leaves room (steps.no_room none h) = none_left h
+    read_leaves room (steps.is_over some over h) = none_left h
+    read_leaves room (steps.in_hand some c is more quiet gives) = record {
+      calls' = calls;
+      told' = quiet.log_same ∙ told;
+      leaves = gives_leaves g listed before calls room c d d' given r d.file refl (lists_at (idle c) c is refl) (λ over other. spares_count old calls g d bytes c know.of_record.front.place listed (knows_at (idle c) is) ((sound_at (idle c) is).3 more) over sound.sizes.counted other) gives;
+    }
+    read_leaves room (steps.begins some c is none fills) =
+        let e : ClientDownload = record d { doing = reads c room 0 } in
+        fills_left e c room 0 room refl
+        (record {
+          doing = refl;
+          sound = (sound_at (idle c) is).1;
+          rests_so = λ zero_is. absurd (omega (arith, some, zero_is));
+          know = doing_known old calls g.at d e (reads c room 0) bytes c know.of_record.front.place listed refl (knows_at (idle c) is);
+          told = told;
+          room = omega arith;
+          under = under c (ap cursor_in is);
+          lists = lists_at (idle c) c is refl;
+          counted = sound.sizes.counted;
+        }) fills
+    read_leaves room (steps.goes_on some c m k is fills) =
+        let so = (sound_at (reads c m k) is).1 in
+        fills_left d c m k room refl
+        (record {
+          doing = is;
+          sound = so.sound;
+          rests_so = so.rests_so;
+          know = knows_at (reads c m k) is;
+          told = told;
+          room = omega arith;
+          under = under c (ap cursor_in is);
+          lists = lists_at (reads c m k) c is refl;
+          counted = sound.sizes.counted;
+        }) fills

@@ -1,0 +1,61 @@
+-- What a get tells goes on to hold, turn by turn.
+use Rattle.std.proofs.Common.{◌≡◌, ℕ, ℤ, List, Option, Some}
+use Rattle.mg_link.specs.Calls.{Grows, Keeps}
+use Rattle.mg_link.specs.Link.{Awaited}
+use Rattle.mg_link.specs.Log.{Call}
+use Rattle.mg_link.specs.Owner.{Onward, nobody}
+use Rattle.mg_link.specs.declared.error.Error.{Error}
+use Rattle.mg_records.specs.FileRecords.{FileRecord}
+use Rattle.mg_gridfs.specs.DownloadView.{download_of, finding_of}
+use Rattle.mg_gridfs.proofs.Growing.{fetching_grows, opening_fails_grow, opening_grows}
+use Rattle.mg_gridfs.proofs.Opened.{record_grows}
+use Rattle.mg_gridfs.proofs.ReadCaused.{read_fails_grow}
+use Rattle.mg_script.specs.declared.outcome.Ended.{Ended}
+use Rattle.mg_script.specs.declared.outcome.Ended.TheVariants as ended
+use Rattle.mg_players.specs.Causes.{sent_at}
+use Rattle.mg_players.specs.Gets.{GetTask, get_bucket, gets_ticket}
+use Rattle.mg_players.specs.Plays.{Places, all_places}
+use Rattle.mg_players.specs.Spares.{SparesWhole}
+use Rattle.mg_players.specs.Telling as tells
+use Rattle.mg_players.specs.Telling.{GetTells, TellsGetEnd, TellsGetFails, TellsGetOpened}
+use Rattle.mg_players.specs.declared.get.GetStage.{GetStage}
+use Rattle.mg_players.specs.declared.get.GetStage.TheVariants as gets
+use Rattle.mg_players.proofs.GetSpared.{lists_grow, spares_grow, stops_grow}
+use Rattle.mg_players.proofs.Telling.{grows_later}
+
+-- ---- others
+
+module _ (calls calls' : List Call) (wire : ℤ) (keeps : Keeps calls calls') (onward : Onward calls calls' nobody) (q : Places) (g : GetTask) where
+  later : (places : List ℕ) → Grows (sent_at places calls wire) (sent_at places calls' wire)
+  later places = grows_later places calls calls' wire keeps
+
+  pub opened_later : (f : FileRecord) (at : Option ℕ) → TellsGetOpened calls wire q g f at → TellsGetOpened calls' wire q g f at
+  opened_later f at t = record { heard = record_grows (sent_at q.opened calls wire) (sent_at q.opened calls' wire) (later q.opened) (get_bucket g.at) g.id (Some f) t.heard; listed = t.listed }
+
+  fails_later : (done : ℕ) (e : Error) → TellsGetFails calls wire q g done e → TellsGetFails calls' wire q g done e
+  fails_later done e (tells.out_of_memory room) = tells.out_of_memory room
+  fails_later done e (tells.has_no_room none is) = tells.has_no_room none is
+  fails_later done e (tells.not_opened some first none fails) = tells.not_opened some first none (opening_fails_grow (sent_at q.now calls wire) (sent_at q.now calls' wire) (later q.now) (get_bucket g.at) g.id e fails)
+  fails_later done e (tells.not_read some more d at opened cursor fails its sound plain counted listed of why) =
+      tells.not_read some more d at (opened_later d.file at opened) cursor (read_fails_grow (sent_at q.now calls wire) (sent_at q.now calls' wire) (later q.now) d cursor e fails) its sound plain counted listed of
+      (stops_grow (sent_at (all_places q) calls wire) (sent_at (all_places q) calls' wire) (later (all_places q)) onward (SparesWhole calls g.at g.id d.file listed) (SparesWhole calls' g.at g.id d.file listed) (spares_grow calls calls' g.at g.id d.file listed onward) e why)
+
+  end_later : (end : Ended (Unit {0})) (done : ℕ) (at : Option ℕ) → TellsGetEnd calls wire q g done at end → TellsGetEnd calls' wire q g done at end
+  end_later ended.Unfinished done at t = tt
+  end_later (ended.Gave x) done at t = (t.0, t.1, opened_later t.1 at t.2, t.3)
+  end_later (ended.Failed e) done at t = fails_later done e t
+
+-- Where its own ticket goes with the same call, a get tells in a later log what it told.
+pub get_tells_later : (old new : Awaited) (calls calls' : List Call) (wire : ℤ) (q : Places) (g : GetTask) (s : GetStage) (done : ℕ) (at : Option ℕ) → Keeps calls calls' → Onward calls calls' nobody → ((m : ℕ) → gets_ticket s ≡ Some m → new m ≡ old m) → GetTells old calls wire q g s done at → GetTells new calls' wire q g s done at
+get_tells_later old new calls calls' wire q g gets.Unsent done at keeps onward same t = t
+get_tells_later old new calls calls' wire q g (gets.Opens opening) done at keeps onward same t =
+    (t.0, t.1, t.2, opening_grows (sent_at q.now calls wire) (sent_at q.now calls' wire) (grows_later q.now calls calls' wire keeps) old new (finding_of opening) same t.3)
+get_tells_later old new calls calls' wire q g (gets.Reads download room) done at keeps onward same t = (
+  opened_later calls calls' wire keeps onward q g (download_of download).file at t.0,
+  t.1,
+  fetching_grows (sent_at q.now calls wire) (sent_at q.now calls' wire) (grows_later q.now calls calls' wire keeps) old new (download_of download) same t.2,
+  t.3,
+  t.4,
+  lists_grow (sent_at (all_places q) calls wire) (sent_at (all_places q) calls' wire) (grows_later (all_places q) calls calls' wire keeps) onward g (download_of download) t.5,
+)
+get_tells_later old new calls calls' wire q g (gets.Ended end) done at keeps onward same t = end_later calls calls' wire keeps onward q g end done at t

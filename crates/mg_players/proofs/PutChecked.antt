@@ -1,0 +1,200 @@
+-- What a step of a put's index check is caused by, and what it knows of the list that it reads.
+use Rattle.std.proofs.Common.{◌≡◌, ◌≢◌, ◌≤◌, ℕ, suc, ℤ, Bool, true, false, List, [], length, Some, None, refl, sym, ap, ◌∙◌, subst, inl, inr, arith}
+use Rattle.mg_bson.specs.Raw.{fields}
+use Rattle.mg_link.specs.Calls.{Came, Flies, Past, RequestFails, past_of, was_broken}
+use Rattle.mg_link.specs.Errors.{command_code}
+use Rattle.mg_link.specs.Exec.{Runs, Sending}
+use Rattle.mg_link.specs.Link.{Awaited, LogTold}
+use Rattle.mg_link.specs.Log.{Call, reply}
+use Rattle.mg_link.specs.Namespace.{space}
+use Rattle.mg_link.specs.declared.action.Step.{Step}
+use Rattle.mg_link.specs.declared.action.Step.TheVariants as came
+use Rattle.mg_link.specs.declared.error.Error.{Error}
+use Rattle.mg_link.proofs.Calls.{RequestRan, request_ran, success_ran}
+use Rattle.mg_link.proofs.Filed.{Grew}
+use Rattle.mg_link.proofs.Pasts.{fails_anyhow, heard_by}
+use Rattle.mg_link.proofs.Places.{get_within}
+use Rattle.mg_options.specs.Fields.{Line, fields_in}
+use Rattle.mg_ops.specs.Cursors.{OpensWith}
+use Rattle.mg_ops.specs.Failing.{FailsBy}
+use Rattle.mg_ops.specs.Writes.{WriteFails}
+use Rattle.mg_ops.specs.declared.cursor_reply.CursorSpecification.{CursorSpecification}
+use Rattle.mg_cursor.specs.Causes.{TellsNoCursor}
+use Rattle.mg_cursor.specs.Client.{new_client}
+use Rattle.mg_cursor.specs.Documents.{DocumentCursor, new_documents}
+use Rattle.mg_cursor.specs.declared.polls.AdvancePoll.{AdvancePoll}
+use Rattle.mg_cursor.specs.declared.polls.AdvancePoll.TheVariants as advance
+use Rattle.mg_gridfs.specs.Buckets.{ClientBucket}
+use Rattle.mg_gridfs.specs.Causes as causes
+use Rattle.mg_gridfs.specs.Causes.{CheckUnderway, IsOfCheck, ListsFailure}
+use Rattle.mg_gridfs.specs.Checks as check
+use Rattle.mg_gridfs.specs.Checks.{Builds, CheckTurned, ChecksOn, ClientCheck, Creates, EndsList, GoesBehind, HearsAdvance, HearsCreation, HearsFind, HearsIndex, HearsListing, IsSoundCheck, Looks, creates, finds, indexes, lists, namespace_exists, reads}
+use Rattle.mg_gridfs.specs.Commands.{CannotSend, IsRequest, any_lines, creation_lines, index_lines, listing_lines}
+use Rattle.mg_gridfs.specs.declared.indexes.Place.{Place}
+use Rattle.mg_gridfs.specs.declared.indexes.Place.TheVariants as place
+use Rattle.mg_players.specs.PutFailures as fails
+use Rattle.mg_players.specs.PutFailures.{CheckReads, IsListed, PutCheckFails, ReadsList, first_batch, held_in}
+use Rattle.mg_players.proofs.PutListing.{SoughtBy, seeks_list}
+
+-- behind a step
+abbrev pub TurnReads : Awaited → Past → ClientBucket → CheckTurned → Type 0
+TurnReads awaited past b (check.goes c) = CheckReads awaited past b c
+TurnReads awaited past b (check.pends c) = CheckReads awaited past b c
+TurnReads awaited past b check.passes = Unit {0}
+TurnReads awaited past b (check.fails e) = PutCheckFails past b e
+
+-- a success that lists failures is no refusal
+no_code : (bytes : List ℕ) (e : Error) → WriteFails (fields bytes) e → command_code e.kind ≢ Some namespace_exists
+no_code bytes e (inl breaks) is = let none : None ≡ Some namespace_exists = sym (ap (λ (x : Error). command_code x.kind) breaks.error) ∙ is in cc
+no_code bytes e (inr first) is = let none : None ≡ Some namespace_exists = sym (ap (λ (x : Error). command_code x.kind) first.error) ∙ is in cc
+
+-- what came, where it came
+abbrev bytes_in : Step Sending (List ℕ) → List ℕ
+bytes_in (came.Pending s) = []
+bytes_in (came.Done bytes) = bytes
+bytes_in (came.Failed e) = []
+
+abbrev error_in : Error → Step Sending (List ℕ) → Error
+error_in d (came.Pending s) = d
+error_in d (came.Done bytes) = d
+error_in d (came.Failed e) = e
+
+module _ (awaited : Awaited) (past : Past) (b : ClientBucket) where
+  -- want of memory, or a cause
+  caused_by : (Cause : Error → Type 0) (e : Error) → ((x : Error) → Cause x → PutCheckFails past b x) → FailsBy Cause e → PutCheckFails past b e
+  caused_by Cause e leads (inl memory) = fails.out_of_memory (ap (λ (x : Error). x.kind) memory)
+  caused_by Cause e leads (inr cause) = leads e cause
+
+  as_turned : (t u : CheckTurned) → t ≡ u → TurnReads awaited past b u → TurnReads awaited past b t
+  as_turned t u is h = subst (TurnReads awaited past b) (sym is) h
+
+  builds_so : (again : Bool) (lines : List Line) (next_one : Sending → ClientCheck) (t : CheckTurned) → IsOfCheck b lines → ((s : Sending) → CheckReads awaited past b (next_one s)) → Builds again lines next_one t → TurnReads awaited past b t
+  builds_so again lines next_one t own reads_so (check.built s request is) = as_turned t (check.goes (next_one s)) is (reads_so s)
+  builds_so again lines next_one t own reads_so (check.not_built e failed is) = as_turned t (check.fails e) is (caused_by (CannotSend lines) e (λ x cannot. fails.not_built lines own cannot) failed)
+
+  creation_so : (at : Place) (t : CheckTurned) → Builds false (creation_lines b at) (creates at) t → TurnReads awaited past b t
+  creation_so at t builds = builds_so false (creation_lines b at) (creates at) t (causes.a_creation at refl) (λ s. tt) builds
+
+  listing_so : (at : Place) (t : CheckTurned) → Builds true (listing_lines b at) (lists at) t → TurnReads awaited past b t
+  listing_so at t builds = builds_so true (listing_lines b at) (lists at) t (causes.a_listing at refl) (λ s. tt) builds
+
+  indexing_so : (at : Place) (t : CheckTurned) → Builds false (index_lines b at) (indexes at) t → TurnReads awaited past b t
+  indexing_so at t builds = builds_so false (index_lines b at) (indexes at) t (causes.an_index at refl) (λ s. tt) builds
+
+  behind_so : (at : Place) (t : CheckTurned) → GoesBehind b at t → TurnReads awaited past b t
+  behind_so place.Files t h = creation_so place.Chunks t h
+  behind_so place.Chunks t h = as_turned t check.passes h tt
+
+  -- ---- requests
+
+  module _ (old new : Awaited) (log log' : LogTold) (wire : ℤ) (s : Sending) where
+    find_so : (c : Step Sending (List ℕ)) (t : CheckTurned) → Runs old new log log' wire s c → HearsFind b c t → Came new past (fields_in (any_lines b)) true c → TurnReads awaited past b t
+    find_so (came.Pending s') t runs h flies = as_turned t (check.pends (finds s')) h tt
+    find_so (came.Done bytes) t runs (check.some said says more is) heard = as_turned t check.passes is tt
+    find_so (came.Done bytes) t runs (check.none said says nothing builds) heard = creation_so place.Files t builds
+    find_so (came.Done bytes) t runs (check.broke e failed is) heard =
+        as_turned t (check.fails e) is (caused_by (TellsNoCursor bytes) e (λ x breaks. fails.by_find (was_broken bytes heard (success_ran old new log log' wire s bytes runs) breaks)) failed)
+    find_so (came.Failed e) t runs h failed = as_turned t (check.fails e) h (fails.by_find (fails_anyhow past (fields_in (any_lines b)) true TellsNoCursor e failed))
+
+    created_so : (at : Place) (bytes : List ℕ) (t : CheckTurned) → Runs old new log log' wire s (came.Done bytes) → Creates b at (came.Done bytes) t → Came new past (fields_in (creation_lines b at)) false (came.Done bytes) → TurnReads awaited past b t
+    created_so at bytes t runs (check.created reply_bytes is none builds) heard = listing_so at t builds
+    created_so at bytes t runs (check.there e is code builds) heard = listing_so at t builds
+    created_so at bytes t runs (check.unread reply_bytes e is failed answer) heard =
+        as_turned t (check.fails e) answer (caused_by (WriteFails (fields reply_bytes)) e
+        (λ x cause. let here = subst (λ (bs : List ℕ). WriteFails (fields bs) x) (sym (ap bytes_in is)) cause in
+        fails.by_creation at (was_broken bytes heard (success_ran old new log log' wire s bytes runs) here) (no_code bytes x here)) failed)
+    created_so at bytes t runs (check.other e is ne answer) heard = absurd cc
+
+    not_created_so : (at : Place) (f : Error) (t : CheckTurned) → Creates b at (came.Failed f) t → Came new past (fields_in (creation_lines b at)) false (came.Failed f) → TurnReads awaited past b t
+    not_created_so at f t (check.created reply_bytes is none builds) failed = listing_so at t builds
+    not_created_so at f t (check.there e is code builds) failed = listing_so at t builds
+    not_created_so at f t (check.unread reply_bytes e is unread answer) failed = absurd cc
+    not_created_so at f t (check.other e is ne answer) failed =
+        let same : f ≡ e = ap (error_in f) is in
+        as_turned t (check.fails e) answer (fails.by_creation at (subst (λ (x : Error). RequestFails past (fields_in (creation_lines b at)) false ListsFailure x) same (fails_anyhow past (fields_in (creation_lines b at)) false ListsFailure f failed)) ne)
+
+    creates_so : (at : Place) (c : Step Sending (List ℕ)) (t : CheckTurned) → Runs old new log log' wire s c → HearsCreation b at c t → Came new past (fields_in (creation_lines b at)) false c → TurnReads awaited past b t
+    creates_so at (came.Pending s') t runs h flies = as_turned t (check.pends (creates at s')) h tt
+    creates_so at (came.Done bytes) t runs h heard = created_so at bytes t runs h heard
+    creates_so at (came.Failed e) t runs h failed = not_created_so at e t h failed
+
+    -- the list begins with its first batch
+    opened_so : (at : Place) (bytes : List ℕ) (out : CursorSpecification) → Runs old new log log' wire s (came.Done bytes) → OpensWith None None None bytes out → Came new past (fields_in (listing_lines b at)) true (came.Done bytes) → ReadsList awaited past b (new_documents (new_client out)) 0
+    opened_so at bytes out runs opens heard =
+        let here = heard_by past (fields_in (listing_lines b at)) true (reply bytes) heard in
+        let success = success_ran old new log log' wire s bytes runs in
+        let whole = ap held_in opens.opens.whole in
+        record {
+          of_list = record { at = at; place = here.place; first = bytes; heard = here.heard; success = success; out = out; opens = opens; replies = []; behind = refl };
+          hand = λ held is.
+              let same : out.initial_reply ≡ held = cc in (
+                subst (λ (bs : List ℕ). fails.StandsBehind past b (new_client out) bs) (sym opens.opens.whole ∙ same)
+                    (record { batch = first_batch at here success; said = record { id = out.info.id; space = space out.info.ns; token = out.post_batch_resume_token; batch = opens.opens.batch }; says = opens.opens.says; id_is = refl }),
+                refl,
+              );
+          left = inl refl;
+          empties = inl refl;
+          counted = omega (arith, whole);
+          within = get_within past.calls here.place here.heard.call here.heard.there;
+          waits = λ sending ticket place is held at_place. absurd cc;
+        }
+
+    lists_so : (at : Place) (c : Step Sending (List ℕ)) (t : CheckTurned) → Runs old new log log' wire s c → HearsListing at c t → Came new past (fields_in (listing_lines b at)) true c → TurnReads awaited past b t
+    lists_so at (came.Pending s') t runs h flies = as_turned t (check.pends (lists at s')) h tt
+    lists_so at (came.Done bytes) t runs (check.opened out opens is) heard = as_turned t (check.goes (reads at (new_documents (new_client out)) false 0)) is (opened_so at bytes out runs opens heard)
+    lists_so at (came.Done bytes) t runs (check.broke e failed is) heard =
+        as_turned t (check.fails e) is (caused_by (TellsNoCursor bytes) e (λ x breaks. fails.by_listing at (was_broken bytes heard (success_ran old new log log' wire s bytes runs) breaks)) failed)
+    lists_so at (came.Failed e) t runs h failed = as_turned t (check.fails e) h (fails.by_listing at (fails_anyhow past (fields_in (listing_lines b at)) true TellsNoCursor e failed))
+
+    indexes_so : (at : Place) (c : Step Sending (List ℕ)) (t : CheckTurned) → Runs old new log log' wire s c → HearsIndex b at c t → Came new past (fields_in (index_lines b at)) false c → TurnReads awaited past b t
+    indexes_so at (came.Pending s') t runs h flies = as_turned t (check.pends (indexes at s')) h tt
+    indexes_so at (came.Done bytes) t runs (check.done none goes) heard = behind_so at t goes
+    indexes_so at (came.Done bytes) t runs (check.unread e failed is) heard =
+        as_turned t (check.fails e) is (caused_by (WriteFails (fields bytes)) e (λ x cause. fails.by_index at (was_broken bytes heard (success_ran old new log log' wire s bytes runs) cause)) failed)
+    indexes_so at (came.Failed e) t runs h failed = as_turned t (check.fails e) h (fails.by_index at (fails_anyhow past (fields_in (index_lines b at)) false ListsFailure e failed))
+
+  -- ---- the list
+
+  looks_so : (at : Place) (d : DocumentCursor) (document : List ℕ) (found : Bool) (count : ℕ) (t : CheckTurned) → ReadsList awaited past b d (suc count) → IsListed past b document → Looks at d document found count t → TurnReads awaited past b t
+  looks_so at d document found count t l listed (check.looked i few read is) = as_turned t (check.goes _) is l
+  looks_so at d document found count t l listed (check.too_many many is) = as_turned t (check.fails _) is (let sum = l.counted in fails.too_many d.cursor l.of_list (omega (arith, many, sum)) refl)
+  looks_so at d document found count t l listed (check.broke e failed is) = as_turned t (check.fails e) is (fails.no_index document listed failed)
+
+  ends_so : (at : Place) (found : Bool) (t : CheckTurned) → EndsList b at found t → TurnReads awaited past b t
+  ends_so at true t h = behind_so at t h
+  ends_so at false t h = indexing_so at t h
+
+  advance_so : (at : Place) (left : DocumentCursor) (found : Bool) (count : ℕ) (poll : AdvancePoll) (t : CheckTurned) → SoughtBy awaited b poll past left count → HearsAdvance b at left found count poll t → TurnReads awaited past b t
+  advance_so at left found count advance.Pending t sought h = as_turned t (check.pends (reads at left found count)) h sought
+  advance_so at left found count (advance.Ready true) t sought h = looks_so at left h.0 found count t sought.0 (sought.1 h.0 h.1) h.2
+  advance_so at left found count (advance.Ready false) t sought h = ends_so at found t h
+  advance_so at left found count (advance.Failed e) t sought h = as_turned t (check.fails e) h sought
+
+-- ---- a step
+
+module _ (old new : Awaited) (log log' : LogTold) (wire : ℤ) (b : ClientBucket) (calls : List Call) (told : log ≡ Some calls) (places : List ℕ) (since : ℕ) (room : since ≤ length calls) where
+  ran_by : (again : Bool) (lines : List Line) (s : Sending) (c : Step Sending (List ℕ)) → IsRequest again lines s → Runs old new log log' wire s c → Flies old (past_of places since calls wire) (fields_in lines) s.stage → RequestRan new places since calls log' wire (fields_in lines) again c
+  ran_by again lines s c own runs flies = request_ran old new log log' wire s (fields_in lines) again c own.command_is own.retries_is runs calls told places since room flies
+
+  under_at : (c d : ClientCheck) → c ≡ d → CheckUnderway old (past_of places since calls wire) b c → CheckUnderway old (past_of places since calls wire) b d
+  under_at c d is h = subst (CheckUnderway old (past_of places since calls wire) b) is h
+
+  own_at : (c d : ClientCheck) → c ≡ d → IsSoundCheck b c → IsSoundCheck b d
+  own_at c d is h = subst (IsSoundCheck b) is h
+
+  pub check_reads : (c : ClientCheck) (t : CheckTurned) → IsSoundCheck b c → ChecksOn old new log log' wire b c t → CheckUnderway old (past_of places since calls wire) b c → CheckReads old (past_of places since calls wire) b c → Grew places since calls log' wire (λ past. TurnReads new past b t)
+  check_reads c t sound (check.by_find s is came_so runs hears) h l =
+      let ran = ran_by true (any_lines b) s came_so (own_at c (finds s) is sound) runs (under_at c (finds s) is h) in
+      (ran.calls', ran.told, ran.grows.keeps, find_so new (past_of places since ran.calls' wire) b old new log log' wire s came_so t runs hears ran.came)
+  check_reads c t sound (check.by_creation at s is came_so runs hears) h l =
+      let ran = ran_by false (creation_lines b at) s came_so (own_at c (creates at s) is sound) runs (under_at c (creates at s) is h) in
+      (ran.calls', ran.told, ran.grows.keeps, creates_so new (past_of places since ran.calls' wire) b old new log log' wire s at came_so t runs hears ran.came)
+  check_reads c t sound (check.by_listing at s is came_so runs hears) h l =
+      let ran = ran_by true (listing_lines b at) s came_so (own_at c (lists at s) is sound) runs (under_at c (lists at s) is h) in
+      (ran.calls', ran.told, ran.grows.keeps, lists_so new (past_of places since ran.calls' wire) b old new log log' wire s at came_so t runs hears ran.came)
+  check_reads c t sound (check.by_advance at d found count is empties starts left poll seeks hears) h l =
+      let x = seeks_list b wire places since count empties old new log log' starts d left poll (own_at c (reads at d found count) is sound).0 seeks calls told room (under_at c (reads at d found count) is h) (subst (CheckReads old (past_of places since calls wire) b) is l) in
+      (x.0, x.1, x.2, advance_so new (past_of places since x.0 wire) b at left found count poll t x.3 hears)
+  check_reads c t sound (check.by_index at s is came_so runs hears) h l =
+      let ran = ran_by false (index_lines b at) s came_so (own_at c (indexes at s) is sound) runs (under_at c (indexes at s) is h) in
+      (ran.calls', ran.told, ran.grows.keeps, indexes_so new (past_of places since ran.calls' wire) b old new log log' wire s at came_so t runs hears ran.came)

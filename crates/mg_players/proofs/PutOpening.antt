@@ -1,0 +1,139 @@
+-- The opening of a put's upload: nothing is sent, and nothing of its file is there.
+use Rattle.std.proofs.Common.{◌≡◌, ℕ, ℤ, List, [], length, None, Result, Ok, Err, refl, sym, ap, ◌∙◌, subst, inl, arith}
+use Rattle.mg_link.specs.Acts.{Tickets}
+use Rattle.mg_link.specs.Calls.{past_of}
+use Rattle.mg_link.specs.Link.{Awaited, LogTold}
+use Rattle.mg_link.specs.Log.{Call}
+use Rattle.mg_link.specs.Owner.{Owner, Passes, nobody}
+use Rattle.mg_link.specs.declared.error.Error.{Error}
+use Rattle.mg_link.proofs.Adding.{adds_none}
+use Rattle.mg_link.proofs.Apart.{holds_nobody, passes_same}
+use Rattle.mg_link.proofs.Onward.{tickets_same}
+use Rattle.mg_link.proofs.Owners.{same_some}
+use Rattle.mg_gridfs.specs.Buckets.{IsSize}
+use Rattle.mg_gridfs.specs.Storing.{KnowsUpload}
+use Rattle.mg_gridfs.specs.Uploads.{ClientUpload, fresh_upload, upload_ticket}
+use Rattle.mg_gridfs.specs.UploadView.{upload_of}
+use Rattle.mg_gridfs.proofs.Holding.{upload_begins}
+use Rattle.mg_gridfs.proofs.Staying.{cursors_begin}
+use Rattle.mg_script.specs.declared.outcome.Ended.{Ended}
+use Rattle.mg_script.specs.declared.outcome.Ended.TheVariants as ended
+use Rattle.mg_players.specs.Causes.{sent_at}
+use Rattle.mg_players.specs.Headline.{PutPlays, put_task}
+use Rattle.mg_players.specs.Plays.{AnySent, Places, TellsBehind, TurnTells, all_places, no_move}
+use Rattle.mg_players.specs.Putting.{Opens, OpensFrom, PutTurns}
+use Rattle.mg_players.specs.Puts.{BegunFor, IsPutDoing, NamesFiles, PutTask, PutsKnowing, put_aim, total, writes}
+use Rattle.mg_players.specs.Sends.{MaySend}
+use Rattle.mg_players.specs.Telling.{PutSays, PutTells, PutTellsOpen, SentNothing, put_number}
+use Rattle.mg_players.specs.declared.put.Beginning.{Beginning}
+use Rattle.mg_players.specs.declared.put.PutPlayer.{PutPlayer}
+use Rattle.mg_players.specs.declared.put.PutStage.{PutStage}
+use Rattle.mg_players.specs.declared.put.PutStage.TheVariants as puts
+use Rattle.mg_players.proofs.Telling.{extends_rest}
+use Rattle.mg_players.proofs.Whole.{only_now}
+
+-- ---- what it tells
+
+-- one that has sent nothing did so at no places
+nowhere : (q : Places) → SentNothing q → all_places q ≡ []
+nowhere q nothing = only_now q nothing.0 nothing.1 ∙ nothing.2
+
+-- an upload that has taken nothing tells of no places
+module _ (t : PutTask) (awaited : Awaited) (calls : List Call) (wire : ℤ) (q : Places) (named : NamesFiles t) (sized : IsSize t.chunk) (nothing : SentNothing q) where
+  fresh_knows : KnowsUpload awaited (sent_at (all_places q) calls wire) t.at (fresh_upload (put_aim t)) []
+  fresh_knows = subst (λ (l : List ℕ). KnowsUpload awaited (past_of l (length calls) calls wire) t.at (fresh_upload (put_aim t)) []) (sym (nowhere q nothing)) (upload_begins awaited calls wire t.at (put_aim t) (record { files = refl; chunks = refl }) named.0 named.1)
+
+  fresh_tells : PutTellsOpen awaited calls wire q t 0 (fresh_upload (put_aim t))
+  fresh_tells = record {
+    aim_is = refl;
+    sized = sized;
+    opened = nothing.0;
+    counted = ap length nothing.1;
+    cut = record { front = []; parts = refl; even = omega arith };
+    underway = tt;
+    flies = tt;
+    its = tt;
+    reads = tt;
+    knows = fresh_knows;
+  }
+
+  pub opened_tells : (u : ClientUpload) (done : ℕ) → done ≡ 0 → u ≡ fresh_upload (put_aim t) → PutTellsOpen awaited calls wire q t done u
+  opened_tells u done none fresh = subst (λ (x : ClientUpload). PutTellsOpen awaited calls wire q t done x) (sym fresh) (subst (λ (n : ℕ). PutTellsOpen awaited calls wire q t n (fresh_upload (put_aim t))) (sym none) fresh_tells)
+
+-- ---- a turn
+
+-- its upload is open, or the put has failed
+opens_tells : (t : PutTask) (awaited : Awaited) (calls : List Call) (wire : ℤ) (q : Places) (size done : ℕ) (s : PutStage) → done ≡ 0 → size ≡ total t.pieces → SentNothing q → Opens t size s → PutTells awaited calls wire q t done s
+opens_tells t awaited calls wire q size done puts.Undrawn none sum nothing opens = absurd opens
+opens_tells t awaited calls wire q size done (puts.Begins begun) none sum nothing opens = absurd opens
+opens_tells t awaited calls wire q size done (puts.Goes going) none sum nothing opens =
+    let sized : IsSize t.chunk = subst (λ (u : ClientUpload). IsSize u.aim.size) opens.1 opens.2.between.sound.bounds.size in
+    (opened_tells t awaited calls wire q opens.0 sized nothing (upload_of going.upload) done none opens.1, opens.3 ∙ sum)
+opens_tells t awaited calls wire q size done (puts.Ended ended.Unfinished) none sum nothing opens = absurd opens
+opens_tells t awaited calls wire q size done (puts.Ended (ended.Gave n)) none sum nothing opens = absurd opens
+opens_tells t awaited calls wire q size done (puts.Ended (ended.Failed e)) none sum nothing opens = (nothing.0, ap length nothing.1 ∙ sym none, inl (opens, nowhere q nothing), tt)
+
+module _ (awaited : Awaited) (log : LogTold) (wire : ℤ) (p : PutPlayer) (begun : Result Beginning Error) (none : p.done ≡ 0) where
+  abbrev T : PutTask
+  T = writes p.what
+
+  abbrev Before : PutPlayer
+  Before = record p { stage = puts.Begins begun }
+
+  -- it owned nothing, and has not called
+  quietly : (calls : List Call) (o : Owner) → o ≡ nobody → Passes calls calls o nobody
+  quietly calls o is = subst (λ (own : Owner). Passes calls calls own nobody) (sym is) (passes_same calls nobody (holds_nobody calls))
+
+  module _ (s : PutStage) (tells : (calls : List Call) (q : Places) → SentNothing q → BegunFor T begun → PutTells awaited calls wire q T p.done s) where
+    told_so : TurnTells put_task PutPlays PutSays (λ x. put_number x.done x.stage) AnySent awaited awaited log log wire Before (record p { stage = s }) no_move
+    told_so calls calls' told told' ids n may q at at' placed o plays says =
+        subst (λ (l : List Call). TellsBehind PutSays (λ x. put_number x.done x.stage) awaited calls l wire (put_task Before) q 0 (record p { stage = s }) at') (same_some calls calls' (sym told ∙ told'))
+        (record {
+          longer = omega arith;
+          places = q;
+          tells = tells calls q says.0 says.2;
+          extends = extends_rest q 0 (put_number p.done s) (length calls) says.0.2;
+          adds = adds_none (MaySend (put_task Before)) calls;
+        })
+
+  -- it has failed
+  failed_so : (end : Ended ℕ) → ((calls : List Call) (q : Places) → SentNothing q → BegunFor T begun → PutTells awaited calls wire q T p.done (puts.Ended end)) → PutTurns awaited awaited log log wire Before (record p { stage = puts.Ended end })
+  failed_so end tells = record {
+    same = refl;
+    tickets = tickets_same awaited None (λ n held. absurd cc);
+    holds = tt;
+    has = tt;
+    turned = λ calls told o at plays. (calls, told, record { place = at; placed = refl; owner = nobody; plays = refl; passes = quietly calls o plays });
+    told = told_so (puts.Ended end) tells;
+  }
+
+  -- its upload is open
+  opened_so : (size : ℕ) (s : PutStage) → (BegunFor T begun → size ≡ total T.pieces) → Opens T size s → PutTurns awaited awaited log log wire Before (record p { stage = s })
+  opened_so size puts.Undrawn counts opens = absurd opens
+  opened_so size (puts.Begins other) counts opens = absurd opens
+  opened_so size (puts.Goes going) counts opens = record {
+    same = refl;
+    tickets = subst (λ (x : ClientUpload). Tickets awaited awaited None (upload_ticket x)) (sym opens.1) (tickets_same awaited None (λ n held. absurd cc));
+    holds = record { sound = opens.2; doing = subst (λ (x : ClientUpload). IsPutDoing x.doing p.done (length T.pieces)) (sym opens.1) (omega (arith, none)) };
+    has = tt;
+    turned = λ calls told o at plays. (
+      calls,
+      told,
+      record {
+        place = at;
+        placed = refl;
+        owner = nobody;
+        plays = subst (λ (x : ClientUpload). PutsKnowing awaited calls x nobody) (sym opens.1) (record { cursors = cursors_begin awaited calls (put_aim T) opens.0.0 opens.0.1; owns = refl });
+        passes = quietly calls o plays;
+      },
+    );
+    told = told_so (puts.Goes going) (λ calls q nothing is. opens_tells T awaited calls wire q size p.done (puts.Goes going) none (counts is) nothing opens);
+  }
+  opened_so size (puts.Ended end) counts opens = failed_so end (λ calls q nothing is. opens_tells T awaited calls wire q size p.done (puts.Ended end) none (counts is) nothing opens)
+
+-- A turn that opens its upload.
+pub opening_turns : (awaited : Awaited) (log : LogTold) (wire : ℤ) (p : PutPlayer) (begun : Result Beginning Error) (s : PutStage) → p.done ≡ 0 → OpensFrom (writes p.what) begun s → PutTurns awaited awaited log log wire (record p { stage = puts.Begins begun }) (record p { stage = s })
+opening_turns awaited log wire p (Ok begun) s none opens = opened_so awaited log wire p (Ok begun) none begun.length s (λ is. is) opens
+opening_turns awaited log wire p (Err e) s none opens =
+    subst (λ (x : PutStage). PutTurns awaited awaited log log wire (record p { stage = puts.Begins (Err e) }) (record p { stage = x })) (sym opens)
+    (failed_so awaited log wire p (Err e) none (ended.Failed e) (λ calls q nothing is. (nothing.0, ap length nothing.1 ∙ sym none, inl (inl is, nowhere q nothing), tt)))

@@ -1,0 +1,290 @@
+-- What a put tells behind a poll of its upload.
+use Rattle.std.proofs.Common.{◌≡◌, ◌<◌, ◌≤◌, ◌+◌, ◌-◌, ℕ, ℤ, List, [], ◌∷◌, length, length-append, take, Some, refl, sym, ap, ◌∙◌, subst, inl, inr}
+use Rattle.std.specs.Prelude.{slice_get}
+use Rattle.mg_link.specs.Acts.{Tickets}
+use Rattle.mg_link.specs.Calls.{AddsOnly, Past, past_of}
+use Rattle.mg_link.specs.Files.{AreChunks, Bucket, chunked}
+use Rattle.mg_link.specs.Filing.{KnowsFile, cleared, stays, whole_with}
+use Rattle.mg_link.specs.Link.{Awaited, LogTold}
+use Rattle.mg_link.specs.Log.{Call}
+use Rattle.mg_link.specs.declared.error.Error.{Error}
+use Rattle.mg_link.proofs.Calls.{keeps_longer}
+use Rattle.mg_link.proofs.Owners.{same_some}
+use Rattle.mg_link.proofs.Places.{get_within}
+use Rattle.mg_gridfs.specs.Calls.{Closes, LeavesEnd, LeavesWrite, Writes}
+use Rattle.mg_gridfs.specs.Causes.{CloseCame, CloseCaused, IsUploading, UnderwayBy, WriteCame, WriteCaused}
+use Rattle.mg_gridfs.specs.Cursors.{LeavesOthers}
+use Rattle.mg_gridfs.specs.Laws.{IsSettled}
+use Rattle.mg_gridfs.specs.Storing.{AfterClose, AfterWrite, CloseStores, HasCleared, HasStored, KnowsUpload, WriteStores, may_leave, taken_by}
+use Rattle.mg_gridfs.specs.Uploads.{Aim, ClientUpload, Doing, IsBetween, close, closed, error_by, fresh_upload, idle, record_of, upload_ticket}
+use Rattle.mg_gridfs.specs.declared.polls.Step2.{Step2}
+use Rattle.mg_gridfs.specs.declared.polls.Step2.TheVariants as end
+use Rattle.mg_gridfs.specs.declared.polls.WritePoll.{WritePoll}
+use Rattle.mg_gridfs.specs.declared.polls.WritePoll.TheVariants as wrote
+use Rattle.mg_gridfs.proofs.Holding.{uploads_settle}
+use Rattle.mg_players.specs.Causes.{places_from, sent_at, sent_since}
+use Rattle.mg_players.specs.Plays.{Places, all_places}
+use Rattle.mg_players.specs.PutFailures.{AnswersPut, PutFails, PutReads}
+use Rattle.mg_players.specs.Puts.{CutBy, IsPutDoing, PutTask, joined, put_aim, put_bucket, taken_in}
+use Rattle.mg_players.specs.Sends.{IsPutCommand}
+use Rattle.mg_players.specs.Telling.{PutTellsOpen}
+use Rattle.mg_players.proofs.PutFailed.{CloseEnds, WriteEnds, close_ends, write_ends}
+use Rattle.mg_players.proofs.PutPolled.{Ahead, AheadEnd, PollSent, close_sends, taken_on, taken_whole, takes_close, takes_write, write_sends}
+use Rattle.mg_players.proofs.PutSending.{Stands}
+use Rattle.mg_players.proofs.PutTelling.{cleared_settles, fails_on, reads_on, stored_settles, uploading_on}
+use Rattle.mg_players.proofs.Telling.{answered_by, going_on, grows_ended, in_first, is_since, since_is}
+use Rattle.mg_players.proofs.Whole.{whole_answered, whole_going}
+
+-- what was sent up to here counts as sent before
+settled : (places : List ℕ) (from upto : ℕ) → from ≤ upto → IsSettled places from upto (sent_since places from upto)
+settled places from upto room = record {
+  kept = λ k is. in_first places (places_from from (upto - from)) k is;
+  added = λ k low high. is_since places from upto k low high;
+  only = λ k is. since_is places from upto k room is;
+}
+
+-- by all places behind it
+settled_all : (q q' : Places) (from upto : ℕ) → from ≤ upto → all_places q' ≡ sent_since (all_places q) from upto → IsSettled (all_places q) from upto (all_places q')
+settled_all q q' from upto room whole = subst (IsSettled (all_places q) from upto) (sym whole) (settled (all_places q) from upto room)
+
+module _ (t : PutTask) (old new : Awaited) (log log' : LogTold) (wire : ℤ) (u u' : ClientUpload) (calls calls' : List Call) (told' : log' ≡ Some calls') (q : Places) where
+  abbrev From : ℕ
+  From = length calls
+
+  abbrev Upto : ℕ
+  Upto = length calls'
+
+  -- the log behind the poll
+  as_told : (P : List Call → Type 0) (mid : List Call) → log' ≡ Some mid → P mid → P calls'
+  as_told P mid told x = subst P (same_some mid calls' (sym told ∙ told')) x
+
+  -- what is on its way behind a poll that goes on
+  underway_on : IsUploading new (past_of q.now From calls' wire) u' → IsUploading new (sent_at (sent_since q.now From Upto) calls' wire) u'
+  underway_on h = uploading_on (past_of q.now From calls' wire) (sent_at (sent_since q.now From Upto) calls' wire) (grows_ended q.now From calls' wire) new new u'.aim u'.doing (λ m held. refl) h
+
+  -- why its call failed
+  fails_behind : (e : Error) → PutFails (past_of q.now From calls' wire) t e → PutFails (sent_at (sent_since q.now From Upto) calls' wire) t e
+  fails_behind e fails = fails_on (past_of q.now From calls' wire) (sent_at (sent_since q.now From Upto) calls' wire) (grows_ended q.now From calls' wire) t e fails
+
+  -- what it knows of the list that it reads
+  reads_behind : PutReads new (past_of q.now From calls' wire) (put_bucket t) u'.doing → PutReads new (sent_at (sent_since q.now From Upto) calls' wire) (put_bucket t) u'.doing
+  reads_behind h = reads_on (past_of q.now From calls' wire) (sent_at (sent_since q.now From Upto) calls' wire) (grows_ended q.now From calls' wire) new new (put_bucket t) u'.doing (λ m held. refl) h
+
+  -- what the upload stored
+  knows_behind : (q' : Places) (taken taken' : List ℕ) → From ≤ Upto → all_places q' ≡ sent_since (all_places q) From Upto → taken ≡ taken' → KnowsUpload new (past_of (all_places q) From calls' wire) t.at u' taken → KnowsUpload new (sent_at (all_places q') calls' wire) t.at u' taken'
+  knows_behind q' taken taken' room whole same k = subst (KnowsUpload new (sent_at (all_places q') calls' wire) t.at u') same (uploads_settle new calls calls' wire (all_places q) (all_places q') t.at u' taken (settled_all q q' From Upto room whole) k)
+
+-- what is stored for its aim
+stored_by : (past : Past) (t : PutTask) (u : ClientUpload) (taken : List ℕ) → u.aim ≡ put_aim t → HasStored past t.at u taken → HasStored past t.at (fresh_upload (put_aim t)) taken
+stored_by past t u taken aim s =
+    record {
+      ending = s.ending;
+      counts = s.counts;
+      chunks = s.chunks;
+      chunks_are = subst (λ (a : Aim). AreChunks 0 (chunked a.size taken) s.chunks) aim s.chunks_are;
+      knows = subst (λ (a : Aim). KnowsFile past t.at a.id (stays (whole_with (record_of a s.ending) s.chunks))) aim s.knows;
+    }
+
+-- none of its chunks is left, told of its aim
+cleared_by : (past : Past) (t : PutTask) (u : ClientUpload) (e : Error) → u.aim ≡ put_aim t → HasCleared past t.at u e → HasCleared past t.at (fresh_upload (put_aim t)) e
+cleared_by past t u e aim h leaves = subst (λ (a : Aim). KnowsFile past t.at a.id cleared) aim (h leaves)
+
+-- a put that goes on has not closed its upload
+still_open : (u u' : ClientUpload) (made count : ℕ) → IsPutDoing u.doing made count → u' ≡ u → u'.doing ≡ closed → ⊥
+still_open u u' made count doing same over = subst (λ (d : Doing). IsPutDoing d made count) (sym (ap (λ (x : ClientUpload). x.doing) same) ∙ over) doing
+
+-- A poll that failed and left the upload as it was ran out of memory.
+write_leaves : (u u' : ClientUpload) (e : Error) (made count : ℕ) → IsPutDoing u.doing made count → made < count → u' ≡ u → LeavesWrite u u' (wrote.Failed e) → may_leave e.kind
+write_leaves u u' e made count doing within same (inl over) = absurd (still_open u u' made count doing same over)
+write_leaves u u' e made count doing within same (inr (kept, inl rest)) = subst (λ (x : Error). may_leave x.kind) (sym rest.1) tt
+write_leaves u u' e made count doing within same (inr (kept, inr refused)) = absurd (takes_write u.doing made count doing within refused.0)
+
+close_leaves : (u u' : ClientUpload) (e : Error) (made count : ℕ) → IsPutDoing u.doing made count → u' ≡ u → LeavesEnd close u u' (end.Failed e) → may_leave e.kind
+close_leaves u u' e made count doing same (inl over) = absurd (still_open u u' made count doing same over)
+close_leaves u u' e made count doing same (inr left) = absurd (takes_close u.doing made count doing left.1)
+
+-- ---- a write
+
+-- what a poll of a write says
+pub record WritePolled (old new : Awaited) (log log' : LogTold) (wire : ℤ) (u u' : ClientUpload) (bytes : List ℕ) (r : WritePoll) : Type 0 where
+  pub ids : ℕ → List ℕ
+  pub twelve : (k : ℕ) → length (ids k) ≡ 12
+  pub drawn : ℕ
+  pub does : Writes old new log log' wire ids drawn u u' bytes r
+  pub leaves : LeavesWrite u u' r
+  pub caused : WriteCaused old new log log' wire u u' r
+  pub stored : (at : Bucket) → WriteStores old new log log' wire at u u' bytes r
+  pub passes : LeavesOthers old new log log' u u'
+  pub tickets : Tickets old new (upload_ticket u) (upload_ticket u')
+
+module _ (t : PutTask) (old new : Awaited) (log log' : LogTold) (wire : ℤ) (u u' : ClientUpload) (bytes : List ℕ) (r : WritePoll) (polled : WritePolled old new log log' wire u u' bytes r) (between : IsBetween u) (made : ℕ) (there : slice_get t.pieces made ≡ Some bytes) (doing : IsPutDoing u.doing made (length t.pieces)) (calls calls' : List Call)
+    (told : log ≡ Some calls) (told' : log' ≡ Some calls') (q : Places) (tells : PutTellsOpen old calls wire q t made u) where
+  within : made < length t.pieces
+  within = get_within t.pieces made bytes there
+
+  sent : PollSent t log log' u' (Ahead r) (joined (take (made + 1) t.pieces))
+  sent = write_sends t old new log log' wire polled.ids polled.drawn u u' between tells.aim_is bytes made there within doing tells.cut tells.flies r polled.does
+
+  pub write_adds : AddsOnly (IsPutCommand t) calls calls'
+  write_adds = let a = sent.adds calls told in as_told t old new log log' wire u u' calls calls' told' q (AddsOnly (IsPutCommand t) calls) a.0 a.1 a.2
+
+  pub write_room : length calls ≤ length calls'
+  write_room = keeps_longer calls calls' write_adds.keeps
+
+  came : WriteCame new (past_of q.now (length calls) calls' wire) u u' r
+  came = let c = polled.caused calls told q.now tells.underway in as_told t old new log log' wire u u' calls calls' told' q (λ (l : List Call). WriteCame new (past_of q.now (length calls) l wire) u u' r) c.0 c.1 c.3
+
+  stored : AfterWrite new (past_of (all_places q) (length calls) calls' wire) t.at u u' (taken_in u.doing t.pieces made) bytes r
+  stored =
+      let s = polled.stored t.at calls told (all_places q) (taken_in u.doing t.pieces made) tells.knows in
+      as_told t old new log log' wire u u' calls calls' told' q (λ (l : List Call). AfterWrite new (past_of (all_places q) (length calls) l wire) t.at u u' (taken_in u.doing t.pieces made) bytes r) s.0 s.1 s.3
+
+  ended : WriteEnds t new u' r (past_of q.now (length calls) calls' wire)
+  ended =
+      let w = write_ends t old new log log' wire polled.ids polled.drawn polled.twelve u u' between tells.aim_is calls told q.now tells.underway (tells.its, tells.reads) bytes made there within doing tells.cut tells.flies r polled.does in
+      as_told t old new log log' wire u u' calls calls' told' q (λ (l : List Call). WriteEnds t new u' r (past_of q.now (length calls) l wire)) w.0 w.1 w.3
+
+  taken_so : (d : Doing) (made' : ℕ) → taken_in d t.pieces made' ≡ joined (take (made + 1) t.pieces) → taken_by u.doing (taken_in u.doing t.pieces made) bytes ≡ taken_in d t.pieces made'
+  taken_so d made' same = taken_on u.doing t.pieces made bytes doing within there ∙ sym same
+
+  -- it waits for a reply
+  pub write_waits : r ≡ wrote.Pending → PutTellsOpen new calls' wire (going_on q (length calls) (length calls')) t made u'
+  write_waits is =
+      let busy_so = subst (LeavesWrite u u') is polled.leaves in
+      let taken : taken_in u'.doing t.pieces made ≡ joined (take (made + 1) t.pieces) = ap (λ (d : Doing). taken_in d t.pieces made) busy_so.2 in
+      let stands = subst (λ (x : WritePoll). Ahead x (Stands t u' (joined (take (made + 1) t.pieces)) u'.doing)) is sent.stands in
+      record {
+        aim_is = sent.aim_is;
+        sized = tells.sized;
+        opened = tells.opened;
+        counted = tells.counted;
+        cut = subst (λ (l : List ℕ). CutBy u' l u'.doing) (sym taken) stands.0;
+        underway = underway_on t old new log log' wire u u' calls calls' told' q (subst (WriteCame new (past_of q.now (length calls) calls' wire) u u') is came);
+        flies = stands.1;
+        its = (subst (λ (x : WritePoll). WriteEnds t new u' x (past_of q.now (length calls) calls' wire)) is ended).0;
+        reads = reads_behind t old new log log' wire u u' calls calls' told' q (subst (λ (x : WritePoll). WriteEnds t new u' x (past_of q.now (length calls) calls' wire)) is ended).1;
+        knows = knows_behind t old new log log' wire u u' calls calls' told' q (going_on q (length calls) (length calls')) (taken_by u.doing (taken_in u.doing t.pieces made) bytes) (taken_in u'.doing t.pieces made) write_room (whole_going q (length calls) (length calls')) (taken_so u'.doing made taken)
+            (subst (AfterWrite new (past_of (all_places q) (length calls) calls' wire) t.at u u' (taken_in u.doing t.pieces made) bytes) is stored);
+      }
+
+  -- one piece more is written
+  pub write_done : (n : ℕ) → r ≡ wrote.Wrote n → PutTellsOpen new calls' wire (answered_by q (length calls) (length calls')) t (made + 1) u'
+  write_done n is =
+      let rests_so : u'.doing ≡ idle = (subst (LeavesWrite u u') is polled.leaves).0 in
+      let taken : taken_in u'.doing t.pieces (made + 1) ≡ joined (take (made + 1) t.pieces) = ap (λ (d : Doing). taken_in d t.pieces (made + 1)) rests_so in
+      let stands = subst (λ (x : WritePoll). Ahead x (Stands t u' (joined (take (made + 1) t.pieces)) u'.doing)) is sent.stands in
+      let own : List ℕ = sent_since q.now (length calls) (length calls') in
+      record {
+        aim_is = sent.aim_is;
+        sized = tells.sized;
+        opened = tells.opened;
+        counted = length-append q.owns (own ∷ []) ∙ ap (λ (m : ℕ). m + 1) tells.counted;
+        cut = subst (λ (l : List ℕ). CutBy u' l u'.doing) (sym taken) stands.0;
+        underway = subst (UnderwayBy new (sent_at [] calls' wire) u'.aim) (sym rests_so) tt;
+        flies = stands.1;
+        its = subst (λ (d : Doing). AnswersPut t (error_by d)) (sym rests_so) tt;
+        reads = subst (PutReads new (sent_at [] calls' wire) (put_bucket t)) (sym rests_so) tt;
+        knows = knows_behind t old new log log' wire u u' calls calls' told' q (answered_by q (length calls) (length calls')) (taken_by u.doing (taken_in u.doing t.pieces made) bytes) (taken_in u'.doing t.pieces (made + 1)) write_room (whole_answered q (length calls) (length calls')) (taken_so u'.doing (made + 1) taken)
+            (subst (AfterWrite new (past_of (all_places q) (length calls) calls' wire) t.at u u' (taken_in u.doing t.pieces made) bytes) is stored);
+      }
+
+  -- it fails
+  pub write_fails : (e : Error) → r ≡ wrote.Failed e → PutFails (sent_at (sent_since q.now (length calls) (length calls')) calls' wire) t e
+  write_fails e is = fails_behind t old new log log' wire u u' calls calls' told' q e (subst (λ (x : WritePoll). WriteEnds t new u' x (past_of q.now (length calls) calls' wire)) is ended)
+
+  -- and leaves no chunk, unless its error may
+  pub write_clears : (e : Error) → r ≡ wrote.Failed e → HasCleared (sent_at (all_places (going_on q (length calls) (length calls'))) calls' wire) t.at (fresh_upload (put_aim t)) e
+  write_clears e is =
+      let q' : Places = going_on q (length calls) (length calls') in
+      let past : Past = past_of (all_places q) (length calls) calls' wire in
+      let h : HasCleared past t.at u e = elim (subst (AfterWrite new past t.at u u' (taken_in u.doing t.pieces made) bytes) is stored) [
+        | inl left ↦ (λ leaves. absurd (leaves (write_leaves u u' e made (length t.pieces) doing within left.0 (subst (LeavesWrite u u') is polled.leaves))))
+        | inr cleared_so ↦ cleared_so
+      ] in
+      cleared_by (sent_at (all_places q') calls' wire) t u e tells.aim_is (cleared_settles calls calls' wire (all_places q) (all_places q') t.at u e (settled_all q q' (length calls) (length calls') write_room (whole_going q (length calls) (length calls'))) h)
+
+-- ---- a close
+
+-- what a poll of a close says
+pub record ClosePolled (old new : Awaited) (log log' : LogTold) (wire : ℤ) (u u' : ClientUpload) (r : Step2) : Type 0 where
+  pub ids : ℕ → List ℕ
+  pub twelve : (k : ℕ) → length (ids k) ≡ 12
+  pub drawn : ℕ
+  pub moment : ℤ
+  pub does : Closes old new log log' wire ids drawn moment u u' r
+  pub leaves : LeavesEnd close u u' r
+  pub caused : CloseCaused old new log log' wire u u' r
+  pub stored : (at : Bucket) → CloseStores old new log log' wire at u u' r
+  pub passes : LeavesOthers old new log log' u u'
+  pub tickets : Tickets old new (upload_ticket u) (upload_ticket u')
+
+module _ (t : PutTask) (old new : Awaited) (log log' : LogTold) (wire : ℤ) (u u' : ClientUpload) (r : Step2) (polled : ClosePolled old new log log' wire u u' r) (between : IsBetween u) (made : ℕ) (all : length t.pieces ≤ made) (doing : IsPutDoing u.doing made (length t.pieces)) (calls calls' : List Call) (told : log ≡ Some calls) (told' : log' ≡ Some calls')
+    (q : Places) (tells : PutTellsOpen old calls wire q t made u) where
+  end_sent : PollSent t log log' u' (AheadEnd r) (joined t.pieces)
+  end_sent = close_sends t old new log log' wire polled.ids polled.drawn u u' between tells.aim_is made all doing tells.cut tells.flies polled.moment r polled.does
+
+  pub close_adds : AddsOnly (IsPutCommand t) calls calls'
+  close_adds = let a = end_sent.adds calls told in as_told t old new log log' wire u u' calls calls' told' q (AddsOnly (IsPutCommand t) calls) a.0 a.1 a.2
+
+  pub close_room : length calls ≤ length calls'
+  close_room = keeps_longer calls calls' close_adds.keeps
+
+  end_came : CloseCame new (past_of q.now (length calls) calls' wire) u u' r
+  end_came = let c = polled.caused calls told q.now tells.underway in as_told t old new log log' wire u u' calls calls' told' q (λ (l : List Call). CloseCame new (past_of q.now (length calls) l wire) u u' r) c.0 c.1 c.3
+
+  end_stored : AfterClose new (past_of (all_places q) (length calls) calls' wire) t.at u u' (taken_in u.doing t.pieces made) r
+  end_stored =
+      let s = polled.stored t.at calls told (all_places q) (taken_in u.doing t.pieces made) tells.knows in
+      as_told t old new log log' wire u u' calls calls' told' q (λ (l : List Call). AfterClose new (past_of (all_places q) (length calls) l wire) t.at u u' (taken_in u.doing t.pieces made) r) s.0 s.1 s.3
+
+  closed_so : CloseEnds t new u' r (past_of q.now (length calls) calls' wire)
+  closed_so =
+      let w = close_ends t old new log log' wire polled.ids polled.drawn polled.twelve u u' between tells.aim_is calls told q.now tells.underway (tells.its, tells.reads) made all doing tells.cut tells.flies polled.moment r polled.does in
+      as_told t old new log log' wire u u' calls calls' told' q (λ (l : List Call). CloseEnds t new u' r (past_of q.now (length calls) l wire)) w.0 w.1 w.3
+
+  end_taken : taken_in u.doing t.pieces made ≡ joined t.pieces
+  end_taken = taken_whole u.doing t.pieces made doing all
+
+  -- it waits for a reply
+  pub close_waits : r ≡ end.Pending → PutTellsOpen new calls' wire (going_on q (length calls) (length calls')) t made u'
+  close_waits is =
+      let busy_so = subst (LeavesEnd close u u') is polled.leaves in
+      let taken : taken_in u'.doing t.pieces made ≡ joined t.pieces = ap (λ (d : Doing). taken_in d t.pieces made) busy_so.1 in
+      let stands = subst (λ (x : Step2). AheadEnd x (Stands t u' (joined t.pieces) u'.doing)) is end_sent.stands in
+      record {
+        aim_is = end_sent.aim_is;
+        sized = tells.sized;
+        opened = tells.opened;
+        counted = tells.counted;
+        cut = subst (λ (l : List ℕ). CutBy u' l u'.doing) (sym taken) stands.0;
+        underway = underway_on t old new log log' wire u u' calls calls' told' q (subst (CloseCame new (past_of q.now (length calls) calls' wire) u u') is end_came);
+        flies = stands.1;
+        its = (subst (λ (x : Step2). CloseEnds t new u' x (past_of q.now (length calls) calls' wire)) is closed_so).0;
+        reads = reads_behind t old new log log' wire u u' calls calls' told' q (subst (λ (x : Step2). CloseEnds t new u' x (past_of q.now (length calls) calls' wire)) is closed_so).1;
+        knows = knows_behind t old new log log' wire u u' calls calls' told' q (going_on q (length calls) (length calls')) (taken_in u.doing t.pieces made) (taken_in u'.doing t.pieces made) close_room (whole_going q (length calls) (length calls')) (end_taken ∙ sym taken)
+            (subst (AfterClose new (past_of (all_places q) (length calls) calls' wire) t.at u u' (taken_in u.doing t.pieces made)) is end_stored);
+      }
+
+  -- the file is stored
+  pub close_done : r ≡ end.Done → HasStored (sent_at (all_places (going_on q (length calls) (length calls'))) calls' wire) t.at (fresh_upload (put_aim t)) (joined t.pieces)
+  close_done is =
+      let q' : Places = going_on q (length calls) (length calls') in
+      let s : HasStored (past_of (all_places q) (length calls) calls' wire) t.at u (joined t.pieces) =
+      subst (HasStored (past_of (all_places q) (length calls) calls' wire) t.at u) end_taken (subst (AfterClose new (past_of (all_places q) (length calls) calls' wire) t.at u u' (taken_in u.doing t.pieces made)) is end_stored) in
+      stored_by (sent_at (all_places q') calls' wire) t u (joined t.pieces) tells.aim_is
+      (stored_settles calls calls' wire (all_places q) (all_places q') t.at u (joined t.pieces) (settled_all q q' (length calls) (length calls') close_room (whole_going q (length calls) (length calls'))) s)
+
+  -- it fails
+  pub close_fails : (e : Error) → r ≡ end.Failed e → PutFails (sent_at (sent_since q.now (length calls) (length calls')) calls' wire) t e
+  close_fails e is = fails_behind t old new log log' wire u u' calls calls' told' q e (subst (λ (x : Step2). CloseEnds t new u' x (past_of q.now (length calls) calls' wire)) is closed_so)
+
+  -- and leaves no chunk, unless its error may
+  pub close_clears : (e : Error) → r ≡ end.Failed e → HasCleared (sent_at (all_places (going_on q (length calls) (length calls'))) calls' wire) t.at (fresh_upload (put_aim t)) e
+  close_clears e is =
+      let q' : Places = going_on q (length calls) (length calls') in
+      let past : Past = past_of (all_places q) (length calls) calls' wire in
+      let h : HasCleared past t.at u e = elim (subst (AfterClose new past t.at u u' (taken_in u.doing t.pieces made)) is end_stored) [
+        | inl left ↦ (λ leaves. absurd (leaves (close_leaves u u' e made (length t.pieces) doing left.0 (subst (LeavesEnd close u u') is polled.leaves))))
+        | inr cleared_so ↦ cleared_so
+      ] in
+      cleared_by (sent_at (all_places q') calls' wire) t u e tells.aim_is (cleared_settles calls calls' wire (all_places q) (all_places q') t.at u e (settled_all q q' (length calls) (length calls') close_room (whole_going q (length calls) (length calls'))) h)

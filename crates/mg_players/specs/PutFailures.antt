@@ -1,0 +1,209 @@
+-- Why a put fails whose upload was opened.
+use Rattle.std.specs.Prelude.{◌≡◌, ◌≢◌, ◌⊎◌, ◌<◌, ◌≤◌, ◌+◌, ◌*◌, ◌^◌, ℕ, pos, false, true, List, [], ◌∷◌, ◌++◌, length, Option, None, Some, Ok, unwrap_or}
+use Rattle.mg_bson.specs.Raw.{fields}
+use Rattle.mg_bson.specs.Tree.{Fields}
+use Rattle.mg_link.specs.Calls.{HeardAt, HeardBy, Past, RequestFails}
+use Rattle.mg_link.specs.Errors.{command_code, plain}
+use Rattle.mg_link.specs.Exec.{IsSuccess, Sending, ticket_of}
+use Rattle.mg_link.specs.Link.{Awaited}
+use Rattle.mg_link.specs.Log.{reply}
+use Rattle.mg_link.specs.Session.{Session}
+use Rattle.mg_link.specs.declared.error.Error.{Error}
+use Rattle.mg_link.specs.declared.error.ErrorKind.{ErrorKind}
+use Rattle.mg_link.specs.declared.error.ErrorKind.TheVariants as kind
+use Rattle.mg_link.specs.declared.error.GridFsErrorKind.TheVariants as grid
+use Rattle.mg_options.specs.Fields.{Line, fields_in}
+use Rattle.mg_ops.specs.Cursors.{Cursor, OpensWith, cursor_of}
+use Rattle.mg_ops.specs.Failing.{CannotBeSent}
+use Rattle.mg_ops.specs.declared.cursor_reply.CursorSpecification.{CursorSpecification}
+use Rattle.mg_cursor.specs.Batches.{BreaksBatch, documents_of}
+use Rattle.mg_cursor.specs.Causes.{HeardMore, MoreFails, TellsNoCursor}
+use Rattle.mg_cursor.specs.Client as client
+use Rattle.mg_cursor.specs.Client.{ClientCursor, at_rest, behind_reply, get_more, holds, new_client}
+use Rattle.mg_cursor.specs.Documents.{DocumentCursor}
+use Rattle.mg_cursor.specs.Polling.{CannotAsk}
+use Rattle.mg_records.specs.Readings.{FailsToRead, recorded}
+use Rattle.mg_records.specs.Specifications.{index_of}
+use Rattle.mg_gridfs.specs.Buckets.{ClientBucket}
+use Rattle.mg_gridfs.specs.Causes.{ArePortion, HeardRemoved, IsCausedFirst, IsOfCheck, IsRest, ListsFailure, RemovalFails, UploadFails}
+use Rattle.mg_gridfs.specs.Checks.{ClientCheck, creates, finds, indexes, lists, namespace_exists, reads}
+use Rattle.mg_gridfs.specs.Commands.{CannotSend, CannotStore, any_lines, chunk_document, chunks_lines, creation_lines, index_lines, listing_lines, record_lines}
+use Rattle.mg_gridfs.specs.Steps.{FailsToUndo}
+use Rattle.mg_gridfs.specs.Uploads.{Aim, Doing, Ending, Phase, begins, busy, checks, closed, ends, fills, idle, inserts, lands, lasts, record_of, records, removes, rests, undoes}
+use Rattle.mg_gridfs.specs.declared.indexes.Place.{Place}
+use Rattle.mg_players.specs.Puts.{PutTask, put_aim, put_bucket, total}
+
+-- ---- the list of the indexes
+
+-- The call heard these replies to the getMores of a cursor, which left it so: each at its place in the log, behind that of the one before.
+abbrev pub AreInTurn : Past → ClientCursor → ℕ → List (ℕ × List ℕ) → ClientCursor → Type 0
+AreInTurn past c last [] c' = c' ≡ at_rest c
+AreInTurn past c last (h ∷ more) c' = (last < h.0) × (session : Option Session) × HeardAt past h.0 (get_more c session) (reply h.1) × IsSuccess h.1 × (said : Cursor) × (cursor_of (fields h.1) ≡ Ok said) × AreInTurn past (behind_reply said c) h.0 more c'
+
+-- The call opened this cursor by a list of the indexes of a collection, and heard these replies to its getMores, one behind another.
+pub record IsOfList (past : Past) (b : ClientBucket) (c : ClientCursor) : Type 0 where
+  pub at : Place
+  pub place : ℕ
+  pub first : List ℕ
+  pub heard : HeardAt past place (fields_in (listing_lines b at)) (reply first)
+  pub success : IsSuccess first
+  pub out : CursorSpecification
+  pub opens : OpensWith None None None first out
+  pub replies : List (ℕ × List ℕ)
+  pub behind : AreInTurn past (new_client out) place replies (at_rest c)
+
+-- the place of the newest
+abbrev pub newest : ℕ → List (ℕ × List ℕ) → ℕ
+newest last [] = last
+newest last (h ∷ more) = newest h.0 more
+
+-- how many documents a batch holds, and so many replies
+abbrev pub held_in : List ℕ → ℕ
+held_in bytes = length (unwrap_or (documents_of bytes) [])
+
+abbrev pub held_by : List (ℕ × List ℕ) → ℕ
+held_by [] = 0
+held_by (h ∷ more) = held_in h.1 + held_by more
+
+-- how many the call heard of the list
+abbrev pub brought : {past : Past} {b : ClientBucket} {c : ClientCursor} → IsOfList past b c → ℕ
+brought l = held_in l.first + held_by l.replies
+
+-- the documents of the reply in hand
+abbrev pub in_hand : client.Doing → ℕ
+in_hand client.rests = 0
+in_hand (holds bytes) = held_in bytes
+in_hand (client.asks sending) = 0
+
+-- the call heard this batch of such a list
+pub data IsListBatch (past : Past) (b : ClientBucket) (bytes : List ℕ) : Type 0 where
+  first_batch : (at : Place) → HeardBy past (fields_in (listing_lines b at)) (reply bytes) → IsSuccess bytes → IsListBatch past b bytes
+  next_batch : (c : ClientCursor) → IsOfList past b c → HeardMore past c bytes → IsListBatch past b bytes
+
+-- the cursor stands behind such a batch, as that told it
+pub record StandsBehind (past : Past) (b : ClientBucket) (c : ClientCursor) (bytes : List ℕ) : Type 0 where
+  pub batch : IsListBatch past b bytes
+  pub said : Cursor
+  pub says : cursor_of (fields bytes) ≡ Ok said
+  pub id_is : said.id ≡ c.id
+
+-- which is empty
+pub record StandsBehindNone (past : Past) (b : ClientBucket) (c : ClientCursor) : Type 0 where
+  pub bytes : List ℕ
+  pub stands : StandsBehind past b c bytes
+  pub empty : documents_of bytes ≡ Some []
+
+-- the document stands in such a batch
+pub record IsListed (past : Past) (b : ClientBucket) (document : List ℕ) : Type 0 where
+  pub bytes : List ℕ
+  pub batch : IsListBatch past b bytes
+  pub front : List (List ℕ)
+  pub after : List (List ℕ)
+  pub holds : documents_of bytes ≡ Some (front ++ document ∷ after)
+
+-- so do these, at its end
+pub record AreListed (past : Past) (b : ClientBucket) (documents : List (List ℕ)) : Type 0 where
+  pub bytes : List ℕ
+  pub batch : IsListBatch past b bytes
+  pub front : List (List ℕ)
+  pub holds : documents_of bytes ≡ Some (front ++ documents)
+
+-- What the call knows of a list that it reads: which cursor it is, that the reply in hand told it, whence the documents that are left, and behind which reply
+-- it stands where some came empty; that it was given so many of those that it heard; and that its getMore on its way stands in the log behind all replies.
+pub record ReadsList (awaited : Awaited) (past : Past) (b : ClientBucket) (d : DocumentCursor) (count : ℕ) : Type 0 where
+  pub of_list : IsOfList past b d.cursor
+  pub hand : (bytes : List ℕ) → d.cursor.doing ≡ holds bytes → StandsBehind past b d.cursor bytes × (d.empty ≡ 0)
+  pub left : (d.behind ≡ []) ⊎ AreListed past b d.behind
+  pub empties : (d.empty ≡ 0) ⊎ StandsBehindNone past b d.cursor
+  pub counted : count + (length d.behind + in_hand d.cursor.doing) ≡ brought of_list
+  pub within : newest of_list.place of_list.replies < length past.calls
+  pub waits : (sending : Sending) (ticket place : ℕ) → d.cursor.doing ≡ client.asks sending → ticket_of sending ≡ Some ticket → awaited ticket ≡ Some place → newest of_list.place of_list.replies < place
+
+abbrev pub CheckReads : Awaited → Past → ClientBucket → ClientCheck → Type 0
+CheckReads awaited past b (finds sending) = Unit {0}
+CheckReads awaited past b (creates at sending) = Unit {0}
+CheckReads awaited past b (lists at sending) = Unit {0}
+CheckReads awaited past b (reads at cursor found count) = ReadsList awaited past b cursor count
+CheckReads awaited past b (indexes at sending) = Unit {0}
+
+-- ---- the check of the indexes
+
+-- why it fails
+pub data PutCheckFails (past : Past) (b : ClientBucket) (e : Error) : Type 0 where
+  out_of_memory : e.kind ≡ kind.OutOfMemory → PutCheckFails past b e
+  not_built : (lines : List Line) → IsOfCheck b lines → CannotSend lines e → PutCheckFails past b e
+  by_find : RequestFails past (fields_in (any_lines b)) true TellsNoCursor e → PutCheckFails past b e
+  -- that a collection is there is no failure
+  by_creation : (at : Place) → RequestFails past (fields_in (creation_lines b at)) false ListsFailure e → command_code e.kind ≢ Some namespace_exists → PutCheckFails past b e
+  by_listing : (at : Place) → RequestFails past (fields_in (listing_lines b at)) true TellsNoCursor e → PutCheckFails past b e
+  by_index : (at : Place) → RequestFails past (fields_in (index_lines b at)) false ListsFailure e → PutCheckFails past b e
+  -- a getMore of the list is not built, or fails
+  not_asked : (c : ClientCursor) → IsOfList past b c → CannotAsk c None e → PutCheckFails past b e
+  by_more : (c : ClientCursor) → IsOfList past b c → MoreFails past c e → PutCheckFails past b e
+  -- a batch of it holds what is no document; or one came empty behind another
+  broken : (bytes : List ℕ) → IsListBatch past b bytes → BreaksBatch bytes e → PutCheckFails past b e
+  stays_empty : (c : ClientCursor) → StandsBehindNone past b c → c.id ≢ pos 0 → e ≡ plain kind.EmptyBatches → PutCheckFails past b e
+  -- an item of it is no index
+  no_index : (document : List ℕ) → IsListed past b document → FailsToRead (recorded (index_of (fields document))) e → PutCheckFails past b e
+  -- or it has too many
+  too_many : (c : ClientCursor) (l : IsOfList past b c) → 1048576 < brought l → e ≡ plain kind.TooManyDocuments → PutCheckFails past b e
+
+-- ---- errors of a put
+
+-- the pieces have the bytes of so many chunks, and no file has more
+abbrev pub HasManyChunks : PutTask → Type 0
+HasManyChunks t = 2 ^ 31 * t.chunk ≤ total t.pieces
+
+-- Something that has to be stored is not built: full chunks of one command, or one of them, the last chunk, or the record. The id of a chunk has twelve bytes.
+pub data NotBuilt (aim : Aim) (e : Error) : Type 0 where
+  full_chunks : (documents : List Fields) (portion : ArePortion aim documents) → ((k : ℕ) → length (portion.ids k) ≡ 12) → CannotStore (chunks_lines aim.bucket documents) documents e → NotBuilt aim e
+  one_chunk : (id : List ℕ) (number : ℕ) (bytes : List ℕ) → length id ≡ 12 → length bytes ≡ aim.size → CannotBeSent (chunk_document id aim.id number bytes) e → NotBuilt aim e
+  last_chunk : (document : Fields) (rest : IsRest aim document) → length rest.id ≡ 12 → CannotStore (chunks_lines aim.bucket (document ∷ [])) (document ∷ []) e → NotBuilt aim e
+  the_record : (ending : Ending) → CannotStore (record_lines aim.bucket (record_of aim ending)) (record_of aim ending ∷ []) e → NotBuilt aim e
+
+-- an error is not that something is not built, nor that a file has too many chunks, nor that it was closed while a write went on
+abbrev pub IsCommonKind : ErrorKind → Type 0
+IsCommonKind kind.BsonSerialization = ⊥
+IsCommonKind (kind.InvalidArgument argument) = ⊥
+IsCommonKind (kind.GridFs grid.WriteInProgress) = ⊥
+IsCommonKind kind.FileTooLarge = ⊥
+IsCommonKind _ = Unit {0}
+
+-- A put closes its upload behind its last write, so that none goes on; and its chunks are too many only where its pieces have so many bytes.
+abbrev pub IsPutError : PutTask → Error → Type 0
+IsPutError t e = IsCommonKind e.kind ⊎ (NotBuilt (put_aim t) e ⊎ ((e ≡ plain kind.FileTooLarge) × HasManyChunks t))
+
+-- so is an error that is answered once the chunks are removed, where there is one
+abbrev pub AnswersPut : PutTask → Option Error → Type 0
+AnswersPut t None = Unit {0}
+AnswersPut t (Some e) = IsPutError t e
+
+-- what a call of its upload knows that goes on
+abbrev pub PhaseReads : Awaited → Past → ClientBucket → Phase → Type 0
+PhaseReads awaited past b begins = Unit {0}
+PhaseReads awaited past b (checks check) = CheckReads awaited past b check
+PhaseReads awaited past b fills = Unit {0}
+PhaseReads awaited past b (inserts sending count) = Unit {0}
+PhaseReads awaited past b (rests moment) = Unit {0}
+PhaseReads awaited past b (lasts sending ending) = Unit {0}
+PhaseReads awaited past b (ends ending) = Unit {0}
+PhaseReads awaited past b (records sending ending) = Unit {0}
+PhaseReads awaited past b (lands flight error) = Unit {0}
+PhaseReads awaited past b (undoes error) = Unit {0}
+PhaseReads awaited past b (removes sending error) = Unit {0}
+
+abbrev pub PutReads : Awaited → Past → ClientBucket → Doing → Type 0
+PutReads awaited past b idle = Unit {0}
+PutReads awaited past b (busy call phase) = PhaseReads awaited past b phase
+PutReads awaited past b closed = Unit {0}
+
+-- why the last call of its upload failed
+pub data PutFails (past : Past) (t : PutTask) (e : Error) : Type 0 where
+  -- before the first chunk
+  check_fails : PutCheckFails past (put_bucket t) e → PutFails past t e
+  -- memory ran out as the bytes of a piece were taken
+  not_taken : e ≡ plain kind.OutOfMemory → PutFails past t e
+  -- the chunks were removed, and this was the first error
+  first_error : UploadFails past (put_aim t) e → IsPutError t e → HeardRemoved past (put_aim t) → PutFails past t e
+  -- they were not
+  not_removed : (original : Option Error) (d : Error) → IsCausedFirst past (put_aim t) original → RemovalFails past (put_aim t) d → FailsToUndo original d e → PutFails past t e

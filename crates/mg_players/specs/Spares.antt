@@ -1,0 +1,109 @@
+-- What a get never fails for: over a file that is whole, and where its own steps were answered at once.
+use Rattle.std.specs.Prelude.{◌≡◌, ◌≢◌, ◌<◌, ◌≤◌, Contains, ℕ, ℤ, pos, List, Some, None, Ok, slice_get, take}
+use Rattle.mg_bson.specs.Raw.{fields}
+use Rattle.mg_bson.specs.Tree.{Fields, Tree}
+use Rattle.mg_link.specs.Calls.{HeardBy, IsOwn, Past}
+use Rattle.mg_link.specs.Commands.{Asked, asked, asks_query}
+use Rattle.mg_link.specs.Exec.{IsSuccess}
+use Rattle.mg_link.specs.Files.{Bucket, IsWhole, LeavesFile, chunks_space}
+use Rattle.mg_link.specs.History.{IsLegal, Step, state_of, told_at}
+use Rattle.mg_link.specs.Log.{Call, reply}
+use Rattle.mg_link.specs.Prompt.{IsPrompt}
+use Rattle.mg_link.specs.Query.{Query}
+use Rattle.mg_link.specs.Standing.{OpensId, Stands}
+use Rattle.mg_link.specs.declared.error.Error.{Error}
+use Rattle.mg_link.specs.declared.error.ErrorKind.TheVariants as kind
+use Rattle.mg_ops.specs.Cursors.{Cursor, cursor_of}
+use Rattle.mg_ops.specs.Naming.{IsNamed}
+use Rattle.mg_cursor.specs.Causes.{MoreFails}
+use Rattle.mg_cursor.specs.Client.{ClientCursor, holds}
+use Rattle.mg_cursor.specs.Polling.{CannotAsk}
+use Rattle.mg_records.specs.FileRecords.{FileRecord, file_record_of}
+use Rattle.mg_gridfs.specs.DownloadLaws.{IsBetween}
+use Rattle.mg_gridfs.specs.Downloads.{ClientDownload, Doing, ended, idle, reads, spoiled}
+use Rattle.mg_gridfs.specs.ReadCauses.{cursor_in}
+use Rattle.mg_players.specs.Gets.{GetTask, chunks_find, no_manner}
+
+-- ---- a file that is whole
+
+-- A reply to the call at this place listed its chunks, and this does not come in a legal history in which the log stands, where a file with this record was whole
+-- and nobody touched it until that call.
+pub record SparesWhole (calls : List Call) (at : Bucket) (id : Tree) (f : FileRecord) (listed : ℕ) : Type 0 where
+  pub call : Call
+  pub there : slice_get calls listed ≡ Some call
+  pub bytes : List ℕ
+  pub heard : call.seen ≡ reply bytes
+  pub never : (history : List Step) → IsLegal history → Stands calls history → (whole : List ℕ) (size from upto : ℕ) (w : IsWhole (state_of (take from history)) at id whole size) → file_record_of w.record_of ≡ Ok f
+      → ((position : ℕ) (step : Step) → from ≤ position → position < upto → slice_get history position ≡ Some step → LeavesFile (state_of (take position history)) step at id) → IsBetween calls from upto listed → ⊥
+
+-- ---- steps that were answered at once
+
+-- the positions of the steps of what a call sent are among these
+abbrev pub AreAmong : Past → List ℕ → Type 0
+AreAmong past own = (place : ℕ) (call : Call) (position : ℕ) → IsOwn past place → slice_get past.calls place ≡ Some call → call.position ≡ Some position → Contains own position
+
+-- this is so in a legal history in which the log stands, and in which its own steps were answered at once
+abbrev pub WherePrompt : Past → Type 0 → Type 0
+WherePrompt past So = (history : List Step) → IsLegal history → Stands past.calls history → (own : List ℕ) → AreAmong past own → IsPrompt own history → So
+
+abbrev pub AsksQuery : Asked → Type 0
+AsksQuery command = (q : Query) × (command ≡ asks_query q)
+
+-- a query opened the cursor
+pub record IsQueried (history : List Step) (x : ℤ) : Type 0 where
+  pub position : ℕ
+  pub step : Step
+  pub there : slice_get history position ≡ Some step
+  pub asks : AsksQuery (asked step.command)
+  pub opens : OpensId (told_at step) x
+
+-- ---- the cursor of a read
+
+-- its id and its namespace are those of a reply that was heard, and its batches have the size that the server chooses
+pub record IsTold (past : Past) (c : ClientCursor) : Type 0 where
+  pub command : Fields
+  pub bytes : List ℕ
+  pub heard : HeardBy past command (reply bytes)
+  pub said : Cursor
+  pub says : cursor_of (fields bytes) ≡ Ok said
+  pub id_is : c.id ≡ said.id
+  pub space_is : c.space ≡ said.space
+  pub plain : c.manner ≡ no_manner
+
+-- a reply in hand is that to the list of the chunks
+pub record IsListOf (past : Past) (g : GetTask) (f : FileRecord) (c : ClientCursor) (bytes : List ℕ) : Type 0 where
+  pub heard : HeardBy past (chunks_find g f.id) (reply bytes)
+  pub success : IsSuccess bytes
+  pub said : Cursor
+  pub says : cursor_of (fields bytes) ≡ Ok said
+  pub id_is : c.id ≡ said.id
+
+-- How the cursor of a read stands, behind so many empty replies in a row: the list of the chunks opened it, whose reply it holds before it asked for more; and
+-- where the steps were answered at once it has ended behind an empty one.
+pub record IsListed (past : Past) (g : GetTask) (f : FileRecord) (empty : ℕ) (c : ClientCursor) : Type 0 where
+  pub named : IsNamed (chunks_space g.at)
+  pub told : IsTold past c
+  pub held : (bytes : List ℕ) → c.doing ≡ holds bytes → (empty ≡ 0) × IsListOf past g f c bytes
+  pub queried : (history : List Step) → IsLegal history → Stands past.calls history → c.id ≢ pos 0 → IsQueried history c.id
+  pub over : 1 ≤ empty → WherePrompt past (c.id ≡ pos 0)
+
+abbrev pub empties : Doing → ℕ
+empties (idle cursor) = 0
+empties (reads cursor missing empty) = empty
+empties ended = 0
+empties spoiled = 0
+
+-- so does the cursor of a download, where it has one
+abbrev pub ListsIts : Past → GetTask → ClientDownload → Type 0
+ListsIts past g d = (c : ClientCursor) → cursor_in d.doing ≡ Some c → IsListed past g d.file (empties d.doing) c
+
+-- ---- why a read fails
+
+-- Why a read fails: memory ran out; a getMore is not built, or brings no batch; a batch is one empty one too many, which does not come where the steps were
+-- answered at once; or what was received is not what the record says, which does not come over a file that is whole.
+pub data ReadStops (past : Past) (spared : Type 0) (e : Error) : Type 0 where
+  no_memory : e.kind ≡ kind.OutOfMemory → ReadStops past spared e
+  not_built : (at : ClientCursor) → IsTold past at → CannotAsk at None e → ReadStops past spared e
+  no_batch : (at : ClientCursor) → IsTold past at → MoreFails past at e → ReadStops past spared e
+  too_many : WherePrompt past ⊥ → ReadStops past spared e
+  differs : spared → ReadStops past spared e

@@ -1,0 +1,369 @@
+-- What a job can tell, turn by turn, of what its answers are caused by.
+use Rattle.std.specs.Prelude.{◌≡◌, ◌↔◌, ◌⊎◌, ◌+◌, ◌≤◌, ◌++◌, IsTrue, Bool, true, ℕ, suc, ℤ, List, [], length, Option, Some, None, slice_get, ◌<◌}
+use Rattle.std.specs.List.{sum_by}
+use Rattle.mg_bson.specs.Tree.{Fields, Tree}
+use Rattle.mg_link.specs.Calls.{Past, past_of, AddsOnly}
+use Rattle.mg_link.specs.Link.{Awaited, LogTold}
+use Rattle.mg_link.specs.Log.{Call}
+use Rattle.mg_link.specs.Namespace.{Space, space, target}
+use Rattle.mg_link.specs.declared.error.Error.{Error}
+use Rattle.mg_link.specs.declared.error.ErrorKind.TheVariants as kind
+use Rattle.mg_ops.specs.Naming.{IsNamed}
+use Rattle.mg_ops.specs.declared.change_stream.WatchArgs.{WatchArgs}
+use Rattle.mg_change.specs.Causes.{SoFar}
+use Rattle.mg_change.specs.ClientStreams.{ClientStream, IsAlive, IsSound, stream_ticket, stream_token}
+use Rattle.mg_change.specs.ClosingCauses.{LastSoFar}
+use Rattle.mg_change.specs.ClosingStreams.{Landing, ends, lands, lands_aggregate, lands_replaced}
+use Rattle.mg_change.specs.OpenedStreams.{IsOpening}
+use Rattle.mg_change.specs.OpeningCauses.{StreamOpened, OpeningFails, OpensSoFar}
+use Rattle.mg_change.specs.OpeningView.{IsPlainOpening, opening_of}
+use Rattle.mg_change.specs.Sent as calling
+use Rattle.mg_change.specs.Sent.{ending_places, opening_places}
+use Rattle.mg_change.specs.StreamView.{stream_of}
+use Rattle.mg_players.specs.Causes.{Answered, AreInLog, CallFalls, ClosedBy, Course, EndsBy, EndsSent, FallsAt, KillsLast, AllSentIn, SentNoneBehind, commands_at, course, places_of, sent_at, PutEndsBy, HasWritten}
+use Rattle.mg_players.specs.Follows.{FollowTurns, HasGiven, IsArgsFor, Placing, filter_in}
+use Rattle.mg_gridfs.specs.Buckets.{IsSize}
+use Rattle.mg_gridfs.specs.Causes.{IsUploading}
+use Rattle.mg_gridfs.specs.Storing.{KnowsUpload}
+use Rattle.mg_gridfs.specs.Uploads.{ClientUpload, upload_error}
+use Rattle.mg_gridfs.specs.UploadView.{upload_of}
+use Rattle.mg_players.specs.Gets.{AsksPlainly, GetKnowsAt, GetTask, IsGetCommand, IsOpeningFor, get_bucket, no_room, sought}
+use Rattle.mg_players.specs.Headline.{AllKnow, GetPlays, Plays, task_of}
+use Rattle.mg_cursor.specs.Client.{ClientCursor}
+use Rattle.mg_gridfs.specs.Downloads.{ClientDownload, IsSoundDownload}
+use Rattle.mg_gridfs.specs.DownloadView.{IsDownload, download_of, finding_of}
+use Rattle.mg_gridfs.specs.Findings.{IsSoundFinding}
+use Rattle.mg_gridfs.specs.ReadCauses as files
+use Rattle.mg_gridfs.specs.ReadCauses.{HeardRecord, IsFetching, ReadFails, cursor_in}
+use Rattle.mg_link.specs.Owner.{IsOf}
+use Rattle.mg_records.specs.FileRecords.{FileRecord}
+use Rattle.mg_ops.specs.InsertCauses.{HasSent, IsInsertOf}
+use Rattle.mg_ops.specs.InsertSends.{HasSentPieces}
+use Rattle.mg_ops.specs.Logs.{AddsJust}
+use Rattle.mg_script.specs.Plan.{Task, begin}
+use Rattle.mg_ops.specs.Drawn.{with_ids}
+use Rattle.mg_players.specs.Drawing.{first_id, sent_documents, sent_from}
+use Rattle.mg_players.specs.Playing.{job_ticket}
+use Rattle.mg_players.specs.Plays as words
+use Rattle.mg_players.specs.Plays.{Extends, Moves, MovesTo, Places, all_places}
+use Rattle.mg_players.specs.PutFailures.{AnswersPut, PutReads}
+use Rattle.mg_players.specs.Puts.{BegunFor, CutBy, PutTask, put_aim, put_bucket, taken_in, total, writes}
+use Rattle.mg_players.specs.Spares.{ListsIts, ReadStops, SparesWhole}
+use Rattle.mg_players.specs.Sends.{IsCommandOf, MaySend, PutFlies, SendsOnly}
+use Rattle.mg_ops.specs.Underway.{HasInserted}
+use Rattle.mg_script.specs.declared.outcome.Answer.{Answer}
+use Rattle.mg_script.specs.declared.outcome.Ended.{Ended}
+use Rattle.mg_script.specs.declared.outcome.Ended.TheVariants as ended
+use Rattle.mg_script.specs.declared.outcome.Turned.{Turned}
+use Rattle.mg_players.specs.declared.follow.FollowPlayer.{FollowPlayer}
+use Rattle.mg_players.specs.declared.get.GetPlayer.{GetPlayer}
+use Rattle.mg_players.specs.declared.get.GetStage.{GetStage}
+use Rattle.mg_players.specs.declared.get.GetStage.TheVariants as gets
+use Rattle.mg_players.specs.declared.insert.InsertPlayer.{InsertPlayer}
+use Rattle.mg_players.specs.declared.insert.InsertStage.{InsertStage}
+use Rattle.mg_players.specs.declared.insert.InsertStage.TheVariants as inserts
+use Rattle.mg_players.specs.declared.follow.Stage.{Stage}
+use Rattle.mg_players.specs.declared.follow.Stage.TheVariants as stage
+use Rattle.mg_players.specs.declared.follow.Watched.{Watched}
+use Rattle.mg_players.specs.declared.player.Player.{Player}
+use Rattle.mg_players.specs.declared.player.Player.TheVariants as player
+use Rattle.mg_players.specs.declared.put.PutPlayer.{PutPlayer}
+use Rattle.mg_players.specs.declared.put.PutStage.{PutStage}
+use Rattle.mg_players.specs.declared.put.PutStage.TheVariants as puts
+
+-- what a follow keeps beside its stage
+pub record Kept : Type 0 where
+  pub watched : Watched
+  pub opened : Ended (Unit {0})
+  pub said : List Answer
+  pub token : Option Tree
+  pub alive : Bool
+  pub closed : Ended (Unit {0})
+
+abbrev pub kept : FollowPlayer → Kept
+kept p = record { watched = p.watched; opened = p.opened; said = p.answers.items; token = p.token; alive = p.alive; closed = p.closed }
+
+abbrev pub IsWatchArgs : Watched → WatchArgs → Type 0
+IsWatchArgs v = IsArgsFor (target v.target.now) (begin v.start.now) (filter_in v) v.batch_size
+
+-- nothing was answered yet, and its opening goes on
+abbrev pub TellsFirst : Places → Kept → Type 0
+TellsFirst q k = (q.owns ≡ []) × (k.said ≡ []) × (q.opened ≡ [])
+
+-- its stream was opened, and each call was answered with its cause
+pub record TellsOpen (calls : List Call) (wire : ℤ) (places : List ℕ) (owns : List (List ℕ)) (v : Watched) (o : Ended (Unit {0})) (said : List Answer) (alive : Bool) (last : ClientStream) (at : Option ℕ) : Type 0 where
+  pub given : HasGiven o
+  pub args : WatchArgs
+  pub args_are : IsWatchArgs v args
+  pub first : ClientStream
+  pub opened : StreamOpened (sent_at places calls wire) args first
+  pub here : at ≡ Some opened.heard.place
+  pub opens : FallsAt (IsOpening args wire None) calls 3 places 1
+  pub answered : Answered calls wire first owns said last
+  pub alive_is : IsTrue alive ↔ IsAlive last
+
+abbrev pub IsOpened : List Call → ℤ → Places → Kept → ClientStream → Option ℕ → Type 0
+IsOpened calls wire q k last at = TellsOpen calls wire q.opened q.owns k.watched k.opened k.said k.alive last at
+
+-- its opening failed
+pub record TellsFailed (calls : List Call) (wire : ℤ) (places : List ℕ) (v : Watched) (e : Error) : Type 0 where
+  pub args : WatchArgs
+  pub args_are : IsWatchArgs v args
+  pub fails : OpeningFails (sent_at places calls wire) None args e
+  pub opens : FallsAt (IsOpening args wire None) calls 3 places 1
+
+-- how it ended
+abbrev pub TellsEnd : {A : Type 0} → List Call → ℤ → Places → Kept → Option ℕ → Ended A → Type 0
+TellsEnd calls wire q k at ended.Unfinished = Unit {0}
+TellsEnd calls wire q k at (ended.Gave x) = (last : ClientStream) × IsOpened calls wire q k last at × (k.token ≡ stream_token last) × ClosedBy (sent_at q.now calls wire) last k.closed × FallsAt (KillsLast last) calls 1 q.now 0
+TellsEnd calls wire q k at (ended.Failed e) = ((e.kind ≡ kind.OutOfMemory) × (all_places q ≡ [])) ⊎ (TellsFailed calls wire q.opened k.watched e × (q.owns ≡ []) × (q.now ≡ []))
+
+-- how many places are left to a closing: one before the killing of what is left was sent, and none behind it
+abbrev pub landing_places : Landing → ℕ
+landing_places lands = 1
+landing_places (lands_aggregate sending) = 1
+landing_places (lands_replaced before) = 1
+landing_places (ends sending) = ending_places sending.stage
+
+-- A call that began where its stream stood so sent its commands at these places, none where it waits for no reply; where it may still send its getMore, that is
+-- of the cursor which it began with.
+pub record SendsSoFar (calls : List Call) (wire : ℤ) (at : ClientStream) (own : List ℕ) (s : ClientStream) : Type 0 where
+  pub falls : CallFalls calls wire at own (calling.places s)
+  pub cursor : 4 ≤ calling.places s → s.cursor ≡ at.cursor
+  pub rests : stream_ticket s ≡ None → own ≡ []
+
+-- what it can tell at each stage, where the call at this place opened its stream
+abbrev pub Tells : Awaited → List Call → ℤ → Places → Stage → Kept → Option ℕ → Type 0
+Tells awaited calls wire q stage.Unopened k at = TellsFirst q k × (q.now ≡ [])
+Tells awaited calls wire q (stage.Opens opening) k at = TellsFirst q k × IsWatchArgs k.watched (opening_of opening).args × IsPlainOpening opening × OpensSoFar awaited (sent_at q.now calls wire) (opening_of opening).args (opening_of opening).sending × FallsAt (IsOpening (opening_of opening).args wire None) calls 3 q.now (opening_places (opening_of opening).sending)
+Tells awaited calls wire q (stage.Open stream) k at = (last : ClientStream) × IsOpened calls wire q k last at × SoFar awaited (sent_at q.now calls wire) true last (stream_of stream) × IsSound true (stream_of stream) × SendsSoFar calls wire last q.now (stream_of stream)
+Tells awaited calls wire q (stage.Closes closing) k at = (last : ClientStream) × IsOpened calls wire q k last at × (k.token ≡ stream_token last) × LastSoFar awaited (sent_at q.now calls wire) last closing × FallsAt (KillsLast last) calls 1 q.now (landing_places closing.doing)
+Tells awaited calls wire q stage.Ended k at = TellsEnd calls wire q k at k.opened
+
+-- the number of what goes on: how many turns that did not pend come before it
+abbrev pub number : Stage → Kept → ℕ
+number stage.Unopened k = 0
+number (stage.Opens opening) k = 0
+number (stage.Open stream) k = suc (length k.said)
+number (stage.Closes closing) k = length k.said
+number stage.Ended k = length k.said
+
+-- ---- turns
+
+-- what a follow with such arguments tells behind a log, where it told of these places before
+pub record Tell (awaited : Awaited) (begun calls : List Call) (wire : ℤ) (v : Watched) (q : Places) (n : ℕ) (s : Stage) (k : Kept) (at : Option ℕ) : Type 0 where
+  pub longer : length begun ≤ length calls
+  pub places : Places
+  pub tells : Tells awaited calls wire places s k at
+  pub extends : Extends q places n (number s k) (length begun) (length calls)
+  pub adds : AddsOnly (IsCommandOf (IsWatchArgs v)) begun calls
+
+-- A turn, or a part of one, led a follow from one stage to another: it goes on telling.
+abbrev pub FollowTells : Awaited → Awaited → LogTold → LogTold → ℤ → Stage → Kept → Stage → Kept → Placing → Type 0
+FollowTells old new log log' wire s k s' k' next = (calls calls' : List Call) → log ≡ Some calls → log' ≡ Some calls' → (q : Places) (at : Option ℕ) → Tells old calls wire q s k at → Tell new calls calls' wire k.watched q (number s k) s' k' (next at)
+
+-- The same of the rest of a turn, behind the opening or behind an answered call.
+abbrev pub RestTells : Awaited → LogTold → LogTold → ℤ → ClientStream → Kept → Stage → Kept → Type 0
+RestTells new log log' wire stream k s' k' = (calls calls' : List Call) → log ≡ Some calls → log' ≡ Some calls' → (q : Places) (at : Option ℕ) → q.now ≡ [] → IsOpened calls wire q k stream at → Tell new calls calls' wire k.watched q (length k.said) s' k' at
+
+-- A follow took a turn: it knows and tells that the same call opened its stream.
+pub record FollowGoesOn (old new : Awaited) (log log' : LogTold) (wire : ℤ) (s : Stage) (p : FollowPlayer) (s' : Stage) (p' : FollowPlayer) : Type 0 where
+  pub next : Placing
+  pub turned : FollowTurns old new log log' s p s' p' next
+  pub told : FollowTells old new log log' wire s (kept p) s' (kept p') next
+
+-- ---- inserts
+
+-- what an insert that sends these documents can tell at each stage: nothing before it drew its ids
+abbrev pub InsertTells : Awaited → Past → Space → List Fields → InsertStage → Type 0
+InsertTells awaited past at sent inserts.Unsent = Unit {0}
+InsertTells awaited past at sent (inserts.Goes i) = HasSent awaited past at sent i × (IsNamed at → HasInserted awaited past at sent i)
+InsertTells awaited past at sent (inserts.Ended end) = EndsBy past at sent end
+
+-- A turn led an insert of these documents, which had sent at some places before, from one stage to another: it goes on telling.
+abbrev pub InsertTurns : Awaited → Awaited → LogTold → LogTold → ℤ → Space → List Fields → InsertStage → InsertStage → Type 0
+InsertTurns old new log log' wire at sent stage stage' = (calls calls' : List Call) → log ≡ Some calls → log' ≡ Some calls' → (places : List ℕ)
+    → InsertTells old (sent_at places calls wire) at sent stage → InsertTells new (past_of places (length calls) calls' wire) at sent stage' × AddsOnly (IsInsertOf at sent) calls calls'
+
+-- by these commands an insert that sends these documents has sent its pieces so far, at each stage: nothing before it drew its ids
+abbrev pub StageSent : Space → List Fields → List Fields → InsertStage → Type 0
+StageSent at sent commands inserts.Unsent = commands ≡ []
+StageSent at sent commands (inserts.Goes i) = HasSentPieces at sent commands i
+StageSent at sent commands (inserts.Ended end) = EndsSent at sent commands end
+
+-- A turn led an insert of these documents from one stage to another: it sent just these commands more.
+abbrev pub StageSends : LogTold → LogTold → Space → List Fields → InsertStage → InsertStage → Type 0
+StageSends log log' at sent stage stage' = (commands : List Fields) → StageSent at sent commands stage → (more : List Fields) × AddsJust log log' more × StageSent at sent (commands ++ more) stage'
+
+-- an insert that drew its ids from a source that gave these tells what it should, and has sent nothing
+pub record TellsNew (ids : ℕ → List ℕ) (at : Space) (documents : List Fields) (stage : InsertStage) : Type 0 where
+  pub tells : (awaited : Awaited) (past : Past) → InsertTells awaited past at (with_ids ids 0 documents) stage
+  pub sent : StageSent at (with_ids ids 0 documents) [] stage
+
+-- one that had no ids drew them so; any other is as it was
+abbrev pub TellsOn : (ℕ → List ℕ) → Space → List Fields → InsertStage → InsertStage → Type 0
+TellsOn ids at documents inserts.Unsent stage' = TellsNew ids at documents stage'
+TellsOn ids at documents (inserts.Goes i) stage' = stage' ≡ inserts.Goes i
+TellsOn ids at documents (inserts.Ended end) stage' = stage' ≡ inserts.Ended end
+
+-- what an insert of these documents tells of what it sent at these places, and that it sent just its pieces there
+pub record InsertSaid (awaited : Awaited) (calls : List Call) (wire : ℤ) (q : Places) (at : Space) (sent : List Fields) (stage : InsertStage) : Type 0 where
+  pub alone : (q.opened ≡ []) × (q.owns ≡ [])
+  pub within : AreInLog (length calls) q.now
+  pub tells : InsertTells awaited (sent_at q.now calls wire) at sent stage
+  pub sends : StageSent at sent (commands_at calls q.now) stage
+
+-- ---- gets
+
+-- no call has ended
+abbrev pub TellsNoCall : Places → Type 0
+TellsNoCall q = (q.opened ≡ []) × (q.owns ≡ [])
+
+-- the opening sent at the places told of it: it heard this record, and listed the chunks by the call at this place
+pub record TellsGetOpened (calls : List Call) (wire : ℤ) (q : Places) (g : GetTask) (f : FileRecord) (at : Option ℕ) : Type 0 where
+  pub heard : HeardRecord (sent_at q.opened calls wire) (get_bucket g.at) g.id (Some f)
+  pub listed : (place : ℕ) → at ≡ Some place → IsOf q.opened place
+
+-- how a get failed that had so many calls behind it
+pub data TellsGetFails (calls : List Call) (wire : ℤ) (q : Places) (g : GetTask) (done : ℕ) (e : Error) : Type 0 where
+  out_of_memory : e.kind ≡ kind.OutOfMemory → TellsGetFails calls wire q g done e
+  has_no_room : g.read ≡ 0 → e ≡ no_room → TellsGetFails calls wire q g done e
+  not_opened : 0 < g.read → TellsNoCall q → done ≡ 0 → files.OpeningFails (sent_at q.now calls wire) (get_bucket g.at) g.id e → TellsGetFails calls wire q g done e
+  not_read : 0 < g.read → 1 ≤ done → (d : ClientDownload) (at : Option ℕ) → TellsGetOpened calls wire q g d.file at → (cursor : ClientCursor) → ReadFails (sent_at q.now calls wire) d cursor e
+      → cursor_in d.doing ≡ Some cursor → IsSoundDownload d → AsksPlainly d → suc (length q.owns) ≡ done
+      → (listed : ℕ) → IsOf q.opened listed → ReadStops (sent_at (all_places q) calls wire) (SparesWhole calls g.at g.id d.file listed) e → TellsGetFails calls wire q g done e
+
+abbrev pub TellsGetEnd : {A : Type 0} → List Call → ℤ → Places → GetTask → ℕ → Option ℕ → Ended A → Type 0
+TellsGetEnd calls wire q g done at ended.Unfinished = Unit {0}
+TellsGetEnd calls wire q g done at (ended.Gave x) = (0 < g.read) × (f : FileRecord) × TellsGetOpened calls wire q g f at × (suc (length q.owns) ≡ done)
+TellsGetEnd calls wire q g done at (ended.Failed e) = TellsGetFails calls wire q g done e
+
+-- what a get can tell at each stage, where the call at this place listed its chunks
+abbrev pub GetTells : Awaited → List Call → ℤ → Places → GetTask → GetStage → ℕ → Option ℕ → Type 0
+GetTells awaited calls wire q g gets.Unsent done at = TellsNoCall q × (q.now ≡ [])
+GetTells awaited calls wire q g (gets.Opens opening) done at = TellsNoCall q × IsOpeningFor g (finding_of opening) × IsSoundFinding (finding_of opening) × files.IsOpening awaited (sent_at q.now calls wire) (finding_of opening)
+GetTells awaited calls wire q g (gets.Reads download room) done at = TellsGetOpened calls wire q g (download_of download).file at × (suc (length q.owns) ≡ done) × IsFetching awaited (sent_at q.now calls wire) (download_of download) × IsDownload download × AsksPlainly (download_of download) × ListsIts (sent_at (all_places q) calls wire) g (download_of download)
+GetTells awaited calls wire q g (gets.Ended end) done at = TellsGetEnd calls wire q g done at end
+
+-- what a get tells behind a turn, and whether it sent what it may
+pub record GetTell (awaited : Awaited) (begun calls : List Call) (wire : ℤ) (q : Places) (n : ℕ) (g : GetTask) (s : GetStage) (done : ℕ) (at : Option ℕ) : Type 0 where
+  pub longer : length begun ≤ length calls
+  pub places : Places
+  pub tells : GetTells awaited calls wire places g s done at
+  pub extends : Extends q places n done (length begun) (length calls)
+  pub adds : AddsOnly (IsGetCommand g) begun calls
+
+-- A turn, or a part of one, led a get that knew what it should from one stage to another: it goes on telling.
+abbrev pub GetGoesOn : Awaited → Awaited → LogTold → LogTold → ℤ → GetTask → GetStage → List ℕ → ℕ → GetStage → ℕ → Moves → Type 0
+GetGoesOn old new log log' wire g s bytes done s' done' next = (calls calls' : List Call) → log ≡ Some calls → log' ≡ Some calls' → (q : Places) (at at' : Option ℕ) → MovesTo next calls calls' at at' → GetKnowsAt old calls g s bytes at → GetTells old calls wire q g s done at → GetTell new calls calls' wire q done g s' done' at'
+
+-- A get took a turn, or a part of one: it goes on knowing and telling.
+pub record GetTurns (old new : Awaited) (log log' : LogTold) (wire : ℤ) (p p' : GetPlayer) : Type 0 where
+  pub next : Moves
+  pub turned : words.Turns GetPlays old new log log' p p' next
+  pub told : GetGoesOn old new log log' wire (sought p.what) p.stage p.bytes.items p.done p'.stage p'.done next
+
+-- ---- puts
+
+-- a put whose upload is open: each piece that is written was written by a call of its own, its call that goes on has sent what stands at the places of that and
+-- has such a command on its way, and its upload knows what it stored
+pub record PutTellsOpen (awaited : Awaited) (calls : List Call) (wire : ℤ) (q : Places) (t : PutTask) (done : ℕ) (u : ClientUpload) : Type 0 where
+  pub aim_is : u.aim ≡ put_aim t
+  pub sized : IsSize t.chunk
+  pub opened : q.opened ≡ []
+  pub counted : length q.owns ≡ done
+  pub cut : CutBy u (taken_in u.doing t.pieces done) u.doing
+  pub underway : IsUploading awaited (sent_at q.now calls wire) u
+  pub flies : PutFlies t u.doing
+  pub its : AnswersPut t (upload_error u)
+  pub reads : PutReads awaited (sent_at q.now calls wire) (put_bucket t) u.doing
+  pub knows : KnowsUpload awaited (sent_at (all_places q) calls wire) t.at u (taken_in u.doing t.pieces done)
+
+-- it has sent nothing
+abbrev pub SentNothing : Places → Type 0
+SentNothing q = (q.opened ≡ []) × (q.owns ≡ []) × (q.now ≡ [])
+
+-- what it can tell at each stage
+abbrev pub PutTells : Awaited → List Call → ℤ → Places → PutTask → ℕ → PutStage → Type 0
+PutTells awaited calls wire q t done puts.Undrawn = SentNothing q × (done ≡ 0)
+PutTells awaited calls wire q t done (puts.Begins begun) = SentNothing q × (done ≡ 0) × BegunFor t begun
+PutTells awaited calls wire q t done (puts.Goes going) = PutTellsOpen awaited calls wire q t done (upload_of going.upload) × (going.length ≡ total t.pieces)
+PutTells awaited calls wire q t done (puts.Ended end) = (q.opened ≡ []) × (length q.owns ≡ done) × PutEndsBy (sent_at (all_places q) calls wire) (sent_at q.now calls wire) t end × HasWritten t done end
+
+-- the number of what goes on: how many turns that did not pend come before it
+abbrev pub put_number : ℕ → PutStage → ℕ
+put_number done puts.Undrawn = 0
+put_number done (puts.Begins begun) = 0
+put_number done (puts.Goes going) = suc done
+put_number done (puts.Ended end) = suc done
+
+-- ---- all jobs
+
+-- what an insert tells of what it sent at these places, where its task is sent as this one; a follow, whose stream the call at this place opened
+abbrev pub InsertSays : Awaited → List Call → ℤ → Places → Task → InsertPlayer → Option ℕ → Type 0
+InsertSays awaited calls wire q t job at = InsertSaid awaited calls wire q (space job.ns.now) (sent_documents t) job.stage
+
+abbrev pub FollowSays : Awaited → List Call → ℤ → Places → Task → FollowPlayer → Option ℕ → Type 0
+FollowSays awaited calls wire q t job at = Tells awaited calls wire q job.stage (kept job) at
+
+-- a get, whose chunks the call at this place listed
+abbrev pub GetSays : Awaited → List Call → ℤ → Places → Task → GetPlayer → Option ℕ → Type 0
+GetSays awaited calls wire q t job at = GetTells awaited calls wire q (sought job.what) job.stage job.done at
+
+abbrev pub PutSays : Awaited → List Call → ℤ → Places → Task → PutPlayer → Option ℕ → Type 0
+PutSays awaited calls wire q t job at = PutTells awaited calls wire q (writes job.what) job.done job.stage
+
+abbrev pub JobTells : Awaited → List Call → ℤ → Places → Task → Player → Option ℕ → Type 0
+JobTells awaited calls wire q t (player.Insert job) at = InsertSays awaited calls wire q t job at
+JobTells awaited calls wire q t (player.Follow job) at = FollowSays awaited calls wire q t job at
+JobTells awaited calls wire q t (player.Put job) at = PutSays awaited calls wire q t job at
+JobTells awaited calls wire q t (player.Get job) at = GetSays awaited calls wire q t job at
+
+-- the number of what goes on in a job: how many turns that did not pend come before it
+abbrev pub number_of : Player → ℕ
+number_of (player.Insert job) = 0
+number_of (player.Follow job) = number job.stage (kept job)
+number_of (player.Put job) = put_number job.done job.stage
+number_of (player.Get job) = job.done
+
+-- what a job of any kind tells behind a turn, and in it
+abbrev pub TellsBehind : Awaited → List Call → List Call → ℤ → Task → Places → ℕ → Player → Option ℕ → Type 0
+TellsBehind = words.TellsBehind JobTells number_of
+
+abbrev pub TurnTells : (Task → Type 0) → Awaited → Awaited → LogTold → LogTold → ℤ → Player → Player → Moves → Type 0
+TurnTells so = words.TurnTells task_of Plays JobTells number_of so
+
+abbrev pub TellsAs : (Task → Type 0) → Player → Player → Type 0
+TellsAs so = words.TellsAs task_of JobTells number_of so
+
+-- each command of a job stands in a turn of it, and its turns sent no others
+pub record AllSent (c : Course) (i : ℕ) (q : Places) (n : ℕ) : Type 0 where
+  pub opened : AllSentIn c i 0 q.opened
+  pub owns : (k : ℕ) (own : List ℕ) → slice_get q.owns k ≡ Some own → AllSentIn c i (suc k) own
+  pub now : AllSentIn c i n q.now
+  pub whole : all_places q ≡ places_of c i
+
+-- a follow tells what it should, and each of its commands stands in a turn of it
+pub record FollowTold (awaited : Awaited) (calls : List Call) (wire : ℤ) (c : Course) (i : ℕ) (s : Stage) (k : Kept) (at : Option ℕ) : Type 0 where
+  pub places : Places
+  pub tells : Tells awaited calls wire places s k at
+  pub sent : AllSent c i places (number s k)
+
+-- A job tells what it should, each of its commands stands in a turn of it, and its turns sent no others than it may send. What it inserts has ids from the one
+-- of this number on.
+pub record JobTold (ids : ℕ → List ℕ) (first : ℕ) (awaited : Awaited) (calls : List Call) (wire : ℤ) (c : Course) (i : ℕ) (p : Player) (at : Option ℕ) : Type 0 where
+  pub places : Places
+  pub tells : JobTells awaited calls wire places (sent_from ids first (task_of p)) p at
+  pub sent : AllSent c i places (number_of p)
+  pub sends : SendsOnly (MaySend (sent_from ids first (task_of p))) c i calls
+
+-- each job that has a task tells what it should, where these calls opened their streams, and the notes count what was sent; the ticket of a job is that of
+-- its newest command
+pub record AllTold (ids : ℕ → List ℕ) (awaited : Awaited) (calls : List Call) (wire : ℤ) (c : Course) (tasks : List Task) (players : List Player) (places : ℕ → Option ℕ) : Type 0 where
+  pub count : length calls ≡ c.begun + sum_by (λ t. t.started) c.notes
+  pub each : (i : ℕ) (t : Task) (p : Player) → slice_get tasks i ≡ Some t → slice_get players i ≡ Some p → JobTold ids (first_id tasks c.order i) awaited calls wire c i p (places i)
+  pub newest : (i : ℕ) (p : Player) (n place : ℕ) → slice_get players i ≡ Some p → job_ticket p ≡ Some n → awaited n ≡ Some place → SentNoneBehind c i place
+
+-- how a run knows and tells that began with one log and these ids, and has another log
+abbrev pub AllTell : (ℕ → List ℕ) → Awaited → LogTold → LogTold → ℤ → List Task → List ℕ → List Turned → List Player → Type 0
+AllTell ids awaited log log' wire tasks order notes players = (calls : List Call) → log ≡ Some calls → (calls' : List Call) × (log' ≡ Some calls') × (known : AllKnow awaited calls' players) × AllTold ids awaited calls' wire (course calls order notes) tasks players known.places
