@@ -123,11 +123,12 @@ impl Hand {
     {
         let mut filled = 0;
         'chunks: while filled < room.len() {
-            let count = copy_front(self.front(), room, filled);
+            let (bytes, whole) = self.front();
+            let count = copy_front(bytes, room, filled);
             if count == 0 {
                 return filled;
             }
-            self.pass(count);
+            self.pass(count, whole);
             filled += count;
         }
         filled
@@ -145,22 +146,24 @@ impl Hand {
         self.batch.advance();
     }
 
-    // What is left of the current chunk.
-    fn front(&self) -> &[u8]
+    // What is left of the current chunk, and how long it is as a whole.
+    fn front(&self) -> (&[u8], usize)
         requires { HoldsBytes self.now }
-        ensures { result.now ≡ drop self.now.given (front_in self.now.batch) }
+        ensures left { result.0.now ≡ drop self.now.given (front_in self.now.batch) }
+        ensures whole { result.1 ≡ length (front_in self.now.batch) }
     {
-        from(front_in(&self.batch), self.given)
+        let chunk = front_in(&self.batch);
+        (from(chunk, self.given), chunk.len())
     }
 
-    // So many bytes of the current chunk were given.
-    fn pass(&mut self, count: usize)
+    // So many bytes of the current chunk, which has this length, were given.
+    fn pass(&mut self, count: usize, whole: usize)
         requires holds { HoldsBytes self.old }
+        requires whole { whole ≡ length (front_in self.old.batch) }
         requires there { count ≤ length (drop self.old.given (front_in self.old.batch)) }
         ensures left { hand_of self.new ≡ drop count (hand_of self.old) }
         ensures keeps { HoldsBytes self.new }
     {
-        let whole = front_in(&self.batch).len();
         let at = self.given + count;
         if at < whole {
             self.given = at;

@@ -6,8 +6,8 @@ use Rattle.mg_gridfs.proofs.hand.Hand.give.Goals as goal
 pub chunks-init : goal.chunks-init
 chunks-init c = record { gave = gave_none (hand_of c.args.self.now) c.args.room.now; holds = c.requires }
 
-pub front-requires : goal.front-requires
-front-requires c = c.chunks.invariant.holds
+pub front-whole-requires : goal.front-whole-requires
+front-whole-requires c = c.chunks.invariant.holds
 
 pub copy_front-count-requires : goal.copy_front-count-requires
 copy_front-count-requires c = let more : c.chunks.filled < length c.chunks.room = c.chunks-test.true in omega arith
@@ -17,9 +17,12 @@ pass-requires-clause-holds c = c.chunks.invariant.holds
 
 pub pass-requires-clause-there : goal.pass-requires-clause-there
 pass-requires-clause-there c =
-    let same = ap (length {A = ℕ}) c.front.ensures in
-    let is : c.copy_front-count.result ≡ min (length c.front.result.now) (length c.chunks.room - c.chunks.filled) = c.copy_front-count.ensures.count in
+    let same = ap (length {A = ℕ}) c.front-whole.ensures.left in
+    let is : c.copy_front-count.result ≡ min (length c.front-whole.result.0.now) (length c.chunks.room - c.chunks.filled) = c.copy_front-count.ensures.count in
     omega arith
+
+pub pass-requires-clause-whole : goal.pass-requires-clause-whole
+pass-requires-clause-whole c = c.front-whole.ensures.whole
 
 pub chunks-preserved : goal.chunks-preserved
 chunks-preserved c =
@@ -27,10 +30,10 @@ chunks-preserved c =
     let more : c.chunks.filled < length c.chunks.room = c.chunks-test.true in
     let fits : c.chunks.filled ≤ length c.chunks.room = omega arith in
     record {
-      gave = gave_more (hand_of c.args.self.now) c.args.room.now c.chunks.filled c.chunks.room (hand_of h) c.front.result.now c.copy_front-count.result c.copy_front-count.new.room (hand_of c.pass.new.self) c.chunks.invariant.gave fits
+      gave = gave_more (hand_of c.args.self.now) c.args.room.now c.chunks.filled c.chunks.room (hand_of h) c.front-whole.result.0.now c.copy_front-count.result c.copy_front-count.new.room (hand_of c.pass.new.self) c.chunks.invariant.gave fits
           (record {
             rest = rest_of h;
-            parts = subst (λ (l : List ℕ). hand_of h ≡ l ++ rest_of h) (sym c.front.ensures) (hand_front h c.chunks.invariant.holds);
+            parts = subst (λ (l : List ℕ). hand_of h ≡ l ++ rest_of h) (sym c.front-whole.ensures.left) (hand_front h c.chunks.invariant.holds);
             count_is = c.copy_front-count.ensures.count;
             room_is = c.copy_front-count.ensures.copied;
             left_is = c.pass.ensures.left;
@@ -42,9 +45,9 @@ pub chunks-smaller : goal.chunks-smaller
 chunks-smaller c =
     let more : c.chunks.filled < length c.chunks.room = c.chunks-test.true in
     let some : c.copy_front-count.result ≢ 0 = c.if-count-eq0.false in
-    let same = ap (length {A = ℕ}) c.front.ensures in
-    let is : c.copy_front-count.result ≡ min (length c.front.result.now) (length c.chunks.room - c.chunks.filled) = c.copy_front-count.ensures.count in
-    let long : length c.copy_front-count.new.room ≡ length c.chunks.room = room_copied c.chunks.filled c.copy_front-count.result c.front.result.now c.chunks.room c.copy_front-count.new.room (omega arith) is c.copy_front-count.ensures.copied in
+    let same = ap (length {A = ℕ}) c.front-whole.ensures.left in
+    let is : c.copy_front-count.result ≡ min (length c.front-whole.result.0.now) (length c.chunks.room - c.chunks.filled) = c.copy_front-count.ensures.count in
+    let long : length c.copy_front-count.new.room ≡ length c.chunks.room = room_copied c.chunks.filled c.copy_front-count.result c.front-whole.result.0.now c.chunks.room c.copy_front-count.new.room (omega arith) is c.copy_front-count.ensures.copied in
     omega arith
 
 -- ---- nothing is left
@@ -54,8 +57,8 @@ returns-then-count-eq0-clause-count c =
     let h = c.chunks.self in
     let more : c.chunks.filled < length c.chunks.room = c.chunks-test.true in
     let none : c.copy_front-count.result ≡ 0 = c.if-count-eq0.true in
-    let is : c.copy_front-count.result ≡ min (length c.front.result.now) (length c.chunks.room - c.chunks.filled) = c.copy_front-count.ensures.count in
-    let same = ap (length {A = ℕ}) c.front.ensures in
+    let is : c.copy_front-count.result ≡ min (length c.front-whole.result.0.now) (length c.chunks.room - c.chunks.filled) = c.copy_front-count.ensures.count in
+    let same = ap (length {A = ℕ}) c.front-whole.ensures.left in
     let short : length (drop h.given (front_in h.batch)) ≡ 0 = omega arith in
     gave_all (hand_of c.args.self.now) c.args.room.now c.chunks.filled c.chunks.room (hand_of h) c.chunks.invariant.gave (hand_given h c.chunks.invariant.holds short)
 
@@ -63,7 +66,7 @@ pub returns-then-count-eq0-clause-given : goal.returns-then-count-eq0-clause-giv
 returns-then-count-eq0-clause-given c =
     let more : c.chunks.filled < length c.chunks.room = c.chunks-test.true in
     let none : c.copy_front-count.result ≡ 0 = c.if-count-eq0.true in
-    none_copied c.chunks.filled c.copy_front-count.result c.front.result.now c.chunks.room c.copy_front-count.new.room none c.copy_front-count.ensures.copied ∙ c.chunks.invariant.gave.room_is
+    none_copied c.chunks.filled c.copy_front-count.result c.front-whole.result.0.now c.chunks.room c.copy_front-count.new.room none c.copy_front-count.ensures.copied ∙ c.chunks.invariant.gave.room_is
 
 pub returns-then-count-eq0-clause-left : goal.returns-then-count-eq0-clause-left
 returns-then-count-eq0-clause-left c = c.chunks.invariant.gave.left_is

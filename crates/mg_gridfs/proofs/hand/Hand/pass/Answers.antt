@@ -1,4 +1,4 @@
-use Rattle.std.proofs.Common.{◌≤◌, ◌<◌, ◌+◌, ℕ, length, refl, ap, arith, length-drop}
+use Rattle.std.proofs.Common.{◌≤◌, ◌<◌, ◌+◌, length, refl, arith, length-drop}
 use Rattle.mg_gridfs.specs.DownloadView.{front_in}
 use Rattle.mg_gridfs.proofs.Hands.{given_within, hand_passed, passed_all, passed_bytes, passed_holds}
 use Rattle.mg_gridfs.proofs.hand.Hand.pass.Goals as goal
@@ -6,7 +6,7 @@ use Rattle.mg_gridfs.proofs.hand.Hand.pass.Goals as goal
 pub overflow_add-at : goal.overflow_add-at
 overflow_add-at c =
     let within = given_within c.args.self.now c.requires.holds in
-    let same = ap (length {A = ℕ}) c.front_in-whole.ensures in
+    let whole = c.requires.whole in
     let left = length-drop c.args.self.now.given (front_in c.args.self.now.batch) in
     let there = c.requires.there in
     omega arith
@@ -21,7 +21,7 @@ returns-then-at-whole-clause-left c =
 pub returns-then-at-whole-clause-keeps : goal.returns-then-at-whole-clause-keeps
 returns-then-at-whole-clause-keeps c =
     let h = c.args.self.now in
-    let same = ap (length {A = ℕ}) c.front_in-whole.ensures in
+    let whole = c.requires.whole in
     let less : h.given + c.args.count < length (front_in h.batch) = omega (arith, c.if-at-whole.true) in
     passed_holds h (record h { given = h.given + c.args.count }) c.args.count c.requires.holds less refl refl refl
 
@@ -38,7 +38,7 @@ advance-requires-clause-passed c =
 pub returns-clause-left : goal.returns-clause-left
 returns-clause-left c =
     let h = c.args.self.now in
-    let same = ap (length {A = ℕ}) c.front_in-whole.ensures in
+    let whole = c.requires.whole in
     let past : length (front_in h.batch) ≤ h.given + c.args.count = omega (arith, c.if-at-whole.false) in
     passed_all h c.args.count _ c.requires.holds c.requires.there past c.advance.ensures.left
 
