@@ -8,7 +8,7 @@ use Rattle.mg_link.specs.Calls.{HeardBy, Past, RequestFails, out_of_memory, was_
 use Rattle.mg_link.specs.Commands.{Asked, asked, asks_more}
 use Rattle.mg_link.specs.Errors.{plain}
 use Rattle.mg_link.specs.Exec.{IsSuccess}
-use Rattle.mg_link.specs.History.{IsLegal, Step, state_of}
+use Rattle.mg_link.specs.History.{IsLegal, Step, state_of, told_at}
 use Rattle.mg_link.specs.Kept.{IsByRules as AreByRules, Kept, steps_of}
 use Rattle.mg_link.specs.Link.{Awaited}
 use Rattle.mg_link.specs.Log.{Call, fault, reply}
@@ -59,6 +59,7 @@ use Rattle.mg_script.specs.declared.outcome.Ended.{Ended}
 use Rattle.mg_script.specs.declared.outcome.Ended.TheVariants as ended
 use Rattle.mg_players.specs.Causes.{AllSentIn, Answered, CallFalls, Course, FallsAt, KillsLast, SentIn, places_of, sent_at, CloseCaused, FollowCaused, OpenCaused, OpenStands, at_rest as at_ease, in_call, in_closing}
 use Rattle.mg_jobs.specs.Completing.{IsThere, MayBegin, NoneRefused}
+use Rattle.mg_jobs.proofs.Created.{is_taken}
 use Rattle.mg_jobs.specs.Fated.{AreItsSteps}
 use Rattle.mg_players.specs.Follows.{IsArgsFor, options_of, poll_of, stages_of, start_of}
 use Rattle.mg_players.specs.Sends.{IsCommandOf, SendsOnly}
@@ -575,9 +576,9 @@ module _ (history : List Kept) (fates : List Fate) (kept : AreKept 0 fates) (cal
       ]
 
   none_refused : AreFine its → NoneRefused c i calls steps
-  none_refused fine position step own at refused =
+  none_refused fine position step own at =
       let by = call_at calls its position own in
-      (fine by.place by.call position step by.of by.there by.position_is at).taken refused
+      is_taken (asked step.command) (told_at step) (fine by.place by.call position step by.of by.there by.position_is at).taken
 
   none_sent : its ≡ [] → AreFine its
   none_sent none place call p step of there placed here = absurd (subst (λ (l : List ℕ). IsOf l place) none of)

@@ -7,6 +7,7 @@ pub mod Appended
 pub mod PutTold
 pub mod Filed
 pub mod Told
+pub mod Created
 pub mod Positions
 pub mod Waiting
 pub mod Identified

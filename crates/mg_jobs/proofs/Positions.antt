@@ -11,6 +11,7 @@ use Rattle.mg_link.specs.Prompt.{HoldsBackNone}
 use Rattle.mg_link.specs.Standing.{Stands}
 use Rattle.mg_players.specs.Causes.{Course, SentIn, places_from, places_in, places_of}
 use Rattle.mg_jobs.specs.Completing.{AnswersWell, AnswersWellIn, NoneRefused, own_position, positions_at}
+use Rattle.mg_jobs.proofs.Created.{CreationsMeet, prompt_where_taken}
 use Rattle.mg_players.proofs.Newest.{started_in}
 use Rattle.mg_players.proofs.Telling.{from_is, in_first, in_second}
 use Rattle.mg_script.specs.declared.outcome.Turned.{Turned}
@@ -41,17 +42,17 @@ has_position calls (first ∷ places) place call position (inl same) there at =
 has_position calls (first ∷ places) place call position (inr of) there at =
     Contains-append_right (own_position (option_and_then (λ (c : Call). c.position) (slice_get calls first))) (positions_at calls places) position (has_position calls places place call position of there at)
 
--- A history that holds nothing back answers a job at once none of whose steps it refused.
-unfoldable pub answers_well : (c : Course) (i : ℕ) (calls : List Call) (history : List Step) → IsLegal history → Stands calls history → HoldsBackNone history → NoneRefused c i calls history → AnswersWell c i calls
-answers_well c i calls history legal stands prompt taken = record {
+-- A history that holds nothing back answers a job at once none of whose steps it refused, but the creation of a collection that is there.
+unfoldable pub answers_well : (c : Course) (i : ℕ) (calls : List Call) (history : List Step) → IsLegal history → Stands calls history → HoldsBackNone history → CreationsMeet history → NoneRefused c i calls history → AnswersWell c i calls
+answers_well c i calls history legal stands prompt meets taken = record {
   history = history;
   legal = legal;
   stands = stands;
   own = positions_at calls (places_of c i);
   positions = λ k place call position sent there at. has_position calls (places_of c i) place call position (sent_place c i k place sent) there at;
-  prompt = prompt.each (positions_at calls (places_of c i)) taken;
+  prompt = prompt_where_taken history (positions_at calls (places_of c i)) prompt meets taken;
 }
 
-pub answered_well : (c : Course) (i : ℕ) (calls : List Call) (history : List Step) → IsLegal history → Stands calls history → HoldsBackNone history → NoneRefused c i calls history → AnswersWellIn c i calls history
+pub answered_well : (c : Course) (i : ℕ) (calls : List Call) (history : List Step) → IsLegal history → Stands calls history → HoldsBackNone history → CreationsMeet history → NoneRefused c i calls history → AnswersWellIn c i calls history
 unfolding answers_well
-answered_well c i calls history legal stands prompt taken = (answers_well c i calls history legal stands prompt taken, refl, refl)
+answered_well c i calls history legal stands prompt meets taken = (answers_well c i calls history legal stands prompt meets taken, refl, refl)

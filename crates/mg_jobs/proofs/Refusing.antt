@@ -8,7 +8,7 @@ use Rattle.mg_bson.specs.Raw.{fields}
 use Rattle.mg_bson.specs.Tree.{Fields, Tree}
 use Rattle.mg_link.specs.Commands.{Asked, asked, asks_insert, inserted, told}
 use Rattle.mg_link.specs.Files.{chunked}
-use Rattle.mg_link.specs.History.{IsLegal, Step, state_of}
+use Rattle.mg_link.specs.History.{IsLegal, Step, state_of, told_at}
 use Rattle.mg_link.specs.Kept.{IsByRules as AreByRules, Kept, given_after, given_of, state_behind, state_of_kept, step_of, steps_from, steps_of}
 use Rattle.mg_link.specs.Link.{Awaited}
 use Rattle.mg_link.specs.Log.{Call}
@@ -67,6 +67,7 @@ use Rattle.mg_players.specs.Sends.{IsPutCommand, MaySend, SendsOnly, asks, check
 use Rattle.mg_jobs.proofs.Added.{AreModestEntries, first_by_rules, kept_modest}
 use Rattle.mg_jobs.proofs.Mild.{IsMildCommand, IsQuiet, creates_mild, deletes_mild, finds_mild, indexes_mild, inserts_mild, lists_mild, quiet_mild}
 use Rattle.mg_jobs.proofs.OpeningTaken.{fits_size, opening_taken}
+use Rattle.mg_jobs.proofs.Created.{creations_meet, is_taken}
 use Rattle.mg_jobs.proofs.Positions.{answers_well}
 use Rattle.mg_jobs.proofs.Replying.{inserts_so}
 use Rattle.mg_jobs.proofs.SaidTwice.{follow_both, get_both, insert_both, put_both}
@@ -205,11 +206,11 @@ module _ (history : List Kept) (fates : List Fate) (kept : AreKept 0 fates) (cal
 
   -- none of the steps of an insert is refused
   none_refused : (c : Course) (i : ℕ) (ns : Space) (docs : List Fields) → SendsOnly (MaySend (insert ns docs)) c i calls → AllSentIn c i 0 (places_of c i) → HasShortNames ns → NoneRefused c i calls (steps_of history)
-  none_refused c i ns docs sends sent names position step own at refused =
+  none_refused c i ns docs sends sent names position step own at =
       let by = call_at calls (places_of c i) position own in
       let r = step_by by.place by.call position step by.there by.position_is at in
       let p = sends.each 0 by.place by.call (sent by.place by.of) by.there in
-      tells_inserted (state_of_kept r.before) (pos (suc (given_of r.before))) by.call.command step.reply ns p.piece names p.command_is r.replies (subst (λ (command : List ℕ). IsRefused (told (asked command) step.reply)) r.command_is refused)
+      is_taken (asked step.command) (told_at step) (λ refused. tells_inserted (state_of_kept r.before) (pos (suc (given_of r.before))) by.call.command step.reply ns p.piece names p.command_is r.replies (subst (λ (command : List ℕ). IsRefused (told (asked command) step.reply)) r.command_is refused))
 
   -- ---- the opening of a follow
 
@@ -221,21 +222,22 @@ module _ (history : List Kept) (fates : List Fate) (kept : AreKept 0 fates) (cal
     module _ (c : Course) (i : ℕ) (on : Target) (start : Begin) (filter : Option Fields) (batch : Option ℕ) where
       -- none of the steps of a follow is refused that sent its opening aggregate alone
       none_refused_opening : (wire : ℤ) (args : WatchArgs) → IsArgsFor on start filter batch args → FallsAt (IsOpening args wire None) calls 3 (places_of c i) 1 → (SizePasses batch → ⊥) → MayBegin c i calls (steps_of history) on start filter → NoneRefused c i calls (steps_of history)
-      none_refused_opening wire args are falls small may position step own at refused =
+      none_refused_opening wire args are falls small may position step own at =
           let by = call_at calls (places_of c i) position own in
           let r = step_by by.place by.call position step by.there by.position_is at in
           let sent : fields by.call.command ≡ resuming_in (first_aggregate args) wire None = (falls_each (IsOpening args wire None) calls 3 (places_of c i) 1 falls.falling by.place by.call by.of by.there).1 in
           let built : watch_command (target args.target) args.pipeline.items args.options ≡ watch_command on (stages_of filter) (options_of on start batch) =
           ap (λ (t : Target). watch_command t args.pipeline.items args.options) are.target_is ∙ ap (λ (ds : List Fields). watch_command on ds args.options) are.stages ∙ ap (λ (o : ChangeStreamOptions). watch_command on (stages_of filter) o) are.options_are in
           let there : IsThere (state_of_kept r.before) (start_of start) = subst (IsThere (state_of_kept r.before)) may.watches.from_is (subst (λ (s : State). IsThere s may.from) r.state_is (may.there position step own at)) in
-          opening_taken (state_of_kept r.before) (given_of r.before) (modest_before r.before r.this r.later r.these) by.call.command step.reply on start filter batch may.watch.filter may.short (fits_size batch small) may.watches.by there (sent ∙ built) r.replies
-          (subst (λ (command : List ℕ). IsRefused (told (asked command) step.reply)) r.command_is refused)
+          is_taken (asked step.command) (told_at step)
+          (λ refused. opening_taken (state_of_kept r.before) (given_of r.before) (modest_before r.before r.this r.later r.these) by.call.command step.reply on start filter batch may.watch.filter may.short (fits_size batch small) may.watches.by there (sent ∙ built) r.replies
+          (subst (λ (command : List ℕ). IsRefused (told (asked command) step.reply)) r.command_is refused))
 
     -- ---- how a job ends
 
     module _ (legal : IsLegal (steps_of history)) (prompt : HoldsBackNone (steps_of history)) (excuses : Excuses) (awaited : Awaited) (wire : ℤ) (c : Course) (i : ℕ) (full : (e : Error) → e.kind ≡ kind.OutOfMemory → excuses ⊥ e) where
       abbrev answered : NoneRefused c i calls (steps_of history) → AnswersWell c i calls
-      answered taken = answers_well c i calls (steps_of history) legal stands prompt taken
+      answered taken = answers_well c i calls (steps_of history) legal stands prompt (creations_meet history ruled) taken
 
       module _ (on : Target) (count : ℕ) (start : Begin) (filter : Option Fields) (batch : Option ℕ) (small : SizePasses batch → ⊥) where
         abbrev Well : Ended (Unit {0}) → List Answer → Ended (Unit {0}) → Type 0

@@ -3,15 +3,15 @@ use Rattle.std.specs.Prelude.{◌≡◌, ◌⊎◌, ◌≤◌, ◌+◌, ◌++◌
 use Rattle.mg_bson.specs.Tree.{Fields, Tree}
 use Rattle.mg_bson.specs.Raw.{fields}
 use Rattle.mg_bson.specs.Writable.{max_len}
-use Rattle.mg_link.specs.Commands.{as_database, asked, asks_insert, asks_more}
+use Rattle.mg_link.specs.Commands.{Asked, Told, as_database, asked, asks_create, asks_insert, asks_more, refuses}
 use Rattle.mg_link.specs.Errors.{plain}
 use Rattle.mg_link.specs.Files.{IsWhole, chunked}
 use Rattle.mg_link.specs.History.{Step, IsLegal, state_of, told_at}
 use Rattle.mg_link.specs.Link.{LogTold}
 use Rattle.mg_link.specs.Log.{Call}
 use Rattle.mg_link.specs.Namespace.{Space, Target, cluster, collection, database}
-use Rattle.mg_link.specs.Prompt.{IsPrompt, IsRefused}
-use Rattle.mg_link.specs.Rules.{accept, max_name, token_place}
+use Rattle.mg_link.specs.Prompt.{IsPrompt}
+use Rattle.mg_link.specs.Rules.{accept, collection_exists, max_name, token_place}
 use Rattle.mg_link.specs.Standing.{Stands}
 use Rattle.mg_link.specs.State.{Start, State, Watch, after, at_time, events_between, nowhere, watching}
 use Rattle.mg_link.specs.Step.{documents_of}
@@ -75,9 +75,19 @@ positions_at calls (place ∷ places) = own_position (option_and_then (λ (call 
 abbrev pub AnswersWellIn : Course → ℕ → List Call → List Step → Type 0
 AnswersWellIn c i calls history = (answers : AnswersWell c i calls) × (answers.history ≡ history) × (answers.own ≡ positions_at calls (places_of c i))
 
--- none of the steps of job i was refused in this history
+-- the refusal says that the collection is there which the command creates
+abbrev pub SaysThere : Asked → ℤ → Type 0
+SaysThere (asks_create space) code = code ≡ collection_exists
+SaysThere command code = ⊥
+
+-- the command was not refused, or only as the creation of a collection that is there
+abbrev pub IsTaken : Asked → Told → Type 0
+IsTaken command (refuses code labels) = SaysThere command code
+IsTaken command reply = Unit {0}
+
+-- none of the steps of job i was refused in this history, but the creation of a collection that is there
 abbrev pub NoneRefused : Course → ℕ → List Call → List Step → Type 0
-NoneRefused c i calls history = (position : ℕ) (step : Step) → Contains (positions_at calls (places_of c i)) position → slice_get history position ≡ Some step → IsRefused (told_at step) → ⊥
+NoneRefused c i calls history = (position : ℕ) (step : Step) → Contains (positions_at calls (places_of c i)) position → slice_get history position ≡ Some step → IsTaken (asked step.command) (told_at step)
 
 -- ---- what an insert comes to
 

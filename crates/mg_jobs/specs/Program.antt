@@ -86,7 +86,7 @@ script_ids script n = counted_id (script.ids ++ 0 ∷ []) n
 -- job sent up to then, by the notes; and each call pended as often as its fate says, or less while it waits. A call that waits was sent in a turn of a job
 -- whose newest turn pended by its note, and which waits for no other. Each command that a turn sent, by the notes, is one that its job may send. Where every
 -- fate keeps its command, each job ends as its kind promises whose steps were answered at once; and so were, in the history of the run's own
--- store, the steps of each job of which it refused none.
+-- store, the steps of each job of which it refused none, but the creation of a collection that is there.
 -- There each insert of fresh documents ends well, and each follow that may begin is opened and ends well, whatever else the run's store did.
 pub record RunFollowed (run : Run) : Type 0 where
   pub calls : List Call

@@ -30,6 +30,7 @@ use Rattle.mg_script.specs.declared.outcome.Outcome.{Outcome}
 use Rattle.mg_script.specs.declared.outcome.Turned.{Turned}
 use Rattle.mg_script.specs.declared.script.Job.{Job}
 use Rattle.mg_players.proofs.Drawing.{played_as_sent, sent_same}
+use Rattle.mg_jobs.proofs.Created.{creations_meet}
 use Rattle.mg_jobs.proofs.Positions.{answered_well}
 use Rattle.mg_jobs.proofs.Refusing.{run_mildly}
 use Rattle.mg_jobs.proofs.RunTaken.{run_ends_in, tasks_counted}
@@ -154,7 +155,7 @@ returns-clause-followed g c =
           (subst (λ (l : List Call). AllWaitAlone (out_at c.new-link.result.calls) (out_at l) (Some c.new-link.result.calls) c.args.script.order.items notes) (same_some c.run_jobs.new.link.calls f.0 f.1)
           (subst (λ (o : List ℕ). AllWaitAlone (out_at c.new-link.result.calls) (out_at c.run_jobs.new.link.calls) (Some c.new-link.result.calls) o notes) c.as_slice-2.ensures.value c.in_ok-played.ensures.waits_alone));
       sends = sends_is;
-      prompt = λ i taken. answered_well (course [] c.args.script.order.items notes) i f.0 (steps_of history) legal stands holds taken;
+      prompt = λ i taken. answered_well (course [] c.args.script.order.items notes) i f.0 (steps_of history) legal stands holds (creations_meet history rules) taken;
       well = well_is;
       well_here = λ kept i t r ht hr.
           run_ends_in history fates kept f.0 link.pended as_fates_is stands alone_is rules (run_mildly history f.0 alone_is stands (script_ids script) (tasks script.jobs.items) script.order.items notes c.requires.jobs notes_is started sends_is) legal holds own_is (out_at f.0) script.wire
