@@ -45,7 +45,7 @@ use Rattle.mg_jobs.specs.Own.{IsOwnCursor}
 use Rattle.mg_players.specs.PutFailures.{AreInTurn, IsListBatch, IsListed, IsOfList, StandsBehindNone, brought, first_batch, held_by, held_in, next_batch}
 use Rattle.mg_jobs.specs.PutLimits.{CannotPut, HasFewIndexes, a_getMore}
 use Rattle.mg_players.specs.Puts.{PutTask, put_bucket}
-use Rattle.mg_players.specs.Sends.{plain_manner}
+use Rattle.mg_players.specs.PutSends.{plain_manner}
 use Rattle.mg_players.proofs.Batches.{breaks_not, events_are, tells_not}
 use Rattle.mg_players.proofs.Creating.{asked_creates, asking_none}
 use Rattle.mg_jobs.proofs.ListCursors.{AreIndexes, AsksToList, HoldsIndexes, OpenedList, indexes_front, result_indexes, result_length, result_listed, stays_list}

@@ -7,7 +7,6 @@ use Rattle.std.proofs.lemmas.Option.{slice_get_within}
 use Rattle.mg_bson.specs.Raw.{fields}
 use Rattle.mg_bson.specs.Tree.{Fields, Tree}
 use Rattle.mg_link.specs.Commands.{Asked, asked, asks_insert, inserted, told}
-use Rattle.mg_link.specs.Files.{chunked}
 use Rattle.mg_link.specs.History.{IsLegal, Step, state_of, told_at}
 use Rattle.mg_link.specs.Kept.{IsByRules as AreByRules, Kept, given_after, given_of, state_behind, state_of_kept, step_of, steps_from, steps_of}
 use Rattle.mg_link.specs.Link.{Awaited}
@@ -45,7 +44,7 @@ use Rattle.mg_change.specs.OpenedStreams.{IsOpening}
 use Rattle.mg_change.specs.Sent.{Falling}
 use Rattle.mg_gridfs.specs.Buckets.{ClientBucket}
 use Rattle.mg_gridfs.specs.Causes.{IsOfCheck, a_creation, a_find, a_listing, an_index}
-use Rattle.mg_gridfs.specs.Commands.{any_lines, chunk_documents, chunks_lines, creation_lines, deletion_lines, index_lines, listing_lines, record_document, record_lines}
+use Rattle.mg_gridfs.specs.Commands.{any_lines, chunk_documents, chunks_lines, creation_lines, index_lines, listing_lines}
 use Rattle.mg_script.specs.Plan.{Begin, Task, follow, get, insert, put}
 use Rattle.mg_script.specs.Script.{first_missing}
 use Rattle.mg_script.specs.declared.outcome.Answer.{Answer}
@@ -62,8 +61,9 @@ use Rattle.mg_players.specs.Follows.{IsArgsFor, options_of, stages_of, start_of}
 use Rattle.mg_players.specs.Progress.{FollowPlayed, IsPlayed, pends_last, turns_done}
 use Rattle.mg_players.specs.Gets.{GetTask, IsGetCommand, chunks_find, for_chunks, for_more, for_record, get_of, no_manner, record_find}
 use Rattle.mg_jobs.specs.PutLimits.{HasFewIndexes, IsValidPut}
-use Rattle.mg_players.specs.Puts.{PutTask, put_bucket, put_of, total}
-use Rattle.mg_players.specs.Sends.{IsPutCommand, MaySend, SendsOnly, asks, checks, inserts, kills, opens, plain_manner, reads_on, records, removes, resumes}
+use Rattle.mg_players.specs.PutSends.{chunks_removal, of_check, plain_manner, reads_on, record_insert}
+use Rattle.mg_players.specs.Puts.{PutTask, put_bucket, put_of}
+use Rattle.mg_players.specs.Sends.{IsPutCommand, MaySend, SendsOnly, asks, checks, inserts, kills, opens, records, removes, resumes}
 use Rattle.mg_jobs.proofs.Added.{AreModestEntries, first_by_rules, kept_modest}
 use Rattle.mg_jobs.proofs.Mild.{IsMildCommand, IsQuiet, creates_mild, deletes_mild, finds_mild, indexes_mild, inserts_mild, lists_mild, quiet_mild}
 use Rattle.mg_jobs.proofs.OpeningTaken.{fits_size, opening_taken}
@@ -300,11 +300,11 @@ check_mild b ls (a_listing at is) = subst (λ (ls : List Line). IsMildCommand (f
 check_mild b ls (an_index at is) = subst (λ (ls : List Line). IsMildCommand (fields_in ls)) (sym is) (indexes_mild (fields_in (index_lines b at)) refl)
 
 put_mild : (t : PutTask) (fs : Fields) → IsPutCommand t fs → IsMildCommand fs
-put_mild t fs (checks ls of is) = subst IsMildCommand (sym is) (check_mild (put_bucket t) ls of)
-put_mild t fs (reads_on id space is) = subst IsMildCommand (sym is) (more_mild id space plain_manner)
-put_mild t fs (inserts ids first stretch of is) = subst IsMildCommand (sym is) (inserts_mild (fields_in (chunks_lines (put_bucket t) (chunk_documents ids 0 t.id first (chunked t.chunk stretch)))) refl)
-put_mild t fs (records moment is) = subst IsMildCommand (sym is) (inserts_mild (fields_in (record_lines (put_bucket t) (record_document t.id (total t.pieces) t.chunk moment t.name None))) refl)
-put_mild t fs (removes is) = subst IsMildCommand (sym is) (deletes_mild (fields_in (deletion_lines (put_bucket t) t.id)) refl)
+put_mild t fs (checks (of_check ls of is)) = subst IsMildCommand (sym is) (check_mild (put_bucket t) ls of)
+put_mild t fs (checks (reads_on id space is)) = subst IsMildCommand (sym is) (more_mild id space plain_manner)
+put_mild t fs (inserts from upto its) = subst IsMildCommand (sym its.command_is) (inserts_mild (fields_in (chunks_lines (put_bucket t) (chunk_documents its.ids 0 t.id from its.piece))) refl)
+put_mild t fs (records moment is) = subst IsMildCommand (sym is) (inserts_mild (record_insert t moment) refl)
+put_mild t fs (removes is) = subst IsMildCommand (sym is) (deletes_mild (chunks_removal t) refl)
 
 get_mild : (g : GetTask) (fs : Fields) → IsGetCommand g fs → IsMildCommand fs
 get_mild g fs (for_record room is) = subst IsMildCommand (sym is) (finds_mild (record_find g) refl)

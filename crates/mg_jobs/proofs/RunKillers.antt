@@ -19,8 +19,7 @@ use Rattle.mg_change.specs.ClientStreams.{ClientStream}
 use Rattle.mg_change.specs.OpenedStreams.{IsOpening}
 use Rattle.mg_gridfs.specs.Buckets.{ClientBucket}
 use Rattle.mg_gridfs.specs.Causes.{IsOfCheck, a_creation, a_find, a_listing, an_index}
-use Rattle.mg_gridfs.specs.Commands.{any_lines, chunk_documents, chunks_lines, creation_lines, deletion_lines, index_lines, listing_lines, record_document, record_lines}
-use Rattle.mg_link.specs.Files.{chunked}
+use Rattle.mg_gridfs.specs.Commands.{any_lines, chunk_documents, chunks_lines, creation_lines, index_lines, listing_lines}
 use Rattle.mg_ops.specs.Bodies.{insert_command}
 use Rattle.mg_ops.specs.declared.change_stream.WatchArgs.{WatchArgs}
 use Rattle.mg_script.specs.Plan.{Begin, Task, follow, get, insert, put}
@@ -38,8 +37,9 @@ use Rattle.mg_players.specs.Follows.{IsArgsFor}
 use Rattle.mg_players.specs.Gets.{GetTask, IsGetCommand, chunks_find, for_chunks, for_more, for_record, get_of, no_manner, record_find}
 use Rattle.mg_players.specs.Kinds.{OfFollow}
 use Rattle.mg_players.specs.Progress.{FollowPlayed, IsPlayed, pends_last, turns_done}
-use Rattle.mg_players.specs.Puts.{PutTask, put_bucket, put_of, total}
-use Rattle.mg_players.specs.Sends.{IsPutCommand, MaySend, SendsOnly, checks, inserts, plain_manner, reads_on, records, removes}
+use Rattle.mg_players.specs.PutSends.{chunks_removal, of_check, plain_manner, reads_on, record_insert}
+use Rattle.mg_players.specs.Puts.{PutTask, put_bucket, put_of}
+use Rattle.mg_players.specs.Sends.{IsPutCommand, MaySend, SendsOnly, checks, inserts, records, removes}
 use Rattle.mg_jobs.proofs.Identified.{StandsWell, opened_well}
 use Rattle.mg_jobs.proofs.Killers.{IsSparing, creates_spare, deletes_spare, finds_spare, indexes_spare, inserts_spare, lists_spare, next_spares, resuming_spares}
 use Rattle.mg_jobs.proofs.Openers.{IsOpenedIn, call_mine, calls_mine, honest_all, last_mine, opened_place}
@@ -59,11 +59,11 @@ check_spares b ls (a_listing at is) = subst (λ (ls : List Line). IsSparing (fie
 check_spares b ls (an_index at is) = subst (λ (ls : List Line). IsSparing (fields_in ls)) (sym is) (indexes_spare (fields_in (index_lines b at)) refl)
 
 put_spares : (t : PutTask) (fs : Fields) → IsPutCommand t fs → IsSparing fs
-put_spares t fs (checks ls of is) = subst IsSparing (sym is) (check_spares (put_bucket t) ls of)
-put_spares t fs (reads_on id space is) = subst IsSparing (sym is) (next_spares id space plain_manner)
-put_spares t fs (inserts ids first stretch of is) = subst IsSparing (sym is) (inserts_spare (fields_in (chunks_lines (put_bucket t) (chunk_documents ids 0 t.id first (chunked t.chunk stretch)))) refl)
-put_spares t fs (records moment is) = subst IsSparing (sym is) (inserts_spare (fields_in (record_lines (put_bucket t) (record_document t.id (total t.pieces) t.chunk moment t.name None))) refl)
-put_spares t fs (removes is) = subst IsSparing (sym is) (deletes_spare (fields_in (deletion_lines (put_bucket t) t.id)) refl)
+put_spares t fs (checks (of_check ls of is)) = subst IsSparing (sym is) (check_spares (put_bucket t) ls of)
+put_spares t fs (checks (reads_on id space is)) = subst IsSparing (sym is) (next_spares id space plain_manner)
+put_spares t fs (inserts from upto its) = subst IsSparing (sym its.command_is) (inserts_spare (fields_in (chunks_lines (put_bucket t) (chunk_documents its.ids 0 t.id from its.piece))) refl)
+put_spares t fs (records moment is) = subst IsSparing (sym is) (inserts_spare (record_insert t moment) refl)
+put_spares t fs (removes is) = subst IsSparing (sym is) (deletes_spare (chunks_removal t) refl)
 
 get_spares : (g : GetTask) (fs : Fields) → IsGetCommand g fs → IsSparing fs
 get_spares g fs (for_record room is) = subst IsSparing (sym is) (finds_spare (record_find g) refl)

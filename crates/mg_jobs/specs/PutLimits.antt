@@ -16,7 +16,7 @@ use Rattle.mg_gridfs.specs.declared.indexes.Place.{Place}
 use Rattle.mg_jobs.specs.Own.{IsOwnCursor}
 use Rattle.mg_players.specs.PutFailures.{NotBuilt}
 use Rattle.mg_players.specs.Puts.{NamesFiles, PutTask, put_aim, put_bucket, total}
-use Rattle.mg_players.specs.Sends.{plain_manner}
+use Rattle.mg_players.specs.PutSends.{plain_manner}
 
 -- ---- what is not built
 

@@ -43,6 +43,10 @@ pub mod PutFailed
 pub mod PutWriting
 pub mod PutPolled
 pub mod PutSending
+pub mod PutChunks
+pub mod PutCommands
+pub mod PutOrder
+pub mod PutOrdered
 pub mod PutChecking
 pub mod Creating
 pub mod Prompting

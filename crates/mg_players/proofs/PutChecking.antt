@@ -36,9 +36,10 @@ use Rattle.mg_gridfs.specs.Checks.{Builds, CheckTurned, ChecksOn, ClientCheck, C
 use Rattle.mg_gridfs.specs.Commands.{any_lines, creation_lines, index_lines, listing_lines}
 use Rattle.mg_gridfs.specs.declared.indexes.Place.{Place}
 use Rattle.mg_gridfs.specs.declared.indexes.Place.TheVariants as place
+use Rattle.mg_players.specs.PutSends as sends
+use Rattle.mg_players.specs.PutSends.{IsCheckCommand, plain_manner}
 use Rattle.mg_players.specs.Puts.{PutTask, put_bucket}
-use Rattle.mg_players.specs.Sends as sends
-use Rattle.mg_players.specs.Sends.{CheckFlies, IsPutCommand, plain_manner}
+use Rattle.mg_players.specs.Sends.{CheckFlies}
 use Rattle.mg_players.proofs.Sends.{manner_behind}
 
 -- ---- logs
@@ -64,7 +65,7 @@ module _ (may : Fields → Type 0) where
 
 -- ---- the list of indexes
 
-more_flies : (t : PutTask) (c : ClientCursor) (s : Sending) → c.manner ≡ plain_manner → fields s.command ≡ get_more c None → IsPutCommand t (fields s.command)
+more_flies : (t : PutTask) (c : ClientCursor) (s : Sending) → c.manner ≡ plain_manner → fields s.command ≡ get_more c None → IsCheckCommand (put_bucket t) (fields s.command)
 more_flies t c s plain is = sends.reads_on c.id c.space (is ∙ ap (λ (m : Manner). next_command c.id c.space m) plain)
 
 heard_manner : (c c' : ClientCursor) (x : Step Sending (List ℕ)) (r : NextPoll) → Hears c x c' r → c'.manner ≡ c.manner
@@ -95,26 +96,26 @@ kept_manner (try.Ready x) a = refl
 kept_manner (try.Failed e) a = refl
 
 -- it adds such commands alone, and goes on to ask for more without options
-abbrev AsksOn : PutTask → LogTold → LogTold → DocumentCursor → Type 0
-AsksOn t log log' d = AddsTold (IsPutCommand t) log log' × (d.cursor.manner ≡ plain_manner)
+abbrev pub AsksOn : PutTask → LogTold → LogTold → DocumentCursor → Type 0
+AsksOn t log log' d = AddsTold (IsCheckCommand (put_bucket t)) log log' × (d.cursor.manner ≡ plain_manner)
 
 module _ (t : PutTask) (old new : Awaited) (log log' : LogTold) (wire : ℤ) where
-  next_sends : (started : Bool) (c c' : ClientCursor) (r : NextPoll) → IsSound true c → c.manner ≡ plain_manner → PollsNext old new log log' wire None started c c' r → AddsTold (IsPutCommand t) log log' × (c'.manner ≡ plain_manner)
-  next_sends started c c' r sound plain (polls.hands_out reply doing quiet none is answer) = (told_same (IsPutCommand t) log log' quiet.log_same, ap (λ (y : ClientCursor). y.manner) is ∙ plain)
-  next_sends started c c' r sound plain (polls.is_over doing over quiet none is answer) = (told_same (IsPutCommand t) log log' quiet.log_same, ap (λ (y : ClientCursor). y.manner) is ∙ plain)
-  next_sends started c c' r sound plain (polls.not_built doing may e fails quiet none is answer) = (told_same (IsPutCommand t) log log' quiet.log_same, ap (λ (y : ClientCursor). y.manner) is ∙ plain)
+  next_sends : (started : Bool) (c c' : ClientCursor) (r : NextPoll) → IsSound true c → c.manner ≡ plain_manner → PollsNext old new log log' wire None started c c' r → AddsTold (IsCheckCommand (put_bucket t)) log log' × (c'.manner ≡ plain_manner)
+  next_sends started c c' r sound plain (polls.hands_out reply doing quiet none is answer) = (told_same (IsCheckCommand (put_bucket t)) log log' quiet.log_same, ap (λ (y : ClientCursor). y.manner) is ∙ plain)
+  next_sends started c c' r sound plain (polls.is_over doing over quiet none is answer) = (told_same (IsCheckCommand (put_bucket t)) log log' quiet.log_same, ap (λ (y : ClientCursor). y.manner) is ∙ plain)
+  next_sends started c c' r sound plain (polls.not_built doing may e fails quiet none is answer) = (told_same (IsCheckCommand (put_bucket t)) log log' quiet.log_same, ap (λ (y : ClientCursor). y.manner) is ∙ plain)
   next_sends started c c' r sound plain (polls.begins doing may s new_one more) = (
-    told_ran (IsPutCommand t) old new log log' wire s more.came (more_flies t c s plain new_one.command_is) (runs_of old new log log' wire s more.came started more.runs),
+    told_ran (IsCheckCommand (put_bucket t)) old new log log' wire s more.came (more_flies t c s plain new_one.command_is) (runs_of old new log log' wire s more.came started more.runs),
     heard_manner c c' more.came r more.hears ∙ plain,
   )
   next_sends started c c' r sound plain (polls.goes_on s doing more) =
       let asks = subst (SoundBy true c) doing sound in (
-        told_ran (IsPutCommand t) old new log log' wire s more.came (more_flies t c s plain (asks.waits_on.command_is ∙ ap (get_more c) asks.plainly)) (runs_of old new log log' wire s more.came started more.runs),
+        told_ran (IsCheckCommand (put_bucket t)) old new log log' wire s more.came (more_flies t c s plain (asks.waits_on.command_is ∙ ap (get_more c) asks.plainly)) (runs_of old new log log' wire s more.came started more.runs),
         heard_manner c c' more.came r more.hears ∙ plain,
       )
 
   once_sends : (started : Bool) (d d' : DocumentCursor) (r : TryPoll) → IsSound true d.cursor → d.cursor.manner ≡ plain_manner → AdvancesOnce old new log log' wire None started d d' r → AsksOn t log log' d'
-  once_sends started d d' r sound plain (documents.gives x xs some quiet none is answer) = (told_same (IsPutCommand t) log log' quiet.log_same, ap (λ (y : DocumentCursor). y.cursor.manner) is ∙ plain)
+  once_sends started d d' r sound plain (documents.gives x xs some quiet none is answer) = (told_same (IsCheckCommand (put_bucket t)) log log' quiet.log_same, ap (λ (y : DocumentCursor). y.cursor.manner) is ∙ plain)
   once_sends started d d' r sound plain (documents.polls empty c p polled takes) = let n = next_sends started d.cursor c p sound plain polled in (n.0, taken_manner d c p d' r takes ∙ n.1)
 
   try_sends : (started : Bool) (d d' : DocumentCursor) (r : TryPoll) → IsSound true d.cursor → d.cursor.manner ≡ plain_manner → TriesAdvance old new log log' wire None started d d' r → AsksOn t log log' d'
@@ -124,7 +125,7 @@ none_after : (started : Bool) → session_after started None ≡ None
 none_after true = refl
 none_after false = refl
 
-seeks_send : (t : PutTask) (n : ℕ) (old new : Awaited) (log log' : LogTold) (wire : ℤ) (starts : ℕ) (d d' : DocumentCursor) (r : AdvancePoll) → IsSound true d.cursor → d.cursor.manner ≡ plain_manner → SeeksDocument n old new log log' wire None starts d d' r → AsksOn t log log' d'
+pub seeks_send : (t : PutTask) (n : ℕ) (old new : Awaited) (log log' : LogTold) (wire : ℤ) (starts : ℕ) (d d' : DocumentCursor) (r : AdvancePoll) → IsSound true d.cursor → d.cursor.manner ≡ plain_manner → SeeksDocument n old new log log' wire None starts d d' r → AsksOn t log log' d'
 unfolding SeeksDocument
 seeks_send t zero old new log log' wire starts d d' r sound plain seeks =
     let o = once_sends t old new log log' wire seeks.started d seeks.advanced seeks.poll sound plain seeks.tries in
@@ -135,7 +136,7 @@ seeks_send t (suc n) old new log log' wire starts d d' r sound plain seeks =
     let sound_on = advance_sound true old seeks.0 log seeks.1 wire None seeks.2 d on.advanced (try.Ready result.Waiting) sound refl on.tries in
     let rest = seeks_send t n seeks.0 new seeks.1 log' wire seeks.3 seeks.4 d' r (subst (λ (y : DocumentCursor). IsSound true y.cursor) (sym on.counts) sound_on) (ap (λ (y : DocumentCursor). y.cursor.manner) on.counts ∙ o.1)
     (subst (λ (s : Option Session). SeeksDocument n seeks.0 new seeks.1 log' wire s seeks.3 seeks.4 d' r) (none_after seeks.2) seeks.7) in
-    (told_on (IsPutCommand t) log seeks.1 log' o.0 rest.0, rest.1)
+    (told_on (IsCheckCommand (put_bucket t)) log seeks.1 log' o.0 rest.0, rest.1)
 
 -- ---- what comes of a step
 
@@ -234,14 +235,14 @@ list_left k cursor found count (try.Failed e) t plain is = left_as t None is tt
 
 module _ (t : PutTask) (old new : Awaited) (log log' : LogTold) (wire : ℤ) (b : ClientBucket) (same : b ≡ put_bucket t) where
   -- a command of the check
-  of_check : (lines : ClientBucket → List Line) → IsOfCheck (put_bucket t) (lines (put_bucket t)) → (command : List ℕ) → fields command ≡ fields_in (lines b) → IsPutCommand t (fields command)
-  of_check lines of command is = sends.checks (lines (put_bucket t)) of (is ∙ ap (λ (x : ClientBucket). fields_in (lines x)) same)
+  its_own : (lines : ClientBucket → List Line) → IsOfCheck (put_bucket t) (lines (put_bucket t)) → (command : List ℕ) → fields command ≡ fields_in (lines b) → IsCheckCommand (put_bucket t) (fields command)
+  its_own lines of command is = sends.of_check (lines (put_bucket t)) of (is ∙ ap (λ (x : ClientBucket). fields_in (lines x)) same)
 
-  ran : (s : Sending) (c : Step Sending (List ℕ)) (lines : ClientBucket → List Line) → IsOfCheck (put_bucket t) (lines (put_bucket t)) → fields s.command ≡ fields_in (lines b) → Runs old new log log' wire s c → AddsTold (IsPutCommand t) log log'
-  ran s c lines of is runs = told_ran (IsPutCommand t) old new log log' wire s c (of_check lines of s.command is) runs
+  ran : (s : Sending) (c : Step Sending (List ℕ)) (lines : ClientBucket → List Line) → IsOfCheck (put_bucket t) (lines (put_bucket t)) → fields s.command ≡ fields_in (lines b) → Runs old new log log' wire s c → AddsTold (IsCheckCommand (put_bucket t)) log log'
+  ran s c lines of is runs = told_ran (IsCheckCommand (put_bucket t)) old new log log' wire s c (its_own lines of s.command is) runs
 
   -- A step of the check sends its commands alone.
-  pub check_sends : (c : ClientCheck) (r : CheckTurned) → IsSoundCheck b c → CheckFlies c → ChecksOn old new log log' wire b c r → AddsTold (IsPutCommand t) log log' × TurnFlies r
+  pub check_sends : (c : ClientCheck) (r : CheckTurned) → IsSoundCheck b c → CheckFlies c → ChecksOn old new log log' wire b c r → AddsTold (IsCheckCommand (put_bucket t)) log log' × TurnFlies r
   check_sends c r sound flies (by_find s is x runs hears) = let q = subst (IsSoundCheck b) is sound in (ran s x any_lines (a_find refl) q.command_is runs, find_flies b x r hears)
   check_sends c r sound flies (by_creation k s is x runs hears) = let q = subst (IsSoundCheck b) is sound in (ran s x (λ y. creation_lines y k) (a_creation k refl) q.command_is runs, creation_flies b k x r hears)
   check_sends c r sound flies (by_listing k s is x runs hears) = let q = subst (IsSoundCheck b) is sound in (ran s x (λ y. listing_lines y k) (a_listing k refl) q.command_is runs, listing_flies k x r hears)
@@ -251,7 +252,7 @@ module _ (t : PutTask) (old new : Awaited) (log log' : LogTold) (wire : ℤ) (b 
   check_sends c r sound flies (by_index k s is x runs hears) = let q = subst (IsSoundCheck b) is sound in (ran s x (λ y. index_lines y k) (an_index k refl) q.command_is runs, index_flies b k x r hears)
 
   -- So does one that is given up.
-  pub landing_sends : (c : ClientCheck) (left : Option ClientCheck) → IsSoundCheck b c → CheckFlies c → LandsCheck old new log log' wire c left → AddsTold (IsPutCommand t) log log' × LeftFlies left
+  pub landing_sends : (c : ClientCheck) (left : Option ClientCheck) → IsSoundCheck b c → CheckFlies c → LandsCheck old new log log' wire c left → AddsTold (IsCheckCommand (put_bucket t)) log log' × LeftFlies left
   landing_sends c left sound flies (by_find s is x runs lands) = let q = subst (IsSoundCheck b) is sound in (ran s x any_lines (a_find refl) q.command_is runs, landed_flies finds (λ y. tt) x left lands)
   landing_sends c left sound flies (by_creation k s is x runs lands) = let q = subst (IsSoundCheck b) is sound in (ran s x (λ y. creation_lines y k) (a_creation k refl) q.command_is runs, landed_flies (creates k) (λ y. tt) x left lands)
   landing_sends c left sound flies (by_listing k s is x runs lands) = let q = subst (IsSoundCheck b) is sound in (ran s x (λ y. listing_lines y k) (a_listing k refl) q.command_is runs, landed_flies (lists k) (λ y. tt) x left lands)

@@ -40,7 +40,7 @@ use Rattle.mg_players.specs.Puts.{CutByPhase, IsCutAt, PutTask, joined, put_aim,
 use Rattle.mg_players.specs.Sends.{PhaseFlies}
 use Rattle.mg_players.proofs.PutChecked.{TurnReads, check_reads}
 use Rattle.mg_players.proofs.PutErrors.{IsLimitKind, built_limit, inserted_kind, memory_or, ran_kind}
-use Rattle.mg_players.proofs.PutSending.{Fits, joined_total, step_sends}
+use Rattle.mg_players.proofs.PutSending.{Fits, its_room, joined_total, step_sends}
 use Rattle.mg_players.proofs.PutTelling.{first_on}
 
 -- what is known of a call that goes on, and why one has failed
@@ -270,7 +270,7 @@ unfolding DoesSteps
 steps_fail t taken rest whole call fits zero old new log log' wire ids drawn twelve u u' p r aim bounds sound own cut flies calls told places since room its under d = step_well t taken rest whole old new log log' wire u u' r aim bounds calls told places since room call ids twelve drawn p sound own cut its under d.0
 steps_fail t taken rest whole call fits (suc n) old new log log' wire ids drawn twelve u u' p r aim bounds sound own cut flies calls told places since room its under d =
     let kept = step_kept old d.0 log d.1 wire u d.4 (goes d.5) bounds ids d.2 p sound d.6 in
-    let s = step_sends t taken rest whole call fits old d.0 log d.1 wire u d.4 (goes d.5) aim ids d.2 p sound own cut flies d.6 in
+    let s = step_sends t taken rest whole call fits old d.0 log d.1 wire u d.4 (goes d.5) aim (its_room t u aim bounds) ids d.2 p sound own cut flies d.6 in
     let own_on = call_kept call old d.0 log d.1 wire ids d.2 u d.4 p (goes d.5) own d.6 in
     let w = step_well t taken rest whole old d.0 log d.1 wire u d.4 (goes d.5) aim bounds calls told places since room call ids twelve d.2 p sound own cut its under d.6 in
     let g = step_caused checks_caused landings_caused old d.0 log d.1 wire u d.4 p (goes d.5) bounds sound calls told places since room call own ids d.2 d.6 under in

@@ -1,5 +1,5 @@
 -- The opening of a put's upload: nothing is sent, and nothing of its file is there.
-use Rattle.std.proofs.Common.{◌≡◌, ℕ, ℤ, List, [], length, None, Result, Ok, Err, refl, sym, ap, ◌∙◌, subst, inl, arith}
+use Rattle.std.proofs.Common.{◌≡◌, ℕ, ℤ, false, List, [], length, None, Result, Ok, Err, refl, sym, ap, ◌∙◌, subst, inl, arith}
 use Rattle.mg_link.specs.Acts.{Tickets}
 use Rattle.mg_link.specs.Calls.{past_of}
 use Rattle.mg_link.specs.Link.{Awaited, LogTold}
@@ -18,13 +18,17 @@ use Rattle.mg_gridfs.proofs.Holding.{upload_begins}
 use Rattle.mg_gridfs.proofs.Staying.{cursors_begin}
 use Rattle.mg_script.specs.declared.outcome.Ended.{Ended}
 use Rattle.mg_script.specs.declared.outcome.Ended.TheVariants as ended
-use Rattle.mg_players.specs.Causes.{sent_at}
+use Rattle.mg_bson.specs.Tree.{Fields}
+use Rattle.mg_players.specs.Causes.{AreInLog, commands_at, sent_at}
 use Rattle.mg_players.specs.Headline.{PutPlays, put_task}
 use Rattle.mg_players.specs.Plays.{AnySent, Places, TellsBehind, TurnTells, all_places, no_move}
 use Rattle.mg_players.specs.Putting.{Opens, OpensFrom, PutTurns}
 use Rattle.mg_players.specs.Puts.{BegunFor, IsPutDoing, NamesFiles, PutTask, PutsKnowing, put_aim, total, writes}
 use Rattle.mg_players.specs.Sends.{MaySend}
-use Rattle.mg_players.specs.Telling.{PutSays, PutTells, PutTellsOpen, SentNothing, put_number}
+use Rattle.mg_players.specs.PutSends.{PutEndsSent, SentChunks}
+use Rattle.mg_players.proofs.PutCommands.{sent_nothing}
+use Rattle.mg_players.proofs.PutOrder.{none_some}
+use Rattle.mg_players.specs.Telling.{PutSaid, PutSays, PutTells, PutTellsOpen, SentNothing, put_number}
 use Rattle.mg_players.specs.declared.put.Beginning.{Beginning}
 use Rattle.mg_players.specs.declared.put.PutPlayer.{PutPlayer}
 use Rattle.mg_players.specs.declared.put.PutStage.{PutStage}
@@ -37,6 +41,10 @@ use Rattle.mg_players.proofs.Whole.{only_now}
 -- one that has sent nothing did so at no places
 nowhere : (q : Places) → SentNothing q → all_places q ≡ []
 nowhere q nothing = only_now q nothing.0 nothing.1 ∙ nothing.2
+
+-- and no commands
+said_none : (calls : List Call) (q : Places) (P : List Fields → Type 0) → SentNothing q → P [] → PutSaid calls q P
+said_none calls q P nothing h = record { within = subst (AreInLog (length calls)) (sym (nowhere q nothing)) tt; sends = subst (λ (l : List ℕ). P (commands_at calls l)) (sym (nowhere q nothing)) h }
 
 -- an upload that has taken nothing tells of no places
 module _ (t : PutTask) (awaited : Awaited) (calls : List Call) (wire : ℤ) (q : Places) (named : NamesFiles t) (sized : IsSize t.chunk) (nothing : SentNothing q) where
@@ -55,6 +63,7 @@ module _ (t : PutTask) (awaited : Awaited) (calls : List Call) (wire : ℤ) (q :
     its = tt;
     reads = tt;
     knows = fresh_knows;
+    said = said_none calls q (λ commands. SentChunks t commands false 0) nothing (sent_nothing t);
   }
 
   pub opened_tells : (u : ClientUpload) (done : ℕ) → done ≡ 0 → u ≡ fresh_upload (put_aim t) → PutTellsOpen awaited calls wire q t done u
@@ -71,7 +80,7 @@ opens_tells t awaited calls wire q size done (puts.Goes going) none sum nothing 
     (opened_tells t awaited calls wire q opens.0 sized nothing (upload_of going.upload) done none opens.1, opens.3 ∙ sum)
 opens_tells t awaited calls wire q size done (puts.Ended ended.Unfinished) none sum nothing opens = absurd opens
 opens_tells t awaited calls wire q size done (puts.Ended (ended.Gave n)) none sum nothing opens = absurd opens
-opens_tells t awaited calls wire q size done (puts.Ended (ended.Failed e)) none sum nothing opens = (nothing.0, ap length nothing.1 ∙ sym none, inl (opens, nowhere q nothing), tt)
+opens_tells t awaited calls wire q size done (puts.Ended (ended.Failed e)) none sum nothing opens = (nothing.0, ap length nothing.1 ∙ sym none, inl (opens, nowhere q nothing), tt, said_none calls q (λ commands. PutEndsSent t commands (ended.Failed e)) nothing (false, none_some t [] refl))
 
 module _ (awaited : Awaited) (log : LogTold) (wire : ℤ) (p : PutPlayer) (begun : Result Beginning Error) (none : p.done ≡ 0) where
   abbrev T : PutTask
@@ -136,4 +145,4 @@ pub opening_turns : (awaited : Awaited) (log : LogTold) (wire : ℤ) (p : PutPla
 opening_turns awaited log wire p (Ok begun) s none opens = opened_so awaited log wire p (Ok begun) none begun.length s (λ is. is) opens
 opening_turns awaited log wire p (Err e) s none opens =
     subst (λ (x : PutStage). PutTurns awaited awaited log log wire (record p { stage = puts.Begins (Err e) }) (record p { stage = x })) (sym opens)
-    (failed_so awaited log wire p (Err e) none (ended.Failed e) (λ calls q nothing is. (nothing.0, ap length nothing.1 ∙ sym none, inl (inl is, nowhere q nothing), tt)))
+    (failed_so awaited log wire p (Err e) none (ended.Failed e) (λ calls q nothing is. (nothing.0, ap length nothing.1 ∙ sym none, inl (inl is, nowhere q nothing), tt, said_none calls q (λ commands. PutEndsSent (writes p.what) commands (ended.Failed e)) nothing (false, none_some (writes p.what) [] refl))))

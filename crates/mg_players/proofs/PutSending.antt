@@ -1,30 +1,31 @@
 -- What the steps of a put's upload send, and how the bytes that it took are cut behind them.
-use Rattle.std.proofs.Common.{◌≡◌, ◌≢◌, ◌≤◌, ◌+◌, ◌*◌, ℕ, zero, suc, ℤ, true, List, [], ◌∷◌, ◌++◌, length, take, drop, Option, Some, None, refl, sym, ap, ◌∙◌, subst, inl, inr, arith, add-mul, append-nil, append_assoc, length-append}
+use Rattle.std.proofs.Common.{◌≡◌, ◌≢◌, ◌<◌, ◌≤◌, ◌+◌, ◌*◌, ℕ, zero, suc, ℤ, false, true, List, [], ◌∷◌, ◌++◌, length, take, drop, Option, Some, None, refl, sym, ap, ◌∙◌, subst, inl, inr, arith, add-mul, append-nil, append_assoc, length-append}
 use Rattle.std.specs.Prelude.{option_map}
 use Rattle.std.proofs.lemmas.List.{length-take-le, take-append-drop}
 use Rattle.mg_bson.specs.Raw.{fields}
 use Rattle.mg_bson.specs.Tree.{Fields}
 use Rattle.mg_link.specs.Exec.{Runs, Sending}
-use Rattle.mg_link.specs.Files.{chunked, last_chunk}
+use Rattle.mg_link.specs.Files.{chunked}
 use Rattle.mg_link.specs.Link.{Awaited, LogTold, SendsNothing}
 use Rattle.mg_link.specs.declared.action.Step.{Step}
 use Rattle.mg_link.specs.declared.action.Step.TheVariants as came
 use Rattle.mg_link.specs.declared.error.Error.{Error}
-use Rattle.mg_link.proofs.Chunking.{chunked_short}
 use Rattle.mg_options.specs.Fields.{fields_in}
 use Rattle.mg_gridfs.specs.Calls.{behind_call, doing_behind}
 use Rattle.mg_gridfs.specs.Checks as check
 use Rattle.mg_gridfs.specs.Checks.{CheckTurned, ClientCheck, still_of}
-use Rattle.mg_gridfs.specs.Commands.{chunk_documents, chunks_lines, deletion_lines, record_document, record_lines}
+use Rattle.mg_gridfs.specs.Commands.{IsNewRequest, chunk_document, chunk_documents, chunks_lines, deletion_lines, record_document, record_lines}
 use Rattle.mg_gridfs.specs.Steps as steps
-use Rattle.mg_gridfs.specs.Steps.{BeginsCheck, CheckLeads, DoesStep, DoesSteps, Ends, Fills, HearsChunks, HearsLast, HearsRecord, HearsRemoval, LandedAs, LandsFlight, Removes, Rests, Stepped, begins_check, checks_on, done, ending_of, ends_next, failed, fills_next, goes, ids_behind, inserts_last, inserts_on, is_short, lands_on, of_check, of_command, records_on, removes_on, rests_next, undoes_next, undone_by, waits}
+use Rattle.mg_gridfs.specs.Steps.{BeginsCheck, CheckLeads, DoesStep, DoesSteps, Ends, Fills, HearsChunks, HearsLast, HearsRecord, HearsRemoval, IsPortion, LandedAs, LandsFlight, Removes, Rests, Stepped, begins_check, checks_on, done, ending_of, ends_next, failed, fills_next, first_chunks, goes, ids_behind, inserts_last, inserts_on, is_short, lands_on, of_check, of_command, records_on, removes_on, rests_next, undoes_next, undone_by, waits}
 use Rattle.mg_gridfs.specs.Uploads as uploads
 use Rattle.mg_gridfs.specs.Uploads.{Aim, ClientUpload, Doing, Ending, Flight, HasBounds, IsFlight, IsOfCall, IsShort, IsSoundPhase, Phase, abort, by_check, by_command, checks, close, ends, fills, inserts, lands, lasts, record_of, records, removes, rests, undoes, write}
 use Rattle.mg_gridfs.proofs.Driving.{call_kept}
 use Rattle.mg_gridfs.proofs.Keeping.{same_pending, step_kept}
+use Rattle.mg_players.specs.PutSends.{InsertsChunks, IsCheckCommand, file_chunks}
 use Rattle.mg_players.specs.Puts.{CutBy, CutByPhase, IsCutAt, PutTask, joined, put_aim, put_bucket, total}
 use Rattle.mg_players.specs.Sends as sends
 use Rattle.mg_players.specs.Sends.{FlightFlies, IsPutCommand, PhaseFlies, PutFlies}
+use Rattle.mg_players.proofs.PutChunks.{all_full, full_inserts, last_inserts}
 use Rattle.mg_players.proofs.PutChecking.{AddsTold, LeftFlies, TurnFlies, check_sends, landing_sends, told_on, told_ran, told_same}
 
 -- ---- pieces
@@ -34,6 +35,14 @@ pub joined_total : (pieces : List (List ℕ)) → length (joined pieces) ≡ tot
 joined_total [] = refl
 joined_total (p ∷ ps) = length-append p (joined ps) ∙ ap (λ (n : ℕ). length p + n) (joined_total ps)
 
+-- ---- the check
+
+-- what it sends a put may send
+by_check_told : (t : PutTask) (log log' : LogTold) → AddsTold (IsCheckCommand (put_bucket t)) log log' → AddsTold (IsPutCommand t) log log'
+by_check_told t log log' adds calls told =
+    let x = adds calls told in
+    (x.0, x.1, record { keeps = x.2.keeps; added = λ place call behind there. sends.checks (x.2.added place call behind there) })
+
 -- ---- one step
 
 -- a close comes behind all bytes
@@ -42,12 +51,16 @@ Fits (write piece) rest = Unit {0}
 Fits close rest = rest ≡ []
 Fits abort rest = ⊥
 
+-- its chunks have a size
+pub its_room : (t : PutTask) (u : ClientUpload) → u.aim ≡ put_aim t → HasBounds u → 0 < t.chunk
+its_room t u aim bounds = subst (λ (a : Aim). 0 < a.size) aim bounds.size.some
+
 -- behind it these bytes are cut, and what is on its way may be sent
 abbrev pub Stands : PutTask → ClientUpload → List ℕ → Doing → Type 0
 Stands t u taken d = CutBy u taken d × PutFlies t d
 
 -- a phase that no write has comes behind all bytes
-all_taken : (call : uploads.Call) (rest : List ℕ) (p : Phase) → Fits call rest → IsOfCall call p → ((piece : ℕ) → IsOfCall (write piece) p → ⊥) → rest ≡ []
+pub all_taken : (call : uploads.Call) (rest : List ℕ) (p : Phase) → Fits call rest → IsOfCall call p → ((piece : ℕ) → IsOfCall (write piece) p → ⊥) → rest ≡ []
 all_taken (write piece) rest p fits own never = absurd (never piece own)
 all_taken close rest p fits own never = fits
 all_taken abort rest p fits own never = absurd fits
@@ -71,11 +84,7 @@ undone t u taken rest (write piece) s None fits own = absurd own
 undone t u taken rest close s None fits own = absurd own
 undone t u taken rest abort s None fits own = absurd fits
 
-some_last : (bs : List ℕ) → bs ≢ [] → last_chunk bs ≡ bs ∷ []
-some_last [] some = absurd (some refl)
-some_last (b ∷ bs) some = refl
-
-module _ (t : PutTask) (taken rest : List ℕ) (whole : joined t.pieces ≡ taken ++ rest) (call : uploads.Call) (fits : Fits call rest) (old new : Awaited) (log log' : LogTold) (wire : ℤ) (u u' : ClientUpload) (r : Stepped) (aim : u.aim ≡ put_aim t) where
+module _ (t : PutTask) (taken rest : List ℕ) (whole : joined t.pieces ≡ taken ++ rest) (call : uploads.Call) (fits : Fits call rest) (old new : Awaited) (log log' : LogTold) (wire : ℤ) (u u' : ClientUpload) (r : Stepped) (aim : u.aim ≡ put_aim t) (room : 0 < t.chunk) where
   abbrev pub May : Fields → Type 0
   May = IsPutCommand t
 
@@ -85,10 +94,10 @@ module _ (t : PutTask) (taken rest : List ℕ) (whole : joined t.pieces ≡ take
   then_as : (v : ClientUpload) (q : Stepped) → u' ≡ v → r ≡ q → Stands t v taken (doing_behind call q) → Then
   then_as v q is answer h = subst (λ (x : Stepped). Stands t u' taken (doing_behind call x)) (sym answer) (subst (λ (x : ClientUpload). Stands t x taken (doing_behind call q)) (sym is) h)
 
-  size_is : u.aim.size ≡ t.chunk
+  pub size_is : u.aim.size ≡ t.chunk
   size_is = ap (λ (a : Aim). a.size) aim
 
-  front_is : (cut : IsCutAt u taken 0) → length cut.front ≡ u.sent * u.aim.size
+  pub front_is : (cut : IsCutAt u taken 0) → length cut.front ≡ u.sent * u.aim.size
   front_is cut = let none : u.sent + 0 ≡ u.sent = omega arith in cut.even ∙ ap (λ (n : ℕ). n * u.aim.size) none
 
   counted : (cut : IsCutAt u taken 0) → u.sent * u.aim.size + length u.behind ≡ length taken
@@ -121,22 +130,23 @@ module _ (t : PutTask) (taken rest : List ℕ) (whole : joined t.pieces ≡ take
         even = length-append cut.front these ∙ ap (λ (m : ℕ). m + length these) (front_is cut) ∙ ap (λ (m : ℕ). u.sent * u.aim.size + m) (length-take-le n u.behind within) ∙ sym (add-mul u.sent count u.aim.size);
       }
 
-  stretch : (cut : IsCutAt u taken 0) (count : ℕ) → count * u.aim.size ≤ length u.behind → sends.IsStretchOf t u.sent (take (count * u.aim.size) u.behind)
-  stretch cut count within =
+  even_front : (cut : IsCutAt u taken 0) → length cut.front ≡ u.sent * t.chunk
+  even_front cut = front_is cut ∙ ap (λ (m : ℕ). u.sent * m) size_is
+
+  -- the next full chunks
+  pub full_next : (cut : IsCutAt u taken 0) (ids : ℕ → List ℕ) (count : ℕ) (s : Sending) → IsPortion u (first_chunks u ids count) count → IsNewRequest false (chunks_lines u.aim.bucket (first_chunks u ids count)) s → InsertsChunks t u.sent (u.sent + count) (fields s.command)
+  full_next cut ids count s portion request =
       let n : ℕ = count * u.aim.size in
       let these : List ℕ = take n u.behind in
-      record {
-        front = cut.front;
-        rest = drop n u.behind ++ rest;
-        parts = whole ∙ ap (λ (l : List ℕ). l ++ rest) (cut.parts ∙ ap (λ (l : List ℕ). cut.front ++ l) (sym (take-append-drop n u.behind)) ∙ sym (append_assoc cut.front these (drop n u.behind))) ∙ append_assoc (cut.front ++ these) (drop n u.behind) rest;
-        from = front_is cut ∙ ap (λ (m : ℕ). u.sent * m) size_is;
-        whole = inr (count, length-take-le n u.behind within ∙ ap (λ (m : ℕ). count * m) size_is);
-      }
+      let left : List ℕ = drop n u.behind in
+      full_inserts t room u.sent cut.front (even_front cut) count these (left ++ rest) portion.some
+      (whole ∙ ap (λ (l : List ℕ). l ++ rest) (cut.parts ∙ ap (λ (l : List ℕ). cut.front ++ l) (sym (take-append-drop n u.behind)) ∙ sym (append_assoc cut.front these left)) ∙ append_assoc (cut.front ++ these) left rest)
+      (length-take-le n u.behind portion.within ∙ ap (λ (m : ℕ). count * m) size_is) ids (fields s.command)
+      (request.command_is ∙ ap (λ (a : Aim). fields_in (chunks_lines a.bucket (chunk_documents ids 0 a.id u.sent (chunked a.size these)))) aim)
 
   fills_so : (ids : ℕ → List ℕ) (drawn : ℕ) → IsCutAt u taken 0 → Fills ids drawn u u' r → Then
   fills_so ids drawn cut (steps.built count s portion small n request is answer) =
-      let these : List ℕ = take (count * u.aim.size) u.behind in
-      let may : May (fields s.command) = sends.inserts ids u.sent these (stretch cut count portion.within) (request.command_is ∙ ap (λ (a : Aim). fields_in (chunks_lines a.bucket (chunk_documents ids 0 a.id u.sent (chunked a.size these)))) aim) in
+      let may : May (fields s.command) = sends.inserts u.sent (u.sent + count) (full_next cut ids count s portion request) in
       then_as (record u { behind = drop (count * u.aim.size) u.behind }) (goes (inserts s count)) is answer (next_chunks cut count portion.within, may)
   fills_so ids drawn cut (steps.not_built within e left fails is answer) = then_as (record u { behind = left }) (goes (undoes (Some e))) is answer (tt, tt)
 
@@ -150,21 +160,33 @@ module _ (t : PutTask) (taken rest : List ℕ) (whole : joined t.pieces ≡ take
 
   -- ---- the end
 
-  last_stretch : rest ≡ [] → (cut : IsCutAt u taken 0) → sends.IsStretchOf t u.sent u.behind
-  last_stretch all cut = record {
-    front = cut.front;
-    rest = [];
-    parts = whole ∙ ap (λ (l : List ℕ). taken ++ l) all ∙ ap (λ (l : List ℕ). l ++ []) cut.parts;
-    from = front_is cut ∙ ap (λ (m : ℕ). u.sent * m) size_is;
-    whole = inl refl;
-  }
+  cut_whole : rest ≡ [] → (cut : IsCutAt u taken 0) → joined t.pieces ≡ cut.front ++ u.behind
+  cut_whole all cut = whole ∙ ap (λ (l : List ℕ). taken ++ l) all ∙ append-nil taken ∙ cut.parts
+
+  -- what is left, as the last chunk
+  pub last_next : rest ≡ [] → IsShort u → (cut : IsCutAt u taken 0) (ids : ℕ → List ℕ) (s : Sending) → u.behind ≢ [] → IsNewRequest false (chunks_lines u.aim.bucket (chunk_document (ids 0) u.aim.id u.sent u.behind ∷ [])) s → InsertsChunks t u.sent (length (file_chunks t)) (fields s.command)
+  last_next all short cut ids s some request =
+      last_inserts t room u.sent cut.front (even_front cut) u.behind (cut_whole all cut) some (subst (λ (m : ℕ). length u.behind < m) size_is short) ids (fields s.command)
+      (request.command_is ∙ ap (λ (a : Aim). fields_in (chunks_lines a.bucket (chunk_documents ids 0 a.id u.sent (u.behind ∷ [])))) aim)
+
+  -- or none is
+  pub none_next : rest ≡ [] → (cut : IsCutAt u taken 0) → u.behind ≡ [] → u.sent ≡ length (file_chunks t)
+  none_next all cut none = all_full t room u.sent cut.front (even_front cut) (cut_whole all cut ∙ ap (λ (l : List ℕ). cut.front ++ l) none)
+
+  -- where no chunk was inserted, there is no full one
+  pub none_full : rest ≡ [] → IsShort u → (cut : IsCutAt u taken 0) → u.sent ≡ 0 → total t.pieces < t.chunk
+  none_full all short cut none =
+      let count : length (cut.front ++ u.behind) ≡ total t.pieces = sym (ap length (cut_whole all cut)) ∙ joined_total t.pieces in
+      let both : length (cut.front ++ u.behind) ≡ length cut.front + length u.behind = length-append cut.front u.behind in
+      let front : length cut.front ≡ 0 * t.chunk = even_front cut ∙ ap (λ (m : ℕ). m * t.chunk) none in
+      let size : u.aim.size ≡ t.chunk = size_is in
+      let few : length u.behind < u.aim.size = short in
+      omega (arith, count, both, front, size, few)
 
   rests_so : (ids : ℕ → List ℕ) (drawn : ℕ) (moment : ℤ) → rest ≡ [] → IsShort u → IsCutAt u taken 0 → Rests ids drawn moment u u' r → Then
   rests_so ids drawn moment all short cut (steps.nothing_left none n is answer) = then_as u (goes (ends (ending_of u moment))) is answer (counted cut, tt)
   rests_so ids drawn moment all short cut (steps.built some small n s request is answer) =
-      let one : u.behind ∷ [] ≡ chunked u.aim.size u.behind = sym (chunked_short u.aim.size u.behind short ∙ some_last u.behind some) in
-      let may : May (fields s.command) = sends.inserts ids u.sent u.behind (last_stretch all cut)
-      (request.command_is ∙ ap (λ (cs : List (List ℕ)). fields_in (chunks_lines u.aim.bucket (chunk_documents ids 0 u.aim.id u.sent cs))) one ∙ ap (λ (a : Aim). fields_in (chunks_lines a.bucket (chunk_documents ids 0 a.id u.sent (chunked a.size u.behind)))) aim) in
+      let may : May (fields s.command) = sends.inserts u.sent (length (file_chunks t)) (last_next all short cut ids s some request) in
       then_as (record u { behind = [] }) (goes (lasts s (ending_of u moment))) is answer (counted cut, may)
   rests_so ids drawn moment all short cut (steps.not_built some most e left fails is answer) = then_as (record u { behind = left }) (goes (undoes (Some e))) is answer (tt, tt)
 
@@ -227,7 +249,7 @@ module _ (t : PutTask) (taken rest : List ℕ) (whole : joined t.pieces ≡ take
   flight_sends : (flight : Flight) (error : Option Error) (left : Option Flight) → IsFlight u flight → FlightFlies t flight → LandsFlight old new log log' wire flight left → LandedAs error left u u' r → Sent
   flight_sends flight error left own flies (of_check c is x landing left_is) h =
       let l = landing_sends t old new log log' wire u.aim.bucket (ap (λ (a : Aim). a.bucket) aim) c x (subst (IsFlight u) is own) (subst (FlightFlies t) is flies) landing in
-      (l.0, landed_so error left (λ f there. check_left x l.1 f (sym left_is ∙ there)) h)
+      (by_check_told t log log' l.0, landed_so error left (λ f there. check_left x l.1 f (sym left_is ∙ there)) h)
   flight_sends flight error left own flies (of_command s is c runs left_is) h =
       let may : May (fields s.command) = subst (FlightFlies t) is flies in
       (ran s c may runs, landed_so error left (λ f there. command_left s c runs may f (sym left_is ∙ there)) h)
@@ -236,7 +258,7 @@ module _ (t : PutTask) (taken rest : List ℕ) (whole : joined t.pieces ≡ take
   step_sends ids drawn p sound own cut flies (begins_check is q n does) = (quiet q, begins_so (subst (CutByPhase u taken) is cut) does)
   step_sends ids drawn p sound own cut flies (checks_on c is n x checks_so leads) =
       let l = check_sends t old new log log' wire u.aim.bucket (ap (λ (a : Aim). a.bucket) aim) c x (subst (IsSoundPhase u) is sound).0 (subst (PhaseFlies t) is flies) checks_so in
-      (l.0, check_so (subst (CutByPhase u taken) is cut) x l.1 leads)
+      (by_check_told t log log' l.0, check_so (subst (CutByPhase u taken) is cut) x l.1 leads)
   step_sends ids drawn p sound own cut flies (is_short is q n short same answer) = (quiet q, then_as u done same answer (written t u taken call (subst (CutByPhase u taken) is cut)))
   step_sends ids drawn p sound own cut flies (fills_next is q full does) = (quiet q, fills_so ids drawn (subst (CutByPhase u taken) is cut) does)
   step_sends ids drawn p sound own cut flies (inserts_on s count is n c runs hears) =
@@ -266,11 +288,11 @@ pub steps_send : (t : PutTask) (taken rest : List ℕ) → joined t.pieces ≡ t
     → DoesSteps n old new log log' wire ids drawn u u' p r → SentSteps t taken call log log' u' r
 unfolding DoesSteps
 steps_send t taken rest whole call fits zero old new log log' wire ids drawn u u' p r aim bounds sound own cut flies d =
-    let s = step_sends t taken rest whole call fits old new log log' wire u u' r aim ids drawn p sound own cut flies d.0 in
+    let s = step_sends t taken rest whole call fits old new log log' wire u u' r aim (its_room t u aim bounds) ids drawn p sound own cut flies d.0 in
     record { adds = s.0; stands = s.1; aim_is = (step_kept old new log log' wire u u' r bounds ids drawn p sound d.0).same_aim ∙ aim }
 steps_send t taken rest whole call fits (suc n) old new log log' wire ids drawn u u' p r aim bounds sound own cut flies d =
     let kept = step_kept old d.0 log d.1 wire u d.4 (goes d.5) bounds ids d.2 p sound d.6 in
-    let s = step_sends t taken rest whole call fits old d.0 log d.1 wire u d.4 (goes d.5) aim ids d.2 p sound own cut flies d.6 in
+    let s = step_sends t taken rest whole call fits old d.0 log d.1 wire u d.4 (goes d.5) aim (its_room t u aim bounds) ids d.2 p sound own cut flies d.6 in
     let own_on = call_kept call old d.0 log d.1 wire ids d.2 u d.4 p (goes d.5) own d.6 in
     let more = steps_send t taken rest whole call fits n d.0 new d.1 log' wire (ids_behind d.2 ids) d.3 d.4 u' d.5 r (kept.same_aim ∙ aim) kept.bounds kept.stepped_so own_on s.1.0 s.1.1 d.8 in
     record { adds = told_on (IsPutCommand t) log d.1 log' s.0 more.adds; stands = more.stands; aim_is = more.aim_is }

@@ -31,10 +31,12 @@ use Rattle.mg_players.specs.Causes.{sent_at}
 use Rattle.mg_players.specs.Plays.{Places, all_places}
 use Rattle.mg_players.specs.PutFailures as fails
 use Rattle.mg_players.specs.PutFailures.{CheckReads, PhaseReads, PutCheckFails, PutFails, PutReads}
+use Rattle.mg_players.specs.PutSends.{DoingSent, PutEndsSent}
 use Rattle.mg_players.specs.Puts.{PutTask, joined, put_aim, put_bucket, puts_ticket, taken_in}
 use Rattle.mg_players.specs.Telling.{PutTells}
 use Rattle.mg_players.specs.declared.put.PutStage.{PutStage}
 use Rattle.mg_players.specs.declared.put.PutStage.TheVariants as puts
+use Rattle.mg_players.proofs.PutOrdered.{said_kept}
 use Rattle.mg_players.proofs.PutListing.{batch_grows, listed_grows, more_fails_grows, none_grows, of_list_grows, reads_grows}
 use Rattle.mg_players.proofs.Telling.{grows_later}
 use Rattle.mg_script.specs.declared.outcome.Ended.TheVariants as ended
@@ -199,12 +201,13 @@ put_later t old new calls calls' wire q done (puts.Goes going) keeps onward same
         reads = reads_on (sent_at q.now calls wire) (sent_at q.now calls' wire) (grows_later q.now calls calls' wire keeps) old new (put_bucket t) u.doing same told.0.reads;
         underway = uploading_on (sent_at q.now calls wire) (sent_at q.now calls' wire) (grows_later q.now calls calls' wire keeps) old new u.aim u.doing same told.0.underway;
         knows = uploads_go_on old new calls calls' wire (all_places q) t.at u (taken_in u.doing t.pieces done) onward same told.0.knows;
+        said = said_kept calls calls' q (λ commands. DoingSent t commands u.checked u.sent u.doing) keeps told.0.said;
       },
       told.1,
     )
-put_later t old new calls calls' wire q done (puts.Ended ended.Unfinished) keeps onward same told = told
+put_later t old new calls calls' wire q done (puts.Ended ended.Unfinished) keeps onward same told = (told.0, told.1, told.2, told.3, said_kept calls calls' q (λ commands. PutEndsSent t commands ended.Unfinished) keeps told.4)
 put_later t old new calls calls' wire q done (puts.Ended (ended.Gave n)) keeps onward same told =
-    (told.0, told.1, (told.2.0, told.2.1, stored_on calls calls' wire (all_places q) t.at (fresh_upload (put_aim t)) (joined t.pieces) onward told.2.2), told.3)
+    (told.0, told.1, (told.2.0, told.2.1, stored_on calls calls' wire (all_places q) t.at (fresh_upload (put_aim t)) (joined t.pieces) onward told.2.2), told.3, said_kept calls calls' q (λ commands. PutEndsSent t commands (ended.Gave n)) keeps told.4)
 put_later t old new calls calls' wire q done (puts.Ended (ended.Failed e)) keeps onward same told = (
   told.0,
   told.1,
@@ -213,6 +216,7 @@ put_later t old new calls calls' wire q done (puts.Ended (ended.Failed e)) keeps
     | inr fails ↦ inr (fails.0, fails_on (sent_at q.now calls wire) (sent_at q.now calls' wire) (grows_later q.now calls calls' wire keeps) t e fails.1, cleared_on calls calls' wire (all_places q) t.at (fresh_upload (put_aim t)) e onward fails.2)
   ],
   told.3,
+  said_kept calls calls' q (λ commands. PutEndsSent t commands (ended.Failed e)) keeps told.4,
 )
 
 -- ---- whose ticket it holds

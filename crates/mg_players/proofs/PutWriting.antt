@@ -1,5 +1,5 @@
 -- What a put tells behind a poll of its upload.
-use Rattle.std.proofs.Common.{◌≡◌, ◌<◌, ◌≤◌, ◌+◌, ◌-◌, ℕ, ℤ, List, [], ◌∷◌, length, length-append, take, Some, refl, sym, ap, ◌∙◌, subst, inl, inr}
+use Rattle.std.proofs.Common.{◌≡◌, ◌<◌, ◌≤◌, ◌+◌, ◌-◌, ◌++◌, ℕ, ℤ, List, [], ◌∷◌, length, length-append, take, Some, refl, sym, ap, ◌∙◌, subst, inl, inr}
 use Rattle.std.specs.Prelude.{slice_get}
 use Rattle.mg_link.specs.Acts.{Tickets}
 use Rattle.mg_link.specs.Calls.{AddsOnly, Past, past_of}
@@ -22,12 +22,17 @@ use Rattle.mg_gridfs.specs.declared.polls.Step2.TheVariants as end
 use Rattle.mg_gridfs.specs.declared.polls.WritePoll.{WritePoll}
 use Rattle.mg_gridfs.specs.declared.polls.WritePoll.TheVariants as wrote
 use Rattle.mg_gridfs.proofs.Holding.{uploads_settle}
-use Rattle.mg_players.specs.Causes.{places_from, sent_at, sent_since}
+use Rattle.mg_bson.specs.Tree.{Fields}
+use Rattle.mg_ops.specs.Logs.{AddsJust}
+use Rattle.mg_script.specs.declared.outcome.Ended.TheVariants as ended
+use Rattle.mg_players.specs.Causes.{commands_at, places_from, sent_at, sent_since}
 use Rattle.mg_players.specs.Plays.{Places, all_places}
 use Rattle.mg_players.specs.PutFailures.{AnswersPut, PutFails, PutReads}
 use Rattle.mg_players.specs.Puts.{CutBy, IsPutDoing, PutTask, joined, put_aim, put_bucket, taken_in}
 use Rattle.mg_players.specs.Sends.{IsPutCommand}
-use Rattle.mg_players.specs.Telling.{PutTellsOpen}
+use Rattle.mg_players.specs.PutSends.{DoingSent, PutEndsSent}
+use Rattle.mg_players.specs.Telling.{PutSaid, PutTellsOpen}
+use Rattle.mg_players.proofs.PutOrdered.{CloseSaid, WriteSaid, close_order, said_more, write_order}
 use Rattle.mg_players.proofs.PutFailed.{CloseEnds, WriteEnds, close_ends, write_ends}
 use Rattle.mg_players.proofs.PutPolled.{Ahead, AheadEnd, PollSent, close_sends, taken_on, taken_whole, takes_close, takes_write, write_sends}
 use Rattle.mg_players.proofs.PutSending.{Stands}
@@ -139,10 +144,17 @@ module _ (t : PutTask) (old new : Awaited) (log log' : LogTold) (wire : ℤ) (u 
       let s = polled.stored t.at calls told (all_places q) (taken_in u.doing t.pieces made) tells.knows in
       as_told t old new log log' wire u u' calls calls' told' q (λ (l : List Call). AfterWrite new (past_of (all_places q) (length calls) l wire) t.at u u' (taken_in u.doing t.pieces made) bytes r) s.0 s.1 s.3
 
-  ended : WriteEnds t new u' r (past_of q.now (length calls) calls' wire)
-  ended =
+  ends_so : WriteEnds t new u' r (past_of q.now (length calls) calls' wire)
+  ends_so =
       let w = write_ends t old new log log' wire polled.ids polled.drawn polled.twelve u u' between tells.aim_is calls told q.now tells.underway (tells.its, tells.reads) bytes made there within doing tells.cut tells.flies r polled.does in
       as_told t old new log log' wire u u' calls calls' told' q (λ (l : List Call). WriteEnds t new u' r (past_of q.now (length calls) l wire)) w.0 w.1 w.3
+
+  ordered : (more : List Fields) × AddsJust log log' more × WriteSaid t (commands_at calls (all_places q) ++ more) u' r
+  ordered = write_order t old new log log' wire polled.ids polled.drawn u u' between tells.aim_is (commands_at calls (all_places q)) tells.said.sends bytes made there within doing tells.cut tells.flies r polled.does
+
+  -- so it has said behind it, by what it comes to
+  said_so : (q' : Places) → all_places q' ≡ sent_since (all_places q) (length calls) (length calls') → (x : WritePoll) → r ≡ x → PutSaid calls' q' (λ commands. WriteSaid t commands u' x)
+  said_so q' whole x is = subst (λ (y : WritePoll). PutSaid calls' q' (λ commands. WriteSaid t commands u' y)) is (said_more log log' calls calls' q q' (λ commands. DoingSent t commands u.checked u.sent u.doing) (λ commands. WriteSaid t commands u' r) told told' write_adds.keeps whole tells.said ordered)
 
   taken_so : (d : Doing) (made' : ℕ) → taken_in d t.pieces made' ≡ joined (take (made + 1) t.pieces) → taken_by u.doing (taken_in u.doing t.pieces made) bytes ≡ taken_in d t.pieces made'
   taken_so d made' same = taken_on u.doing t.pieces made bytes doing within there ∙ sym same
@@ -161,10 +173,11 @@ module _ (t : PutTask) (old new : Awaited) (log log' : LogTold) (wire : ℤ) (u 
         cut = subst (λ (l : List ℕ). CutBy u' l u'.doing) (sym taken) stands.0;
         underway = underway_on t old new log log' wire u u' calls calls' told' q (subst (WriteCame new (past_of q.now (length calls) calls' wire) u u') is came);
         flies = stands.1;
-        its = (subst (λ (x : WritePoll). WriteEnds t new u' x (past_of q.now (length calls) calls' wire)) is ended).0;
-        reads = reads_behind t old new log log' wire u u' calls calls' told' q (subst (λ (x : WritePoll). WriteEnds t new u' x (past_of q.now (length calls) calls' wire)) is ended).1;
+        its = (subst (λ (x : WritePoll). WriteEnds t new u' x (past_of q.now (length calls) calls' wire)) is ends_so).0;
+        reads = reads_behind t old new log log' wire u u' calls calls' told' q (subst (λ (x : WritePoll). WriteEnds t new u' x (past_of q.now (length calls) calls' wire)) is ends_so).1;
         knows = knows_behind t old new log log' wire u u' calls calls' told' q (going_on q (length calls) (length calls')) (taken_by u.doing (taken_in u.doing t.pieces made) bytes) (taken_in u'.doing t.pieces made) write_room (whole_going q (length calls) (length calls')) (taken_so u'.doing made taken)
             (subst (AfterWrite new (past_of (all_places q) (length calls) calls' wire) t.at u u' (taken_in u.doing t.pieces made) bytes) is stored);
+        said = said_so (going_on q (length calls) (length calls')) (whole_going q (length calls) (length calls')) wrote.Pending is;
       }
 
   -- one piece more is written
@@ -186,11 +199,12 @@ module _ (t : PutTask) (old new : Awaited) (log log' : LogTold) (wire : ℤ) (u 
         reads = subst (PutReads new (sent_at [] calls' wire) (put_bucket t)) (sym rests_so) tt;
         knows = knows_behind t old new log log' wire u u' calls calls' told' q (answered_by q (length calls) (length calls')) (taken_by u.doing (taken_in u.doing t.pieces made) bytes) (taken_in u'.doing t.pieces (made + 1)) write_room (whole_answered q (length calls) (length calls')) (taken_so u'.doing (made + 1) taken)
             (subst (AfterWrite new (past_of (all_places q) (length calls) calls' wire) t.at u u' (taken_in u.doing t.pieces made) bytes) is stored);
+        said = said_so (answered_by q (length calls) (length calls')) (whole_answered q (length calls) (length calls')) (wrote.Wrote n) is;
       }
 
   -- it fails
   pub write_fails : (e : Error) → r ≡ wrote.Failed e → PutFails (sent_at (sent_since q.now (length calls) (length calls')) calls' wire) t e
-  write_fails e is = fails_behind t old new log log' wire u u' calls calls' told' q e (subst (λ (x : WritePoll). WriteEnds t new u' x (past_of q.now (length calls) calls' wire)) is ended)
+  write_fails e is = fails_behind t old new log log' wire u u' calls calls' told' q e (subst (λ (x : WritePoll). WriteEnds t new u' x (past_of q.now (length calls) calls' wire)) is ends_so)
 
   -- and leaves no chunk, unless its error may
   pub write_clears : (e : Error) → r ≡ wrote.Failed e → HasCleared (sent_at (all_places (going_on q (length calls) (length calls'))) calls' wire) t.at (fresh_upload (put_aim t)) e
@@ -202,6 +216,10 @@ module _ (t : PutTask) (old new : Awaited) (log log' : LogTold) (wire : ℤ) (u 
         | inr cleared_so ↦ cleared_so
       ] in
       cleared_by (sent_at (all_places q') calls' wire) t u e tells.aim_is (cleared_settles calls calls' wire (all_places q) (all_places q') t.at u e (settled_all q q' (length calls) (length calls') write_room (whole_going q (length calls) (length calls'))) h)
+
+  -- and it sent its commands in their order
+  pub write_said : (e : Error) → r ≡ wrote.Failed e → PutSaid calls' (going_on q (length calls) (length calls')) (λ commands. PutEndsSent t commands (ended.Failed e))
+  write_said e is = said_so (going_on q (length calls) (length calls')) (whole_going q (length calls) (length calls')) (wrote.Failed e) is
 
 -- ---- a close
 
@@ -242,6 +260,15 @@ module _ (t : PutTask) (old new : Awaited) (log log' : LogTold) (wire : ℤ) (u 
       let w = close_ends t old new log log' wire polled.ids polled.drawn polled.twelve u u' between tells.aim_is calls told q.now tells.underway (tells.its, tells.reads) made all doing tells.cut tells.flies polled.moment r polled.does in
       as_told t old new log log' wire u u' calls calls' told' q (λ (l : List Call). CloseEnds t new u' r (past_of q.now (length calls) l wire)) w.0 w.1 w.3
 
+  end_ordered : (more : List Fields) × AddsJust log log' more × CloseSaid t (commands_at calls (all_places q) ++ more) u' r
+  end_ordered = close_order t old new log log' wire polled.ids polled.drawn u u' between tells.aim_is (commands_at calls (all_places q)) tells.said.sends made all doing tells.cut tells.flies polled.moment r polled.does
+
+  end_said : (x : Step2) → r ≡ x → PutSaid calls' (going_on q (length calls) (length calls')) (λ commands. CloseSaid t commands u' x)
+  end_said x is =
+      let q' : Places = going_on q (length calls) (length calls') in
+      subst (λ (y : Step2). PutSaid calls' q' (λ commands. CloseSaid t commands u' y)) is
+      (said_more log log' calls calls' q q' (λ commands. DoingSent t commands u.checked u.sent u.doing) (λ commands. CloseSaid t commands u' r) told told' close_adds.keeps (whole_going q (length calls) (length calls')) tells.said end_ordered)
+
   end_taken : taken_in u.doing t.pieces made ≡ joined t.pieces
   end_taken = taken_whole u.doing t.pieces made doing all
 
@@ -263,6 +290,7 @@ module _ (t : PutTask) (old new : Awaited) (log log' : LogTold) (wire : ℤ) (u 
         reads = reads_behind t old new log log' wire u u' calls calls' told' q (subst (λ (x : Step2). CloseEnds t new u' x (past_of q.now (length calls) calls' wire)) is closed_so).1;
         knows = knows_behind t old new log log' wire u u' calls calls' told' q (going_on q (length calls) (length calls')) (taken_in u.doing t.pieces made) (taken_in u'.doing t.pieces made) close_room (whole_going q (length calls) (length calls')) (end_taken ∙ sym taken)
             (subst (AfterClose new (past_of (all_places q) (length calls) calls' wire) t.at u u' (taken_in u.doing t.pieces made)) is end_stored);
+        said = end_said end.Pending is;
       }
 
   -- the file is stored
@@ -288,3 +316,10 @@ module _ (t : PutTask) (old new : Awaited) (log log' : LogTold) (wire : ℤ) (u 
         | inr cleared_so ↦ cleared_so
       ] in
       cleared_by (sent_at (all_places q') calls' wire) t u e tells.aim_is (cleared_settles calls calls' wire (all_places q) (all_places q') t.at u e (settled_all q q' (length calls) (length calls') close_room (whole_going q (length calls) (length calls'))) h)
+
+  -- it sent its commands in their order
+  pub close_said_done : (n : ℕ) → r ≡ end.Done → PutSaid calls' (going_on q (length calls) (length calls')) (λ commands. PutEndsSent t commands (ended.Gave n))
+  close_said_done n is = end_said end.Done is
+
+  pub close_said_fails : (e : Error) → r ≡ end.Failed e → PutSaid calls' (going_on q (length calls) (length calls')) (λ commands. PutEndsSent t commands (ended.Failed e))
+  close_said_fails e is = end_said (end.Failed e) is

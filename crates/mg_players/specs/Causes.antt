@@ -38,6 +38,7 @@ use Rattle.mg_gridfs.specs.Storing.{HasCleared, HasStored}
 use Rattle.mg_gridfs.specs.Uploads.{ClientUpload, fresh_upload, upload_ticket}
 use Rattle.mg_players.specs.Kinds.{OfFollow, OfGet, OfInsert, OfPut}
 use Rattle.mg_players.specs.PutFailures.{PutFails}
+use Rattle.mg_players.specs.PutSends.{PutEndsSent}
 use Rattle.mg_players.specs.Puts.{CannotOpen, PutTask, joined, put_aim, put_of}
 use Rattle.mg_ops.specs.InsertCauses.{InsertFails, InsertWaits}
 use Rattle.mg_ops.specs.InsertSends.{InsertPieces}
@@ -342,6 +343,8 @@ pub record PutEnds (awaited : Awaited) (c : Course) (i : ℕ) (calls : List Call
   -- where its newest turn pended and it has not ended
   pub waits : pends_last i c.order c.notes ≡ true → IsUnfinished end → PutWaits awaited (sent_at places calls wire) t
   pub written : HasWritten t (length owns) end
+  -- these are its commands, in their order
+  pub sends : PutEndsSent t (commands_at calls (places_of c i)) end
 
 -- ---- all jobs
 

@@ -8,6 +8,7 @@ pub mod Gets
 pub mod Spares
 pub mod Puts
 pub mod PutFailures
+pub mod PutSends
 pub mod Files
 pub mod Headline
 pub mod Progress

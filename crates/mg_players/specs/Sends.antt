@@ -1,28 +1,25 @@
 -- Which commands the jobs of a run send.
-use Rattle.std.specs.Prelude.{◌≡◌, ◌⊎◌, ◌*◌, ◌++◌, ℕ, ℤ, List, [], length, Some, None, slice_get}
+use Rattle.std.specs.Prelude.{◌≡◌, ℕ, ℤ, List, None, slice_get, Some}
 use Rattle.mg_bson.specs.Tree.{Fields}
 use Rattle.mg_bson.specs.Raw.{fields}
 use Rattle.mg_link.specs.Link.{LogTold}
 use Rattle.mg_link.specs.Log.{Call}
 use Rattle.mg_link.specs.Namespace.{Space}
 use Rattle.mg_ops.specs.Commands.{kill_command}
-use Rattle.mg_link.specs.Files.{chunked}
-use Rattle.mg_options.specs.Fields.{Line, fields_in}
-use Rattle.mg_ops.specs.Cursors.{Manner, next_command, watch_manner}
+use Rattle.mg_ops.specs.Cursors.{next_command, watch_manner}
 use Rattle.mg_ops.specs.declared.aggregate.ChangeStreamAggregate.{ChangeStreamAggregate}
 use Rattle.mg_ops.specs.declared.change_stream.WatchArgs.{WatchArgs}
 use Rattle.mg_change.specs.ClientOpenings.{first_aggregate}
 use Rattle.mg_change.specs.ClientStreams.{resuming_in}
-use Rattle.mg_gridfs.specs.Causes.{IsOfCheck}
 use Rattle.mg_gridfs.specs.Checks.{ClientCheck, creates, finds, indexes, lists, reads}
-use Rattle.mg_gridfs.specs.Commands.{chunk_documents, chunks_lines, deletion_lines, record_document, record_lines}
 use Rattle.mg_gridfs.specs.Uploads as uploads
 use Rattle.mg_gridfs.specs.Uploads.{Doing, Flight, Phase, begins, busy, by_check, by_command, closed, ends, fills, idle, lands, lasts, rests, undoes}
 use Rattle.mg_players.specs.Causes.{Course, SentIn, course}
 use Rattle.mg_players.specs.Drawing.{as_sent}
 use Rattle.mg_players.specs.Follows.{IsArgsFor}
 use Rattle.mg_players.specs.Gets.{IsGetCommand, get_of}
-use Rattle.mg_players.specs.Puts.{PutTask, joined, put_bucket, put_of, total}
+use Rattle.mg_players.specs.PutSends.{InsertsChunks, IsCheckCommand, chunks_removal, plain_manner, record_insert}
+use Rattle.mg_players.specs.Puts.{PutTask, put_bucket, put_of}
 use Rattle.mg_ops.specs.InsertCauses.{IsInsertOf}
 use Rattle.mg_script.specs.Plan.{Task, insert, follow, put, get}
 use Rattle.mg_script.specs.declared.outcome.Turned.{Turned}
@@ -34,26 +31,13 @@ pub data IsCommandOf (are_its : WatchArgs → Type 0) (command : Fields) : Type 
   asks : (args : WatchArgs) → are_its args → (id : ℤ) (space : Space) → command ≡ next_command id space (watch_manner args.options) → IsCommandOf are_its command
   kills : (space : Space) (ids : List ℤ) → command ≡ kill_command space ids → IsCommandOf are_its command
 
--- a list of indexes is read on without options
-abbrev pub plain_manner : Manner
-plain_manner = record { size = None; wait = None; comment = None }
-
--- Some bytes of a file, behind these, are chunks of it: full ones, or all that is left.
-pub record IsStretchOf (t : PutTask) (first : ℕ) (stretch : List ℕ) : Type 0 where
-  pub front : List ℕ
-  pub rest : List ℕ
-  pub parts : joined t.pieces ≡ front ++ stretch ++ rest
-  pub from : length front ≡ first * t.chunk
-  pub whole : (rest ≡ []) ⊎ ((count : ℕ) × (length stretch ≡ count * t.chunk))
-
 -- A command that a put may send: of the check of its bucket's indexes; an insert of some chunks of its file, each with its own number, or of its record; or the
 -- removal of its chunks.
 pub data IsPutCommand (t : PutTask) (command : Fields) : Type 0 where
-  checks : (lines : List Line) → IsOfCheck (put_bucket t) lines → command ≡ fields_in lines → IsPutCommand t command
-  reads_on : (id : ℤ) (space : Space) → command ≡ next_command id space plain_manner → IsPutCommand t command
-  inserts : (ids : ℕ → List ℕ) (first : ℕ) (stretch : List ℕ) → IsStretchOf t first stretch → command ≡ fields_in (chunks_lines (put_bucket t) (chunk_documents ids 0 t.id first (chunked t.chunk stretch))) → IsPutCommand t command
-  records : (moment : ℤ) → command ≡ fields_in (record_lines (put_bucket t) (record_document t.id (total t.pieces) t.chunk moment t.name None)) → IsPutCommand t command
-  removes : command ≡ fields_in (deletion_lines (put_bucket t) t.id) → IsPutCommand t command
+  checks : IsCheckCommand (put_bucket t) command → IsPutCommand t command
+  inserts : (from upto : ℕ) → InsertsChunks t from upto command → IsPutCommand t command
+  records : (moment : ℤ) → command ≡ record_insert t moment → IsPutCommand t command
+  removes : command ≡ chunks_removal t → IsPutCommand t command
 
 -- what a put has on its way it may send; a list of indexes is read on without options
 abbrev pub CheckFlies : ClientCheck → Type 0

@@ -47,6 +47,7 @@ use Rattle.mg_players.specs.Playing.{job_ticket}
 use Rattle.mg_players.specs.Plays as words
 use Rattle.mg_players.specs.Plays.{Extends, Moves, MovesTo, Places, all_places}
 use Rattle.mg_players.specs.PutFailures.{AnswersPut, PutReads}
+use Rattle.mg_players.specs.PutSends.{DoingSent, PutEndsSent}
 use Rattle.mg_players.specs.Puts.{BegunFor, CutBy, PutTask, put_aim, put_bucket, taken_in, total, writes}
 use Rattle.mg_players.specs.Spares.{ListsIts, ReadStops, SparesWhole}
 use Rattle.mg_players.specs.Sends.{IsCommandOf, MaySend, PutFlies, SendsOnly}
@@ -265,6 +266,11 @@ pub record GetTurns (old new : Awaited) (log log' : LogTold) (wire : ℤ) (p p' 
 
 -- ---- puts
 
+-- such commands a put sent at all its places
+pub record PutSaid (calls : List Call) (q : Places) (sent : List Fields → Type 0) : Type 0 where
+  pub within : AreInLog (length calls) (all_places q)
+  pub sends : sent (commands_at calls (all_places q))
+
 -- a put whose upload is open: each piece that is written was written by a call of its own, its call that goes on has sent what stands at the places of that and
 -- has such a command on its way, and its upload knows what it stored
 pub record PutTellsOpen (awaited : Awaited) (calls : List Call) (wire : ℤ) (q : Places) (t : PutTask) (done : ℕ) (u : ClientUpload) : Type 0 where
@@ -278,6 +284,7 @@ pub record PutTellsOpen (awaited : Awaited) (calls : List Call) (wire : ℤ) (q 
   pub its : AnswersPut t (upload_error u)
   pub reads : PutReads awaited (sent_at q.now calls wire) (put_bucket t) u.doing
   pub knows : KnowsUpload awaited (sent_at (all_places q) calls wire) t.at u (taken_in u.doing t.pieces done)
+  pub said : PutSaid calls q (λ commands. DoingSent t commands u.checked u.sent u.doing)
 
 -- it has sent nothing
 abbrev pub SentNothing : Places → Type 0
@@ -288,7 +295,7 @@ abbrev pub PutTells : Awaited → List Call → ℤ → Places → PutTask → �
 PutTells awaited calls wire q t done puts.Undrawn = SentNothing q × (done ≡ 0)
 PutTells awaited calls wire q t done (puts.Begins begun) = SentNothing q × (done ≡ 0) × BegunFor t begun
 PutTells awaited calls wire q t done (puts.Goes going) = PutTellsOpen awaited calls wire q t done (upload_of going.upload) × (going.length ≡ total t.pieces)
-PutTells awaited calls wire q t done (puts.Ended end) = (q.opened ≡ []) × (length q.owns ≡ done) × PutEndsBy (sent_at (all_places q) calls wire) (sent_at q.now calls wire) t end × HasWritten t done end
+PutTells awaited calls wire q t done (puts.Ended end) = (q.opened ≡ []) × (length q.owns ≡ done) × PutEndsBy (sent_at (all_places q) calls wire) (sent_at q.now calls wire) t end × HasWritten t done end × PutSaid calls q (λ commands. PutEndsSent t commands end)
 
 -- the number of what goes on: how many turns that did not pend come before it
 abbrev pub put_number : ℕ → PutStage → ℕ

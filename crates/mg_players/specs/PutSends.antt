@@ -1,0 +1,153 @@
+-- The commands of a put, in their order.
+use Rattle.std.specs.Prelude.{◌≡◌, ◌≢◌, ◌⊎◌, ◌<◌, ◌≤◌, ◌+◌, ◌++◌, ℕ, ℤ, Bool, true, false, List, [], ◌∷◌, length, Option, Some, None}
+use Rattle.mg_bson.specs.Raw.{fields}
+use Rattle.mg_bson.specs.Tree.{Fields}
+use Rattle.mg_link.specs.Exec.{Stage, unsent, first, second}
+use Rattle.mg_link.specs.Files.{chunked}
+use Rattle.mg_link.specs.Namespace.{Space}
+use Rattle.mg_options.specs.Fields.{Line, fields_in}
+use Rattle.mg_ops.specs.Cursors.{Manner, next_command}
+use Rattle.mg_gridfs.specs.Buckets.{ClientBucket}
+use Rattle.mg_gridfs.specs.Causes.{IsOfCheck}
+use Rattle.mg_gridfs.specs.Checks.{ClientCheck, creates, finds, indexes, lists, reads}
+use Rattle.mg_gridfs.specs.Commands.{chunk_documents, chunks_lines, deletion_lines, record_document, record_lines}
+use Rattle.mg_gridfs.specs.Uploads as uploads
+use Rattle.mg_gridfs.specs.Uploads.{Doing, Phase, begins, busy, closed, ends, fills, idle, lands, lasts, rests, undoes}
+use Rattle.mg_players.specs.Puts.{PutTask, joined, put_bucket, total}
+use Rattle.mg_script.specs.declared.outcome.Ended.{Ended}
+use Rattle.mg_script.specs.declared.outcome.Ended.TheVariants as ended
+
+-- ---- the check of the indexes
+
+-- a list of indexes is read on without options
+abbrev pub plain_manner : Manner
+plain_manner = record { size = None; wait = None; comment = None }
+
+-- a command of the check of a bucket's indexes, or one that reads a list of them on
+pub data IsCheckCommand (b : ClientBucket) (command : Fields) : Type 0 where
+  of_check : (lines : List Line) → IsOfCheck b lines → command ≡ fields_in lines → IsCheckCommand b command
+  reads_on : (id : ℤ) (space : Space) → command ≡ next_command id space plain_manner → IsCheckCommand b command
+
+abbrev pub AreOfCheck : ClientBucket → List Fields → Type 0
+AreOfCheck b [] = Unit {0}
+AreOfCheck b (command ∷ commands) = IsCheckCommand b command × AreOfCheck b commands
+
+-- ---- the chunks
+
+-- the bytes of all pieces, cut into chunks
+abbrev pub file_chunks : PutTask → List (List ℕ)
+file_chunks t = chunked t.chunk (joined t.pieces)
+
+-- the command inserts the chunks of the file from one on up to another, at least one, each with its own number
+pub record InsertsChunks (t : PutTask) (from upto : ℕ) (command : Fields) : Type 0 where
+  pub front : List (List ℕ)
+  pub piece : List (List ℕ)
+  pub rest : List (List ℕ)
+  pub parts : file_chunks t ≡ front ++ (piece ++ rest)
+  pub behind : length front ≡ from
+  pub some : 0 < length piece
+  pub next : from + length piece ≡ upto
+  pub ids : ℕ → List ℕ
+  pub command_is : command ≡ fields_in (chunks_lines (put_bucket t) (chunk_documents ids 0 t.id from piece))
+
+-- these commands insert the chunks from one on up to another, piece behind piece, and each piece once
+abbrev pub ChunkPieces : PutTask → ℕ → List Fields → ℕ → Type 0
+ChunkPieces t from [] upto = upto ≡ from
+ChunkPieces t from (command ∷ commands) upto = (between : ℕ) × InsertsChunks t from between command × ChunkPieces t between commands upto
+
+-- ---- the record, and the removal
+
+-- inserts the record of the file, with a moment
+abbrev pub record_insert : PutTask → ℤ → Fields
+record_insert t moment = fields_in (record_lines (put_bucket t) (record_document t.id (total t.pieces) t.chunk moment t.name None))
+
+-- removes all chunks of the file
+abbrev pub chunks_removal : PutTask → Fields
+chunks_removal t = fields_in (deletion_lines (put_bucket t) t.id)
+
+-- the one, where there is a moment
+abbrev pub record_at : PutTask → Option ℤ → List Fields
+record_at t None = []
+record_at t (Some moment) = record_insert t moment ∷ []
+
+-- the other, where the put removes them
+abbrev pub removal_if : PutTask → Bool → List Fields
+removal_if t false = []
+removal_if t true = chunks_removal t ∷ []
+
+-- ---- all commands
+
+-- These are all commands that a put sent: first the check of its bucket's indexes, which comes before the chunks of a file that has a full one; then its chunks up
+-- to this number, from the first one on, each once; then its record with this moment, once, and only behind all chunks; then the removal of its chunks, once.
+pub record PutSends (t : PutTask) (commands : List Fields) (upto : ℕ) (moment : Option ℤ) (removed : Bool) : Type 0 where
+  pub check : List Fields
+  pub chunks : List Fields
+  pub parts : commands ≡ check ++ (chunks ++ (record_at t moment ++ removal_if t removed))
+  pub of_check : AreOfCheck (put_bucket t) check
+  pub pieces : ChunkPieces t 0 chunks upto
+  pub checked : 0 < upto → t.chunk ≤ total t.pieces → check ≢ []
+  pub recorded : (m : ℤ) → moment ≡ Some m → upto ≡ length (file_chunks t)
+
+-- some of its chunks, and its record or not
+abbrev pub SentSome : PutTask → List Fields → Bool → Type 0
+SentSome t commands removed = (upto : ℕ) × (moment : Option ℤ) × PutSends t commands upto moment removed
+
+-- Where it ended well it sent all chunks and its record, and removed nothing.
+abbrev pub PutEndsSent : PutTask → List Fields → Ended ℕ → Type 0
+PutEndsSent t commands ended.Unfinished = (removed : Bool) × SentSome t commands removed
+PutEndsSent t commands (ended.Gave n) = (moment : ℤ) × PutSends t commands (length (file_chunks t)) (Some moment) false
+PutEndsSent t commands (ended.Failed e) = (removed : Bool) × SentSome t commands removed
+
+-- ---- while it goes on
+
+-- a command that is sent once: this holds before it is sent, that once it was
+abbrev pub Around : Stage → Type 0 → Type 0 → Type 0
+Around unsent Before Behind = Before
+Around (first ticket) Before Behind = Behind
+Around (second ticket) Before Behind = Behind
+
+-- its check and its chunks up to this number; where it has not checked it sent nothing
+pub record SentChunks (t : PutTask) (commands : List Fields) (checked : Bool) (upto : ℕ) : Type 0 where
+  pub check : List Fields
+  pub chunks : List Fields
+  pub parts : commands ≡ check ++ chunks
+  pub of_check : AreOfCheck (put_bucket t) check
+  pub pieces : ChunkPieces t 0 chunks upto
+  pub some : checked ≡ true → check ≢ []
+  pub nothing : checked ≡ false → commands ≡ []
+
+-- all its chunks, and its record or not
+abbrev pub SentAll : PutTask → List Fields → Option ℤ → Type 0
+SentAll t commands moment = PutSends t commands (length (file_chunks t)) moment false
+
+-- it has checked, or has no full chunk
+abbrev pub NeedsNoCheck : PutTask → Bool → Type 0
+NeedsNoCheck t checked = (checked ≡ true) ⊎ (total t.pieces < t.chunk)
+
+-- its check has begun, unless the first command is sent next
+abbrev pub HasBegun : List Fields → ClientCheck → Type 0
+HasBegun commands (finds sending) = (sending.stage ≡ unsent) ⊎ (commands ≢ [])
+HasBegun commands (creates at sending) = commands ≢ []
+HasBegun commands (lists at sending) = commands ≢ []
+HasBegun commands (reads at cursor found count) = commands ≢ []
+HasBegun commands (indexes at sending) = commands ≢ []
+
+-- what it sent, by how far a call has come, where it checked or not and so many of its chunks are inserted: a put gives up no call
+abbrev pub PhaseSent : PutTask → List Fields → Bool → ℕ → Phase → Type 0
+PhaseSent t commands checked sent begins = commands ≡ []
+PhaseSent t commands checked sent (uploads.checks check) = AreOfCheck (put_bucket t) commands × HasBegun commands check
+PhaseSent t commands checked sent fills = SentChunks t commands true sent
+PhaseSent t commands checked sent (uploads.inserts sending count) = InsertsChunks t sent (sent + count) (fields sending.command) × Around sending.stage (SentChunks t commands true sent) (SentChunks t commands true (sent + count))
+PhaseSent t commands checked sent (rests moment) = SentChunks t commands checked sent
+PhaseSent t commands checked sent (lasts sending ending) = InsertsChunks t sent (length (file_chunks t)) (fields sending.command) × Around sending.stage (SentChunks t commands checked sent × NeedsNoCheck t checked) (SentAll t commands None)
+PhaseSent t commands checked sent (ends ending) = SentAll t commands None
+PhaseSent t commands checked sent (uploads.records sending ending) = (fields sending.command ≡ record_insert t ending.moment) × Around sending.stage (SentAll t commands None) (SentAll t commands (Some ending.moment))
+PhaseSent t commands checked sent (lands flight error) = ⊥
+PhaseSent t commands checked sent (undoes error) = SentSome t commands false
+PhaseSent t commands checked sent (uploads.removes sending error) = (fields sending.command ≡ chunks_removal t) × Around sending.stage (SentSome t commands false) (SentSome t commands true)
+
+-- what it sent by what its upload is doing
+abbrev pub DoingSent : PutTask → List Fields → Bool → ℕ → Doing → Type 0
+DoingSent t commands checked sent idle = SentChunks t commands checked sent
+DoingSent t commands checked sent (busy call phase) = PhaseSent t commands checked sent phase
+DoingSent t commands checked sent closed = Unit {0}
